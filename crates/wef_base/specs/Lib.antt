@@ -1,0 +1,5 @@
+pub mod formers
+pub mod Counts
+pub mod Names
+pub mod Numbers
+pub mod Printed

@@ -1,0 +1,21 @@
+//! Values, names and the outside: what every crate of the forwarder speaks of.
+#![tactic(auto)]
+
+pub mod bytes;
+pub mod list;
+pub mod memory;
+pub mod names;
+pub mod numbers;
+pub mod ports;
+pub mod printed;
+pub mod standard;
+pub mod text;
+
+pub use bytes::Bytes;
+pub use list::List;
+pub use memory::{MemSink, MemSource};
+pub use names::{ChannelName, SourceName, SubId, ValueFault};
+pub use numbers::read_number;
+pub use ports::{IoFailed, Sink, Source};
+pub use standard::{StdErr, StdSink, StdSource};
+pub use text::Text;

@@ -1,0 +1,69 @@
+//! Numbers in decimal digits.
+
+ghost use Rattle.std.specs.Prelude.{◌≡◌, ◌<◌, true};
+ghost use Rattle.std.specs.List.{list_all};
+ghost use Rattle.wef_base.specs.Names.{trimmed};
+ghost use Rattle.wef_base.specs.Numbers.{is_digit, is_numeral, has_leading_zero, number_within, plain_number, ReadsNumber};
+
+use crate::names::ValueFault;
+use crate::text::Text;
+
+/// The greatest number of a record, and of every count that is kept: 2^63 - 1.
+pub const MAX: u64 = 9_223_372_036_854_775_807;
+
+/// Reads decimal digits between optional spaces. `NotANumber` where there is anything else,
+/// `TooLarge` above `MAX`.
+pub fn read_number(text: &Text) -> Result<u64, ValueFault>
+    ensures { ReadsNumber 9223372036854775807 (trimmed text.now) result }
+{
+    let digits = text.trimmed()?;
+    let digits = digits.as_str().as_bytes();
+    if !is_numeral_text(digits) {
+        return Err(ValueFault::NotANumber);
+    }
+    value_within(digits, MAX).ok_or(ValueFault::TooLarge)
+}
+
+/// The number of digits without a leading zero, at most a limit below 2^63. None for anything else.
+pub fn read_plain_number(word: &[u8], limit: u64) -> Option<u64>
+    requires { limit < 9223372036854775808 }
+    ensures { result ≡ plain_number limit word.now }
+{
+    if !is_numeral_text(word) || leads_with_zero(word) {
+        return None;
+    }
+    value_within(word, limit)
+}
+
+fn is_numeral_text(word: &[u8]) -> bool
+    ensures { result ≡ is_numeral word.now }
+{
+    if word.is_empty() {
+        return false;
+    }
+    word.iter().all(|&b| b >= 48 && b <= 57)
+}
+
+fn leads_with_zero(word: &[u8]) -> bool
+    ensures { result ≡ has_leading_zero word.now }
+{
+    match word {
+        [first, _, ..] => *first == b'0',
+        _ => false,
+    }
+}
+
+fn value_within(digits: &[u8], limit: u64) -> Option<u64>
+    requires digits { is_numeral digits.now ≡ true }
+    requires small { limit < 9223372036854775808 }
+    ensures { result ≡ number_within limit digits.now }
+{
+    let mut value = 0u128;
+    for &digit in digits {
+        value = value * 10 + u128::from(digit - 48);
+        if value > u128::from(limit) {
+            return None;
+        }
+    }
+    Some(value as u64)
+}

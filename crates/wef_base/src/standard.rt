@@ -1,0 +1,124 @@
+//! The standard streams, as a source and two sinks. No contract says what a stream holds or does
+//! with what it takes: these tell their counts of faults alone.
+
+ghost use Rattle.std.specs.Prelude.{◌≡◌, ℕ, ◌+◌, min, IsErr, refl};
+ghost use Rattle.std.specs.declared.option.Option.TheVariants.{None};
+
+use std::io::{Read, StdinLock};
+
+use crate::ports::{IoFailed, Sink, Source};
+
+/// The standard input.
+#[derive(Drop)]
+pub struct StdSource {
+    input: StdinLock<'static>,
+    given: u64,
+    faults: u64,
+}
+
+impl StdSource {
+    pub fn new(rt: HostRuntime) -> StdSource {
+        StdSource {
+            input: rt.stdin().lock(),
+            given: 0,
+            faults: 0,
+        }
+    }
+}
+
+impl Source for StdSource {
+    ghost left = { λ _. None };
+
+    ghost given = { λ s. s.given };
+
+    ghost faults = { λ s. s.faults };
+
+    ghost tells = { λ a b. refl };
+
+    fn read(&mut self, buf: &mut [u8]) -> Result<usize, IoFailed> {
+        let count = match self.input.read(buf) {
+            Ok(count) => count,
+            Err(_) => return self.failed(),
+        };
+        match self.given.checked_add(count as u64) {
+            Some(given) => {
+                self.given = given;
+                Ok(count)
+            }
+            None => self.failed(),
+        }
+    }
+}
+
+impl StdSource {
+    fn failed(&mut self) -> Result<usize, IoFailed>
+        ensures result { IsErr result }
+        ensures faults { self.new.faults ≡ min (self.old.faults + 1) 18446744073709551615 }
+        ensures given { self.new.given ≡ self.old.given }
+    {
+        self.faults = self.faults.saturating_add(1);
+        Err(IoFailed)
+    }
+}
+
+/// The standard output.
+#[derive(Clone, Copy)]
+pub struct StdSink {
+    rt: HostRuntime,
+    faults: u64,
+}
+
+impl StdSink {
+    pub fn new(rt: HostRuntime) -> StdSink {
+        StdSink { rt, faults: 0 }
+    }
+}
+
+impl Sink for StdSink {
+    ghost taken = { λ _. None };
+
+    ghost faults = { λ s. s.faults };
+
+    ghost tells = { λ a b. refl };
+
+    fn write(&mut self, piece: &[u8]) -> Result<usize, IoFailed> {
+        match self.rt.write_some(piece) {
+            Ok(count) if count > 0 || piece.is_empty() => Ok(count),
+            _ => {
+                self.faults = self.faults.saturating_add(1);
+                Err(IoFailed)
+            }
+        }
+    }
+}
+
+/// The standard error stream.
+#[derive(Clone, Copy)]
+pub struct StdErr {
+    rt: HostRuntime,
+    faults: u64,
+}
+
+impl StdErr {
+    pub fn new(rt: HostRuntime) -> StdErr {
+        StdErr { rt, faults: 0 }
+    }
+}
+
+impl Sink for StdErr {
+    ghost taken = { λ _. None };
+
+    ghost faults = { λ s. s.faults };
+
+    ghost tells = { λ a b. refl };
+
+    fn write(&mut self, piece: &[u8]) -> Result<usize, IoFailed> {
+        match self.rt.stderr().write_some(piece) {
+            Ok(count) if count > 0 || piece.is_empty() => Ok(count),
+            _ => {
+                self.faults = self.faults.saturating_add(1);
+                Err(IoFailed)
+            }
+        }
+    }
+}

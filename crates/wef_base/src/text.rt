@@ -1,0 +1,186 @@
+//! Text in UTF-8, which contracts see as the list of its bytes.
+
+ghost use Rattle.std.specs.Prelude.{◌≡◌, ◌<◌, ◌==◌, ◌^◌, List, [], ◌++◌, length, IsTrue, ◌↔◌, IfOk, OnOk, OnErr, encode_utf8};
+ghost use Rattle.std.specs.Fmt.{decimal};
+ghost use Rattle.std.specs.Cmp.{partial_equiv_from_equiv};
+ghost use Rattle.std.specs.Cmp.Lexicographic.{pointwise, slice_cmp, nat_list_eq_equiv, nat_list_cmp_total, texts_po};
+ghost use Rattle.std.specs.Ordering.{nat_cmp};
+ghost use Rattle.std.specs.Prelude.{ℕ, nat_eq, refl};
+ghost use Rattle.std.specs.declared.option.Option.TheVariants.{Some};
+
+ghost use Rattle.std.specs.Str.{chars};
+ghost use Rattle.wef_base.specs.Names.{trimmed};
+
+use crate::names::trim;
+use std::alloc::{AllocError, Global};
+use std::cmp::Ordering;
+use std::fmt;
+use std::marker::Model;
+
+/// A text of its own, in UTF-8. Two texts compare by their bytes, which is the order of their
+/// characters.
+#[derive(Debug, Drop)]
+pub struct Text {
+    inner: String,
+}
+
+impl Model for Text {
+    ghost use Rattle.std.specs.Prelude.{ℕ, List, string_bytes};
+
+    ghost Value = { List ℕ };
+
+    ghost view = { λ t. string_bytes t.inner };
+}
+
+impl Text {
+    /// The empty text. It takes no memory.
+    pub fn new(alloc: Global) -> Text
+        ensures { result ≡ [] }
+    {
+        Text {
+            inner: String::new(alloc),
+        }
+    }
+
+    /// A copy of a text.
+    pub fn from_str(alloc: Global, text: &str) -> Result<Text, AllocError>
+        ensures { IfOk result (λ t. t ≡ text.now) }
+    {
+        Ok(Text {
+            inner: String::from_str(alloc, text)?,
+        })
+    }
+
+    pub fn as_str(&self) -> &str
+        ensures { result.now ≡ self.now }
+    {
+        self.inner.as_str()
+    }
+
+    /// The length in bytes.
+    pub fn len(&self) -> usize
+        ensures { result ≡ length self.now }
+    {
+        self.inner.len()
+    }
+
+    pub fn is_empty(&self) -> bool
+        ensures { result ≡ (length self.now == 0) }
+    {
+        self.inner.len() == 0
+    }
+
+    /// The allocator that the text was made with.
+    pub fn alloc(&self) -> Global {
+        *self.inner.allocator()
+    }
+
+    /// Appends a text.
+    pub fn push_str(&mut self, more: &str) -> Result<(), AllocError>
+        ensures ok { OnOk result (self.new ≡ self.old ++ more.now) }
+        ensures err { OnErr result (self.new ≡ self.old) }
+    {
+        self.inner.push_str(more)
+    }
+
+    /// Appends a character.
+    pub fn push(&mut self, character: char) -> Result<(), AllocError>
+        ensures ok { OnOk result (self.new ≡ self.old ++ encode_utf8 character) }
+        ensures err { OnErr result (self.new ≡ self.old) }
+    {
+        self.inner.push(character)
+    }
+
+    /// Appends a number in decimal digits, without leading zeros.
+    pub fn push_number(&mut self, number: u64) -> Result<(), AllocError>
+        ensures ok { OnOk result (self.new ≡ self.old ++ decimal number) }
+        ensures err { OnErr result (self.new ≡ self.old) }
+    {
+        let digits = number.to_string(self.alloc())?;
+        self.inner.push_str(digits.as_str())
+    }
+
+    /// The text without the spaces at both ends (XML 1.0, rule S).
+    pub fn trimmed(&self) -> Result<Text, AllocError>
+        ensures { IfOk result (λ t. t ≡ trimmed self.now) }
+    {
+        let characters = self.characters()?;
+        let mut text = Text::new(self.alloc());
+        for &character in trim(characters.as_slice()) {
+            text.push(character)?;
+        }
+        Ok(text)
+    }
+
+    /// The characters, in a vector.
+    #[tactic(auto, using(std::proofs::lemmas::Str::chars_from_encodes))]
+    pub fn characters(&self) -> Result<Vec<char>, AllocError>
+        ensures { IfOk result (λ cs. cs.items ≡ chars self.now) }
+    {
+        self.as_str().chars().collect(self.alloc())
+    }
+
+    pub fn clone(&self) -> Result<Text, AllocError>
+        ensures { IfOk result (λ copy. copy ≡ self.now) }
+    {
+        Text::from_str(self.alloc(), self.as_str())
+    }
+}
+
+impl From<String> for Text {
+    ghost use Rattle.std.specs.Prelude.{◌≡◌, string_bytes};
+
+    ghost from_gives = { λ text t. t ≡ string_bytes text };
+
+    fn from(inner: String) -> Text {
+        Text { inner }
+    }
+}
+
+impl fmt::Display for Text {
+    ghost output = { λ t. Some t };
+
+    fn fmt<W: fmt::Write>(&self, f: &mut fmt::Formatter<W>) -> fmt::Result {
+        f.write_str(self.as_str())
+    }
+}
+
+impl PartialEq for Text {
+    ghost eq = { pointwise nat_eq };
+
+    ghost laws = { partial_equiv_from_equiv nat_list_eq_equiv };
+
+    fn eq(&self, other: &Text) -> bool {
+        self.as_str() == other.as_str()
+    }
+}
+
+impl Eq for Text {
+    ghost laws = { nat_list_eq_equiv };
+}
+
+impl PartialOrd for Text {
+    ghost partial_cmp = { λ x y. Some (slice_cmp nat_cmp x y) };
+
+    ghost laws = { texts_po };
+
+    fn partial_cmp(&self, other: &Text) -> Option<Ordering> {
+        Some(self.cmp(other))
+    }
+}
+
+impl Ord for Text {
+    ghost use Rattle.std.specs.Cmp.Lexicographic.{texts_ties};
+
+    ghost cmp = { slice_cmp nat_cmp };
+
+    ghost total = { nat_list_cmp_total };
+
+    ghost matches_partial_cmp = { λ x y. refl };
+
+    ghost matches_eq = { texts_ties };
+
+    fn cmp(&self, other: &Text) -> Ordering {
+        self.as_str().cmp(other.as_str())
+    }
+}
