@@ -1,2 +1,4 @@
-pub mod Trimmed
 pub mod Escapes
+pub mod Reading
+pub mod Trimmed
+pub mod Values

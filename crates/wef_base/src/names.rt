@@ -4,10 +4,9 @@ ghost use Rattle.std.specs.Prelude.{◌≡◌, ◌<◌, ◌≤◌, ◌==◌, ◌
 ghost use Rattle.std.specs.List.{list_any};
 ghost use Rattle.wef_base.specs.Names.{is_forbidden, is_space, spelt, trimmed_characters, without_end, without_start, name_of_characters, name_of, channel_name, source_name, subscription_name, ReadsName};
 
+use crate::text::Text;
 use std::alloc::{AllocError, AllocFailed, Global};
 use std::marker::Model;
-
-use crate::text::Text;
 use thiserror::Error;
 
 /// Why a text isn't a value of the type that was asked for.
@@ -54,6 +53,7 @@ impl ChannelName {
     /// Reads a name: spaces at both ends are trimmed, and the letters A to Z made small. `BadName`
     /// where what is left is empty or has more than 256 bytes, or holds a character below U+0020,
     /// U+007F, U+FFFE or U+FFFF.
+    #[tactic(auto, unfolding(crate::specs::Names::channel_name))]
     pub fn read(text: &Text) -> Result<ChannelName, ValueFault>
         ensures { ReadsName result (channel_name text.now) }
     {
@@ -95,6 +95,7 @@ impl Model for SourceName {
 
 impl SourceName {
     /// Reads a name as `ChannelName::read` does, of at most 255 bytes.
+    #[tactic(auto, unfolding(crate::specs::Names::source_name))]
     pub fn read(text: &Text) -> Result<SourceName, ValueFault>
         ensures { ReadsName result (source_name text.now) }
     {
@@ -136,6 +137,7 @@ impl Model for SubId {
 
 impl SubId {
     /// Reads a name as `ChannelName::read` does, of at most 128 bytes, and keeps its letters.
+    #[tactic(auto, unfolding(crate::specs::Names::subscription_name))]
     pub fn read(text: &Text) -> Result<SubId, ValueFault>
         ensures { ReadsName result (subscription_name text.now) }
     {

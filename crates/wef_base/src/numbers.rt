@@ -25,6 +25,7 @@ pub fn read_number(text: &Text) -> Result<u64, ValueFault>
 }
 
 /// The number of digits without a leading zero, at most a limit below 2^63. None for anything else.
+#[tactic(auto, unfolding(crate::specs::Numbers::plain_number))]
 pub fn read_plain_number(word: &[u8], limit: u64) -> Option<u64>
     requires { limit < 9223372036854775808 }
     ensures { result ≡ plain_number limit word.now }
@@ -38,9 +39,12 @@ pub fn read_plain_number(word: &[u8], limit: u64) -> Option<u64>
 fn is_numeral_text(word: &[u8]) -> bool
     ensures { result ≡ is_numeral word.now }
 {
-    if word.is_empty() {
-        return false;
-    }
+    word.len() > 0 && all_digits(word)
+}
+
+fn all_digits(word: &[u8]) -> bool
+    ensures { result ≡ list_all is_digit word.now }
+{
     word.iter().all(|&b| b >= 48 && b <= 57)
 }
 

@@ -7,7 +7,6 @@ ghost use Rattle.std.specs.Cmp.Lexicographic.{pointwise, slice_cmp, nat_list_eq_
 ghost use Rattle.std.specs.Ordering.{nat_cmp};
 ghost use Rattle.std.specs.Prelude.{ℕ, nat_eq, refl};
 ghost use Rattle.std.specs.declared.option.Option.TheVariants.{Some};
-
 ghost use Rattle.std.specs.Str.{chars};
 ghost use Rattle.wef_base.specs.Names.{trimmed};
 
