@@ -1,4 +1,6 @@
+pub mod Cuts
 pub mod Escapes
 pub mod Reading
 pub mod Trimmed
+pub mod Utf8
 pub mod Values
