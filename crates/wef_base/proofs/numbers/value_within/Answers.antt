@@ -3,8 +3,8 @@ use Rattle.std.proofs.Math.Seq.{drop-cons}
 use Rattle.wef_base.proofs.Values.{too_large}
 use Rattle.wef_base.proofs.numbers.value_within.Goals as goal
 
-pub returns-then-value-from : goal.returns-then-value-from
-returns-then-value-from c =
+pub returns-then-value-from-clause-value : goal.returns-then-value-from-clause-value
+returns-then-value-from-clause-value c =
     let digits = c.args.digits.now in
     let at = c.loop-digit.digit-index in
     let inside : at < length digits = omega arith in
