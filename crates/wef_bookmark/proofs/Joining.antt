@@ -1,15 +1,15 @@
 -- What raising and joining do at each channel, and that a list's entries decide the order of bookmarks.
-use Rattle.std.proofs.Common.{◌≡◌, ℕ, ◌≤◌, List, [], ◌∷◌, Bool, true, false, ◌&&◌, ◌||◌, cond, refl, ap, sym, subst, ◌∙◌, Some, None, max, arith, IsTrue, nat_le}
-use Rattle.std.specs.Prelude.{Option, unwrap_or, is_some, T, nat_eq}
+use Rattle.std.proofs.Common.{◌≡◌, ℕ, ◌≤◌, List, [], ◌∷◌, Bool, true, false, ◌&&◌, ◌||◌, cond, refl, ap, sym, subst, ◌∙◌, Some, None, max, arith, nat_le}
+use Rattle.std.specs.Prelude.{Option, unwrap_or, is_some, T}
 use Rattle.std.specs.declared.cmp.Ordering.{Ordering}
 use Rattle.std.specs.declared.cmp.Ordering.TheVariants.{Less, Equal, Greater}
 use Rattle.std.specs.Ordering.{nat_cmp, eq_by_cmp, is_eq, is_lt}
 use Rattle.std.specs.Cmp.{tied_itself}
-use Rattle.std.specs.Cmp.Lexicographic.{slice_cmp, nat_list_cmp_total, pointwise, texts_ties}
+use Rattle.std.specs.Cmp.Lexicographic.{slice_cmp, nat_list_cmp_total, texts_ties}
 use Rattle.std.specs.List.{AllByRecursion}
 use Rattle.std.specs.List.Sorted.{IsStrictlySortedBy}
 use Rattle.std.specs.Map.{keys_of}
-use Rattle.std.specs.FinMap.{get, insert, find, from_entries, from_sorted, entries, entries_sorted, entries-from_sorted, get-from_sorted, get-from_entries, get-entries, get-empty, empty, is_sorted, same_map, get-insert}
+use Rattle.std.specs.FinMap.{get, find, from_entries, from_sorted, entries, entries_sorted, entries-from_sorted, get-from_sorted, get-from_entries, get-entries, get-empty, empty, is_sorted, same_map, get-insert}
 use Rattle.std.specs.FinMap.Entries.{below_all}
 use Rattle.std.proofs.lemmas.Map.Lookups.{exact_bytes}
 use Rattle.std.proofs.lemmas.Bool.Decides.{nat_tests}

@@ -1,5 +1,5 @@
 -- A `BTreeMap` from names to numbers, seen as a finite map.
-use Rattle.std.proofs.Common.{◌≡◌, ℕ, List, [], ◌∷◌, Bool, cond, refl, ap, sym, ◌∙◌, Some}
+use Rattle.std.proofs.Common.{◌≡◌, ℕ, List, [], ◌∷◌, cond, refl, ap, sym, ◌∙◌, Some}
 use Rattle.std.specs.Prelude.{Option, max, unwrap_or}
 use Rattle.wef_bookmark.specs.Order.{raised}
 use Rattle.std.specs.Ordering.{nat_cmp}

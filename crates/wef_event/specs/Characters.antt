@@ -1,5 +1,5 @@
 -- Characters of XML 1.0, and how they stand in the text between two tags.
-use Rattle.std.specs.Prelude.{ℕ, nat_le, nat_eq, ◌==◌, Bool, true, false, ◌&&◌, ◌||◌, List, [], ◌∷◌, encode_utf8, codes, if◌then◌else◌}
+use Rattle.std.specs.Prelude.{ℕ, nat_le, ◌==◌, Bool, ◌&&◌, ◌||◌, List, encode_utf8, codes, if◌then◌else◌}
 use Rattle.std.specs.List.{list_all, flat_map}
 use Rattle.std.specs.Str.{chars}
 

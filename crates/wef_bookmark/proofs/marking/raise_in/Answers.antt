@@ -1,4 +1,4 @@
-use Rattle.std.proofs.Common.{◌≡◌, subst, sym, ap, ◌∙◌, arith, refl, max, Some, None, IsSome}
+use Rattle.std.proofs.Common.{subst, sym, ap, ◌∙◌, arith, refl, Some, None, IsSome}
 use Rattle.std.specs.FinMap as map
 use Rattle.wef_bookmark.specs.Order.{raised}
 use Rattle.wef_bookmark.proofs.Maps.{raised_given, given_at}

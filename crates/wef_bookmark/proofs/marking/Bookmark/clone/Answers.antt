@@ -1,4 +1,4 @@
-use Rattle.std.proofs.Common.{◌≡◌, ap, ◌∙◌}
+use Rattle.std.proofs.Common.{ap, ◌∙◌}
 use Rattle.wef_bookmark.specs.Order.{joined}
 use Rattle.wef_bookmark.proofs.Joining.{joined_empty}
 use Rattle.wef_bookmark.proofs.marking.Bookmark.clone.Goals as goal

@@ -1,5 +1,5 @@
-use Rattle.std.proofs.Common.{◌≡◌, sym, ap, ◌∙◌, subst, true}
-use Rattle.wef_bookmark.specs.Order.{IsAtMost, covers_all}
+use Rattle.std.proofs.Common.{sym, ap, ◌∙◌}
+use Rattle.wef_bookmark.specs.Order.{covers_all}
 use Rattle.wef_bookmark.proofs.Joining.{covers_decides, entries_of}
 use Rattle.std.specs.FinMap as map
 use Rattle.wef_bookmark.proofs.marking.Bookmark.covers.Goals as goal

@@ -1,4 +1,4 @@
-use Rattle.std.proofs.Common.{◌≡◌, ap, ◌∙◌, sym, subst}
+use Rattle.std.proofs.Common.{ap, ◌∙◌, sym, subst}
 use Rattle.wef_bookmark.specs.Order.{joined, IsAtMost}
 use Rattle.wef_bookmark.proofs.Joining.{joined_keeps, joined_takes}
 use Rattle.wef_bookmark.proofs.marking.Bookmark.join.Goals as goal

@@ -1,6 +1,5 @@
-use Rattle.std.proofs.Common.{◌≡◌, sym, ap, ◌∙◌, OnOk}
+use Rattle.std.proofs.Common.{sym, ap, ◌∙◌}
 use Rattle.std.specs.FinMap as map
-use Rattle.wef_bookmark.specs.Order.{raised_by}
 use Rattle.wef_bookmark.proofs.Joining.{entries_of}
 use Rattle.wef_bookmark.proofs.marking.Bookmark.raise_to.Goals as goal
 
