@@ -9,8 +9,10 @@ ghost use Rattle.std.specs.Prelude.{ℕ, nat_eq, refl};
 ghost use Rattle.std.specs.declared.option.Option.TheVariants.{Some};
 ghost use Rattle.std.specs.Str.{chars};
 ghost use Rattle.wef_base.specs.Names.{trimmed};
+ghost use Rattle.wef_base.specs.Printed.{printed};
 
 use crate::names::trim;
+use crate::printed::push_printed;
 use std::alloc::{AllocError, Global};
 use std::cmp::Ordering;
 use std::fmt;
@@ -97,6 +99,15 @@ impl Text {
     {
         let digits = number.to_string(self.alloc())?;
         self.inner.push_str(digits.as_str())
+    }
+
+    /// Appends a name as printed lines show it: every byte below 0x21 or above 0x7E, `%` and `:` as
+    /// `%` and two capital hexadecimal digits.
+    pub fn push_printed(&mut self, name: &Text) -> Result<(), AllocError>
+        ensures ok { OnOk result (self.new ≡ self.old ++ printed name.now) }
+        ensures err { OnErr result (self.new ≡ self.old) }
+    {
+        push_printed(&mut self.inner, name.as_str())
     }
 
     /// The text without the spaces at both ends (XML 1.0, rule S).
