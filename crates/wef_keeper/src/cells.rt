@@ -6,6 +6,7 @@
 
 ghost use Rattle.std.specs.Prelude.{◌≡◌, ◌||◌, true, false, cond, is_some, OnOk, OnErr};
 ghost use Rattle.std.specs.BTreeMap.{IsOrdered, get};
+ghost use Rattle.std.specs.Option.{option_copied};
 ghost use Rattle.std.specs.Ordering.{eq_by_cmp};
 ghost use Rattle.wef_keeper.specs.Cells.{is_empty_room, has, found, found_after, is_put, puts, cell_of, IsSettled};
 ghost use Rattle.wef_keeper.specs.Rows.{key_cmp, key_of, is_named};
@@ -18,6 +19,13 @@ use std::mem;
 use wef_base::Text;
 
 pub(crate) type Cells = BTreeMap<Key, Option<Cell>>;
+
+/// The cell at a key.
+pub(crate) fn cell_at<'a>(cells: &'a Cells, key: &Key) -> Option<&'a Cell>
+    ensures { option_copied result ≡ found cells.now key.now }
+{
+    cells.get(key)?.as_ref()
+}
 
 /// Applies a list of changes, or leaves every cell as it was.
 pub(crate) fn change_all(cells: &mut Cells, changes: Vec<Change>) -> Result<(), AllocError>

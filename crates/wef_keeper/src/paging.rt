@@ -2,7 +2,7 @@
 
 ghost use Rattle.std.specs.Prelude.{◌≡◌, ◌≤◌, take, IfOk};
 ghost use Rattle.std.specs.BTreeMap.Range.{entries_between};
-ghost use Rattle.std.specs.declared.ops.bounds.Bound.TheVariants.{Excluded, Unbounded};
+ghost use Rattle.std.specs.declared.ops.Bound.TheVariants.{Excluded, Unbounded};
 ghost use Rattle.wef_keeper.specs.Cells.{standing};
 ghost use Rattle.wef_keeper.specs.Rows.{key_cmp, row_of};
 ghost use Rattle.wef_keeper.specs.Sections.{is_wanted, front};

@@ -6,7 +6,7 @@ ghost use Rattle.std.specs.Option.{option_copied};
 ghost use Rattle.wef_keeper.specs.Rows.{applied, rows_after};
 ghost use Rattle.wef_keeper.specs.Sections.{rows_under, last_key};
 
-use crate::cells::{change_all, Cells};
+use crate::cells::{cell_at, change_all, Cells};
 use crate::keys::{Cell, Change, Depth, Key, Row};
 use crate::paging::first_rows;
 use std::alloc::{AllocError, Global};
@@ -54,10 +54,7 @@ impl Rows {
     pub fn get(&self, key: &Key) -> Option<&Cell>
         ensures { option_copied result ≡ finite.get self.now key.now }
     {
-        match self.cells.get(key) {
-            Some(Some(cell)) => Some(cell),
-            _ => None,
-        }
+        cell_at(&self.cells, key)
     }
 
     /// The first `max` rows behind a key.

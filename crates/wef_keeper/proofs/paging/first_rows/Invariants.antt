@@ -1,6 +1,6 @@
 use Rattle.std.proofs.Common.{◌≡◌, ◌≤◌, ◌++◌, length, take}
 use Rattle.std.specs.BTreeMap.Range.{entries_between}
-use Rattle.std.specs.declared.ops.bounds.Bound.TheVariants.{Excluded, Unbounded}
+use Rattle.std.specs.declared.ops.Bound.TheVariants.{Excluded, Unbounded}
 use Rattle.wef_keeper.specs.Cells.{standing}
 use Rattle.wef_keeper.specs.Rows.{key_cmp}
 use Rattle.wef_keeper.specs.Sections.{is_wanted, front}
