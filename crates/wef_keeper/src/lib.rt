@@ -1,13 +1,11 @@
-// A library with one function.
+//! The rows that an end keeps: a table in the order of its keys, read by pages, and changed by
+//! whole lists of changes.
 #![tactic(auto)]
 
-ghost use Rattle.std.specs.Prelude.{◌≡◌};
-ghost use Rattle.wef_keeper.specs.Echo.{echo_of};
+mod cells;
+pub mod keys;
+mod paging;
+pub mod table;
 
-// The `ensures` clause is the contract: what `echo` returns is `echo_of` of its argument, a definition
-// in `specs/Echo.antt`, which a caller's clause can cite too.
-pub fn echo(x: usize) -> usize
-    ensures { result ≡ echo_of x }
-{
-    x
-}
+pub use keys::{Cell, Change, Depth, Key, Row};
+pub use table::Rows;

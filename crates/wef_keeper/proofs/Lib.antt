@@ -1,0 +1,3 @@
+mod Live
+mod Pages
+mod Places

@@ -1,0 +1,13 @@
+use Rattle.std.proofs.Common.{◌≡◌, ◌||◌, true, false, cond, is_some, ◌-◌, ◌≤◌, length, drop}
+use Rattle.wef_keeper.specs.Cells.{has, found, found_after, is_put}
+use Rattle.wef_keeper.specs.Rows.{is_named}
+use Rattle.wef_keeper.specs.declared.keys.Key.{Key}
+use Rattle.wef_keeper.proofs.cells.sweep.Given as goal
+
+-- sweeping at the keys that are left makes of this what sweeping at all makes of what stood before
+abbrev pub invariant-loop-change : goal.invariant-loop-change
+invariant-loop-change l =
+    record {
+      cells_kept : (q : Key) → found l.cells q ≡ found l.fn.cells q;
+      rooms : (q : Key) → cond (is_named (drop l.change-index l.changes) q) (is_some (found l.fn.cells q)) (has l.cells q) ≡ cond (is_named l.changes q) (is_some (found l.fn.cells q)) (has l.fn.cells q);
+    }

@@ -1,0 +1,23 @@
+use Rattle.std.proofs.Common.{rules, ◌≡◌, ◌||◌, true, false, cond, is_some, refl, sym, ap, subst, ◌∙◌, Some, None}
+use Rattle.std.specs.BTreeMap.{IsOrdered, get}
+use Rattle.std.specs.Option.{IsSome, option_copied_mut}
+use Rattle.std.specs.Ordering.{eq_by_cmp}
+use Rattle.wef_keeper.specs.Cells.{has, found, found_after, is_put, cell_of, IsSettled}
+use Rattle.wef_keeper.specs.Rows.{key_cmp, key_of, is_named}
+use Rattle.wef_keeper.specs.declared.keys.Key.{Key as RowKey}
+use Rattle.wef_keeper.proofs.Places.{tied, flat_written, some_written, flat_unwritten, flat_made, some_made, some_kept, flat_swept, some_swept, some_unswept, none_there, empty_there}
+use Rattle.wef_keeper.proofs.cells.write_at.Goals as goal
+
+pub returns-in-Some-clause-has : goal.returns-in-Some-clause-has
+returns-in-Some-clause-has c =
+    let there : get key_cmp c.args.cells.now c.args.key.now ≡ Some c.in-Some.room.now =
+    sym c.get_mut.ensures.value ∙ ap option_copied_mut c.in-Some.is in
+    let written = (c.get_mut.follows.holds c.args.cell).3 (subst IsSome (sym there) refl) in
+    λ q. some_written (eq_by_cmp key_cmp c.args.key.now q) _ _ c.args.cell (written.0 q) (λ t. ap is_some (tied c.args.cells.now c.args.key.now q t ∙ there))
+
+pub returns-in_default-clause-found : goal.returns-in_default-clause-found
+returns-in_default-clause-found c =
+    let cells = c.args.cells.now in
+    let gone : get key_cmp cells c.args.key.now ≡ None = sym c.get_mut.ensures.value ∙ ap option_copied_mut c.in_default.is in
+    λ q. ap (λ m. found m q) c.get_mut.follows.holds-at-none
+    ∙ flat_unwritten (eq_by_cmp key_cmp c.args.key.now q) (get key_cmp cells q) c.args.cell (λ t. tied cells c.args.key.now q t ∙ gone) (λ h. sym (ap is_some gone) ∙ c.requires h)
