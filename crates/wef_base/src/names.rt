@@ -40,11 +40,14 @@ pub struct ChannelName {
 }
 
 impl Model for ChannelName {
-    ghost use Rattle.std.specs.Prelude.{ℕ, List};
+    ghost use Rattle.std.specs.Prelude.{◌≡◌, ℕ, List, Some};
+    ghost use Rattle.wef_base.specs.Names.{channel_name};
 
     ghost Value = { List ℕ };
 
     ghost view = { λ name. name.text };
+
+    ghost invariant = { λ name. channel_name name.text ≡ Some name.text };
 
     ghost inverse = { λ bytes. record { text = bytes } };
 }
@@ -62,8 +65,10 @@ impl ChannelName {
         })
     }
 
+    /// The name as a text, which reads back as this name.
     pub fn as_text(&self) -> &Text
-        ensures { result.now ≡ self.now }
+        ensures value { result.now ≡ self.now }
+        ensures kept { channel_name self.now ≡ Some self.now }
     {
         &self.text
     }
@@ -84,11 +89,14 @@ pub struct SourceName {
 }
 
 impl Model for SourceName {
-    ghost use Rattle.std.specs.Prelude.{ℕ, List};
+    ghost use Rattle.std.specs.Prelude.{◌≡◌, ℕ, List, Some};
+    ghost use Rattle.wef_base.specs.Names.{source_name};
 
     ghost Value = { List ℕ };
 
     ghost view = { λ name. name.text };
+
+    ghost invariant = { λ name. source_name name.text ≡ Some name.text };
 
     ghost inverse = { λ bytes. record { text = bytes } };
 }
@@ -104,8 +112,10 @@ impl SourceName {
         })
     }
 
+    /// The name as a text, which reads back as this name.
     pub fn as_text(&self) -> &Text
-        ensures { result.now ≡ self.now }
+        ensures value { result.now ≡ self.now }
+        ensures kept { source_name self.now ≡ Some self.now }
     {
         &self.text
     }
@@ -126,11 +136,14 @@ pub struct SubId {
 }
 
 impl Model for SubId {
-    ghost use Rattle.std.specs.Prelude.{ℕ, List};
+    ghost use Rattle.std.specs.Prelude.{◌≡◌, ℕ, List, Some};
+    ghost use Rattle.wef_base.specs.Names.{subscription_name};
 
     ghost Value = { List ℕ };
 
     ghost view = { λ name. name.text };
+
+    ghost invariant = { λ name. subscription_name name.text ≡ Some name.text };
 
     ghost inverse = { λ bytes. record { text = bytes } };
 }
@@ -146,8 +159,10 @@ impl SubId {
         })
     }
 
+    /// The name as a text, which reads back as this name.
     pub fn as_text(&self) -> &Text
-        ensures { result.now ≡ self.now }
+        ensures value { result.now ≡ self.now }
+        ensures kept { subscription_name self.now ≡ Some self.now }
     {
         &self.text
     }
@@ -180,7 +195,8 @@ impl Letters {
 }
 
 fn read_name(text: &Text, limit: usize, letters: Letters) -> Result<Text, ValueFault>
-    ensures { ReadsName result (name_of letters limit text.now) }
+    ensures value { ReadsName result (name_of letters limit text.now) }
+    ensures kept { IfOk result (λ name. name_of letters limit name ≡ Some name) }
 {
     let characters = text.characters()?;
     name_from(text.alloc(), trim(characters.as_slice()), limit, letters)

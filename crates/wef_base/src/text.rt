@@ -7,7 +7,7 @@ ghost use Rattle.std.specs.Cmp.Lexicographic.{pointwise, slice_cmp, nat_list_eq_
 ghost use Rattle.std.specs.Ordering.{nat_cmp};
 ghost use Rattle.std.specs.Prelude.{ℕ, nat_eq, refl};
 ghost use Rattle.std.specs.declared.option.Option.TheVariants.{Some};
-ghost use Rattle.std.specs.Str.{chars};
+ghost use Rattle.std.specs.Str.{IsUtf8, chars};
 ghost use Rattle.wef_base.specs.Names.{trimmed};
 ghost use Rattle.wef_base.specs.Printed.{printed};
 
@@ -125,7 +125,8 @@ impl Text {
     /// The characters, in a vector.
     #[tactic(auto, using(std::proofs::lemmas::Str::chars_from_encodes))]
     pub fn characters(&self) -> Result<Vec<char>, AllocError>
-        ensures { IfOk result (λ cs. cs.items ≡ chars self.now) }
+        ensures value { IfOk result (λ cs. cs.items ≡ chars self.now) }
+        ensures utf8 { IsUtf8 self.now }
     {
         self.as_str().chars().collect(self.alloc())
     }
