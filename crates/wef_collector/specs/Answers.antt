@@ -11,8 +11,8 @@ use Rattle.wef_collector.specs.Keys.{subscription_key}
 use Rattle.wef_collector.specs.Standing.{standing, kept_body, is_full}
 use Rattle.wef_collector.specs.declared.faults.CollectorFault as fault
 use Rattle.wef_collector.specs.declared.faults.CollectorFault.TheVariants as faults
-use Rattle.wef_collector.specs.declared.standing.Standing as state
-use Rattle.wef_collector.specs.declared.standing.Standing.TheVariants as is
+use Rattle.wef_collector.specs.declared.standings.Standing as state
+use Rattle.wef_collector.specs.declared.standings.Standing.TheVariants as is
 
 -- whether a name is that of a subscription, ended or not
 abbrev pub is_there : Rows → List ℕ → Bool

@@ -22,8 +22,8 @@ use Rattle.wef_collector.specs.Held.{held_rows, mark_rows, loose_rows}
 use Rattle.wef_collector.specs.Keys.{bookmark_key, heard_key}
 use Rattle.wef_collector.specs.Runs.{runs_of, runs_text}
 use Rattle.wef_collector.specs.Standing.{subscription_rows}
-use Rattle.wef_collector.specs.declared.report.Spans.{Spans}
-use Rattle.wef_collector.specs.declared.report.Spans.TheVariants.{Held as HeldSpans, Marks as MarkSpans}
+use Rattle.wef_collector.specs.declared.reporting.Spans.{Spans}
+use Rattle.wef_collector.specs.declared.reporting.Spans.TheVariants.{Held as HeldSpans, Marks as MarkSpans}
 use Rattle.wef_collector.specs.declared.runs.Span.{Span}
 
 -- the numbers that a row stands for: its own, or those from its own to its value

@@ -9,8 +9,8 @@ use Rattle.wef_keeper.specs.Sections.{rows_under}
 use Rattle.wef_eventing.specs.Kept.{read_kept}
 use Rattle.wef_eventing.specs.declared.subscriptions.Subscription.{Subscription}
 use Rattle.wef_collector.specs.Keys.{subscription_key}
-use Rattle.wef_collector.specs.declared.standing.Standing.{Standing}
-use Rattle.wef_collector.specs.declared.standing.Standing.TheVariants.{Unknown, Ended, Live}
+use Rattle.wef_collector.specs.declared.standings.Standing.{Standing}
+use Rattle.wef_collector.specs.declared.standings.Standing.TheVariants.{Unknown, Ended, Live}
 
 abbrev pub standing_by : ℕ → Option Subscription → Standing
 standing_by value None = Unknown

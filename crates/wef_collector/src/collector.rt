@@ -9,7 +9,7 @@ ghost use Rattle.wef_collector.specs.Keys as keys;
 ghost use Rattle.wef_collector.specs.Report.{report};
 ghost use Rattle.wef_collector.specs.Standing as standings;
 ghost use Rattle.wef_collector.specs.Taken.{taken};
-ghost use Rattle.wef_collector.specs.declared.standing.Standing.TheVariants.{Live};
+ghost use Rattle.wef_collector.specs.declared.standings.Standing.TheVariants.{Live};
 
 use std::alloc::{AllocError, Global};
 use std::marker::Model;
@@ -25,9 +25,9 @@ use wef_query::channels;
 use crate::changes::batch_changes;
 use crate::faults::CollectorFault;
 use crate::keys::{bookmark_key, held_key, subscription_key};
-use crate::report::{report, subscriptions_start};
+use crate::reporting::{report, subscriptions_start};
 use crate::sections::section;
-use crate::standing::{Standing, standing};
+use crate::standings::{Standing, standing_in};
 
 /// A subscription of the collector's list, and whether it is live.
 #[derive(Debug, Drop)]
@@ -38,7 +38,7 @@ pub struct Listed {
 
 /// Keeps subscriptions, and for each subscription and source the events that were delivered,
 /// together with a bookmark: how far the source was served in each channel.
-#[derive(Debug, Drop)]
+#[derive(Drop)]
 pub struct Collector {
     rows: Rows,
     alloc: Global,
@@ -104,7 +104,7 @@ impl Collector {
         ensures ok { IfOk result (λ subscription. standings.standing self.now sub.now ≡ Live subscription) }
         ensures refusal { IfErr result (λ fault. answers.RefusesName fault (standings.standing self.now sub.now)) }
     {
-        match standing(&self.rows, sub)? {
+        match standing_in(&self.rows, sub)? {
             Standing::Live(subscription) => Ok(subscription),
             Standing::Ended(_) => Err(CollectorFault::Ended),
             Standing::Unknown => Err(CollectorFault::NoSubscription),

@@ -5,11 +5,11 @@ mod changes;
 mod collector;
 mod faults;
 mod keys;
-mod report;
+mod reporting;
 mod runs;
 mod sections;
-mod standing;
+mod standings;
 
 pub use collector::{Collector, Listed};
 pub use faults::CollectorFault;
-pub use standing::Standing;
+pub use standings::Standing;

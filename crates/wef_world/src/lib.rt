@@ -1,13 +1,7 @@
-// A library with one function.
+//! The ends that a schedule moves, and what its lines do to them and print.
 #![tactic(auto)]
 
-ghost use Rattle.std.specs.Prelude.{◌≡◌};
-ghost use Rattle.wef_world.specs.Echo.{echo_of};
+mod printing;
+mod world;
 
-// The `ensures` clause is the contract: what `echo` returns is `echo_of` of its argument, a definition
-// in `specs/Echo.antt`, which a caller's clause can cite too.
-pub fn echo(x: usize) -> usize
-    ensures { result ≡ echo_of x }
-{
-    x
-}
+pub use world::{World, WorldFault};

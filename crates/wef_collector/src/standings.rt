@@ -22,7 +22,7 @@ pub enum Standing {
     Live(Subscription),
 }
 
-pub fn standing(rows: &Rows, sub: &SubId) -> Result<Standing, AllocError>
+pub fn standing_in(rows: &Rows, sub: &SubId) -> Result<Standing, AllocError>
     ensures { IfOk result (λ s. s ≡ spec.standing rows.now sub.now) }
 {
     let key = subscription_key(sub)?;

@@ -1,0 +1,106 @@
+-- What a schedule does: a step for each line, from an empty collector on, and what the line prints before it.
+use Rattle.std.specs.Prelude.{◌≡◌, ℕ, Bool, true, false, List, [], ◌∷◌, ◌++◌, if◌then◌else◌, codes}
+use Rattle.std.specs.FinMap as map
+use Rattle.wef_batch.specs.declared.items.Batch as batch
+use Rattle.wef_batch.specs.WellFormed.{is_well_formed}
+use Rattle.wef_collector.specs.Answers.{is_there, added_rows, ended_rows, channels_read}
+use Rattle.wef_collector.specs.Held.{held_after}
+use Rattle.wef_collector.specs.Report.{report}
+use Rattle.wef_collector.specs.Standing.{standing, is_full}
+use Rattle.wef_collector.specs.Taken.{taken}
+use Rattle.wef_collector.specs.declared.standings.Standing as state
+use Rattle.wef_collector.specs.declared.standings.Standing.TheVariants as is
+use Rattle.wef_envelope.specs.declared.FaultName.TheVariants.{InvalidMessage, DestinationUnreachable}
+use Rattle.wef_eventing.specs.declared.subscriptions.Subscription.{Subscription}
+use Rattle.wef_eventing.specs.declared.subscriptions.SubKind.TheVariants.{BySource}
+use Rattle.wef_keeper.specs.Rows.{Rows}
+use Rattle.wef_query.specs.declared.QueryList.{QueryList}
+use Rattle.wef_replay.specs.declared.lines.Line.{Line}
+use Rattle.wef_replay.specs.declared.lines.Line.TheVariants.{Subscribe, End, Batch, Show, Print}
+use Rattle.wef_world.specs.Printed.{name_line, batch_text, fault_answer, events_text}
+
+-- the moment of every line
+abbrev pub moment : ℕ
+moment = 0
+
+-- the subscription that a line `subscribe` makes: sources begin it, it has version 1 and expires after an hour
+abbrev pub subscription_of : List ℕ → ℕ → ℕ → ℕ → QueryList → Subscription
+subscription_of u items bytes beat query = record {
+  name = u;
+  kind = BySource;
+  query = query;
+  max_items = items;
+  max_bytes = bytes;
+  heartbeat = beat;
+  expires = 3600000;
+  sources = [];
+  version = 1;
+}
+
+abbrev pub subscribed : Rows → Subscription → Rows
+subscribed rows s = if is_there rows s.name then rows else (if is_full rows then rows else added_rows rows s)
+
+abbrev pub subscribe_text : Rows → List ℕ → List ℕ
+subscribe_text rows u =
+    if is_there rows u then name_line (codes "exists") u else (if is_full rows then codes "full" ++ 10 ∷ [] else name_line (codes "added") u)
+
+abbrev pub ended : Rows → List ℕ → state.Standing → Rows
+ended rows u is.Unknown = rows
+ended rows u (is.Ended s) = rows
+ended rows u (is.Live s) = ended_rows rows u
+
+abbrev pub end_text : List ℕ → state.Standing → List ℕ
+end_text u is.Unknown = name_line (codes "unknown") u
+end_text u (is.Ended s) = name_line (codes "already") u
+end_text u (is.Live s) = name_line (codes "ended") u
+
+-- the rows after a batch: taken where the subscription is live and the batch well-formed, else as before
+abbrev pub delivered : Rows → List ℕ → List ℕ → batch.Batch → state.Standing → Rows
+delivered rows u s b is.Unknown = rows
+delivered rows u s b (is.Ended old) = rows
+delivered rows u s b (is.Live about) = if is_well_formed (channels_read about) b then taken rows u s (channels_read about) b moment else rows
+
+-- the answer to a batch
+abbrev pub answer : batch.Batch → state.Standing → List ℕ
+answer b is.Unknown = fault_answer DestinationUnreachable
+answer b (is.Ended old) = fault_answer DestinationUnreachable
+answer b (is.Live about) =
+    if is_well_formed (channels_read about) b then (if b.ack_wanted then codes "ack" else codes "quiet") else fault_answer InvalidMessage
+
+abbrev pub print_text : Rows → List ℕ → List ℕ → List ℕ → state.Standing → List ℕ
+print_text rows u s c is.Unknown = name_line (codes "unknown") u
+print_text rows u s c (is.Ended old) = events_text (held_after rows u s c 0)
+print_text rows u s c (is.Live about) = events_text (held_after rows u s c 0)
+
+-- the rows after a line
+abbrev pub step : Line → Rows → Rows
+step (Subscribe u items bytes beat query) rows = subscribed rows (subscription_of u items bytes beat query)
+step (End u) rows = ended rows u (standing rows u)
+step (Batch u s b) rows = delivered rows u s b (standing rows u)
+step Show rows = rows
+step (Print u s c) rows = rows
+
+-- what a line prints, by the rows before it
+abbrev pub printed_by : Line → Rows → List ℕ
+printed_by (Subscribe u items bytes beat query) rows = subscribe_text rows u
+printed_by (End u) rows = end_text u (standing rows u)
+printed_by (Batch u s b) rows = batch_text u s (answer b (standing rows u))
+printed_by Show rows = report rows
+printed_by (Print u s c) rows = print_text rows u s c (standing rows u)
+
+-- the rows after each line
+abbrev pub states_from : Rows → List Line → List Rows
+states_from rows [] = rows ∷ []
+states_from rows (line ∷ lines) = rows ∷ states_from (step line rows) lines
+
+-- what lines print, one after the other
+abbrev pub trail_from : Rows → List Line → List ℕ
+trail_from rows [] = []
+trail_from rows (line ∷ lines) = printed_by line rows ++ trail_from (step line rows) lines
+
+-- the states of a schedule, and what it prints, from an empty collector on
+abbrev pub states : List Line → List Rows
+states lines = states_from map.empty lines
+
+unfoldable pub trail : List Line → List ℕ
+trail lines = trail_from map.empty lines
