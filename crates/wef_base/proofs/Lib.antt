@@ -1,6 +1,8 @@
 pub mod Cuts
+pub mod Decimals
 pub mod Escapes
 pub mod Kept
+pub mod PrintedBack
 pub mod Reading
 pub mod Trimmed
 pub mod Utf8

@@ -7,6 +7,9 @@ ghost use Rattle.wef_envelope.specs.Ids.{ids_agree};
 
 use wef_base::Text;
 
+#[cfg(test)]
+mod tests;
+
 /// A message's id: the text as it came, and its value where the text is a UUID.
 #[derive(Debug, Drop)]
 pub struct MessageId {

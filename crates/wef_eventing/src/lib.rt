@@ -1,13 +1,13 @@
-// A library with one function.
+//! Subscriptions, and the words that keep them.
 #![tactic(auto)]
 
-ghost use Rattle.std.specs.Prelude.{◌≡◌};
-ghost use Rattle.wef_eventing.specs.Echo.{echo_of};
+pub mod bodies;
+pub mod kept;
+pub mod subscriptions;
 
-// The `ensures` clause is the contract: what `echo` returns is `echo_of` of its argument, a definition
-// in `specs/Echo.antt`, which a caller's clause can cite too.
-pub fn echo(x: usize) -> usize
-    ensures { result ≡ echo_of x }
-{
-    x
-}
+pub use bodies::{Body, Offer, Subscribe};
+pub use kept::{kept_words, read_kept};
+pub use subscriptions::{EndStatus, SourceAt, SubKind, Subscription};
+
+#[cfg(test)]
+mod tests;
