@@ -3,3 +3,4 @@ pub mod Counts
 pub mod Names
 pub mod Numbers
 pub mod Printed
+pub mod Words

@@ -1,13 +1,18 @@
 -- Names of channels, sources and subscriptions, and the spaces that are trimmed off them.
-use Rattle.std.specs.Prelude.{◌≡◌, ℕ, ◌==◌, nat_lt, Bool, true, false, ◌||◌, List, [], ◌∷◌, length, map, encode_utf8_all, Option, Some, None, Result, if◌then◌else◌}
+use Rattle.std.specs.Prelude.{◌≡◌, ℕ, ◌==◌, nat_eq, nat_lt, Bool, ◌||◌, List, [], ◌∷◌, length, map, encode_utf8_all, Option, Some, None, Result, if◌then◌else◌}
 use Rattle.std.specs.declared.result.Result.TheVariants.{Ok, Err}
 use Rattle.std.specs.List.{list_any}
+use Rattle.std.specs.Cmp.Lexicographic.{pointwise}
 use Rattle.std.specs.Char.{to_ascii_lowercase}
 use Rattle.std.specs.Str.{chars}
 use Rattle.wef_base.specs.declared.names.ValueFault.{ValueFault}
 use Rattle.wef_base.specs.declared.names.ValueFault.TheVariants.{NoMemory, BadName}
 use Rattle.wef_base.specs.declared.names.Letters.{Letters}
 use Rattle.wef_base.specs.declared.names.Letters.TheVariants.{Kept, Small}
+
+-- two names are one, byte for byte
+abbrev pub same : List ℕ → List ℕ → Bool
+same = pointwise nat_eq
 
 -- what XML 1.0 calls a space (its rule S): space, TAB, LF, CR
 abbrev pub is_space : ℕ → Bool

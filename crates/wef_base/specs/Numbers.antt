@@ -1,8 +1,7 @@
 -- Numbers in decimal digits.
-use Rattle.std.specs.Prelude.{◌≡◌, ℕ, ◌+◌, ◌-◌, ◌*◌, ◌<◌, ◌==◌, nat_le, Bool, true, false, not, ◌&&◌, List, [], ◌∷◌, Option, Some, None, Result, if◌then◌else◌}
+use Rattle.std.specs.Prelude.{◌≡◌, ℕ, ◌+◌, ◌-◌, ◌*◌, ◌==◌, nat_le, nat_lt, length, Bool, true, false, not, ◌&&◌, List, [], ◌∷◌, Option, Some, None, Result, if◌then◌else◌}
 use Rattle.std.specs.declared.result.Result.TheVariants.{Ok, Err}
 use Rattle.std.specs.List.{list_all}
-use Rattle.wef_base.specs.Names.{trimmed}
 use Rattle.wef_base.specs.declared.names.ValueFault.{ValueFault}
 use Rattle.wef_base.specs.declared.names.ValueFault.TheVariants.{NoMemory, NotANumber, TooLarge}
 
@@ -16,8 +15,7 @@ value_from n (c ∷ cs) = value_from (n * 10 + (c - 48)) cs
 
 -- one digit or more, and nothing else
 abbrev pub is_numeral : List ℕ → Bool
-is_numeral [] = false
-is_numeral (c ∷ cs) = list_all is_digit (c ∷ cs)
+is_numeral cs = nat_lt 0 (length cs) && list_all is_digit cs
 
 -- a zero before another digit
 abbrev pub has_leading_zero : List ℕ → Bool

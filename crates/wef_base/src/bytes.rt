@@ -1,6 +1,6 @@
 //! Bytes, which contracts see as a list of numbers below 256.
 
-ghost use Rattle.std.specs.Prelude.{◌≡◌, ◌==◌, [], ◌++◌, length, IfOk, OnOk, OnErr};
+ghost use Rattle.std.specs.Prelude.{◌≡◌, ◌==◌, [], ◌∷◌, ◌++◌, length, IfOk, OnOk, OnErr};
 
 use std::alloc::{AllocError, Global};
 use std::marker::Model;
@@ -54,6 +54,15 @@ impl Bytes {
         ensures { result ≡ (length self.now == 0) }
     {
         self.inner.len() == 0
+    }
+
+    /// Appends a byte.
+    pub fn push(&mut self, byte: u8) -> Result<(), AllocError>
+        ensures ok { OnOk result (self.new ≡ self.old ++ byte ∷ []) }
+        ensures err { OnErr result (self.new ≡ self.old) }
+    {
+        self.inner.push(byte)?;
+        Ok(())
     }
 
     /// Appends bytes.

@@ -10,6 +10,7 @@ pub mod ports;
 pub mod printed;
 pub mod standard;
 pub mod text;
+pub mod words;
 
 pub use bytes::Bytes;
 pub use list::List;

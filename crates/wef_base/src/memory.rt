@@ -7,11 +7,10 @@ ghost use Rattle.std.specs.Io.KnownBytes.{ReadConsumes, WriteAppends};
 ghost use Rattle.std.specs.List.{list_any};
 ghost use Rattle.wef_base.specs.Counts.{HasCause, Gives};
 
-use std::alloc::Global;
-
 use crate::bytes::Bytes;
 use crate::list::List;
 use crate::ports::{IoFailed, Sink, Source};
+use std::alloc::Global;
 
 /// A source over bytes in memory.
 #[derive(Debug, Drop)]

@@ -4,10 +4,9 @@ ghost use Rattle.std.specs.Prelude.{◌≡◌, ◌<◌, ◌≤◌, ◌==◌, ◌
 ghost use Rattle.std.specs.List.{list_any};
 ghost use Rattle.wef_base.specs.Names.{is_forbidden, is_space, spelt, trimmed_characters, without_end, without_start, name_of_characters, name_of, channel_name, source_name, subscription_name, ReadsName};
 
+use crate::text::Text;
 use std::alloc::{AllocError, AllocFailed, Global};
 use std::marker::Model;
-
-use crate::text::Text;
 use thiserror::Error;
 
 /// Why a text isn't a value of the type that was asked for.
@@ -41,11 +40,14 @@ pub struct ChannelName {
 }
 
 impl Model for ChannelName {
-    ghost use Rattle.std.specs.Prelude.{ℕ, List};
+    ghost use Rattle.std.specs.Prelude.{◌≡◌, ℕ, List, Some};
+    ghost use Rattle.wef_base.specs.Names.{channel_name};
 
     ghost Value = { List ℕ };
 
     ghost view = { λ name. name.text };
+
+    ghost invariant = { λ name. channel_name name.text ≡ Some name.text };
 
     ghost inverse = { λ bytes. record { text = bytes } };
 }
@@ -54,6 +56,7 @@ impl ChannelName {
     /// Reads a name: spaces at both ends are trimmed, and the letters A to Z made small. `BadName`
     /// where what is left is empty or has more than 256 bytes, or holds a character below U+0020,
     /// U+007F, U+FFFE or U+FFFF.
+    #[tactic(auto, unfolding(crate::specs::Names::channel_name))]
     pub fn read(text: &Text) -> Result<ChannelName, ValueFault>
         ensures { ReadsName result (channel_name text.now) }
     {
@@ -62,8 +65,10 @@ impl ChannelName {
         })
     }
 
+    /// The name as a text, which reads back as this name.
     pub fn as_text(&self) -> &Text
-        ensures { result.now ≡ self.now }
+        ensures value { result.now ≡ self.now }
+        ensures kept { channel_name self.now ≡ Some self.now }
     {
         &self.text
     }
@@ -84,17 +89,21 @@ pub struct SourceName {
 }
 
 impl Model for SourceName {
-    ghost use Rattle.std.specs.Prelude.{ℕ, List};
+    ghost use Rattle.std.specs.Prelude.{◌≡◌, ℕ, List, Some};
+    ghost use Rattle.wef_base.specs.Names.{source_name};
 
     ghost Value = { List ℕ };
 
     ghost view = { λ name. name.text };
+
+    ghost invariant = { λ name. source_name name.text ≡ Some name.text };
 
     ghost inverse = { λ bytes. record { text = bytes } };
 }
 
 impl SourceName {
     /// Reads a name as `ChannelName::read` does, of at most 255 bytes.
+    #[tactic(auto, unfolding(crate::specs::Names::source_name))]
     pub fn read(text: &Text) -> Result<SourceName, ValueFault>
         ensures { ReadsName result (source_name text.now) }
     {
@@ -103,8 +112,10 @@ impl SourceName {
         })
     }
 
+    /// The name as a text, which reads back as this name.
     pub fn as_text(&self) -> &Text
-        ensures { result.now ≡ self.now }
+        ensures value { result.now ≡ self.now }
+        ensures kept { source_name self.now ≡ Some self.now }
     {
         &self.text
     }
@@ -125,17 +136,21 @@ pub struct SubId {
 }
 
 impl Model for SubId {
-    ghost use Rattle.std.specs.Prelude.{ℕ, List};
+    ghost use Rattle.std.specs.Prelude.{◌≡◌, ℕ, List, Some};
+    ghost use Rattle.wef_base.specs.Names.{subscription_name};
 
     ghost Value = { List ℕ };
 
     ghost view = { λ name. name.text };
+
+    ghost invariant = { λ name. subscription_name name.text ≡ Some name.text };
 
     ghost inverse = { λ bytes. record { text = bytes } };
 }
 
 impl SubId {
     /// Reads a name as `ChannelName::read` does, of at most 128 bytes, and keeps its letters.
+    #[tactic(auto, unfolding(crate::specs::Names::subscription_name))]
     pub fn read(text: &Text) -> Result<SubId, ValueFault>
         ensures { ReadsName result (subscription_name text.now) }
     {
@@ -144,8 +159,10 @@ impl SubId {
         })
     }
 
+    /// The name as a text, which reads back as this name.
     pub fn as_text(&self) -> &Text
-        ensures { result.now ≡ self.now }
+        ensures value { result.now ≡ self.now }
+        ensures kept { subscription_name self.now ≡ Some self.now }
     {
         &self.text
     }
@@ -178,7 +195,8 @@ impl Letters {
 }
 
 fn read_name(text: &Text, limit: usize, letters: Letters) -> Result<Text, ValueFault>
-    ensures { ReadsName result (name_of letters limit text.now) }
+    ensures value { ReadsName result (name_of letters limit text.now) }
+    ensures kept { IfOk result (λ name. name_of letters limit name ≡ Some name) }
 {
     let characters = text.characters()?;
     name_from(text.alloc(), trim(characters.as_slice()), limit, letters)

@@ -1,6 +1,6 @@
 //! Numbers in decimal digits.
 
-ghost use Rattle.std.specs.Prelude.{◌≡◌, ◌<◌, true};
+ghost use Rattle.std.specs.Prelude.{◌≡◌, ◌<◌, ◌≤◌, true, IfSome};
 ghost use Rattle.std.specs.List.{list_all};
 ghost use Rattle.wef_base.specs.Names.{trimmed};
 ghost use Rattle.wef_base.specs.Numbers.{is_digit, is_numeral, has_leading_zero, number_within, plain_number, ReadsNumber};
@@ -25,9 +25,11 @@ pub fn read_number(text: &Text) -> Result<u64, ValueFault>
 }
 
 /// The number of digits without a leading zero, at most a limit below 2^63. None for anything else.
+#[tactic(auto, unfolding(crate::specs::Numbers::plain_number))]
 pub fn read_plain_number(word: &[u8], limit: u64) -> Option<u64>
     requires { limit < 9223372036854775808 }
-    ensures { result ≡ plain_number limit word.now }
+    ensures value { result ≡ plain_number limit word.now }
+    ensures within { IfSome result (λ n. n ≤ limit) }
 {
     if !is_numeral_text(word) || leads_with_zero(word) {
         return None;
@@ -38,9 +40,12 @@ pub fn read_plain_number(word: &[u8], limit: u64) -> Option<u64>
 fn is_numeral_text(word: &[u8]) -> bool
     ensures { result ≡ is_numeral word.now }
 {
-    if word.is_empty() {
-        return false;
-    }
+    word.len() > 0 && all_digits(word)
+}
+
+fn all_digits(word: &[u8]) -> bool
+    ensures { result ≡ list_all is_digit word.now }
+{
     word.iter().all(|&b| b >= 48 && b <= 57)
 }
 
@@ -56,7 +61,8 @@ fn leads_with_zero(word: &[u8]) -> bool
 fn value_within(digits: &[u8], limit: u64) -> Option<u64>
     requires digits { is_numeral digits.now ≡ true }
     requires small { limit < 9223372036854775808 }
-    ensures { result ≡ number_within limit digits.now }
+    ensures value { result ≡ number_within limit digits.now }
+    ensures within { IfSome result (λ n. n ≤ limit) }
 {
     let mut value = 0u128;
     for &digit in digits {

@@ -3,10 +3,9 @@
 ghost use Rattle.std.specs.Prelude.{◌≡◌, ◌++◌, OnOk, OnErr, string_bytes};
 ghost use Rattle.wef_base.specs.Printed.{printed};
 
+use crate::text::Text;
 use percent_encoding::{AsciiSet, CONTROLS, ascii_set, utf8_percent_encode};
 use std::alloc::AllocError;
-
-use crate::text::Text;
 
 /// The bytes that a printed name shows escaped, beside those past ASCII: control characters, the
 /// space, `%` and `:`.

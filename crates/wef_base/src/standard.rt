@@ -1,12 +1,11 @@
 //! The standard streams, as a source and two sinks. No contract says what a stream holds or does
 //! with what it takes: these tell their counts of faults alone.
 
-ghost use Rattle.std.specs.Prelude.{◌≡◌, ℕ, ◌+◌, min, IsErr, refl};
+ghost use Rattle.std.specs.Prelude.{refl};
 ghost use Rattle.std.specs.declared.option.Option.TheVariants.{None};
 
-use std::io::{Read, StdinLock};
-
 use crate::ports::{IoFailed, Sink, Source};
+use std::io::{Read, StdinLock};
 
 /// The standard input.
 #[derive(Drop)]
@@ -36,26 +35,12 @@ impl Source for StdSource {
     ghost tells = { λ a b. refl };
 
     fn read(&mut self, buf: &mut [u8]) -> Result<usize, IoFailed> {
-        let count = match self.input.read(buf) {
-            Ok(count) => count,
-            Err(_) => return self.failed(),
-        };
-        match self.given.checked_add(count as u64) {
-            Some(given) => {
+        if let Ok(count) = self.input.read(buf) {
+            if let Some(given) = self.given.checked_add(count as u64) {
                 self.given = given;
-                Ok(count)
+                return Ok(count);
             }
-            None => self.failed(),
         }
-    }
-}
-
-impl StdSource {
-    fn failed(&mut self) -> Result<usize, IoFailed>
-        ensures result { IsErr result }
-        ensures faults { self.new.faults ≡ min (self.old.faults + 1) 18446744073709551615 }
-        ensures given { self.new.given ≡ self.old.given }
-    {
         self.faults = self.faults.saturating_add(1);
         Err(IoFailed)
     }

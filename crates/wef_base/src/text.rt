@@ -7,11 +7,12 @@ ghost use Rattle.std.specs.Cmp.Lexicographic.{pointwise, slice_cmp, nat_list_eq_
 ghost use Rattle.std.specs.Ordering.{nat_cmp};
 ghost use Rattle.std.specs.Prelude.{ℕ, nat_eq, refl};
 ghost use Rattle.std.specs.declared.option.Option.TheVariants.{Some};
-
-ghost use Rattle.std.specs.Str.{chars};
+ghost use Rattle.std.specs.Str.{IsUtf8, chars};
 ghost use Rattle.wef_base.specs.Names.{trimmed};
+ghost use Rattle.wef_base.specs.Printed.{printed};
 
 use crate::names::trim;
+use crate::printed::push_printed;
 use std::alloc::{AllocError, Global};
 use std::cmp::Ordering;
 use std::fmt;
@@ -100,6 +101,15 @@ impl Text {
         self.inner.push_str(digits.as_str())
     }
 
+    /// Appends a name as printed lines show it: every byte below 0x21 or above 0x7E, `%` and `:` as
+    /// `%` and two capital hexadecimal digits.
+    pub fn push_printed(&mut self, name: &Text) -> Result<(), AllocError>
+        ensures ok { OnOk result (self.new ≡ self.old ++ printed name.now) }
+        ensures err { OnErr result (self.new ≡ self.old) }
+    {
+        push_printed(&mut self.inner, name.as_str())
+    }
+
     /// The text without the spaces at both ends (XML 1.0, rule S).
     pub fn trimmed(&self) -> Result<Text, AllocError>
         ensures { IfOk result (λ t. t ≡ trimmed self.now) }
@@ -115,7 +125,8 @@ impl Text {
     /// The characters, in a vector.
     #[tactic(auto, using(std::proofs::lemmas::Str::chars_from_encodes))]
     pub fn characters(&self) -> Result<Vec<char>, AllocError>
-        ensures { IfOk result (λ cs. cs.items ≡ chars self.now) }
+        ensures value { IfOk result (λ cs. cs.items ≡ chars self.now) }
+        ensures utf8 { IsUtf8 self.now }
     {
         self.as_str().chars().collect(self.alloc())
     }

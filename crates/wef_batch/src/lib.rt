@@ -1,13 +1,13 @@
-// A library with one function.
+//! Batches: what a source delivers at once, and when a batch is well-formed.
 #![tactic(auto)]
 
-ghost use Rattle.std.specs.Prelude.{◌≡◌};
-ghost use Rattle.wef_batch.specs.Echo.{echo_of};
+pub mod items;
+pub mod judging;
+pub mod reaching;
 
-// The `ensures` clause is the contract: what `echo` returns is `echo_of` of its argument, a definition
-// in `specs/Echo.antt`, which a caller's clause can cite too.
-pub fn echo(x: usize) -> usize
-    ensures { result ≡ echo_of x }
-{
-    x
-}
+pub use items::{Batch, Item};
+pub use judging::{items_are_reached, judge, loose_sum};
+pub use reaching::reach;
+
+#[cfg(test)]
+mod tests;

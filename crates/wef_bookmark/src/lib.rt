@@ -1,13 +1,10 @@
-// A library with one function.
+//! Bookmarks: how far each channel was read.
 #![tactic(auto)]
 
-ghost use Rattle.std.specs.Prelude.{◌≡◌};
-ghost use Rattle.wef_bookmark.specs.Echo.{echo_of};
+pub mod marking;
+pub mod order;
 
-// The `ensures` clause is the contract: what `echo` returns is `echo_of` of its argument, a definition
-// in `specs/Echo.antt`, which a caller's clause can cite too.
-pub fn echo(x: usize) -> usize
-    ensures { result ≡ echo_of x }
-{
-    x
-}
+pub use marking::{Bookmark, BookmarkFault};
+
+#[cfg(test)]
+mod tests;

@@ -1,13 +1,11 @@
-// A library with one function.
+//! The program `wef`, but for the real streams: a command line, an input, an output and a place for
+//! messages, and the one call that does all of it.
 #![tactic(auto)]
 
-ghost use Rattle.std.specs.Prelude.{◌≡◌};
-ghost use Rattle.wef_cli.specs.Echo.{echo_of};
+mod command;
+mod ending;
+mod streams;
+mod top;
 
-// The `ensures` clause is the contract: what `echo` returns is `echo_of` of its argument, a definition
-// in `specs/Echo.antt`, which a caller's clause can cite too.
-pub fn echo(x: usize) -> usize
-    ensures { result ≡ echo_of x }
-{
-    x
-}
+pub use ending::Ending;
+pub use top::run;

@@ -1,13 +1,15 @@
-// A library with one function.
+//! The collector: subscriptions, the batches that sources deliver for them, and what is kept.
 #![tactic(auto)]
 
-ghost use Rattle.std.specs.Prelude.{◌≡◌};
-ghost use Rattle.wef_collector.specs.Echo.{echo_of};
+mod changes;
+mod collector;
+mod faults;
+mod keys;
+mod report;
+mod runs;
+mod sections;
+mod standing;
 
-// The `ensures` clause is the contract: what `echo` returns is `echo_of` of its argument, a definition
-// in `specs/Echo.antt`, which a caller's clause can cite too.
-pub fn echo(x: usize) -> usize
-    ensures { result ≡ echo_of x }
-{
-    x
-}
+pub use collector::{Collector, Listed};
+pub use faults::CollectorFault;
+pub use standing::Standing;

@@ -1,13 +1,80 @@
-// A library with one function.
+//! What a message carries beside its body: its id, and the names of faults.
 #![tactic(auto)]
 
-ghost use Rattle.std.specs.Prelude.{◌≡◌};
-ghost use Rattle.wef_envelope.specs.Echo.{echo_of};
+ghost use Rattle.std.specs.Prelude.{◌≡◌, ◌+◌, ◌*◌};
+ghost use Rattle.wef_envelope.specs.Faults.{fault_text};
+ghost use Rattle.wef_envelope.specs.Ids.{ids_agree};
 
-// The `ensures` clause is the contract: what `echo` returns is `echo_of` of its argument, a definition
-// in `specs/Echo.antt`, which a caller's clause can cite too.
-pub fn echo(x: usize) -> usize
-    ensures { result ≡ echo_of x }
-{
-    x
+use wef_base::Text;
+
+/// A message's id: the text as it came, and its value where the text is a UUID.
+#[derive(Debug, Drop)]
+pub struct MessageId {
+    pub value: Option<u128>,
+    pub text: Text,
+}
+
+impl MessageId {
+    /// The id's value at the message `seq` that an end sends after its start number `boot`. Two
+    /// pairs give two values. It takes no memory.
+    pub fn of(boot: u64, seq: u64) -> u128
+        ensures value { result ≡ boot * 18446744073709551616 + seq }
+    {
+        u128::from(boot) * 18_446_744_073_709_551_616 + u128::from(seq)
+    }
+
+    /// Whether both ids have a value, and the same one. Their texts may differ.
+    pub fn agrees(&self, other: &MessageId) -> bool
+        ensures { result ≡ ids_agree self.now.value other.now.value }
+    {
+        match (self.value, other.value) {
+            (Some(value), Some(wanted)) => value == wanted,
+            _ => false,
+        }
+    }
+}
+
+/// The name of a fault that an end answers with, or that it was answered.
+#[derive(Debug, Drop)]
+pub enum FaultName {
+    DeliveryModeRequestedUnavailable,
+    FilteringRequestedUnavailable,
+    InvalidExpirationTime,
+    InvalidMessage,
+    UnableToRenew,
+    ActionNotSupported,
+    DestinationUnreachable,
+    MessageInformationHeaderRequired,
+    InvalidBookmark,
+    EncodingLimit,
+    InternalError,
+    InvalidEnumerationContext,
+    MustUnderstand,
+    /// A name that no standard that is kept here gives.
+    Other(Text),
+}
+
+impl FaultName {
+    /// The name as it stands in a fault, without a prefix.
+    #[tactic(auto, unfolding(crate::specs::Faults::fault_text))]
+    pub fn as_str(&self) -> &str
+        ensures { result.now ≡ fault_text self.now }
+    {
+        match self {
+            FaultName::DeliveryModeRequestedUnavailable => "DeliveryModeRequestedUnavailable",
+            FaultName::FilteringRequestedUnavailable => "FilteringRequestedUnavailable",
+            FaultName::InvalidExpirationTime => "InvalidExpirationTime",
+            FaultName::InvalidMessage => "InvalidMessage",
+            FaultName::UnableToRenew => "UnableToRenew",
+            FaultName::ActionNotSupported => "ActionNotSupported",
+            FaultName::DestinationUnreachable => "DestinationUnreachable",
+            FaultName::MessageInformationHeaderRequired => "MessageInformationHeaderRequired",
+            FaultName::InvalidBookmark => "InvalidBookmark",
+            FaultName::EncodingLimit => "EncodingLimit",
+            FaultName::InternalError => "InternalError",
+            FaultName::InvalidEnumerationContext => "InvalidEnumerationContext",
+            FaultName::MustUnderstand => "MustUnderstand",
+            FaultName::Other(text) => text.as_str(),
+        }
+    }
 }

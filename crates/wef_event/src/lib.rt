@@ -1,13 +1,13 @@
-// A library with one function.
+//! Events: a record of a channel, as text.
 #![tactic(auto)]
 
-ghost use Rattle.std.specs.Prelude.{◌≡◌};
-ghost use Rattle.wef_event.specs.Echo.{echo_of};
+pub mod characters;
+pub mod plain;
+pub mod records;
 
-// The `ensures` clause is the contract: what `echo` returns is `echo_of` of its argument, a definition
-// in `specs/Echo.antt`, which a caller's clause can cite too.
-pub fn echo(x: usize) -> usize
-    ensures { result ≡ echo_of x }
-{
-    x
-}
+pub use characters::is_xml_text;
+pub use plain::plain_event;
+pub use records::{Event, EventFault};
+
+#[cfg(test)]
+mod tests;

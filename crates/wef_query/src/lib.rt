@@ -1,13 +1,136 @@
-// A library with one function.
+//! Which events a subscription asks for: a list of queries, each of which asks for all events of
+//! its channel or takes them out again.
 #![tactic(auto)]
 
-ghost use Rattle.std.specs.Prelude.{◌≡◌};
-ghost use Rattle.wef_query.specs.Echo.{echo_of};
+ghost use Rattle.std.specs.Prelude.{◌≡◌, IfOk};
+ghost use Rattle.std.specs.List.{list_any};
+ghost use Rattle.wef_query.specs.Queries.{all_events_of};
+ghost use Rattle.wef_query.specs.Order.{HasSameNames, IsInOrder};
+ghost use Rattle.wef_query.specs.Selected.{channels_of, is_select_of, is_selected, is_selecting, is_suppressed, is_suppress_of, selects};
 
-// The `ensures` clause is the contract: what `echo` returns is `echo_of` of its argument, a definition
-// in `specs/Echo.antt`, which a caller's clause can cite too.
-pub fn echo(x: usize) -> usize
-    ensures { result ≡ echo_of x }
+use std::alloc::{AllocError, Global};
+use std::collections::BTreeSet;
+use wef_base::{ChannelName, List};
+
+/// One query: all events of a channel, selected or suppressed.
+#[derive(Debug, Drop)]
+pub struct QueryItem {
+    /// The query that the item stands in. Items of one group are read together.
+    pub group: u64,
+    /// Whether the item takes events out of its group, in place of asking for them.
+    pub suppress: bool,
+    pub channel: ChannelName,
+}
+
+impl QueryItem {
+    pub fn clone(&self) -> Result<QueryItem, AllocError>
+        ensures { IfOk result (λ copy. copy ≡ self.now) }
+    {
+        Ok(QueryItem {
+            group: self.group,
+            suppress: self.suppress,
+            channel: self.channel.clone()?,
+        })
+    }
+}
+
+/// A list of queries.
+#[derive(Debug, Drop)]
+pub struct QueryList {
+    pub items: List<QueryItem>,
+}
+
+impl QueryList {
+    /// The list that asks for all events of each channel: one Select a channel, in order, all in
+    /// group 0. A channel that stands twice gives two items.
+    pub fn all(alloc: Global, channels: List<ChannelName>) -> Result<QueryList, AllocError>
+        ensures { IfOk result (λ list. list.items ≡ all_events_of channels) }
+    {
+        let mut items = List::new(alloc);
+        for channel in channels.into_vec() {
+            items.push(QueryItem {
+                group: 0,
+                suppress: false,
+                channel,
+            })?;
+        }
+        Ok(QueryList { items })
+    }
+
+    pub fn clone(&self, alloc: Global) -> Result<QueryList, AllocError>
+        ensures { IfOk result (λ copy. copy ≡ self.now) }
+    {
+        let mut items = List::new(alloc);
+        for item in self.items.as_slice() {
+            items.push(item.clone()?)?;
+        }
+        Ok(QueryList { items })
+    }
+}
+
+/// The channels of all Selects, each once, in the order of their bytes. Suppresses don't count. It
+/// compares names about N log N times.
+pub fn channels(alloc: Global, list: &QueryList) -> Result<List<ChannelName>, AllocError>
+    ensures value { IfOk result (λ names. names ≡ channels_of list.now.items) }
+    ensures in_order { IfOk result (λ names. IsInOrder names) }
+    ensures same { IfOk result (λ names. HasSameNames names (selects list.now.items)) }
 {
-    x
+    let names = distinct_selects(alloc, list)?;
+    Ok(names)
+}
+
+fn distinct_selects(alloc: Global, list: &QueryList) -> Result<List<ChannelName>, AllocError>
+    ensures { IfOk result (λ names. names ≡ channels_of list.now.items) }
+{
+    let mut names = BTreeSet::new(alloc);
+    for item in list.items.as_slice() {
+        if !item.suppress {
+            names.insert(item.channel.clone()?)?;
+        }
+    }
+    Ok(List::from(names.into_iter().collect::<Vec<ChannelName>>(alloc)?))
+}
+
+/// Whether the list selects the events of a channel: in some group a Select of the channel stands,
+/// and no Suppress of the channel. It takes no memory.
+pub fn selected(list: &QueryList, channel: &ChannelName) -> bool
+    ensures { result ≡ is_selected list.now.items channel.now }
+{
+    has_item_in_force(list, channel)
+}
+
+fn has_item_in_force(list: &QueryList, channel: &ChannelName) -> bool
+    ensures { result ≡ list_any (is_selecting list.now.items channel.now) list.now.items }
+{
+    list.items
+        .as_slice()
+        .iter()
+        .any(|item| is_in_force(list, item, channel))
+}
+
+fn is_in_force(list: &QueryList, item: &QueryItem, channel: &ChannelName) -> bool
+    ensures { result ≡ is_selecting list.now.items channel.now item.now }
+{
+    asks_for(item, channel) && !suppresses(list, item.group, channel)
+}
+
+fn asks_for(item: &QueryItem, channel: &ChannelName) -> bool
+    ensures { result ≡ is_select_of item.now.group channel.now item.now }
+{
+    !item.suppress && item.channel == *channel
+}
+
+fn suppresses(list: &QueryList, group: u64, channel: &ChannelName) -> bool
+    ensures { result ≡ is_suppressed list.now.items group channel.now }
+{
+    list.items
+        .as_slice()
+        .iter()
+        .any(|item| takes_out(item, group, channel))
+}
+
+fn takes_out(item: &QueryItem, group: u64, channel: &ChannelName) -> bool
+    ensures { result ≡ is_suppress_of group channel.now item.now }
+{
+    item.group == group && item.suppress && item.channel == *channel
 }

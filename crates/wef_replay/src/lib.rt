@@ -1,13 +1,11 @@
-// A library with one function.
+//! Schedules: what a replay is to do, line by line.
 #![tactic(auto)]
 
-ghost use Rattle.std.specs.Prelude.{◌≡◌};
-ghost use Rattle.wef_replay.specs.Echo.{echo_of};
+mod batches;
+mod grammar;
+mod lines;
+mod schedule;
+mod values;
 
-// The `ensures` clause is the contract: what `echo` returns is `echo_of` of its argument, a definition
-// in `specs/Echo.antt`, which a caller's clause can cite too.
-pub fn echo(x: usize) -> usize
-    ensures { result ≡ echo_of x }
-{
-    x
-}
+pub use lines::Line;
+pub use schedule::{SCHEDULE_LIMIT, ScheduleFault, read_schedule};

@@ -1,0 +1,28 @@
+-- The kept bookmark of a subscription and a source.
+use Rattle.std.specs.Prelude.{ℕ, List, [], ◌∷◌, unwrap_or}
+use Rattle.std.specs.FinMap as map
+use Rattle.std.specs.Option.{option_map}
+use Rattle.wef_bookmark.specs.Order.{Marks, raised}
+use Rattle.wef_keeper.specs.declared.keys.Cell.{Cell}
+use Rattle.wef_keeper.specs.declared.keys.Depth.TheVariants.{Source}
+use Rattle.wef_keeper.specs.declared.keys.Row.{Row}
+use Rattle.wef_keeper.specs.Rows.{Rows}
+use Rattle.wef_keeper.specs.Sections.{rows_under}
+use Rattle.wef_collector.specs.Keys.{bookmark_key}
+
+-- how far a source's channel was served: 0 where nothing is kept
+abbrev pub bookmark_at : Rows → List ℕ → List ℕ → List ℕ → ℕ
+bookmark_at rows u s c = unwrap_or (option_map (λ (cell : Cell). cell.value) (map.get rows (bookmark_key u s c))) 0
+
+-- the bookmark rows of a subscription and a source, by channel
+abbrev pub bookmark_rows : Rows → List ℕ → List ℕ → List Row
+bookmark_rows rows u s = rows_under Source (bookmark_key u s []) rows
+
+-- a bookmark with those of some rows
+abbrev pub raised_by_rows : Marks → List Row → Marks
+raised_by_rows b [] = b
+raised_by_rows b (row ∷ rows) = raised_by_rows (raised b row.key.channel row.value) rows
+
+-- the bookmark of a subscription and a source
+abbrev pub bookmark_of : Rows → List ℕ → List ℕ → Marks
+bookmark_of rows u s = raised_by_rows map.empty (bookmark_rows rows u s)

@@ -1,0 +1,178 @@
+//! What taking a batch changes.
+
+ghost use Rattle.std.specs.Prelude.{◌≡◌, ◌+◌, ◌<◌, [], ◌∷◌, ◌++◌, IfOk, OnOk};
+ghost use Rattle.std.specs.Fmt.{decimal};
+ghost use Rattle.std.specs.List.{flat_map};
+ghost use Rattle.wef_batch.specs.Reach as reaches;
+ghost use Rattle.wef_collector.specs.Keys as keys;
+ghost use Rattle.wef_collector.specs.Taken as spec;
+ghost use Rattle.wef_collector.specs.Bookmarks as bookmarks;
+
+use std::alloc::AllocError;
+
+use wef_base::{ChannelName, List, SourceName, SubId, Text};
+use wef_batch::{Batch, Item, loose_sum, reach};
+use wef_keeper::{Change, Key, Row, Rows};
+
+use crate::keys::{bookmark_key, heard_key, held_key, loose_key, mark_key};
+
+/// All that a batch for these channels changes.
+pub fn batch_changes(
+    rows: &Rows,
+    sub: &SubId,
+    source: &SourceName,
+    channels: &[ChannelName],
+    batch: &Batch,
+    now: u64,
+) -> Result<List<Change>, AllocError>
+    requires { reaches.loose_sum batch.now.items < 18446744073709551616 }
+    ensures { IfOk result (λ changes. changes ≡ spec.batch_changes rows.now sub.now source.now channels.now batch.now now) }
+{
+    let mut changes = List::new(sub.as_text().alloc());
+    for channel in channels {
+        push_channel_changes(&mut changes, rows, sub, source, channel, batch)?;
+    }
+    push_heard_changes(&mut changes, rows, sub, source, now)?;
+    Ok(changes)
+}
+
+fn push_channel_changes(
+    changes: &mut List<Change>,
+    rows: &Rows,
+    sub: &SubId,
+    source: &SourceName,
+    channel: &ChannelName,
+    batch: &Batch,
+) -> Result<(), AllocError>
+    requires { reaches.loose_sum batch.now.items < 18446744073709551616 }
+    ensures { OnOk result (changes.new ≡ changes.old ++ spec.channel_changes rows.now sub.now source.now batch.now channel.now) }
+{
+    let Some(to) = reach(batch, channel) else {
+        return Ok(());
+    };
+    let bookmark = bookmark_at(rows, sub, source, channel)?;
+    push_items_changes(changes, sub, source, channel, bookmark, batch.items.as_slice())?;
+    push_move_changes(changes, sub, source, channel, bookmark, to, loose_sum(batch.items.as_slice()))
+}
+
+/// How far a source's channel was served.
+pub fn bookmark_at(
+    rows: &Rows,
+    sub: &SubId,
+    source: &SourceName,
+    channel: &ChannelName,
+) -> Result<u64, AllocError>
+    ensures { IfOk result (λ number. number ≡ bookmarks.bookmark_at rows.now sub.now source.now channel.now) }
+{
+    let key = bookmark_key(sub.as_text(), source.as_text(), channel.as_text())?;
+    match rows.get(&key) {
+        Some(cell) => Ok(cell.value),
+        None => Ok(0),
+    }
+}
+
+fn push_items_changes(
+    changes: &mut List<Change>,
+    sub: &SubId,
+    source: &SourceName,
+    channel: &ChannelName,
+    bookmark: u64,
+    items: &[Item],
+) -> Result<(), AllocError>
+    ensures { OnOk result (changes.new ≡ changes.old ++ flat_map (spec.item_changes sub.now source.now channel.now bookmark) items.now) }
+{
+    for item in items {
+        push_item_changes(changes, sub, source, channel, bookmark, item)?;
+    }
+    Ok(())
+}
+
+fn push_item_changes(
+    changes: &mut List<Change>,
+    sub: &SubId,
+    source: &SourceName,
+    channel: &ChannelName,
+    bookmark: u64,
+    item: &Item,
+) -> Result<(), AllocError>
+    ensures { OnOk result (changes.new ≡ changes.old ++ spec.item_changes sub.now source.now channel.now bookmark item.now) }
+{
+    match item {
+        Item::Event(event) if event.channel == *channel && bookmark < event.number => {
+            let key = held_key(sub.as_text(), source.as_text(), channel.as_text(), event.number)?;
+            push_put(changes, key, 0, event.text.clone()?)
+        }
+        Item::Dropped {
+            channel: dropped,
+            first,
+            last,
+        } if *dropped == *channel && bookmark < *last => {
+            let first = (*first).max(bookmark + 1);
+            let key = mark_key(sub.as_text(), source.as_text(), channel.as_text(), first)?;
+            push_put(changes, key, *last, Text::new(sub.as_text().alloc()))
+        }
+        _ => Ok(()),
+    }
+}
+
+fn push_move_changes(
+    changes: &mut List<Change>,
+    sub: &SubId,
+    source: &SourceName,
+    channel: &ChannelName,
+    bookmark: u64,
+    to: u64,
+    loose: u128,
+) -> Result<(), AllocError>
+    requires { loose < 18446744073709551616 }
+    ensures { OnOk result (changes.new ≡ changes.old ++ spec.move_changes sub.now source.now channel.now bookmark to loose) }
+{
+    if to <= bookmark {
+        return Ok(());
+    }
+    if loose > 0 {
+        push_loose_change(changes, sub, source, channel, bookmark, to, loose as u64)?;
+    }
+    let key = bookmark_key(sub.as_text(), source.as_text(), channel.as_text())?;
+    push_put(changes, key, to, Text::new(sub.as_text().alloc()))
+}
+
+fn push_loose_change(
+    changes: &mut List<Change>,
+    sub: &SubId,
+    source: &SourceName,
+    channel: &ChannelName,
+    bookmark: u64,
+    to: u64,
+    count: u64,
+) -> Result<(), AllocError>
+    requires { bookmark < to }
+    ensures { OnOk result (changes.new ≡ changes.old ++ spec.put (keys.loose_key sub.now source.now channel.now (bookmark + 1)) to (decimal count) ∷ []) }
+{
+    let key = loose_key(sub.as_text(), source.as_text(), channel.as_text(), bookmark + 1)?;
+    let mut digits = Text::new(sub.as_text().alloc());
+    digits.push_number(count)?;
+    push_put(changes, key, to, digits)
+}
+
+fn push_heard_changes(
+    changes: &mut List<Change>,
+    rows: &Rows,
+    sub: &SubId,
+    source: &SourceName,
+    now: u64,
+) -> Result<(), AllocError>
+    ensures { OnOk result (changes.new ≡ changes.old ++ spec.heard_changes rows.now sub.now source.now now) }
+{
+    let key = heard_key(sub.as_text(), source.as_text())?;
+    match rows.get(&key) {
+        Some(cell) if now <= cell.value => Ok(()),
+        _ => push_put(changes, key, now, Text::new(sub.as_text().alloc())),
+    }
+}
+
+fn push_put(changes: &mut List<Change>, key: Key, value: u64, body: Text) -> Result<(), AllocError>
+    ensures { OnOk result (changes.new ≡ changes.old ++ spec.put key value body ∷ []) }
+{
+    changes.push(Change::Put(Row { key, value, body }))
+}

@@ -1,0 +1,71 @@
+//! The keys of the collector's rows.
+
+ghost use Rattle.std.specs.Prelude.{◌≡◌, IfOk};
+ghost use Rattle.wef_collector.specs.Keys as keys;
+
+use std::alloc::AllocError;
+
+use wef_base::{SubId, Text};
+use wef_keeper::Key;
+
+pub fn subscription_key(sub: &SubId) -> Result<Key, AllocError>
+    ensures { IfOk result (λ key. key ≡ keys.subscription_key sub.now) }
+{
+    let alloc = sub.as_text().alloc();
+    Ok(Key {
+        kind: 1,
+        sub: sub.as_text().clone()?,
+        source: Text::new(alloc),
+        channel: Text::new(alloc),
+        number: 0,
+    })
+}
+
+pub fn bookmark_key(sub: &Text, source: &Text, channel: &Text) -> Result<Key, AllocError>
+    ensures { IfOk result (λ key. key ≡ keys.bookmark_key sub.now source.now channel.now) }
+{
+    channel_key(2, sub, source, channel, 0)
+}
+
+pub fn held_key(sub: &Text, source: &Text, channel: &Text, number: u64) -> Result<Key, AllocError>
+    ensures { IfOk result (λ key. key ≡ keys.held_key sub.now source.now channel.now number) }
+{
+    channel_key(3, sub, source, channel, number)
+}
+
+pub fn mark_key(sub: &Text, source: &Text, channel: &Text, first: u64) -> Result<Key, AllocError>
+    ensures { IfOk result (λ key. key ≡ keys.mark_key sub.now source.now channel.now first) }
+{
+    channel_key(4, sub, source, channel, first)
+}
+
+pub fn loose_key(sub: &Text, source: &Text, channel: &Text, first: u64) -> Result<Key, AllocError>
+    ensures { IfOk result (λ key. key ≡ keys.loose_key sub.now source.now channel.now first) }
+{
+    channel_key(5, sub, source, channel, first)
+}
+
+pub fn heard_key(sub: &Text, source: &Text) -> Result<Key, AllocError>
+    ensures { IfOk result (λ key. key ≡ keys.heard_key sub.now source.now) }
+{
+    let none = Text::new(sub.alloc());
+    channel_key(6, sub, source, &none, 0)
+}
+
+fn channel_key(
+    kind: u8,
+    sub: &Text,
+    source: &Text,
+    channel: &Text,
+    number: u64,
+) -> Result<Key, AllocError>
+    ensures { IfOk result (λ key. key ≡ keys.key kind sub.now source.now channel.now number) }
+{
+    Ok(Key {
+        kind,
+        sub: sub.clone()?,
+        source: source.clone()?,
+        channel: channel.clone()?,
+        number,
+    })
+}

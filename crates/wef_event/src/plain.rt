@@ -1,0 +1,63 @@
+//! The event that a source makes of plain words.
+
+ghost use Rattle.std.specs.Prelude.{◌≡◌, ◌≤◌, ◌++◌, IsTrue, IfOk};
+ghost use Rattle.wef_event.specs.Characters.{is_xml_text};
+ghost use Rattle.wef_event.specs.PlainEvent.{plain_text, plain_event, MakesEvent};
+
+use crate::characters::push_escaped;
+use crate::records::{Event, EventFault};
+use std::alloc::AllocError;
+use wef_base::{ChannelName, Text};
+
+/// The most bytes that the text of an event has: 1 MiB.
+pub const EVENT_LIMIT: usize = 1_048_576;
+
+/// The event of a channel with a number, an identifier, a level and one word of data. `TooLong`
+/// where its text has more than `EVENT_LIMIT` bytes.
+pub fn plain_event(
+    channel: &ChannelName,
+    number: u64,
+    id: u32,
+    level: u32,
+    word: &Text,
+) -> Result<Event, EventFault>
+    requires characters { IsTrue (is_xml_text word.now) }
+    requires small { number ≤ 9223372036854775807 }
+    ensures { MakesEvent result (plain_event channel.now number id level word.now) }
+{
+    let text = plain_text(channel, number, id, level, word)?;
+    if text.len() > EVENT_LIMIT {
+        return Err(EventFault::TooLong);
+    }
+    Ok(Event {
+        channel: channel.clone()?,
+        number,
+        text,
+    })
+}
+
+fn plain_text(
+    channel: &ChannelName,
+    number: u64,
+    id: u32,
+    level: u32,
+    word: &Text,
+) -> Result<Text, AllocError>
+    ensures { IfOk result (λ text. text ≡ plain_text channel.now number id level word.now) }
+{
+    let mut text = Text::new(word.alloc());
+    text.push_str(
+        "<Event xmlns=\"http://schemas.microsoft.com/win/2004/08/events/event\"><System><EventID>",
+    )?;
+    text.push_number(u64::from(id))?;
+    text.push_str("</EventID><Level>")?;
+    text.push_number(u64::from(level))?;
+    text.push_str("</Level><EventRecordID>")?;
+    text.push_number(number)?;
+    text.push_str("</EventRecordID><Channel>")?;
+    push_escaped(&mut text, channel.as_text())?;
+    text.push_str("</Channel></System><EventData><Data>")?;
+    push_escaped(&mut text, word)?;
+    text.push_str("</Data></EventData></Event>")?;
+    Ok(text)
+}

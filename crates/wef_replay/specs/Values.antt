@@ -1,0 +1,35 @@
+-- Words as values: names and texts are percent-decoded, numbers are digits without a leading zero.
+use Rattle.std.specs.Prelude.{ℕ, nat_le, List, [], ◌∷◌, Option, Some, None, if◌then◌else◌, codes}
+use Rattle.std.specs.Option.{option_and_then}
+use Rattle.wef_base.specs.Names.{channel_name, source_name, subscription_name, same}
+use Rattle.wef_base.specs.Numbers.{plain_number}
+use Rattle.wef_base.specs.Words.{decoded}
+use Rattle.wef_replay.specs.Reading.{with_first}
+
+abbrev pub subscription_word : List ℕ → Option (List ℕ)
+subscription_word word = option_and_then subscription_name (decoded word)
+
+abbrev pub source_word : List ℕ → Option (List ℕ)
+source_word word = option_and_then source_name (decoded word)
+
+abbrev pub channel_word : List ℕ → Option (List ℕ)
+channel_word word = option_and_then channel_name (decoded word)
+
+-- any name but `collector`, which is the other end
+abbrev pub unless_collector : List ℕ → Option (List ℕ)
+unless_collector name = if same name (codes "collector") then None else Some name
+
+abbrev pub foreign_source_word : List ℕ → Option (List ℕ)
+foreign_source_word word = option_and_then unless_collector (source_word word)
+
+abbrev pub at_least : ℕ → ℕ → Option ℕ
+at_least least n = if nat_le least n then Some n else None
+
+-- a number from least to greatest
+abbrev pub number_word : ℕ → ℕ → List ℕ → Option ℕ
+number_word least greatest word = option_and_then (at_least least) (plain_number greatest word)
+
+-- the channels that words name, where each is one
+abbrev pub channel_words : List (List ℕ) → Option (List (List ℕ))
+channel_words [] = Some []
+channel_words (word ∷ words) = with_first (channel_word word) (channel_words words)

@@ -1,0 +1,66 @@
+//! A whole schedule.
+
+ghost use Rattle.std.specs.Prelude.{◌≡◌};
+ghost use Rattle.wef_replay.specs.Schedule.{ReadsSchedule, schedule_of};
+
+use std::alloc::{AllocError, Global};
+
+use thiserror::Error;
+use wef_base::List;
+use wef_base::words::split;
+
+use crate::grammar::read_line;
+use crate::lines::Line;
+use crate::values::LineFault;
+
+/// The greatest schedule, in bytes: 16 MiB.
+pub const SCHEDULE_LIMIT: usize = 16_777_216;
+
+/// Why a schedule isn't read.
+#[derive(Clone, Copy, Debug, PartialEq, Eq, Error)]
+pub enum ScheduleFault {
+    #[error("no memory")]
+    NoMemory,
+    #[error("line {line}: not understood")]
+    BadLine {
+        /// The number of the first line that isn't good, counted from 1.
+        line: u64,
+    },
+    #[error("schedule too long")]
+    TooLong,
+}
+
+impl From<AllocError> for ScheduleFault {
+    ghost use Rattle.std.specs.Prelude.{◌≡◌};
+    ghost use Rattle.wef_replay.specs.declared.schedule.ScheduleFault.TheVariants.{NoMemory};
+
+    ghost from_gives = { λ _ e. e ≡ NoMemory };
+
+    fn from(_error: AllocError) -> ScheduleFault {
+        ScheduleFault::NoMemory
+    }
+}
+
+/// The lines of a schedule, without those that do nothing. `TooLong` where there are more than
+/// `SCHEDULE_LIMIT` bytes; else `BadLine` with the first line that isn't good.
+#[tactic(auto, unfolding(crate::specs::Schedule::schedule_of))]
+pub fn read_schedule(alloc: Global, bytes: &[u8]) -> Result<List<Line>, ScheduleFault>
+    ensures { ReadsSchedule result (schedule_of bytes.now) }
+{
+    if bytes.len() > SCHEDULE_LIMIT {
+        return Err(ScheduleFault::TooLong);
+    }
+    let texts = split(alloc, bytes, b'\n')?;
+    let mut lines = List::new(alloc);
+    let mut number = 0u64;
+    for text in texts.as_slice() {
+        number += 1;
+        match read_line(alloc, text.as_slice()) {
+            Ok(Some(line)) => lines.push(line)?,
+            Ok(None) => {}
+            Err(LineFault::NoMemory) => return Err(ScheduleFault::NoMemory),
+            Err(LineFault::NotUnderstood) => return Err(ScheduleFault::BadLine { line: number }),
+        }
+    }
+    Ok(lines)
+}

@@ -1,0 +1,127 @@
+//! The words of a line as values: names, numbers within limits, texts.
+
+ghost use Rattle.std.specs.Prelude.{◌≡◌, ◌<◌, ◌≤◌, IfOk};
+ghost use Rattle.wef_base.specs.Names.{same};
+ghost use Rattle.wef_base.specs.Words.{decoded};
+ghost use Rattle.wef_replay.specs.Reading.{Gives};
+ghost use Rattle.wef_replay.specs.Values.{subscription_word, source_word, channel_word, foreign_source_word, number_word, channel_words};
+
+use std::alloc::{AllocError, Global};
+
+use wef_base::numbers::read_plain_number;
+use wef_base::words::decode;
+use wef_base::{Bytes, ChannelName, List, SourceName, SubId, Text, ValueFault};
+use wef_event::EventFault;
+
+/// Why a line isn't read.
+#[derive(Clone, Copy, Debug, PartialEq, Eq)]
+pub enum LineFault {
+    NoMemory,
+    /// The line isn't one of a schedule.
+    NotUnderstood,
+}
+
+impl From<AllocError> for LineFault {
+    ghost use Rattle.std.specs.Prelude.{◌≡◌};
+    ghost use Rattle.wef_replay.specs.declared.values.LineFault.TheVariants.{NoMemory};
+
+    ghost from_gives = { λ _ e. e ≡ NoMemory };
+
+    fn from(_error: AllocError) -> LineFault {
+        LineFault::NoMemory
+    }
+}
+
+impl From<ValueFault> for LineFault {
+    ghost use Rattle.std.specs.Prelude.{◌≡◌};
+    ghost use Rattle.wef_replay.specs.Reading.{line_fault};
+
+    ghost from_gives = { λ fault e. e ≡ line_fault fault };
+
+    fn from(fault: ValueFault) -> LineFault {
+        match fault {
+            ValueFault::NoMemory => LineFault::NoMemory,
+            _ => LineFault::NotUnderstood,
+        }
+    }
+}
+
+impl From<EventFault> for LineFault {
+    ghost use Rattle.std.specs.Prelude.{◌≡◌};
+    ghost use Rattle.wef_replay.specs.Reading.{event_line_fault};
+
+    ghost from_gives = { λ fault e. e ≡ event_line_fault fault };
+
+    fn from(fault: EventFault) -> LineFault {
+        match fault {
+            EventFault::NoMemory => LineFault::NoMemory,
+            EventFault::TooLong => LineFault::NotUnderstood,
+        }
+    }
+}
+
+/// Whether a word is this one, letter for letter.
+pub fn is_word(word: &Bytes, text: &str) -> bool
+    ensures { result ≡ same word.now text.now }
+{
+    word.as_slice() == text.as_bytes()
+}
+
+/// The text that a word stands for, percent-decoded.
+pub fn text_of(alloc: Global, word: &Bytes) -> Result<Text, LineFault>
+    ensures { Gives result (decoded word.now) }
+{
+    decode(alloc, word.as_slice())?.ok_or(LineFault::NotUnderstood)
+}
+
+pub fn subscription_of(alloc: Global, word: &Bytes) -> Result<SubId, LineFault>
+    ensures { Gives result (subscription_word word.now) }
+{
+    Ok(SubId::read(&text_of(alloc, word)?)?)
+}
+
+pub fn source_of(alloc: Global, word: &Bytes) -> Result<SourceName, LineFault>
+    ensures { Gives result (source_word word.now) }
+{
+    Ok(SourceName::read(&text_of(alloc, word)?)?)
+}
+
+pub fn channel_of(alloc: Global, word: &Bytes) -> Result<ChannelName, LineFault>
+    ensures { Gives result (channel_word word.now) }
+{
+    Ok(ChannelName::read(&text_of(alloc, word)?)?)
+}
+
+/// A source's name. `collector` names the other end, so no source has that name.
+pub fn foreign_source_of(alloc: Global, word: &Bytes) -> Result<SourceName, LineFault>
+    ensures { Gives result (foreign_source_word word.now) }
+{
+    let source = source_of(alloc, word)?;
+    if source.as_text().as_str() == "collector" {
+        return Err(LineFault::NotUnderstood);
+    }
+    Ok(source)
+}
+
+/// The number of a word, from `least` to `greatest`.
+pub fn number_of(word: &Bytes, least: u64, greatest: u64) -> Result<u64, LineFault>
+    requires { greatest < 9223372036854775808 }
+    ensures value { Gives result (number_word least greatest word.now) }
+    ensures within { IfOk result (λ n. n ≤ greatest) }
+{
+    match read_plain_number(word.as_slice(), greatest) {
+        Some(number) if number >= least => Ok(number),
+        _ => Err(LineFault::NotUnderstood),
+    }
+}
+
+/// The channels that words name.
+pub fn channels_of(alloc: Global, words: &[Bytes]) -> Result<List<ChannelName>, LineFault>
+    ensures { Gives result (channel_words words.now) }
+{
+    let mut channels = List::new(alloc);
+    for word in words {
+        channels.push(channel_of(alloc, word)?)?;
+    }
+    Ok(channels)
+}
