@@ -1,10 +1,9 @@
 -- The finite map that a tree with room stands for: what it answers, and its entries.
-use Rattle.std.proofs.Common.{◌≡◌, Bool, true, false, cond, is_some, ◌||◌, refl, sym, ap, ◌∙◌, subst, Option, Some, None, List, [], ◌∷◌, map, OnOk, OnErr, Result, length, arith}
+use Rattle.std.proofs.Common.{◌≡◌, Bool, true, false, cond, refl, sym, ap, ◌∙◌, Option, Some, None, List, [], ◌∷◌, OnOk, OnErr, Result, length, arith}
 use Rattle.std.specs.declared.result.Result.TheVariants.{Ok, Err}
 use Rattle.std.proofs.lemmas.Map.Keys.{sorted_head, sorted_tail}
-use Rattle.std.specs.BTreeMap as tree
 use Rattle.std.specs.BTreeMap.{is_at}
-use Rattle.std.specs.Cmp.{Equal-is, eq_by_cmp_equiv, IsTotalOrder}
+use Rattle.std.specs.Cmp.{Equal-is, IsTotalOrder}
 use Rattle.std.specs.FinMap as finite
 use Rattle.std.specs.FinMap.{find, put}
 use Rattle.std.specs.List.{filter_map, AllByRecursion}
@@ -13,12 +12,10 @@ use Rattle.std.specs.Map.{lookup, keys_of}
 use Rattle.std.specs.Option.{option_flatten, option_map}
 use Rattle.std.specs.Ordering.{eq_by_cmp, is_eq}
 use Rattle.std.specs.declared.cmp.Ordering.{Ordering}
-use Rattle.std.specs.declared.cmp.Ordering.TheVariants.{Less, Equal, Greater}
-use Rattle.wef_keeper.specs.Cells.{Cells, found_after, cell_of, live, settled}
-use Rattle.wef_keeper.specs.Rows.{Rows, cell_of_row, key_cmp, key_cmp_exact, key_cmp_total, key_of, applied, changed}
+use Rattle.std.specs.declared.cmp.Ordering.TheVariants.{Less}
+use Rattle.wef_keeper.specs.Cells.{live, settled}
+use Rattle.wef_keeper.specs.Rows.{Rows, key_cmp, key_cmp_exact, key_cmp_total}
 use Rattle.wef_keeper.specs.declared.keys.Cell.{Cell}
-use Rattle.wef_keeper.specs.declared.keys.Change.{Change}
-use Rattle.wef_keeper.specs.declared.keys.Change.TheVariants.{Put, Delete}
 use Rattle.wef_keeper.specs.declared.keys.Key.{Key}
 
 pub on_ok : {X E A B : Type 0} (r : Result X E) → (A → B) → OnOk r A → OnOk r B
@@ -44,18 +41,6 @@ get-live (entry ∷ entries) q =
     get-settled entry.0 entry.1 (live entries) q
     ∙ ap (cond (eq_by_cmp key_cmp q entry.0) entry.1) (get-live entries q)
     ∙ flat_cond (eq_by_cmp key_cmp q entry.0) entry.1 (lookup (is_at (key_cmp q)) entries)
-
-turn : (key q : Key) → eq_by_cmp key_cmp q key ≡ eq_by_cmp key_cmp key q
-turn key q = (eq_by_cmp_equiv key_cmp_total).symm q key
-
-get-changed : (change : Change) (rows : Rows) (q : Key) → finite.get (changed change rows) q ≡ cond (eq_by_cmp key_cmp (key_of change) q) (cell_of change) (finite.get rows q)
-get-changed (Put row) rows q = finite.get-insert key_cmp_total rows row.key (cell_of_row row) q ∙ ap (λ b. cond b (Some (cell_of_row row)) (finite.get rows q)) (turn row.key q)
-get-changed (Delete key) rows q = finite.get-remove key_cmp_total rows key q ∙ ap (λ b. cond b None (finite.get rows q)) (turn key q)
-
--- what stands at a key after all changes
-pub get-applied : (changes : List Change) (rows : Rows) (q : Key) → finite.get (applied changes rows) q ≡ found_after changes q (finite.get rows q)
-get-applied [] rows q = refl
-get-applied (change ∷ changes) rows q = get-applied changes (changed change rows) q ∙ ap (found_after changes q) (get-changed change rows q)
 
 -- trees that answer alike stand for one map
 pub live_is : (entries : List (Key × Option Cell)) (rows : Rows) → ((q : Key) → option_flatten (lookup (is_at (key_cmp q)) entries) ≡ finite.get rows q) → live entries ≡ rows
@@ -109,8 +94,8 @@ settled_entries key (Some cell) rows rest above same =
 settled_entries key None rows rest above same =
     let gone : finite.get rows key ≡ None = finite.get-entries rows key ∙ ap (find key_cmp key) same ∙ find_above key_cmp_total key_cmp_exact key (filled rest) above in
     ap finite.entries (finite.same_map key_cmp_total key_cmp_exact (finite.remove rows key) rows
-      (λ q. finite.get-remove key_cmp_total rows key q ∙ removed (eq_by_cmp key_cmp q key) (finite.get rows q)
-        (λ t. ap (finite.get rows) (key_cmp_exact q key ((Equal-is (key_cmp q key)).0 t)) ∙ gone)))
+    (λ q. finite.get-remove key_cmp_total rows key q ∙ removed (eq_by_cmp key_cmp q key) (finite.get rows q)
+    (λ t. ap (finite.get rows) (key_cmp_exact q key ((Equal-is (key_cmp q key)).0 t)) ∙ gone)))
     ∙ same
 
 -- the map's entries are those of the tree whose room is filled

@@ -1,27 +1,24 @@
 -- Pages and sections of a list of entries in order.
-use Rattle.std.proofs.Common.{◌≡◌, ℕ, zero, suc, Bool, true, false, cond, not, ◌&&◌, refl, sym, ap, ◌∙◌, subst, Option, Some, None, List, [], ◌∷◌, ◌++◌, map, take, drop, nat_eq}
+use Rattle.std.proofs.Common.{◌≡◌, ℕ, zero, suc, Bool, true, false, cond, ◌&&◌, refl, sym, ap, ◌∙◌, subst, Option, Some, None, List, [], ◌∷◌, ◌++◌, map, take, drop, nat_eq}
 use Rattle.std.proofs.lemmas.List.Elements.{filter_agree}
 use Rattle.std.specs.BTreeMap.Range.{entries_between}
 use Rattle.std.specs.Cmp.{IsTotalOrder, alike_right, tied_itself, Equal-is, unsigned_ties, nat_cmp_total, nat_eq_equiv}
 use Rattle.std.specs.Cmp.Lexicographic.{slice_cmp, pointwise, texts_ties, nat_list_cmp_total, nat_list_eq_equiv}
-use Rattle.std.specs.FinMap as finite
-use Rattle.std.specs.List.{filter, filter_map, AllByRecursion}
+use Rattle.std.specs.List.{filter, AllByRecursion}
 use Rattle.std.specs.List.Sorted.{IsStrictlySortedBy}
 use Rattle.std.specs.Map.{keys_of}
-use Rattle.std.specs.Option.{option_map}
-use Rattle.std.specs.Ordering.{nat_cmp, ordering_then, is_lt, is_eq, eq_by_cmp}
+use Rattle.std.specs.Ordering.{nat_cmp, ordering_then, is_lt, is_eq}
 use Rattle.std.specs.declared.cmp.Ordering.{Ordering}
 use Rattle.std.specs.declared.cmp.Ordering.TheVariants.{Less, Equal, Greater}
 use Rattle.std.specs.declared.ops.Bound.TheVariants.{Excluded, Unbounded}
 use Rattle.wef_keeper.proofs.Live.{filled, Above, entries-live, above_filled}
 use Rattle.wef_keeper.specs.Cells.{live, standing}
-use Rattle.wef_keeper.specs.Rows.{Rows, key_cmp, key_cmp_exact, key_cmp_total, row_of, rows_after, is_after}
+use Rattle.wef_keeper.specs.Rows.{key_cmp, key_cmp_exact, key_cmp_total, row_of, rows_after, is_after}
 use Rattle.wef_keeper.specs.Sections.{is_under, is_wanted, front, rows_under, last_key}
 use Rattle.wef_keeper.specs.declared.keys.Cell.{Cell}
 use Rattle.wef_keeper.specs.declared.keys.Depth.{Depth}
 use Rattle.wef_keeper.specs.declared.keys.Depth.TheVariants.{Kind, Sub, Source, Channel}
 use Rattle.wef_keeper.specs.declared.keys.Key.{Key}
-use Rattle.wef_keeper.specs.declared.keys.Row.{Row}
 
 -- ---- keys between two keys of a section are of the section
 
@@ -257,8 +254,8 @@ pub section_is : (depth : Depth) (a : Key) (entries : List (Key × Option Cell))
     → standing (front (λ key. is_wanted (Some depth) a key) (entries_between key_cmp (Excluded a) Unbounded entries)) ≡ rows_under depth a (live entries)
 section_is depth a entries h =
     ap standing (ap (front (is_under depth a)) (between_is a entries)
-      ∙ sym (front_is depth a (kept (is_after a) entries) (all_kept (is_after a) (λ key. key_cmp a key ≡ Less) (λ key t. less (key_cmp a key) t) entries) (rising_kept (is_after a) entries h))
-      ∙ fuse (is_under depth a) (is_after a) entries)
+    ∙ sym (front_is depth a (kept (is_after a) entries) (all_kept (is_after a) (λ key. key_cmp a key ≡ Less) (λ key t. less (key_cmp a key) t) entries) (rising_kept (is_after a) entries h))
+    ∙ fuse (is_under depth a) (is_after a) entries)
     ∙ standing_is (kept (is_of depth a) entries) ∙ ap (map row_of) (filled_kept (is_of depth a) entries) ∙ sym (under_live depth a entries h)
 
 -- ---- the rest of a section is the section behind a page's last row
@@ -335,9 +332,9 @@ rest_is depth a n entries h =
     let section = kept (is_of depth a) (filled entries) in
     let z = last_of a (take n section) in
     let goes : Continues depth a z =
-        last_has (Continues depth a) n a section (λ q. twice (is_after a q) (is_under depth a q)) (all_kept (is_of depth a) (Continues depth a) (continues depth a) (filled entries)) in
+    last_has (Continues depth a) n a section (λ q. twice (is_after a q) (is_under depth a q)) (all_kept (is_of depth a) (Continues depth a) (continues depth a) (filled entries)) in
     let above : Above key_cmp a section = all_kept (is_of depth a) (λ key. key_cmp a key ≡ Less) (λ key t. less (key_cmp a key) (and_left (is_after a key) _ t)) (filled entries) in
     let left : kept (is_of depth z) (filled entries) ≡ drop n section =
-        filter_agree _ _ (λ e. goes e.0) (filled entries) ∙ sym (fuse (is_after z) (is_of depth a) (filled entries)) ∙ behind_last n a section above (rising_kept (is_of depth a) (filled entries) (rising_filled entries h)) in
+    filter_agree _ _ (λ e. goes e.0) (filled entries) ∙ sym (fuse (is_after z) (is_of depth a) (filled entries)) ∙ behind_last n a section above (rising_kept (is_of depth a) (filled entries) (rising_filled entries h)) in
     subst (λ rows. rows ≡ take n rows ++ rows_under depth (last_key a (take n rows)) (live entries)) (sym (under_live depth a entries h))
     (parts n section ∙ ap (λ rows. take n (map row_of section) ++ rows) (ap (map row_of) (sym left) ∙ sym (under_live depth z entries h) ∙ ap (λ key. rows_under depth key (live entries)) (sym (last_is n a section))))

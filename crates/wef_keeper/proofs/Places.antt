@@ -4,8 +4,8 @@ use Rattle.std.specs.BTreeMap as tree
 use Rattle.std.specs.Cmp.{Equal-is, eq_by_cmp_equiv}
 use Rattle.std.specs.Option.{option_flatten}
 use Rattle.std.specs.Ordering.{eq_by_cmp}
-use Rattle.wef_keeper.specs.Cells.{Cells, is_empty_room, puts, is_put, found_after, cell_of}
-use Rattle.wef_keeper.specs.Rows.{key_cmp, key_cmp_exact, key_cmp_total, key_of, is_named}
+use Rattle.wef_keeper.specs.Cells.{Cells, is_empty_room, puts, is_put}
+use Rattle.wef_keeper.specs.Rows.{found_after, cell_of, key_cmp, key_cmp_exact, key_cmp_total, key_of, is_named}
 use Rattle.wef_keeper.specs.declared.keys.Cell.{Cell}
 use Rattle.wef_keeper.specs.declared.keys.Change.{Change}
 use Rattle.wef_keeper.specs.declared.keys.Change.TheVariants.{Put, Delete}
@@ -151,12 +151,6 @@ pub named_set : (changes : List Change) (i : ℕ) (item item' : Change) (q : Key
 named_set [] i item item' q e k h = absurd (omega arith)
 named_set (change ∷ changes) zero item item' q e k h = ap (λ key. eq_by_cmp key_cmp key q || is_named changes q) (k ∙ ap key_of e)
 named_set (change ∷ changes) (suc i) item item' q e k h = ap (λ b. eq_by_cmp key_cmp (key_of change) q || b) (named_set changes i item item' q e k (omega arith))
-
--- a key that no change names keeps its cell
-pub found_unnamed : (changes : List Change) (q : Key) (cell : Option Cell) → is_named changes q ≡ false → found_after changes q cell ≡ cell
-found_unnamed [] q cell e = refl
-found_unnamed (change ∷ changes) q cell e =
-    ap (λ b. found_after changes q (cond b (cell_of change) cell)) (or_left _ _ e) ∙ found_unnamed changes q cell (or_right (eq_by_cmp key_cmp (key_of change) q) _ e)
 
 -- a key is settled: by the sweep where a change names it, and else since nothing happened there
 pub full_after : (named : Bool) (room room' room'' : Bool) (cell cell' cell'' : Option Cell) → room'' ≡ cond named (is_some cell') room' → cell'' ≡ cell'

@@ -1,13 +1,13 @@
 -- What the table keeps at each key: a cell, or room for one. While a list of changes is applied, room
 -- is made first, so that no later step needs memory; between two calls no room is left empty.
-use Rattle.std.specs.Prelude.{◌≡◌, Bool, true, false, cond, ◌||◌, is_some, List, [], ◌∷◌, Option, Some, None}
+use Rattle.std.specs.Prelude.{◌≡◌, Bool, true, false, ◌||◌, is_some, List, [], ◌∷◌, Option, Some, None}
 use Rattle.std.specs.BTreeMap as tree
 use Rattle.std.specs.BTreeMap.{BTreeMap, IsOrdered}
 use Rattle.std.specs.FinMap as finite
 use Rattle.std.specs.List.{filter_map}
 use Rattle.std.specs.Option.{option_flatten, option_map}
 use Rattle.std.specs.Ordering.{eq_by_cmp}
-use Rattle.wef_keeper.specs.Rows.{Rows, key_cmp, key_of, row_of, cell_of_row}
+use Rattle.wef_keeper.specs.Rows.{Rows, key_cmp, row_of}
 use Rattle.wef_keeper.specs.declared.keys.Cell.{Cell}
 use Rattle.wef_keeper.specs.declared.keys.Change.{Change}
 use Rattle.wef_keeper.specs.declared.keys.Change.TheVariants.{Put, Delete}
@@ -46,11 +46,6 @@ pub record IsSettled (cells : Cells) : Type 0 where
   pub ordered : IsOrdered key_cmp cells
   pub full : (key : Key) → has cells key ≡ is_some (found cells key)
 
--- what a change puts at its key
-abbrev pub cell_of : Change → Option Cell
-cell_of (Put row) = Some (cell_of_row row)
-cell_of (Delete key) = None
-
 -- whether a change puts a cell at a key
 abbrev pub puts : Change → Key → Bool
 puts (Put row) key = eq_by_cmp key_cmp row.key key
@@ -60,11 +55,6 @@ puts (Delete deleted) key = false
 abbrev pub is_put : List Change → Key → Bool
 is_put [] key = false
 is_put (change ∷ changes) key = puts change key || is_put changes key
-
--- the cell at a key after all changes, where `cell` was there before
-abbrev pub found_after : List Change → Key → Option Cell → Option Cell
-found_after [] key cell = cell
-found_after (change ∷ changes) key cell = found_after changes key (cond (eq_by_cmp key_cmp (key_of change) key) (cell_of change) cell)
 
 -- the rows of entries, in their order
 abbrev pub standing : List (Key × Option Cell) → List Row

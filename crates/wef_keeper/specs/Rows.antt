@@ -1,5 +1,5 @@
 -- Rows as a finite map from keys to cells: their order, how changes act on them, and what stands behind a key.
-use Rattle.std.specs.Prelude.{◌≡◌, refl, ◌||◌, is_some, ℕ, Bool, true, false, cond, List, [], ◌∷◌, map, nat_eq, Option, Some, None}
+use Rattle.std.specs.Prelude.{◌≡◌, refl, ◌||◌, Bool, false, cond, List, [], ◌∷◌, map, Option, Some, None}
 use Rattle.std.specs.Cmp.{IsTotalOrder, on_total, then_total, nat_cmp_total}
 use Rattle.std.specs.Cmp.Lexicographic.{slice_cmp, nat_list_cmp_total}
 use Rattle.std.specs.FinMap as finite
@@ -57,10 +57,20 @@ abbrev pub key_of : Change → Key
 key_of (Put row) = row.key
 key_of (Delete key) = key
 
+-- what a change puts at its key
+abbrev pub cell_of : Change → Option Cell
+cell_of (Put row) = Some (cell_of_row row)
+cell_of (Delete key) = None
+
 -- whether a change of the list names a key
 abbrev pub is_named : List Change → Key → Bool
 is_named [] key = false
 is_named (change ∷ changes) key = eq_by_cmp key_cmp (key_of change) key || is_named changes key
+
+-- what stands at a key after all changes, where `cell` stood there before: the last change that names the key decides
+abbrev pub found_after : List Change → Key → Option Cell → Option Cell
+found_after [] key cell = cell
+found_after (change ∷ changes) key cell = found_after changes key (cond (eq_by_cmp key_cmp (key_of change) key) (cell_of change) cell)
 
 pub key_cmp_total : IsTotalOrder key_cmp
 key_cmp_total =

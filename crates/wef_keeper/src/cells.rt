@@ -8,8 +8,8 @@ ghost use Rattle.std.specs.Prelude.{◌≡◌, ◌||◌, true, false, cond, is_s
 ghost use Rattle.std.specs.BTreeMap.{IsOrdered, get};
 ghost use Rattle.std.specs.Option.{option_copied};
 ghost use Rattle.std.specs.Ordering.{eq_by_cmp};
-ghost use Rattle.wef_keeper.specs.Cells.{is_empty_room, has, found, found_after, is_put, puts, cell_of, IsSettled};
-ghost use Rattle.wef_keeper.specs.Rows.{key_cmp, key_of, is_named};
+ghost use Rattle.wef_keeper.specs.Cells.{is_empty_room, has, found, is_put, puts, IsSettled};
+ghost use Rattle.wef_keeper.specs.Rows.{found_after, cell_of, key_cmp, key_of, is_named};
 ghost use Rattle.wef_keeper.specs.declared.keys.Key.{Key as RowKey};
 
 use crate::keys::{Cell, Change, Key};
@@ -41,7 +41,7 @@ pub(crate) fn change_all(cells: &mut Cells, changes: Vec<Change>) -> Result<(), 
 }
 
 /// Applies a list of changes, but leaves empty rooms.
-#[tactic(auto, using(crate::proofs::Places::found_unnamed))]
+#[tactic(auto, using(crate::specs::Laws::found_unnamed))]
 fn write_with_room(cells: &mut Cells, changes: &mut Vec<Change>) -> Result<(), AllocError>
     ensures ok { OnOk result ((q : RowKey) → found cells.new q ≡ found_after changes.old.items q (found cells.old q)) }
     ensures err { OnErr result ((q : RowKey) → found cells.new q ≡ found cells.old q) }

@@ -4,8 +4,11 @@
 
 mod cells;
 pub mod keys;
+pub mod laws;
 mod paging;
 pub mod table;
+#[cfg(test)]
+mod tests;
 
 pub use keys::{Cell, Change, Depth, Key, Row};
 pub use table::Rows;

@@ -6,7 +6,7 @@ ghost use Rattle.std.specs.Option.{option_copied};
 ghost use Rattle.wef_keeper.specs.Rows.{applied, rows_after};
 ghost use Rattle.wef_keeper.specs.Sections.{rows_under, last_key};
 
-use crate::cells::{cell_at, change_all, Cells};
+use crate::cells::{Cells, cell_at, change_all};
 use crate::keys::{Cell, Change, Depth, Key, Row};
 use crate::paging::first_rows;
 use std::alloc::{AllocError, Global};
@@ -68,12 +68,7 @@ impl Rows {
 
     /// The first `max` rows behind a key that share its parts down to a depth. The rest of the
     /// section is the section behind the page's last row.
-    pub fn section_page(
-        &self,
-        after: &Key,
-        depth: Depth,
-        max: u32,
-    ) -> Result<List<Row>, AllocError>
+    pub fn section_page(&self, after: &Key, depth: Depth, max: u32) -> Result<List<Row>, AllocError>
         requires { 1 ≤ max }
         ensures page { IfOk result (λ page. page ≡ take max (rows_under depth after.now self.now)) }
         ensures rest { IfOk result (λ page. rows_under depth after.now self.now ≡ page ++ rows_under depth (last_key after.now page) self.now) }

@@ -1,8 +1,7 @@
-use Rattle.std.proofs.Common.{rules, ◌≡◌, ◌||◌, ◌<◌, ◌+◌, true, false, cond, is_some, refl, sym, ap, subst, ◌∙◌, Some, None, arith, get_or, drop, length}
-use Rattle.wef_keeper.specs.Cells.{has, found, found_after, is_put, puts, cell_of, IsSettled}
-use Rattle.wef_keeper.specs.Rows.{key_cmp, key_of, is_named}
-use Rattle.wef_keeper.proofs.Places.{unnamed_puts, made_nothing, room_step, write_step, put_later, put_now, named_set, full_after}
-use Rattle.std.proofs.lemmas.List.{drop-set-lt}
+use Rattle.std.proofs.Common.{cond, is_some, ap, ◌∙◌}
+use Rattle.wef_keeper.specs.Cells.{has, found}
+use Rattle.wef_keeper.specs.Rows.{is_named}
+use Rattle.wef_keeper.proofs.Places.{full_after}
 use Rattle.wef_keeper.proofs.cells.change_all.Goals as goal
 
 pub returns-clause-settled : goal.returns-clause-settled
@@ -12,5 +11,5 @@ returns-clause-settled c =
     record {
       ordered = c.sweep.ensures.ordered;
       full = λ q. full_after (named q) (has c.args.cells.now q) (has c.write_with_room-outcome.new.cells q) _ (found c.args.cells.now q) (found c.write_with_room-outcome.new.cells q) _
-      (c.sweep.ensures.has q ∙ ap (λ b. cond b (is_some (found c.write_with_room-outcome.new.cells q)) (has c.write_with_room-outcome.new.cells q)) (ap (λ cs. is_named cs q) c.as_slice.ensures.value ∙ written.named q)) (c.sweep.ensures.found q) (written.other_rooms q) (written.others q) (c.requires.full q);
+          (c.sweep.ensures.has q ∙ ap (λ b. cond b (is_some (found c.write_with_room-outcome.new.cells q)) (has c.write_with_room-outcome.new.cells q)) (ap (λ cs. is_named cs q) c.as_slice.ensures.value ∙ written.named q)) (c.sweep.ensures.found q) (written.other_rooms q) (written.others q) (c.requires.full q);
     }

@@ -1,8 +1,6 @@
-use Rattle.std.proofs.Common.{rules, ◌≡◌, ◌||◌, ◌<◌, ◌+◌, true, false, cond, is_some, refl, sym, ap, subst, ◌∙◌, Some, None, arith, get_or, drop, length}
-use Rattle.wef_keeper.specs.Cells.{has, found, found_after, is_put, puts, cell_of, IsSettled}
-use Rattle.wef_keeper.specs.Rows.{key_cmp, key_of, is_named}
-use Rattle.wef_keeper.proofs.Places.{unnamed_puts, made_nothing, room_step, write_step, put_later, put_now, named_set, full_after}
-use Rattle.std.proofs.lemmas.List.{drop-set-lt}
+use Rattle.std.proofs.Common.{◌<◌, ap, ◌∙◌, length}
+use Rattle.wef_keeper.specs.Cells.{puts}
+use Rattle.wef_keeper.proofs.Places.{unnamed_puts, made_nothing, room_step}
 use Rattle.wef_keeper.proofs.cells.make_room.Goals as goal
 
 pub loop-change-preserved : goal.loop-change-preserved

@@ -1,5 +1,5 @@
-use Rattle.std.proofs.Common.{◌≡◌, ◌||◌, true, false, cond, is_some, ◌-◌, ◌≤◌, length, drop}
-use Rattle.wef_keeper.specs.Cells.{has, found, found_after, is_put}
+use Rattle.std.proofs.Common.{◌≡◌, cond, is_some, drop}
+use Rattle.wef_keeper.specs.Cells.{has, found}
 use Rattle.wef_keeper.specs.Rows.{is_named}
 use Rattle.wef_keeper.specs.declared.keys.Key.{Key}
 use Rattle.wef_keeper.proofs.cells.sweep.Given as goal

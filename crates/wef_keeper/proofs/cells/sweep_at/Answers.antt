@@ -1,11 +1,9 @@
-use Rattle.std.proofs.Common.{rules, ◌≡◌, ◌||◌, true, false, cond, is_some, refl, sym, ap, subst, ◌∙◌, Some, None}
-use Rattle.std.specs.BTreeMap.{IsOrdered, get}
-use Rattle.std.specs.Option.{IsSome, option_copied_mut}
+use Rattle.std.proofs.Common.{◌≡◌, sym, ap, ◌∙◌, Some, None}
+use Rattle.std.specs.BTreeMap.{get}
 use Rattle.std.specs.Ordering.{eq_by_cmp}
-use Rattle.wef_keeper.specs.Cells.{is_empty_room, has, found, found_after, is_put, cell_of, IsSettled}
-use Rattle.wef_keeper.specs.Rows.{key_cmp, key_of, is_named}
-use Rattle.wef_keeper.specs.declared.keys.Key.{Key as RowKey}
-use Rattle.wef_keeper.proofs.Places.{tied, flat_written, some_written, flat_unwritten, flat_made, some_made, some_kept, flat_swept, some_swept, some_unswept, none_there, empty_there}
+use Rattle.wef_keeper.specs.Cells.{is_empty_room}
+use Rattle.wef_keeper.specs.Rows.{key_cmp}
+use Rattle.wef_keeper.proofs.Places.{tied, flat_swept, some_swept, some_unswept, empty_there}
 use Rattle.wef_keeper.proofs.cells.sweep_at.Goals as goal
 
 pub returns-then-is_empty_at-clause-found : goal.returns-then-is_empty_at-clause-found

@@ -1,7 +1,7 @@
-use Rattle.std.proofs.Common.{rules, ◌≡◌, ◌||◌, ◌<◌, ◌+◌, true, false, cond, is_some, refl, sym, ap, subst, ◌∙◌, Some, None, arith, get_or, drop, length}
-use Rattle.wef_keeper.specs.Cells.{has, found, found_after, is_put, puts, cell_of, IsSettled}
-use Rattle.wef_keeper.specs.Rows.{key_cmp, key_of, is_named}
-use Rattle.wef_keeper.proofs.Places.{unnamed_puts, made_nothing, room_step, write_step, put_later, put_now, named_set, set_there, full_after}
+use Rattle.std.proofs.Common.{◌≡◌, ◌<◌, ◌+◌, is_some, sym, ap, ◌∙◌, arith, length}
+use Rattle.wef_keeper.specs.Cells.{has, found, is_put}
+use Rattle.wef_keeper.specs.Rows.{found_after, key_of}
+use Rattle.wef_keeper.proofs.Places.{write_step, put_later, put_now, named_set, set_there}
 use Rattle.std.proofs.lemmas.List.{drop-set-lt}
 use Rattle.std.proofs.Math.ListN.{length-set}
 use Rattle.wef_keeper.proofs.cells.write.Goals as goal

@@ -1,6 +1,6 @@
-use Rattle.std.proofs.Common.{◌≡◌, ◌||◌, true, false, cond, is_some, ◌-◌, ◌≤◌, length, drop}
-use Rattle.wef_keeper.specs.Cells.{has, found, found_after, is_put}
-use Rattle.wef_keeper.specs.Rows.{is_named}
+use Rattle.std.proofs.Common.{◌≡◌, true, ◌-◌, ◌≤◌, length, drop}
+use Rattle.wef_keeper.specs.Cells.{has, found, is_put}
+use Rattle.wef_keeper.specs.Rows.{found_after, is_named}
 use Rattle.wef_keeper.specs.declared.keys.Key.{Key}
 use Rattle.wef_keeper.proofs.cells.write.Given as goal
 

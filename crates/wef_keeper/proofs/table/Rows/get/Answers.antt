@@ -1,9 +1,6 @@
-use Rattle.std.proofs.Common.{◌≡◌, refl, sym, ap, ◌∙◌, take}
+use Rattle.std.proofs.Common.{sym, ap, ◌∙◌}
 use Rattle.std.specs.FinMap as finite
-use Rattle.wef_keeper.specs.Cells.{found, found_after, live}
-use Rattle.wef_keeper.specs.Rows.{applied, rows_after}
-use Rattle.wef_keeper.specs.Sections.{rows_under, last_key}
-use Rattle.wef_keeper.proofs.Live.{get-live, get-applied, live_is, on_ok, on_err}
+use Rattle.wef_keeper.proofs.Live.{get-live}
 use Rattle.wef_keeper.proofs.table.Rows.get.Goals as goal
 
 pub returns : goal.returns

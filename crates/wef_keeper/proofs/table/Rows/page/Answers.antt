@@ -1,7 +1,6 @@
-use Rattle.std.proofs.Common.{◌≡◌, ◌++◌, refl, sym, ap, subst, ◌∙◌, take}
-use Rattle.wef_keeper.specs.Rows.{Rows, rows_after}
-use Rattle.wef_keeper.specs.Sections.{rows_under, last_key}
-use Rattle.wef_keeper.proofs.Pages.{page_is, section_is, rest_is}
+use Rattle.std.proofs.Common.{ap, ◌∙◌, take}
+use Rattle.wef_keeper.specs.Rows.{rows_after}
+use Rattle.wef_keeper.proofs.Pages.{page_is}
 use Rattle.wef_keeper.proofs.table.Rows.page.Goals as goal
 
 pub returns : goal.returns

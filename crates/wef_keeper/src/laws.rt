@@ -1,0 +1,11 @@
+//! Laws of lists of changes, as contracts.
+
+ghost use Rattle.wef_keeper.specs.Laws.{LastChangeDecides, OthersStay, ListsJoin};
+
+/// What a list of changes leaves: the last change that names a key decides, a key that none names
+/// keeps what stands there, and two lists one after the other are one list.
+pub fn changes_by_key()
+    ensures decides { LastChangeDecides }
+    ensures others_stay { OthersStay }
+    ensures lists_join { ListsJoin }
+{}
