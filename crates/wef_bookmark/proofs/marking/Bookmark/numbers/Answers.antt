@@ -1,4 +1,4 @@
-use Rattle.std.proofs.Common.{◌≡◌, sym, ap, ◌∙◌}
+use Rattle.std.proofs.Common.{sym, ap, ◌∙◌}
 use Rattle.std.specs.FinMap as map
 use Rattle.wef_bookmark.proofs.Joining.{entries_of}
 use Rattle.wef_bookmark.proofs.marking.Bookmark.numbers.Goals as goal
