@@ -9,6 +9,7 @@ use wef_event::Event;
 /// What an item of a case is, its channel by a letter.
 #[derive(Clone, Copy)]
 enum Part {
+    Nothing,
     Event(&'static str, u64),
     Dropped(&'static str, u64, u64),
     Loose(u64),
@@ -20,29 +21,36 @@ fn channel(alloc: Global, word: &str) -> Result<ChannelName, ValueFault> {
     ChannelName::read(&Text::from_str(alloc, word)?)
 }
 
-fn item_of(alloc: Global, part: Part) -> Result<Item, ValueFault> {
+fn item_of(alloc: Global, part: Part) -> Result<Option<Item>, ValueFault> {
     Ok(match part {
-        Part::Event(name, number) => Item::Event(Event {
+        Part::Nothing => None,
+        Part::Event(name, number) => Some(Item::Event(Event {
             channel: channel(alloc, name)?,
             number,
             text: Text::from_str(alloc, "<Event></Event>")?,
-        }),
-        Part::Dropped(name, first, last) => Item::Dropped {
+        })),
+        Part::Dropped(name, first, last) => Some(Item::Dropped {
             channel: channel(alloc, name)?,
             first,
             last,
-        },
-        Part::Loose(count) => Item::Loose { count },
+        }),
+        Part::Loose(count) => Some(Item::Loose { count }),
     })
 }
 
-fn batch_of(alloc: Global, parts: &[Part], to: &[(&str, u64)]) -> Result<Batch, ValueFault> {
+fn batch_of(
+    alloc: Global,
+    parts: [Part; 3],
+    to: Option<(&'static str, u64)>,
+) -> Result<Batch, ValueFault> {
     let mut items = List::new(alloc);
-    for &part in parts {
-        items.push(item_of(alloc, part)?)?;
+    for part in parts {
+        if let Some(item) = item_of(alloc, part)? {
+            items.push(item)?;
+        }
     }
     let mut bookmark = Bookmark::new(alloc);
-    for &(name, number) in to {
+    if let Some((name, number)) = to {
         if bookmark.raise(&channel(alloc, name)?, number).is_err() {
             return Err(ValueFault::NoMemory);
         }
@@ -64,85 +72,135 @@ fn subscribed(alloc: Global) -> Result<List<ChannelName>, ValueFault> {
 
 #[test]
 fn batches_are_judged(rt: HostRuntime) {
-    use Part::{Dropped, Event, Loose};
+    use Part::{Dropped, Event, Loose, Nothing};
     let alloc = rt.alloc();
     let channels = subscribed(alloc).expect(&rt, "names");
-    let cases: [(&str, &[Part], &[(&str, u64)], bool); 22] = [
-        ("nothing", &[], &[], true),
-        ("rising", &[Event("a", 1), Event("a", 2)], &[], true),
-        ("equal", &[Event("a", 2), Event("a", 2)], &[], false),
-        ("falling", &[Event("a", 2), Event("a", 1)], &[], false),
+    let cases: [(&str, [Part; 3], Option<(&'static str, u64)>, bool); 22] = [
+        ("nothing", [Nothing, Nothing, Nothing], None, true),
+        (
+            "rising",
+            [Event("a", 1), Event("a", 2), Nothing],
+            None,
+            true,
+        ),
+        (
+            "equal",
+            [Event("a", 2), Event("a", 2), Nothing],
+            None,
+            false,
+        ),
+        (
+            "falling",
+            [Event("a", 2), Event("a", 1), Nothing],
+            None,
+            false,
+        ),
         (
             "two channels",
-            &[Event("a", 2), Event("b", 1), Event("a", 3)],
-            &[],
+            [Event("a", 2), Event("b", 1), Event("a", 3)],
+            None,
             true,
         ),
         (
             "falling behind another",
-            &[Event("a", 2), Event("b", 9), Event("a", 1)],
-            &[],
+            [Event("a", 2), Event("b", 9), Event("a", 1)],
+            None,
             false,
         ),
-        ("foreign event", &[Event("c", 1)], &[], false),
-        ("foreign range", &[Dropped("c", 1, 2)], &[], false),
-        ("range of one", &[Dropped("a", 5, 5)], &[], true),
-        ("turned range", &[Dropped("a", 5, 4)], &[], false),
+        (
+            "foreign event",
+            [Event("c", 1), Nothing, Nothing],
+            None,
+            false,
+        ),
+        (
+            "foreign range",
+            [Dropped("c", 1, 2), Nothing, Nothing],
+            None,
+            false,
+        ),
+        (
+            "range of one",
+            [Dropped("a", 5, 5), Nothing, Nothing],
+            None,
+            true,
+        ),
+        (
+            "turned range",
+            [Dropped("a", 5, 4), Nothing, Nothing],
+            None,
+            false,
+        ),
         (
             "range at the event",
-            &[Event("a", 5), Dropped("a", 5, 9)],
-            &[],
+            [Event("a", 5), Dropped("a", 5, 9), Nothing],
+            None,
             false,
         ),
         (
             "range before the event",
-            &[Event("a", 5), Dropped("a", 4, 9)],
-            &[],
+            [Event("a", 5), Dropped("a", 4, 9), Nothing],
+            None,
             false,
         ),
         (
             "range behind the event",
-            &[Event("a", 5), Dropped("a", 6, 9)],
-            &[],
+            [Event("a", 5), Dropped("a", 6, 9), Nothing],
+            None,
             true,
         ),
         (
             "event in the range",
-            &[Dropped("a", 1, 9), Event("a", 9)],
-            &[],
+            [Dropped("a", 1, 9), Event("a", 9), Nothing],
+            None,
             false,
         ),
         (
             "event behind the range",
-            &[Dropped("a", 1, 9), Event("a", 10)],
-            &[],
+            [Dropped("a", 1, 9), Event("a", 10), Nothing],
+            None,
             true,
         ),
         (
             "bookmark at the last",
-            &[Event("a", 1), Event("a", 4)],
-            &[("a", 4)],
+            [Event("a", 1), Event("a", 4), Nothing],
+            Some(("a", 4)),
             true,
         ),
         (
             "bookmark behind",
-            &[Event("a", 1), Event("a", 4)],
-            &[("a", 3)],
+            [Event("a", 1), Event("a", 4), Nothing],
+            Some(("a", 3)),
             false,
         ),
         (
             "bookmark without items",
-            &[Event("b", 4)],
-            &[("a", 0)],
+            [Event("b", 4), Nothing, Nothing],
+            Some(("a", 0)),
             true,
         ),
-        ("bookmark of another", &[Event("a", 4)], &[("c", 1)], true),
-        ("greatest sum", &[Loose(1), Loose(MAX - 1)], &[], true),
-        ("sum too great", &[Loose(MAX), Loose(1)], &[], false),
+        (
+            "bookmark of another",
+            [Event("a", 4), Nothing, Nothing],
+            Some(("c", 1)),
+            true,
+        ),
+        (
+            "greatest sum",
+            [Loose(1), Loose(MAX - 1), Nothing],
+            None,
+            true,
+        ),
+        (
+            "sum too great",
+            [Loose(MAX), Loose(1), Nothing],
+            None,
+            false,
+        ),
         (
             "sum past 64 bits",
-            &[Loose(u64::MAX), Loose(u64::MAX)],
-            &[],
+            [Loose(u64::MAX), Loose(u64::MAX), Nothing],
+            None,
             false,
         ),
     ];
@@ -154,21 +212,16 @@ fn batches_are_judged(rt: HostRuntime) {
 
 #[test]
 fn a_batch_reaches_its_bookmark_or_its_last(rt: HostRuntime) {
-    use Part::{Dropped, Event, Loose};
+    use Part::{Dropped, Event, Loose, Nothing};
     let alloc = rt.alloc();
-    let parts = [
-        Event("a", 3),
-        Dropped("b", 4, 9),
-        Event("a", 5),
-        Loose(u64::MAX),
-        Loose(2),
-    ];
-    let to = [("a", 7), ("c", 0)];
-    let batch = batch_of(alloc, &parts, &to).expect(&rt, "a batch");
-    for (name, want) in [("a", Some(7)), ("b", Some(9)), ("c", Some(0)), ("d", None)] {
+    let parts = [Event("a", 3), Dropped("b", 4, 9), Event("a", 5)];
+    let batch = batch_of(alloc, parts, Some(("a", 7))).expect(&rt, "a batch");
+    for (name, want) in [("a", Some(7)), ("b", Some(9)), ("c", None)] {
         let channel = channel(alloc, name).expect(&rt, "a name");
         assert_eq!(&rt; reach(&batch, &channel), want, "at {name}");
     }
+    let parts = [Loose(u64::MAX), Loose(2), Nothing];
+    let batch = batch_of(alloc, parts, None).expect(&rt, "a batch");
     assert_eq!(&rt;
         loose_sum(batch.items.as_slice()),
         18_446_744_073_709_551_617

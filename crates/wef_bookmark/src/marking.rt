@@ -80,6 +80,13 @@ impl Bookmark {
         self.numbers.contains_key(channel)
     }
 
+    /// Its channels with their numbers, in the order of the names' bytes.
+    pub fn numbers(&self) -> &BTreeMap<ChannelName, u64>
+        ensures { result.now.entries ≡ map.entries self.now }
+    {
+        &self.numbers
+    }
+
     /// Raises a channel to a number, or leaves it where it is further. A channel that isn't there
     /// is put, also at 0; one that is there takes no memory.
     pub fn raise(&mut self, channel: &ChannelName, to: u64) -> Result<(), BookmarkFault>

@@ -1,0 +1,7 @@
+use Rattle.std.proofs.Common.{sym, ap, ◌∙◌}
+use Rattle.std.specs.FinMap as map
+use Rattle.wef_bookmark.proofs.Joining.{entries_of}
+use Rattle.wef_bookmark.proofs.marking.Bookmark.numbers.Goals as goal
+
+pub returns : goal.returns
+returns c = sym (ap map.entries (sym c.self.view_is) ∙ entries_of _ c.self.invariant)
