@@ -63,6 +63,18 @@ RefusesBatch faults.NoSubscription found batch = found ≡ is.Unknown
 RefusesBatch faults.Ended found batch = IsEnded found
 RefusesBatch _ found batch = ⊥
 
+-- whether a subscription has the name, ended or not
+abbrev pub is_known : state.Standing → Bool
+is_known is.Unknown = false
+is_known (is.Ended s) = true
+is_known (is.Live s) = true
+
+-- `NoSubscription` comes exactly where no subscription has the name.
+abbrev pub RefusesUnknown : fault.CollectorFault → state.Standing → Type 0
+RefusesUnknown faults.NoMemory found = Unit {0}
+RefusesUnknown faults.NoSubscription found = is_known found ≡ false
+RefusesUnknown _ found = ⊥
+
 -- want of memory, and nothing else
 abbrev pub WantsMemory : fault.CollectorFault → Type 0
 WantsMemory faults.NoMemory = Unit {0}

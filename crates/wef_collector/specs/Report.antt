@@ -64,8 +64,12 @@ source_line s = codes " source " ++ printed s ++ 10 ∷ []
 abbrev pub source_report : Rows → List ℕ → List ℕ → List ℕ
 source_report rows u s = source_line s ++ flat_map (channel_report rows u s) (bookmark_rows rows u s)
 
+-- live, or ended
+unfoldable pub state_text : ℕ → List ℕ
+state_text value = if value == 0 then codes " live" else codes " ended"
+
 unfoldable pub subscription_line : List ℕ → ℕ → List ℕ
-subscription_line u value = codes "subscription " ++ printed u ++ (if value == 0 then codes " live" else codes " ended") ++ 10 ∷ []
+subscription_line u value = codes "subscription " ++ printed u ++ state_text value ++ 10 ∷ []
 
 abbrev pub subscription_report : Rows → Row → List ℕ
 subscription_report rows row = subscription_line row.key.sub row.value ++ flat_map (source_report rows row.key.sub) (sources_of rows row.key.sub)

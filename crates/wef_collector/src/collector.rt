@@ -5,6 +5,7 @@ ghost use Rattle.std.specs.FinMap as map;
 ghost use Rattle.wef_batch.specs.WellFormed.{is_well_formed};
 ghost use Rattle.wef_keeper.specs.Rows.{cell_of_row};
 ghost use Rattle.wef_collector.specs.Answers as answers;
+ghost use Rattle.wef_collector.specs.Held.{held_after};
 ghost use Rattle.wef_collector.specs.Keys as keys;
 ghost use Rattle.wef_collector.specs.Report.{report};
 ghost use Rattle.wef_collector.specs.Standing as standings;
@@ -16,25 +17,17 @@ use std::marker::Model;
 
 use wef_base::{ChannelName, List, SourceName, SubId, Text};
 use wef_batch::{Batch, judge};
-use wef_bookmark::Bookmark;
 use wef_event::Event;
-use wef_eventing::{Subscription, kept_words, read_kept};
-use wef_keeper::{Cell, Change, Depth, Key, Row, Rows};
+use wef_eventing::{Subscription, kept_words};
+use wef_keeper::{Change, Depth, Key, Row, Rows};
 use wef_query::channels;
 
 use crate::changes::batch_changes;
 use crate::faults::CollectorFault;
-use crate::keys::{bookmark_key, held_key, subscription_key};
+use crate::held::held_events;
+use crate::keys::subscription_key;
 use crate::reporting::{report, subscriptions_start};
-use crate::sections::section;
 use crate::standings::{Standing, standing_in};
-
-/// A subscription of the collector's list, and whether it is live.
-#[derive(Debug, Drop)]
-pub struct Listed {
-    pub subscription: Subscription,
-    pub live: bool,
-}
 
 /// Keeps subscriptions, and for each subscription and source the events that were delivered,
 /// together with a bookmark: how far the source was served in each channel.
@@ -135,6 +128,34 @@ impl Collector {
         let changes = batch_changes(&self.rows, sub, source, channels.as_slice(), batch, now)?;
         self.rows.apply(changes)?;
         Ok(())
+    }
+
+    /// All events that are held of a source's channel, by number; also of a subscription that has
+    /// ended.
+    pub fn held(
+        &self,
+        sub: &SubId,
+        source: &SourceName,
+        channel: &ChannelName,
+    ) -> Result<List<Event>, CollectorFault>
+        ensures known { OnOk result (answers.is_known (standings.standing self.now sub.now) ≡ true) }
+        ensures events { IfOk result (λ events. events ≡ held_after self.now sub.now source.now channel.now 0) }
+        ensures refusal { IfErr result (λ fault. answers.RefusesUnknown fault (standings.standing self.now sub.now)) }
+    {
+        if !self.knows(sub)? {
+            return Err(CollectorFault::NoSubscription);
+        }
+        Ok(held_events(&self.rows, sub, source, channel)?)
+    }
+
+    fn knows(&self, sub: &SubId) -> Result<bool, AllocError>
+        ensures { IfOk result (λ known. known ≡ answers.is_known (standings.standing self.now sub.now)) }
+    {
+        match standing_in(&self.rows, sub)? {
+            Standing::Unknown => Ok(false),
+            Standing::Ended(_) => Ok(true),
+            Standing::Live(_) => Ok(true),
+        }
     }
 
     /// The report of all that is kept.

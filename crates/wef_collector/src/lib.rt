@@ -4,12 +4,13 @@
 mod changes;
 mod collector;
 mod faults;
+mod held;
 mod keys;
 mod reporting;
 mod runs;
 mod sections;
 mod standings;
 
-pub use collector::{Collector, Listed};
+pub use collector::{Collector, MOST_SUBSCRIPTIONS};
 pub use faults::CollectorFault;
 pub use standings::Standing;

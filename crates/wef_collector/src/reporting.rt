@@ -3,6 +3,7 @@
 ghost use Rattle.std.specs.Prelude.{◌≡◌, [], ◌++◌, List, map, IfOk, OnOk};
 ghost use Rattle.std.specs.List.{flat_map};
 ghost use Rattle.wef_keeper.specs.Sections.{rows_under};
+ghost use Rattle.wef_query.specs.Order.{with_names};
 ghost use Rattle.wef_collector.specs.Held.{loose_rows};
 ghost use Rattle.wef_collector.specs.Keys as keys;
 ghost use Rattle.wef_collector.specs.Runs.{runs_from, runs_of, runs_text};
@@ -64,12 +65,25 @@ fn push_subscription_line(text: &mut Text, sub: &Text, value: u64) -> Result<(),
 {
     text.push_str("subscription ")?;
     text.push_printed(sub)?;
-    text.push_str(if value == 0 { " live" } else { " ended" })?;
+    push_state(text, value)?;
     text.push_str("\n")?;
     Ok(())
 }
 
+/// Whether a subscription is live.
+#[tactic(auto, unfolding(crate::specs::Report::state_text))]
+fn push_state(text: &mut Text, value: u64) -> Result<(), AllocError>
+    ensures { OnOk result (text.new ≡ text.old ++ spec.state_text value) }
+{
+    if value == 0 {
+        text.push_str(" live")
+    } else {
+        text.push_str(" ended")
+    }
+}
+
 /// The sources of a subscription that have a bookmark or were heard, each once, in order.
+#[tactic(auto, using(crate::proofs::Sources::with_names_join))]
 fn sources_of(rows: &Rows, sub: &Text) -> Result<List<Text>, AllocError>
     ensures { IfOk result (λ sources. sources ≡ spec.sources_of rows.now sub.now) }
 {
@@ -77,13 +91,18 @@ fn sources_of(rows: &Rows, sub: &Text) -> Result<List<Text>, AllocError>
     let served = section(rows, &bookmark_key(sub, &none, &none)?, Depth::Sub)?;
     let heard = section(rows, &heard_key(sub, &none)?, Depth::Sub)?;
     let mut sources = BTreeSet::new(sub.alloc());
-    for row in served.as_slice() {
-        sources.insert(row.key.source.clone()?)?;
-    }
-    for row in heard.as_slice() {
-        sources.insert(row.key.source.clone()?)?;
-    }
+    add_sources(&mut sources, served.as_slice())?;
+    add_sources(&mut sources, heard.as_slice())?;
     Ok(List::from(sources.into_iter().collect::<Vec<Text>>(sub.alloc())?))
+}
+
+fn add_sources(sources: &mut BTreeSet<Text>, rows: &[Row]) -> Result<(), AllocError>
+    ensures { OnOk result (sources.new.keys ≡ with_names sources.old.keys (map (λ (row : the_row.Row). row.key.source) rows.now)) }
+{
+    for row in rows {
+        sources.insert(row.key.source.clone()?)?;
+    }
+    Ok(())
 }
 
 fn push_source(text: &mut Text, rows: &Rows, sub: &Text, source: &Text) -> Result<(), AllocError>

@@ -41,8 +41,8 @@ fn push_all(section: &mut List<Row>, page: List<Row>) -> Result<(), AllocError>
 pub fn last_key_of(after: Key, page: &[Row]) -> Result<Key, AllocError>
     ensures { IfOk result (λ key. key ≡ last_key after page.now) }
 {
-    match page.last() {
-        Some(row) => row.key.clone(),
+    match page.split_last() {
+        Some((row, _)) => Ok(row.key.clone()?),
         None => Ok(after),
     }
 }

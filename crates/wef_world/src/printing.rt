@@ -1,7 +1,6 @@
 //! What the lines of a schedule print.
 
 ghost use Rattle.std.specs.Prelude.{◌≡◌, ◌++◌, IfOk, OnOk};
-ghost use Rattle.std.specs.List.{flat_map};
 ghost use Rattle.wef_world.specs.Printed as spec;
 
 use std::alloc::{AllocError, Global};
@@ -62,12 +61,15 @@ pub fn push_event(text: &mut Text, event: &Event) -> Result<(), AllocError>
     Ok(())
 }
 
-/// Appends events, one a line.
-pub fn push_events(text: &mut Text, events: &[Event]) -> Result<(), AllocError>
-    ensures { OnOk result (text.new ≡ text.old ++ flat_map spec.event_line events.now) }
+/// Events, one a line, and at last `end`.
+#[tactic(auto, unfolding(crate::specs::Printed::events_text))]
+pub fn events_text(alloc: Global, events: &[Event]) -> Result<Text, AllocError>
+    ensures { IfOk result (λ text. text ≡ spec.events_text events.now) }
 {
+    let mut text = Text::new(alloc);
     for event in events {
-        push_event(text, event)?;
+        push_event(&mut text, event)?;
     }
-    Ok(())
+    text.push_str("end\n")?;
+    Ok(text)
 }

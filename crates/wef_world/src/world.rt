@@ -1,8 +1,8 @@
 //! The ends that a schedule moves.
 
-ghost use Rattle.std.specs.Prelude.{◌≡◌, ◌++◌, IfOk, IfErr, OnOk, OnErr};
+ghost use Rattle.std.specs.Prelude.{◌≡◌, ◌++◌, IfOk, OnOk, OnErr};
 ghost use Rattle.std.specs.FinMap as map;
-ghost use Rattle.wef_collector.specs.Held.{held_after};
+ghost use Rattle.wef_collector.specs.Report.{report};
 ghost use Rattle.wef_collector.specs.Standing.{standing};
 ghost use Rattle.wef_world.specs.Printed as texts;
 ghost use Rattle.wef_world.specs.Steps as steps;
@@ -19,7 +19,7 @@ use wef_eventing::{SubKind, Subscription};
 use wef_query::QueryList;
 use wef_replay::Line;
 
-use crate::printing::{batch_line, fault_answer, name_line, push_events};
+use crate::printing::{batch_line, events_text, fault_answer, name_line};
 
 /// Why a line isn't done. The world isn't used again.
 #[derive(Clone, Copy, Debug, PartialEq, Eq, Error)]
@@ -29,13 +29,15 @@ pub enum WorldFault {
 }
 
 impl From<AllocError> for WorldFault {
+    ghost use Rattle.std.specs.Prelude.{◌≡◌};
+    ghost use Rattle.wef_world.specs.declared.world.WorldFault.TheVariants.{NoMemory};
+
+    ghost from_gives = { λ _ e. e ≡ NoMemory };
+
     fn from(_error: AllocError) -> WorldFault {
         WorldFault::NoMemory
     }
 }
-
-/// How many events are printed at once.
-const PAGE: u32 = 256;
 
 /// The moment of every line.
 const MOMENT: u64 = 0;
@@ -201,34 +203,10 @@ impl World {
     ) -> Result<Text, WorldFault>
         ensures { IfOk result (λ text. text ≡ steps.print_text self.now sub.now source.now channel.now (standing self.now sub.now)) }
     {
-        match self.collector.state(sub) {
-            Ok(_) | Err(CollectorFault::Ended) => self.print_held(sub, source, channel),
+        match self.collector.held(sub, source, channel) {
+            Ok(events) => Ok(events_text(self.alloc, events.as_slice())?),
             Err(CollectorFault::NoSubscription) => Ok(name_line("unknown", sub)?),
             Err(_) => Err(WorldFault::NoMemory),
         }
-    }
-
-    fn print_held(
-        &self,
-        sub: &SubId,
-        source: &SourceName,
-        channel: &ChannelName,
-    ) -> Result<Text, WorldFault>
-        ensures { IfOk result (λ text. text ≡ texts.events_text (held_after self.now sub.now source.now channel.now 0)) }
-    {
-        let mut text = Text::new(self.alloc);
-        let mut after = 0;
-        loop {
-            let Ok(page) = self.collector.held_page(sub, source, channel, after, PAGE) else {
-                return Err(WorldFault::NoMemory);
-            };
-            push_events(&mut text, page.as_slice())?;
-            if page.len() < PAGE as usize {
-                break;
-            }
-            after = last_number(after, page.as_slice());
-        }
-        text.push_str("end\n")?;
-        Ok(text)
     }
 }
