@@ -1,0 +1,91 @@
+-- How a run ends: the status and the message of each ending, and what the ending says of the words, of what was
+-- read and of what was written.
+use Rattle.std.specs.Prelude.{◌≡◌, ℕ, Bool, true, false, List, [], ◌∷◌, ◌++◌, Option, Some, None, IfSome, Result, codes}
+use Rattle.std.specs.declared.result.Result.TheVariants.{Ok, Err}
+use Rattle.std.specs.Fmt.{decimal}
+use Rattle.std.specs.Io.KnownBytes.{Appends, Keeps, IsAtEnd}
+use Rattle.wef_base.specs.Counts.{Rose}
+use Rattle.wef_replay.specs.Schedule.{schedule_of}
+use Rattle.wef_replay.specs.declared.lines.Line.{Line}
+use Rattle.wef_replay.specs.declared.schedule.ScheduleFault as fault
+use Rattle.wef_replay.specs.declared.schedule.ScheduleFault.TheVariants as faults
+use Rattle.wef_world.specs.Steps.{trail}
+use Rattle.wef_cli.specs.Command.{is_replay}
+use Rattle.wef_cli.specs.Streams.{WritesPart}
+use Rattle.wef_cli.specs.declared.ending.Ending.{Ending}
+use Rattle.wef_cli.specs.declared.ending.Ending.TheVariants.{Done, BadCommand, BadLine, TooLong, InputFailed, OutputFailed, NoMemory}
+
+abbrev pub status_of : Ending → ℕ
+status_of Done = 0
+status_of BadCommand = 2
+status_of (BadLine k) = 3
+status_of TooLong = 3
+status_of InputFailed = 5
+status_of OutputFailed = 5
+status_of NoMemory = 6
+
+unfoldable pub bad_line_text : ℕ → List ℕ
+bad_line_text k = codes "line " ++ decimal k ++ codes ": not understood" ++ 10 ∷ []
+
+-- the line that is written to the stream of messages
+unfoldable pub message_of : Ending → List ℕ
+message_of Done = []
+message_of BadCommand = codes "usage: wef COMMAND" ++ 10 ∷ []
+message_of (BadLine k) = bad_line_text k
+message_of TooLong = codes "schedule too long" ++ 10 ∷ []
+message_of InputFailed = codes "input failed" ++ 10 ∷ []
+message_of OutputFailed = codes "output failed" ++ 10 ∷ []
+message_of NoMemory = codes "no memory" ++ 10 ∷ []
+
+abbrev pub HasFixedMessage : Ending → Type 0
+HasFixedMessage (BadLine k) = ⊥
+HasFixedMessage _ = Unit {0}
+
+-- One object of the outside over a call: its bytes before and after it, where they are told, and its counts of faults.
+pub record Told : Type 0 where
+  pub before : Option (List ℕ)
+  pub after : Option (List ℕ)
+  pub faults_before : ℕ
+  pub faults_after : ℕ
+
+-- The object's count of faults rose.
+abbrev pub HasFailed : Told → Type 0
+HasFailed told = Rose told.faults_before told.faults_after
+
+-- Nothing was written.
+abbrev pub IsUnwritten : Told → Type 0
+IsUnwritten out = Keeps out.before out.after
+
+-- What is written is the trail of the schedule.
+abbrev pub WroteTrail : Told → Result (List Line) fault.ScheduleFault → Type 0
+WroteTrail out (Ok lines) = Appends out.before out.after (trail lines)
+WroteTrail out (Err e) = ⊥
+
+-- What is written is a front part of the trail of the schedule.
+abbrev pub WrotePart : Told → Result (List Line) fault.ScheduleFault → Type 0
+WrotePart out (Ok lines) = WritesPart out.before out.after (trail lines)
+WrotePart out (Err e) = ⊥
+
+-- what a schedule's bytes are
+abbrev pub IsBadAt : ℕ → List ℕ → Type 0
+IsBadAt k bytes = schedule_of bytes ≡ Err (faults.BadLine k)
+
+abbrev pub IsTooLong : List ℕ → Type 0
+IsTooLong bytes = schedule_of bytes ≡ Err faults.TooLong
+
+-- What the endings of `replay` say.
+abbrev pub ReplayEnds : Ending → Told → Told → Type 0
+ReplayEnds Done input out = IsAtEnd input.after × IfSome input.before (λ bytes. WroteTrail out (schedule_of bytes))
+ReplayEnds BadCommand input out = ⊥
+ReplayEnds (BadLine k) input out = IsAtEnd input.after × IfSome input.before (IsBadAt k) × IsUnwritten out
+ReplayEnds TooLong input out = IfSome input.before IsTooLong × IsUnwritten out
+ReplayEnds InputFailed input out = HasFailed input × IsUnwritten out
+ReplayEnds OutputFailed input out = HasFailed out × IsAtEnd input.after × IfSome input.before (λ bytes. WrotePart out (schedule_of bytes))
+ReplayEnds NoMemory input out = IsUnwritten out
+
+-- What the ending of a run says: `BadCommand` comes exactly where the words are no command line, and then nothing
+-- was read or written.
+abbrev pub RunEnds : Bool → Ending → Told → Told → Type 0
+RunEnds false BadCommand input out = Keeps input.before input.after × IsUnwritten out
+RunEnds false _ input out = ⊥
+RunEnds true ending input out = ReplayEnds ending input out
