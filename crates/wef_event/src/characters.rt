@@ -32,8 +32,8 @@ fn are_xml_chars(characters: &[char]) -> bool
 }
 
 /// Appends a text as it stands between two tags: markup and the white space that a reader would
-/// change are character references.
-pub fn push_escaped(text: &mut Text, word: &Text) -> Result<(), AllocError>
+/// change are character references. After an error a part may stand there.
+pub(crate) fn push_escaped(text: &mut Text, word: &Text) -> Result<(), AllocError>
     ensures { OnOk result (text.new ≡ text.old ++ escaped word.now) }
 {
     let characters = word.characters()?;
