@@ -43,6 +43,7 @@ impl Ending {
     }
 
     /// Writes the message, or as much of it as the stream takes. A failed write changes nothing else.
+    #[tactic(auto, unfolding(crate::specs::Endings::message_of))]
     pub fn tell<E: Sink>(self, alloc: Global, err: &mut E)
         ensures { WritesPart (E.taken err.old) (E.taken err.new) (spec.message_of self) }
     {

@@ -9,3 +9,6 @@ mod top;
 
 pub use ending::Ending;
 pub use top::run;
+
+#[cfg(test)]
+mod tests;
