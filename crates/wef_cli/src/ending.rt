@@ -4,11 +4,9 @@ ghost use Rattle.std.specs.Prelude.{◌≡◌, IfOk};
 ghost use Rattle.wef_cli.specs.Endings as spec;
 ghost use Rattle.wef_cli.specs.Streams.{WritesPart};
 
-use std::alloc::{AllocError, Global};
-
-use wef_base::{Sink, Text};
-
 use crate::streams::write_whole;
+use std::alloc::{AllocError, Global};
+use wef_base::{Sink, Text};
 
 /// How a run ends.
 #[derive(Clone, Copy, Debug, PartialEq, Eq)]

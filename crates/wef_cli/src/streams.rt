@@ -6,7 +6,6 @@ ghost use Rattle.wef_base.specs.Counts.{Rose};
 ghost use Rattle.wef_cli.specs.Streams.{ReadsWhole, WritesPart};
 
 use std::alloc::{AllocError, Global};
-
 use wef_base::{Bytes, IoFailed, Sink, Source};
 
 /// The greatest input that is read, in bytes.

@@ -1,12 +1,10 @@
 //! Whole runs over memory: what is printed, and how they end.
 
+use crate::run;
 use std::alloc::Global;
 use std::process::Abort;
 use std::test::Fail;
-
 use wef_base::{Bytes, List, MemSink, MemSource, Text};
-
-use crate::run;
 
 /// What a run over memory left.
 #[derive(Drop)]
@@ -72,7 +70,12 @@ fn small_schedules(rt: HostRuntime) -> Result<(), Fail> {
     prints(&rt, alloc, "# nothing\n\n# at all", "")?;
     prints(&rt, alloc, "show", "end\n")?;
     refuses(&rt, alloc, b"shew\n", "line 1: not understood\n")?;
-    refuses(&rt, alloc, b"# a comment\n\nshow\nshow \n", "line 4: not understood\n")
+    refuses(
+        &rt,
+        alloc,
+        b"# a comment\n\nshow\nshow \n",
+        "line 4: not understood\n",
+    )
 }
 
 #[test]
@@ -146,12 +149,24 @@ fn names_are_printed_escaped(rt: HostRuntime) -> Result<(), Fail> {
 fn faults_of_input_and_output(rt: HostRuntime) -> Result<(), Fail> {
     let alloc = rt.alloc();
     let second = List::from(vec![in alloc; 2u64]?);
-    let failed = ran(alloc, "replay", SUBSCRIBE.as_bytes(), second, List::new(alloc))?;
+    let failed = ran(
+        alloc,
+        "replay",
+        SUBSCRIBE.as_bytes(),
+        second,
+        List::new(alloc),
+    )?;
     assert_eq!(rt; failed.status, 5);
     assert_eq!(rt; failed.err.taken(), b"input failed\n".as_slice());
     assert_eq!(rt; failed.out.taken(), b"".as_slice());
     let first = List::from(vec![in alloc; 1u64]?);
-    let failed = ran(alloc, "replay", SUBSCRIBE.as_bytes(), List::new(alloc), first)?;
+    let failed = ran(
+        alloc,
+        "replay",
+        SUBSCRIBE.as_bytes(),
+        List::new(alloc),
+        first,
+    )?;
     assert_eq!(rt; failed.status, 5);
     assert_eq!(rt; failed.err.taken(), b"output failed\n".as_slice());
     assert_eq!(rt; failed.out.taken(), b"".as_slice());

@@ -9,15 +9,13 @@ ghost use Rattle.wef_cli.specs.Streams.{WritesPart};
 ghost use Rattle.wef_cli.specs.Trails.{IsTrail, IsRefused};
 ghost use Rattle.wef_cli.specs.declared.ending.Ending as the_ending;
 
-use std::alloc::Global;
-
-use wef_base::{Bytes, Sink, Source, Text};
-use wef_replay::{Line, ScheduleFault, read_schedule};
-use wef_world::{World, WorldFault};
-
 use crate::command::is_replay;
 use crate::ending::Ending;
 use crate::streams::{InputFault, read_whole, write_whole};
+use std::alloc::Global;
+use wef_base::{Bytes, List, Sink, Source, Text};
+use wef_replay::{Line, ScheduleFault, read_schedule};
+use wef_world::{World, WorldFault};
 
 /// Runs `wef` with the words that follow the program's name, and answers its exit status.
 ///
@@ -34,15 +32,20 @@ pub fn run<I: Source, O: Sink, E: Sink>(
     ensures { (ending : the_ending.Ending) × (result ≡ status_of ending)
         × WritesPart (E.taken err.old) (E.taken err.new) (message_of ending)
         × RunEnds (is_replay words.now) ending
-            (record { before = I.left input.old; after = I.left input.new; faults_before = I.faults input.old; faults_after = I.faults input.new })
-            (record { before = O.taken out.old; after = O.taken out.new; faults_before = O.faults out.old; faults_after = O.faults out.new }) }
+        (record { before = I.left input.old; after = I.left input.new; faults_before = I.faults input.old; faults_after = I.faults input.new })
+        (record { before = O.taken out.old; after = O.taken out.new; faults_before = O.faults out.old; faults_after = O.faults out.new }) }
 {
     let ending = ending_of(alloc, words, input, out);
     ending.tell(alloc, err);
     ending.status()
 }
 
-fn ending_of<I: Source, O: Sink>(alloc: Global, words: &[Text], input: &mut I, out: &mut O) -> Ending
+fn ending_of<I: Source, O: Sink>(
+    alloc: Global,
+    words: &[Text],
+    input: &mut I,
+    out: &mut O,
+) -> Ending
     ensures { RunEnds (is_replay words.now) result
         (record { before = I.left input.old; after = I.left input.new; faults_before = I.faults input.old; faults_after = I.faults input.new })
         (record { before = O.taken out.old; after = O.taken out.new; faults_before = O.faults out.old; faults_after = O.faults out.new }) }
@@ -83,21 +86,21 @@ fn trail_of(alloc: Global, bytes: &[u8]) -> Result<Bytes, ScheduleFault>
     ensures refusal { IfErr result (λ fault. IsRefused fault (schedule_of bytes.now)) }
 {
     let lines = read_schedule(alloc, bytes)?;
-    match done(alloc, lines.as_slice()) {
+    match done(alloc, lines) {
         Ok(text) => Ok(text),
         Err(WorldFault::NoMemory) => Err(ScheduleFault::NoMemory),
     }
 }
 
-/// Does lines, one after the other, and gathers what they print.
+/// Does lines, one after the other, and gathers what they print. Each line is let go once it is done.
 #[tactic(auto, unfolding(wef_world::specs::Steps::trail))]
-fn done(alloc: Global, lines: &[Line]) -> Result<Bytes, WorldFault>
-    ensures { IfOk result (λ text. text ≡ trail lines.now) }
+fn done(alloc: Global, lines: List<Line>) -> Result<Bytes, WorldFault>
+    ensures { IfOk result (λ text. text ≡ trail lines) }
 {
     let mut world = World::new(alloc);
     let mut out = Bytes::new(alloc);
-    for line in lines {
-        world.apply(line, &mut out)?;
+    for line in lines.into_vec() {
+        world.apply(&line, &mut out)?;
     }
     Ok(out)
 }

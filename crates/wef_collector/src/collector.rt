@@ -12,22 +12,20 @@ ghost use Rattle.wef_collector.specs.Standing as standings;
 ghost use Rattle.wef_collector.specs.Taken.{taken};
 ghost use Rattle.wef_collector.specs.declared.standings.Standing.TheVariants.{Live};
 
-use std::alloc::{AllocError, Global};
-use std::marker::Model;
-
-use wef_base::{ChannelName, List, SourceName, SubId, Text};
-use wef_batch::{Batch, judge};
-use wef_event::Event;
-use wef_eventing::{Subscription, kept_words};
-use wef_keeper::{Change, Depth, Key, Row, Rows};
-use wef_query::channels;
-
 use crate::changes::batch_changes;
 use crate::faults::CollectorFault;
 use crate::held::held_events;
 use crate::keys::subscription_key;
 use crate::reporting::{report, subscriptions_start};
 use crate::standings::{Standing, standing_in};
+use std::alloc::{AllocError, Global};
+use std::marker::Model;
+use wef_base::{ChannelName, List, SourceName, SubId, Text};
+use wef_batch::{Batch, judge};
+use wef_event::Event;
+use wef_eventing::{Subscription, kept_words};
+use wef_keeper::{Change, Depth, Key, Row, Rows};
+use wef_query::channels;
 
 /// Keeps subscriptions, and for each subscription and source the events that were delivered,
 /// together with a bookmark: how far the source was served in each channel.
@@ -77,7 +75,11 @@ impl Collector {
             return Err(CollectorFault::TooMany);
         }
         let body = kept_words(subscription)?;
-        self.put(Row { key, value: 0, body })
+        self.put(Row {
+            key,
+            value: 0,
+            body,
+        })
     }
 
     /// Ends a subscription. What was kept for it stays.
@@ -89,7 +91,11 @@ impl Collector {
         self.state(sub)?;
         let key = subscription_key(sub)?;
         let body = self.body_of(&key)?;
-        self.put(Row { key, value: 1, body })
+        self.put(Row {
+            key,
+            value: 1,
+            body,
+        })
     }
 
     /// A live subscription.
@@ -170,7 +176,9 @@ impl Collector {
         ensures { IfOk result (λ full. full ≡ standings.is_full self.now) }
     {
         let start = subscriptions_start(self.alloc);
-        let page = self.rows.section_page(&start, Depth::Kind, MOST_SUBSCRIPTIONS)?;
+        let page = self
+            .rows
+            .section_page(&start, Depth::Kind, MOST_SUBSCRIPTIONS)?;
         Ok(page.len() == MOST_SUBSCRIPTIONS as usize)
     }
 

@@ -3,14 +3,12 @@
 ghost use Rattle.std.specs.Prelude.{◌≡◌, map, IfOk};
 ghost use Rattle.wef_collector.specs.Held as spec;
 
+use crate::keys::held_key;
+use crate::sections::section;
 use std::alloc::AllocError;
-
 use wef_base::{ChannelName, List, SourceName, SubId};
 use wef_event::Event;
 use wef_keeper::{Depth, Row, Rows};
-
-use crate::keys::held_key;
-use crate::sections::section;
 
 /// All events that are held of a source's channel, by number.
 pub fn held_events(

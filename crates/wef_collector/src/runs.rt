@@ -5,7 +5,6 @@ ghost use Rattle.wef_collector.specs.Runs as runs;
 ghost use Rattle.wef_collector.specs.declared.runs.Span as the;
 
 use std::alloc::{AllocError, Global};
-
 use wef_base::Text;
 
 /// The numbers from the first to the last.
@@ -20,44 +19,44 @@ pub struct Span {
 pub struct RunWriter {
     pub text: Text,
     /// The run that the next span may go on.
-    pub open: Option<Span>,
+    pub running: Option<Span>,
 }
 
 impl RunWriter {
     pub fn new(alloc: Global) -> RunWriter
         ensures text { result.text ≡ [] }
-        ensures open { result.open ≡ None }
+        ensures running { result.running ≡ None }
     {
         RunWriter {
             text: Text::new(alloc),
-            open: None,
+            running: None,
         }
     }
 
     /// Takes the next span.
     pub fn add(&mut self, span: Span) -> Result<(), AllocError>
-        ensures { OnOk result ((spans : List the.Span) → self.new.text ++ runs.runs_text (runs.runs_from self.new.open spans)
-            ≡ self.old.text ++ runs.runs_text (runs.runs_from self.old.open (span ∷ spans))) }
+        ensures { OnOk result ((spans : List the.Span) → self.new.text ++ runs.runs_text (runs.runs_from self.new.running spans)
+            ≡ self.old.text ++ runs.runs_text (runs.runs_from self.old.running (span ∷ spans))) }
     {
-        let Some(run) = self.open else {
-            self.open = Some(span);
+        let Some(run) = self.running else {
+            self.running = Some(span);
             return Ok(());
         };
         if touches(run, span) {
-            self.open = Some(grown(run, span));
+            self.running = Some(grown(run, span));
             return Ok(());
         }
         push_run(&mut self.text, run)?;
-        self.open = Some(span);
+        self.running = Some(span);
         Ok(())
     }
 
     /// The text of all runs.
     pub fn finish(self) -> Result<Text, AllocError>
-        ensures { IfOk result (λ text. text ≡ self.text ++ runs.runs_text (runs.runs_from self.open [])) }
+        ensures { IfOk result (λ text. text ≡ self.text ++ runs.runs_text (runs.runs_from self.running [])) }
     {
-        let RunWriter { mut text, open } = self;
-        if let Some(run) = open {
+        let RunWriter { mut text, running } = self;
+        if let Some(run) = running {
             push_run(&mut text, run)?;
         }
         Ok(text)

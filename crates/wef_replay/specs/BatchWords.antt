@@ -38,7 +38,7 @@ data_word first more = option_and_then if_xml_text (decoded (colon_joined first 
 abbrev pub event_word : List ℕ → List ℕ → List ℕ → List (List ℕ) → Option BatchWord
 event_word channel number first more =
     option_and_then (λ c. option_and_then (λ n. option_and_then (λ d.
-        option_map (λ event. Item (item.Event event)) (plain_event c n 0 0 d)) (data_word first more)) (number_word 1 greatest number)) (channel_word channel)
+    option_map (λ event. Item (item.Event event)) (plain_event c n 0 0 d)) (data_word first more)) (number_word 1 greatest number)) (channel_word channel)
 
 abbrev pub dropped_word : List ℕ → List ℕ → List ℕ → Option BatchWord
 dropped_word channel first last =

@@ -24,7 +24,7 @@ all_of channels = record { items = all_events_of channels }
 abbrev pub subscribe_numbers : List ℕ → List ℕ → List ℕ → List ℕ → List (List ℕ) → Option Line
 subscribe_numbers sub items bytes beat channels =
     option_and_then (λ i. option_and_then (λ b. option_and_then (λ h. option_map (λ cs. Subscribe sub i b h (all_of cs))
-        (channel_words channels)) (number_word 1 86400000 beat)) (number_word 8192 4194304 bytes)) (number_word 1 10000 items)
+    (channel_words channels)) (number_word 1 86400000 beat)) (number_word 8192 4194304 bytes)) (number_word 1 10000 items)
 
 abbrev pub subscribe_line : List (List ℕ) → Option Line
 subscribe_line (sub ∷ items ∷ bytes ∷ beat ∷ kind ∷ channel ∷ channels) =

@@ -5,8 +5,8 @@ ghost use Rattle.wef_event.specs.Characters.{is_xml_text};
 ghost use Rattle.wef_replay.specs.Reading.{Gives};
 ghost use Rattle.wef_replay.specs.BatchWords.{empty_batch, added, batch_word, colon_joined, data_word, event_word, dropped_word, long_word, loose_word, reach_word, word_of, read_words};
 
+use crate::values::{LineFault, channel_of, is_word, number_of, text_of};
 use std::alloc::{AllocError, Global};
-
 use wef_base::numbers::MAX;
 use wef_base::words::split;
 use wef_base::{Bytes, ChannelName, List, Text};
@@ -14,18 +14,13 @@ use wef_batch::{Batch, Item};
 use wef_bookmark::Bookmark;
 use wef_event::{is_xml_text, plain_event};
 
-use crate::values::{LineFault, channel_of, is_word, number_of, text_of};
-
 /// What one word of a batch says.
 #[derive(Debug, Drop)]
 pub enum BatchWord {
     Item(Item),
 
     /// How far the batch reads a channel.
-    Reach {
-        channel: ChannelName,
-        number: u64,
-    },
+    Reach { channel: ChannelName, number: u64 },
 
     /// The source wants to hear that the batch is kept.
     Ack,

@@ -4,18 +4,16 @@ ghost use Rattle.std.specs.Prelude.{◌≡◌};
 ghost use Rattle.wef_replay.specs.Grammar.{batch_line, does_nothing, end_line, line_of_words, meaning, print_line, show_line, subscribe_line, subscribe_numbers};
 ghost use Rattle.wef_replay.specs.Reading.{Gives};
 
-use std::alloc::Global;
-
-use wef_base::words::{is_text, split};
-use wef_base::{Bytes, SubId};
-use wef_query::QueryList;
-
 use crate::batches::batch_of;
 use crate::lines::Line;
 use crate::values::{
     LineFault, channel_of, channels_of, foreign_source_of, is_word, number_of, source_of,
     subscription_of,
 };
+use std::alloc::Global;
+use wef_base::words::{is_text, split};
+use wef_base::{Bytes, SubId};
+use wef_query::QueryList;
 
 /// What a line does, if anything.
 pub fn read_line(alloc: Global, text: &[u8]) -> Result<Option<Line>, LineFault>

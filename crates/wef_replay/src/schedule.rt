@@ -3,15 +3,13 @@
 ghost use Rattle.std.specs.Prelude.{◌≡◌};
 ghost use Rattle.wef_replay.specs.Schedule.{ReadsSchedule, schedule_of};
 
-use std::alloc::{AllocError, Global};
-
-use thiserror::Error;
-use wef_base::List;
-use wef_base::words::split;
-
 use crate::grammar::read_line;
 use crate::lines::Line;
 use crate::values::LineFault;
+use std::alloc::{AllocError, Global};
+use thiserror::Error;
+use wef_base::List;
+use wef_base::words::split;
 
 /// The greatest schedule, in bytes: 16 MiB.
 pub const SCHEDULE_LIMIT: usize = 16_777_216;

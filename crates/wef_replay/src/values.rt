@@ -7,7 +7,6 @@ ghost use Rattle.wef_replay.specs.Reading.{Gives};
 ghost use Rattle.wef_replay.specs.Values.{subscription_word, source_word, channel_word, foreign_source_word, number_word, channel_words};
 
 use std::alloc::{AllocError, Global};
-
 use wef_base::numbers::read_plain_number;
 use wef_base::words::decode;
 use wef_base::{Bytes, ChannelName, List, SourceName, SubId, Text, ValueFault};

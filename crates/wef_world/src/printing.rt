@@ -4,7 +4,6 @@ ghost use Rattle.std.specs.Prelude.{◌≡◌, ◌++◌, IfOk, OnOk};
 ghost use Rattle.wef_world.specs.Printed as spec;
 
 use std::alloc::{AllocError, Global};
-
 use wef_base::{SourceName, SubId, Text};
 use wef_envelope::FaultName;
 use wef_event::Event;

@@ -7,9 +7,9 @@ ghost use Rattle.wef_collector.specs.Standing.{standing};
 ghost use Rattle.wef_world.specs.Printed as texts;
 ghost use Rattle.wef_world.specs.Steps as steps;
 
+use crate::printing::{batch_line, events_text, fault_answer, name_line};
 use std::alloc::{AllocError, Global};
 use std::marker::Model;
-
 use thiserror::Error;
 use wef_base::{Bytes, ChannelName, List, SourceName, SubId, Text};
 use wef_batch::Batch;
@@ -18,8 +18,6 @@ use wef_envelope::FaultName;
 use wef_eventing::{SubKind, Subscription};
 use wef_query::QueryList;
 use wef_replay::Line;
-
-use crate::printing::{batch_line, events_text, fault_answer, name_line};
 
 /// Why a line isn't done. The world isn't used again.
 #[derive(Clone, Copy, Debug, PartialEq, Eq, Error)]

@@ -6,5 +6,5 @@ use Rattle.wef_collector.proofs.reporting.add_page.Given as goal
 
 abbrev pub invariant-loop-row : goal.invariant-loop-row
 invariant-loop-row l = (rest : List Row) →
-    l.writer.text ++ runs_text (runs_from l.writer.open (map (span_of l.spans) (drop l.row-index l.page ++ rest)))
-    ≡ l.fn.writer.text ++ runs_text (runs_from l.fn.writer.open (map (span_of l.spans) (l.page ++ rest)))
+    l.writer.text ++ runs_text (runs_from l.writer.running (map (span_of l.spans) (drop l.row-index l.page ++ rest)))
+    ≡ l.fn.writer.text ++ runs_text (runs_from l.fn.writer.running (map (span_of l.spans) (l.page ++ rest)))

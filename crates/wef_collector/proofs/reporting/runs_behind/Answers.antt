@@ -13,5 +13,5 @@ returns-then-is_last c =
     let whole = last_page 256 _ page _ c.in_ok-page.ensures.page c.in_ok-page.ensures.rest short in
     let writer = c.loop-last.writer in
     let told = rw c.as_slice-in-loop-last.ensures at (c.in_ok-add_page.ensures []) in
-    let same = told ∙ ap (λ (xs : List Row). writer.text ++ runs_text (runs_from writer.open (map (span_of c.args.spans) xs))) (append-nil page ∙ sym whole) ∙ c.loop-last.invariant in
+    let same = told ∙ ap (λ (xs : List Row). writer.text ++ runs_text (runs_from writer.running (map (span_of c.args.spans) xs))) (append-nil page ∙ sym whole) ∙ c.loop-last.invariant in
     IfOk-weaker c.finish.result _ _ (λ text e. e ∙ same) c.finish.ensures

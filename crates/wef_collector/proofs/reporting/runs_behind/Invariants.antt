@@ -7,7 +7,7 @@ use Rattle.wef_collector.proofs.reporting.runs_behind.Given as goal
 
 abbrev pub invariant-loop-last : goal.invariant-loop-last
 invariant-loop-last l =
-    l.writer.text ++ runs_text (runs_from l.writer.open (map (span_of l.spans) (rows_under Channel l.last l.rows)))
+    l.writer.text ++ runs_text (runs_from l.writer.running (map (span_of l.spans) (rows_under Channel l.last l.rows)))
     ≡ runs_text (runs_of (map (span_of l.spans) (rows_under Channel l.fn.after l.rows)))
 
 abbrev pub decreases-loop-last : goal.decreases-loop-last
