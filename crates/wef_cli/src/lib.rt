@@ -4,6 +4,7 @@
 
 mod command;
 mod ending;
+pub mod laws;
 mod streams;
 mod top;
 

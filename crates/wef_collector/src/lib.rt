@@ -6,6 +6,7 @@ mod collector;
 mod faults;
 mod held;
 mod keys;
+pub mod laws;
 mod reporting;
 mod runs;
 mod sections;
