@@ -25,7 +25,7 @@ listed_moves rows u s channels batch now c listed =
 
 pub events_are_held : EventsAreHeld
 events_are_held rows u s channels [] c n listed = refl
-events_are_held rows u s channels (batch ∷ batches) c n good listed =
+events_are_held rows u s channels (batch ∷ batches) c n listed =
     let next = taken rows u s channels batch.0 batch.1 in
     events_are_held next u s channels batches c n listed
     ∙ (λ i. held_after_all c (listed_moves rows u s channels batch.0 batch.1 c listed i) n batches (held_by_taking rows u s channels batch.0 batch.1 c n listed i))
