@@ -73,6 +73,7 @@ impl ChannelName {
         &self.text
     }
 
+    /// A copy of the name, in memory of its own.
     pub fn clone(&self) -> Result<ChannelName, AllocError>
         ensures { IfOk result (λ copy. copy ≡ self.now) }
     {
@@ -120,6 +121,7 @@ impl SourceName {
         &self.text
     }
 
+    /// A copy of the name, in memory of its own.
     pub fn clone(&self) -> Result<SourceName, AllocError>
         ensures { IfOk result (λ copy. copy ≡ self.now) }
     {
@@ -167,6 +169,7 @@ impl SubId {
         &self.text
     }
 
+    /// A copy of the name, in memory of its own.
     pub fn clone(&self) -> Result<SubId, AllocError>
         ensures { IfOk result (λ copy. copy ≡ self.now) }
     {

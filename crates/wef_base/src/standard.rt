@@ -16,6 +16,7 @@ pub struct StdSource {
 }
 
 impl StdSource {
+    /// The stream of this process. Nothing was read or written through it yet.
     pub fn new(rt: HostRuntime) -> StdSource {
         StdSource {
             input: rt.stdin().lock(),
@@ -54,6 +55,7 @@ pub struct StdSink {
 }
 
 impl StdSink {
+    /// The stream of this process. Nothing was read or written through it yet.
     pub fn new(rt: HostRuntime) -> StdSink {
         StdSink { rt, faults: 0 }
     }
@@ -85,6 +87,7 @@ pub struct StdErr {
 }
 
 impl StdErr {
+    /// The stream of this process. Nothing was read or written through it yet.
     pub fn new(rt: HostRuntime) -> StdErr {
         StdErr { rt, faults: 0 }
     }

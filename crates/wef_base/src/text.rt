@@ -52,6 +52,7 @@ impl Text {
         })
     }
 
+    /// The text, as a string slice. It takes no memory.
     pub fn as_str(&self) -> &str
         ensures { result.now ≡ self.now }
     {
@@ -65,6 +66,7 @@ impl Text {
         self.inner.len()
     }
 
+    /// Whether there is no character.
     pub fn is_empty(&self) -> bool
         ensures { result ≡ (length self.now == 0) }
     {
@@ -131,6 +133,7 @@ impl Text {
         self.as_str().chars().collect(self.alloc())
     }
 
+    /// A copy of the text, in memory of its own.
     pub fn clone(&self) -> Result<Text, AllocError>
         ensures { IfOk result (λ copy. copy ≡ self.now) }
     {

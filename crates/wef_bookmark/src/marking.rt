@@ -119,6 +119,7 @@ impl Bookmark {
         Ok(())
     }
 
+    /// A copy of the bookmark, in memory of its own.
     pub fn clone(&self) -> Result<Bookmark, AllocError>
         ensures { IfOk result (λ copy. copy ≡ self.now) }
     {

@@ -7,6 +7,7 @@ use std::alloc::AllocError;
 use wef_base::{SubId, Text};
 use wef_keeper::Key;
 
+/// The key of a subscription.
 pub fn subscription_key(sub: &SubId) -> Result<Key, AllocError>
     ensures { IfOk result (λ key. key ≡ keys.subscription_key sub.now) }
 {
@@ -20,30 +21,35 @@ pub fn subscription_key(sub: &SubId) -> Result<Key, AllocError>
     })
 }
 
+/// The key of a channel's bookmark.
 pub fn bookmark_key(sub: &Text, source: &Text, channel: &Text) -> Result<Key, AllocError>
     ensures { IfOk result (λ key. key ≡ keys.bookmark_key sub.now source.now channel.now) }
 {
     channel_key(2, sub, source, channel, 0)
 }
 
+/// The key of a held event, by its number.
 pub fn held_key(sub: &Text, source: &Text, channel: &Text, number: u64) -> Result<Key, AllocError>
     ensures { IfOk result (λ key. key ≡ keys.held_key sub.now source.now channel.now number) }
 {
     channel_key(3, sub, source, channel, number)
 }
 
+/// The key of a mark of dropped records, by its first number.
 pub fn mark_key(sub: &Text, source: &Text, channel: &Text, first: u64) -> Result<Key, AllocError>
     ensures { IfOk result (λ key. key ≡ keys.mark_key sub.now source.now channel.now first) }
 {
     channel_key(4, sub, source, channel, first)
 }
 
+/// The key of loose records, by the first number of the range that they fell in.
 pub fn loose_key(sub: &Text, source: &Text, channel: &Text, first: u64) -> Result<Key, AllocError>
     ensures { IfOk result (λ key. key ≡ keys.loose_key sub.now source.now channel.now first) }
 {
     channel_key(5, sub, source, channel, first)
 }
 
+/// The key of the moment at which a source was heard.
 pub fn heard_key(sub: &Text, source: &Text) -> Result<Key, AllocError>
     ensures { IfOk result (λ key. key ≡ keys.heard_key sub.now source.now) }
 {

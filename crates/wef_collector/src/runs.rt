@@ -23,6 +23,7 @@ pub struct RunWriter {
 }
 
 impl RunWriter {
+    /// No run yet. It takes no memory.
     pub fn new(alloc: Global) -> RunWriter
         ensures text { result.text ≡ [] }
         ensures running { result.running ≡ None }

@@ -20,6 +20,7 @@ pub enum Standing {
     Live(Subscription),
 }
 
+/// What rows know of a subscription's name. A row whose words don't read back counts as none.
 pub fn standing_in(rows: &Rows, sub: &SubId) -> Result<Standing, AllocError>
     ensures { IfOk result (λ s. s ≡ spec.standing rows.now sub.now) }
 {

@@ -35,6 +35,7 @@ pub struct Event {
 }
 
 impl Event {
+    /// A copy of the event, in memory of its own.
     pub fn clone(&self) -> Result<Event, AllocError>
         ensures { IfOk result (λ copy. copy ≡ self.now) }
     {

@@ -24,6 +24,7 @@ pub struct SourceAt {
 }
 
 impl SourceAt {
+    /// A copy, in memory of its own.
     pub fn clone(&self) -> Result<SourceAt, AllocError>
         ensures { IfOk result (λ copy. copy ≡ self.now) }
     {
@@ -90,6 +91,7 @@ impl Subscription {
         })
     }
 
+    /// A copy, in memory of its own.
     pub fn clone(&self) -> Result<Subscription, AllocError>
         ensures { IfOk result (λ copy. copy ≡ self.now) }
     {

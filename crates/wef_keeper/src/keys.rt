@@ -19,6 +19,7 @@ pub struct Key {
 }
 
 impl Key {
+    /// A copy of the key, in memory of its own.
     pub fn clone(&self) -> Result<Key, AllocError>
         ensures { IfOk result (λ copy. copy ≡ self.now) }
     {

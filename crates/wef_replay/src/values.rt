@@ -73,18 +73,21 @@ pub fn text_of(alloc: Global, word: &Bytes) -> Result<Text, LineFault>
     decode(alloc, word.as_slice())?.ok_or(LineFault::NotUnderstood)
 }
 
+/// The subscription's name that a word gives, percent-decoded.
 pub fn subscription_of(alloc: Global, word: &Bytes) -> Result<SubId, LineFault>
     ensures { Gives result (subscription_word word.now) }
 {
     Ok(SubId::read(&text_of(alloc, word)?)?)
 }
 
+/// The source's name that a word gives, percent-decoded.
 pub fn source_of(alloc: Global, word: &Bytes) -> Result<SourceName, LineFault>
     ensures { Gives result (source_word word.now) }
 {
     Ok(SourceName::read(&text_of(alloc, word)?)?)
 }
 
+/// The channel's name that a word gives, percent-decoded.
 pub fn channel_of(alloc: Global, word: &Bytes) -> Result<ChannelName, LineFault>
     ensures { Gives result (channel_word word.now) }
 {
