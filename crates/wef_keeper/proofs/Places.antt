@@ -2,7 +2,7 @@
 use Rattle.std.proofs.Common.{ℕ, zero, suc, ◌<◌, List, [], ◌∷◌, get_or, length, drop, set, arith, add-one, drop-cons, ◌+◌, ◌≡◌, Bool, true, false, cond, is_some, ◌||◌, refl, sym, ap, ◌∙◌, Option, Some, None}
 use Rattle.std.specs.BTreeMap as tree
 use Rattle.std.specs.Cmp.{Equal-is, eq_by_cmp_equiv}
-use Rattle.std.specs.Option.{option_flatten}
+use Rattle.std.specs.Option.{option_flatten, unwrap_or}
 use Rattle.std.specs.Ordering.{eq_by_cmp}
 use Rattle.wef_keeper.specs.Cells.{Cells, is_empty_room, puts, is_put, deletes, is_deleted}
 use Rattle.wef_keeper.specs.Rows.{found_after, cell_of, cell_of_row, key_cmp, key_cmp_exact, key_cmp_total, key_of, is_named}
@@ -32,23 +32,17 @@ flat_unwritten true y None absent there = ap option_flatten (absent refl)
 flat_unwritten true y (Some cell) absent there = cc (there refl)
 flat_unwritten false y cell absent there = refl
 
--- room was made where none was
-pub flat_made : (b : Bool) (x y : Option (Option Cell)) → x ≡ cond b (Some None) y → (b ≡ true → y ≡ None) → option_flatten x ≡ option_flatten y
-flat_made true x y e absent = ap option_flatten e ∙ sym (ap option_flatten (absent refl))
-flat_made false x y e absent = ap option_flatten e
+-- room is there: what stood in it, or nothing where none was
+pub flat_made : (b : Bool) (x y : Option (Option Cell)) (room : Option Cell) → x ≡ cond b (Some room) y → (b ≡ true → room ≡ unwrap_or y None) → option_flatten x ≡ option_flatten y
+flat_made true x None room e same = ap option_flatten e ∙ same refl
+flat_made true x (Some y) room e same = ap option_flatten e ∙ same refl
+flat_made false x y room e same = ap option_flatten e
 
-pub some_made : (b : Bool) (x y : Option (Option Cell)) → x ≡ cond b (Some None) y → is_some x ≡ (is_some y || b)
-some_made true x None e = ap is_some e
-some_made true x (Some y) e = ap is_some e
-some_made false x None e = ap is_some e
-some_made false x (Some y) e = ap is_some e
-
--- room was there
-pub some_kept : (b : Bool) (y : Option (Option Cell)) → (b ≡ true → is_some y ≡ true) → is_some y ≡ (is_some y || b)
-some_kept true None there = there refl
-some_kept true (Some y) there = refl
-some_kept false None there = refl
-some_kept false (Some y) there = refl
+pub some_made : (b : Bool) (x y : Option (Option Cell)) (room : Option Cell) → x ≡ cond b (Some room) y → is_some x ≡ (is_some y || b)
+some_made true x None room e = ap is_some e
+some_made true x (Some y) room e = ap is_some e
+some_made false x None room e = ap is_some e
+some_made false x (Some y) room e = ap is_some e
 
 -- empty room was taken out
 pub flat_swept : (b : Bool) (x y : Option (Option Cell)) → x ≡ cond b None y → (b ≡ true → y ≡ Some None) → option_flatten x ≡ option_flatten y

@@ -84,9 +84,7 @@ fn make_room_at(cells: &mut Cells, key: &Key) -> Result<(), AllocError>
     ensures ok { OnOk result ((q : RowKey) → has cells.new q ≡ (has cells.old q || eq_by_cmp key_cmp key.now q)) }
     ensures err { OnErr result ((q : RowKey) → has cells.new q ≡ has cells.old q) }
 {
-    if !cells.contains_key(key) {
-        cells.insert(key.clone()?, None)?;
-    }
+    cells.entry(key.clone()?)?.or_insert(None);
     Ok(())
 }
 
