@@ -2,10 +2,10 @@
 use Rattle.std.proofs.Common.{ℕ, zero, suc, ◌<◌, List, [], ◌∷◌, get_or, length, drop, set, arith, add-one, drop-cons, ◌+◌, ◌≡◌, Bool, true, false, cond, is_some, ◌||◌, refl, sym, ap, ◌∙◌, Option, Some, None}
 use Rattle.std.specs.BTreeMap as tree
 use Rattle.std.specs.Cmp.{Equal-is, eq_by_cmp_equiv}
-use Rattle.std.specs.Option.{option_flatten}
+use Rattle.std.specs.Option.{option_flatten, unwrap_or}
 use Rattle.std.specs.Ordering.{eq_by_cmp}
-use Rattle.wef_keeper.specs.Cells.{Cells, is_empty_room, puts, is_put}
-use Rattle.wef_keeper.specs.Rows.{found_after, cell_of, key_cmp, key_cmp_exact, key_cmp_total, key_of, is_named}
+use Rattle.wef_keeper.specs.Cells.{Cells, is_empty_room, puts, is_put, deletes, is_deleted}
+use Rattle.wef_keeper.specs.Rows.{found_after, cell_of, cell_of_row, key_cmp, key_cmp_exact, key_cmp_total, key_of, is_named}
 use Rattle.wef_keeper.specs.declared.keys.Cell.{Cell}
 use Rattle.wef_keeper.specs.declared.keys.Change.{Change}
 use Rattle.wef_keeper.specs.declared.keys.Change.TheVariants.{Put, Delete}
@@ -32,23 +32,17 @@ flat_unwritten true y None absent there = ap option_flatten (absent refl)
 flat_unwritten true y (Some cell) absent there = cc (there refl)
 flat_unwritten false y cell absent there = refl
 
--- room was made where none was
-pub flat_made : (b : Bool) (x y : Option (Option Cell)) → x ≡ cond b (Some None) y → (b ≡ true → y ≡ None) → option_flatten x ≡ option_flatten y
-flat_made true x y e absent = ap option_flatten e ∙ sym (ap option_flatten (absent refl))
-flat_made false x y e absent = ap option_flatten e
+-- room is there: what stood in it, or nothing where none was
+pub flat_made : (b : Bool) (x y : Option (Option Cell)) (room : Option Cell) → x ≡ cond b (Some room) y → (b ≡ true → room ≡ unwrap_or y None) → option_flatten x ≡ option_flatten y
+flat_made true x None room e same = ap option_flatten e ∙ same refl
+flat_made true x (Some y) room e same = ap option_flatten e ∙ same refl
+flat_made false x y room e same = ap option_flatten e
 
-pub some_made : (b : Bool) (x y : Option (Option Cell)) → x ≡ cond b (Some None) y → is_some x ≡ (is_some y || b)
-some_made true x None e = ap is_some e
-some_made true x (Some y) e = ap is_some e
-some_made false x None e = ap is_some e
-some_made false x (Some y) e = ap is_some e
-
--- room was there
-pub some_kept : (b : Bool) (y : Option (Option Cell)) → (b ≡ true → is_some y ≡ true) → is_some y ≡ (is_some y || b)
-some_kept true None there = there refl
-some_kept true (Some y) there = refl
-some_kept false None there = refl
-some_kept false (Some y) there = refl
+pub some_made : (b : Bool) (x y : Option (Option Cell)) (room : Option Cell) → x ≡ cond b (Some room) y → is_some x ≡ (is_some y || b)
+some_made true x None room e = ap is_some e
+some_made true x (Some y) room e = ap is_some e
+some_made false x None room e = ap is_some e
+some_made false x (Some y) room e = ap is_some e
 
 -- empty room was taken out
 pub flat_swept : (b : Bool) (x y : Option (Option Cell)) → x ≡ cond b None y → (b ≡ true → y ≡ Some None) → option_flatten x ≡ option_flatten y
@@ -146,14 +140,35 @@ set_there [] i item d h = absurd (omega arith)
 set_there (change ∷ changes) zero item d h = refl
 set_there (change ∷ changes) (suc i) item d h = set_there changes i item d (omega arith)
 
--- taking a cell out of a change leaves the keys that are named
-pub named_set : (changes : List Change) (i : ℕ) (item item' : Change) (q : Key) → item ≡ get_or changes i item → key_of item' ≡ key_of item → i < length changes → is_named (set changes i item') q ≡ is_named changes q
-named_set [] i item item' q e k h = absurd (omega arith)
-named_set (change ∷ changes) zero item item' q e k h = ap (λ key. eq_by_cmp key_cmp key q || is_named changes q) (k ∙ ap key_of e)
-named_set (change ∷ changes) (suc i) item item' q e k h = ap (λ b. eq_by_cmp key_cmp (key_of change) q || b) (named_set changes i item item' q e k (omega arith))
+-- taking a cell out of a change leaves the keys that are deleted
+pub deleted_set : (changes : List Change) (i : ℕ) (item item' : Change) (q : Key) → item ≡ get_or changes i item → deletes item' q ≡ deletes item q → i < length changes → is_deleted (set changes i item') q ≡ is_deleted changes q
+deleted_set [] i item item' q e k h = absurd (omega arith)
+deleted_set (change ∷ changes) zero item item' q e k h = ap (λ b. b || is_deleted changes q) (k ∙ ap (λ c. deletes c q) e)
+deleted_set (change ∷ changes) (suc i) item item' q e k h = ap (λ b. deletes change q || b) (deleted_set changes i item item' q e k (omega arith))
 
--- a key is settled: by the sweep where a change names it, and else since nothing happened there
-pub full_after : (named : Bool) (room room' room'' : Bool) (cell cell' cell'' : Option Cell) → room'' ≡ cond named (is_some cell') room' → cell'' ≡ cell'
-    → (named ≡ false → room' ≡ room) → (named ≡ false → cell' ≡ cell) → room ≡ is_some cell → room'' ≡ is_some cell''
-full_after true room room' room'' cell cell' cell'' swept same rooms cells full = swept ∙ sym (ap is_some same)
-full_after false room room' room'' cell cell' cell'' swept same rooms cells full = swept ∙ rooms refl ∙ full ∙ sym (ap is_some (same ∙ cells refl))
+some_put : (b : Bool) (new : Cell) (cell : Option Cell) → is_some (cond b (Some new) cell) ≡ (is_some cell || b)
+some_put true new None = refl
+some_put true new (Some cell) = refl
+some_put false new None = refl
+some_put false new (Some cell) = refl
+
+some_undeleted : (b : Bool) (cell : Option Cell) → b ≡ false → is_some (cond b None cell) ≡ is_some cell
+some_undeleted true cell e = cc e
+some_undeleted false cell e = refl
+
+-- a key that no change deletes has a cell where one stood before, and where a change puts one
+pub some_after : (changes : List Change) (q : Key) (cell : Option Cell) → is_deleted changes q ≡ false → is_some (found_after changes q cell) ≡ (is_some cell || is_put changes q)
+some_after [] q cell e = sym (made_nothing (is_some cell) false refl)
+some_after (Put row ∷ changes) q cell e =
+    some_after changes q _ e
+    ∙ ap (λ b. b || is_put changes q) (some_put (eq_by_cmp key_cmp row.key q) (cell_of_row row) cell)
+    ∙ or_assoc (is_some cell) (eq_by_cmp key_cmp row.key q) (is_put changes q)
+some_after (Delete key ∷ changes) q cell e =
+    some_after changes q _ (or_right (eq_by_cmp key_cmp key q) _ e)
+    ∙ ap (λ b. b || is_put changes q) (some_undeleted (eq_by_cmp key_cmp key q) cell (or_left _ _ e))
+
+-- a list was written and swept at the deletes
+pub full_written : (deleted : Bool) (room room' room'' : Bool) (cell cell'' : Option Cell) → room'' ≡ cond deleted (is_some cell) room' → cell'' ≡ cell
+    → room' ≡ room → (deleted ≡ false → room ≡ is_some cell) → room'' ≡ is_some cell''
+full_written true room room' room'' cell cell'' swept same rooms full = swept ∙ sym (ap is_some same)
+full_written false room room' room'' cell cell'' swept same rooms full = swept ∙ rooms ∙ full refl ∙ sym (ap is_some same)

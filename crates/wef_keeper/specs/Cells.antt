@@ -56,6 +56,16 @@ abbrev pub is_put : List Change → Key → Bool
 is_put [] key = false
 is_put (change ∷ changes) key = puts change key || is_put changes key
 
+-- whether a change deletes what stands at a key
+abbrev pub deletes : Change → Key → Bool
+deletes (Put row) key = false
+deletes (Delete deleted) key = eq_by_cmp key_cmp deleted key
+
+-- whether a change of the list deletes what stands at a key
+abbrev pub is_deleted : List Change → Key → Bool
+is_deleted [] key = false
+is_deleted (change ∷ changes) key = deletes change key || is_deleted changes key
+
 -- the rows of entries, in their order
 abbrev pub standing : List (Key × Option Cell) → List Row
 standing entries = filter_map (λ entry. option_map (λ cell. row_of (entry.0, cell)) entry.1) entries

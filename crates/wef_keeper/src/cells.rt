@@ -2,13 +2,13 @@
 //!
 //! A tree can't set memory aside, but it takes none where a key is there already. So room is made
 //! at each new key first. If that fails, the empty rooms are taken out again; else each change is
-//! written, and then the rooms that were left empty are taken out. Neither needs memory.
+//! written, and then the rooms that deletes left empty are taken out. Neither needs memory.
 
 ghost use Rattle.std.specs.Prelude.{◌≡◌, ◌||◌, true, false, cond, is_some, OnOk, OnErr};
 ghost use Rattle.std.specs.BTreeMap.{IsOrdered, get};
 ghost use Rattle.std.specs.Option.{option_copied};
 ghost use Rattle.std.specs.Ordering.{eq_by_cmp};
-ghost use Rattle.wef_keeper.specs.Cells.{is_empty_room, has, found, is_put, puts, IsSettled};
+ghost use Rattle.wef_keeper.specs.Cells.{is_empty_room, has, found, is_put, puts, is_deleted, deletes, IsSettled};
 ghost use Rattle.wef_keeper.specs.Rows.{found_after, cell_of, key_cmp, key_of, is_named};
 ghost use Rattle.wef_keeper.specs.declared.keys.Key.{Key as RowKey};
 
@@ -34,24 +34,23 @@ pub(crate) fn change_all(cells: &mut Cells, changes: Vec<Change>) -> Result<(), 
     ensures err { OnErr result ((q : RowKey) → found cells.new q ≡ found cells.old q) }
     ensures settled { IsSettled cells.new }
 {
-    let mut changes = changes;
-    let outcome = write_with_room(cells, &mut changes);
-    sweep(cells, changes.as_slice());
-    outcome
+    if let Err(fault) = make_room(cells, changes.as_slice()) {
+        sweep(cells, changes.as_slice());
+        return Err(fault);
+    }
+    write_all(cells, changes);
+    Ok(())
 }
 
-/// Applies a list of changes, but leaves empty rooms.
-#[tactic(auto, using(crate::specs::Laws::found_unnamed))]
-fn write_with_room(cells: &mut Cells, changes: &mut Vec<Change>) -> Result<(), AllocError>
-    ensures ok { OnOk result ((q : RowKey) → found cells.new q ≡ found_after changes.old.items q (found cells.old q)) }
-    ensures err { OnErr result ((q : RowKey) → found cells.new q ≡ found cells.old q) }
-    ensures others { (q : RowKey) → is_named changes.old.items q ≡ false → found cells.new q ≡ found cells.old q }
-    ensures other_rooms { (q : RowKey) → is_named changes.old.items q ≡ false → has cells.new q ≡ has cells.old q }
-    ensures named { (q : RowKey) → is_named changes.new.items q ≡ is_named changes.old.items q }
+/// Applies a list of changes, where there is room for every put.
+fn write_all(cells: &mut Cells, changes: Vec<Change>)
+    requires { (q : RowKey) → has cells.now q ≡ (is_some (found cells.now q) || is_put changes.items q) }
+    ensures found { (q : RowKey) → found cells.new q ≡ found_after changes.items q (found cells.old q) }
+    ensures settled { IsSettled cells.new }
 {
-    make_room(cells, changes.as_slice())?;
-    write(cells, changes);
-    Ok(())
+    let mut changes = changes;
+    write(cells, &mut changes);
+    sweep_deleted(cells, changes.as_slice());
 }
 
 /// Makes room for every put. If it fails, some of the rooms are there.
@@ -85,9 +84,7 @@ fn make_room_at(cells: &mut Cells, key: &Key) -> Result<(), AllocError>
     ensures ok { OnOk result ((q : RowKey) → has cells.new q ≡ (has cells.old q || eq_by_cmp key_cmp key.now q)) }
     ensures err { OnErr result ((q : RowKey) → has cells.new q ≡ has cells.old q) }
 {
-    if !cells.contains_key(key) {
-        cells.insert(key.clone()?, None)?;
-    }
+    cells.entry(key.clone()?)?.or_insert(None);
     Ok(())
 }
 
@@ -96,7 +93,7 @@ fn write(cells: &mut Cells, changes: &mut Vec<Change>)
     requires { (q : RowKey) → is_put changes.now.items q ≡ true → has cells.now q ≡ true }
     ensures found { (q : RowKey) → found cells.new q ≡ found_after changes.old.items q (found cells.old q) }
     ensures has { (q : RowKey) → has cells.new q ≡ has cells.old q }
-    ensures named { (q : RowKey) → is_named changes.new.items q ≡ is_named changes.old.items q }
+    ensures deleted { (q : RowKey) → is_deleted changes.new.items q ≡ is_deleted changes.old.items q }
 {
     let mut at = 0;
     while at < changes.len() {
@@ -127,6 +124,28 @@ fn sweep(cells: &mut Cells, changes: &[Change])
         sweep_at(cells, change.key());
     }
     let _count = cells.len();
+}
+
+/// Takes out the rooms that are empty, at every key that a delete names.
+fn sweep_deleted(cells: &mut Cells, changes: &[Change])
+    ensures found { (q : RowKey) → found cells.new q ≡ found cells.old q }
+    ensures has { (q : RowKey) → has cells.new q ≡ cond (is_deleted changes.now q) (is_some (found cells.old q)) (has cells.old q) }
+    ensures ordered { IsOrdered key_cmp cells.new }
+{
+    for change in changes {
+        sweep_if_deleted(cells, change);
+    }
+    let _count = cells.len();
+}
+
+/// Takes out the room at the key of a change if it is empty and the change is a delete.
+fn sweep_if_deleted(cells: &mut Cells, change: &Change)
+    ensures found { (q : RowKey) → found cells.new q ≡ found cells.old q }
+    ensures has { (q : RowKey) → has cells.new q ≡ cond (deletes change.now q) (is_some (found cells.old q)) (has cells.old q) }
+{
+    if let Change::Delete(key) = change {
+        sweep_at(cells, key);
+    }
 }
 
 /// Takes out the room at a key if it is empty.
@@ -161,6 +180,7 @@ impl Change {
     fn take_cell(&mut self) -> Option<Cell>
         ensures cell { result ≡ cell_of self.old }
         ensures key { key_of self.new ≡ key_of self.old }
+        ensures deletes { (q : RowKey) → deletes self.new q ≡ deletes self.old q }
     {
         match self {
             Change::Put(row) => {

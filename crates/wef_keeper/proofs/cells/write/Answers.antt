@@ -1,7 +1,7 @@
 use Rattle.std.proofs.Common.{◌≡◌, ◌<◌, ◌+◌, is_some, sym, ap, ◌∙◌, arith, length}
 use Rattle.wef_keeper.specs.Cells.{has, found, is_put}
 use Rattle.wef_keeper.specs.Rows.{found_after, key_of}
-use Rattle.wef_keeper.proofs.Places.{write_step, put_later, put_now, named_set, set_there}
+use Rattle.wef_keeper.proofs.Places.{write_step, put_later, put_now, deleted_set, set_there}
 use Rattle.std.proofs.lemmas.List.{drop-set-lt}
 use Rattle.std.proofs.Math.ListN.{length-set}
 use Rattle.wef_keeper.proofs.cells.write.Goals as goal
@@ -28,5 +28,5 @@ loop-at-preserved c =
           ∙ c.loop-at.invariant.cells_kept q;
       rooms = λ q. c.write_at.ensures.has q ∙ c.loop-at.invariant.rooms q;
       room = λ q p. c.write_at.ensures.has q ∙ c.loop-at.invariant.room q (put_later changes i item q inside c.index_mut.ensures.value (ap (λ cs. is_put cs q) (sym (drop-set-lt (i + 1) changes i c.take_cell-cell.new.self (omega arith))) ∙ p));
-      named = λ q. named_set changes i item c.take_cell-cell.new.self q c.index_mut.ensures.value c.take_cell-cell.ensures.key inside ∙ c.loop-at.invariant.named q;
+      deleted = λ q. deleted_set changes i item c.take_cell-cell.new.self q c.index_mut.ensures.value (c.take_cell-cell.ensures.deletes q) inside ∙ c.loop-at.invariant.deleted q;
     }

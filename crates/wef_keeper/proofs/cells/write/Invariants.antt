@@ -1,6 +1,6 @@
 use Rattle.std.proofs.Common.{◌≡◌, true, ◌-◌, ◌≤◌, length, drop}
-use Rattle.wef_keeper.specs.Cells.{has, found, is_put}
-use Rattle.wef_keeper.specs.Rows.{found_after, is_named}
+use Rattle.wef_keeper.specs.Cells.{has, found, is_put, is_deleted}
+use Rattle.wef_keeper.specs.Rows.{found_after}
 use Rattle.wef_keeper.specs.declared.keys.Key.{Key}
 use Rattle.wef_keeper.proofs.cells.write.Given as goal
 
@@ -12,7 +12,7 @@ invariant-loop-at l =
       cells_kept : (q : Key) → found_after (drop l.at l.changes.items) q (found l.cells q) ≡ found_after l.fn.changes.items q (found l.fn.cells q);
       rooms : (q : Key) → has l.cells q ≡ has l.fn.cells q;
       room : (q : Key) → is_put (drop l.at l.changes.items) q ≡ true → has l.cells q ≡ true;
-      named : (q : Key) → is_named l.changes.items q ≡ is_named l.fn.changes.items q;
+      deleted : (q : Key) → is_deleted l.changes.items q ≡ is_deleted l.fn.changes.items q;
     }
 
 abbrev pub decreases-loop-at : goal.decreases-loop-at
