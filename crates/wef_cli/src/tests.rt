@@ -6,9 +6,13 @@ use std::process::Abort;
 use std::test::Fail;
 use wef_base::{Bytes, List, MemSink, MemSource, Text};
 
+mod bad_lines;
+mod limits;
+mod reports;
+
 /// What a run over memory left.
 #[derive(Drop)]
-struct Ran {
+struct Outcome {
     status: u8,
     out: MemSink,
     err: MemSink,
@@ -20,25 +24,30 @@ fn ran(
     schedule: &[u8],
     failing_reads: List<u64>,
     failing_writes: List<u64>,
-) -> Result<Ran, Fail> {
+) -> Result<Outcome, Fail> {
     let mut words = Vec::new(alloc);
     words.push(Text::from_str(alloc, word)?)?;
     let mut input = MemSource::of(Bytes::from_slice(alloc, schedule)?, failing_reads);
     let mut out = MemSink::of(alloc, failing_writes);
     let mut err = MemSink::of(alloc, List::new(alloc));
     let status = run(alloc, words.as_slice(), &mut input, &mut out, &mut err);
-    Ok(Ran { status, out, err })
+    Ok(Outcome { status, out, err })
+}
+
+/// Replays a schedule without faults.
+fn replayed(alloc: Global, schedule: &[u8]) -> Result<Outcome, Fail> {
+    ran(
+        alloc,
+        "replay",
+        schedule,
+        List::new(alloc),
+        List::new(alloc),
+    )
 }
 
 /// Replays a schedule without faults, and compares what it prints.
 fn prints(rt: &impl Abort, alloc: Global, schedule: &str, out: &str) -> Result<(), Fail> {
-    let ran = ran(
-        alloc,
-        "replay",
-        schedule.as_bytes(),
-        List::new(alloc),
-        List::new(alloc),
-    )?;
+    let ran = replayed(alloc, schedule.as_bytes())?;
     assert_eq!(rt; ran.out.taken(), out.as_bytes(), "{schedule}");
     assert_eq!(rt; ran.err.taken(), b"".as_slice(), "{schedule}");
     assert_eq!(rt; ran.status, 0, "{schedule}");
@@ -47,13 +56,7 @@ fn prints(rt: &impl Abort, alloc: Global, schedule: &str, out: &str) -> Result<(
 
 /// Replays a schedule that isn't good, and compares what is told.
 fn refuses(rt: &impl Abort, alloc: Global, schedule: &[u8], message: &str) -> Result<(), Fail> {
-    let ran = ran(
-        alloc,
-        "replay",
-        schedule,
-        List::new(alloc),
-        List::new(alloc),
-    )?;
+    let ran = replayed(alloc, schedule)?;
     assert_eq!(rt; ran.err.taken(), message.as_bytes(), "{schedule:?}");
     assert_eq!(rt; ran.out.taken(), b"".as_slice(), "{schedule:?}");
     assert_eq!(rt; ran.status, 3, "{schedule:?}");
