@@ -1,3 +1,4 @@
+pub mod HeldPages
 pub mod Live
 pub mod Pages
 pub mod Sources

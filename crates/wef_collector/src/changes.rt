@@ -8,13 +8,11 @@ ghost use Rattle.wef_collector.specs.Keys as keys;
 ghost use Rattle.wef_collector.specs.Taken as spec;
 ghost use Rattle.wef_collector.specs.Bookmarks as bookmarks;
 
+use crate::keys::{bookmark_key, heard_key, held_key, loose_key, mark_key};
 use std::alloc::AllocError;
-
 use wef_base::{ChannelName, List, SourceName, SubId, Text};
 use wef_batch::{Batch, Item, loose_sum, reach};
 use wef_keeper::{Change, Key, Row, Rows};
-
-use crate::keys::{bookmark_key, heard_key, held_key, loose_key, mark_key};
 
 /// All that a batch for these channels changes.
 pub fn batch_changes(
@@ -51,8 +49,23 @@ fn push_channel_changes(
         return Ok(());
     };
     let bookmark = bookmark_at(rows, sub, source, channel)?;
-    push_items_changes(changes, sub, source, channel, bookmark, batch.items.as_slice())?;
-    push_move_changes(changes, sub, source, channel, bookmark, to, loose_sum(batch.items.as_slice()))
+    push_items_changes(
+        changes,
+        sub,
+        source,
+        channel,
+        bookmark,
+        batch.items.as_slice(),
+    )?;
+    push_move_changes(
+        changes,
+        sub,
+        source,
+        channel,
+        bookmark,
+        to,
+        loose_sum(batch.items.as_slice()),
+    )
 }
 
 /// How far a source's channel was served.
@@ -99,7 +112,12 @@ fn push_item_changes(
 {
     match item {
         Item::Event(event) if event.channel == *channel && bookmark < event.number => {
-            let key = held_key(sub.as_text(), source.as_text(), channel.as_text(), event.number)?;
+            let key = held_key(
+                sub.as_text(),
+                source.as_text(),
+                channel.as_text(),
+                event.number,
+            )?;
             push_put(changes, key, 0, event.text.clone()?)
         }
         Item::Dropped {
@@ -149,7 +167,12 @@ fn push_loose_change(
     requires { bookmark < to }
     ensures { OnOk result (changes.new ≡ changes.old ++ spec.put (keys.loose_key sub.now source.now channel.now (bookmark + 1)) to (decimal count) ∷ []) }
 {
-    let key = loose_key(sub.as_text(), source.as_text(), channel.as_text(), bookmark + 1)?;
+    let key = loose_key(
+        sub.as_text(),
+        source.as_text(),
+        channel.as_text(),
+        bookmark + 1,
+    )?;
     let mut digits = Text::new(sub.as_text().alloc());
     digits.push_number(count)?;
     push_put(changes, key, to, digits)

@@ -1,7 +1,6 @@
 //! Why the collector refuses a call.
 
 use std::alloc::AllocError;
-
 use thiserror::Error;
 
 /// Why the collector refuses a call. It is as before after each refusal.

@@ -4,7 +4,6 @@ ghost use Rattle.std.specs.Prelude.{◌≡◌, IfOk};
 ghost use Rattle.wef_collector.specs.Keys as keys;
 
 use std::alloc::AllocError;
-
 use wef_base::{SubId, Text};
 use wef_keeper::Key;
 

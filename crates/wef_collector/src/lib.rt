@@ -1,11 +1,13 @@
 //! The collector: subscriptions, the batches that sources deliver for them, and what is kept.
 #![tactic(auto)]
 
+mod bookmarks;
 mod changes;
 mod collector;
 mod faults;
 mod held;
 mod keys;
+mod listing;
 mod reporting;
 mod runs;
 mod sections;
@@ -13,4 +15,5 @@ mod standings;
 
 pub use collector::{Collector, MOST_SUBSCRIPTIONS};
 pub use faults::CollectorFault;
+pub use listing::Listed;
 pub use standings::Standing;

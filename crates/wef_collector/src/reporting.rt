@@ -10,15 +10,13 @@ ghost use Rattle.wef_collector.specs.Runs.{runs_from, runs_of, runs_text};
 ghost use Rattle.wef_collector.specs.Report as spec;
 ghost use Rattle.wef_keeper.specs.declared.keys.Row as the_row;
 
-use std::alloc::{AllocError, Global};
-use std::collections::BTreeSet;
-
-use wef_base::{List, Text};
-use wef_keeper::{Depth, Key, Row, Rows};
-
 use crate::keys::{bookmark_key, heard_key, held_key, loose_key, mark_key};
 use crate::runs::{RunWriter, Span};
 use crate::sections::{PAGE, last_key_of, section};
+use std::alloc::{AllocError, Global};
+use std::collections::BTreeSet;
+use wef_base::{List, Text};
+use wef_keeper::{Depth, Key, Row, Rows};
 
 /// The report of the rows.
 #[tactic(auto, unfolding(crate::specs::Report::report))]
@@ -127,7 +125,13 @@ fn push_source_line(text: &mut Text, source: &Text) -> Result<(), AllocError>
     Ok(())
 }
 
-fn push_channel(text: &mut Text, rows: &Rows, sub: &Text, source: &Text, row: &Row) -> Result<(), AllocError>
+fn push_channel(
+    text: &mut Text,
+    rows: &Rows,
+    sub: &Text,
+    source: &Text,
+    row: &Row,
+) -> Result<(), AllocError>
     ensures { OnOk result (text.new ≡ text.old ++ spec.channel_report rows.now sub.now source.now row.now) }
 {
     let channel = &row.key.channel;
@@ -150,7 +154,13 @@ fn push_channel_line(text: &mut Text, channel: &Text, bookmark: u64) -> Result<(
 }
 
 #[tactic(auto, unfolding(crate::specs::Report::held_line))]
-fn push_held(text: &mut Text, rows: &Rows, sub: &Text, source: &Text, channel: &Text) -> Result<(), AllocError>
+fn push_held(
+    text: &mut Text,
+    rows: &Rows,
+    sub: &Text,
+    source: &Text,
+    channel: &Text,
+) -> Result<(), AllocError>
     ensures { OnOk result (text.new ≡ text.old ++ spec.held_line rows.now sub.now source.now channel.now) }
 {
     let runs = runs_behind(rows, held_key(sub, source, channel, 0)?, Spans::Held)?;
@@ -158,7 +168,13 @@ fn push_held(text: &mut Text, rows: &Rows, sub: &Text, source: &Text, channel: &
 }
 
 #[tactic(auto, unfolding(crate::specs::Report::dropped_line))]
-fn push_dropped(text: &mut Text, rows: &Rows, sub: &Text, source: &Text, channel: &Text) -> Result<(), AllocError>
+fn push_dropped(
+    text: &mut Text,
+    rows: &Rows,
+    sub: &Text,
+    source: &Text,
+    channel: &Text,
+) -> Result<(), AllocError>
     ensures { OnOk result (text.new ≡ text.old ++ spec.dropped_line rows.now sub.now source.now channel.now) }
 {
     let runs = runs_behind(rows, mark_key(sub, source, channel, 0)?, Spans::Marks)?;
@@ -176,7 +192,13 @@ fn push_labelled(text: &mut Text, label: &str, runs: &Text) -> Result<(), AllocE
     text.push_str("\n")
 }
 
-fn push_loose(text: &mut Text, rows: &Rows, sub: &Text, source: &Text, channel: &Text) -> Result<(), AllocError>
+fn push_loose(
+    text: &mut Text,
+    rows: &Rows,
+    sub: &Text,
+    source: &Text,
+    channel: &Text,
+) -> Result<(), AllocError>
     ensures { OnOk result (text.new ≡ text.old ++ flat_map spec.loose_line (loose_rows rows.now sub.now source.now channel.now)) }
 {
     let loose = section(rows, &loose_key(sub, source, channel, 0)?, Depth::Channel)?;

@@ -5,7 +5,6 @@ ghost use Rattle.wef_collector.specs.Runs as runs;
 ghost use Rattle.wef_collector.specs.declared.runs.Span as the;
 
 use std::alloc::{AllocError, Global};
-
 use wef_base::Text;
 
 /// The numbers from the first to the last.

@@ -4,7 +4,6 @@ ghost use Rattle.std.specs.Prelude.{◌≡◌, ◌++◌, IfOk, OnOk};
 ghost use Rattle.wef_keeper.specs.Sections.{last_key, rows_under};
 
 use std::alloc::AllocError;
-
 use wef_base::List;
 use wef_keeper::{Depth, Key, Row, Rows};
 

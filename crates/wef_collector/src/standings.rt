@@ -4,13 +4,11 @@ ghost use Rattle.std.specs.Prelude.{◌≡◌, IfOk};
 ghost use Rattle.std.specs.Option.{option_copied};
 ghost use Rattle.wef_collector.specs.Standing as spec;
 
+use crate::keys::subscription_key;
 use std::alloc::AllocError;
-
 use wef_base::SubId;
 use wef_eventing::{Subscription, read_kept};
 use wef_keeper::{Cell, Rows};
-
-use crate::keys::subscription_key;
 
 /// What the collector knows of a subscription's name.
 #[derive(Debug, Drop)]

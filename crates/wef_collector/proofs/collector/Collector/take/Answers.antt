@@ -1,4 +1,4 @@
-use Rattle.std.proofs.Common.{rules, ◌≡◌, ◌∙◌, ap, sym, true, false}
+use Rattle.std.proofs.Common.{rules, ◌≡◌, ◌∙◌, true, false}
 use Rattle.wef_batch.specs.WellFormed.{is_well_formed}
 use Rattle.wef_eventing.specs.declared.subscriptions.Subscription.{Subscription}
 use Rattle.wef_keeper.specs.Rows.{applied}
@@ -20,7 +20,7 @@ returns-clause-ok c =
     let channels = c.as_slice-2.ensures ∙ c.in_ok-channels.ensures.value in
     let changes = c.in_ok-changes.ensures ∙ (λ i. batch_changes (c.self.view_is i) c.args.sub.now c.args.source.now (channels i) batch c.args.now) in
     let kept : c.apply.new.self ≡ taken c.args.self.now c.args.sub.now c.args.source.now (channels_read c.in_ok-subscription.subscription) batch c.args.now =
-        c.in_ok-apply.ensures.ok ∙ (λ i. applied (changes i) (c.self.view_is i)) in
+    c.in_ok-apply.ensures.ok ∙ (λ i. applied (changes i) (c.self.view_is i)) in
     where_live _ c.in_ok-subscription.subscription
-      (λ (s : Subscription). (is_well_formed (channels_read s) batch ≡ true) × (c.apply.new.self ≡ taken c.args.self.now c.args.sub.now c.args.source.now (channels_read s) batch c.args.now))
-      c.in_ok-subscription.ensures.ok (good, kept)
+    (λ (s : Subscription). (is_well_formed (channels_read s) batch ≡ true) × (c.apply.new.self ≡ taken c.args.self.now c.args.sub.now c.args.source.now (channels_read s) batch c.args.now))
+    c.in_ok-subscription.ensures.ok (good, kept)
