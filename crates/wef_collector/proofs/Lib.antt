@@ -1,4 +1,5 @@
 pub mod Batches
+pub mod HeldPages
 pub mod Hits
 pub mod Live
 pub mod Moving

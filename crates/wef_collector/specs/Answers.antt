@@ -1,5 +1,5 @@
 -- What the calls of the collector answer, by its rows as the call begins.
-use Rattle.std.specs.Prelude.{◌≡◌, ℕ, Bool, true, false, List, [], ◌∷◌, is_some}
+use Rattle.std.specs.Prelude.{◌≡◌, ℕ, Bool, true, false, List, is_some}
 use Rattle.std.specs.FinMap as map
 use Rattle.wef_batch.specs.declared.items.Batch.{Batch}
 use Rattle.wef_batch.specs.WellFormed.{is_well_formed}
@@ -8,7 +8,7 @@ use Rattle.wef_eventing.specs.declared.subscriptions.Subscription.{Subscription}
 use Rattle.wef_keeper.specs.Rows.{Rows}
 use Rattle.wef_query.specs.Selected as selected
 use Rattle.wef_collector.specs.Keys.{subscription_key}
-use Rattle.wef_collector.specs.Standing.{standing, kept_body, is_full}
+use Rattle.wef_collector.specs.Standing.{kept_body, is_full}
 use Rattle.wef_collector.specs.declared.faults.CollectorFault as fault
 use Rattle.wef_collector.specs.declared.faults.CollectorFault.TheVariants as faults
 use Rattle.wef_collector.specs.declared.standings.Standing as state

@@ -1,5 +1,5 @@
 -- What is kept of a subscription, source and channel, by number.
-use Rattle.std.specs.Prelude.{ℕ, List, map}
+use Rattle.std.specs.Prelude.{ℕ, List, [], ◌∷◌, map}
 use Rattle.wef_event.specs.declared.records.Event.{Event}
 use Rattle.wef_keeper.specs.declared.keys.Depth.TheVariants.{Channel}
 use Rattle.wef_keeper.specs.declared.keys.Row.{Row}
@@ -17,6 +17,11 @@ event_of_row c row = record { channel = c; number = row.key.number; text = row.b
 -- the held events above a number, by number
 abbrev pub held_after : Rows → List ℕ → List ℕ → List ℕ → ℕ → List Event
 held_after rows u s c after = map (event_of_row c) (held_rows rows u s c after)
+
+-- the number of a page's last event, and the one that it was read behind where it has no event
+abbrev pub last_number : ℕ → List Event → ℕ
+last_number after [] = after
+last_number after (event ∷ events) = last_number event.number events
 
 -- the rows of the marks of dropped records
 abbrev pub mark_rows : Rows → List ℕ → List ℕ → List ℕ → List Row

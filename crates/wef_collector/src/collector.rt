@@ -1,27 +1,33 @@
 //! The collector.
 
-ghost use Rattle.std.specs.Prelude.{◌≡◌, true, false, [], IfOk, IfErr, OnOk, OnErr};
+ghost use Rattle.std.specs.Prelude.{◌≡◌, ◌≤◌, ◌++◌, true, false, [], take, IfOk, IfErr, OnOk, OnErr};
 ghost use Rattle.std.specs.FinMap as map;
 ghost use Rattle.wef_batch.specs.WellFormed.{is_well_formed};
 ghost use Rattle.wef_keeper.specs.Rows.{cell_of_row};
 ghost use Rattle.wef_collector.specs.Answers as answers;
-ghost use Rattle.wef_collector.specs.Held.{held_after};
+ghost use Rattle.wef_eventing.specs.Subscriptions.{IsAllEvents};
+ghost use Rattle.wef_collector.specs.Bookmarks.{bookmark_of};
+ghost use Rattle.wef_collector.specs.Held as held;
 ghost use Rattle.wef_collector.specs.Keys as keys;
+ghost use Rattle.wef_collector.specs.Listing.{listed};
 ghost use Rattle.wef_collector.specs.Report.{report};
 ghost use Rattle.wef_collector.specs.Standing as standings;
 ghost use Rattle.wef_collector.specs.Taken.{taken};
 ghost use Rattle.wef_collector.specs.declared.standings.Standing.TheVariants.{Live};
 
+use crate::bookmarks::bookmark_of;
 use crate::changes::batch_changes;
 use crate::faults::CollectorFault;
-use crate::held::held_events;
+use crate::held::held_page;
 use crate::keys::subscription_key;
+use crate::listing::{Listed, list_subscriptions};
 use crate::reporting::{report, subscriptions_start};
 use crate::standings::{Standing, standing_in};
 use std::alloc::{AllocError, Global};
 use std::marker::Model;
 use wef_base::{ChannelName, List, SourceName, SubId, Text};
 use wef_batch::{Batch, judge};
+use wef_bookmark::Bookmark;
 use wef_event::Event;
 use wef_eventing::{Subscription, kept_words};
 use wef_keeper::{Change, Depth, Key, Row, Rows};
@@ -64,6 +70,7 @@ impl Collector {
     pub fn add(&mut self, subscription: &Subscription) -> Result<(), CollectorFault>
         ensures ok { OnOk result ((answers.is_there self.old subscription.now.name ≡ false)
             × (standings.is_full self.old ≡ false) × (self.new ≡ answers.added_rows self.old subscription.now)) }
+        ensures live { OnOk result (IsAllEvents subscription.now → standings.standing self.new subscription.now.name ≡ Live subscription.now) }
         ensures refusal { IfErr result (λ fault. answers.RefusesAdd fault self.old subscription.now) }
         ensures err { OnErr result (self.new ≡ self.old) }
     {
@@ -136,22 +143,47 @@ impl Collector {
         Ok(())
     }
 
-    /// All events that are held of a source's channel, by number; also of a subscription that has
-    /// ended.
-    pub fn held(
+    /// The first `max` events that are held of a source's channel with numbers above one, by number;
+    /// also of a subscription that has ended. The rest are those above the page's last number.
+    pub fn held_page(
         &self,
         sub: &SubId,
         source: &SourceName,
         channel: &ChannelName,
+        after: u64,
+        max: u32,
     ) -> Result<List<Event>, CollectorFault>
+        requires { 1 ≤ max }
         ensures known { OnOk result (answers.is_known (standings.standing self.now sub.now) ≡ true) }
-        ensures events { IfOk result (λ events. events ≡ held_after self.now sub.now source.now channel.now 0) }
+        ensures page { IfOk result (λ page. page ≡ take max (held.held_after self.now sub.now source.now channel.now after)) }
+        ensures rest { IfOk result (λ page. held.held_after self.now sub.now source.now channel.now after
+            ≡ page ++ held.held_after self.now sub.now source.now channel.now (held.last_number after page)) }
         ensures refusal { IfErr result (λ fault. answers.RefusesUnknown fault (standings.standing self.now sub.now)) }
     {
         if !self.knows(sub)? {
             return Err(CollectorFault::NoSubscription);
         }
-        Ok(held_events(&self.rows, sub, source, channel)?)
+        Ok(held_page(&self.rows, sub, source, channel, after, max)?)
+    }
+
+    /// All subscriptions that read back, live or ended, in the order of their names.
+    pub fn list(&self) -> Result<List<Listed>, CollectorFault>
+        ensures ok { IfOk result (λ list. list ≡ listed self.now) }
+        ensures refusal { IfErr result answers.WantsMemory }
+    {
+        Ok(list_subscriptions(&self.rows, self.alloc)?)
+    }
+
+    /// How far a source was served for a subscription; also for one that has ended.
+    pub fn bookmark(&self, sub: &SubId, source: &SourceName) -> Result<Bookmark, CollectorFault>
+        ensures known { OnOk result (answers.is_known (standings.standing self.now sub.now) ≡ true) }
+        ensures ok { IfOk result (λ bookmark. bookmark ≡ bookmark_of self.now sub.now source.now) }
+        ensures refusal { IfErr result (λ fault. answers.RefusesUnknown fault (standings.standing self.now sub.now)) }
+    {
+        if !self.knows(sub)? {
+            return Err(CollectorFault::NoSubscription);
+        }
+        Ok(bookmark_of(&self.rows, sub, source)?)
     }
 
     fn knows(&self, sub: &SubId) -> Result<bool, AllocError>

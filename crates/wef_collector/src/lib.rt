@@ -1,12 +1,14 @@
 //! The collector: subscriptions, the batches that sources deliver for them, and what is kept.
 #![tactic(auto)]
 
+mod bookmarks;
 mod changes;
 mod collector;
 mod faults;
 mod held;
 mod keys;
 pub mod laws;
+mod listing;
 mod reporting;
 mod runs;
 mod sections;
@@ -14,4 +16,5 @@ mod standings;
 
 pub use collector::{Collector, MOST_SUBSCRIPTIONS};
 pub use faults::CollectorFault;
+pub use listing::Listed;
 pub use standings::Standing;

@@ -1,5 +1,5 @@
--- What a schedule does: a step for each line, from an empty collector on, and what the line prints before it.
-use Rattle.std.specs.Prelude.{◌≡◌, ℕ, Bool, true, false, List, [], ◌∷◌, ◌++◌, if◌then◌else◌, codes}
+-- What a schedule does: a step for each line, from a world in which nothing has happened, and what the line prints before it.
+use Rattle.std.specs.Prelude.{ℕ, List, [], ◌∷◌, ◌++◌, if◌then◌else◌, codes}
 use Rattle.std.specs.FinMap as map
 use Rattle.wef_batch.specs.declared.items.Batch as batch
 use Rattle.wef_batch.specs.WellFormed.{is_well_formed}
@@ -14,6 +14,7 @@ use Rattle.wef_envelope.specs.declared.FaultName.TheVariants.{InvalidMessage, De
 use Rattle.wef_eventing.specs.declared.subscriptions.Subscription.{Subscription}
 use Rattle.wef_eventing.specs.declared.subscriptions.SubKind.TheVariants.{BySource}
 use Rattle.wef_keeper.specs.Rows.{Rows}
+use Rattle.wef_query.specs.Order.{with_name}
 use Rattle.wef_query.specs.declared.QueryList.{QueryList}
 use Rattle.wef_replay.specs.declared.lines.Line.{Line}
 use Rattle.wef_replay.specs.declared.lines.Line.TheVariants.{Subscribe, End, Batch, Show, Print}
@@ -72,35 +73,57 @@ print_text rows u s c is.Unknown = name_line (codes "unknown") u
 print_text rows u s c (is.Ended old) = events_text (held_after rows u s c 0)
 print_text rows u s c (is.Live about) = events_text (held_after rows u s c 0)
 
--- the rows after a line
-abbrev pub step : Line → Rows → Rows
-step (Subscribe u items bytes beat query) rows = subscribed rows (subscription_of u items bytes beat query)
-step (End u) rows = ended rows u (standing rows u)
-step (Batch u s b) rows = delivered rows u s b (standing rows u)
-step Show rows = rows
-step (Print u s c) rows = rows
+-- What a world holds: the rows of the collector, and the names of the sources that `batch` lines gave, each once, in
+-- the order of their bytes.
+pub record State : Type 0 where
+  pub rows : Rows
+  pub foreign : List (List ℕ)
+
+-- the state of a world in which nothing has happened
+abbrev pub start : State
+start = record { rows = map.empty; foreign = [] }
+
+-- a state with other rows
+abbrev pub with_rows : State → Rows → State
+with_rows state rows = record { rows = rows; foreign = state.foreign }
+
+-- a state with the name of one more foreign source
+abbrev pub with_foreign : State → List ℕ → State
+with_foreign state s = record { rows = state.rows; foreign = with_name state.foreign s }
+
+-- the state after a line
+abbrev pub step : Line → State → State
+step (Subscribe u items bytes beat query) state = with_rows state (subscribed state.rows (subscription_of u items bytes beat query))
+step (End u) state = with_rows state (ended state.rows u (standing state.rows u))
+step (Batch u s b) state = with_rows (with_foreign state s) (delivered state.rows u s b (standing state.rows u))
+step Show state = state
+step (Print u s c) state = state
 
 -- what a line prints, by the rows before it
-abbrev pub printed_by : Line → Rows → List ℕ
-printed_by (Subscribe u items bytes beat query) rows = subscribe_text rows u
-printed_by (End u) rows = end_text u (standing rows u)
-printed_by (Batch u s b) rows = batch_text u s (answer b (standing rows u))
-printed_by Show rows = report rows
-printed_by (Print u s c) rows = print_text rows u s c (standing rows u)
+abbrev pub printed_of : Line → Rows → List ℕ
+printed_of (Subscribe u items bytes beat query) rows = subscribe_text rows u
+printed_of (End u) rows = end_text u (standing rows u)
+printed_of (Batch u s b) rows = batch_text u s (answer b (standing rows u))
+printed_of Show rows = report rows
+printed_of (Print u s c) rows = print_text rows u s c (standing rows u)
 
--- the rows after each line
-abbrev pub states_from : Rows → List Line → List Rows
-states_from rows [] = rows ∷ []
-states_from rows (line ∷ lines) = rows ∷ states_from (step line rows) lines
+-- what a line prints, by the state before it
+abbrev pub printed_by : Line → State → List ℕ
+printed_by line state = printed_of line state.rows
+
+-- the state before each line, and the one after the last
+abbrev pub states_from : State → List Line → List State
+states_from state [] = state ∷ []
+states_from state (line ∷ lines) = state ∷ states_from (step line state) lines
 
 -- what lines print, one after the other
-abbrev pub trail_from : Rows → List Line → List ℕ
-trail_from rows [] = []
-trail_from rows (line ∷ lines) = printed_by line rows ++ trail_from (step line rows) lines
+abbrev pub trail_from : State → List Line → List ℕ
+trail_from state [] = []
+trail_from state (line ∷ lines) = printed_by line state ++ trail_from (step line state) lines
 
--- the states of a schedule, and what it prints, from an empty collector on
-abbrev pub states : List Line → List Rows
-states lines = states_from map.empty lines
+-- the states of a schedule, and what it prints, from a world in which nothing has happened
+abbrev pub states : List Line → List State
+states lines = states_from start lines
 
 unfoldable pub trail : List Line → List ℕ
-trail lines = trail_from map.empty lines
+trail lines = trail_from start lines

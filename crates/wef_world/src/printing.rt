@@ -1,12 +1,20 @@
 //! What the lines of a schedule print.
 
-ghost use Rattle.std.specs.Prelude.{◌≡◌, ◌++◌, IfOk, OnOk};
+ghost use Rattle.std.specs.Prelude.{◌≡◌, ◌++◌, true, IfOk, IfErr, OnOk};
+ghost use Rattle.std.specs.List.{flat_map};
+ghost use Rattle.wef_collector.specs.Answers as answers;
+ghost use Rattle.wef_collector.specs.Held.{held_after, last_number};
+ghost use Rattle.wef_collector.specs.Standing.{standing};
 ghost use Rattle.wef_world.specs.Printed as spec;
 
 use std::alloc::{AllocError, Global};
-use wef_base::{SourceName, SubId, Text};
+use wef_base::{ChannelName, SourceName, SubId, Text};
+use wef_collector::{Collector, CollectorFault};
 use wef_envelope::FaultName;
 use wef_event::Event;
+
+/// How many events are read at once.
+const PAGE: u32 = 256;
 
 /// A word and the name of a subscription.
 #[tactic(auto, unfolding(crate::specs::Printed::name_line))]
@@ -60,15 +68,50 @@ pub fn push_event(text: &mut Text, event: &Event) -> Result<(), AllocError>
     Ok(())
 }
 
-/// Events, one a line, and at last `end`.
+/// The events that are held of a source's channel, one a line, and at last `end`, read page by
+/// page.
 #[tactic(auto, unfolding(crate::specs::Printed::events_text))]
-pub fn events_text(alloc: Global, events: &[Event]) -> Result<Text, AllocError>
-    ensures { IfOk result (λ text. text ≡ spec.events_text events.now) }
+pub fn held_text(
+    alloc: Global,
+    collector: &Collector,
+    sub: &SubId,
+    source: &SourceName,
+    channel: &ChannelName,
+) -> Result<Text, CollectorFault>
+    ensures known { OnOk result (answers.is_known (standing collector.now sub.now) ≡ true) }
+    ensures text { IfOk result (λ text. text ≡ spec.events_text (held_after collector.now sub.now source.now channel.now 0)) }
+    ensures refusal { IfErr result (λ fault. answers.RefusesUnknown fault (standing collector.now sub.now)) }
 {
     let mut text = Text::new(alloc);
-    for event in events {
-        push_event(&mut text, event)?;
+    let mut after = 0;
+    loop {
+        let page = collector.held_page(sub, source, channel, after, PAGE)?;
+        let is_last = page.len() < PAGE as usize;
+        after = last_number_of(after, page.as_slice());
+        push_events(&mut text, page.as_slice())?;
+        if is_last {
+            text.push_str("end\n")?;
+            return Ok(text);
+        }
     }
-    text.push_str("end\n")?;
-    Ok(text)
+}
+
+/// The number of the last event, and the one given where there is none.
+fn last_number_of(after: u64, events: &[Event]) -> u64
+    ensures { result ≡ last_number after events.now }
+{
+    match events.split_last() {
+        Some((event, _)) => event.number,
+        None => after,
+    }
+}
+
+/// Appends events, one a line.
+fn push_events(text: &mut Text, events: &[Event]) -> Result<(), AllocError>
+    ensures { OnOk result (text.new ≡ text.old ++ flat_map spec.event_line events.now) }
+{
+    for event in events {
+        push_event(text, event)?;
+    }
+    Ok(())
 }

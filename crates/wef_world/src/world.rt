@@ -1,14 +1,16 @@
 //! The ends that a schedule moves.
 
 ghost use Rattle.std.specs.Prelude.{◌≡◌, ◌++◌, IfOk, OnOk, OnErr};
-ghost use Rattle.std.specs.FinMap as map;
 ghost use Rattle.wef_collector.specs.Report.{report};
 ghost use Rattle.wef_collector.specs.Standing.{standing};
+ghost use Rattle.wef_world.specs.Admitted as admitted;
 ghost use Rattle.wef_world.specs.Printed as texts;
 ghost use Rattle.wef_world.specs.Steps as steps;
 
-use crate::printing::{batch_line, events_text, fault_answer, name_line};
+use crate::admitting::is_admitted;
+use crate::printing::{batch_line, fault_answer, held_text, name_line};
 use std::alloc::{AllocError, Global};
+use std::collections::BTreeSet;
 use std::marker::Model;
 use thiserror::Error;
 use wef_base::{Bytes, ChannelName, List, SourceName, SubId, Text};
@@ -40,36 +42,49 @@ impl From<AllocError> for WorldFault {
 /// The moment of every line.
 const MOMENT: u64 = 0;
 
-/// A collector, at the moment 0.
+/// A collector, at the moment 0, and the foreign sources that gave it batches.
 #[derive(Drop)]
 pub struct World {
     collector: Collector,
+    /// The sources that `batch` lines named.
+    foreign: BTreeSet<SourceName>,
     alloc: Global,
 }
 
 impl Model for World {
+    ghost use Rattle.std.specs.Prelude.{ℕ, List, refl};
+    ghost use Rattle.std.specs.Coded.{code_by, coded_ℕ, coded_list, coded×};
     ghost use Rattle.std.specs.FinMap as map;
-    ghost use Rattle.wef_keeper.specs.Rows.{key_cmp};
-    ghost use Rattle.wef_keeper.specs.declared.keys.Cell.{Cell};
+    ghost use Rattle.wef_keeper.specs.Rows.{Rows};
     ghost use Rattle.wef_keeper.specs.contracts.keys.Key as key;
     ghost use Rattle.wef_keeper.specs.contracts.keys.Cell as cell;
+    ghost use Rattle.wef_world.specs.Steps.{State};
 
-    ghost Value = { map.FinMap key_cmp Cell };
+    ghost Value = { State };
 
-    ghost coded = { map.code key.the_row.coded cell.the_row.coded };
+    ghost coded = { code_by (Rows × List (List ℕ)) (coded× (map.code key.the_row.coded cell.the_row.coded) (coded_list (coded_list coded_ℕ)))
+        (λ s. (s.rows, s.foreign)) (λ p. record { rows = p.0; foreign = p.1 }) (λ _. refl) };
 
-    ghost view = { λ w. w.collector };
+    ghost view = { λ w. record { rows = w.collector; foreign = w.foreign.keys } };
 }
 
 impl World {
     /// A world in which nothing has happened.
     pub fn new(alloc: Global) -> World
-        ensures { result ≡ map.empty }
+        ensures { result ≡ steps.start }
     {
         World {
             collector: Collector::start(alloc),
+            foreign: BTreeSet::new(alloc),
             alloc,
         }
+    }
+
+    /// Whether a schedule may have the line next. It takes no memory.
+    pub fn admits(&self, line: &Line) -> bool
+        ensures { result ≡ admitted.is_admitted line.now }
+    {
+        is_admitted(line)
     }
 
     /// Does one line, and appends what it prints. After a fault the world isn't used again, and a
@@ -115,8 +130,8 @@ impl World {
         beat: u64,
         query: &QueryList,
     ) -> Result<Text, WorldFault>
-        ensures state { OnOk result (self.new ≡ steps.subscribed self.old (steps.subscription_of sub.now items bytes beat query.now)) }
-        ensures printed { IfOk result (λ text. text ≡ steps.subscribe_text self.old sub.now) }
+        ensures state { OnOk result (self.new ≡ steps.with_rows self.old (steps.subscribed self.old.rows (steps.subscription_of sub.now items bytes beat query.now))) }
+        ensures printed { IfOk result (λ text. text ≡ steps.subscribe_text self.old.rows sub.now) }
     {
         let subscription = Subscription {
             name: sub.clone()?,
@@ -138,8 +153,8 @@ impl World {
     }
 
     fn end(&mut self, sub: &SubId) -> Result<Text, WorldFault>
-        ensures state { OnOk result (self.new ≡ steps.ended self.old sub.now (standing self.old sub.now)) }
-        ensures printed { IfOk result (λ text. text ≡ steps.end_text sub.now (standing self.old sub.now)) }
+        ensures state { OnOk result (self.new ≡ steps.with_rows self.old (steps.ended self.old.rows sub.now (standing self.old.rows sub.now))) }
+        ensures printed { IfOk result (λ text. text ≡ steps.end_text sub.now (standing self.old.rows sub.now)) }
     {
         match self.collector.end(sub) {
             Ok(()) => Ok(name_line("ended", sub)?),
@@ -155,11 +170,20 @@ impl World {
         source: &SourceName,
         batch: &Batch,
     ) -> Result<Text, WorldFault>
-        ensures state { OnOk result (self.new ≡ steps.delivered self.old sub.now source.now batch.now (standing self.old sub.now)) }
-        ensures printed { IfOk result (λ text. text ≡ texts.batch_text sub.now source.now (steps.answer batch.now (standing self.old sub.now))) }
+        ensures state { OnOk result (self.new ≡ steps.with_rows (steps.with_foreign self.old source.now) (steps.delivered self.old.rows sub.now source.now batch.now (standing self.old.rows sub.now))) }
+        ensures printed { IfOk result (λ text. text ≡ texts.batch_text sub.now source.now (steps.answer batch.now (standing self.old.rows sub.now))) }
     {
+        self.note_foreign(source)?;
         let answer = self.answer(sub, source, batch)?;
         Ok(batch_line(sub, source, &answer)?)
+    }
+
+    /// Keeps the name of a foreign source, unless it is there.
+    fn note_foreign(&mut self, source: &SourceName) -> Result<(), AllocError>
+        ensures { OnOk result (self.new ≡ steps.with_foreign self.old source.now) }
+    {
+        self.foreign.insert(source.clone()?)?;
+        Ok(())
     }
 
     fn answer(
@@ -168,8 +192,8 @@ impl World {
         source: &SourceName,
         batch: &Batch,
     ) -> Result<Text, WorldFault>
-        ensures state { OnOk result (self.new ≡ steps.delivered self.old sub.now source.now batch.now (standing self.old sub.now)) }
-        ensures answer { IfOk result (λ text. text ≡ steps.answer batch.now (standing self.old sub.now)) }
+        ensures state { OnOk result (self.new ≡ steps.with_rows self.old (steps.delivered self.old.rows sub.now source.now batch.now (standing self.old.rows sub.now))) }
+        ensures answer { IfOk result (λ text. text ≡ steps.answer batch.now (standing self.old.rows sub.now)) }
     {
         match self.collector.take(sub, source, batch, MOMENT) {
             Ok(()) if batch.ack_wanted => Ok(Text::from_str(self.alloc, "ack")?),
@@ -185,7 +209,7 @@ impl World {
     }
 
     fn show(&self) -> Result<Text, WorldFault>
-        ensures { IfOk result (λ text. text ≡ report self.now) }
+        ensures { IfOk result (λ text. text ≡ report self.now.rows) }
     {
         match self.collector.report() {
             Ok(text) => Ok(text),
@@ -199,10 +223,10 @@ impl World {
         source: &SourceName,
         channel: &ChannelName,
     ) -> Result<Text, WorldFault>
-        ensures { IfOk result (λ text. text ≡ steps.print_text self.now sub.now source.now channel.now (standing self.now sub.now)) }
+        ensures { IfOk result (λ text. text ≡ steps.print_text self.now.rows sub.now source.now channel.now (standing self.now.rows sub.now)) }
     {
-        match self.collector.held(sub, source, channel) {
-            Ok(events) => Ok(events_text(self.alloc, events.as_slice())?),
+        match held_text(self.alloc, &self.collector, sub, source, channel) {
+            Ok(text) => Ok(text),
             Err(CollectorFault::NoSubscription) => Ok(name_line("unknown", sub)?),
             Err(_) => Err(WorldFault::NoMemory),
         }

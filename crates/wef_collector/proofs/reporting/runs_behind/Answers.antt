@@ -1,4 +1,4 @@
-use Rattle.std.proofs.Common.{◌≡◌, ◌<◌, ◌∙◌, ◌++◌, List, [], map, length, ap, sym, append-nil, arith}
+use Rattle.std.proofs.Common.{◌<◌, ◌∙◌, ◌++◌, List, [], map, length, ap, sym, append-nil, arith}
 use Rattle.std.proofs.lemmas.Result.{IfOk-weaker}
 use Rattle.wef_keeper.specs.declared.keys.Row.{Row}
 use Rattle.wef_collector.specs.Report.{span_of}

@@ -1,4 +1,4 @@
-use Rattle.std.proofs.Common.{◌≡◌, ◌∙◌, sym, ap}
+use Rattle.std.proofs.Common.{◌∙◌, sym, ap}
 use Rattle.wef_keeper.specs.Sections.{last_key}
 use Rattle.wef_collector.proofs.Pages.{last_key-push}
 use Rattle.wef_collector.proofs.sections.last_key_of.Goals as goal

@@ -1,6 +1,5 @@
-use Rattle.std.proofs.Common.{◌≡◌, ◌<◌, ◌∙◌, ◌++◌, List, length, ap, sym, arith}
+use Rattle.std.proofs.Common.{◌<◌, ◌∙◌, ◌++◌, List, length, ap, sym, arith}
 use Rattle.wef_keeper.specs.declared.keys.Row.{Row}
-use Rattle.wef_keeper.specs.Sections.{rows_under}
 use Rattle.wef_collector.proofs.Pages.{last_page}
 use Rattle.wef_collector.proofs.sections.section.Goals as goal
 

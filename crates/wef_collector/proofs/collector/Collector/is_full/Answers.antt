@@ -1,4 +1,4 @@
-use Rattle.std.proofs.Common.{◌≡◌, ◌∙◌, ℕ, ap, nat_eq}
+use Rattle.std.proofs.Common.{◌∙◌, ℕ, ap, nat_eq}
 use Rattle.wef_collector.specs.Standing.{is_full}
 use Rattle.wef_collector.proofs.Pages.{is_full_page}
 use Rattle.wef_collector.proofs.collector.Collector.is_full.Goals as goal

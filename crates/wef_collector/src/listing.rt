@@ -1,0 +1,59 @@
+//! The subscriptions that are kept, one after the other.
+
+ghost use Rattle.std.specs.Prelude.{◌≡◌, [], ◌∷◌, ◌++◌, IfOk, OnOk};
+ghost use Rattle.std.specs.List.{filter_map};
+ghost use Rattle.wef_collector.specs.Listing as spec;
+
+use crate::reporting::subscriptions_start;
+use crate::sections::section;
+use std::alloc::{AllocError, Global};
+use wef_base::{List, SubId, ValueFault};
+use wef_eventing::{Subscription, read_kept};
+use wef_keeper::{Depth, Row, Rows};
+
+/// A subscription that is kept.
+#[derive(Debug, Drop)]
+pub struct Listed {
+    pub subscription: Subscription,
+    /// Whether it is live. Otherwise it was ended.
+    pub live: bool,
+}
+
+/// The subscriptions of the rows, in the order of their names.
+pub fn list_subscriptions(rows: &Rows, alloc: Global) -> Result<List<Listed>, AllocError>
+    ensures { IfOk result (λ list. list ≡ spec.listed rows.now) }
+{
+    let start = subscriptions_start(alloc);
+    let subscriptions = section(rows, &start, Depth::Kind)?;
+    let mut list = List::new(alloc);
+    for row in subscriptions.as_slice() {
+        push_listed(&mut list, row)?;
+    }
+    Ok(list)
+}
+
+fn push_listed(list: &mut List<Listed>, row: &Row) -> Result<(), AllocError>
+    ensures { OnOk result (list.new ≡ list.old ++ filter_map spec.listed_of (row.now ∷ [])) }
+{
+    match listed_of(row)? {
+        Some(listed) => list.push(listed),
+        None => Ok(()),
+    }
+}
+
+fn listed_of(row: &Row) -> Result<Option<Listed>, AllocError>
+    ensures { IfOk result (λ listed. listed ≡ spec.listed_of row.now) }
+{
+    let name = match SubId::read(&row.key.sub) {
+        Ok(name) => name,
+        Err(ValueFault::BadName) => return Ok(None),
+        Err(_) => return Err(AllocError),
+    };
+    match read_kept(&name, &row.body)? {
+        Some(subscription) => Ok(Some(Listed {
+            subscription,
+            live: row.value == 0,
+        })),
+        None => Ok(None),
+    }
+}

@@ -1,0 +1,12 @@
+use Rattle.std.proofs.Common.{◌≡◌, ◌++◌, length}
+use Rattle.std.specs.List.{flat_map}
+use Rattle.wef_collector.specs.Held.{held_after}
+use Rattle.wef_world.specs.Printed.{event_line}
+use Rattle.wef_world.proofs.printing.held_text.Given as goal
+
+abbrev pub invariant-loop-text : goal.invariant-loop-text
+invariant-loop-text l =
+    l.text ++ flat_map event_line (held_after l.collector l.sub l.source l.channel l.after) ≡ flat_map event_line (held_after l.collector l.sub l.source l.channel 0)
+
+abbrev pub decreases-loop-text : goal.decreases-loop-text
+decreases-loop-text l = length (held_after l.collector l.sub l.source l.channel l.after)
