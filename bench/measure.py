@@ -1,14 +1,13 @@
 #!/usr/bin/env python3
-"""Runs the program on schedules of two sizes, and compares their times and their peak memory."""
+"""Runs the program on schedules of two sizes, and compares their processor times and their peak memory."""
 import os
 import subprocess
 import sys
 import tempfile
-import time
 
 SMALL, GREAT = 10_000, 100_000
 MOST_FACTOR, MOST_BYTES = 13.0, 2048
-TURNS = 3
+TURNS = 5
 
 
 def schedule(events, sources, folder):
@@ -20,15 +19,13 @@ def schedule(events, sources, folder):
 
 
 def run(program, path):
-    """The seconds of one run, and its peak memory in bytes."""
+    """The seconds of processor time of one run, and its peak memory in bytes."""
     with open(path, "rb") as stdin, open(os.devnull, "wb") as stdout:
-        began = time.monotonic()
         child = subprocess.Popen([program, "replay"], stdin=stdin, stdout=stdout)
         _, status, usage = os.wait4(child.pid, 0)
-        seconds = time.monotonic() - began
     if status != 0:
         sys.exit(f"the program ended with status {os.waitstatus_to_exitcode(status)}")
-    return seconds, usage.ru_maxrss * 1024
+    return usage.ru_utime + usage.ru_stime, usage.ru_maxrss * 1024
 
 
 def main():
