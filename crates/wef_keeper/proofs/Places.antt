@@ -60,10 +60,6 @@ some_unswept true (Some None) full = cc (full refl)
 some_unswept true (Some (Some cell)) full = refl
 some_unswept false y full = refl
 
-pub none_there : (y : Option (Option Cell)) → is_some y ≡ false → y ≡ None
-none_there None e = refl
-none_there (Some y) e = cc
-
 pub empty_there : (y : Option (Option Cell)) → is_empty_room y ≡ true → y ≡ Some None
 empty_there None e = cc
 empty_there (Some None) e = refl

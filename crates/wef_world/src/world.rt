@@ -87,8 +87,7 @@ impl World {
         is_admitted(line)
     }
 
-    /// Does one line, and appends what it prints. After a fault the world isn't used again, and a
-    /// part of the text may have been appended.
+    /// Does one line, and appends what it prints. After a fault the world isn't used again.
     pub fn apply(&mut self, line: &Line, out: &mut Bytes) -> Result<(), WorldFault>
         ensures state { OnOk result (self.new ≡ steps.step line.now self.old) }
         ensures printed { OnOk result (out.new ≡ out.old ++ steps.printed_by line.now self.old) }
