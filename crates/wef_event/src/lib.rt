@@ -4,10 +4,12 @@
 pub mod characters;
 pub mod plain;
 pub mod records;
+pub mod unnumbered;
 
 pub use characters::is_xml_text;
 pub use plain::plain_event;
 pub use records::{Event, EventFault};
+pub use unnumbered::PlainEvent;
 
 #[cfg(test)]
 mod tests;

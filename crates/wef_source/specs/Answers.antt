@@ -1,0 +1,125 @@
+-- What the calls of a source answer, by what it holds as the call begins.
+use Rattle.std.specs.Prelude.{◌≡◌, ℕ, ◌+◌, Bool, true, false, List, [], length, is_some, Option, Some, None}
+use Rattle.wef_envelope.specs.Ids.{ids_agree}
+use Rattle.wef_envelope.specs.declared.MessageId.{MessageId}
+use Rattle.wef_event.specs.declared.unnumbered.PlainEvent.{PlainEvent}
+use Rattle.wef_eventing.specs.declared.bodies.Offer.{Offer}
+use Rattle.wef_source_log.specs.Answers as answers
+use Rattle.wef_source_log.specs.Answers.{next_text}
+use Rattle.wef_source_log.specs.Windows.{last_of}
+use Rattle.wef_source_log.specs.declared.faults.LogFault as the_log_fault
+use Rattle.wef_source_log.specs.declared.faults.LogFault.TheVariants as log_faults
+use Rattle.wef_source.specs.Machine.{End, acknowledged_in, adopted, asked, delivery_of, is_idle, is_spent, lost_in, next_id, refused_in, sent, with_written}
+use Rattle.wef_source.specs.Sessions.{session_of, waiting}
+use Rattle.wef_source.specs.declared.faults.SourceFault.{SourceFault}
+use Rattle.wef_source.specs.declared.faults.SourceFault.TheVariants.{NoMemory, Full, TooLong, NotAsked, UnknownSubscription, Spent}
+use Rattle.wef_source.specs.declared.messages.Moved as moved
+use Rattle.wef_source.specs.declared.messages.Moved.TheVariants as moves
+use Rattle.wef_source.specs.declared.messages.Poll as poll
+use Rattle.wef_source.specs.declared.messages.Poll.TheVariants as polls
+use Rattle.wef_source.specs.declared.messages.Reply as reply
+use Rattle.wef_source.specs.declared.messages.Reply.TheVariants as replies
+use Rattle.wef_source.specs.declared.sessions.Session.{Session}
+
+-- a fault of the log, as the source's
+abbrev pub source_fault : the_log_fault.LogFault → SourceFault
+source_fault log_faults.NoMemory = NoMemory
+source_fault log_faults.Full = Full
+source_fault log_faults.TooLong = TooLong
+
+-- What was written is the next record of its channel.
+abbrev pub Writes : End → End → PlainEvent → ℕ → Type 0
+Writes end end' event n =
+    (answers.is_full end.rows event.channel ≡ false) × (n ≡ last_of end.rows event.channel + 1)
+    × (end' ≡ with_written end event.channel (next_text end.rows event))
+
+-- A write is refused as the log refuses it.
+abbrev pub RefusesWrite : SourceFault → End → PlainEvent → Type 0
+RefusesWrite NoMemory end event = Unit {0}
+RefusesWrite Full end event = answers.RefusesWrite log_faults.Full end.rows event
+RefusesWrite TooLong end event = answers.RefusesWrite log_faults.TooLong end.rows event
+RefusesWrite _ end event = ⊥
+
+-- An ask draws the next id.
+abbrev pub Asks : End → End → MessageId → Type 0
+Asks end end' id = (is_spent end ≡ false) × (id ≡ record { value = Some (next_id end); text = [] }) × (end' ≡ asked end)
+
+-- It is refused exactly where no id is left, and takes no memory.
+abbrev pub RefusesAsk : SourceFault → End → Type 0
+RefusesAsk Spent end = is_spent end ≡ true
+RefusesAsk _ end = ⊥
+
+-- Offers are taken where they answer the ask.
+abbrev pub Adopts : End → End → MessageId → List Offer → ℕ → ℕ → Type 0
+Adopts end end' relates offers now n =
+    (ids_agree end.ask relates.value ≡ true) × (end' ≡ adopted end offers now) × (n ≡ length (adopted end offers now).sessions)
+
+-- `NotAsked` comes exactly where the offers don't answer the ask.
+abbrev pub RefusesAdopt : SourceFault → End → MessageId → Type 0
+RefusesAdopt NoMemory end relates = Unit {0}
+RefusesAdopt NotAsked end relates = ids_agree end.ask relates.value ≡ false
+RefusesAdopt _ end relates = ⊥
+
+-- A session sends what is built for it; it says Nothing exactly where a reply is outstanding or there is no item.
+abbrev pub PollsSession : End → End → Session → ℕ → poll.Poll → Type 0
+PollsSession end end' session now polls.Nothing = (is_idle end.rows session ≡ true) × (end' ≡ end)
+PollsSession end end' session now (polls.Send delivery) =
+    (is_idle end.rows session ≡ false) × (is_spent end ≡ false) × (delivery ≡ delivery_of end session) × (end' ≡ sent end session now)
+
+abbrev pub PollsIn : End → End → Option Session → ℕ → poll.Poll → Type 0
+PollsIn end end' None now answer = ⊥
+PollsIn end end' (Some session) now answer = PollsSession end end' session now answer
+
+-- A poll asks the session of the name.
+abbrev pub Polls : End → End → List ℕ → ℕ → poll.Poll → Type 0
+Polls end end' u now answer = PollsIn end end' (session_of end.sessions u) now answer
+
+-- a fact of a session that is there
+abbrev pub WhereThere : Option Session → (Session → Type 0) → Type 0
+WhereThere None P = ⊥
+WhereThere (Some session) P = P session
+
+-- `UnknownSubscription` comes exactly where no session has the name, `Spent` exactly where the session has something to
+-- send and no id is left.
+abbrev pub RefusesPoll : SourceFault → End → List ℕ → Type 0
+RefusesPoll NoMemory end u = Unit {0}
+RefusesPoll UnknownSubscription end u = session_of end.sessions u ≡ None
+RefusesPoll Spent end u = WhereThere (session_of end.sessions u) (λ session. is_idle end.rows session ≡ false) × (is_spent end ≡ true)
+RefusesPoll _ end u = ⊥
+
+-- the session that waits for the answer to an id, where the id has a value
+abbrev pub waiting_for : End → Option ℕ → Option Session
+waiting_for end None = None
+waiting_for end (Some id) = waiting end.sessions id
+
+-- An acknowledgement moves the session behind its batch; a fault leaves the session where it was, or ends it.
+abbrev pub AnswersId : End → End → ℕ → reply.Reply → moved.Moved → Type 0
+AnswersId end end' id replies.Ack answer = (answer ≡ moves.Moved) × (end' ≡ acknowledged_in end id)
+AnswersId end end' id (replies.Fault fault) answer = (answer ≡ moves.Refused) × (end' ≡ refused_in end id fault)
+
+abbrev pub AnswersTo : End → End → Option ℕ → reply.Reply → moved.Moved → Type 0
+AnswersTo end end' None reply answer = ⊥
+AnswersTo end end' (Some id) reply answer = AnswersId end end' id reply answer
+
+-- An answer is taken where a session waits for it.
+abbrev pub Answers : End → End → MessageId → reply.Reply → moved.Moved → Type 0
+Answers end end' relates reply answer = (is_some (waiting_for end relates.value) ≡ true) × AnswersTo end end' relates.value reply answer
+
+-- `NotAsked` comes exactly where no session waits for it; no memory is taken.
+abbrev pub RefusesAnswer : SourceFault → End → MessageId → Type 0
+RefusesAnswer NotAsked end relates = waiting_for end relates.value ≡ None
+RefusesAnswer _ end relates = ⊥
+
+-- A delivery counts as lost where its session is there.
+abbrev pub Loses : End → End → List ℕ → Type 0
+Loses end end' u = (is_some (session_of end.sessions u) ≡ true) × (end' ≡ lost_in end u)
+
+-- `UnknownSubscription` comes exactly where no session has the name; no memory is taken.
+abbrev pub RefusesLost : SourceFault → End → List ℕ → Type 0
+RefusesLost UnknownSubscription end u = session_of end.sessions u ≡ None
+RefusesLost _ end u = ⊥
+
+-- want of memory, and nothing else
+abbrev pub WantsMemory : SourceFault → Type 0
+WantsMemory NoMemory = Unit {0}
+WantsMemory _ = ⊥

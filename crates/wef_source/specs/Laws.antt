@@ -1,0 +1,38 @@
+-- What is true of the batches that sources build.
+use Rattle.std.specs.Prelude.{◌≡◌, ℕ, ◌+◌, ◌<◌, ◌≤◌, true, List, [], ◌∷◌, ◌++◌, length, sum_by}
+use Rattle.wef_batch.specs.Cost.{cost}
+use Rattle.wef_batch.specs.declared.items.Item.{Item}
+use Rattle.wef_bookmark.specs.Order.{IsAtMost, Marks, number_at}
+use Rattle.wef_keeper.specs.Rows.{Rows}
+use Rattle.wef_source_log.specs.Histories.{Histories, history}
+use Rattle.wef_source_log.specs.Windows.{IsWindow}
+use Rattle.wef_source.specs.Building.{built, built_items, candidates, left_items, room_of, session_channels}
+use Rattle.wef_source.specs.Fits.{Fits}
+use Rattle.wef_source.specs.declared.sessions.Session.{Session}
+
+-- A session's positions are within its source's histories.
+abbrev pub AreWithin : Marks → Histories → Type 0
+AreWithin positions all = (c : List ℕ) → number_at positions c ≤ length (history all c)
+
+-- A batch that is built from a window, above positions within the histories, fits above every bookmark that is at least
+-- at the positions: also above one to which later batches have moved it meanwhile.
+abbrev pub BuiltBatchesFit : Type 0
+BuiltBatchesFit = (rows : Rows) (all : Histories) (capacity boot : ℕ) (session : Session) (b : Marks) →
+    0 < capacity → IsWindow rows all capacity boot → AreWithin session.positions all → IsAtMost session.positions b →
+    Fits session.query session.max_bytes all capacity b (built rows session)
+
+-- A batch has the candidates from the first on, at most as many as the session allows, and they cost at most the room.
+abbrev pub BuiltItemsAreInFront : Type 0
+BuiltItemsAreInFront = (rows : Rows) (session : Session) →
+    (built_items rows session ++ left_items rows session ≡ candidates rows session)
+    × (length (built_items rows session) ≤ session.max_items)
+    × (sum_by cost (built_items rows session) ≤ room_of session.max_bytes)
+
+-- one item more would be too many, or cost too much
+abbrev pub IsFull : Session → List Item → List Item → Type 0
+IsFull session items [] = Unit {0}
+IsFull session items (next ∷ left) = (length items + 1 ≤ session.max_items) → room_of session.max_bytes < sum_by cost (items ++ next ∷ [])
+
+-- No longer row of candidates would do.
+abbrev pub BuiltItemsAreMost : Type 0
+BuiltItemsAreMost = (rows : Rows) (session : Session) → IsFull session (built_items rows session) (left_items rows session)

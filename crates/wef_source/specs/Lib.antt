@@ -1,0 +1,7 @@
+pub mod Answers
+pub mod Building
+pub mod Fits
+pub mod Laws
+pub mod Machine
+pub mod Sessions
+pub mod Wanted

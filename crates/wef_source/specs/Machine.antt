@@ -1,0 +1,88 @@
+-- A source as a machine: what it holds, and what each call makes of it.
+use Rattle.std.specs.Prelude.{◌≡◌, ℕ, ◌+◌, ◌*◌, ◌==◌, nat_le, Bool, true, false, List, [], ◌∷◌, length, is_some, is_none, Option, Some, None, if◌then◌else◌}
+use Rattle.wef_batch.specs.declared.items.Batch.{Batch}
+use Rattle.wef_bookmark.specs.Order.{Marks}
+use Rattle.wef_eventing.specs.declared.bodies.Offer.{Offer}
+use Rattle.wef_envelope.specs.declared.FaultName.{FaultName}
+use Rattle.wef_envelope.specs.declared.FaultName.TheVariants.{DestinationUnreachable}
+use Rattle.wef_keeper.specs.Rows.{Rows}
+use Rattle.wef_source_log.specs.Windows.{boot_of, started, written}
+use Rattle.wef_source.specs.Building.{built}
+use Rattle.wef_source.specs.Sessions.{acknowledged, is_named, sending, settled, waits_for, with_changed, with_offers, without}
+use Rattle.wef_source.specs.declared.messages.Delivery.{Delivery}
+use Rattle.wef_source.specs.declared.sessions.Outstanding.{Outstanding}
+use Rattle.wef_source.specs.declared.sessions.Session.{Session}
+
+-- A source: the rows of its log, how many ids it drew since it was started, the id of the last ask that wasn't
+-- answered, and its sessions.
+pub record End : Type 0 where
+  pub rows : Rows
+  pub drawn : ℕ
+  pub ask : Option ℕ
+  pub sessions : List Session
+
+-- a source that was just started
+abbrev pub start_of : ℕ → End
+start_of capacity = record { rows = started capacity; drawn = 0; ask = None; sessions = [] }
+
+-- the greatest number of ids that are drawn after one start
+abbrev pub most_drawn : ℕ
+most_drawn = 18446744073709551615
+
+-- whether all ids were drawn
+abbrev pub is_spent : End → Bool
+is_spent end = nat_le most_drawn end.drawn
+
+-- the id that a source draws next: its start number, and the count of the ids drawn since
+abbrev pub next_id : End → ℕ
+next_id end = boot_of end.rows * 18446744073709551616 + (end.drawn + 1)
+
+-- a source with one record more
+abbrev pub with_written : End → List ℕ → List ℕ → End
+with_written end c text = record end { rows = written end.rows c text }
+
+-- a source that asked for its subscriptions
+abbrev pub asked : End → End
+asked end = record end { drawn = end.drawn + 1; ask = Some (next_id end) }
+
+-- a source that took offers at a moment: its sessions are those of the offers
+abbrev pub adopted : End → List Offer → ℕ → End
+adopted end offers now = record end { ask = None; sessions = with_offers now [] offers }
+
+-- whether a session has nothing to send: a reply is outstanding, or there is no item
+abbrev pub is_idle : Rows → Session → Bool
+is_idle rows session = if is_some session.outstanding then true else length (built rows session).items == 0
+
+-- the delivery that a session sends next
+abbrev pub delivery_of : End → Session → Delivery
+delivery_of end session = record {
+  id = record { value = Some (next_id end); text = [] };
+  notify_to = session.notify_to;
+  identifier = session.identifier;
+  batch = built end.rows session;
+}
+
+-- a source whose session sent its delivery at a moment
+abbrev pub sent : End → Session → ℕ → End
+sent end session now = record end {
+  drawn = end.drawn + 1;
+  sessions = with_changed (is_named session.name) (sending (record { id = next_id end; to = (built end.rows session).to }) now) end.sessions;
+}
+
+-- a source whose delivery of an id was acknowledged
+abbrev pub acknowledged_in : End → ℕ → End
+acknowledged_in end id = record end { sessions = with_changed (waits_for id) acknowledged end.sessions }
+
+abbrev pub is_unreachable : FaultName → Bool
+is_unreachable DestinationUnreachable = true
+is_unreachable _ = false
+
+-- a source whose delivery of an id was refused: its session ends where the collector doesn't know it any more
+abbrev pub refused_in : End → ℕ → FaultName → End
+refused_in end id fault = record end {
+  sessions = if is_unreachable fault then without (waits_for id) end.sessions else with_changed (waits_for id) settled end.sessions;
+}
+
+-- a source whose session of a name waits for nothing any more
+abbrev pub lost_in : End → List ℕ → End
+lost_in end u = record end { sessions = with_changed (is_named u) settled end.sessions }

@@ -1,0 +1,48 @@
+//! Why a source refuses a call.
+
+use std::alloc::AllocError;
+use thiserror::Error;
+use wef_source_log::LogFault;
+
+/// Why a source refuses a call. It is as before after each refusal.
+#[derive(Clone, Copy, Debug, PartialEq, Eq, Error)]
+pub enum SourceFault {
+    #[error("no memory")]
+    NoMemory,
+    #[error("the channel has all numbers")]
+    Full,
+    #[error("the event is too long")]
+    TooLong,
+    #[error("nobody asked for it")]
+    NotAsked,
+    #[error("no such subscription")]
+    UnknownSubscription,
+    #[error("no message numbers are left")]
+    Spent,
+}
+
+impl From<AllocError> for SourceFault {
+    ghost use Rattle.std.specs.Prelude.{◌≡◌};
+    ghost use Rattle.wef_source.specs.declared.faults.SourceFault.TheVariants.{NoMemory};
+
+    ghost from_gives = { λ _ e. e ≡ NoMemory };
+
+    fn from(_error: AllocError) -> SourceFault {
+        SourceFault::NoMemory
+    }
+}
+
+impl From<LogFault> for SourceFault {
+    ghost use Rattle.std.specs.Prelude.{◌≡◌};
+    ghost use Rattle.wef_source.specs.Answers.{source_fault};
+
+    ghost from_gives = { λ fault e. e ≡ source_fault fault };
+
+    fn from(fault: LogFault) -> SourceFault {
+        match fault {
+            LogFault::NoMemory => SourceFault::NoMemory,
+            LogFault::Full => SourceFault::Full,
+            LogFault::TooLong => SourceFault::TooLong,
+        }
+    }
+}

@@ -1,0 +1,14 @@
+//! The source end: a log, and the sessions in which its events are sent.
+#![tactic(auto)]
+
+pub mod building;
+pub mod faults;
+pub mod laws;
+pub mod messages;
+pub mod sessions;
+pub mod source;
+
+pub use faults::SourceFault;
+pub use messages::{Delivery, Moved, Poll, Reply};
+pub use sessions::{Outstanding, Session};
+pub use source::SourceEnd;

@@ -1,0 +1,35 @@
+//! Sessions: what a source remembers of each subscription that it serves.
+
+use wef_base::{SubId, Text};
+use wef_bookmark::Bookmark;
+use wef_query::QueryList;
+
+/// A delivery that wasn't answered yet.
+#[derive(Debug, Drop)]
+pub struct Outstanding {
+    /// The value of its id.
+    pub id: u128,
+    /// How far its batch reads each channel above the session's position.
+    pub to: Bookmark,
+}
+
+/// A subscription that a source serves.
+#[derive(Debug, Drop)]
+pub struct Session {
+    pub name: SubId,
+    /// Where its batches go.
+    pub notify_to: Text,
+    pub identifier: Option<Text>,
+    pub query: QueryList,
+    /// The greatest number of items of a batch.
+    pub max_items: u32,
+    /// The greatest number of bytes of a batch.
+    pub max_bytes: u32,
+    /// How long the source may be silent, in milliseconds.
+    pub heartbeat: u64,
+    /// How far each channel of the query was acknowledged; each of them has an entry.
+    pub positions: Bookmark,
+    pub outstanding: Option<Outstanding>,
+    /// When the last message of the session was sent.
+    pub last_sent: u64,
+}

@@ -1,0 +1,4 @@
+pub mod Answers
+pub mod Histories
+pub mod Keys
+pub mod Windows

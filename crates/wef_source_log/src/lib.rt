@@ -1,0 +1,10 @@
+//! The log of a source: each channel's records, numbered 1, 2, 3 and so on, of which the last ones
+//! are kept.
+#![tactic(auto)]
+
+pub mod faults;
+pub mod keys;
+pub mod logs;
+
+pub use faults::LogFault;
+pub use logs::Log;
