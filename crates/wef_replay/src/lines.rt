@@ -2,6 +2,7 @@
 
 use wef_base::{ChannelName, SourceName, SubId};
 use wef_batch::Batch;
+use wef_event::PlainEvent;
 use wef_query::QueryList;
 
 /// What one line of a schedule does. An empty line and a comment do nothing, and are no line here.
@@ -26,6 +27,45 @@ pub enum Line {
         sub: SubId,
         source: SourceName,
         batch: Batch,
+    },
+
+    /// Declares a source, whose log keeps so many records a channel.
+    Source {
+        source: SourceName,
+        capacity: u64,
+    },
+
+    /// Writes an event into a source's log.
+    Write {
+        source: SourceName,
+        event: PlainEvent,
+    },
+
+    /// Lets a source ask the collector for its subscriptions.
+    Ask {
+        source: SourceName,
+    },
+
+    /// Lets a source send what its session of a subscription has to send.
+    Poll {
+        source: SourceName,
+        sub: SubId,
+    },
+
+    /// Delivers a message, by its number.
+    Deliver {
+        number: u64,
+    },
+
+    /// Delivers the message that so many messages, counted round, came behind.
+    Back {
+        number: u64,
+    },
+
+    /// Lets a source give up waiting for the answer to a session's delivery.
+    Lost {
+        source: SourceName,
+        sub: SubId,
     },
 
     /// Prints the report.

@@ -26,3 +26,35 @@ event_line event = codes "event " ++ decimal event.number ++ 32 ∷ event.text +
 -- events, and at last `end`
 unfoldable pub events_text : List Event → List ℕ
 events_text events = flat_map event_line events ++ codes "end" ++ 10 ∷ []
+
+-- a word and the names of a source and a subscription
+unfoldable pub pair_line : List ℕ → List ℕ → List ℕ → List ℕ
+pair_line word s u = word ++ 32 ∷ printed s ++ 32 ∷ printed u ++ 10 ∷ []
+
+-- `wrote S C N`
+unfoldable pub wrote_line : List ℕ → List ℕ → ℕ → List ℕ
+wrote_line s c n = codes "wrote " ++ printed s ++ 32 ∷ printed c ++ 32 ∷ decimal n ++ 10 ∷ []
+
+-- `sent K ask S`
+unfoldable pub sent_ask_line : ℕ → List ℕ → List ℕ
+sent_ask_line k s = codes "sent " ++ decimal k ++ codes " ask " ++ printed s ++ 10 ∷ []
+
+-- `sent K events S U`
+unfoldable pub sent_events_line : ℕ → List ℕ → List ℕ → List ℕ
+sent_events_line k s u = codes "sent " ++ decimal k ++ codes " events " ++ printed s ++ 32 ∷ printed u ++ 10 ∷ []
+
+-- `took K WORD`
+unfoldable pub took_line : ℕ → List ℕ → List ℕ
+took_line k word = codes "took " ++ decimal k ++ 32 ∷ word ++ 10 ∷ []
+
+-- `took K WORD sent J`, where the answer is message J
+unfoldable pub answered_line : ℕ → List ℕ → ℕ → List ℕ
+answered_line k word j = codes "took " ++ decimal k ++ 32 ∷ word ++ codes " sent " ++ decimal j ++ 10 ∷ []
+
+-- `no message K`
+unfoldable pub no_message_line : ℕ → List ℕ
+no_message_line k = codes "no message " ++ decimal k ++ 10 ∷ []
+
+-- `adopted N`
+unfoldable pub adopted_word : ℕ → List ℕ
+adopted_word n = codes "adopted " ++ decimal n

@@ -1,6 +1,5 @@
 -- What a schedule does: a step for each line, from a world in which nothing has happened, and what the line prints before it.
-use Rattle.std.specs.Prelude.{ℕ, List, [], ◌∷◌, ◌++◌, if◌then◌else◌, codes}
-use Rattle.std.specs.FinMap as map
+use Rattle.std.specs.Prelude.{◌≡◌, ℕ, Bool, true, List, [], ◌∷◌, ◌++◌, if◌then◌else◌, codes}
 use Rattle.wef_batch.specs.declared.items.Batch as batch
 use Rattle.wef_batch.specs.WellFormed.{is_well_formed}
 use Rattle.wef_collector.specs.Answers.{is_there, added_rows, ended_rows, channels_read}
@@ -14,15 +13,14 @@ use Rattle.wef_envelope.specs.declared.FaultName.TheVariants.{InvalidMessage, De
 use Rattle.wef_eventing.specs.declared.subscriptions.Subscription.{Subscription}
 use Rattle.wef_eventing.specs.declared.subscriptions.SubKind.TheVariants.{BySource}
 use Rattle.wef_keeper.specs.Rows.{Rows}
-use Rattle.wef_query.specs.Order.{with_name}
 use Rattle.wef_query.specs.declared.QueryList.{QueryList}
+use Rattle.wef_replay.specs.Good.{is_good_after}
 use Rattle.wef_replay.specs.declared.lines.Line.{Line}
-use Rattle.wef_replay.specs.declared.lines.Line.TheVariants.{Subscribe, End, Batch, Show, Print}
+use Rattle.wef_replay.specs.declared.lines.Line.TheVariants.{Subscribe, End, Batch, Source, Write, Ask, Poll, Deliver, Back, Lost, Show, Print}
+use Rattle.wef_world.specs.Deliveries.{deliver_printed, deliver_step, number_back}
 use Rattle.wef_world.specs.Printed.{name_line, batch_text, fault_answer, events_text}
-
--- the moment of every line
-abbrev pub moment : ℕ
-moment = 0
+use Rattle.wef_world.specs.Sources.{ask_printed, ask_step, declared_slot, lost_printed, lost_step, poll_printed, poll_step, write_printed, write_step}
+use Rattle.wef_world.specs.States.{State, moment, names_of, start, with_foreign, with_rows, with_slot}
 
 -- the subscription that a line `subscribe` makes: sources begin it, it has version 1 and expires after an hour
 abbrev pub subscription_of : List ℕ → ℕ → ℕ → ℕ → QueryList → Subscription
@@ -73,43 +71,35 @@ print_text rows u s c is.Unknown = name_line (codes "unknown") u
 print_text rows u s c (is.Ended old) = events_text (held_after rows u s c 0)
 print_text rows u s c (is.Live about) = events_text (held_after rows u s c 0)
 
--- What a world holds: the rows of the collector, and the names of the sources that `batch` lines gave, each once, in
--- the order of their bytes.
-pub record State : Type 0 where
-  pub rows : Rows
-  pub foreign : List (List ℕ)
-
--- the state of a world in which nothing has happened
-abbrev pub start : State
-start = record { rows = map.empty; foreign = [] }
-
--- a state with other rows
-abbrev pub with_rows : State → Rows → State
-with_rows state rows = record { rows = rows; foreign = state.foreign }
-
--- a state with the name of one more foreign source
-abbrev pub with_foreign : State → List ℕ → State
-with_foreign state s = record { rows = state.rows; foreign = with_name state.foreign s }
-
 -- the state after a line
 abbrev pub step : Line → State → State
 step (Subscribe u items bytes beat query) state = with_rows state (subscribed state.rows (subscription_of u items bytes beat query))
 step (End u) state = with_rows state (ended state.rows u (standing state.rows u))
 step (Batch u s b) state = with_rows (with_foreign state s) (delivered state.rows u s b (standing state.rows u))
+step (Source s capacity) state = with_slot state s (declared_slot capacity)
+step (Write s event) state = write_step state s event
+step (Ask s) state = ask_step state s
+step (Poll s u) state = poll_step state s u
+step (Deliver k) state = deliver_step state k
+step (Back n) state = deliver_step state (number_back state n)
+step (Lost s u) state = lost_step state s u
 step Show state = state
 step (Print u s c) state = state
 
--- what a line prints, by the rows before it
-abbrev pub printed_of : Line → Rows → List ℕ
-printed_of (Subscribe u items bytes beat query) rows = subscribe_text rows u
-printed_of (End u) rows = end_text u (standing rows u)
-printed_of (Batch u s b) rows = batch_text u s (answer b (standing rows u))
-printed_of Show rows = report rows
-printed_of (Print u s c) rows = print_text rows u s c (standing rows u)
-
 -- what a line prints, by the state before it
 abbrev pub printed_by : Line → State → List ℕ
-printed_by line state = printed_of line state.rows
+printed_by (Subscribe u items bytes beat query) state = subscribe_text state.rows u
+printed_by (End u) state = end_text u (standing state.rows u)
+printed_by (Batch u s b) state = batch_text u s (answer b (standing state.rows u))
+printed_by (Source s capacity) state = []
+printed_by (Write s event) state = write_printed state s event
+printed_by (Ask s) state = ask_printed state s
+printed_by (Poll s u) state = poll_printed state s u
+printed_by (Deliver k) state = deliver_printed state k
+printed_by (Back n) state = deliver_printed state (number_back state n)
+printed_by (Lost s u) state = lost_printed state s u
+printed_by Show state = report state.rows
+printed_by (Print u s c) state = print_text state.rows u s c (standing state.rows u)
 
 -- the state before each line, and the one after the last
 abbrev pub states_from : State → List Line → List State
@@ -127,3 +117,12 @@ states lines = states_from start lines
 
 unfoldable pub trail : List Line → List ℕ
 trail lines = trail_from start lines
+
+-- whether a world admits a line: it is good after the lines done
+abbrev pub admits : State → Line → Bool
+admits state line = is_good_after (names_of state) line
+
+-- Each line is admitted by the world that those before it leave.
+abbrev pub AreAdmitted : State → List Line → Type 0
+AreAdmitted state [] = Unit {0}
+AreAdmitted state (line ∷ lines) = (admits state line ≡ true) × AreAdmitted (step line state) lines

@@ -1,0 +1,54 @@
+//! All that a source ever wrote.
+
+ghost use Rattle.std.specs.Prelude.{◌≡◌, OnOk};
+ghost use Rattle.std.specs.FinMap as map;
+ghost use Rattle.wef_source_log.specs.Histories.{extended};
+
+use std::alloc::{AllocError, Global};
+use std::collections::BTreeMap;
+use std::marker::Model;
+use wef_base::{ChannelName, List, Text};
+
+/// The texts of all records that a source ever wrote, channel by channel, in the order of their
+/// numbers. The log keeps only the last of them.
+#[derive(Drop)]
+pub struct Histories {
+    alloc: Global,
+    records: BTreeMap<ChannelName, List<Text>>,
+}
+
+impl Model for Histories {
+    ghost use Rattle.std.specs.Prelude.{ℕ, List};
+    ghost use Rattle.std.specs.FinMap as map;
+    ghost use Rattle.std.specs.Coded.{coded_ℕ, coded_list};
+    ghost use Rattle.std.specs.Ordering.{nat_cmp};
+    ghost use Rattle.std.specs.Cmp.Lexicographic.{slice_cmp};
+    ghost use Rattle.std.specs.BTreeMap.{IsOrdered};
+
+    ghost Value = { map.FinMap (slice_cmp nat_cmp) (List (List ℕ)) };
+
+    ghost coded = { map.code (coded_list coded_ℕ) (coded_list (coded_list coded_ℕ)) };
+
+    ghost view = { λ h. map.from_entries h.records.entries };
+
+    ghost invariant = { λ h. IsOrdered (slice_cmp nat_cmp) h.records };
+}
+
+impl Histories {
+    /// Those of a source that wrote nothing. It takes no memory.
+    pub fn new(alloc: Global) -> Histories
+        ensures { result ≡ map.empty }
+    {
+        Histories {
+            alloc,
+            records: BTreeMap::new(alloc),
+        }
+    }
+
+    /// Appends a record to its channel's history.
+    pub fn append(&mut self, channel: &ChannelName, text: &Text) -> Result<(), AllocError>
+        ensures { OnOk result (self.new ≡ extended self.old channel.now text.now) }
+    {
+        todo!()
+    }
+}
