@@ -1,10 +1,11 @@
 //! What a message carries beside its body: its id, and the names of faults.
 #![tactic(auto)]
 
-ghost use Rattle.std.specs.Prelude.{◌≡◌, ◌+◌, ◌*◌};
+ghost use Rattle.std.specs.Prelude.{◌≡◌, ◌+◌, ◌*◌, IfOk};
 ghost use Rattle.wef_envelope.specs.Faults.{fault_text};
 ghost use Rattle.wef_envelope.specs.Ids.{ids_agree};
 
+use std::alloc::AllocError;
 use wef_base::Text;
 
 #[cfg(test)]
@@ -34,6 +35,16 @@ impl MessageId {
             (Some(value), Some(wanted)) => value == wanted,
             _ => false,
         }
+    }
+
+    /// A copy of the id, in memory of its own.
+    pub fn clone(&self) -> Result<MessageId, AllocError>
+        ensures { IfOk result (λ copy. copy ≡ self.now) }
+    {
+        Ok(MessageId {
+            value: self.value,
+            text: self.text.clone()?,
+        })
     }
 }
 
@@ -78,6 +89,34 @@ impl FaultName {
             FaultName::InvalidEnumerationContext => "InvalidEnumerationContext",
             FaultName::MustUnderstand => "MustUnderstand",
             FaultName::Other(text) => text.as_str(),
+        }
+    }
+
+    /// A copy of the name, in memory of its own.
+    pub fn clone(&self) -> Result<FaultName, AllocError>
+        ensures { IfOk result (λ copy. copy ≡ self.now) }
+    {
+        match self {
+            FaultName::DeliveryModeRequestedUnavailable => Ok(
+                FaultName::DeliveryModeRequestedUnavailable,
+            ),
+            FaultName::FilteringRequestedUnavailable => Ok(
+                FaultName::FilteringRequestedUnavailable,
+            ),
+            FaultName::InvalidExpirationTime => Ok(FaultName::InvalidExpirationTime),
+            FaultName::InvalidMessage => Ok(FaultName::InvalidMessage),
+            FaultName::UnableToRenew => Ok(FaultName::UnableToRenew),
+            FaultName::ActionNotSupported => Ok(FaultName::ActionNotSupported),
+            FaultName::DestinationUnreachable => Ok(FaultName::DestinationUnreachable),
+            FaultName::MessageInformationHeaderRequired => Ok(
+                FaultName::MessageInformationHeaderRequired,
+            ),
+            FaultName::InvalidBookmark => Ok(FaultName::InvalidBookmark),
+            FaultName::EncodingLimit => Ok(FaultName::EncodingLimit),
+            FaultName::InternalError => Ok(FaultName::InternalError),
+            FaultName::InvalidEnumerationContext => Ok(FaultName::InvalidEnumerationContext),
+            FaultName::MustUnderstand => Ok(FaultName::MustUnderstand),
+            FaultName::Other(text) => Ok(FaultName::Other(text.clone()?)),
         }
     }
 }

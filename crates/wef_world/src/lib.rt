@@ -1,9 +1,17 @@
 //! The ends that a schedule moves, and what its lines do to them and print.
 #![tactic(auto)]
 
-mod admitting;
+mod deliveries;
+pub mod faults;
+pub mod histories;
 pub mod laws;
+pub mod messages;
 mod printing;
+pub mod slots;
+mod source_lines;
+pub mod sources;
 mod world;
 
-pub use world::{World, WorldFault};
+pub use faults::WorldFault;
+pub use messages::Message;
+pub use world::World;

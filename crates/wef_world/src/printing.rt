@@ -16,15 +16,15 @@ use wef_event::Event;
 /// How many events are read at once.
 const PAGE: u32 = 256;
 
-/// A word and the name of a subscription.
+/// A word and a name.
 #[tactic(auto, unfolding(crate::specs::Printed::name_line))]
-pub fn name_line(word: &str, sub: &SubId) -> Result<Text, AllocError>
-    ensures { IfOk result (λ text. text ≡ spec.name_line word.now sub.now) }
+pub fn name_line(word: &str, name: &Text) -> Result<Text, AllocError>
+    ensures { IfOk result (λ text. text ≡ spec.name_line word.now name.now) }
 {
-    let mut text = Text::new(sub.as_text().alloc());
+    let mut text = Text::new(name.alloc());
     text.push_str(word)?;
     text.push_str(" ")?;
-    text.push_printed(sub.as_text())?;
+    text.push_printed(name)?;
     text.push_str("\n")?;
     Ok(text)
 }
@@ -47,11 +47,134 @@ pub fn batch_line(sub: &SubId, source: &SourceName, answer: &Text) -> Result<Tex
 
 /// A fault as the answer to a batch.
 #[tactic(auto, unfolding(crate::specs::Printed::fault_answer))]
-pub fn fault_answer(alloc: Global, name: FaultName) -> Result<Text, AllocError>
-    ensures { IfOk result (λ text. text ≡ spec.fault_answer name) }
+pub fn fault_answer(alloc: Global, name: &FaultName) -> Result<Text, AllocError>
+    ensures { IfOk result (λ text. text ≡ spec.fault_answer name.now) }
 {
     let mut text = Text::from_str(alloc, "fault ")?;
     text.push_str(name.as_str())?;
+    Ok(text)
+}
+
+/// A word and the names of a source and a subscription.
+#[tactic(auto, unfolding(crate::specs::Printed::pair_line))]
+pub fn pair_line(word: &str, first: &Text, second: &Text) -> Result<Text, AllocError>
+    ensures { IfOk result (λ text. text ≡ spec.pair_line word.now first.now second.now) }
+{
+    let mut text = Text::new(first.alloc());
+    text.push_str(word)?;
+    text.push_str(" ")?;
+    text.push_printed(first)?;
+    text.push_str(" ")?;
+    text.push_printed(second)?;
+    text.push_str("\n")?;
+    Ok(text)
+}
+
+/// A record that was written.
+#[tactic(auto, unfolding(crate::specs::Printed::wrote_line))]
+pub fn wrote_line(
+    source: &SourceName,
+    channel: &ChannelName,
+    number: u64,
+) -> Result<Text, AllocError>
+    ensures { IfOk result (λ text. text ≡ spec.wrote_line source.now channel.now number) }
+{
+    let mut text = Text::new(source.as_text().alloc());
+    text.push_str("wrote ")?;
+    text.push_printed(source.as_text())?;
+    text.push_str(" ")?;
+    text.push_printed(channel.as_text())?;
+    text.push_str(" ")?;
+    text.push_number(number)?;
+    text.push_str("\n")?;
+    Ok(text)
+}
+
+/// An ask that was sent.
+#[tactic(auto, unfolding(crate::specs::Printed::sent_ask_line))]
+pub fn sent_ask_line(number: u64, source: &SourceName) -> Result<Text, AllocError>
+    ensures { IfOk result (λ text. text ≡ spec.sent_ask_line number source.now) }
+{
+    let mut text = Text::new(source.as_text().alloc());
+    text.push_str("sent ")?;
+    text.push_number(number)?;
+    text.push_str(" ask ")?;
+    text.push_printed(source.as_text())?;
+    text.push_str("\n")?;
+    Ok(text)
+}
+
+/// A batch that was sent.
+#[tactic(auto, unfolding(crate::specs::Printed::sent_events_line))]
+pub fn sent_events_line(number: u64, source: &SourceName, sub: &SubId) -> Result<Text, AllocError>
+    ensures { IfOk result (λ text. text ≡ spec.sent_events_line number source.now sub.now) }
+{
+    let mut text = Text::new(source.as_text().alloc());
+    text.push_str("sent ")?;
+    text.push_number(number)?;
+    text.push_str(" events ")?;
+    text.push_printed(source.as_text())?;
+    text.push_str(" ")?;
+    text.push_printed(sub.as_text())?;
+    text.push_str("\n")?;
+    Ok(text)
+}
+
+/// A message that was taken, and the word for what became of it.
+#[tactic(auto, unfolding(crate::specs::Printed::took_line))]
+pub fn took_line(alloc: Global, number: u64, word: &str) -> Result<Text, AllocError>
+    ensures { IfOk result (λ text. text ≡ spec.took_line number word.now) }
+{
+    let mut text = Text::new(alloc);
+    text.push_str("took ")?;
+    text.push_number(number)?;
+    text.push_str(" ")?;
+    text.push_str(word)?;
+    text.push_str("\n")?;
+    Ok(text)
+}
+
+/// A message that was taken and answered.
+#[tactic(auto, unfolding(crate::specs::Printed::answered_line))]
+pub fn answered_line(
+    alloc: Global,
+    number: u64,
+    word: &str,
+    answer: u64,
+) -> Result<Text, AllocError>
+    ensures { IfOk result (λ text. text ≡ spec.answered_line number word.now answer) }
+{
+    let mut text = Text::new(alloc);
+    text.push_str("took ")?;
+    text.push_number(number)?;
+    text.push_str(" ")?;
+    text.push_str(word)?;
+    text.push_str(" sent ")?;
+    text.push_number(answer)?;
+    text.push_str("\n")?;
+    Ok(text)
+}
+
+/// A number that no message has.
+#[tactic(auto, unfolding(crate::specs::Printed::no_message_line))]
+pub fn no_message_line(alloc: Global, number: u64) -> Result<Text, AllocError>
+    ensures { IfOk result (λ text. text ≡ spec.no_message_line number) }
+{
+    let mut text = Text::new(alloc);
+    text.push_str("no message ")?;
+    text.push_number(number)?;
+    text.push_str("\n")?;
+    Ok(text)
+}
+
+/// How many sessions a source has by the offers that it took.
+#[tactic(auto, unfolding(crate::specs::Printed::adopted_word))]
+pub fn adopted_word(alloc: Global, number: u64) -> Result<Text, AllocError>
+    ensures { IfOk result (λ text. text ≡ spec.adopted_word number) }
+{
+    let mut text = Text::new(alloc);
+    text.push_str("adopted ")?;
+    text.push_number(number)?;
     Ok(text)
 }
 
