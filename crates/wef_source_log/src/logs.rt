@@ -61,14 +61,15 @@ impl Log {
     pub fn boot(&self) -> u64
         ensures { result ≡ windows.boot_of self.now }
     {
-        self.number_at(&boot_key(self.alloc))
+        number_at(&self.rows, &boot_key(self.alloc))
     }
 
     /// How many records of a channel are kept. It takes no memory.
     pub fn capacity(&self) -> u64
-        ensures { result ≡ windows.capacity_of self.now }
+        ensures value { result ≡ windows.capacity_of self.now }
+        ensures some { 1 ≤ result }
     {
-        self.number_at(&capacity_key(self.alloc))
+        number_at(&self.rows, &capacity_key(self.alloc))
     }
 
     /// Writes an event as the next record of its channel, and answers its number. Where the window
@@ -110,7 +111,7 @@ impl Log {
         ensures refusal { IfErr result answers.WantsMemory }
     {
         let key = last_key(channel)?;
-        Ok(self.number_at(&key))
+        Ok(number_at(&self.rows, &key))
     }
 
     /// The first `max` records of a channel's window above a number, by number. The rest are those
@@ -132,15 +133,6 @@ impl Log {
         Ok(events_of(channel, page)?)
     }
 
-    fn number_at(&self, key: &Key) -> u64
-        ensures { result ≡ windows.number_at self.now key.now }
-    {
-        match self.rows.get(key) {
-            Some(cell) => cell.value,
-            None => 0,
-        }
-    }
-
     /// Keeps a record as the last of its channel.
     fn keep(&mut self, record: Event) -> Result<(), AllocError>
         ensures ok { OnOk result (self.new ≡ applied (windows.write_changes (windows.capacity_of self.old) record.channel record.number record.text) self.old) }
@@ -148,6 +140,15 @@ impl Log {
     {
         let changes = changes_of(self.capacity(), record)?;
         self.rows.apply(changes)
+    }
+}
+
+fn number_at(rows: &Rows, key: &Key) -> u64
+    ensures { result ≡ windows.number_at rows.now key.now }
+{
+    match rows.get(key) {
+        Some(cell) => cell.value,
+        None => 0,
     }
 }
 
