@@ -4,6 +4,7 @@
 
 pub mod faults;
 pub mod keys;
+pub mod laws;
 pub mod logs;
 
 pub use faults::LogFault;
