@@ -9,6 +9,7 @@ use wef_base::{Bytes, List, MemSink, MemSource, Text};
 mod bad_lines;
 mod limits;
 mod reports;
+mod sources;
 
 /// What a run over memory left.
 #[derive(Drop)]
