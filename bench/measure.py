@@ -10,11 +10,15 @@ MOST_FACTOR, MOST_BYTES = 13.0, 2048
 TURNS = 5
 
 
-def schedule(events, sources, folder):
-    path = os.path.join(folder, f"{events}-{sources}")
-    script = os.path.join(os.path.dirname(os.path.abspath(__file__)), "schedules.py")
+# What each kind of schedule counts, the script that writes it, its numbers of sources, and whether its memory is bounded.
+KINDS = (("events", "schedules.py", (1, 50), True), ("lines", "lines.py", (10,), False))
+
+
+def schedule(script, size, sources, folder):
+    path = os.path.join(folder, f"{script}-{size}-{sources}")
+    script = os.path.join(os.path.dirname(os.path.abspath(__file__)), script)
     with open(path, "wb") as file:
-        subprocess.run([sys.executable, script, str(events), str(sources)], stdout=file, check=True)
+        subprocess.run([sys.executable, script, str(size), str(sources)], stdout=file, check=True)
     return path
 
 
@@ -28,23 +32,31 @@ def run(program, path):
     return usage.ru_utime + usage.ru_stime, usage.ru_maxrss * 1024
 
 
+def meets(program, what, script, sources, bounded, folder):
+    """Measures one kind of schedule with so many sources. Answers whether it meets its bounds."""
+    times = {}
+    good = True
+    for size in (SMALL, GREAT):
+        path = schedule(script, size, sources, folder)
+        runs = [run(program, path) for _ in range(TURNS)]
+        times[size] = min(seconds for seconds, _ in runs)
+        memory = max(peak for _, peak in runs) / size
+        good = good and (memory <= MOST_BYTES or not bounded)
+        print(f"{size:>7} {what}, {sources:>2} sources: {size / times[size]:>9,.0f} {what} a second, {memory:>6,.0f} bytes for each")
+    factor = times[GREAT] / times[SMALL]
+    print(f"        from {SMALL:,} to {GREAT:,} {what}, {sources:>2} sources: {factor:.1f} times as long")
+    return good and factor <= MOST_FACTOR
+
+
 def main():
     program = sys.argv[1]
-    good = True
     with tempfile.TemporaryDirectory() as folder:
-        for sources in (1, 50):
-            times = {}
-            for events in (SMALL, GREAT):
-                path = schedule(events, sources, folder)
-                runs = [run(program, path) for _ in range(TURNS)]
-                times[events] = min(seconds for seconds, _ in runs)
-                memory = max(peak for _, peak in runs) / events
-                good = good and memory <= MOST_BYTES
-                print(f"{events:>7} events, {sources:>2} sources: {events / times[events]:>9,.0f} events a second, {memory:>6,.0f} bytes an event")
-            factor = times[GREAT] / times[SMALL]
-            good = good and factor <= MOST_FACTOR
-            print(f"        from {SMALL:,} to {GREAT:,} events, {sources:>2} sources: {factor:.1f} times as long")
-    if not good:
+        good = [
+            meets(program, what, script, sources, bounded, folder)
+            for what, script, counts, bounded in KINDS
+            for sources in counts
+        ]
+    if not all(good):
         sys.exit("a bound isn't met")
 
 
