@@ -17,6 +17,7 @@ few_digits n small = length-decimal-le_wide 39 n (lit< tt) (below_power n small)
   where
     below_power : (n : ℕ) → n < 2 ^ 128 → n < 10 ^ 39
     below_power n small = let big : 2 ^ 128 ≤ 10 ^ 39 = lit≤ tt in omega arith
+
     wide : (n : ℕ) → n < 2 ^ 128 → n < 10 ^ 64
     wide n small = let big : 2 ^ 128 ≤ 10 ^ 64 = lit≤ tt in omega arith
 

@@ -43,8 +43,9 @@ fn dropped_cost(channel: &ChannelName, first: u64, last: u64) -> u64
     ensures { result ≡ min (length (spec.written_dropped channel.now first last)) 18446744073709551615 }
 {
     let count = u128::from(last.saturating_sub(first)) + 1;
-    let numbers =
-        decimal_len(u128::from(first)) + decimal_len(u128::from(last)) + decimal_len(count);
+    let numbers = decimal_len(u128::from(first))
+        + decimal_len(u128::from(last))
+        + decimal_len(count);
     quoted_len(channel.as_text().as_str()).saturating_add(dropped_tags_len() + numbers)
 }
 
