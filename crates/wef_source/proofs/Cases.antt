@@ -58,7 +58,7 @@ le_refused m n e = grind (arith, nat_tests)
 pub eq_holds : (m n : ℕ) → (m == n) ≡ true → m ≡ n
 eq_holds m n e = grind (arith, nat_tests)
 
-pub eq_refused : (m n : ℕ) → m < n → (m == n) ≡ false
+pub eq_refused : (m n : ℕ) → (m < n) ⊎ (n < m) → (m == n) ≡ false
 eq_refused m n e = grind (arith, nat_tests)
 
 pub eq_itself : (n : ℕ) → (n == n) ≡ true

@@ -1,2 +1,4 @@
 pub mod Cases
 pub mod Fitting
+pub mod Items
+pub mod Cuts
