@@ -2,3 +2,4 @@ pub mod Cases
 pub mod Fitting
 pub mod Items
 pub mod Cuts
+pub mod Candidates
