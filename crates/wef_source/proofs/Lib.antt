@@ -3,3 +3,4 @@ pub mod Fitting
 pub mod Items
 pub mod Cuts
 pub mod Candidates
+pub mod Channels
