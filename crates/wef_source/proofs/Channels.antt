@@ -73,7 +73,7 @@ own_all : (c : List ℕ) (items : List Item) → AllOf c items → own c items �
 own_all c [] all = refl
 own_all c (item ∷ items) all = ap (λ t. cond t (item ∷ own c items) (own c items)) all.0 ∙ ap (λ rest. item ∷ rest) (own_all c items all.1)
 
-own_none : (d c : List ℕ) (items : List Item) → AllOf d items → same d c ≡ false → own c items ≡ []
+pub own_none : (d c : List ℕ) (items : List Item) → AllOf d items → same d c ≡ false → own c items ≡ []
 own_none d c [] all other = refl
 own_none d c (item ∷ items) all other = ap (λ t. cond t (item ∷ own c items) (own c items)) (of_another d c item all.0 other) ∙ own_none d c items all.1 other
 

@@ -4,3 +4,4 @@ pub mod Items
 pub mod Cuts
 pub mod Candidates
 pub mod Channels
+pub mod Reaches
