@@ -5,3 +5,4 @@ pub mod Cuts
 pub mod Candidates
 pub mod Channels
 pub mod Reaches
+pub mod Built

@@ -1,5 +1,4 @@
 use Rattle.wef_source.proofs.Fitting.{in_front, most}
-use Rattle.wef_source.proofs.Reaches as all
 use Rattle.wef_source.proofs.laws.built_items_are_the_longest_row.Goals as goal
 
 pub returns-clause-front : goal.returns-clause-front
