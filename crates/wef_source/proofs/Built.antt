@@ -1,21 +1,21 @@
 -- The batches that sources build fit.
-use Rattle.std.proofs.Common.{◌≡◌, ℕ, ◌+◌, ◌-◌, ◌<◌, ◌≤◌, Bool, true, false, ◌&&◌, cond, List, [], ◌∷◌, ◌++◌, length, max, refl, ap, sym, subst, ◌∙◌, Some, None, arith, nat_le}
+use Rattle.std.proofs.Common.{◌≡◌, ℕ, ◌≤◌, true, ◌&&◌, List, ◌++◌, length, refl, ap, sym, subst, ◌∙◌, Some, None, nat_le}
 use Rattle.std.specs.Prelude.{Option}
 use Rattle.std.specs.FinMap as map
-use Rattle.std.specs.List.{filter_map, flat_map, list_all}
-use Rattle.wef_batch.specs.Reach.{last_after, last_in, loose_sum, reach, reach_of}
-use Rattle.wef_batch.specs.WellFormed.{is_at_least, is_in, is_in_order, is_listed, is_well_formed, rises}
+use Rattle.std.specs.List.{filter_map}
+use Rattle.wef_batch.specs.Reach.{last_after, last_in, loose_sum, reach_of}
+use Rattle.wef_batch.specs.WellFormed.{is_at_least, is_in, is_in_order, is_well_formed, rises}
 use Rattle.wef_batch.specs.declared.items.Item.{Item}
-use Rattle.wef_bookmark.specs.Order.{IsAtMost, Marks, number_at}
+use Rattle.wef_bookmark.specs.Order.{number_at}
 use Rattle.wef_keeper.specs.Rows.{Rows}
 use Rattle.wef_query.proofs.Sorting.{is-in_order}
 use Rattle.wef_query.specs.Selected.{selects}
 use Rattle.wef_query.specs.declared.QueryList.{QueryList}
 use Rattle.wef_source_log.specs.Histories.{Histories, History, history}
-use Rattle.wef_source_log.specs.Laws.{ReadsWindow, WindowsRead, records_from}
-use Rattle.wef_source_log.specs.Windows.{IsWindow, first_for, last_of}
-use Rattle.wef_source.specs.Building.{built, built_items, built_to, channel_candidates, candidates, item_of, left_items, reaches, room_of, session_channels}
-use Rattle.wef_source.specs.Fits.{Fits, FitsChannel, FitsUpTo, event_at, ranges_in}
+use Rattle.wef_source_log.specs.Laws.{ReadsWindow, WindowsRead}
+use Rattle.wef_source_log.specs.Windows.{last_of}
+use Rattle.wef_source.specs.Building.{built, built_items, built_to, channel_candidates, candidates, item_of, left_items, room_of, session_channels}
+use Rattle.wef_source.specs.Fits.{FitsChannel, FitsUpTo}
 use Rattle.wef_source.specs.Laws.{AreWithin, BuiltBatchesFit}
 use Rattle.wef_source.specs.Wanted.{in_ranges, wanted}
 use Rattle.wef_source.specs.declared.sessions.Session.{Session}
@@ -24,7 +24,7 @@ use Rattle.wef_source.proofs.Cases.{and_true}
 use Rattle.wef_source.proofs.Channels.{AreApart, AreOwn, front_listed, front_not_loose, holds_of_all, in_order_apart, ordered_of, own-append, own_among}
 use Rattle.wef_source.proofs.Cuts.{Says, cut_fits}
 use Rattle.wef_source.proofs.Fitting.{parts}
-use Rattle.wef_source.proofs.Items.{EndBy, Ordered, ordered_front, own, own-event_at, own-last, own-ranges, own-rises, reached, rises_own}
+use Rattle.wef_source.proofs.Items.{Ordered, ordered_front, own, own-event_at, own-last, own-ranges, own-rises, reached, rises_own}
 use Rattle.wef_source.proofs.Reaches.{Stops, stops, stops_above, to_has_no_other, to_is}
 
 -- ---- one channel
@@ -150,6 +150,6 @@ built_fit read rows all capacity boot session b some window within up =
       no_loose = built_not_loose rows all capacity session of;
       others = λ c none. to_has_no_other rows session.positions (session_channels session) (left_items rows session) c none;
       channels = λ c here.
-        channel_fits session.query session.max_bytes c (history all c) capacity (number_at session.positions c) (number_at b c) (built_items rows session) (own c (left_items rows session)) (map.get (built_to rows session) c)
-        (own_say rows all capacity session c of here) (up c) (own_stops rows all capacity session c of here);
+          channel_fits session.query session.max_bytes c (history all c) capacity (number_at session.positions c) (number_at b c) (built_items rows session) (own c (left_items rows session)) (map.get (built_to rows session) c)
+          (own_say rows all capacity session c of here) (up c) (own_stops rows all capacity session c of here);
     }

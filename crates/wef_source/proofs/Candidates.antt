@@ -1,5 +1,5 @@
 -- The candidates of a channel say all that its history has above a position.
-use Rattle.std.proofs.Common.{◌≡◌, ℕ, zero, suc, ◌+◌, ◌-◌, ◌<◌, ◌≤◌, ◌==◌, Bool, true, false, not, ◌&&◌, ◌||◌, cond, List, [], ◌∷◌, ◌++◌, length, length-drop, drop, max, refl, ap, sym, subst, ◌∙◌, Some, None, inl, inr, arith, nat_lt, nat_le}
+use Rattle.std.proofs.Common.{◌≡◌, ℕ, zero, suc, ◌+◌, ◌-◌, ◌<◌, ◌≤◌, ◌==◌, Bool, true, false, ◌&&◌, ◌||◌, cond, List, [], ◌∷◌, ◌++◌, length, length-drop, drop, max, refl, ap, sym, subst, ◌∙◌, Some, None, inl, inr, arith, nat_lt, nat_le}
 use Rattle.std.specs.Prelude.{Option, slice_get}
 use Rattle.std.specs.List.{cons_option, filter_map}
 use Rattle.std.specs.Option.{option_and_then}
@@ -15,11 +15,11 @@ use Rattle.wef_source_log.specs.Histories.{History, text_at}
 use Rattle.wef_source_log.specs.Laws.{numbered_from, records_from}
 use Rattle.wef_source_log.specs.Windows.{first_for}
 use Rattle.wef_source.specs.Building.{first_number, is_of, item_of, room_of, sized_item}
-use Rattle.wef_source.specs.Fits.{event_at, is_event_at, ranges_in, text_of}
+use Rattle.wef_source.specs.Fits.{event_at, ranges_in}
 use Rattle.wef_source.specs.Wanted.{IsLost, in_ranges, is_too_large, selected_at, selected_text}
 use Rattle.wef_source.proofs.Cases.{apart, by_bool, by_test, eq_itself, eq_refused, le_fails, le_holds, lt_fails, lt_holds, le_refused, le_tested, same_itself, both_true, and_true}
 use Rattle.wef_source.proofs.Cuts.{Says, unless_dropped}
-use Rattle.wef_source.proofs.Items.{EndBy, Ordered, drops, end_number, in_ranges-with, no_event_below, no_range_below}
+use Rattle.wef_source.proofs.Items.{EndBy, Ordered, end_number, no_event_below, no_range_below}
 
 -- a record of a channel
 abbrev record_at : List ℕ → ℕ → List ℕ → records.Event
@@ -97,18 +97,18 @@ sized_exact room c n m [] up = refl
 sized_exact room c n m (text ∷ texts) up =
     by_test (λ t. nat_le m n ≡ t → event_at c m (sized_from room c n (text ∷ texts)) ≡ unless_dropped (in_ranges (ranges_in c (sized_from room c n (text ∷ texts))) m) (slice_get (text ∷ texts) (m - n))) (nat_le m n)
     (λ _ low.
-      let le = le_holds m n low in
-      let one : n ≡ m = omega arith in
-      let none : m - n ≡ 0 = omega arith in
-      let above = sized_ordered room c n (n + 1) texts (omega arith) in
-      subst (λ x. event_at c x (sized_from room c n (text ∷ texts)) ≡ unless_dropped (in_ranges (ranges_in c (sized_from room c n (text ∷ texts))) x) (slice_get (text ∷ texts) (m - n))) one
-      (sized_here room c n text (sized_from room c (n + 1) texts) (no_event_below c n n _ above (omega arith)) (no_range_below c n n _ above (omega arith))
-      ∙ ap (λ i. unless_dropped (in_ranges (ranges_in c (sized_from room c n (text ∷ texts))) n) (slice_get (text ∷ texts) i)) (sym none)))
+    let le = le_holds m n low in
+    let one : n ≡ m = omega arith in
+    let none : m - n ≡ 0 = omega arith in
+    let above = sized_ordered room c n (n + 1) texts (omega arith) in
+    subst (λ x. event_at c x (sized_from room c n (text ∷ texts)) ≡ unless_dropped (in_ranges (ranges_in c (sized_from room c n (text ∷ texts))) x) (slice_get (text ∷ texts) (m - n))) one
+    (sized_here room c n text (sized_from room c (n + 1) texts) (no_event_below c n n _ above (omega arith)) (no_range_below c n n _ above (omega arith))
+    ∙ ap (λ i. unless_dropped (in_ranges (ranges_in c (sized_from room c n (text ∷ texts))) n) (slice_get (text ∷ texts) i)) (sym none)))
     (λ _ high.
-      let more = le_fails m n high in
-      sized_event_apart room c n m text (sized_from room c (n + 1) texts) more
-      ∙ sized_exact room c (n + 1) m texts (omega arith)
-      ∙ (λ i. unless_dropped (sym (sized_range_apart room c n m text (sized_from room c (n + 1) texts) more) i) (slice_get (text ∷ texts) (sym (step_back m n more) i))))
+    let more = le_fails m n high in
+    sized_event_apart room c n m text (sized_from room c (n + 1) texts) more
+    ∙ sized_exact room c (n + 1) m texts (omega arith)
+    ∙ (λ i. unless_dropped (sym (sized_range_apart room c n m text (sized_from room c (n + 1) texts) more) i) (slice_get (text ∷ texts) (sym (step_back m n more) i))))
     refl
 
 -- an item that drops its own number is too large
@@ -126,24 +126,24 @@ sized_lost query room c n m [] dropped = apart dropped
 sized_lost query room c n m (text ∷ texts) dropped =
     by_test (λ t. nat_lt m n ≡ t → (n ≤ m) × (is_too_large query room c m (slice_get (text ∷ texts) (m - n)) ≡ true)) (nat_lt m n)
     (λ _ below.
-      let low = lt_holds m n below in
-      apart (sym (no_range_below c m m (sized_from room c n (text ∷ texts)) (sized_ordered room c m n (text ∷ texts) low) (omega arith)) ∙ dropped))
+    let low = lt_holds m n below in
+    apart (sym (no_range_below c m m (sized_from room c n (text ∷ texts)) (sized_ordered room c m n (text ∷ texts) low) (omega arith)) ∙ dropped))
     (λ _ up.
-      let from = lt_fails m n up in
-      by_test (λ t. nat_le m n ≡ t → (n ≤ m) × (is_too_large query room c m (slice_get (text ∷ texts) (m - n)) ≡ true)) (nat_le m n)
-      (λ _ low.
-        let le = le_holds m n low in
-        let one : m ≡ n = omega arith in
-        let none : m - n ≡ 0 = omega arith in
-        let above = sized_ordered room c n (n + 1) texts (omega arith) in
-        let large = sized_large room c n text (sized_from room c (n + 1) texts) (no_range_below c n n _ above (omega arith))
-        (subst (λ x. in_ranges (ranges_in c (sized_from room c n (text ∷ texts))) x ≡ true) one dropped) in
-        (from, (λ i. is_too_large query room c (one i) (slice_get (text ∷ texts) (none i))) ∙ large))
-      (λ _ high.
-        let more = le_fails m n high in
-        let rest = sized_lost query room c (n + 1) m texts (sym (sized_range_apart room c n m text (sized_from room c (n + 1) texts) more) ∙ dropped) in
-        (from, ap (λ i. is_too_large query room c m (slice_get (text ∷ texts) i)) (step_back m n more) ∙ rest.1))
-      refl)
+    let from = lt_fails m n up in
+    by_test (λ t. nat_le m n ≡ t → (n ≤ m) × (is_too_large query room c m (slice_get (text ∷ texts) (m - n)) ≡ true)) (nat_le m n)
+    (λ _ low.
+    let le = le_holds m n low in
+    let one : m ≡ n = omega arith in
+    let none : m - n ≡ 0 = omega arith in
+    let above = sized_ordered room c n (n + 1) texts (omega arith) in
+    let large = sized_large room c n text (sized_from room c (n + 1) texts) (no_range_below c n n _ above (omega arith))
+    (subst (λ x. in_ranges (ranges_in c (sized_from room c n (text ∷ texts))) x ≡ true) one dropped) in
+    (from, (λ i. is_too_large query room c (one i) (slice_get (text ∷ texts) (none i))) ∙ large))
+    (λ _ high.
+    let more = le_fails m n high in
+    let rest = sized_lost query room c (n + 1) m texts (sym (sized_range_apart room c n m text (sized_from room c (n + 1) texts) more) ∙ dropped) in
+    (from, ap (λ i. is_too_large query room c m (slice_get (text ∷ texts) i)) (step_back m n more) ∙ rest.1))
+    refl)
     refl
 
 -- ---- the records of a history from a number on
@@ -196,13 +196,13 @@ selected_says query max_bytes c records capacity m one within selected =
       ordered = sized_ordered room c (m - 1) m texts (omega arith);
       ends = sized_ends room c m (length records) texts (omega arith);
       exact = λ n over.
-        sized_exact room c m n texts (omega arith)
-        ∙ ap (unless_dropped (in_ranges (ranges_in c (sized_from room c m texts)) n)) (text_is records m n one (omega arith) ∙ sym (all_selected query c (text_at records n) selected));
+          sized_exact room c m n texts (omega arith)
+          ∙ ap (unless_dropped (in_ranges (ranges_in c (sized_from room c m texts)) n)) (text_is records m n one (omega arith) ∙ sym (all_selected query c (text_at records n) selected));
       lost = λ n dropped.
-        let large = sized_lost query room c m n texts dropped in
-        let from = large.0 in
-        let there = large_is_there query room c n (n - m) texts (slice_get texts (n - m)) refl large.1 in
-        (omega arith, omega arith, inr (ap (is_too_large query room c n) (sym (text_is records m n one from ∙ sym (all_selected query c (text_at records n) selected))) ∙ large.1));
+          let large = sized_lost query room c m n texts dropped in
+          let from = large.0 in
+          let there = large_is_there query room c n (n - m) texts (slice_get texts (n - m)) refl large.1 in
+          (omega arith, omega arith, inr (ap (is_too_large query room c n) (sym (text_is records m n one from ∙ sym (all_selected query c (text_at records n) selected))) ∙ large.1));
     }
 
 nothing_says : (query : QueryList) (max_bytes : ℕ) (c : List ℕ) (records : History) (capacity p : ℕ) → is_selected query.items c ≡ false → Says query max_bytes c records capacity p []
@@ -219,11 +219,11 @@ from_says : (query : QueryList) (max_bytes : ℕ) (c : List ℕ) (records : Hist
 from_says query max_bytes c records capacity m one within =
     by_test (λ t. is_selected query.items c ≡ t → Says query max_bytes c records capacity (m - 1) (items_from query (room_of max_bytes) c records m)) (is_selected query.items c)
     (λ _ selected.
-      subst (λ items. Says query max_bytes c records capacity (m - 1) items) (sym (all_sized query (room_of max_bytes) c m (drop (m - 1) records) selected))
-      (selected_says query max_bytes c records capacity m one within selected))
+    subst (λ items. Says query max_bytes c records capacity (m - 1) items) (sym (all_sized query (room_of max_bytes) c m (drop (m - 1) records) selected))
+    (selected_says query max_bytes c records capacity m one within selected))
     (λ _ other.
-      subst (λ items. Says query max_bytes c records capacity (m - 1) items) (sym (none_sized query (room_of max_bytes) c m (drop (m - 1) records) other))
-      (nothing_says query max_bytes c records capacity (m - 1) other))
+    subst (λ items. Says query max_bytes c records capacity (m - 1) items) (sym (none_sized query (room_of max_bytes) c m (drop (m - 1) records) other))
+    (nothing_says query max_bytes c records capacity (m - 1) other))
     refl
 
 -- ---- with the records that left the window unread
@@ -238,30 +238,30 @@ skipped_says : (query : QueryList) (max_bytes : ℕ) (c : List ℕ) (records : H
 skipped_says query max_bytes c records capacity p items gap says =
     let first = first_for capacity (length records) in
     let range_is : (n : ℕ) → in_ranges (ranges_in c (Dropped c (p + 1) (first - 1) ∷ items)) n ≡ ((nat_le (p + 1) n && nat_le n (first - 1)) || in_ranges (ranges_in c items) n) =
-      λ n. ap (λ t. in_ranges (cond t ((p + 1, first - 1) ∷ ranges_in c items) (ranges_in c items)) n) (same_itself c) in
+    λ n. ap (λ t. in_ranges (cond t ((p + 1, first - 1) ∷ ranges_in c items) (ranges_in c items)) n) (same_itself c) in
     record {
       ordered = (same_itself c, omega arith, omega arith, says.ordered);
       ends = (omega arith, says.ends);
       exact = λ n over.
-        by_test (λ t. nat_le n (first - 1) ≡ t → event_at c n items ≡ unless_dropped (in_ranges (ranges_in c (Dropped c (p + 1) (first - 1) ∷ items)) n) (selected_at query c records n)) (nat_le n (first - 1))
-        (λ _ low.
+          by_test (λ t. nat_le n (first - 1) ≡ t → event_at c n items ≡ unless_dropped (in_ranges (ranges_in c (Dropped c (p + 1) (first - 1) ∷ items)) n) (selected_at query c records n)) (nat_le n (first - 1))
+          (λ _ low.
           let le = le_holds n (first - 1) low in
           no_event_below c (first - 1) n items says.ordered le
           ∙ sym (ap (λ t. unless_dropped t (selected_at query c records n)) (range_is n ∙ (λ i. ((le_tested (p + 1) n (omega arith)) i && low i) || in_ranges (ranges_in c items) n))))
-        (λ _ high.
+          (λ _ high.
           let more = le_fails n (first - 1) high in
           says.exact n more
           ∙ sym (ap (λ t. unless_dropped t (selected_at query c records n)) (range_is n ∙ (λ i. ((le_tested (p + 1) n (omega arith)) i && high i) || in_ranges (ranges_in c items) n))))
-        refl;
+          refl;
       lost = λ n dropped.
-        by_test (λ t. (nat_le (p + 1) n && nat_le n (first - 1)) ≡ t → (t || in_ranges (ranges_in c items) n) ≡ true → IsLost query max_bytes c records capacity n) (nat_le (p + 1) n && nat_le n (first - 1))
-        (λ within _ _.
+          by_test (λ t. (nat_le (p + 1) n && nat_le n (first - 1)) ≡ t → (t || in_ranges (ranges_in c items) n) ≡ true → IsLost query max_bytes c records capacity n) (nat_le (p + 1) n && nat_le n (first - 1))
+          (λ within _ _.
           let range = both_true (nat_le (p + 1) n) (nat_le n (first - 1)) within in
           let low = le_holds (p + 1) n range.0 in
           let high = le_holds n (first - 1) range.1 in
           (omega arith, omega arith, inl (omega arith)))
-        (λ _ _ there. says.lost n there)
-        refl (sym (range_is n) ∙ dropped);
+          (λ _ _ there. says.lost n there)
+          refl (sym (range_is n) ∙ dropped);
     }
 
 -- A channel's candidates say all that its history has above a position within it.
@@ -273,12 +273,12 @@ channel_says query max_bytes c records capacity p within =
     let says = from_says query max_bytes c records capacity m (omega arith) (omega arith) in
     by_test (λ t. nat_lt (p + 1) first ≡ t → Says query max_bytes c records capacity p (cond t (Dropped c (p + 1) (first - 1) ∷ []) [] ++ items_from query (room_of max_bytes) c records m)) (nat_lt (p + 1) first)
     (λ _ gap.
-      let more = lt_holds (p + 1) first gap in
-      let is : m ≡ first = omega arith in
-      skipped_says query max_bytes c records capacity p (items_from query (room_of max_bytes) c records m) more
-      (subst (λ x. Says query max_bytes c records capacity (x - 1) (items_from query (room_of max_bytes) c records m)) is says))
+    let more = lt_holds (p + 1) first gap in
+    let is : m ≡ first = omega arith in
+    skipped_says query max_bytes c records capacity p (items_from query (room_of max_bytes) c records m) more
+    (subst (λ x. Says query max_bytes c records capacity (x - 1) (items_from query (room_of max_bytes) c records m)) is says))
     (λ _ none.
-      let le = lt_fails (p + 1) first none in
-      let is : m - 1 ≡ p = omega arith in
-      subst (λ x. Says query max_bytes c records capacity x (items_from query (room_of max_bytes) c records m)) is says)
+    let le = lt_fails (p + 1) first none in
+    let is : m - 1 ≡ p = omega arith in
+    subst (λ x. Says query max_bytes c records capacity x (items_from query (room_of max_bytes) c records m)) is says)
     refl

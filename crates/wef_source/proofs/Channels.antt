@@ -1,12 +1,11 @@
 -- Items of several channels, one channel after the other, and how far each is read where some of them are left.
-use Rattle.std.proofs.Common.{◌≡◌, ℕ, ◌+◌, ◌-◌, ◌<◌, ◌≤◌, Bool, true, false, ◌&&◌, ◌||◌, cond, List, [], ◌∷◌, ◌++◌, length, refl, ap, sym, subst, ◌∙◌, Some, None, ◌⊎◌, inl, inr, ⊎_elim, arith, nat_lt}
-use Rattle.std.specs.Prelude.{Option, T}
+use Rattle.std.proofs.Common.{◌≡◌, ℕ, ◌+◌, Bool, true, false, ◌||◌, cond, List, [], ◌∷◌, ◌++◌, refl, ap, sym, subst, ◌∙◌, arith}
 use Rattle.std.specs.Cmp.{tied_itself}
 use Rattle.std.specs.Cmp.Lexicographic.{nat_list_cmp_total, slice_cmp}
-use Rattle.std.specs.List.{AllByRecursion, filter, flat_map, list_all}
+use Rattle.std.specs.List.{AllByRecursion, flat_map, list_all}
 use Rattle.std.specs.List.Sorted.{IsStrictlySortedBy}
 use Rattle.std.specs.Ordering.{nat_cmp}
-use Rattle.std.specs.declared.cmp.Ordering.TheVariants.{Less, Equal}
+use Rattle.std.specs.declared.cmp.Ordering.TheVariants.{Less}
 use Rattle.std.proofs.lemmas.List.{append-nil}
 use Rattle.std.proofs.lemmas.List.Elements.{filter-append}
 use Rattle.std.proofs.lemmas.List.Folds.{list_all-append}
@@ -17,7 +16,7 @@ use Rattle.wef_batch.specs.declared.items.Item.{Item}
 use Rattle.wef_batch.specs.declared.items.Item.TheVariants.{Event, Dropped, Loose}
 use Rattle.wef_query.specs.Order.{IsInOrder}
 use Rattle.wef_source.specs.Building.{is_of}
-use Rattle.wef_source.proofs.Cases.{and_true, apart, both_true, by_test, either_false, one_name, same_itself, same_two}
+use Rattle.wef_source.proofs.Cases.{and_true, apart, both_true, by_test, either_false, one_name, same_itself}
 use Rattle.wef_source.proofs.Items.{Ordered, end_number, own}
 
 -- ---- channels, each once
@@ -98,9 +97,9 @@ own_among g (d ∷ cs) c all once here =
     own-append c (g d) (flat_map g cs)
     ∙ by_test (λ t. same d c ≡ t → (t || is_in cs c) ≡ true → own c (g d) ++ own c (flat_map g cs) ≡ g c) (same d c)
     (λ _ is _.
-      let one = one_name d c is in
-      let none = own_elsewhere g cs c all (subst (λ (x : List ℕ). is_in cs x ≡ false) one once.0) in
-      (λ i. (ap (λ x. own c (g x)) one ∙ own_all c (g c) (all c)) i ++ none i) ∙ append-nil (g c))
+    let one = one_name d c is in
+    let none = own_elsewhere g cs c all (subst (λ (x : List ℕ). is_in cs x ≡ false) one once.0) in
+    (λ i. (ap (λ x. own c (g x)) one ∙ own_all c (g c) (all c)) i ++ none i) ∙ append-nil (g c))
     (λ _ other later. ap (λ front. front ++ own c (flat_map g cs)) (own_none d c (g d) (all d) other) ∙ own_among g cs c all once.1 later)
     refl here
 

@@ -1,13 +1,13 @@
 -- A front part of what is to be said of a channel fits up to where it goes.
-use Rattle.std.proofs.Common.{◌≡◌, ℕ, ◌<◌, ◌≤◌, Bool, true, false, not, ◌&&◌, ◌||◌, cond, List, [], ◌∷◌, ◌++◌, length, refl, ap, sym, ◌∙◌, Some, None, arith, nat_le}
+use Rattle.std.proofs.Common.{◌≡◌, ℕ, ◌<◌, ◌≤◌, Bool, true, false, not, ◌&&◌, ◌||◌, cond, List, ◌++◌, length, refl, ap, sym, ◌∙◌, None, arith, nat_le}
 use Rattle.std.specs.Prelude.{Option}
 use Rattle.wef_batch.specs.declared.items.Item.{Item}
 use Rattle.wef_query.specs.declared.QueryList.{QueryList}
 use Rattle.wef_source_log.specs.Histories.{History}
 use Rattle.wef_source.specs.Fits.{FitsUpTo, event_at, ranges_in}
-use Rattle.wef_source.specs.Wanted.{IsLost, in_ranges, selected_at, wanted}
+use Rattle.wef_source.specs.Wanted.{IsLost, in_ranges, selected_at}
 use Rattle.wef_source.proofs.Cases.{by_test, le_fails, le_holds}
-use Rattle.wef_source.proofs.Items.{EndBy, Ordered, event_in_front, in_ranges-append, no_event_above, no_event_below, no_range_below, ordered_front}
+use Rattle.wef_source.proofs.Items.{EndBy, Ordered, event_in_front, in_ranges-append, no_event_above, no_event_below, no_range_below}
 
 -- what items have of a number that a query selects, but for ranges
 abbrev pub unless_dropped : Bool → Option (List ℕ) → Option (List ℕ)
@@ -39,14 +39,14 @@ pub cut_fits : (query : QueryList) (max_bytes : ℕ) (c : List ℕ) (records : H
 cut_fits query max_bytes c records capacity p b t front back says ends above within up = record {
   within = within;
   exact = λ n over.
-    by_test (λ x. nat_le n t ≡ x → event_at c n front ≡ cond (x && not (in_ranges (ranges_in c front) n)) (selected_at query c records n) None) (nat_le n t)
-    (λ _ here.
+      by_test (λ x. nat_le n t ≡ x → event_at c n front ≡ cond (x && not (in_ranges (ranges_in c front) n)) (selected_at query c records n) None) (nat_le n t)
+      (λ _ here.
       let reached = le_holds n t here in
       sym (event_in_front c n front back (no_event_below c t n back above reached))
       ∙ says.exact n (omega arith)
       ∙ ap (λ x. cond x None (selected_at query c records n)) (in_ranges-append c n front back ∙ or_none _ _ (no_range_below c t n back above reached))
       ∙ turned (in_ranges (ranges_in c front) n) (selected_at query c records n))
-    (λ _ past. no_event_above c t n front ends (le_fails n t past))
-    refl;
+      (λ _ past. no_event_above c t n front ends (le_fails n t past))
+      refl;
   lost = λ n dropped. says.lost n (in_ranges-append c n front back ∙ or_first _ _ dropped);
 }

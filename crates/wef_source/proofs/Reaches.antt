@@ -1,22 +1,21 @@
 -- How far each channel is read where some items are left, and what the bookmark of a batch has of it.
-use Rattle.std.proofs.Common.{◌≡◌, ℕ, ◌+◌, ◌-◌, ◌<◌, ◌≤◌, Bool, true, false, ◌&&◌, ◌||◌, cond, List, [], ◌∷◌, ◌++◌, length, max, refl, ap, sym, subst, ◌∙◌, Some, None, ◌⊎◌, inl, inr, ⊎_elim, arith, nat_lt}
+use Rattle.std.proofs.Common.{◌≡◌, ℕ, ◌-◌, ◌≤◌, true, false, ◌||◌, cond, List, [], ◌∷◌, ◌++◌, length, max, refl, ap, sym, subst, ◌∙◌, Some, None, ◌⊎◌, inl, inr, ⊎_elim, arith, nat_lt}
 use Rattle.std.specs.Prelude.{Option, unwrap_or}
 use Rattle.std.specs.Cmp.Lexicographic.{slice_cmp, texts_ties}
 use Rattle.std.specs.FinMap as map
 use Rattle.std.specs.List.{flat_map}
-use Rattle.std.specs.Ordering.{eq_by_cmp, nat_cmp}
+use Rattle.std.specs.Ordering.{nat_cmp}
 use Rattle.wef_base.specs.Names.{same}
 use Rattle.wef_batch.specs.WellFormed.{is_in}
 use Rattle.wef_batch.specs.declared.items.Item.{Item}
 use Rattle.wef_bookmark.proofs.Joining.{get-raised}
 use Rattle.wef_bookmark.specs.Order.{Marks, number_at, raised}
 use Rattle.wef_keeper.specs.Rows.{Rows}
-use Rattle.wef_source_log.specs.Histories.{History}
 use Rattle.wef_source_log.specs.Windows.{last_of}
 use Rattle.wef_source.specs.Building.{first_number, is_of, reaches, with_reach, with_reaches}
 use Rattle.wef_source.proofs.Cases.{apart, by_test, either_false, lt_fails, one_name, same_itself}
 use Rattle.wef_source.proofs.Channels.{AllOf, AreApart, AreOwn, own-append, own_elsewhere, own_none}
-use Rattle.wef_source.proofs.Items.{Divided, EndBy, Ordered, divided, end_back, end_front, nothing_between, ordered_front, own}
+use Rattle.wef_source.proofs.Items.{EndBy, Ordered, divided, end_back, end_front, nothing_between, own}
 
 -- ---- two ways to part a row
 
@@ -115,14 +114,14 @@ stops_here g c last p own_items ordered ends d cs front i is once parts mine of_
     by_test (λ t. same d c ≡ t → Stops c last (own c front) (own c (i ∷ is)) (cond t (Some (first_number i - 1)) None)) (same d c)
     (λ _ one. stops_before c last p (g c) (own c front) i (own c (i ∷ is)) (own c is) mine ordered ends (own_first c i is (subst (λ (x : List ℕ). is_of x i ≡ true) (one_name d c one) of_d)))
     (λ _ other.
-      ⊎_elim
-      (λ (h : InSecond (g d) (flat_map g cs) front i is).
-      let none : own d (i ∷ is) ≡ [] = nothing_behind (own d h.before) (own d (i ∷ is)) (sym (own-append d h.before (i ∷ is)) ∙ ap (own d) h.second_is ∙ own_elsewhere g cs d own_items once) in
-      let some : own d (i ∷ is) ≡ i ∷ own d is = own_first d i is of_d in
-      cc)
-      (λ (h : InFirst (g d) front i).
-      nothing_before (own c front) (own c (i ∷ h.after)) (sym (own-append c front (i ∷ h.after)) ∙ ap (own c) (sym h.first_is) ∙ own_none d c (g d) (own_items d) other))
-      (placed (g d) (flat_map g cs) front i is parts))
+    ⊎_elim
+    (λ (h : InSecond (g d) (flat_map g cs) front i is).
+    let none : own d (i ∷ is) ≡ [] = nothing_behind (own d h.before) (own d (i ∷ is)) (sym (own-append d h.before (i ∷ is)) ∙ ap (own d) h.second_is ∙ own_elsewhere g cs d own_items once) in
+    let some : own d (i ∷ is) ≡ i ∷ own d is = own_first d i is of_d in
+    cc)
+    (λ (h : InFirst (g d) front i).
+    nothing_before (own c front) (own c (i ∷ h.after)) (sym (own-append c front (i ∷ h.after)) ∙ ap (own c) (sym h.first_is) ∙ own_none d c (g d) (own_items d) other))
+    (placed (g d) (flat_map g cs) front i is parts))
     refl
 
 -- The items of a channel, where the first item left is of a channel behind the first one.
@@ -136,15 +135,15 @@ stops_later rows g c last own_items last_is ends d cs front i is once parts mine
     (λ (h : InSecond (g d) (flat_map g cs) front i is).
     by_test (λ t. same d c ≡ t → (t || is_in cs c) ≡ true → Stops c last (own c front) (own c (i ∷ is)) (cond t (Some (last_of rows d)) (reach_at c (reaches rows cs (i ∷ is))))) (same d c)
     (λ _ is_c _.
-      let one = one_name d c is_c in
-      let once_c = subst (λ (x : List ℕ). is_in cs x ≡ false) one once in
-      let none : own c (i ∷ is) ≡ [] = nothing_behind (own c h.before) (own c (i ∷ is)) (sym (own-append c h.before (i ∷ is)) ∙ ap (own c) h.second_is ∙ own_elsewhere g cs c own_items once_c) in
-      subst (Stops c last (own c front) (own c (i ∷ is))) (ap Some (last_is ∙ ap (last_of rows) (sym one)))
-      (stops_last c last (g c) (own c front) (own c (i ∷ is)) mine ends none))
+    let one = one_name d c is_c in
+    let once_c = subst (λ (x : List ℕ). is_in cs x ≡ false) one once in
+    let none : own c (i ∷ is) ≡ [] = nothing_behind (own c h.before) (own c (i ∷ is)) (sym (own-append c h.before (i ∷ is)) ∙ ap (own c) h.second_is ∙ own_elsewhere g cs c own_items once_c) in
+    subst (Stops c last (own c front) (own c (i ∷ is))) (ap Some (last_is ∙ ap (last_of rows) (sym one)))
+    (stops_last c last (g c) (own c front) (own c (i ∷ is)) mine ends none))
     (λ _ other later.
-      let same_own : own c front ≡ own c h.before = ap (own c) h.front_is ∙ own-append c (g d) h.before ∙ ap (λ xs. xs ++ own c h.before) (own_none d c (g d) (own_items d) other) in
-      subst (λ xs. Stops c last xs (own c (i ∷ is)) (reach_at c (reaches rows cs (i ∷ is)))) (sym same_own)
-      (goes_on h.before later h.second_is (ap (λ xs. xs ++ own c (i ∷ is)) (sym same_own) ∙ mine)))
+    let same_own : own c front ≡ own c h.before = ap (own c) h.front_is ∙ own-append c (g d) h.before ∙ ap (λ xs. xs ++ own c h.before) (own_none d c (g d) (own_items d) other) in
+    subst (λ xs. Stops c last xs (own c (i ∷ is)) (reach_at c (reaches rows cs (i ∷ is)))) (sym same_own)
+    (goes_on h.before later h.second_is (ap (λ xs. xs ++ own c (i ∷ is)) (sym same_own) ∙ mine)))
     refl here)
     (λ (h : InFirst (g d) front i).
     apart (sym of_other ∙ of_all d front i h.after (subst (AllOf d) h.first_is (own_items d))))
@@ -162,8 +161,8 @@ stops rows g c last p own_items last_is ordered ends (d ∷ cs) front (i ∷ is)
     by_test (λ t. is_of d i ≡ t → Stops c last (own c front) (own c (i ∷ is)) (reach_at c (cond t ((d, first_number i - 1) ∷ []) ((d, last_of rows d) ∷ reaches rows cs (i ∷ is))))) (is_of d i)
     (λ _ of_d. stops_here g c last p own_items ordered ends d cs front i is once.0 parts mine of_d)
     (λ _ of_other.
-      stops_later rows g c last own_items last_is ends d cs front i is once.0 parts mine of_other here
-      (λ before there rest mine_before. stops rows g c last p own_items last_is ordered ends cs before (i ∷ is) once.1 there rest mine_before))
+    stops_later rows g c last own_items last_is ends d cs front i is once.0 parts mine of_other here
+    (λ before there rest mine_before. stops rows g c last p own_items last_is ordered ends cs before (i ∷ is) once.1 there rest mine_before))
     refl
 
 -- ---- what the bookmark of a batch has

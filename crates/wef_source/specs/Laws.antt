@@ -1,12 +1,12 @@
 -- What is true of the batches that sources build.
-use Rattle.std.specs.Prelude.{◌≡◌, ℕ, ◌+◌, ◌<◌, ◌≤◌, true, List, [], ◌∷◌, ◌++◌, length, sum_by}
+use Rattle.std.specs.Prelude.{◌≡◌, ℕ, ◌+◌, ◌<◌, ◌≤◌, List, [], ◌∷◌, ◌++◌, length, sum_by}
 use Rattle.wef_batch.specs.Cost.{cost}
 use Rattle.wef_batch.specs.declared.items.Item.{Item}
 use Rattle.wef_bookmark.specs.Order.{IsAtMost, Marks, number_at}
 use Rattle.wef_keeper.specs.Rows.{Rows}
 use Rattle.wef_source_log.specs.Histories.{Histories, history}
 use Rattle.wef_source_log.specs.Windows.{IsWindow}
-use Rattle.wef_source.specs.Building.{built, built_items, candidates, left_items, room_of, session_channels}
+use Rattle.wef_source.specs.Building.{built, built_items, candidates, left_items, room_of}
 use Rattle.wef_source.specs.Fits.{Fits}
 use Rattle.wef_source.specs.declared.sessions.Session.{Session}
 
