@@ -19,7 +19,7 @@ use Rattle.wef_source.specs.Fits.{event_at, ranges_in}
 use Rattle.wef_source.specs.Wanted.{IsLost, in_ranges, is_too_large, selected_at, selected_text}
 use Rattle.wef_source.proofs.Cases.{apart, by_bool, by_test, eq_itself, eq_refused, le_fails, le_holds, lt_fails, lt_holds, le_refused, le_tested, same_itself, both_true, and_true}
 use Rattle.wef_source.proofs.Cuts.{Says, unless_dropped}
-use Rattle.wef_source.proofs.Items.{EndBy, Ordered, end_number, no_event_below, no_range_below}
+use Rattle.wef_source.proofs.Items.{ItemsEndBy, Ordered, end_number, no_event_below, no_range_below}
 
 -- a record of a channel
 abbrev record_at : List ℕ → ℕ → List ℕ → records.Event
@@ -54,7 +54,7 @@ sized_ordered room c k n (text ∷ texts) up =
     let end = sized_end room c n text in
     (sized_of room c n text, omega arith, omega arith, sized_ordered room c (end_number (sized room c n text)) (n + 1) texts (omega arith))
 
-sized_ends : (room : ℕ) (c : List ℕ) (n t : ℕ) (texts : List (List ℕ)) → n + length texts ≤ t + 1 → EndBy t (sized_from room c n texts)
+sized_ends : (room : ℕ) (c : List ℕ) (n t : ℕ) (texts : List (List ℕ)) → n + length texts ≤ t + 1 → ItemsEndBy t (sized_from room c n texts)
 sized_ends room c n t [] up = tt
 sized_ends room c n t (text ∷ texts) up = let end = sized_end room c n text in (omega arith, sized_ends room c (n + 1) t texts (omega arith))
 

@@ -16,7 +16,7 @@ use Rattle.wef_batch.specs.declared.items.Item.{Item}
 use Rattle.wef_batch.specs.declared.items.Item.TheVariants.{Event, Dropped, Loose}
 use Rattle.wef_query.specs.Order.{IsInOrder}
 use Rattle.wef_source.specs.Building.{is_of}
-use Rattle.wef_source.proofs.Cases.{and_true, apart, both_true, by_test, either_false, one_name, same_itself}
+use Rattle.wef_source.proofs.Cases.{and_true, apart, both_true, by_test, either_false, one_name, or_true, same_itself}
 use Rattle.wef_source.proofs.Items.{Ordered, end_number, own}
 
 -- ---- channels, each once
@@ -47,11 +47,7 @@ pub holds_of_all : (p : List ℕ → Bool) (cs : List (List ℕ)) → ((c : List
 holds_of_all p [] holds = refl
 holds_of_all p (d ∷ cs) holds =
     and_true (p d) (list_all p cs) (holds d (ap (λ t. t || is_in cs d) (same_itself d)))
-    (holds_of_all p cs (λ c there. holds c (behind (same d c) (is_in cs c) there)))
-  where
-    behind : (a b : Bool) → b ≡ true → (a || b) ≡ true
-    behind true b e = refl
-    behind false b e = e
+    (holds_of_all p cs (λ c there. holds c (or_true (same d c) (is_in cs c) there)))
 
 -- ---- items of one channel alone
 
@@ -120,11 +116,7 @@ listed_some g all [] own_items among = refl
 listed_some g all (d ∷ some) own_items among =
     list_all-append (is_listed all) (g d) (flat_map g some)
     ∙ and_true _ _ (listed_own all d (g d) (among d (ap (λ t. t || is_in some d) (same_itself d))) (own_items d))
-    (listed_some g all some own_items (λ c there. among c (behind (same d c) (is_in some c) there)))
-  where
-    behind : (a b : Bool) → b ≡ true → (a || b) ≡ true
-    behind true b e = refl
-    behind false b e = e
+    (listed_some g all some own_items (λ c there. among c (or_true (same d c) (is_in some c) there)))
 
 -- the first of all items are listed ones
 pub front_listed : (g : List ℕ → List Item) (cs : List (List ℕ)) (front back : List Item) → AreOwn g → front ++ back ≡ flat_map g cs → list_all (is_listed cs) front ≡ true

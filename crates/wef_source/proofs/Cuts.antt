@@ -7,7 +7,7 @@ use Rattle.wef_source_log.specs.Histories.{History}
 use Rattle.wef_source.specs.Fits.{FitsUpTo, event_at, ranges_in}
 use Rattle.wef_source.specs.Wanted.{IsLost, in_ranges, selected_at}
 use Rattle.wef_source.proofs.Cases.{by_test, le_fails, le_holds}
-use Rattle.wef_source.proofs.Items.{EndBy, Ordered, event_in_front, in_ranges-append, no_event_above, no_event_below, no_range_below}
+use Rattle.wef_source.proofs.Items.{ItemsEndBy, Ordered, event_in_front, in_ranges-append, no_event_above, no_event_below, no_range_below}
 
 -- what items have of a number that a query selects, but for ranges
 abbrev pub unless_dropped : Bool → Option (List ℕ) → Option (List ℕ)
@@ -16,7 +16,7 @@ unless_dropped dropped text = cond dropped None text
 -- Items say of a channel's history, above a position, all that a query selects, and drop only what is lost.
 pub record Says (query : QueryList) (max_bytes : ℕ) (c : List ℕ) (records : History) (capacity p : ℕ) (items : List Item) : Type 0 where
   pub ordered : Ordered c p items
-  pub ends : EndBy (length records) items
+  pub ends : ItemsEndBy (length records) items
   pub exact : (n : ℕ) → p < n → event_at c n items ≡ unless_dropped (in_ranges (ranges_in c items) n) (selected_at query c records n)
   pub lost : (n : ℕ) → in_ranges (ranges_in c items) n ≡ true → IsLost query max_bytes c records capacity n
 
@@ -34,7 +34,7 @@ or_none false b e = e
 
 -- items that a row begins with fit up to a number that they don't pass, and that the rest of the row is above
 pub cut_fits : (query : QueryList) (max_bytes : ℕ) (c : List ℕ) (records : History) (capacity p b t : ℕ) (front back : List Item)
-    → Says query max_bytes c records capacity p (front ++ back) → EndBy t front → Ordered c t back → t ≤ length records → p ≤ b
+    → Says query max_bytes c records capacity p (front ++ back) → ItemsEndBy t front → Ordered c t back → t ≤ length records → p ≤ b
     → FitsUpTo query max_bytes c records capacity b front t
 cut_fits query max_bytes c records capacity p b t front back says ends above within up = record {
   within = within;

@@ -75,9 +75,9 @@ Ordered c k [] = Unit {0}
 Ordered c k (item ∷ items) = (is_of c item ≡ true) × (k < first_number item) × (first_number item ≤ end_number item) × Ordered c (end_number item) items
 
 -- items that end at a number or before
-abbrev pub EndBy : ℕ → List Item → Type 0
-EndBy t [] = Unit {0}
-EndBy t (item ∷ items) = (end_number item ≤ t) × EndBy t items
+abbrev pub ItemsEndBy : ℕ → List Item → Type 0
+ItemsEndBy t [] = Unit {0}
+ItemsEndBy t (item ∷ items) = (end_number item ≤ t) × ItemsEndBy t items
 
 span_is : (c : List ℕ) (item : Item) → is_of c item ≡ true → span_in c item ≡ Some (first_number item, end_number item)
 span_is c (Event event) own = ap (λ t. cond t (Some (event.number, event.number)) None) own
@@ -103,7 +103,7 @@ ordered_rises c k previous (item ∷ items) up h =
 pub rises_own : (c : List ℕ) (k : ℕ) (items : List Item) → Ordered c k items → rises c None items ≡ true
 rises_own c k items h = ordered_rises c k None items tt h
 
-last_reached : (c : List ℕ) (k t : ℕ) (previous : Option ℕ) (items : List Item) → is_at_least (Some t) previous ≡ true → Ordered c k items → EndBy t items
+last_reached : (c : List ℕ) (k t : ℕ) (previous : Option ℕ) (items : List Item) → is_at_least (Some t) previous ≡ true → Ordered c k items → ItemsEndBy t items
     → is_at_least (Some t) (last_after c previous items) ≡ true
 last_reached c k t previous [] here h ends = here
 last_reached c k t previous (item ∷ items) here h ends =
@@ -111,7 +111,7 @@ last_reached c k t previous (item ∷ items) here h ends =
     (last_reached c (end_number item) t (Some (end_number item)) items (le_tested _ _ ends.0) h.3 ends.1)
 
 -- items that end by a number have no greater last number
-pub reached : (c : List ℕ) (k t : ℕ) (items : List Item) → Ordered c k items → EndBy t items → is_at_least (Some t) (last_after c None items) ≡ true
+pub reached : (c : List ℕ) (k t : ℕ) (items : List Item) → Ordered c k items → ItemsEndBy t items → is_at_least (Some t) (last_after c None items) ≡ true
 reached c k t items h ends = last_reached c k t None items refl h ends
 
 -- ---- numbers below and above those of the items
@@ -135,7 +135,7 @@ no_event_below c k n (item ∷ items) h below =
     ap (λ t. cond t (text_of item) (event_at c n items)) (event_apart c n item (omega arith)) ∙ no_event_below c (end_number item) n items h.3 (omega arith)
 
 -- and items that end by one have none above it
-pub no_event_above : (c : List ℕ) (t n : ℕ) (items : List Item) → EndBy t items → t < n → event_at c n items ≡ None
+pub no_event_above : (c : List ℕ) (t n : ℕ) (items : List Item) → ItemsEndBy t items → t < n → event_at c n items ≡ None
 no_event_above c t n [] ends over = refl
 no_event_above c t n (item ∷ items) ends over =
     let here = ends.0 in
@@ -197,7 +197,7 @@ ordered_front c k (item ∷ front) back h = (h.0, h.1, h.2, ordered_front c (end
 
 -- an item within a row: what is before it ends below it, and it is above the row's beginning
 pub record Divided (c : List ℕ) (k : ℕ) (front : List Item) (item : Item) (back : List Item) : Type 0 where
-  pub front_ends : EndBy (first_number item - 1) front
+  pub front_ends : ItemsEndBy (first_number item - 1) front
   pub back_begins : Ordered c (first_number item - 1) (item ∷ back)
   pub goes_up : k < first_number item
 
@@ -210,15 +210,15 @@ divided c k (first ∷ front) item back h =
     let above = rest.goes_up in
     record { front_ends = (omega arith, rest.front_ends); back_begins = rest.back_begins; goes_up = omega arith }
 
-pub end_front : (t : ℕ) (front back : List Item) → EndBy t (front ++ back) → EndBy t front
+pub end_front : (t : ℕ) (front back : List Item) → ItemsEndBy t (front ++ back) → ItemsEndBy t front
 end_front t [] back h = tt
 end_front t (item ∷ front) back h = (h.0, end_front t front back h.1)
 
-pub end_back : (t : ℕ) (front back : List Item) → EndBy t (front ++ back) → EndBy t back
+pub end_back : (t : ℕ) (front back : List Item) → ItemsEndBy t (front ++ back) → ItemsEndBy t back
 end_back t [] back h = h
 end_back t (item ∷ front) back h = end_back t front back h.1
 
 -- items above a number that end by it are none
-pub nothing_between : (c : List ℕ) (k t : ℕ) (items : List Item) → Ordered c k items → EndBy t items → t ≤ k → items ≡ []
+pub nothing_between : (c : List ℕ) (k t : ℕ) (items : List Item) → Ordered c k items → ItemsEndBy t items → t ≤ k → items ≡ []
 nothing_between c k t [] h ends le = refl
 nothing_between c k t (item ∷ items) h ends le = let a = h.1 in let b = h.2 in let d = ends.0 in absurd (omega arith)

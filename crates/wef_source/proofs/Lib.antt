@@ -6,3 +6,4 @@ pub mod Candidates
 pub mod Channels
 pub mod Reaches
 pub mod Built
+pub mod Sendable

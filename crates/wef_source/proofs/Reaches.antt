@@ -15,7 +15,7 @@ use Rattle.wef_source_log.specs.Windows.{last_of}
 use Rattle.wef_source.specs.Building.{first_number, is_of, reaches, with_reach, with_reaches}
 use Rattle.wef_source.proofs.Cases.{apart, by_test, either_false, lt_fails, one_name, same_itself}
 use Rattle.wef_source.proofs.Channels.{AllOf, AreApart, AreOwn, own-append, own_elsewhere, own_none}
-use Rattle.wef_source.proofs.Items.{EndBy, Ordered, divided, end_back, end_front, nothing_between, own}
+use Rattle.wef_source.proofs.Items.{ItemsEndBy, Ordered, divided, end_back, end_front, nothing_between, own}
 
 -- ---- two ways to part a row
 
@@ -85,20 +85,20 @@ all_read rows (d ∷ cs) c here =
 -- reach there is no item of the channel.
 abbrev pub Stops : List ℕ → ℕ → List Item → List Item → Option ℕ → Type 0
 Stops c length front back None = front ≡ []
-Stops c length front back (Some t) = EndBy t front × Ordered c t back × (t ≤ length)
+Stops c length front back (Some t) = ItemsEndBy t front × Ordered c t back × (t ≤ length)
 
 -- where none of a channel's items are left, they end by its last record
-stops_last : (c : List ℕ) (last : ℕ) (items front back : List Item) → front ++ back ≡ items → EndBy last items → back ≡ [] → Stops c last front back (Some last)
+stops_last : (c : List ℕ) (last : ℕ) (items front back : List Item) → front ++ back ≡ items → ItemsEndBy last items → back ≡ [] → Stops c last front back (Some last)
 stops_last c last items front back parts ends none =
-    (end_front last front back (subst (EndBy last) (sym parts) ends), subst (Ordered c last) (sym none) tt, omega arith)
+    (end_front last front back (subst (ItemsEndBy last) (sym parts) ends), subst (Ordered c last) (sym none) tt, omega arith)
 
 -- where an item is the first one left, they end below it
-stops_before : (c : List ℕ) (last p : ℕ) (items front : List Item) (i : Item) (back rest : List Item) → front ++ back ≡ items → Ordered c p items → EndBy last items → back ≡ i ∷ rest
+stops_before : (c : List ℕ) (last p : ℕ) (items front : List Item) (i : Item) (back rest : List Item) → front ++ back ≡ items → Ordered c p items → ItemsEndBy last items → back ≡ i ∷ rest
     → Stops c last front back (Some (first_number i - 1))
 stops_before c last p items front i back rest parts ordered ends is =
     let all = sym parts ∙ ap (λ xs. front ++ xs) is in
     let cut = divided c p front i rest (subst (Ordered c p) all ordered) in
-    let first = (end_back last front (i ∷ rest) (subst (EndBy last) all ends)).0 in
+    let first = (end_back last front (i ∷ rest) (subst (ItemsEndBy last) all ends)).0 in
     let begins = cut.back_begins.2 in
     (cut.front_ends, subst (Ordered c (first_number i - 1)) (sym is) cut.back_begins, omega arith)
 
@@ -107,7 +107,7 @@ of_all d [] i back all = all.0
 of_all d (x ∷ front) i back all = of_all d front i back all.1
 
 -- The items of a channel, where the first item left is of the first channel.
-stops_here : (g : List ℕ → List Item) (c : List ℕ) (last p : ℕ) → AreOwn g → Ordered c p (g c) → EndBy last (g c)
+stops_here : (g : List ℕ → List Item) (c : List ℕ) (last p : ℕ) → AreOwn g → Ordered c p (g c) → ItemsEndBy last (g c)
     → (d : List ℕ) (cs : List (List ℕ)) (front : List Item) (i : Item) (is : List Item) → is_in cs d ≡ false → front ++ i ∷ is ≡ g d ++ flat_map g cs
     → own c front ++ own c (i ∷ is) ≡ g c → is_of d i ≡ true → Stops c last (own c front) (own c (i ∷ is)) (cond (same d c) (Some (first_number i - 1)) None)
 stops_here g c last p own_items ordered ends d cs front i is once parts mine of_d =
@@ -125,7 +125,7 @@ stops_here g c last p own_items ordered ends d cs front i is once parts mine of_
     refl
 
 -- The items of a channel, where the first item left is of a channel behind the first one.
-stops_later : (rows : Rows) (g : List ℕ → List Item) (c : List ℕ) (last : ℕ) → AreOwn g → last ≡ last_of rows c → EndBy last (g c)
+stops_later : (rows : Rows) (g : List ℕ → List Item) (c : List ℕ) (last : ℕ) → AreOwn g → last ≡ last_of rows c → ItemsEndBy last (g c)
     → (d : List ℕ) (cs : List (List ℕ)) (front : List Item) (i : Item) (is : List Item) → is_in cs d ≡ false → front ++ i ∷ is ≡ g d ++ flat_map g cs
     → own c front ++ own c (i ∷ is) ≡ g c → is_of d i ≡ false → (same d c || is_in cs c) ≡ true
     → ((before : List Item) → is_in cs c ≡ true → before ++ i ∷ is ≡ flat_map g cs → own c before ++ own c (i ∷ is) ≡ g c → Stops c last (own c before) (own c (i ∷ is)) (reach_at c (reaches rows cs (i ∷ is))))
@@ -150,7 +150,7 @@ stops_later rows g c last own_items last_is ends d cs front i is once parts mine
     (placed (g d) (flat_map g cs) front i is parts)
 
 -- The items of each channel stop at its reach.
-pub stops : (rows : Rows) (g : List ℕ → List Item) (c : List ℕ) (last p : ℕ) → AreOwn g → last ≡ last_of rows c → Ordered c p (g c) → EndBy last (g c)
+pub stops : (rows : Rows) (g : List ℕ → List Item) (c : List ℕ) (last p : ℕ) → AreOwn g → last ≡ last_of rows c → Ordered c p (g c) → ItemsEndBy last (g c)
     → (cs : List (List ℕ)) (front back : List Item) → AreApart cs → is_in cs c ≡ true → front ++ back ≡ flat_map g cs → own c front ++ own c back ≡ g c
     → Stops c last (own c front) (own c back) (reach_at c (reaches rows cs back))
 stops rows g c last p own_items last_is ordered ends cs front [] once here parts mine =
