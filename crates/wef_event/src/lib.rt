@@ -2,6 +2,7 @@
 #![tactic(auto)]
 
 pub mod characters;
+mod lengths;
 pub mod plain;
 pub mod records;
 pub mod unnumbered;

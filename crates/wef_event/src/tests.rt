@@ -1,7 +1,7 @@
 //! Events by example: the texts are written out by hand.
 
-use crate::{Event, EventFault, is_xml_text, plain_event};
-use std::alloc::Global;
+use crate::{Event, EventFault, PlainEvent, is_xml_text, plain_event};
+use std::alloc::{AllocError, Global};
 use wef_base::{ChannelName, Text, ValueFault};
 
 fn channel(alloc: Global, word: &str) -> Result<ChannelName, ValueFault> {
@@ -20,6 +20,19 @@ fn event_of(
         return Ok(None);
     }
     Ok(Some(plain_event(name, number, id, level, word)?))
+}
+
+/// The event of a word that holds XML Chars alone, before it has a number.
+fn unnumbered(name: &ChannelName, word: &Text) -> Result<Option<PlainEvent>, AllocError> {
+    if !is_xml_text(word)? {
+        return Ok(None);
+    }
+    Ok(Some(PlainEvent {
+        channel: name.clone()?,
+        id: 0,
+        level: 0,
+        word: word.clone()?,
+    }))
 }
 
 #[test]
@@ -96,6 +109,14 @@ fn an_event_has_at_most_a_mebibyte(rt: HostRuntime) {
     }
     let event = event_of(&name, 1, 0, 0, &word).expect(&rt, "an event");
     assert_eq!(&rt; event.expect(&rt, "XML characters").text.len(), 1_048_576);
+    let event = unnumbered(&name, &word).expect(&rt, "memory");
+    let event = event.expect(&rt, "XML characters");
+    assert!(&rt; event.fits(1));
+    assert!(&rt; !event.fits(10));
+    assert_eq!(&rt;
+        event.numbered(9).expect(&rt, "an event").text.len(),
+        1_048_576
+    );
     word.push('a').expect(&rt, "memory");
     assert!(&rt; matches!(&event_of(&name, 1, 0, 0, &word), Err(EventFault::TooLong)));
 }

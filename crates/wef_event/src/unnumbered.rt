@@ -1,12 +1,16 @@
 //! Events of plain words that no log has numbered yet.
 
-ghost use Rattle.std.specs.Prelude.{◌≡◌, ◌≤◌, true, IfOk};
+ghost use Rattle.std.specs.Prelude.{◌≡◌, ◌≤◌, true, is_some, IfOk};
 ghost use Rattle.wef_event.specs.Characters.{is_xml_text};
 
-use crate::plain::plain_event;
+use crate::lengths::{decimal_length, escaped_length};
+use crate::plain::{EVENT_LIMIT, plain_event};
 use crate::records::{Event, EventFault};
 use std::alloc::AllocError;
 use wef_base::{ChannelName, Text};
+
+/// The bytes of the text of an event that stand round its numbers, its channel and its word.
+const FRAME: usize = 214;
 
 /// An event of a channel, of an identifier, a level and one word of data, before a log gives it its
 /// number. XML allows each character of the word.
@@ -29,6 +33,21 @@ impl PlainEvent {
         ensures { MakesEvent result (numbered self.now number) }
     {
         plain_event(&self.channel, number, self.id, self.level, &self.word)
+    }
+
+    /// Whether the event has a text that isn't too long, with this number. It takes no memory.
+    pub fn fits(&self, number: u64) -> bool
+        ensures { result ≡ is_some (numbered self.now number) }
+    {
+        let Some(channel) = escaped_length(self.channel.as_text(), EVENT_LIMIT) else {
+            return false;
+        };
+        let Some(word) = escaped_length(&self.word, EVENT_LIMIT) else {
+            return false;
+        };
+        let id = decimal_length(u64::from(self.id));
+        let level = decimal_length(u64::from(self.level));
+        FRAME + id + level + decimal_length(number) + channel + word <= EVENT_LIMIT
     }
 
     /// A copy of the event, in memory of its own.
