@@ -1,6 +1,7 @@
 pub mod Batches
 pub mod HeldPages
 pub mod Hits
+pub mod ListedThere
 pub mod Live
 pub mod Moving
 pub mod Pages
