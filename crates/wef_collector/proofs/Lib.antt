@@ -4,6 +4,7 @@ pub mod Hits
 pub mod ListedThere
 pub mod Live
 pub mod Moving
+pub mod OwnKeys
 pub mod Pages
 pub mod Sources
 pub mod Taking

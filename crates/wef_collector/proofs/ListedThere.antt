@@ -27,7 +27,7 @@ use Rattle.wef_collector.specs.Standing.{standing, standing_by, standing_of, sub
 use Rattle.wef_collector.specs.There.{HaveOwnKeys, IsOwnKey, ListedAreThere, standing_as}
 use Rattle.wef_collector.specs.declared.listing.Listed.{Listed}
 use Rattle.wef_collector.specs.declared.standings.Standing.{Standing}
-use Rattle.wef_collector.proofs.Live.{same_key}
+use Rattle.wef_collector.proofs.Hits.{hits_self}
 
 -- ---- each entry is found at its key
 
@@ -67,7 +67,7 @@ entries_found [] h = All-nil (Found [])
 entries_found (e ∷ es) h =
     let above = first (below_all key_cmp e.0 es) (is_sorted key_cmp es) h in
     let rest = second (below_all key_cmp e.0 es) (is_sorted key_cmp es) h in
-    All-cons (Found (e ∷ es)) e es (ap (λ (b : Bool). cond b (Some e.1) (find key_cmp e.0 es)) (same_key e.0)) (found_behind e.0 e.1 es es above (entries_found es rest))
+    All-cons (Found (e ∷ es)) e es (ap (λ (b : Bool). cond b (Some e.1) (find key_cmp e.0 es)) (hits_self e.0)) (found_behind e.0 e.1 es es above (entries_found es rest))
 
 -- ---- a kept subscription has the name that it was read by
 

@@ -18,7 +18,7 @@ use Rattle.wef_collector.specs.declared.standings.Standing.TheVariants.{Live}
 pub where_live : (found : Standing) (s : Subscription) (P : Subscription → Type 0) → found ≡ Live s → P s → WhereLive found P
 where_live found s P is holds = subst (λ (f : Standing). WhereLive f P) (sym is) holds
 
-pub same_key : (k : Key) → eq_by_cmp key_cmp k k ≡ true
+same_key : (k : Key) → eq_by_cmp key_cmp k k ≡ true
 same_key k = (eq_by_cmp_equiv key_cmp_total).refl k
 
 -- a subscription whose kept words read back is live once they are put
