@@ -1,5 +1,5 @@
 -- Subscriptions that are listed are those that their names lead to.
-use Rattle.std.proofs.Common.{◌≡◌, ℕ, Bool, true, false, cond, T, ◌&&◌, nat_eq, List, [], ◌∷◌, map, refl, ap, sym, ◌∙◌, subst}
+use Rattle.std.proofs.Common.{◌≡◌, ℕ, Bool, true, false, cond, T, ◌&&◌, nat_eq, List, [], ◌∷◌, refl, ap, sym, ◌∙◌}
 use Rattle.std.proofs.lemmas.Bool.{eqb-true}
 use Rattle.std.proofs.lemmas.List.Elements.{All-nil, All-cons, All-head, All-tail, All-filter, All-map, All-weaker, filter_passes}
 use Rattle.std.specs.FinMap as finite
@@ -10,7 +10,7 @@ use Rattle.std.specs.Ordering.{is_lt, is_eq, eq_by_cmp, ordering_reverse}
 use Rattle.std.specs.Prelude.{Option, Some, None, is_some, codes}
 use Rattle.std.specs.declared.cmp.Ordering.{Ordering}
 use Rattle.std.specs.declared.cmp.Ordering.TheVariants.{Less, Equal, Greater}
-use Rattle.wef_base.specs.Names.{same, subscription_name}
+use Rattle.wef_base.specs.Names.{same}
 use Rattle.wef_base.specs.Words.{parts}
 use Rattle.wef_eventing.specs.Kept.{channels_from, from_words, made_of, number_between, read_kept}
 use Rattle.wef_eventing.specs.Subscriptions.{all_events}
@@ -22,11 +22,10 @@ use Rattle.wef_keeper.specs.declared.keys.Depth.TheVariants.{Kind}
 use Rattle.wef_keeper.specs.declared.keys.Key.{Key}
 use Rattle.wef_keeper.specs.declared.keys.Row.{Row}
 use Rattle.wef_collector.specs.Keys.{subscription_key}
-use Rattle.wef_collector.specs.Listing.{listed, listed_by, listed_of}
+use Rattle.wef_collector.specs.Listing.{listed_by, listed_of}
 use Rattle.wef_collector.specs.Standing.{standing, standing_by, standing_of, subscription_rows}
-use Rattle.wef_collector.specs.There.{HaveOwnKeys, IsOwnKey, ListedAreThere, standing_as}
+use Rattle.wef_collector.specs.There.{HaveOwnKeys, ListedAreThere, standing_as}
 use Rattle.wef_collector.specs.declared.listing.Listed.{Listed}
-use Rattle.wef_collector.specs.declared.standings.Standing.{Standing}
 use Rattle.wef_collector.proofs.Hits.{hits_self}
 
 -- ---- each entry is found at its key
@@ -115,7 +114,7 @@ one_is_there rows row l own stands kind is =
     let u = row.key.sub in
     let key = own row.key (sym (eqb-true 1 row.key.kind kind)) (ap is_some stands) in
     let read : option_map (listed_by row.value) (read_kept u row.body) ≡ Some l =
-        sym (ap (option_and_then (λ (name : List ℕ). option_map (listed_by row.value) (read_kept name row.body))) key.reads_back) ∙ is in
+    sym (ap (option_and_then (λ (name : List ℕ). option_map (listed_by row.value) (read_kept name row.body))) key.reads_back) ∙ is in
     let both = as_listed row.value u row.body (read_kept u row.body) l refl read in
     ap (standing rows) both.0 ∙ ap (λ (k : Key). standing_of u (finite.get rows k)) (sym key.own) ∙ ap (standing_of u) stands ∙ both.1
 
@@ -138,7 +137,7 @@ rows_stand rows =
     let after = subscription_key [] in
     let entries = finite.entries rows in
     let found : All (λ (e : Key × Cell). Stands rows (row_of e)) entries =
-        All-weaker (Found entries) (λ (e : Key × Cell). Stands rows (row_of e)) (λ e is. finite.get-entries rows e.0 ∙ is) entries (entries_found entries (finite.entries_sorted rows)) in
+    All-weaker (Found entries) (λ (e : Key × Cell). Stands rows (row_of e)) (λ e is. finite.get-entries rows e.0 ∙ is) entries (entries_found entries (finite.entries_sorted rows)) in
     All-filter (λ (row : Row). is_under Kind after row.key) (Stands rows) (rows_after after rows)
     (All-map (Stands rows) row_of (filter (λ (e : Key × Cell). is_after after e.0) entries) (All-filter (λ (e : Key × Cell). is_after after e.0) (λ (e : Key × Cell). Stands rows (row_of e)) entries found))
 

@@ -1,5 +1,5 @@
 -- What taking a batch leaves at the keys of bookmarks, and at those of other subscriptions and sources.
-use Rattle.std.proofs.Common.{◌≡◌, ◌≢◌, ℕ, ◌+◌, ◌<◌, ◌≤◌, ◌==◌, Bool, true, false, not, ◌||◌, ◌&&◌, cond, List, [], ◌∷◌, ◌++◌, refl, ap, sym, ◌∙◌, subst, arith, nat_lt, if◌then◌else◌}
+use Rattle.std.proofs.Common.{◌≡◌, ℕ, ◌+◌, Bool, true, false, ◌&&◌, cond, List, [], ◌∷◌, ◌++◌, refl, ap, ◌∙◌, subst, arith, nat_lt}
 use Rattle.std.proofs.lemmas.Bool.Decides.{nat_tests}
 use Rattle.std.specs.Prelude.{Option, None, Some, max, unwrap_or}
 use Rattle.std.specs.FinMap as map
@@ -12,12 +12,11 @@ use Rattle.wef_batch.specs.declared.items.Item.TheVariants.{Event, Dropped, Loos
 use Rattle.wef_batch.specs.Reach.{reach, loose_sum}
 use Rattle.wef_batch.specs.WellFormed.{is_in}
 use Rattle.wef_keeper.specs.declared.keys.Cell.{Cell}
-use Rattle.wef_keeper.specs.declared.keys.Change.{Change}
 use Rattle.wef_keeper.specs.declared.keys.Key.{Key}
 use Rattle.wef_keeper.specs.Laws.{get-applied, get-unnamed}
 use Rattle.wef_keeper.specs.Rows.{Rows, found_after, is_named}
 use Rattle.wef_collector.specs.Bookmarks.{bookmark_at}
-use Rattle.wef_collector.specs.Keys.{key, bookmark_key, held_key, mark_key, loose_key, heard_key}
+use Rattle.wef_collector.specs.Keys.{key, bookmark_key, held_key, mark_key, heard_key}
 use Rattle.wef_collector.specs.Laws.{moved, is_of_pair}
 use Rattle.wef_collector.specs.Taken.{batch_changes, channel_changes, heard_changes, is_later, item_changes, loose_changes, move_changes, put, reach_changes, taken}
 use Rattle.wef_collector.proofs.Hits.{found-append, found_channels, found_flat_other, found_if_other, hits, hits_self, named-append, named_flat, named_if, not_both, one_key, one_name, refuted, same_self}

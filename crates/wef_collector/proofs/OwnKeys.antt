@@ -1,5 +1,5 @@
 -- Whatever the collector does, each row of a subscription stands at the key of its own name.
-use Rattle.std.proofs.Common.{◌≡◌, ℕ, ◌<◌, Bool, true, false, cond, nat_lt, List, refl, ap, sym, ◌∙◌, subst, arith}
+use Rattle.std.proofs.Common.{◌≡◌, ℕ, Bool, true, false, cond, nat_lt, List, refl, ap, sym, ◌∙◌, subst, arith}
 use Rattle.std.proofs.lemmas.Bool.Decides.{nat_tests}
 use Rattle.std.specs.FinMap as map
 use Rattle.std.specs.Prelude.{Some, None, is_some}
@@ -20,8 +20,8 @@ put_own rows u cell name own q kind there =
     elim (hits q (subscription_key u)) as (λ b. hits q (subscription_key u) ≡ b → IsOwnKey q) [
       | true ↦ λ hit. subst IsOwnKey (sym (one_key q (subscription_key u) hit)) (record { own = refl; reads_back = name })
       | false ↦ λ miss.
-        let found = map.get-insert key_cmp_total rows (subscription_key u) cell q ∙ ap (λ (b : Bool). cond b (Some cell) (map.get rows q)) miss in
-        own q kind (sym (ap is_some found) ∙ there)
+          let found = map.get-insert key_cmp_total rows (subscription_key u) cell q ∙ ap (λ (b : Bool). cond b (Some cell) (map.get rows q)) miss in
+          own q kind (sym (ap is_some found) ∙ there)
     ] refl
 
 no_higher : (kind n : ℕ) → nat_lt 1 kind ≡ true → kind ≡ n → n ≡ 1 → ⊥
