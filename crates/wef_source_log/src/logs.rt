@@ -116,12 +116,7 @@ impl Log {
 
     /// The first `max` records of a channel's window above a number, by number. The rest are those
     /// above the page's last number.
-    pub fn page(
-        &self,
-        channel: &ChannelName,
-        after: u64,
-        max: u32,
-    ) -> Result<List<Event>, LogFault>
+    pub fn page(&self, channel: &ChannelName, after: u64, max: u32) -> Result<List<Event>, LogFault>
         requires { 1 ≤ max }
         ensures page { IfOk result (λ page. page ≡ take max (windows.records_after self.now channel.now after)) }
         ensures rest { IfOk result (λ page. windows.records_after self.now channel.now after
