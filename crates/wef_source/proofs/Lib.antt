@@ -1,2 +1,5 @@
 pub mod Cases
+pub mod Covering
 pub mod Fitting
+pub mod InOrder
+pub mod Places

@@ -1,10 +1,9 @@
 //! The source end: a log, and the sessions in which its events are sent.
 #![tactic(auto)]
 
-pub mod building;
 pub mod faults;
-pub mod laws;
 pub mod messages;
+pub mod serving;
 pub mod sessions;
 pub mod source;
 
