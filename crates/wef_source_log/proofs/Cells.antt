@@ -1,5 +1,5 @@
 -- What a written record leaves at each key, and that the rows stay a window.
-use Rattle.std.proofs.Common.{◌≡◌, ℕ, zero, suc, ◌+◌, ◌-◌, ◌<◌, ◌≤◌, ◌==◌, Bool, true, false, cond, ◌&&◌, List, [], ◌∷◌, ◌++◌, length, nat_eq, nat_lt, nat_le, max, refl, ap, sym, ◌∙◌, subst, arith, if◌then◌else◌, Option, Some, None, Result, OnOk, OnErr, length-append}
+use Rattle.std.proofs.Common.{◌≡◌, ℕ, zero, suc, ◌+◌, ◌-◌, ◌<◌, ◌≤◌, ◌==◌, Bool, true, false, cond, ◌&&◌, List, [], ◌∷◌, ◌++◌, length, nat_eq, nat_lt, nat_le, refl, ap, sym, ◌∙◌, subst, arith, if◌then◌else◌, Option, Some, None, Result, OnOk, OnErr, length-append}
 use Rattle.std.proofs.lemmas.Bool.Decides.{nat_tests}
 use Rattle.std.specs.Prelude.{slice_get, unwrap_or}
 use Rattle.std.specs.declared.result.Result.TheVariants.{Ok, Err}
@@ -21,7 +21,7 @@ use Rattle.wef_keeper.specs.declared.keys.Key.{Key}
 use Rattle.wef_source_log.specs.Answers.{ExtendsHistory, Writes, next_text}
 use Rattle.wef_source_log.specs.Histories.{Histories, History, extended, history, text_at}
 use Rattle.wef_source_log.specs.Keys.{boot_key, capacity_key, last_key, record_key}
-use Rattle.wef_source_log.specs.Windows.{IsWindow, capacity_of, first_for, last_cell, last_of, leaving, number_cell, record_cell, start_changes, started, text_cell, write_changes, written}
+use Rattle.wef_source_log.specs.Windows.{IsWindow, capacity_of, first_for, last_cell, last_of, number_cell, record_cell, start_changes, started, text_cell, write_changes, written}
 
 -- ---- keys
 

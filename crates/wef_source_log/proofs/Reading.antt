@@ -1,12 +1,12 @@
 -- What the rows of a window give.
-use Rattle.std.proofs.Common.{◌≡◌, ℕ, zero, suc, ◌+◌, ◌-◌, ◌<◌, ◌≤◌, ◌==◌, Bool, true, false, cond, ◌&&◌, T, List, [], ◌∷◌, length, map, drop, nat_eq, nat_lt, nat_le, max, refl, ap, sym, ◌∙◌, subst, arith, if◌then◌else◌, Option, Some, None}
+use Rattle.std.proofs.Common.{◌≡◌, ℕ, zero, suc, ◌+◌, ◌-◌, ◌<◌, ◌≤◌, ◌==◌, Bool, true, false, cond, ◌&&◌, T, List, [], ◌∷◌, length, map, drop, nat_eq, nat_le, max, refl, ap, sym, ◌∙◌, subst, arith, if◌then◌else◌, Some, None}
 use Rattle.std.proofs.lemmas.Bool.{and_parts}
 use Rattle.std.proofs.lemmas.Bool.Decides.{nat_tests}
-use Rattle.std.specs.Prelude.{slice_get, unwrap_or}
+use Rattle.std.specs.Prelude.{slice_get}
 use Rattle.std.specs.declared.cmp.Ordering.{Ordering}
 use Rattle.std.specs.declared.cmp.Ordering.TheVariants.{Less, Equal, Greater}
 use Rattle.std.specs.Cmp.{nat_cmp_is, ranked, tied_itself}
-use Rattle.std.specs.Cmp.Lexicographic.{nat_list_cmp_total, nat_list_eq_equiv, pointwise, slice_cmp}
+use Rattle.std.specs.Cmp.Lexicographic.{nat_list_cmp_total, nat_list_eq_equiv}
 use Rattle.std.specs.FinMap as finite
 use Rattle.std.specs.FinMap.{find, is_sorted}
 use Rattle.std.specs.FinMap.Entries.{below_all, find-where_key, is_sorted-where_key, same_entries, where_key}
@@ -22,9 +22,9 @@ use Rattle.wef_keeper.specs.declared.keys.Key.{Key}
 use Rattle.wef_keeper.specs.declared.keys.Row.{Row}
 use Rattle.wef_source_log.specs.Histories.{Histories, History, history, text_at}
 use Rattle.wef_source_log.specs.Keys.{record_key}
-use Rattle.wef_source_log.specs.Laws.{ReadsWindow, WindowsRead, numbered_from, records_from}
+use Rattle.wef_source_log.specs.Laws.{WindowsRead, numbered_from, records_from}
 use Rattle.wef_source_log.specs.Windows.{IsWindow, boot_of, event_of_row, first_for, record_cell, records_after, text_cell}
-use Rattle.wef_source_log.proofs.Cells.{capacity_in, either_way, hits, hits_record, last_in, number_of, one, tie}
+use Rattle.wef_source_log.proofs.Cells.{capacity_in, hits, hits_record, last_in, number_of, one, tie}
 use Rattle.wef_source_log.proofs.Pages.{own_key}
 
 -- ---- the order of a channel's records

@@ -6,6 +6,8 @@ pub mod faults;
 pub mod keys;
 pub mod laws;
 pub mod logs;
+#[cfg(test)]
+mod tests;
 
 pub use faults::LogFault;
 pub use logs::Log;

@@ -1,4 +1,4 @@
-use Rattle.std.proofs.Common.{◌≡◌, List, ◌++◌, map, sym, subst, ap, ◌∙◌}
+use Rattle.std.proofs.Common.{◌≡◌, List, ◌++◌, sym, subst}
 use Rattle.wef_keeper.specs.Rows.{Rows}
 use Rattle.wef_event.specs.declared.records.Event.{Event}
 use Rattle.wef_source_log.specs.Windows.{last_number, records_after}
