@@ -13,7 +13,8 @@ use Rattle.wef_base.specs.Names.{same}
 use Rattle.wef_batch.specs.WellFormed.{is_in}
 use Rattle.wef_bookmark.specs.Order.{Marks, joined, raised}
 use Rattle.wef_bookmark.proofs.Joining.{joined_has, raised_has}
-use Rattle.wef_source.specs.Serving.{HasAll, HasEach, IsCovered}
+use Rattle.wef_source.specs.Serving.{AreKept, HasAll, HasEach, IsCovered}
+use Rattle.wef_source.proofs.InOrder.{none_in_order}
 use Rattle.wef_source.specs.Sessions.{acknowledged, moved_by, sending, session_from, settled, with_channels}
 use Rattle.wef_source.specs.declared.sessions.Outstanding.{Outstanding}
 use Rattle.wef_source.specs.declared.sessions.Session.{Session}
@@ -105,3 +106,6 @@ are_in_from b (e ∷ es) found = (ap is_some (map.get-entries b e.0) ∙ found.0
 
 pub entries_are_in : (b : Marks) → AreIn b (map.entries b)
 entries_are_in b = are_in_from b (map.entries b) (are_found (map.entries b))
+
+pub none_kept : AreKept []
+none_kept = record { covered = λ k d below. absurd (omega arith); in_order = none_in_order }

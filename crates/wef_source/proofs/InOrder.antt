@@ -37,6 +37,10 @@ names_changed test change same (s ∷ ss) =
 pub changed_in_order : (test : Session → Bool) (change : Session → Session) → ((s : Session) → (change s).name ≡ s.name) → (ss : List Session) → IsInOrder (names_of ss) → IsInOrder (names_of (with_changed test change ss))
 changed_in_order test change same ss sorted = subst IsInOrder (sym (names_changed test change same ss)) sorted
 
+pub none_in_order : IsInOrder (names_of [])
+unfolding IsStrictlySortedBy
+none_in_order = tt
+
 abbrev AllAbove : List ℕ → List Session → Type 0
 AllAbove x ss = AllByRecursion (λ y. slice_cmp nat_cmp x y ≡ Less) (names_of ss)
 

@@ -1,5 +1,6 @@
 pub mod Cases
 pub mod Covering
+pub mod Drafts
 pub mod Fitting
 pub mod InOrder
 pub mod Places

@@ -1,5 +1,6 @@
 pub mod Answers
 pub mod Building
+pub mod Drafting
 pub mod Fits
 pub mod Laws
 pub mod Machine

@@ -1,6 +1,9 @@
 //! The source end: a log, and the sessions in which its events are sent.
 #![tactic(auto)]
 
+pub mod building;
+mod costs;
+mod drafting;
 pub mod faults;
 pub mod messages;
 pub mod serving;

@@ -1,6 +1,6 @@
 //! What becomes of sessions.
 
-ghost use Rattle.std.specs.Prelude.{◌≡◌, is_some, if◌then◌else◌};
+ghost use Rattle.std.specs.Prelude.{◌≡◌, false, is_some, if◌then◌else◌};
 ghost use Rattle.std.specs.List.{position};
 ghost use Rattle.wef_bookmark.specs.Order.{joined};
 ghost use Rattle.wef_source.specs.Serving.{AreKept, HasAll, IsCovered};
@@ -40,6 +40,7 @@ pub fn settle_named(sessions: &mut Vec<Session>, sub: &SubId) -> bool
     requires { AreKept sessions.old.items }
     ensures found { result ≡ is_some (spec.session_of sessions.old.items sub.now) }
     ensures changed { sessions.new.items ≡ spec.with_changed (spec.is_named sub.now) spec.settled sessions.old.items }
+    ensures absent { result ≡ false → sessions.new.items ≡ sessions.old.items }
     ensures kept { AreKept sessions.new.items }
 {
     let Some(place) = place_of_name(sessions.as_slice(), sub) else {
@@ -55,6 +56,7 @@ fn settle_waiting(sessions: &mut Vec<Session>, id: u128) -> bool
     requires { AreKept sessions.old.items }
     ensures found { result ≡ is_some (spec.waiting sessions.old.items id) }
     ensures changed { sessions.new.items ≡ spec.with_changed (spec.waits_for id) spec.settled sessions.old.items }
+    ensures absent { result ≡ false → sessions.new.items ≡ sessions.old.items }
     ensures kept { AreKept sessions.new.items }
 {
     let Some(place) = place_of_id(sessions.as_slice(), id) else {
@@ -70,6 +72,7 @@ pub fn move_waiting(sessions: &mut Vec<Session>, id: u128) -> bool
     requires { AreKept sessions.old.items }
     ensures found { result ≡ is_some (spec.waiting sessions.old.items id) }
     ensures changed { sessions.new.items ≡ spec.with_changed (spec.waits_for id) spec.acknowledged sessions.old.items }
+    ensures absent { result ≡ false → sessions.new.items ≡ sessions.old.items }
     ensures kept { AreKept sessions.new.items }
 {
     let Some(place) = place_of_id(sessions.as_slice(), id) else {
@@ -87,6 +90,7 @@ pub fn refuse_waiting(sessions: &mut Vec<Session>, id: u128, fault: &FaultName) 
     ensures changed { sessions.new.items ≡ (if is_unreachable fault.now
         then spec.without (spec.waits_for id) sessions.old.items
         else spec.with_changed (spec.waits_for id) spec.settled sessions.old.items) }
+    ensures absent { result ≡ false → sessions.new.items ≡ sessions.old.items }
     ensures kept { AreKept sessions.new.items }
 {
     if matches!(fault, FaultName::DestinationUnreachable) {
@@ -100,6 +104,7 @@ fn end_waiting(sessions: &mut Vec<Session>, id: u128) -> bool
     requires { AreKept sessions.old.items }
     ensures found { result ≡ is_some (spec.waiting sessions.old.items id) }
     ensures changed { sessions.new.items ≡ spec.without (spec.waits_for id) sessions.old.items }
+    ensures absent { result ≡ false → sessions.new.items ≡ sessions.old.items }
     ensures kept { AreKept sessions.new.items }
 {
     let Some(place) = place_of_id(sessions.as_slice(), id) else {
