@@ -8,11 +8,13 @@ use Rattle.std.proofs.lemmas.List.Edits.{get_or-remove_above, get_or-remove_belo
 use Rattle.std.proofs.lemmas.Bool.{cases_lt}
 use Rattle.std.specs.Ordering.{nat_cmp, eq_by_cmp, is_eq}
 use Rattle.std.specs.Cmp.{tied_itself}
-use Rattle.std.specs.Cmp.Lexicographic.{slice_cmp, nat_list_cmp_total}
+use Rattle.std.specs.Cmp.Lexicographic.{slice_cmp, nat_list_cmp_total, same_text}
 use Rattle.wef_base.specs.Names.{same}
 use Rattle.wef_batch.specs.WellFormed.{is_in}
 use Rattle.wef_bookmark.specs.Order.{Marks, joined, raised}
 use Rattle.wef_bookmark.proofs.Joining.{joined_has, raised_has}
+use Rattle.wef_eventing.specs.declared.bodies.Subscribe.{Subscribe}
+use Rattle.wef_query.specs.Selected.{channels_of}
 use Rattle.wef_source.specs.Serving.{AreKept, HasAll, HasEach, IsCovered}
 use Rattle.wef_source.proofs.InOrder.{none_in_order}
 use Rattle.wef_source.specs.Sessions.{acknowledged, moved_by, sending, session_from, settled, with_channels}
@@ -25,11 +27,11 @@ nothing_there c = ap is_some (map.get-empty (slice_cmp nat_cmp) c)
 pub has_nothing : (p : Marks) → HasAll p map.empty
 has_nothing p c there = let e = nothing_there c in cc
 
-either_true : (a b : Bool) → b ≡ true → (a || b) ≡ true
+pub either_true : (a b : Bool) → b ≡ true → (a || b) ≡ true
 either_true true b e = refl
 either_true false b e = e
 
-either : (a b : Bool) → a ≡ true → (a || b) ≡ true
+pub either : (a b : Bool) → a ≡ true → (a || b) ≡ true
 either true b e = refl
 either false b e = cc
 
@@ -39,6 +41,14 @@ joined_has_all p q to has c there = joined_has p to c ∙ either _ _ (has c ther
 
 pub raised_has_all : (p q : Marks) (c : List ℕ) (n : ℕ) → HasAll p q → HasAll (raised p c n) q
 raised_has_all p q c n has d there = raised_has p c n d ∙ either_true _ _ (has d there)
+
+-- a bookmark that has what another one has, and one more channel, has all when the other is raised there
+pub raised_only : (p to : Marks) (c : List ℕ) (n : ℕ) → is_some (map.get p c) ≡ true → HasAll p to → HasAll p (raised to c n)
+raised_only p to c n there has d found = by (same d c) refl (sym (raised_has to c n d) ∙ found)
+  where
+    by : (t : Bool) → same d c ≡ t → (t || is_some (map.get to d)) ≡ true → is_some (map.get p d) ≡ true
+    by true is h = subst (λ x. is_some (map.get p x) ≡ true) (sym (same_text d c (sym is))) there
+    by false is h = has d h
 
 pub settled_covered : (s : Session) → IsCovered s → IsCovered (settled s)
 settled_covered s h = record { queried = h.queried; awaited = has_nothing s.positions }
@@ -109,3 +119,29 @@ entries_are_in b = are_in_from b (map.entries b) (are_found (map.entries b))
 
 pub none_kept : AreKept []
 none_kept = record { covered = λ k d below. absurd (omega arith); in_order = none_in_order }
+
+channel_kept : (b : Marks) (cs : List (List ℕ)) (c : List ℕ) → is_some (map.get b c) ≡ true → is_some (map.get (with_channels b cs) c) ≡ true
+channel_kept b [] c there = there
+channel_kept b (x ∷ xs) c there = channel_kept (raised b x 0) xs c (raised_has b x 0 c ∙ either_true _ _ there)
+
+same_turned : (x c : List ℕ) → same x c ≡ true → same c x ≡ true
+same_turned x c e =
+    let one = same_text x c (sym e) in
+    subst (λ y. same c y ≡ true) (sym one) (subst (λ y. same y c ≡ true) one e)
+
+-- each channel that is added is there
+channels_added : (b : Marks) (cs : List (List ℕ)) → HasEach (with_channels b cs) cs
+channels_added b [] c listed = cc
+channels_added b (x ∷ xs) c listed = by (channels_added (raised b x 0) xs c) (same x c) refl listed
+  where
+    by : (is_in xs c ≡ true → is_some (map.get (with_channels (raised b x 0) xs) c) ≡ true) → (t : Bool) → same x c ≡ t → (t || is_in xs c) ≡ true → is_some (map.get (with_channels (raised b x 0) xs) c) ≡ true
+    by rest true is there = channel_kept (raised b x 0) xs c (raised_has b x 0 c ∙ either _ _ (same_turned x c is))
+    by rest false is there = rest there
+
+pub begun_covered : (now : ℕ) (subscribe : Subscribe) (u : List ℕ) → IsCovered (session_from now subscribe u)
+begun_covered now subscribe u =
+    let positions = with_channels subscribe.from (channels_of subscribe.query.items) in
+    record {
+      queried = channels_added subscribe.from (channels_of subscribe.query.items);
+      awaited = has_nothing positions;
+    }

@@ -10,6 +10,7 @@ use Rattle.wef_source.specs.declared.sessions.Session.{Session}
 -- the first that passes stands at a place
 record Placed (test : Session → Bool) (ss : List Session) (k : ℕ) : Type 0 where
   within : k < length ss
+  passes : (d : Session) → test (get_or ss k d) ≡ true
   first : (d : Session) → first_where test ss ≡ Some (get_or ss k d)
   changed : (change : Session → Session) (d : Session) → with_changed test change ss ≡ set ss k (change (get_or ss k d))
   others : without test ss ≡ remove ss k
@@ -17,6 +18,7 @@ record Placed (test : Session → Bool) (ss : List Session) (k : ℕ) : Type 0 w
 here : (test : Session → Bool) (s : Session) (ss : List Session) → test s ≡ true → Placed test (s ∷ ss) 0
 here test s ss e = record {
   within = omega arith;
+  passes = λ d. e;
   first = λ d. rw e refl;
   changed = λ change d. rw e refl;
   others = rw e refl;
@@ -25,6 +27,7 @@ here test s ss e = record {
 further : (test : Session → Bool) (s : Session) (ss : List Session) (k : ℕ) → test s ≡ false → Placed test ss k → Placed test (s ∷ ss) (suc k)
 further test s ss k e placed = record {
   within = omega (arith, placed.within);
+  passes = placed.passes;
   first = λ d. rw e (placed.first d);
   changed = λ change d. rw e (ap (λ rest. s ∷ rest) (placed.changed change d));
   others = rw e (ap (λ rest. s ∷ rest) placed.others);
@@ -94,3 +97,13 @@ without_nowhere test ss e = (nowhere test ss e).others
 
 pub within_at : (test : Session → Bool) (ss : List Session) (k : ℕ) → position test ss ≡ Some k → k < length ss
 within_at test ss k e = (placed test ss k e).within
+
+pub passes_at : (test : Session → Bool) (ss : List Session) (k : ℕ) (s : Session) → position test ss ≡ Some k → s ≡ get_or ss k s → test s ≡ true
+passes_at test ss k s e read = subst (λ x. test x ≡ true) (sym read) ((placed test ss k e).passes s)
+
+-- two readings of the place are one session
+pub same_session : (test : Session → Bool) (ss : List Session) (k : ℕ) (s t : Session) → position test ss ≡ Some k → s ≡ get_or ss k s → t ≡ get_or ss k t → s ≡ t
+same_session test ss k s t e read again =
+    let first = first_at test ss k s e read in
+    let second = first_at test ss k t e again in
+    cc

@@ -4,6 +4,8 @@ pub mod Drafting
 pub mod Fits
 pub mod Laws
 pub mod Machine
+pub mod Placing
+pub mod Prepared
 pub mod Serving
 pub mod Sessions
 pub mod Wanted

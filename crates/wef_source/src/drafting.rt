@@ -8,12 +8,11 @@ ghost use Rattle.wef_source.specs.Drafting as spec;
 ghost use Rattle.wef_source_log.specs.Windows as windows;
 ghost use Rattle.wef_source_log.specs.Windows.{records_after};
 
-use crate::costs::cost;
 use crate::faults::SourceFault;
 use crate::sessions::Session;
 use std::alloc::{AllocError, Global};
 use wef_base::{ChannelName, List};
-use wef_batch::Item;
+use wef_batch::{Item, cost};
 use wef_event::Event;
 use wef_query::{QueryList, selected};
 use wef_source_log::Log;

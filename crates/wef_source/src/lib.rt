@@ -1,8 +1,8 @@
 //! The source end: a log, and the sessions in which its events are sent.
 #![tactic(auto)]
 
+mod adopting;
 pub mod building;
-mod costs;
 mod drafting;
 pub mod faults;
 pub mod messages;

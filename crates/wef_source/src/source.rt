@@ -5,12 +5,15 @@ ghost use Rattle.wef_envelope.specs.Ids.{ids_agree};
 ghost use Rattle.wef_query.specs.Order.{IsInOrder};
 ghost use Rattle.wef_source.specs.Answers as answers;
 ghost use Rattle.wef_source.specs.Machine as machine;
+ghost use Rattle.wef_source.specs.Prepared.{Prepares, RefusesToPrepare};
 ghost use Rattle.wef_source.specs.Sessions as the_sessions;
 
+use crate::adopting::sessions_of;
+use crate::building::built;
 use crate::faults::SourceFault;
 use crate::messages::{Delivery, Moved, Poll, Reply};
-use crate::serving::{move_waiting, refuse_waiting, settle_named};
-use crate::sessions::{Outstanding, Session};
+use crate::serving::{move_waiting, place_of_name, refuse_waiting, send, settle_named};
+use crate::sessions::{Outstanding, Session, copied};
 use std::alloc::{AllocError, Global};
 use std::marker::Model;
 use wef_base::{List, SubId, Text};
@@ -95,6 +98,29 @@ impl SourceEnd {
         Ok(message_id(self.alloc, id))
     }
 
+    /// Takes the offers that answer the ask, at a moment: the sessions are theirs from now on, and begin where
+    /// the offers say. Of two offers of one name the later stands; one whose address leads to no subscription
+    /// is passed over. Answers how many sessions there are.
+    pub fn adopt(
+        &mut self,
+        relates: &MessageId,
+        offers: &List<Offer>,
+        now: u64,
+    ) -> Result<u64, SourceFault>
+        ensures ok { IfOk result (answers.Adopts self.old self.new relates.now offers.now now) }
+        ensures refusal { IfErr result (λ fault. answers.RefusesAdopt fault self.old relates.now) }
+        ensures err { OnErr result (self.new ≡ self.old) }
+    {
+        if !agree(self.ask, relates.value) {
+            return Err(SourceFault::NotAsked);
+        }
+        let sessions = sessions_of(self.alloc, offers, now)?;
+        let count = sessions.len() as u64;
+        self.sessions = sessions;
+        self.ask = None;
+        Ok(count)
+    }
+
     /// The names of the sessions' subscriptions, in the order of their bytes.
     pub fn sessions(&self) -> Result<List<SubId>, SourceFault>
         ensures ok { IfOk result (λ names. names ≡ the_sessions.names_of self.now.sessions) }
@@ -102,6 +128,23 @@ impl SourceEnd {
         ensures refusal { IfErr result answers.WantsMemory }
     {
         Ok(names_of(self.alloc, self.sessions.as_slice())?)
+    }
+
+    /// What a session has to send at a moment: a batch, unless the answer to one is outstanding or there is none.
+    pub fn poll(&mut self, sub: &SubId, now: u64) -> Result<Poll, SourceFault>
+        ensures ok { IfOk result (answers.Polls self.old self.new sub.now now) }
+        ensures refusal { IfErr result (λ fault. answers.RefusesPoll fault self.old sub.now) }
+        ensures err { OnErr result (self.new ≡ self.old) }
+    {
+        let Some(place) = place_of_name(self.sessions.as_slice(), sub) else {
+            return Err(SourceFault::UnknownSubscription);
+        };
+        let Some((delivery, outstanding)) = self.prepared(&self.sessions[place])? else {
+            return Ok(Poll::Nothing);
+        };
+        self.drawn += 1;
+        send(&mut self.sessions[place], outstanding, now);
+        Ok(Poll::Send(delivery))
     }
 
     /// Takes the answer to a delivery. It takes no memory.
@@ -155,6 +198,32 @@ impl SourceEnd {
         Ok(Moved::Refused)
     }
 
+    /// What a session sends next, and what its answer will be awaited by. Nothing changes yet.
+    fn prepared(&self, session: &Session) -> Result<Option<(Delivery, Outstanding)>, SourceFault>
+        ensures ok { IfOk result (Prepares self.now session.now) }
+        ensures refusal { IfErr result (RefusesToPrepare self.now session.now) }
+    {
+        if session.outstanding.is_some() {
+            return Ok(None);
+        }
+        let batch = built(self.alloc, &self.log, session)?;
+        if batch.items.is_empty() {
+            return Ok(None);
+        }
+        let id = self.next_id()?;
+        let outstanding = Outstanding {
+            id,
+            to: batch.to.clone()?,
+        };
+        let delivery = Delivery {
+            id: message_id(self.alloc, id),
+            notify_to: session.notify_to.clone()?,
+            identifier: copied(&session.identifier)?,
+            batch,
+        };
+        Ok(Some((delivery, outstanding)))
+    }
+
     /// The value of the next id. It isn't drawn yet.
     fn next_id(&self) -> Result<u128, SourceFault>
         ensures left { IfOk result (λ id. machine.is_spent self.now ≡ false) }
@@ -165,6 +234,16 @@ impl SourceEnd {
             return Err(SourceFault::Spent);
         }
         Ok(MessageId::of(self.log.boot(), self.drawn + 1))
+    }
+}
+
+/// Whether two values of ids are there, and the same.
+fn agree(asked: Option<u128>, given: Option<u128>) -> bool
+    ensures { result ≡ ids_agree asked given }
+{
+    match (asked, given) {
+        (Some(asked), Some(given)) => asked == given,
+        _ => false,
     }
 }
 
