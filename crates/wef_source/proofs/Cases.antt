@@ -1,7 +1,6 @@
 -- Proofs by the two values of a test, and what tests of numbers and names say.
-use Rattle.std.proofs.Common.{◌≡◌, ℕ, ◌<◌, ◌≤◌, ◌==◌, Bool, true, false, not, ◌&&◌, ◌||◌, cond, refl, ap, sym, subst, ◌∙◌, List, nat_lt, nat_le, arith, ◌⊎◌, inl, inr}
-use Rattle.std.specs.Prelude.{T}
-use Rattle.std.specs.Cmp.Lexicographic.{slice_cmp, texts_ties, nat_list_cmp_total, bytes_decides}
+use Rattle.std.proofs.Common.{◌≡◌, ℕ, ◌<◌, ◌≤◌, ◌==◌, Bool, true, false, ◌&&◌, ◌||◌, cond, refl, sym, List, nat_lt, nat_le, arith, ◌⊎◌}
+use Rattle.std.specs.Cmp.Lexicographic.{bytes_decides}
 use Rattle.std.proofs.lemmas.Bool.Decides.{nat_tests}
 use Rattle.wef_base.specs.Names.{same}
 
@@ -26,13 +25,13 @@ pub and_true : (a b : Bool) → a ≡ true → b ≡ true → (a && b) ≡ true
 and_true true b p q = q
 and_true false b p q = p
 
+pub or_true : (a b : Bool) → b ≡ true → (a || b) ≡ true
+or_true true b e = refl
+or_true false b e = e
+
 pub either_false : (a b : Bool) → (a || b) ≡ false → (a ≡ false) × (b ≡ false)
 either_false true b e = apart (sym e)
 either_false false b e = (refl, e)
-
-pub or_false : (a b : Bool) → a ≡ false → b ≡ false → (a || b) ≡ false
-or_false true b p q = p
-or_false false b p q = q
 
 pub lt_holds : (m n : ℕ) → nat_lt m n ≡ true → m < n
 lt_holds m n e = grind (arith, nat_tests)
@@ -55,10 +54,7 @@ le_tested m n e = grind (arith, nat_tests)
 pub le_refused : (m n : ℕ) → n < m → nat_le m n ≡ false
 le_refused m n e = grind (arith, nat_tests)
 
-pub eq_holds : (m n : ℕ) → (m == n) ≡ true → m ≡ n
-eq_holds m n e = grind (arith, nat_tests)
-
-pub eq_refused : (m n : ℕ) → m < n → (m == n) ≡ false
+pub eq_refused : (m n : ℕ) → (m < n) ⊎ (n < m) → (m == n) ≡ false
 eq_refused m n e = grind (arith, nat_tests)
 
 pub eq_itself : (n : ℕ) → (n == n) ≡ true
@@ -70,7 +66,3 @@ one_name a b e = (bytes_decides a b).0 e
 
 pub same_itself : (a : List ℕ) → same a a ≡ true
 same_itself a = (bytes_decides a a).1 refl
-
--- a name that two others are is one with both
-pub same_two : (a b c : List ℕ) → same a b ≡ true → same a c ≡ false → same b c ≡ false
-same_two a b c e f = subst (λ (x : List ℕ). same x c ≡ false) (one_name a b e) f

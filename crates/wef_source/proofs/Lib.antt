@@ -1,8 +1,15 @@
+pub mod Built
+pub mod Candidates
 pub mod Cases
+pub mod Channels
 pub mod Covering
+pub mod Cuts
 pub mod Drafts
 pub mod Fitting
 pub mod InOrder
+pub mod Items
 pub mod Placements
 pub mod Places
 pub mod Polling
+pub mod Reaches
+pub mod Sendable

@@ -5,6 +5,7 @@ mod adopting;
 pub mod building;
 mod drafting;
 pub mod faults;
+pub mod laws;
 pub mod messages;
 pub mod serving;
 pub mod sessions;
