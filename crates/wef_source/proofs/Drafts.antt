@@ -48,7 +48,7 @@ pub items_taken : (d : Draft) (is : List Item) → d.left ≡ None → (taken_al
 items_taken d [] none = sym (append-nil d.items)
 items_taken d (i ∷ is) none =
     elim (has_room d.items_left d.bytes_left i) as (λ b. has_room d.items_left d.bytes_left i ≡ b
-        → (taken_all (taken d i) is).items ≡ d.items ++ cond b (i ∷ fitting (d.items_left - 1) (d.bytes_left - cost i) is) []) [
+    → (taken_all (taken d i) is).items ≡ d.items ++ cond b (i ∷ fitting (d.items_left - 1) (d.bytes_left - cost i) is) []) [
       | true ↦ λ fits.
           ap (λ x. (taken_all x is).items) (taken_where d i true none fits)
           ∙ items_taken (with_item d i) is none
@@ -63,7 +63,7 @@ pub left_taken : (d : Draft) (is : List Item) → d.left ≡ None → (taken_all
 left_taken d [] none = none
 left_taken d (i ∷ is) none =
     elim (has_room d.items_left d.bytes_left i) as (λ b. has_room d.items_left d.bytes_left i ≡ b
-        → (taken_all (taken d i) is).left ≡ first_of (cond b (left_over (d.items_left - 1) (d.bytes_left - cost i) is) (i ∷ is))) [
+    → (taken_all (taken d i) is).left ≡ first_of (cond b (left_over (d.items_left - 1) (d.bytes_left - cost i) is) (i ∷ is))) [
       | true ↦ λ fits. ap (λ x. (taken_all x is).left) (taken_where d i true none fits) ∙ left_taken (with_item d i) is none
       | false ↦ λ fails.
           ap (λ x. (taken_all x is).left) (taken_where d i false none fails)
@@ -103,8 +103,8 @@ built_by rows session d to made read =
     let items : d.items ≡ built_items rows session = ap (λ (x : Draft). x.items) made ∙ items_taken start (candidates rows session) refl in
     let left : d.left ≡ first_of (left_items rows session) = ap (λ (x : Draft). x.left) made ∙ left_taken start (candidates rows session) refl in
     let reach : to ≡ built_to rows session =
-        read
-        ∙ ap (λ o. with_reaches session.positions map.empty (reaches rows (session_channels session) (option_to_list o))) left
-        ∙ ap (with_reaches session.positions map.empty) (reaches_by_first rows (session_channels session) (left_items rows session))
+    read
+    ∙ ap (λ o. with_reaches session.positions map.empty (reaches rows (session_channels session) (option_to_list o))) left
+    ∙ ap (with_reaches session.positions map.empty) (reaches_by_first rows (session_channels session) (left_items rows session))
     in
     λ k. record { items = items k; to = reach k; ack_wanted = true }

@@ -44,9 +44,9 @@ pub polls_send : (before end : End) (u : List ℕ) (now : ℕ) (s : Session) (de
     → Polls end (record before { drawn = before.drawn + 1; sessions = ss }) u now (Send delivery)
 polls_send before end u now s delivery outstanding ss same found name prepared changed =
     let made : record before { drawn = before.drawn + 1; sessions = ss } ≡ sent end s now =
-        (λ k. record before { drawn = before.drawn + 1; sessions = changed k })
-        ∙ (λ k. record (same k) { drawn = (same k).drawn + 1; sessions = with_changed (is_named u) (sending outstanding now) (same k).sessions })
-        ∙ (λ k. record end { drawn = end.drawn + 1; sessions = with_changed (is_named (sym name k)) (sending (prepared.3 k) now) end.sessions })
+    (λ k. record before { drawn = before.drawn + 1; sessions = changed k })
+    ∙ (λ k. record (same k) { drawn = (same k).drawn + 1; sessions = with_changed (is_named u) (sending outstanding now) (same k).sessions })
+    ∙ (λ k. record end { drawn = end.drawn + 1; sessions = with_changed (is_named (sym name k)) (sending (prepared.3 k) now) end.sessions })
     in
     subst (λ o. PollsIn end (record before { drawn = before.drawn + 1; sessions = ss }) o now (Send delivery)) (sym found) (prepared.0, prepared.1, prepared.2, made)
 

@@ -108,7 +108,8 @@ fn is_of(item: &Item, channel: &ChannelName) -> bool
     match item {
         Item::Event(event) => event.channel == *channel,
         Item::Dropped {
-            channel: dropped, ..
+            channel: dropped,
+            ..
         } => *dropped == *channel,
         Item::Loose { .. } => false,
     }

@@ -17,7 +17,6 @@ use wef_event::Event;
 use wef_query::{QueryList, selected};
 use wef_source_log::Log;
 
-
 /// The most records that are read at once.
 const PAGE: u32 = 256;
 

@@ -7,7 +7,7 @@ mod drafting;
 pub mod faults;
 pub mod laws;
 pub mod messages;
-pub mod serving;
+mod serving;
 pub mod sessions;
 pub mod source;
 
@@ -15,3 +15,6 @@ pub use faults::SourceFault;
 pub use messages::{Delivery, Moved, Poll, Reply};
 pub use sessions::{Outstanding, Session};
 pub use source::SourceEnd;
+
+#[cfg(test)]
+mod tests;

@@ -8,7 +8,7 @@ loop-channel-preserved c =
     let index = c.loop-channel.channel-index in
     let within : index < length all = omega arith in
     let parts : drop index all ≡ c.channel-item.result ∷ drop (index + 1) all =
-        rw (add-one) (drop-cons all index c.channel-item.result within ∙ ap (λ x. x ∷ drop (suc index) all) (sym c.channel-item.is))
+    rw (add-one) (drop-cons all index c.channel-item.result within ∙ ap (λ x. x ∷ drop (suc index) all) (sym c.channel-item.is))
     in
     channel_taken c.args.log.now c.args.session.now c.loop-channel.draft c.take_channel.new.self c.channel-item.result (drop (index + 1) all) (drop index all) c.in_ok-take_channel.ensures.ok parts
     ∙ c.loop-channel.invariant

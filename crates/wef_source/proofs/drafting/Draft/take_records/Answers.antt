@@ -13,7 +13,7 @@ loop-room-preserved c =
     let at : c.last_number-after.result ≡ last_number c.loop-room.after page = cc in
     let behind = records_after rows channel c.last_number-after.result in
     let parts : records_after rows channel c.loop-room.after ≡ page ++ behind =
-        c.in_ok-page.ensures.rest ∙ ap (λ n. page ++ records_after rows channel n) (sym at)
+    c.in_ok-page.ensures.rest ∙ ap (λ n. page ++ records_after rows channel n) (sym at)
     in
     page_taken (item_of c.args.query.now c.args.room) c.loop-room.self c.take_events.new.self page behind (records_after rows channel c.loop-room.after) c.in_ok-take_events.ensures parts
     ∙ c.loop-room.invariant
