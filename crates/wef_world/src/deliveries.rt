@@ -50,13 +50,13 @@ impl World {
         match message {
             Message::Ask { source, id } => {
                 let answer = answer_to_ask(alloc, &self.collector, source, id)?;
-                self.answer(number, "offers", answer)
+                self.reply(number, "offers", answer)
             }
             Message::Events { source, delivery } => {
                 let refusal = take_delivery(&mut self.collector, delivery)?;
                 let word = answer_word(alloc, &refusal, delivery)?;
                 match answer_to_delivery(source, delivery, refusal)? {
-                    Some(answer) => self.answer(number, word.as_str(), answer),
+                    Some(answer) => self.reply(number, word.as_str(), answer),
                     None => Ok(took_line(alloc, number, word.as_str())?),
                 }
             }
@@ -85,7 +85,7 @@ impl World {
     }
 
     /// Sends the answer to a message that was taken.
-    fn answer(&mut self, number: u64, word: &str, answer: Message) -> Result<Text, WorldFault>
+    fn reply(&mut self, number: u64, word: &str, answer: Message) -> Result<Text, WorldFault>
         ensures state { OnOk result (self.new ≡ states.with_message self.old answer) }
         ensures printed { IfOk result (λ text. text ≡ answered_line number word.now (states.next_number self.old)) }
     {

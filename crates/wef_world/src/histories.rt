@@ -1,7 +1,10 @@
 //! All that a source ever wrote.
 
 ghost use Rattle.std.specs.Prelude.{◌≡◌, OnOk};
+ghost use Rattle.std.specs.BTreeMap.{IsOrdered};
+ghost use Rattle.std.specs.Cmp.Lexicographic.{slice_cmp};
 ghost use Rattle.std.specs.FinMap as map;
+ghost use Rattle.std.specs.Ordering.{nat_cmp};
 ghost use Rattle.wef_source_log.specs.Histories.{extended};
 
 use std::alloc::{AllocError, Global};
@@ -49,6 +52,26 @@ impl Histories {
     pub fn append(&mut self, channel: &ChannelName, text: &Text) -> Result<(), AllocError>
         ensures { OnOk result (self.new ≡ extended self.old channel.now text.now) }
     {
-        todo!()
+        append_in(&mut self.records, self.alloc, channel, text)
     }
+}
+
+fn append_in(
+    records: &mut BTreeMap<ChannelName, List<Text>>,
+    alloc: Global,
+    channel: &ChannelName,
+    text: &Text,
+) -> Result<(), AllocError>
+    ensures ok { OnOk result (map.from_entries records.new.entries ≡ extended (map.from_entries records.old.entries) channel.now text.now) }
+    ensures ordered { IsOrdered (slice_cmp nat_cmp) records.new }
+{
+    let text = text.clone()?;
+    if let Some(texts) = records.get_mut(channel) {
+        texts.push(text)?;
+        return Ok(());
+    }
+    let mut texts = List::new(alloc);
+    texts.push(text)?;
+    records.insert(channel.clone()?, texts)?;
+    Ok(())
 }

@@ -1,27 +1,63 @@
 //! A declared source.
 
 ghost use Rattle.std.specs.Prelude.{◌≡◌, ◌≤◌, IfOk};
+ghost use Rattle.wef_event.specs.Unnumbered.{numbered};
 ghost use Rattle.wef_source.specs.Machine.{start_of};
 
 use crate::faults::WorldFault;
 use crate::histories::Histories;
 use crate::world::MOMENT;
 use std::alloc::Global;
+use std::marker::Model;
 use wef_base::{List, SubId};
 use wef_envelope::MessageId;
-use wef_event::{EventFault, PlainEvent};
+use wef_event::{Event, PlainEvent};
 use wef_eventing::Offer;
 use wef_source::{Delivery, Poll, Reply, SourceEnd, SourceFault};
+
+/// How many records of a channel a log keeps: from 1 to 1,000,000.
+#[derive(Drop)]
+pub struct Capacity {
+    records: u64,
+}
+
+impl Model for Capacity {
+    ghost use Rattle.std.specs.Prelude.{ℕ, ◌≤◌};
+
+    ghost Value = { ℕ };
+
+    ghost view = { λ c. c.records };
+
+    ghost invariant = { λ c. (1 ≤ c.records) × (c.records ≤ 1000000) };
+}
+
+impl Capacity {
+    /// The capacity of so many records.
+    pub fn of(records: u64) -> Capacity
+        requires least { 1 ≤ records }
+        requires greatest { records ≤ 1000000 }
+        ensures { result ≡ records }
+    {
+        Capacity { records }
+    }
+
+    /// The number of records.
+    pub fn records(&self) -> u64
+        ensures number { result ≡ self.now }
+        ensures least { 1 ≤ result }
+        ensures greatest { result ≤ 1000000 }
+    {
+        self.records
+    }
+}
 
 /// A source as the world holds it: how many records of a channel its log keeps, all that it ever
 /// wrote, and its end from the first line on that uses it.
 #[derive(Drop)]
 pub struct Slot {
-    pub capacity: u64,
+    pub capacity: Capacity,
     pub histories: Histories,
     pub end: Option<SourceEnd>,
-    pub ghost least: { 1 ≤ capacity },
-    pub ghost greatest: { capacity ≤ 1000000 },
 }
 
 /// What a write did.
@@ -59,9 +95,7 @@ impl Slot {
     ghost use Rattle.wef_world.specs.States.{moment, opened};
 
     /// A source that was just declared.
-    pub fn new(alloc: Global, capacity: u64) -> Slot
-        requires least { 1 ≤ capacity }
-        requires greatest { capacity ≤ 1000000 }
+    pub fn new(alloc: Global, capacity: Capacity) -> Slot
         ensures { result ≡ declared_slot capacity }
     {
         Slot {
@@ -76,7 +110,7 @@ impl Slot {
         ensures { OnOk result (self.new ≡ slots.slot_with self.old (opened self.old)) }
     {
         if self.end.is_none() {
-            self.end = Some(start(alloc, self.capacity)?);
+            self.end = Some(start(alloc, self.capacity.records())?);
         }
         Ok(())
     }
@@ -91,7 +125,7 @@ impl Slot {
         };
         match end.write(event) {
             Ok(number) => {
-                let record = numbered(event, number)?;
+                let record = record_of(event, number)?;
                 self.histories.append(&record.channel, &record.text)?;
                 Ok(Written::Record(number))
             }
@@ -198,6 +232,17 @@ fn start(alloc: Global, capacity: u64) -> Result<SourceEnd, WorldFault>
 {
     match SourceEnd::start(alloc, capacity) {
         Ok(end) => Ok(end),
+        Err(_) => Err(WorldFault::NoMemory),
+    }
+}
+
+/// An event that a log took as the record of a number.
+fn record_of(event: &PlainEvent, number: u64) -> Result<Event, WorldFault>
+    requires { number ≤ 9223372036854775807 }
+    ensures { IfOk result (λ event_with. numbered event.now number ≡ Some event_with) }
+{
+    match event.numbered(number) {
+        Ok(record) => Ok(record),
         Err(_) => Err(WorldFault::NoMemory),
     }
 }

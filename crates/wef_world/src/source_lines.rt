@@ -1,13 +1,13 @@
 //! The lines of sources.
 
-ghost use Rattle.std.specs.Prelude.{◌≡◌, ◌≤◌, [], IfOk, OnOk};
+ghost use Rattle.std.specs.Prelude.{◌≡◌, [], IfOk, OnOk};
 ghost use Rattle.wef_world.specs.Sources as steps;
 ghost use Rattle.wef_world.specs.States as states;
 
 use crate::faults::WorldFault;
 use crate::messages::Message;
 use crate::printing::{name_line, pair_line, sent_ask_line, sent_events_line, wrote_line};
-use crate::slots::{Polled, Slot, Written};
+use crate::slots::{Capacity, Polled, Slot, Written};
 use crate::world::World;
 use std::alloc::AllocError;
 use wef_base::{SourceName, SubId, Text};
@@ -18,10 +18,8 @@ impl World {
     pub(crate) fn declare(
         &mut self,
         source: &SourceName,
-        capacity: u64,
+        capacity: Capacity,
     ) -> Result<Text, WorldFault>
-        requires least { 1 ≤ capacity }
-        requires greatest { capacity ≤ 1000000 }
         ensures state { OnOk result (self.new ≡ states.with_slot self.old source.now (steps.declared_slot capacity)) }
         ensures printed { IfOk result (λ text. text ≡ []) }
     {

@@ -11,6 +11,7 @@ ghost use Rattle.wef_world.specs.Steps as steps;
 use crate::faults::WorldFault;
 use crate::messages::Message;
 use crate::printing::{batch_line, fault_answer, held_text, name_line};
+use crate::slots::Capacity;
 use crate::sources::Sources;
 use std::alloc::{AllocError, Global};
 use std::collections::BTreeSet;
@@ -128,7 +129,7 @@ impl World {
             } => self.subscribe(sub, *items, *bytes, *beat, query),
             Line::End { sub } => self.end(sub),
             Line::Batch { sub, source, batch } => self.take(sub, source, batch),
-            Line::Source { source, capacity } => self.declare(source, *capacity),
+            Line::Source { source, capacity } => self.declare(source, Capacity::of(*capacity)),
             Line::Write { source, event } => self.write(source, event),
             Line::Ask { source } => self.ask(source),
             Line::Poll { source, sub } => self.poll(source, sub),
