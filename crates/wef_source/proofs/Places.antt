@@ -1,8 +1,7 @@
 -- The first session that passes a test, by its place.
 use Rattle.std.proofs.Common.{◌≡◌, ℕ, suc, ◌+◌, ◌<◌, cond, Bool, true, false, List, [], ◌∷◌, length, get_or, set, refl, ap, sym, subst, ◌∙◌, Some, None, arith}
-use Rattle.std.specs.Prelude.{Option, is_some}
-use Rattle.std.specs.List.{All, position, position_from, remove}
-use Rattle.std.proofs.lemmas.List.Elements.{All-set}
+use Rattle.std.specs.Prelude.{is_some}
+use Rattle.std.specs.List.{position, position_from, remove}
 use Rattle.std.proofs.lemmas.Iterator.Adapters.{position_from-zero}
 use Rattle.wef_source.specs.Sessions.{first_where, with_changed, without}
 use Rattle.wef_source.specs.declared.sessions.Session.{Session}

@@ -1,15 +1,14 @@
 -- A poll of the session of a name.
-use Rattle.std.proofs.Common.{◌≡◌, ℕ, ◌+◌, ◌-◌, ◌<◌, cond, Bool, true, false, List, [], ◌∷◌, get_or, length, set, refl, ap, sym, subst, ◌∙◌, Some, None}
+use Rattle.std.proofs.Common.{◌≡◌, ℕ, ◌+◌, ◌-◌, ◌<◌, cond, true, false, List, [], ◌∷◌, get_or, length, set, refl, sym, subst, ◌∙◌, Some, None}
 use Rattle.std.specs.Prelude.{is_some, nat_lt}
 use Rattle.std.specs.FinMap as map
-use Rattle.std.specs.List.{All}
 use Rattle.std.proofs.lemmas.List.Elements.{All-set}
 use Rattle.wef_batch.specs.declared.items.Item.{Item}
 use Rattle.wef_bookmark.specs.Order.{Marks, number_at, raised}
 use Rattle.wef_keeper.specs.Rows.{Rows}
 use Rattle.wef_source.specs.Answers.{Polls, PollsIn, RefusesPoll, WhereThere}
 use Rattle.wef_source.specs.Building.{built, left_items, first_number, is_of, reaches, session_channels, with_reach, with_reaches}
-use Rattle.wef_source.specs.Machine.{End, is_idle, is_spent, sent}
+use Rattle.wef_source.specs.Machine.{End, is_idle, sent}
 use Rattle.wef_source.specs.Prepared.{Prepares, RefusesToPrepare, outstanding_of}
 use Rattle.wef_source.specs.Serving.{AreKept, HasAll, HasEach, IsCovered}
 use Rattle.wef_source.specs.Sessions.{is_named, sending, session_of, with_changed}

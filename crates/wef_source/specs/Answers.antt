@@ -1,5 +1,5 @@
 -- What the calls of a source answer, by what it holds as the call begins.
-use Rattle.std.specs.Prelude.{◌≡◌, ℕ, ◌+◌, Bool, true, false, List, [], length, is_some, Option, Some, None}
+use Rattle.std.specs.Prelude.{◌≡◌, ℕ, ◌+◌, true, false, List, [], length, is_some, Option, Some, None}
 use Rattle.wef_envelope.specs.Ids.{ids_agree}
 use Rattle.wef_envelope.specs.declared.MessageId.{MessageId}
 use Rattle.wef_event.specs.declared.unnumbered.PlainEvent.{PlainEvent}

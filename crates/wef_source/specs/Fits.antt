@@ -1,6 +1,6 @@
 -- When a batch fits what is kept of a source: it says of each channel, above the bookmark and up to its reach, just what
 -- is wanted there, and marks as dropped only what is lost.
-use Rattle.std.specs.Prelude.{◌≡◌, ℕ, ◌<◌, ◌≤◌, ◌==◌, Bool, true, false, ◌&&◌, List, [], ◌∷◌, length, Option, Some, None, IsTrue, if◌then◌else◌}
+use Rattle.std.specs.Prelude.{◌≡◌, ℕ, ◌<◌, ◌≤◌, ◌==◌, Bool, true, false, ◌&&◌, List, [], ◌∷◌, length, Option, Some, None, if◌then◌else◌}
 use Rattle.std.specs.FinMap as map
 use Rattle.wef_base.specs.Names.{same}
 use Rattle.wef_batch.specs.Reach.{reach, loose_sum}

@@ -1,7 +1,5 @@
 -- A source as a machine: what it holds, and what each call makes of it.
-use Rattle.std.specs.Prelude.{◌≡◌, ℕ, ◌+◌, ◌*◌, ◌==◌, nat_le, Bool, true, false, List, [], ◌∷◌, length, is_some, is_none, Option, Some, None, if◌then◌else◌}
-use Rattle.wef_batch.specs.declared.items.Batch.{Batch}
-use Rattle.wef_bookmark.specs.Order.{Marks}
+use Rattle.std.specs.Prelude.{ℕ, ◌+◌, ◌*◌, ◌==◌, nat_le, Bool, true, false, List, [], length, is_some, Option, Some, None, if◌then◌else◌}
 use Rattle.wef_eventing.specs.declared.bodies.Offer.{Offer}
 use Rattle.wef_envelope.specs.declared.FaultName.{FaultName}
 use Rattle.wef_envelope.specs.declared.FaultName.TheVariants.{DestinationUnreachable}
@@ -10,7 +8,6 @@ use Rattle.wef_source_log.specs.Windows.{boot_of, started, written}
 use Rattle.wef_source.specs.Building.{built}
 use Rattle.wef_source.specs.Sessions.{acknowledged, is_named, sending, settled, waits_for, with_changed, with_offers, without}
 use Rattle.wef_source.specs.declared.messages.Delivery.{Delivery}
-use Rattle.wef_source.specs.declared.sessions.Outstanding.{Outstanding}
 use Rattle.wef_source.specs.declared.sessions.Session.{Session}
 
 -- A source: the rows of its log, how many ids it drew since it was started, the id of the last ask that wasn't

@@ -1,4 +1,4 @@
-use Rattle.std.proofs.Common.{◌≡◌, [], ap, sym, subst, ◌∙◌, List}
+use Rattle.std.proofs.Common.{sym, subst}
 use Rattle.wef_source.specs.Serving.{AreKept}
 use Rattle.wef_source.specs.Sessions.{with_offers}
 use Rattle.wef_source.proofs.Covering.{none_kept}

@@ -1,7 +1,7 @@
-use Rattle.std.proofs.Common.{◌≡◌, ◌∙◌, ap, sym}
+use Rattle.std.proofs.Common.{◌≡◌, ◌∙◌, ap}
 use Rattle.std.specs.FinMap as map
 use Rattle.std.specs.Option.{option_to_list}
-use Rattle.wef_source.specs.Building.{candidates, candidates_in, reaches, room_of, session_channels, with_reaches}
+use Rattle.wef_source.specs.Building.{candidates_in, reaches, room_of, session_channels, with_reaches}
 use Rattle.wef_source.specs.Drafting.{empty_draft, taken_all}
 use Rattle.wef_source.proofs.Drafts.{built_by}
 use Rattle.wef_source.proofs.building.built.Goals as goal

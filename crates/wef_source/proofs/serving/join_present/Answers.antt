@@ -1,6 +1,6 @@
-use Rattle.std.proofs.Common.{◌≡◌, ap, sym, subst, ◌∙◌, List, rules}
+use Rattle.std.proofs.Common.{◌≡◌, ap, sym, subst, ◌∙◌}
 use Rattle.std.specs.FinMap as map
-use Rattle.wef_bookmark.specs.Order.{raised, raised_by}
+use Rattle.wef_bookmark.specs.Order.{raised_by}
 use Rattle.wef_source.specs.Serving.{HasAll}
 use Rattle.wef_source.proofs.Covering.{AreIn, entries_are_in, raised_has_all}
 use Rattle.wef_source.proofs.serving.join_present.Goals as goal

@@ -1,10 +1,10 @@
-use Rattle.std.proofs.Common.{◌≡◌, ◌+◌, ◌∙◌, ap, sym, subst, set, Some, None}
+use Rattle.std.proofs.Common.{◌≡◌, ◌∙◌, ap, sym, subst, set, Some, None}
 use Rattle.std.specs.List.{position}
 use Rattle.std.specs.Cmp.Lexicographic.{same_text}
 use Rattle.std.proofs.lemmas.Result.{err_from_is_err_and}
 use Rattle.wef_source.specs.Machine.{End}
 use Rattle.wef_source.specs.Prepared.{Prepares, outstanding_of}
-use Rattle.wef_source.specs.Sessions.{is_named, sending, session_of, with_changed}
+use Rattle.wef_source.specs.Sessions.{is_named, sending, session_of}
 use Rattle.wef_source.proofs.Places.{changed_at, first_at, first_nowhere, passes_at, same_session, within_at}
 use Rattle.wef_source.proofs.Polling.{polls_nothing, polls_send, refuses_poll, sent_kept}
 use Rattle.wef_source.proofs.source.SourceEnd.poll.Goals as goal

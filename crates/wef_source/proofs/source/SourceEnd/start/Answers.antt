@@ -1,4 +1,3 @@
-use Rattle.std.proofs.Common.{◌≡◌, List, []}
 use Rattle.wef_source.proofs.Covering.{none_kept}
 use Rattle.wef_source.proofs.source.SourceEnd.start.Goals as goal
 
