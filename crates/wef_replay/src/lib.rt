@@ -3,7 +3,9 @@
 
 mod batches;
 mod grammar;
+pub mod laws;
 mod lines;
+mod naming;
 mod schedule;
 mod values;
 

@@ -1,0 +1,5 @@
+pub mod Among
+pub mod Fitting
+pub mod Following
+pub mod Gifts
+pub mod GoodNames
