@@ -13,22 +13,21 @@ use Rattle.wef_replay.specs.declared.lines.Line.TheVariants.{Subscribe, End, Bat
 -- ---- one text
 
 -- the lines from a text on, by what it does
-lines_by : Option (Option Line) → Names → List (List ℕ) → List Line
+abbrev pub lines_by : Option (Option Line) → Names → List (List ℕ) → List Line
 lines_by meaning names texts = cond (is_some meaning) (with_line (option_flatten meaning) (lines_of (noted_if_some (option_flatten meaning) names) texts)) []
 
-bad_by : Option (Option Line) → Names → ℕ → List (List ℕ) → Option ℕ
+-- the first bad line from a text on, by what it does
+abbrev pub bad_by : Option (Option Line) → Names → ℕ → List (List ℕ) → Option ℕ
 bad_by meaning names k texts = cond (is_some meaning) (first_bad (noted_if_some (option_flatten meaning) names) (k + 1) texts) (Some k)
 
 -- a good text that does this stands in front of the lines that follow it
 pub lines_of-good : (names : Names) (text : List ℕ) (texts : List (List ℕ)) (act : Option Line) → meaning_after names text ≡ Some act
     → lines_of names (text ∷ texts) ≡ with_line act (lines_of (noted_if_some act names) texts)
-unfolding lines_by
 lines_of-good names text texts act e = ap (λ (meaning : Option (Option Line)). lines_by meaning names texts) e
 
 -- and the first bad line is one that follows it
 pub first_bad-good : (names : Names) (k : ℕ) (text : List ℕ) (texts : List (List ℕ)) (act : Option Line) → meaning_after names text ≡ Some act
     → first_bad names k (text ∷ texts) ≡ first_bad (noted_if_some act names) (k + 1) texts
-unfolding bad_by
 first_bad-good names k text texts act e = ap (λ (meaning : Option (Option Line)). bad_by meaning names k texts) e
 
 -- ---- names that are alike
@@ -81,7 +80,6 @@ meaning_after-alike text a b alike = by (meaning text)
 
 -- after names that are alike the same lines are read
 pub lines_of-alike : (texts : List (List ℕ)) (a b : Names) → AreAlike a b → lines_of a texts ≡ lines_of b texts
-unfolding lines_by
 lines_of-alike [] a b alike = refl
 lines_of-alike (text ∷ texts) a b alike =
     ap (λ (meaning : Option (Option Line)). lines_by meaning a texts) (meaning_after-alike text a b alike) ∙ by (λ (act : Option Line). lines_of-alike texts (noted_if_some act a) (noted_if_some act b) (alike_noted_if_some act a b alike)) (meaning_after b text)
@@ -92,7 +90,6 @@ lines_of-alike (text ∷ texts) a b alike =
 
 -- and the same line is the first bad one
 pub first_bad-alike : (texts : List (List ℕ)) (k : ℕ) (a b : Names) → AreAlike a b → first_bad a k texts ≡ first_bad b k texts
-unfolding bad_by
 first_bad-alike [] k a b alike = refl
 first_bad-alike (text ∷ texts) k a b alike =
     ap (λ (meaning : Option (Option Line)). bad_by meaning a k texts) (meaning_after-alike text a b alike) ∙ by (λ (act : Option Line). first_bad-alike texts (k + 1) (noted_if_some act a) (noted_if_some act b) (alike_noted_if_some act a b alike)) (meaning_after b text)

@@ -1,6 +1,6 @@
 -- Names that words give are such as their readers give: texts that read back as themselves.
 use Rattle.std.proofs.Common.{◌≡◌, ℕ, Bool, true, false, ◌&&◌, cond, List, [], ◌∷◌, map, refl, ap, sym, ◌∙◌, arith, encode_utf8_all}
-use Rattle.std.specs.Prelude.{Option, Some, None, IsUtf8}
+use Rattle.std.specs.Prelude.{Option, Some, None, IsUtf8, codes, not}
 use Rattle.std.specs.Char.{to_ascii_lowercase}
 use Rattle.std.specs.Cmp.Lexicographic.{nat_list_eq_equiv}
 use Rattle.std.specs.List.{list_any}
@@ -115,10 +115,11 @@ unfolding channel_name
 good-channel word = all_of-then _ _ channel_name (decoded word) (decoded_is_text word) (good_name Small 256)
 
 good-unless_collector : (s : List ℕ) → is_source s ≡ true → AllOf (λ s. (is_source s && is_no_collector s) ≡ true) (unless_collector s)
-good-unless_collector s h = by (is_no_collector s) refl
+good-unless_collector s h = by (same s (codes "collector")) refl
   where
-    by : (b : Bool) → is_no_collector s ≡ b → AllOf (λ s. (is_source s && is_no_collector s) ≡ true) (unless_collector s)
-    by b e = ?
+    by : (b : Bool) → same s (codes "collector") ≡ b → AllOf (λ s. (is_source s && is_no_collector s) ≡ true) (cond b None (Some s))
+    by true e = tt
+    by false e = and_from (is_source s) (is_no_collector s) h (ap not e)
 
 pub good-sending_source : (word : List ℕ) → AllOf (λ s. (is_source s && is_no_collector s) ≡ true) (sending_source_word word)
 good-sending_source word = all_of-then _ _ unless_collector (source_word word) (good-source word) good-unless_collector
