@@ -1,6 +1,6 @@
 -- The event of a word of XML Chars.
-use Rattle.std.proofs.Common.{◌≡◌, ℕ, Bool, true, false, cond, List, refl, ap, ◌∙◌}
-use Rattle.std.specs.Prelude.{Option, Some, None, is_some}
+use Rattle.std.proofs.Common.{◌≡◌, Bool, true, false, cond, refl, ap, ◌∙◌}
+use Rattle.std.specs.Prelude.{Some, None, is_some}
 use Rattle.std.proofs.Math.Bool.{Bool-set}
 use Rattle.wef_event.specs.Characters.{is_xml_text}
 use Rattle.wef_event.specs.Unnumbered.{numbered}

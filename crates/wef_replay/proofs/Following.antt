@@ -1,12 +1,12 @@
 -- The texts of a schedule, one after the other.
-use Rattle.std.proofs.Common.{◌≡◌, ℕ, ◌+◌, Bool, true, false, not, ◌&&◌, ◌||◌, cond, List, [], ◌∷◌, ◌++◌, refl, ap, sym, ◌∙◌, append_assoc}
+use Rattle.std.proofs.Common.{◌≡◌, ℕ, ◌+◌, Bool, not, ◌&&◌, ◌||◌, cond, List, [], ◌∷◌, ◌++◌, refl, ap, sym, ◌∙◌, append_assoc}
 use Rattle.std.specs.Prelude.{Option, Some, None, is_some}
 use Rattle.std.specs.Option.{option_and_then, option_flatten}
 use Rattle.wef_base.specs.Names.{same}
 use Rattle.wef_replay.specs.Alike.{AreAlike}
 use Rattle.wef_replay.specs.Good.{Names, allows, noted}
 use Rattle.wef_replay.specs.Grammar.{meaning}
-use Rattle.wef_replay.specs.Schedule.{first_bad, if_allowed, is_good, lines_of, meaning_after, names_after, noted_if_some, with_line}
+use Rattle.wef_replay.specs.Schedule.{first_bad, if_allowed, lines_of, meaning_after, noted_if_some, with_line}
 use Rattle.wef_replay.specs.declared.lines.Line.{Line}
 use Rattle.wef_replay.specs.declared.lines.Line.TheVariants.{Subscribe, End, Batch, Source, Write, Ask, Poll, Deliver, Back, Lost, Show, Print}
 

@@ -1,5 +1,5 @@
 -- Batches that words make have items, numbers and channels as batches have.
-use Rattle.std.proofs.Common.{◌≡◌, ℕ, ◌+◌, Bool, true, false, ◌&&◌, ◌||◌, cond, List, [], ◌∷◌, ◌++◌, Ordering, length, refl, ap, sym, ◌∙◌, arith, max, nat_lt, length-append}
+use Rattle.std.proofs.Common.{◌≡◌, ℕ, ◌+◌, Bool, true, false, ◌&&◌, ◌||◌, cond, List, [], ◌∷◌, Ordering, length, refl, ap, sym, ◌∙◌, arith, max, nat_lt, length-append}
 use Rattle.std.specs.Prelude.{◌==◌, Option, Some, None, codes, not, unwrap_or}
 use Rattle.std.specs.Cmp.Lexicographic.{slice_cmp}
 use Rattle.std.specs.FinMap as map
@@ -14,17 +14,16 @@ use Rattle.std.proofs.lemmas.List.Folds.{list_all-append}
 use Rattle.wef_base.specs.Names.{same}
 use Rattle.wef_base.specs.Words.{parts}
 use Rattle.wef_batch.specs.declared.items.Batch as batch
-use Rattle.wef_batch.specs.declared.items.Item as items
 use Rattle.wef_batch.specs.declared.items.Item.TheVariants as item
 use Rattle.wef_bookmark.specs.Order.{Marks, number_at, raised}
 use Rattle.wef_event.specs.PlainEvent.{plain_event, plain_text}
 use Rattle.wef_event.specs.declared.records.Event.{Event}
-use Rattle.wef_replay.specs.BatchWords.{added, batch_word, data_word, dropped_word, empty_batch, event_word, greatest, if_word, is_nothing, long_word, loose_word, reach_word, read_words, word_of}
+use Rattle.wef_replay.specs.BatchWords.{added, batch_word, data_word, dropped_word, empty_batch, event_word, greatest, if_word, is_nothing, loose_word, reach_word, read_words, word_of}
 use Rattle.wef_replay.specs.Good.{are_words, has_word, is_channel, is_count, is_item, is_number, is_reach}
 use Rattle.wef_replay.specs.Values.{channel_word, number_word}
 use Rattle.wef_replay.specs.declared.batches.BatchWord.{BatchWord}
 use Rattle.wef_replay.specs.declared.batches.BatchWord.TheVariants.{Item, Reach, Ack}
-use Rattle.wef_replay.proofs.Gifts.{AllOf, all_of-if, all_of-map, all_of-tested, all_of-then}
+use Rattle.wef_replay.proofs.Gifts.{AllOf, all_of-if, all_of-map, all_of-then}
 use Rattle.wef_replay.proofs.GoodNames.{good-channel}
 use Rattle.wef_replay.proofs.GoodNumbers.{count_from_between, good-number, is_count-max}
 
@@ -86,6 +85,7 @@ good-put k v (e ∷ es) channel count all = by (good-put k v es channel count pa
   where
     parts : (is_reach e ≡ true) × (list_all is_reach es ≡ true)
     parts = and_parts (is_reach e) (list_all is_reach es) all
+
     by : list_all is_reach (map.put (slice_cmp nat_cmp) k v es) ≡ true → (r : Ordering) → list_all is_reach (by_order r ((k, v) ∷ e ∷ es) ((e.0, v) ∷ es) (e ∷ map.put (slice_cmp nat_cmp) k v es)) ≡ true
     by rest Less = λ i. (channel i && count i) && all i
     by rest Equal = λ i. ((and_parts (is_channel e.0) (is_count e.1) parts.0).0 i && count i) && parts.1 i
@@ -97,6 +97,7 @@ good-find k (e ∷ es) all = by (eq_by_cmp (slice_cmp nat_cmp) k e.0) (good-find
   where
     parts : (is_reach e ≡ true) × (list_all is_reach es ≡ true)
     parts = and_parts (is_reach e) (list_all is_reach es) all
+
     by : (b : Bool) → is_count (unwrap_or (map.find (slice_cmp nat_cmp) k es) 0) ≡ true → is_count (unwrap_or (cond b (Some e.1) (map.find (slice_cmp nat_cmp) k es)) 0) ≡ true
     by true rest = (and_parts (is_channel e.0) (is_count e.1) parts.0).1
     by false rest = rest

@@ -1,25 +1,23 @@
 -- The lines that words make have values of the kinds that lines have.
-use Rattle.std.proofs.Common.{◌≡◌, ℕ, ◌+◌, Bool, true, false, ◌&&◌, cond, List, [], ◌∷◌, length, refl, arith, nat_lt}
-use Rattle.std.specs.Prelude.{◌==◌, Option, Some, None, codes, is_some, not, Ok}
+use Rattle.std.proofs.Common.{◌≡◌, ℕ, ◌+◌, Bool, true, false, ◌&&◌, List, [], ◌∷◌, length, refl, arith}
+use Rattle.std.specs.Prelude.{◌==◌, Option, Some, None, codes, is_some, not}
 use Rattle.std.specs.List.{list_all}
-use Rattle.std.specs.Option.{option_and_then}
 use Rattle.std.specs.Str.{is_utf8}
 use Rattle.std.proofs.lemmas.Bool.{and_from, and_parts}
 use Rattle.std.proofs.lemmas.Bool.Decides.{nat_tests}
 use Rattle.wef_base.specs.Names.{same}
 use Rattle.wef_base.specs.Words.{decoded, parts}
-use Rattle.wef_batch.specs.declared.items.Batch as batch
 use Rattle.wef_event.specs.Characters.{is_xml_text}
 use Rattle.wef_event.specs.Unnumbered.{numbered}
 use Rattle.wef_event.specs.declared.unnumbered.PlainEvent.{PlainEvent}
 use Rattle.wef_query.specs.Queries.{all_events_of}
 use Rattle.wef_replay.specs.BatchWords.{empty_batch, greatest, read_words}
-use Rattle.wef_replay.specs.Good.{are_all, are_words, asks_for_all, fits_always, is_between, is_channel, is_count, is_line, is_no_collector, is_source, is_subscription}
+use Rattle.wef_replay.specs.Good.{are_all, asks_for_all, fits_always, is_channel, is_line, is_no_collector, is_source, is_subscription}
 use Rattle.wef_replay.specs.Grammar.{all_of, ask_line, back_line, batch_line, deliver_line, does_nothing, end_line, event_if_xml, event_words, fitting_event, if_fits, line_of_words, lost_line, meaning, poll_line, print_line, show_line, source_line, source_line_of, subscribe_line, subscribe_numbers, write_line}
 use Rattle.wef_replay.specs.Reading.{with_first}
 use Rattle.wef_replay.specs.Values.{channel_word, channel_words, number_word, sending_source_word, source_word, subscription_word}
 use Rattle.wef_replay.specs.declared.lines.Line.{Line}
-use Rattle.wef_replay.specs.declared.lines.Line.TheVariants.{Subscribe, End, Batch, Source, Write, Ask, Poll, Deliver, Back, Lost, Show, Print}
+use Rattle.wef_replay.specs.declared.lines.Line.TheVariants.{Subscribe, End, Batch, Source, Write, Ask, Poll, Deliver, Back, Lost, Print}
 use Rattle.wef_replay.proofs.Gifts.{AllOf, all_of-if, all_of-map, all_of-tested, all_of-then}
 use Rattle.wef_replay.proofs.GoodBatches.{good-batch_words}
 use Rattle.wef_replay.proofs.GoodNames.{decoded_is_text, good-channel, good-sending_source, good-source, good-subscription}

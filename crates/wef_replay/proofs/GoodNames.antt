@@ -3,14 +3,12 @@ use Rattle.std.proofs.Common.{◌≡◌, ℕ, Bool, true, false, ◌&&◌, cond,
 use Rattle.std.specs.Prelude.{Option, Some, None, IsUtf8, codes, not}
 use Rattle.std.specs.Char.{to_ascii_lowercase}
 use Rattle.std.specs.Cmp.Lexicographic.{nat_list_eq_equiv}
-use Rattle.std.specs.List.{list_any}
-use Rattle.std.specs.Option.{option_and_then}
 use Rattle.std.specs.Str.{all_scalars, chars, is_utf8}
 use Rattle.std.proofs.lemmas.Bool.{and_from, and_parts}
 use Rattle.std.proofs.lemmas.Bool.Decides.{nat_tests}
 use Rattle.std.proofs.lemmas.Str.{IsUtf8-from_is_utf8, is_utf8-from_IsUtf8, scalars-chars}
 use lib.Utf8.{scalar}
-use Rattle.wef_base.specs.Names.{channel_name, is_forbidden, is_space, name_of, name_of_characters, same, source_name, spelt, subscription_name, trimmed_characters, unless_last_space, without_end, without_start}
+use Rattle.wef_base.specs.Names.{channel_name, is_space, name_of, name_of_characters, same, source_name, spelt, subscription_name, trimmed_characters, unless_last_space, without_end, without_start}
 use Rattle.wef_base.specs.Words.{decoded, utf8}
 use Rattle.wef_base.specs.declared.names.Letters.{Letters}
 use Rattle.wef_base.specs.declared.names.Letters.TheVariants.{Kept, Small}

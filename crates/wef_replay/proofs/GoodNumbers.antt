@@ -1,10 +1,10 @@
 -- Numbers that words give are within their limits.
-use Rattle.std.proofs.Common.{◌≡◌, ℕ, ◌≤◌, Bool, true, false, ◌&&◌, cond, List, refl, arith, max, nat_le}
-use Rattle.std.specs.Prelude.{Option, Some, None, not}
+use Rattle.std.proofs.Common.{◌≡◌, ℕ, true, ◌&&◌, List, arith, max, nat_le}
+use Rattle.std.specs.Prelude.{None, not}
 use Rattle.std.proofs.lemmas.Bool.{and_from, and_parts}
 use Rattle.std.proofs.lemmas.Bool.Decides.{nat_tests}
 use Rattle.wef_base.specs.Numbers.{has_leading_zero, is_numeral, number_within, plain_number, value_from}
-use Rattle.wef_replay.specs.Good.{is_between, is_count, is_number}
+use Rattle.wef_replay.specs.Good.{is_between, is_count}
 use Rattle.wef_replay.specs.Values.{at_least, number_word}
 use Rattle.wef_replay.proofs.Gifts.{AllOf, all_of-if, all_of-tested, all_of-then}
 

@@ -70,11 +70,7 @@ pub fn read_schedule(alloc: Global, bytes: &[u8]) -> Result<List<Line>, Schedule
 }
 
 /// What a line does, if anything, after lines that gave these names.
-fn read_next(
-    alloc: Global,
-    names: &NamedSources,
-    text: &[u8],
-) -> Result<Option<Line>, LineFault>
+fn read_next(alloc: Global, names: &NamedSources, text: &[u8]) -> Result<Option<Line>, LineFault>
     ensures { Gives result (meaning_after names.now text.now) }
 {
     match read_line(alloc, text)? {

@@ -1,7 +1,6 @@
 //! The ends that a schedule moves, and what its lines do to them and print.
 #![tactic(auto)]
 
-mod admitting;
 pub mod laws;
 mod printing;
 mod world;

@@ -1,4 +1,3 @@
-use Rattle.std.proofs.Common.{◌≡◌, ◌∙◌, sym}
 use Rattle.wef_replay.proofs.grammar.event_of.Goals as goal
 
 pub returns : goal.returns

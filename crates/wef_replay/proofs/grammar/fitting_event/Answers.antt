@@ -1,4 +1,4 @@
-use Rattle.std.proofs.Common.{◌≡◌, ◌∙◌, sym}
+use Rattle.std.proofs.Common.{◌∙◌, sym}
 use Rattle.wef_replay.proofs.Fitting.{event_is_made}
 use Rattle.wef_replay.proofs.grammar.fitting_event.Goals as goal
 

@@ -1,4 +1,4 @@
-use Rattle.std.proofs.Common.{◌≡◌, ◌<◌, ◌∷◌, ◌∙◌, ◌+◌, ℕ, List, ap, arith, drop, length, suc, sym, add-one}
+use Rattle.std.proofs.Common.{◌≡◌, ◌<◌, ◌∷◌, ◌∙◌, ◌+◌, ℕ, ap, arith, drop, length, suc, sym, add-one}
 use Rattle.std.specs.Prelude.{Option, Some}
 use Rattle.std.proofs.Math.Seq.{drop-cons}
 use Rattle.wef_replay.specs.Schedule.{meaning_after}
@@ -16,7 +16,7 @@ loop-text-preserved c =
     let later : drop (suc at) texts ≡ drop (at + 1) texts = ap (λ (n : ℕ). drop n texts) (sym (add-one at)) in
     let first : drop at texts ≡ text ∷ drop (at + 1) texts = drop-cons texts at text inside ∙ (λ i. sym c.text-item.is i ∷ later i) in
     let means : meaning_after c.loop-text.names text ≡ Some (Some c.in-Ok-Some.line) =
-        ap (meaning_after c.loop-text.names) (sym c.as_slice.ensures) ∙ c.in-Ok-Some.ensures ∙ ap (λ (act : Option Line). Some act) c.in-Ok-Some.field-0-is in
+    ap (meaning_after c.loop-text.names) (sym c.as_slice.ensures) ∙ c.in-Ok-Some.ensures ∙ ap (λ (act : Option Line). Some act) c.in-Ok-Some.field-0-is in
     let alike = c.in_ok-note-in-Ok-Some.ensures in
     record {
       texts = held.texts;

@@ -1,4 +1,4 @@
-use Rattle.std.proofs.Common.{◌≡◌, ◌+◌, ◌≤◌, ◌++◌, drop}
+use Rattle.std.proofs.Common.{◌≡◌, ◌+◌, ◌++◌, drop}
 use Rattle.wef_replay.specs.Good.{no_names}
 use Rattle.wef_replay.specs.Schedule.{first_bad, lines_of, texts_of}
 use Rattle.wef_replay.proofs.schedule.read_schedule.Given as goal

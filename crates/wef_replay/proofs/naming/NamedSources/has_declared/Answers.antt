@@ -1,4 +1,4 @@
-use Rattle.std.proofs.Common.{◌≡◌, ◌∙◌}
+use Rattle.std.proofs.Common.{◌∙◌}
 use Rattle.wef_replay.proofs.Among.{among_by_order}
 use Rattle.wef_replay.proofs.naming.NamedSources.has_declared.Goals as goal
 

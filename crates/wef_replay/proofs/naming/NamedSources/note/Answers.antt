@@ -1,4 +1,4 @@
-use Rattle.std.proofs.Common.{◌≡◌, ◌∙◌, refl}
+use Rattle.std.proofs.Common.{refl}
 use Rattle.wef_replay.proofs.Among.{among_one_more}
 use Rattle.wef_replay.proofs.naming.NamedSources.note.Goals as goal
 
