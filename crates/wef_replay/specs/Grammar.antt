@@ -1,21 +1,31 @@
 -- The lines of a schedule. Words are parted by one space; capital letters stand for words:
 --     subscribe SUB ITEMS BYTES BEAT all CHANNEL ..    ITEMS from 1 to 10,000, BYTES from 8,192 to 4,194,304, BEAT from 1 to 86,400,000; one channel or more
 --     end SUB
---     batch SUB SOURCE WORD ..                         one word of a batch or more; no source is named `collector`
+--     batch SUB SOURCE WORD ..                         one word of a batch or more; the source isn't named `collector`
+--     source SOURCE CAPACITY                           CAPACITY from 1 to 1,000,000; the source isn't named `collector`
+--     write SOURCE CHANNEL ID LEVEL DATA               ID and LEVEL below 2^32; DATA of XML Chars, which may be empty; the event has to fit with the greatest number
+--     ask SOURCE
+--     poll SOURCE SUB
+--     deliver NUMBER
+--     back NUMBER
+--     lost SOURCE SUB
 --     show
 --     print SUB SOURCE CHANNEL
 -- An empty line and one that begins with `#` do nothing. A line that isn't UTF-8 is never good.
-use Rattle.std.specs.Prelude.{ℕ, ◌==◌, Bool, true, false, List, [], ◌∷◌, Option, Some, None, if◌then◌else◌, codes}
+use Rattle.std.specs.Prelude.{◌≡◌, refl, ℕ, ◌==◌, Bool, true, false, is_some, List, [], ◌∷◌, Option, Some, None, if◌then◌else◌, codes}
 use Rattle.std.specs.Option.{option_and_then, option_map}
 use Rattle.std.specs.Str.{is_utf8}
 use Rattle.wef_base.specs.Names.{same}
-use Rattle.wef_base.specs.Words.{parts}
+use Rattle.wef_base.specs.Words.{parts, decoded}
+use Rattle.wef_event.specs.Characters.{is_xml_text}
+use Rattle.wef_event.specs.Unnumbered.{numbered}
+use Rattle.wef_event.specs.declared.unnumbered.PlainEvent.{PlainEvent}
 use Rattle.wef_query.specs.declared.QueryList.{QueryList}
 use Rattle.wef_query.specs.Queries.{all_events_of}
-use Rattle.wef_replay.specs.BatchWords.{read_words, empty_batch}
-use Rattle.wef_replay.specs.Values.{subscription_word, source_word, channel_word, foreign_source_word, number_word, channel_words}
+use Rattle.wef_replay.specs.BatchWords.{read_words, empty_batch, greatest}
+use Rattle.wef_replay.specs.Values.{subscription_word, source_word, channel_word, sending_source_word, number_word, channel_words}
 use Rattle.wef_replay.specs.declared.lines.Line.{Line}
-use Rattle.wef_replay.specs.declared.lines.Line.TheVariants.{Subscribe, End, Batch, Show, Print}
+use Rattle.wef_replay.specs.declared.lines.Line.TheVariants.{Subscribe, End, Batch, Source, Write, Ask, Poll, Deliver, Back, Lost, Show, Print}
 
 -- the query list of `all` and channels
 abbrev pub all_of : List (List ℕ) → QueryList
@@ -37,8 +47,55 @@ end_line _ = None
 
 abbrev pub batch_line : List (List ℕ) → Option Line
 batch_line (sub ∷ source ∷ word ∷ words) =
-    option_and_then (λ u. option_and_then (λ s. option_map (λ b. Batch u s b) (read_words empty_batch (word ∷ words))) (foreign_source_word source)) (subscription_word sub)
+    option_and_then (λ u. option_and_then (λ s. option_map (λ b. Batch u s b) (read_words empty_batch (word ∷ words))) (sending_source_word source)) (subscription_word sub)
 batch_line _ = None
+
+abbrev pub source_line : List (List ℕ) → Option Line
+source_line (source ∷ capacity ∷ []) = option_and_then (λ s. option_map (λ n. Source s n) (number_word 1 1000000 capacity)) (sending_source_word source)
+source_line _ = None
+
+-- an event that fits with every number of a record
+abbrev pub if_fits : PlainEvent → Option PlainEvent
+if_fits event = if is_some (numbered event greatest) then Some event else None
+
+-- the event of a word, where XML allows each of its characters
+abbrev pub event_if_xml : List ℕ → ℕ → ℕ → (word : List ℕ) → (is : Bool) → is_xml_text word ≡ is → Option PlainEvent
+event_if_xml channel id level word true characters = if_fits (record { channel = channel; id = id; level = level; word = word; characters = characters })
+event_if_xml channel id level word false characters = None
+
+abbrev pub fitting_event : List ℕ → ℕ → ℕ → List ℕ → Option PlainEvent
+fitting_event channel id level word = event_if_xml channel id level word (is_xml_text word) refl
+
+-- the event that its channel, its identifier, its level and its data make
+abbrev pub event_words : List ℕ → List ℕ → List ℕ → List ℕ → Option PlainEvent
+event_words channel id level word =
+    option_and_then (λ c. option_and_then (λ i. option_and_then (λ l. option_and_then (λ w. fitting_event c i l w)
+    (decoded word)) (number_word 0 4294967295 level)) (number_word 0 4294967295 id)) (channel_word channel)
+
+abbrev pub write_line : List (List ℕ) → Option Line
+write_line (source ∷ channel ∷ id ∷ level ∷ word ∷ []) =
+    option_and_then (λ s. option_map (λ event. Write s event) (event_words channel id level word)) (source_word source)
+write_line _ = None
+
+abbrev pub ask_line : List (List ℕ) → Option Line
+ask_line (source ∷ []) = option_map (λ s. Ask s) (source_word source)
+ask_line _ = None
+
+abbrev pub poll_line : List (List ℕ) → Option Line
+poll_line (source ∷ sub ∷ []) = option_and_then (λ s. option_map (λ u. Poll s u) (subscription_word sub)) (source_word source)
+poll_line _ = None
+
+abbrev pub lost_line : List (List ℕ) → Option Line
+lost_line (source ∷ sub ∷ []) = option_and_then (λ s. option_map (λ u. Lost s u) (subscription_word sub)) (source_word source)
+lost_line _ = None
+
+abbrev pub deliver_line : List (List ℕ) → Option Line
+deliver_line (number ∷ []) = option_map (λ n. Deliver n) (number_word 0 greatest number)
+deliver_line _ = None
+
+abbrev pub back_line : List (List ℕ) → Option Line
+back_line (number ∷ []) = option_map (λ n. Back n) (number_word 0 greatest number)
+back_line _ = None
 
 abbrev pub show_line : List (List ℕ) → Option Line
 show_line [] = Some Show
@@ -49,6 +106,17 @@ print_line (sub ∷ source ∷ channel ∷ []) =
     option_and_then (λ u. option_and_then (λ s. option_map (λ c. Print u s c) (channel_word channel)) (source_word source)) (subscription_word sub)
 print_line _ = None
 
+-- a line of a source or a message, by its kind and its other words
+abbrev pub source_line_of : List ℕ → List (List ℕ) → Option Line
+source_line_of kind words =
+    if same kind (codes "source") then source_line words
+    else (if same kind (codes "write") then write_line words
+    else (if same kind (codes "ask") then ask_line words
+    else (if same kind (codes "poll") then poll_line words
+    else (if same kind (codes "lost") then lost_line words
+    else (if same kind (codes "deliver") then deliver_line words
+    else (if same kind (codes "back") then back_line words else None))))))
+
 -- the line that words make, by their first
 abbrev pub line_of_words : List (List ℕ) → Option Line
 line_of_words [] = None
@@ -57,7 +125,7 @@ line_of_words (kind ∷ words) =
     else (if same kind (codes "end") then end_line words
     else (if same kind (codes "batch") then batch_line words
     else (if same kind (codes "show") then show_line words
-    else (if same kind (codes "print") then print_line words else None))))
+    else (if same kind (codes "print") then print_line words else source_line_of kind words))))
 
 -- a line without words, or a comment
 abbrev pub does_nothing : List ℕ → Bool

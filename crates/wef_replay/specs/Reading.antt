@@ -1,5 +1,5 @@
 -- What a reader of words answers, beside the value that a definition gives.
-use Rattle.std.specs.Prelude.{◌≡◌, List, [], ◌∷◌, ◌++◌, Option, Some, None, Result}
+use Rattle.std.specs.Prelude.{◌≡◌, List, ◌∷◌, ◌++◌, Option, Some, None, Result}
 use Rattle.std.specs.declared.result.Result.TheVariants.{Ok, Err}
 use Rattle.wef_base.specs.declared.names.ValueFault as value
 use Rattle.wef_base.specs.declared.names.ValueFault.TheVariants as values

@@ -19,8 +19,8 @@ channel_word word = option_and_then channel_name (decoded word)
 abbrev pub unless_collector : List ℕ → Option (List ℕ)
 unless_collector name = if same name (codes "collector") then None else Some name
 
-abbrev pub foreign_source_word : List ℕ → Option (List ℕ)
-foreign_source_word word = option_and_then unless_collector (source_word word)
+abbrev pub sending_source_word : List ℕ → Option (List ℕ)
+sending_source_word word = option_and_then unless_collector (source_word word)
 
 abbrev pub at_least : ℕ → ℕ → Option ℕ
 at_least least n = if nat_le least n then Some n else None

@@ -1,18 +1,20 @@
 //! The lines of a schedule, read word by word.
 
 ghost use Rattle.std.specs.Prelude.{◌≡◌};
-ghost use Rattle.wef_replay.specs.Grammar.{batch_line, does_nothing, end_line, line_of_words, meaning, print_line, show_line, subscribe_line, subscribe_numbers};
+ghost use Rattle.wef_replay.specs.Grammar.{ask_line, back_line, batch_line, deliver_line, does_nothing, end_line, event_words, fitting_event, line_of_words, lost_line, meaning, poll_line, print_line, show_line, source_line, source_line_of, subscribe_line, subscribe_numbers, write_line};
 ghost use Rattle.wef_replay.specs.Reading.{Gives};
 
 use crate::batches::batch_of;
 use crate::lines::Line;
 use crate::values::{
-    LineFault, channel_of, channels_of, foreign_source_of, is_word, number_of, source_of,
-    subscription_of,
+    LineFault, channel_of, channels_of, is_word, number_of, sending_source_of, source_of,
+    subscription_of, text_of,
 };
 use std::alloc::Global;
+use wef_base::numbers::MAX;
 use wef_base::words::{is_text, split};
-use wef_base::{Bytes, SubId};
+use wef_base::{Bytes, ChannelName, SubId, Text};
+use wef_event::{PlainEvent, is_xml_text};
 use wef_query::QueryList;
 
 /// What a line does, if anything.
@@ -47,8 +49,37 @@ fn line_of(alloc: Global, words: &[Bytes]) -> Result<Line, LineFault>
         [kind, words @ ..] if is_word(kind, "batch") => batch_line_of(alloc, words),
         [kind, words @ ..] if is_word(kind, "show") => show_of(words),
         [kind, words @ ..] if is_word(kind, "print") => print_of(alloc, words),
-        _ => Err(LineFault::NotUnderstood),
+        [kind, words @ ..] => source_line_of(alloc, kind, words),
+        [] => Err(LineFault::NotUnderstood),
     }
+}
+
+/// A line of a source or a message.
+fn source_line_of(alloc: Global, kind: &Bytes, words: &[Bytes]) -> Result<Line, LineFault>
+    ensures { Gives result (source_line_of kind.now words.now) }
+{
+    if is_word(kind, "source") {
+        return declared_of(alloc, words);
+    }
+    if is_word(kind, "write") {
+        return write_of(alloc, words);
+    }
+    if is_word(kind, "ask") {
+        return ask_of(alloc, words);
+    }
+    if is_word(kind, "poll") {
+        return poll_of(alloc, words);
+    }
+    if is_word(kind, "lost") {
+        return lost_of(alloc, words);
+    }
+    if is_word(kind, "deliver") {
+        return deliver_of(words);
+    }
+    if is_word(kind, "back") {
+        return back_of(words);
+    }
+    Err(LineFault::NotUnderstood)
 }
 
 fn subscribe_of(alloc: Global, words: &[Bytes]) -> Result<Line, LineFault>
@@ -105,9 +136,138 @@ fn batch_line_of(alloc: Global, words: &[Bytes]) -> Result<Line, LineFault>
     match words {
         [sub, source, _, ..] => {
             let sub = subscription_of(alloc, sub)?;
-            let source = foreign_source_of(alloc, source)?;
+            let source = sending_source_of(alloc, source)?;
             let batch = batch_of(alloc, &words[2..])?;
             Ok(Line::Batch { sub, source, batch })
+        }
+        _ => Err(LineFault::NotUnderstood),
+    }
+}
+
+fn declared_of(alloc: Global, words: &[Bytes]) -> Result<Line, LineFault>
+    ensures { Gives result (source_line words.now) }
+{
+    match words {
+        [source, capacity] => {
+            let source = sending_source_of(alloc, source)?;
+            let capacity = number_of(capacity, 1, 1_000_000)?;
+            Ok(Line::Source { source, capacity })
+        }
+        _ => Err(LineFault::NotUnderstood),
+    }
+}
+
+fn write_of(alloc: Global, words: &[Bytes]) -> Result<Line, LineFault>
+    ensures { Gives result (write_line words.now) }
+{
+    match words {
+        [source, channel, id, level, word] => {
+            let source = source_of(alloc, source)?;
+            let event = event_of(alloc, channel, id, level, word)?;
+            Ok(Line::Write { source, event })
+        }
+        _ => Err(LineFault::NotUnderstood),
+    }
+}
+
+/// The event that a source is to write.
+fn event_of(
+    alloc: Global,
+    channel: &Bytes,
+    id: &Bytes,
+    level: &Bytes,
+    word: &Bytes,
+) -> Result<PlainEvent, LineFault>
+    ensures { Gives result (event_words channel.now id.now level.now word.now) }
+{
+    let channel = channel_of(alloc, channel)?;
+    let id = number_of(id, 0, 4_294_967_295)? as u32;
+    let level = number_of(level, 0, 4_294_967_295)? as u32;
+    let word = text_of(alloc, word)?;
+    fitting_event(channel, id, level, word)
+}
+
+/// An event of XML Chars, which fits with every number that a log may give it.
+fn fitting_event(
+    channel: ChannelName,
+    id: u32,
+    level: u32,
+    word: Text,
+) -> Result<PlainEvent, LineFault>
+    ensures { Gives result (fitting_event channel id level word) }
+{
+    if !is_xml_text(&word)? {
+        return Err(LineFault::NotUnderstood);
+    }
+    let event = PlainEvent {
+        channel,
+        id,
+        level,
+        word,
+    };
+    if !event.fits(MAX) {
+        return Err(LineFault::NotUnderstood);
+    }
+    Ok(event)
+}
+
+fn ask_of(alloc: Global, words: &[Bytes]) -> Result<Line, LineFault>
+    ensures { Gives result (ask_line words.now) }
+{
+    match words {
+        [source] => {
+            let source = source_of(alloc, source)?;
+            Ok(Line::Ask { source })
+        }
+        _ => Err(LineFault::NotUnderstood),
+    }
+}
+
+fn poll_of(alloc: Global, words: &[Bytes]) -> Result<Line, LineFault>
+    ensures { Gives result (poll_line words.now) }
+{
+    match words {
+        [source, sub] => {
+            let source = source_of(alloc, source)?;
+            let sub = subscription_of(alloc, sub)?;
+            Ok(Line::Poll { source, sub })
+        }
+        _ => Err(LineFault::NotUnderstood),
+    }
+}
+
+fn lost_of(alloc: Global, words: &[Bytes]) -> Result<Line, LineFault>
+    ensures { Gives result (lost_line words.now) }
+{
+    match words {
+        [source, sub] => {
+            let source = source_of(alloc, source)?;
+            let sub = subscription_of(alloc, sub)?;
+            Ok(Line::Lost { source, sub })
+        }
+        _ => Err(LineFault::NotUnderstood),
+    }
+}
+
+fn deliver_of(words: &[Bytes]) -> Result<Line, LineFault>
+    ensures { Gives result (deliver_line words.now) }
+{
+    match words {
+        [number] => {
+            let number = number_of(number, 0, MAX)?;
+            Ok(Line::Deliver { number })
+        }
+        _ => Err(LineFault::NotUnderstood),
+    }
+}
+
+fn back_of(words: &[Bytes]) -> Result<Line, LineFault>
+    ensures { Gives result (back_line words.now) }
+{
+    match words {
+        [number] => {
+            let number = number_of(number, 0, MAX)?;
+            Ok(Line::Back { number })
         }
         _ => Err(LineFault::NotUnderstood),
     }

@@ -3,9 +3,16 @@
 
 mod batches;
 mod grammar;
+mod judging_lines;
+pub mod laws;
 mod lines;
+mod naming;
 mod schedule;
 mod values;
 
+pub use judging_lines::is_line;
 pub use lines::Line;
 pub use schedule::{SCHEDULE_LIMIT, ScheduleFault, read_schedule};
+
+#[cfg(test)]
+mod tests;

@@ -1,10 +1,12 @@
 //! A whole schedule.
 
 ghost use Rattle.std.specs.Prelude.{◌≡◌};
-ghost use Rattle.wef_replay.specs.Schedule.{ReadsSchedule, schedule_of};
+ghost use Rattle.wef_replay.specs.Reading.{Gives};
+ghost use Rattle.wef_replay.specs.Schedule.{ReadsSchedule, meaning_after, schedule_of};
 
 use crate::grammar::read_line;
 use crate::lines::Line;
+use crate::naming::NamedSources;
 use crate::values::LineFault;
 use std::alloc::{AllocError, Global};
 use thiserror::Error;
@@ -50,15 +52,29 @@ pub fn read_schedule(alloc: Global, bytes: &[u8]) -> Result<List<Line>, Schedule
     }
     let texts = split(alloc, bytes, b'\n')?;
     let mut lines = List::new(alloc);
+    let mut names = NamedSources::new(alloc);
     let mut number = 0u64;
     for text in texts.as_slice() {
         number += 1;
-        match read_line(alloc, text.as_slice()) {
-            Ok(Some(line)) => lines.push(line)?,
-            Ok(None) => {}
+        match read_next(alloc, &names, text.as_slice()) {
+            Ok(Some(line)) => {
+                names.note(&line)?;
+                lines.push(line)?;
+            }
+            Ok(None) => continue,
             Err(LineFault::NoMemory) => return Err(ScheduleFault::NoMemory),
             Err(LineFault::NotUnderstood) => return Err(ScheduleFault::BadLine { line: number }),
         }
     }
     Ok(lines)
+}
+
+/// What a line does, if anything, after lines that gave these names.
+fn read_next(alloc: Global, names: &NamedSources, text: &[u8]) -> Result<Option<Line>, LineFault>
+    ensures { Gives result (meaning_after names.now text.now) }
+{
+    match read_line(alloc, text)? {
+        Some(line) if !names.allow(&line) => Err(LineFault::NotUnderstood),
+        done => Ok(done),
+    }
 }

@@ -4,7 +4,7 @@ ghost use Rattle.std.specs.Prelude.{◌≡◌, ◌<◌, ◌≤◌, IfOk};
 ghost use Rattle.wef_base.specs.Names.{same};
 ghost use Rattle.wef_base.specs.Words.{decoded};
 ghost use Rattle.wef_replay.specs.Reading.{Gives};
-ghost use Rattle.wef_replay.specs.Values.{subscription_word, source_word, channel_word, foreign_source_word, number_word, channel_words};
+ghost use Rattle.wef_replay.specs.Values.{subscription_word, source_word, channel_word, sending_source_word, number_word, channel_words};
 
 use std::alloc::{AllocError, Global};
 use wef_base::numbers::read_plain_number;
@@ -95,8 +95,8 @@ pub fn channel_of(alloc: Global, word: &Bytes) -> Result<ChannelName, LineFault>
 }
 
 /// A source's name. `collector` names the other end, so no source has that name.
-pub fn foreign_source_of(alloc: Global, word: &Bytes) -> Result<SourceName, LineFault>
-    ensures { Gives result (foreign_source_word word.now) }
+pub fn sending_source_of(alloc: Global, word: &Bytes) -> Result<SourceName, LineFault>
+    ensures { Gives result (sending_source_word word.now) }
 {
     let source = source_of(alloc, word)?;
     if source.as_text().as_str() == "collector" {

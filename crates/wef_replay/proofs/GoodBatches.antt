@@ -1,0 +1,165 @@
+-- Batches that words make have items, numbers and channels as batches have.
+use Rattle.std.proofs.Common.{◌≡◌, ℕ, ◌+◌, Bool, true, false, ◌&&◌, ◌||◌, cond, List, [], ◌∷◌, Ordering, length, refl, ap, sym, ◌∙◌, arith, max, nat_lt, length-append}
+use Rattle.std.specs.Prelude.{◌==◌, Option, Some, None, codes, not, unwrap_or}
+use Rattle.std.specs.Cmp.Lexicographic.{slice_cmp}
+use Rattle.std.specs.FinMap as map
+use Rattle.std.specs.FinMap.Entries.{by_order}
+use Rattle.std.specs.List.{list_all}
+use Rattle.std.specs.Ordering.{eq_by_cmp, nat_cmp}
+use Rattle.std.specs.declared.cmp.Ordering.TheVariants.{Less, Equal, Greater}
+use Rattle.std.proofs.lemmas.Bool.{and_from, and_parts, or_left, or_right}
+use Rattle.std.proofs.lemmas.Bool.Decides.{nat_tests}
+use Rattle.std.proofs.lemmas.Cmp.{nat_list_cmp_total}
+use Rattle.std.proofs.lemmas.List.Folds.{list_all-append}
+use Rattle.wef_base.specs.Names.{same}
+use Rattle.wef_base.specs.Words.{parts}
+use Rattle.wef_batch.specs.declared.items.Batch as batch
+use Rattle.wef_batch.specs.declared.items.Item.TheVariants as item
+use Rattle.wef_bookmark.specs.Order.{Marks, number_at, raised}
+use Rattle.wef_event.specs.PlainEvent.{plain_event, plain_text}
+use Rattle.wef_event.specs.declared.records.Event.{Event}
+use Rattle.wef_replay.specs.BatchWords.{added, batch_word, data_word, dropped_word, empty_batch, event_word, greatest, if_word, is_nothing, loose_word, reach_word, read_words, word_of}
+use Rattle.wef_replay.specs.Good.{are_words, has_word, is_channel, is_count, is_item, is_number, is_reach}
+use Rattle.wef_replay.specs.Values.{channel_word, number_word}
+use Rattle.wef_replay.specs.declared.batches.BatchWord.{BatchWord}
+use Rattle.wef_replay.specs.declared.batches.BatchWord.TheVariants.{Item, Reach, Ack}
+use Rattle.wef_replay.proofs.Gifts.{AllOf, all_of-if, all_of-map, all_of-then}
+use Rattle.wef_replay.proofs.GoodNames.{good-channel}
+use Rattle.wef_replay.proofs.GoodNumbers.{count_from_between, good-number, is_count-max}
+
+-- ---- one word
+
+-- what a word says is within the limits
+abbrev IsGoodWord : BatchWord → Type 0
+IsGoodWord (Item i) = is_item i ≡ true
+IsGoodWord (Reach c n) = is_reach (c, n) ≡ true
+IsGoodWord Ack = Unit {0}
+
+good-plain_event : (c : List ℕ) (n : ℕ) (d : List ℕ) → is_channel c ≡ true → is_number n ≡ true → AllOf (λ event. (is_channel event.channel && is_number event.number) ≡ true) (plain_event c n 0 0 d)
+good-plain_event c n d channel number =
+    all_of-if (λ (event : Event). (is_channel event.channel && is_number event.number) ≡ true) (nat_lt 1048576 (length (plain_text c n 0 0 d))) None _ tt
+    (and_from (is_channel c) (is_number n) channel number)
+
+good-event_word : (channel number piece : List ℕ) (more : List (List ℕ)) → AllOf IsGoodWord (event_word channel number piece more)
+good-event_word channel number piece more =
+    all_of-then (λ c. is_channel c ≡ true) IsGoodWord _ (channel_word channel) (good-channel channel) (λ c is_c.
+    all_of-then (λ n. is_number n ≡ true) IsGoodWord _ (number_word 1 greatest number) (good-number 1 greatest number) (λ n is_n.
+    all_of-then (λ d. Unit {0}) IsGoodWord _ (data_word piece more) (anything (data_word piece more)) (λ d _.
+    all_of-map (λ (event : Event). (is_channel event.channel && is_number event.number) ≡ true) IsGoodWord _ (plain_event c n 0 0 d) (good-plain_event c n d is_c is_n) (λ event h. h))))
+  where
+    anything : {X : Type 0} (given : Option X) → AllOf (λ x. Unit {0}) given
+    anything None = tt
+    anything (Some x) = tt
+
+good-dropped_word : (channel first last : List ℕ) → AllOf IsGoodWord (dropped_word channel first last)
+good-dropped_word channel first last =
+    all_of-then (λ c. is_channel c ≡ true) IsGoodWord _ (channel_word channel) (good-channel channel) (λ c is_c.
+    all_of-then (λ n. is_number n ≡ true) IsGoodWord _ (number_word 1 greatest first) (good-number 1 greatest first) (λ a is_a.
+    all_of-map (λ n. is_number n ≡ true) IsGoodWord _ (number_word 1 greatest last) (good-number 1 greatest last) (λ b is_b. λ i. is_c i && is_a i && is_b i)))
+
+good-loose_word : (count : List ℕ) → AllOf IsGoodWord (loose_word count)
+good-loose_word count = all_of-map _ IsGoodWord (λ n. Item (item.Loose n)) (number_word 0 greatest count) (good-number 0 greatest count) count_from_between
+
+good-reach_word : (channel number : List ℕ) → AllOf IsGoodWord (reach_word channel number)
+good-reach_word channel number =
+    all_of-then (λ c. is_channel c ≡ true) IsGoodWord _ (channel_word channel) (good-channel channel) (λ c is_c.
+    all_of-map _ IsGoodWord (λ n. Reach c n) (number_word 0 greatest number) (good-number 0 greatest number) (λ n h. and_from (is_channel c) (is_count n) is_c (count_from_between n h)))
+
+good-if_word : (kind word : List ℕ) (given : Option BatchWord) → AllOf IsGoodWord given → AllOf IsGoodWord (if_word kind word given)
+good-if_word kind word given h = all_of-if IsGoodWord (same kind word) given None h tt
+
+good-word_of : (pieces : List (List ℕ)) → AllOf IsGoodWord (word_of pieces)
+good-word_of [] = tt
+good-word_of (kind ∷ []) = good-if_word kind (codes "ack") (Some Ack) tt
+good-word_of (kind ∷ count ∷ []) = good-if_word kind (codes "l") (loose_word count) (good-loose_word count)
+good-word_of (kind ∷ channel ∷ number ∷ []) = good-if_word kind (codes "t") (reach_word channel number) (good-reach_word channel number)
+good-word_of (kind ∷ channel ∷ number ∷ piece ∷ more) =
+    all_of-if IsGoodWord (same kind (codes "d") && is_nothing more) (dropped_word channel number piece) (if_word kind (codes "e") (event_word channel number piece more))
+    (good-dropped_word channel number piece) (good-if_word kind (codes "e") (event_word channel number piece more) (good-event_word channel number piece more))
+
+-- ---- a bookmark that is raised
+
+good-put : (k : List ℕ) (v : ℕ) (entries : List (List ℕ × ℕ)) → is_channel k ≡ true → is_count v ≡ true → list_all is_reach entries ≡ true → list_all is_reach (map.put (slice_cmp nat_cmp) k v entries) ≡ true
+good-put k v [] channel count all = λ i. (channel i && count i) && true
+good-put k v (e ∷ es) channel count all = by (good-put k v es channel count parts.1) (slice_cmp nat_cmp k e.0)
+  where
+    parts : (is_reach e ≡ true) × (list_all is_reach es ≡ true)
+    parts = and_parts (is_reach e) (list_all is_reach es) all
+
+    by : list_all is_reach (map.put (slice_cmp nat_cmp) k v es) ≡ true → (r : Ordering) → list_all is_reach (by_order r ((k, v) ∷ e ∷ es) ((e.0, v) ∷ es) (e ∷ map.put (slice_cmp nat_cmp) k v es)) ≡ true
+    by rest Less = λ i. (channel i && count i) && all i
+    by rest Equal = λ i. ((and_parts (is_channel e.0) (is_count e.1) parts.0).0 i && count i) && parts.1 i
+    by rest Greater = λ i. parts.0 i && rest i
+
+good-find : (k : List ℕ) (entries : List (List ℕ × ℕ)) → list_all is_reach entries ≡ true → is_count (unwrap_or (map.find (slice_cmp nat_cmp) k entries) 0) ≡ true
+good-find k [] all = refl
+good-find k (e ∷ es) all = by (eq_by_cmp (slice_cmp nat_cmp) k e.0) (good-find k es parts.1)
+  where
+    parts : (is_reach e ≡ true) × (list_all is_reach es ≡ true)
+    parts = and_parts (is_reach e) (list_all is_reach es) all
+
+    by : (b : Bool) → is_count (unwrap_or (map.find (slice_cmp nat_cmp) k es) 0) ≡ true → is_count (unwrap_or (cond b (Some e.1) (map.find (slice_cmp nat_cmp) k es)) 0) ≡ true
+    by true rest = (and_parts (is_channel e.0) (is_count e.1) parts.0).1
+    by false rest = rest
+
+good-raised : (b : Marks) (c : List ℕ) (n : ℕ) → is_channel c ≡ true → is_count n ≡ true → list_all is_reach (map.entries b) ≡ true → list_all is_reach (map.entries (raised b c n)) ≡ true
+good-raised b c n channel count all =
+    let old : is_count (number_at b c) ≡ true = ap (λ (found : Option ℕ). is_count (unwrap_or found 0)) (map.get-entries b c) ∙ good-find c (map.entries b) all in
+    ap (list_all is_reach) (map.entries-insert nat_list_cmp_total b c (max (number_at b c) n))
+    ∙ good-put c (max (number_at b c) n) (map.entries b) channel (is_count-max (number_at b c) n old count) all
+
+-- ---- the words one after the other
+
+record IsGoodSoFar (b : batch.Batch) : Type 0 where
+  items : list_all is_item b.items ≡ true
+  to : list_all is_reach (map.entries b.to) ≡ true
+
+good-added : (word : BatchWord) (b : batch.Batch) → IsGoodWord word → IsGoodSoFar b → IsGoodSoFar (added word b)
+good-added (Item i) b good so_far = record {
+  items = list_all-append is_item b.items (i ∷ []) ∙ (λ j. so_far.items j && (good j && true));
+  to = so_far.to;
+}
+good-added (Reach c n) b good so_far =
+    let parts = and_parts (is_channel c) (is_count n) good in
+    record { items = so_far.items; to = good-raised b.to c n parts.0 parts.1 so_far.to }
+good-added Ack b good so_far = record { items = so_far.items; to = so_far.to }
+
+more_than_none : (n m : ℕ) → n ≡ m + 1 → not (n == 0) ≡ true
+more_than_none n m e = grind (arith, nat_tests, e)
+
+long-put : (k : List ℕ) (v : ℕ) (entries : List (List ℕ × ℕ)) → not (length (map.put (slice_cmp nat_cmp) k v entries) == 0) ≡ true
+long-put k v [] = refl
+long-put k v (e ∷ es) = by (slice_cmp nat_cmp k e.0)
+  where
+    by : (r : Ordering) → not (length (by_order r ((k, v) ∷ e ∷ es) ((e.0, v) ∷ es) (e ∷ map.put (slice_cmp nat_cmp) k v es)) == 0) ≡ true
+    by Less = more_than_none _ (length (e ∷ es)) (omega arith)
+    by Equal = more_than_none _ (length es) (omega arith)
+    by Greater = more_than_none _ (length (map.put (slice_cmp nat_cmp) k v es)) (omega arith)
+
+has_word-added : (word : BatchWord) (b : batch.Batch) → has_word (added word b) ≡ true
+has_word-added (Item i) b =
+    let some = more_than_none _ (length b.items) (length-append b.items (i ∷ [])) in
+    λ j. some j || not (length (map.entries b.to) == 0) || b.ack_wanted
+has_word-added (Reach c n) b =
+    let some = ap (λ (entries : List (List ℕ × ℕ)). not (length entries == 0)) (map.entries-insert nat_list_cmp_total b.to c (max (number_at b.to c) n)) ∙ long-put c (max (number_at b.to c) n) (map.entries b.to) in
+    or_left (not (length b.items == 0) || not (length (map.entries (raised b.to c n)) == 0)) b.ack_wanted (or_right (not (length b.items == 0)) _ some)
+has_word-added Ack b = or_right (not (length b.items == 0) || not (length (map.entries b.to) == 0)) true refl
+
+good-read_words : (b : batch.Batch) (words : List (List ℕ)) → IsGoodSoFar b → has_word b ≡ true → AllOf (λ whole. are_words whole ≡ true) (read_words b words)
+good-read_words b [] so_far some = λ i. some i && so_far.items i && so_far.to i
+good-read_words b (word ∷ words) so_far some =
+    all_of-then IsGoodWord (λ whole. are_words whole ≡ true) (λ w. read_words (added w b) words) (batch_word word) (good-word_of (parts 58 word))
+    (λ w good. good-read_words (added w b) words (good-added w b good so_far) (has_word-added w b))
+
+none-entries : (entries : List (List ℕ × ℕ)) → length entries ≡ 0 → list_all is_reach entries ≡ true
+none-entries [] e = refl
+none-entries (entry ∷ entries) e = absurd (omega arith)
+
+good-empty : IsGoodSoFar empty_batch
+good-empty = record { items = refl; to = none-entries (map.entries empty_batch.to) (sym (map.len-entries empty_batch.to) ∙ map.len-empty (slice_cmp nat_cmp) ℕ) }
+
+-- the words of a batch, of which there is one or more
+pub good-batch_words : (word : List ℕ) (words : List (List ℕ)) → AllOf (λ whole. are_words whole ≡ true) (read_words empty_batch (word ∷ words))
+good-batch_words word words =
+    all_of-then IsGoodWord (λ whole. are_words whole ≡ true) (λ w. read_words (added w empty_batch) words) (batch_word word) (good-word_of (parts 58 word))
+    (λ w good. good-read_words (added w empty_batch) words (good-added w empty_batch good good-empty) (has_word-added w empty_batch))

@@ -1,0 +1,202 @@
+-- The lines that words make have values of the kinds that lines have.
+use Rattle.std.proofs.Common.{◌≡◌, ℕ, ◌+◌, Bool, true, false, ◌&&◌, List, [], ◌∷◌, length, refl, arith}
+use Rattle.std.specs.Prelude.{◌==◌, Option, Some, None, codes, is_some, not}
+use Rattle.std.specs.List.{list_all}
+use Rattle.std.specs.Str.{is_utf8}
+use Rattle.std.proofs.lemmas.Bool.{and_from, and_parts}
+use Rattle.std.proofs.lemmas.Bool.Decides.{nat_tests}
+use Rattle.wef_base.specs.Names.{same}
+use Rattle.wef_base.specs.Words.{decoded, parts}
+use Rattle.wef_event.specs.Characters.{is_xml_text}
+use Rattle.wef_event.specs.Unnumbered.{numbered}
+use Rattle.wef_event.specs.declared.unnumbered.PlainEvent.{PlainEvent}
+use Rattle.wef_query.specs.Queries.{all_events_of}
+use Rattle.wef_replay.specs.BatchWords.{empty_batch, greatest, read_words}
+use Rattle.wef_replay.specs.Good.{are_all, asks_for_all, fits_always, is_channel, is_line, is_no_collector, is_source, is_subscription}
+use Rattle.wef_replay.specs.Grammar.{all_of, ask_line, back_line, batch_line, deliver_line, does_nothing, end_line, event_if_xml, event_words, fitting_event, if_fits, line_of_words, lost_line, meaning, poll_line, print_line, show_line, source_line, source_line_of, subscribe_line, subscribe_numbers, write_line}
+use Rattle.wef_replay.specs.Reading.{with_first}
+use Rattle.wef_replay.specs.Values.{channel_word, channel_words, number_word, sending_source_word, source_word, subscription_word}
+use Rattle.wef_replay.specs.declared.lines.Line.{Line}
+use Rattle.wef_replay.specs.declared.lines.Line.TheVariants.{Subscribe, End, Batch, Source, Write, Ask, Poll, Deliver, Back, Lost, Print}
+use Rattle.wef_replay.proofs.Gifts.{AllOf, all_of-if, all_of-map, all_of-tested, all_of-then}
+use Rattle.wef_replay.proofs.GoodBatches.{good-batch_words}
+use Rattle.wef_replay.proofs.GoodNames.{decoded_is_text, good-channel, good-sending_source, good-source, good-subscription}
+use Rattle.wef_replay.proofs.GoodNumbers.{count_from_between, good-number}
+
+abbrev pub IsGoodLine : Line → Type 0
+IsGoodLine line = is_line line ≡ true
+
+-- ---- subscriptions
+
+IsGoodQuery : List (List ℕ) → Type 0
+IsGoodQuery channels = list_all asks_for_all (all_events_of channels) ≡ true
+
+good-with_first : (first : Option (List ℕ)) (rest : Option (List (List ℕ))) → AllOf (λ c. is_channel c ≡ true) first → AllOf IsGoodQuery rest → AllOf IsGoodQuery (with_first first rest)
+unfolding IsGoodQuery
+good-with_first None rest h k = tt
+good-with_first (Some c) None h k = tt
+good-with_first (Some c) (Some cs) h k = λ i. h i && k i
+
+good-channel_words : (words : List (List ℕ)) → AllOf IsGoodQuery (channel_words words)
+unfolding IsGoodQuery
+good-channel_words [] = refl
+good-channel_words (word ∷ words) = good-with_first (channel_word word) (channel_words words) (good-channel word) (good-channel_words words)
+
+more_than_none : (n m : ℕ) → n ≡ m + 1 → not (n == 0) ≡ true
+more_than_none n m e = grind (arith, nat_tests, e)
+
+good-some_channels : (word : List ℕ) (words : List (List ℕ)) → AllOf (λ channels. are_all (all_events_of channels) ≡ true) (channel_words (word ∷ words))
+unfolding IsGoodQuery
+good-some_channels word words = by (channel_word word) (channel_words words) (good-channel word) (good-channel_words words)
+  where
+    by : (first : Option (List ℕ)) (rest : Option (List (List ℕ))) → AllOf (λ c. is_channel c ≡ true) first → AllOf IsGoodQuery rest → AllOf (λ channels. are_all (all_events_of channels) ≡ true) (with_first first rest)
+    by None rest h k = tt
+    by (Some c) None h k = tt
+    by (Some c) (Some cs) h k =
+        let some = more_than_none (length (all_events_of (c ∷ cs))) (length (all_events_of cs)) (omega arith) in
+        λ i. some i && (h i && k i)
+
+good-subscribe_numbers : (u items bytes beat channel : List ℕ) (channels : List (List ℕ)) → is_subscription u ≡ true → AllOf IsGoodLine (subscribe_numbers u items bytes beat (channel ∷ channels))
+good-subscribe_numbers u items bytes beat channel channels is_u =
+    all_of-then _ IsGoodLine _ (number_word 1 10000 items) (good-number 1 10000 items) (λ i is_i.
+    all_of-then _ IsGoodLine _ (number_word 8192 4194304 bytes) (good-number 8192 4194304 bytes) (λ b is_b.
+    all_of-then _ IsGoodLine _ (number_word 1 86400000 beat) (good-number 1 86400000 beat) (λ h is_h.
+    all_of-map _ IsGoodLine (λ cs. Subscribe u i b h (all_of cs)) (channel_words (channel ∷ channels)) (good-some_channels channel channels)
+    (λ cs are. λ j. is_u j && (is_i j && is_b j && is_h j) && are j))))
+
+good-subscribe_line : (words : List (List ℕ)) → AllOf IsGoodLine (subscribe_line words)
+good-subscribe_line [] = tt
+good-subscribe_line (a ∷ []) = tt
+good-subscribe_line (a ∷ b ∷ []) = tt
+good-subscribe_line (a ∷ b ∷ c ∷ []) = tt
+good-subscribe_line (a ∷ b ∷ c ∷ d ∷ []) = tt
+good-subscribe_line (a ∷ b ∷ c ∷ d ∷ e ∷ []) = tt
+good-subscribe_line (sub ∷ items ∷ bytes ∷ beat ∷ kind ∷ channel ∷ channels) =
+    all_of-if IsGoodLine (same kind (codes "all")) _ None
+    (all_of-then _ IsGoodLine _ (subscription_word sub) (good-subscription sub) (λ u is_u. good-subscribe_numbers u items bytes beat channel channels is_u)) tt
+
+good-end_line : (words : List (List ℕ)) → AllOf IsGoodLine (end_line words)
+good-end_line [] = tt
+good-end_line (sub ∷ []) = all_of-map _ IsGoodLine (λ u. End u) (subscription_word sub) (good-subscription sub) (λ u h. h)
+good-end_line (a ∷ b ∷ more) = tt
+
+good-batch_line : (words : List (List ℕ)) → AllOf IsGoodLine (batch_line words)
+good-batch_line [] = tt
+good-batch_line (a ∷ []) = tt
+good-batch_line (a ∷ b ∷ []) = tt
+good-batch_line (sub ∷ source ∷ word ∷ words) =
+    all_of-then _ IsGoodLine _ (subscription_word sub) (good-subscription sub) (λ u is_u.
+    all_of-then _ IsGoodLine _ (sending_source_word source) (good-sending_source source) (λ s is_s.
+    all_of-map _ IsGoodLine (λ b. Batch u s b) (read_words empty_batch (word ∷ words)) (good-batch_words word words) (λ b is_b.
+    let parts = and_parts (is_source s) (is_no_collector s) is_s in
+    λ i. is_u i && parts.0 i && parts.1 i && is_b i)))
+
+-- ---- sources
+
+good-source_line : (words : List (List ℕ)) → AllOf IsGoodLine (source_line words)
+good-source_line [] = tt
+good-source_line (a ∷ []) = tt
+good-source_line (source ∷ capacity ∷ []) =
+    all_of-then _ IsGoodLine _ (sending_source_word source) (good-sending_source source) (λ s is_s.
+    all_of-map _ IsGoodLine (λ n. Source s n) (number_word 1 1000000 capacity) (good-number 1 1000000 capacity) (λ n is_n. λ i. is_s i && is_n i))
+good-source_line (a ∷ b ∷ c ∷ more) = tt
+
+good-if_fits : (event : PlainEvent) → is_channel event.channel ≡ true → AllOf (λ event. fits_always event ≡ true) (if_fits event)
+good-if_fits event channel =
+    all_of-tested (λ (event : PlainEvent). fits_always event ≡ true) (is_some (numbered event greatest)) event (λ fits. and_from (is_channel event.channel) _ channel fits)
+
+good-event_if_xml : (c : List ℕ) (i l : ℕ) (w : List ℕ) (b : Bool) (e : is_xml_text w ≡ b) → is_channel c ≡ true → AllOf (λ event. fits_always event ≡ true) (event_if_xml c i l w b e)
+good-event_if_xml c i l w true e channel = good-if_fits (record { channel = c; id = i; level = l; word = w; characters = e }) channel
+good-event_if_xml c i l w false e channel = tt
+
+good-event_words : (channel id level word : List ℕ) → AllOf (λ event. fits_always event ≡ true) (event_words channel id level word)
+good-event_words channel id level word =
+    all_of-then _ _ _ (channel_word channel) (good-channel channel) (λ c is_c.
+    all_of-then _ _ _ (number_word 0 4294967295 id) (good-number 0 4294967295 id) (λ i is_i.
+    all_of-then _ _ _ (number_word 0 4294967295 level) (good-number 0 4294967295 level) (λ l is_l.
+    all_of-then _ _ (λ w. fitting_event c i l w) (decoded word) (decoded_is_text word) (λ w is_w. good-event_if_xml c i l w (is_xml_text w) refl is_c))))
+
+good-write_line : (words : List (List ℕ)) → AllOf IsGoodLine (write_line words)
+good-write_line [] = tt
+good-write_line (a ∷ []) = tt
+good-write_line (a ∷ b ∷ []) = tt
+good-write_line (a ∷ b ∷ c ∷ []) = tt
+good-write_line (a ∷ b ∷ c ∷ d ∷ []) = tt
+good-write_line (source ∷ channel ∷ id ∷ level ∷ word ∷ []) =
+    all_of-then _ IsGoodLine _ (source_word source) (good-source source) (λ s is_s.
+    all_of-map _ IsGoodLine (λ event. Write s event) (event_words channel id level word) (good-event_words channel id level word) (λ event fits. λ i. is_s i && fits i))
+good-write_line (a ∷ b ∷ c ∷ d ∷ e ∷ f ∷ more) = tt
+
+good-ask_line : (words : List (List ℕ)) → AllOf IsGoodLine (ask_line words)
+good-ask_line [] = tt
+good-ask_line (source ∷ []) = all_of-map _ IsGoodLine (λ s. Ask s) (source_word source) (good-source source) (λ s h. h)
+good-ask_line (a ∷ b ∷ more) = tt
+
+good-poll_line : (words : List (List ℕ)) → AllOf IsGoodLine (poll_line words)
+good-poll_line [] = tt
+good-poll_line (a ∷ []) = tt
+good-poll_line (source ∷ sub ∷ []) =
+    all_of-then _ IsGoodLine _ (source_word source) (good-source source) (λ s is_s.
+    all_of-map _ IsGoodLine (λ u. Poll s u) (subscription_word sub) (good-subscription sub) (λ u is_u. λ i. is_s i && is_u i))
+good-poll_line (a ∷ b ∷ c ∷ more) = tt
+
+good-lost_line : (words : List (List ℕ)) → AllOf IsGoodLine (lost_line words)
+good-lost_line [] = tt
+good-lost_line (a ∷ []) = tt
+good-lost_line (source ∷ sub ∷ []) =
+    all_of-then _ IsGoodLine _ (source_word source) (good-source source) (λ s is_s.
+    all_of-map _ IsGoodLine (λ u. Lost s u) (subscription_word sub) (good-subscription sub) (λ u is_u. λ i. is_s i && is_u i))
+good-lost_line (a ∷ b ∷ c ∷ more) = tt
+
+good-deliver_line : (words : List (List ℕ)) → AllOf IsGoodLine (deliver_line words)
+good-deliver_line [] = tt
+good-deliver_line (number ∷ []) = all_of-map _ IsGoodLine (λ n. Deliver n) (number_word 0 greatest number) (good-number 0 greatest number) count_from_between
+good-deliver_line (a ∷ b ∷ more) = tt
+
+good-back_line : (words : List (List ℕ)) → AllOf IsGoodLine (back_line words)
+good-back_line [] = tt
+good-back_line (number ∷ []) = all_of-map _ IsGoodLine (λ n. Back n) (number_word 0 greatest number) (good-number 0 greatest number) count_from_between
+good-back_line (a ∷ b ∷ more) = tt
+
+-- ---- what is printed
+
+good-show_line : (words : List (List ℕ)) → AllOf IsGoodLine (show_line words)
+good-show_line [] = refl
+good-show_line (word ∷ words) = tt
+
+good-print_line : (words : List (List ℕ)) → AllOf IsGoodLine (print_line words)
+good-print_line [] = tt
+good-print_line (a ∷ []) = tt
+good-print_line (a ∷ b ∷ []) = tt
+good-print_line (sub ∷ source ∷ channel ∷ []) =
+    all_of-then _ IsGoodLine _ (subscription_word sub) (good-subscription sub) (λ u is_u.
+    all_of-then _ IsGoodLine _ (source_word source) (good-source source) (λ s is_s.
+    all_of-map _ IsGoodLine (λ c. Print u s c) (channel_word channel) (good-channel channel) (λ c is_c. λ i. is_u i && is_s i && is_c i)))
+good-print_line (a ∷ b ∷ c ∷ d ∷ more) = tt
+
+-- ---- any line
+
+good-source_line_of : (kind : List ℕ) (words : List (List ℕ)) → AllOf IsGoodLine (source_line_of kind words)
+good-source_line_of kind words =
+    all_of-if IsGoodLine (same kind (codes "source")) _ _ (good-source_line words)
+    (all_of-if IsGoodLine (same kind (codes "write")) _ _ (good-write_line words)
+    (all_of-if IsGoodLine (same kind (codes "ask")) _ _ (good-ask_line words)
+    (all_of-if IsGoodLine (same kind (codes "poll")) _ _ (good-poll_line words)
+    (all_of-if IsGoodLine (same kind (codes "lost")) _ _ (good-lost_line words)
+    (all_of-if IsGoodLine (same kind (codes "deliver")) _ _ (good-deliver_line words)
+    (all_of-if IsGoodLine (same kind (codes "back")) _ None (good-back_line words) tt))))))
+
+good-line_of_words : (words : List (List ℕ)) → AllOf IsGoodLine (line_of_words words)
+good-line_of_words [] = tt
+good-line_of_words (kind ∷ words) =
+    all_of-if IsGoodLine (same kind (codes "subscribe")) _ _ (good-subscribe_line words)
+    (all_of-if IsGoodLine (same kind (codes "end")) _ _ (good-end_line words)
+    (all_of-if IsGoodLine (same kind (codes "batch")) _ _ (good-batch_line words)
+    (all_of-if IsGoodLine (same kind (codes "show")) _ _ (good-show_line words)
+    (all_of-if IsGoodLine (same kind (codes "print")) _ _ (good-print_line words) (good-source_line_of kind words)))))
+
+pub good-meaning : (text : List ℕ) → AllOf (AllOf IsGoodLine) (meaning text)
+good-meaning text =
+    all_of-if (AllOf IsGoodLine) (is_utf8 text) _ None
+    (all_of-if (AllOf IsGoodLine) (does_nothing text) (Some None) _ tt
+    (all_of-map IsGoodLine (AllOf IsGoodLine) (λ line. Some line) (line_of_words (parts 32 text)) (good-line_of_words (parts 32 text)) (λ line h. h))) tt

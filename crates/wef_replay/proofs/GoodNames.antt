@@ -1,0 +1,123 @@
+-- Names that words give are such as their readers give: texts that read back as themselves.
+use Rattle.std.proofs.Common.{◌≡◌, ℕ, Bool, true, false, ◌&&◌, cond, List, [], ◌∷◌, map, refl, ap, sym, ◌∙◌, arith, encode_utf8_all}
+use Rattle.std.specs.Prelude.{Option, Some, None, IsUtf8, codes, not}
+use Rattle.std.specs.Char.{to_ascii_lowercase}
+use Rattle.std.specs.Cmp.Lexicographic.{nat_list_eq_equiv}
+use Rattle.std.specs.Str.{all_scalars, chars, is_utf8}
+use Rattle.std.proofs.lemmas.Bool.{and_from, and_parts}
+use Rattle.std.proofs.lemmas.Bool.Decides.{nat_tests}
+use Rattle.std.proofs.lemmas.Str.{IsUtf8-from_is_utf8, is_utf8-from_IsUtf8, scalars-chars}
+use lib.Utf8.{scalar}
+use Rattle.wef_base.specs.Names.{channel_name, is_space, name_of, name_of_characters, same, source_name, spelt, subscription_name, trimmed_characters, unless_last_space, without_end, without_start}
+use Rattle.wef_base.specs.Words.{decoded, utf8}
+use Rattle.wef_base.specs.declared.names.Letters.{Letters}
+use Rattle.wef_base.specs.declared.names.Letters.TheVariants.{Kept, Small}
+use Rattle.wef_base.proofs.Kept.{name_kept}
+use Rattle.wef_replay.specs.Good.{is_channel, is_no_collector, is_one, is_source, is_subscription}
+use Rattle.wef_replay.specs.Values.{channel_word, sending_source_word, source_word, subscription_word, unless_collector}
+use Rattle.wef_replay.proofs.Gifts.{AllOf, all_of-then}
+
+-- ---- a name is a text
+
+scalars-without_start : (cs : List ℕ) → all_scalars cs ≡ true → all_scalars (without_start cs) ≡ true
+scalars-without_start [] h = h
+scalars-without_start (c ∷ cs) h = by (is_space c) (scalars-without_start cs (and_parts (scalar c) (all_scalars cs) h).1)
+  where
+    by : (b : Bool) → all_scalars (without_start cs) ≡ true → all_scalars (cond b (without_start cs) (c ∷ cs)) ≡ true
+    by true rest = rest
+    by false rest = h
+
+scalars-unless_last_space : (c : ℕ) (cs : List ℕ) → scalar c ≡ true → all_scalars cs ≡ true → all_scalars (unless_last_space c cs) ≡ true
+scalars-unless_last_space c [] one rest = by (is_space c)
+  where
+    by : (b : Bool) → all_scalars (cond b [] (c ∷ [])) ≡ true
+    by true = refl
+    by false = and_from (scalar c) true one refl
+scalars-unless_last_space c (d ∷ ds) one rest = and_from (scalar c) (all_scalars (d ∷ ds)) one rest
+
+scalars-without_end : (cs : List ℕ) → all_scalars cs ≡ true → all_scalars (without_end cs) ≡ true
+scalars-without_end [] h = h
+scalars-without_end (c ∷ cs) h =
+    let parts = and_parts (scalar c) (all_scalars cs) h in
+    scalars-unless_last_space c (without_end cs) parts.0 (scalars-without_end cs parts.1)
+
+scalar-small : (c : ℕ) → scalar c ≡ true → scalar (to_ascii_lowercase c) ≡ true
+scalar-small c h = grind (arith, nat_tests)
+
+scalar-spelt : (letters : Letters) (c : ℕ) → scalar c ≡ true → scalar (spelt letters c) ≡ true
+scalar-spelt Kept c h = h
+scalar-spelt Small c h = scalar-small c h
+
+scalars-spelt : (letters : Letters) (cs : List ℕ) → all_scalars cs ≡ true → all_scalars (map (spelt letters) cs) ≡ true
+scalars-spelt letters [] h = h
+scalars-spelt letters (c ∷ cs) h =
+    let parts = and_parts (scalar c) (all_scalars cs) h in
+    and_from (scalar (spelt letters c)) _ (scalar-spelt letters c parts.0) (scalars-spelt letters cs parts.1)
+
+-- the name of characters is these, as it spells them
+name_is : (letters : Letters) (limit : ℕ) (cs name : List ℕ) → name_of_characters letters limit cs ≡ Some name → encode_utf8_all (map (spelt letters) cs) ≡ name
+name_is letters limit [] name e = cc
+name_is letters limit (c ∷ cs) name e = by _ e
+  where
+    by : (b : Bool) → cond b None (Some (encode_utf8_all (map (spelt letters) (c ∷ cs)))) ≡ Some name → encode_utf8_all (map (spelt letters) (c ∷ cs)) ≡ name
+    by true e = cc
+    by false e = cc
+
+encoded_is_text : (cs : List ℕ) → all_scalars cs ≡ true → is_utf8 (encode_utf8_all cs) ≡ true
+encoded_is_text cs h = is_utf8-from_IsUtf8 (encode_utf8_all cs) (cs, (h, refl))
+
+name_is_text : (letters : Letters) (limit : ℕ) (text name : List ℕ) → IsUtf8 text → name_of letters limit text ≡ Some name → is_utf8 name ≡ true
+name_is_text letters limit text name utf8 e =
+    let cs = trimmed_characters (chars text) in
+    let scalars : all_scalars cs ≡ true = scalars-without_end (without_start (chars text)) (scalars-without_start (chars text) (scalars-chars text utf8)) in
+    ap is_utf8 (sym (name_is letters limit cs name e)) ∙ encoded_is_text (map (spelt letters) cs) (scalars-spelt letters cs scalars)
+
+-- ---- a name reads back
+
+-- a text that its reader gives just so is a name
+pub kept_is_one : (name : List ℕ) (given : Option (List ℕ)) → is_utf8 name ≡ true → given ≡ Some name → (is_utf8 name && is_one name given) ≡ true
+kept_is_one name given utf8 kept = (λ i. utf8 i && is_one name (kept i)) ∙ nat_list_eq_equiv.refl name
+
+good_name : (letters : Letters) (limit : ℕ) (text : List ℕ) → is_utf8 text ≡ true → AllOf (λ name. (is_utf8 name && is_one name (name_of letters limit name)) ≡ true) (name_of letters limit text)
+good_name letters limit text utf8 = by (name_of letters limit text) refl
+  where
+    by : (given : Option (List ℕ)) → name_of letters limit text ≡ given → AllOf (λ name. (is_utf8 name && is_one name (name_of letters limit name)) ≡ true) given
+    by None e = tt
+    by (Some name) e =
+        let is_text = IsUtf8-from_is_utf8 text utf8 in
+        kept_is_one name (name_of letters limit name) (name_is_text letters limit text name is_text e) (name_kept letters limit text name is_text e)
+
+utf8_is_text : (bytes : List ℕ) → AllOf (λ text. is_utf8 text ≡ true) (utf8 bytes)
+utf8_is_text bytes = by (is_utf8 bytes) refl
+  where
+    by : (b : Bool) → is_utf8 bytes ≡ b → AllOf (λ text. is_utf8 text ≡ true) (cond b (Some bytes) None)
+    by true e = e
+    by false e = tt
+
+pub decoded_is_text : (word : List ℕ) → AllOf (λ text. is_utf8 text ≡ true) (decoded word)
+unfolding decoded
+decoded_is_text word = search utf8_is_text
+
+-- ---- the names of words
+
+pub good-subscription : (word : List ℕ) → AllOf (λ u. is_subscription u ≡ true) (subscription_word word)
+unfolding subscription_name
+good-subscription word = all_of-then _ _ subscription_name (decoded word) (decoded_is_text word) (good_name Kept 128)
+
+pub good-source : (word : List ℕ) → AllOf (λ s. is_source s ≡ true) (source_word word)
+unfolding source_name
+good-source word = all_of-then _ _ source_name (decoded word) (decoded_is_text word) (good_name Small 255)
+
+pub good-channel : (word : List ℕ) → AllOf (λ c. is_channel c ≡ true) (channel_word word)
+unfolding channel_name
+good-channel word = all_of-then _ _ channel_name (decoded word) (decoded_is_text word) (good_name Small 256)
+
+good-unless_collector : (s : List ℕ) → is_source s ≡ true → AllOf (λ s. (is_source s && is_no_collector s) ≡ true) (unless_collector s)
+good-unless_collector s h = by (same s (codes "collector")) refl
+  where
+    by : (b : Bool) → same s (codes "collector") ≡ b → AllOf (λ s. (is_source s && is_no_collector s) ≡ true) (cond b None (Some s))
+    by true e = tt
+    by false e = and_from (is_source s) (is_no_collector s) h (ap not e)
+
+pub good-sending_source : (word : List ℕ) → AllOf (λ s. (is_source s && is_no_collector s) ≡ true) (sending_source_word word)
+good-sending_source word = all_of-then _ _ unless_collector (source_word word) (good-source word) good-unless_collector

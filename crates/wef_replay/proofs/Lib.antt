@@ -1,0 +1,9 @@
+pub mod Among
+pub mod Fitting
+pub mod Following
+pub mod Gifts
+pub mod GoodBatches
+pub mod GoodLines
+pub mod GoodNames
+pub mod GoodNumbers
+pub mod GoodSchedules

@@ -1,0 +1,6 @@
+use Rattle.std.proofs.Common.{◌∙◌}
+use Rattle.wef_replay.proofs.Among.{among_by_order}
+use Rattle.wef_replay.proofs.naming.NamedSources.has_declared.Goals as goal
+
+pub returns : goal.returns
+returns c = rw (← c.self.view_is) (c.contains.ensures ∙ among_by_order c.self.inside.declared.keys c.args.source.now)

@@ -1,0 +1,10 @@
+-- What a schedule promises of its lines.
+use Rattle.std.specs.Prelude.{◌≡◌, ℕ, List}
+use Rattle.std.specs.declared.result.Result.TheVariants.{Ok}
+use Rattle.wef_replay.specs.Good.{AreGood, no_names}
+use Rattle.wef_replay.specs.Schedule.{schedule_of}
+use Rattle.wef_replay.specs.declared.lines.Line.{Line}
+
+-- the lines of a schedule are good, each after those before it
+abbrev pub ScheduleLinesAreGood : Type 0
+ScheduleLinesAreGood = (bytes : List ℕ) (lines : List Line) → schedule_of bytes ≡ Ok lines → AreGood no_names lines

@@ -1,0 +1,190 @@
+//! Which lines have values of the kinds that lines have.
+
+ghost use Rattle.std.specs.Prelude.{◌≡◌, ◌&&◌};
+ghost use Rattle.std.specs.FinMap as map;
+ghost use Rattle.std.specs.List.{list_all};
+ghost use Rattle.wef_replay.specs.Good.{are_all, are_limits, are_words, asks_for_all, fits_always, has_word, is_between, is_channel, is_count, is_item, is_line, is_no_collector, is_number, is_reach, is_source, is_subscription};
+
+use crate::lines::Line;
+use std::collections::BTreeMap;
+use wef_base::numbers::MAX;
+use wef_base::{ChannelName, SourceName, SubId};
+use wef_batch::{Batch, Item};
+use wef_event::PlainEvent;
+use wef_query::QueryItem;
+
+/// Whether the values of a line are within the limits of a schedule, wherever the line stands. It
+/// takes no memory.
+pub fn is_line(line: &Line) -> bool
+    ensures { result ≡ is_line line.now }
+{
+    match line {
+        Line::Subscribe {
+            sub,
+            items,
+            bytes,
+            beat,
+            query,
+        } => {
+            is_subscription(sub)
+                && are_limits(*items, *bytes, *beat)
+                && are_all(query.items.as_slice())
+        }
+        Line::End { sub } => is_subscription(sub),
+        Line::Batch { sub, source, batch } => {
+            is_subscription(sub) && is_source(source) && is_no_collector(source) && are_words(batch)
+        }
+        Line::Source { source, capacity } => {
+            is_source(source) && is_no_collector(source) && is_between(1, 1_000_000, *capacity)
+        }
+        Line::Write { source, event } => is_source(source) && fits_always(event),
+        Line::Ask { source } => is_source(source),
+        Line::Poll { source, sub } => is_source(source) && is_subscription(sub),
+        Line::Deliver { number } => is_count(*number),
+        Line::Back { number } => is_count(*number),
+        Line::Lost { source, sub } => is_source(source) && is_subscription(sub),
+        Line::Show => true,
+        Line::Print {
+            sub,
+            source,
+            channel,
+        } => is_subscription(sub) && is_source(source) && is_channel(channel),
+    }
+}
+
+/// Whether it is a subscription's name, which its type promises.
+fn is_subscription(sub: &SubId) -> bool
+    ensures { result ≡ is_subscription sub.now }
+{
+    let _kept = sub.as_text().as_str();
+    true
+}
+
+/// Whether it is a source's name, which its type promises.
+fn is_source(source: &SourceName) -> bool
+    ensures { result ≡ is_source source.now }
+{
+    let _kept = source.as_text().as_str();
+    true
+}
+
+/// Whether it is a channel's name, which its type promises.
+fn is_channel(channel: &ChannelName) -> bool
+    ensures { result ≡ is_channel channel.now }
+{
+    let _kept = channel.as_text().as_str();
+    true
+}
+
+/// Whether these may be the limits of a subscription.
+fn are_limits(items: u32, bytes: u32, beat: u64) -> bool
+    ensures { result ≡ are_limits items bytes beat }
+{
+    is_between(1, 10_000, u64::from(items))
+        && is_between(8192, 4_194_304, u64::from(bytes))
+        && is_between(1, 86_400_000, beat)
+}
+
+fn is_between(least: u64, greatest: u64, number: u64) -> bool
+    ensures { result ≡ is_between least greatest number }
+{
+    least <= number && number <= greatest
+}
+
+/// Whether each query asks for all events of its channel, in the one group, and one does.
+fn are_all(queries: &[QueryItem]) -> bool
+    ensures { result ≡ are_all queries.now }
+{
+    !queries.is_empty() && each_asks_for_all(queries)
+}
+
+fn each_asks_for_all(queries: &[QueryItem]) -> bool
+    ensures { result ≡ list_all asks_for_all queries.now }
+{
+    queries.iter().all(|query| asks_for_all(query))
+}
+
+fn asks_for_all(query: &QueryItem) -> bool
+    ensures { result ≡ asks_for_all query.now }
+{
+    query.group == 0 && !query.suppress && is_channel(&query.channel)
+}
+
+/// Whether the source isn't the other end.
+fn is_no_collector(source: &SourceName) -> bool
+    ensures { result ≡ is_no_collector source.now }
+{
+    source.as_text().as_str() != "collector"
+}
+
+/// Whether the event fits with every number that a log may give it.
+fn fits_always(event: &PlainEvent) -> bool
+    ensures { result ≡ fits_always event.now }
+{
+    is_channel(&event.channel) && event.fits(MAX)
+}
+
+fn are_words(batch: &Batch) -> bool
+    ensures { result ≡ are_words batch.now }
+{
+    has_word(batch) && are_items(batch.items.as_slice()) && are_reaches(batch.to.numbers())
+}
+
+/// Whether the batch says anything: an item, how far it reads a channel, or that it wants an
+/// acknowledgement.
+fn has_word(batch: &Batch) -> bool
+    ensures { result ≡ has_word batch.now }
+{
+    !batch.items.is_empty() || !batch.to.numbers().is_empty() || batch.ack_wanted
+}
+
+fn are_items(items: &[Item]) -> bool
+    ensures { result ≡ list_all is_item items.now }
+{
+    items.iter().all(|item| is_item(item))
+}
+
+fn is_item(item: &Item) -> bool
+    ensures { result ≡ is_item item.now }
+{
+    match item {
+        Item::Event(event) => is_channel(&event.channel) && is_number(event.number),
+        Item::Dropped {
+            channel,
+            first,
+            last,
+        } => is_channel(channel) && is_number(*first) && is_number(*last),
+        Item::Loose { count } => is_count(*count),
+    }
+}
+
+fn are_reaches(numbers: &BTreeMap<ChannelName, u64>) -> bool
+    ensures { result ≡ list_all is_reach numbers.now.entries }
+{
+    for (channel, number) in numbers {
+        if !is_reach(channel, *number) {
+            return false;
+        }
+    }
+    true
+}
+
+/// Whether a batch may read the channel so far.
+fn is_reach(channel: &ChannelName, number: u64) -> bool
+    ensures { result ≡ (is_channel channel.now && is_count number) }
+{
+    is_channel(channel) && is_count(number)
+}
+
+/// Whether it is the number of a record.
+fn is_number(number: u64) -> bool
+    ensures { result ≡ is_number number }
+{
+    is_between(1, MAX, number)
+}
+
+fn is_count(number: u64) -> bool
+    ensures { result ≡ is_count number }
+{
+    number <= MAX
+}
