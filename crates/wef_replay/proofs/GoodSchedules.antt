@@ -40,3 +40,10 @@ lines_are_good bytes lines e = by (nat_lt 16777216 (length bytes)) (first_bad no
     by true bad none e = cc
     by false (Some k) none e = cc
     by false None none e = let same : lines_of no_names (texts_of bytes) ≡ lines = cc in subst (AreGood no_names) same (good_lines no_names 1 (texts_of bytes) none)
+
+-- what a reader of schedules gives is good
+pub good_when_read : (bytes : List ℕ) (result : Result (List Line) ScheduleFault) → ReadsSchedule result (schedule_of bytes) → IfOk result (AreGood no_names)
+good_when_read bytes (Ok lines) read = lines_are_good bytes lines read
+good_when_read bytes (Err NoMemory) read = tt
+good_when_read bytes (Err (BadLine k)) read = tt
+good_when_read bytes (Err TooLong) read = tt

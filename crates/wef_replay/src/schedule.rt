@@ -1,6 +1,7 @@
 //! A whole schedule.
 
-ghost use Rattle.std.specs.Prelude.{◌≡◌};
+ghost use Rattle.std.specs.Prelude.{◌≡◌, IfOk};
+ghost use Rattle.wef_replay.specs.Good.{AreGood, no_names};
 ghost use Rattle.wef_replay.specs.Reading.{Gives};
 ghost use Rattle.wef_replay.specs.Schedule.{ReadsSchedule, meaning_after, schedule_of};
 
@@ -31,7 +32,7 @@ pub enum ScheduleFault {
 }
 
 impl From<AllocError> for ScheduleFault {
-    ghost use Rattle.std.specs.Prelude.{◌≡◌};
+    ghost use Rattle.std.specs.Prelude.{◌≡◌, IfOk};
     ghost use Rattle.wef_replay.specs.declared.schedule.ScheduleFault.TheVariants.{NoMemory};
 
     ghost from_gives = { λ _ e. e ≡ NoMemory };
@@ -43,8 +44,15 @@ impl From<AllocError> for ScheduleFault {
 
 /// The lines of a schedule, without those that do nothing. `TooLong` where there are more than
 /// `SCHEDULE_LIMIT` bytes; else `BadLine` with the first line that isn't good.
-#[tactic(auto, unfolding(crate::specs::Schedule::schedule_of))]
 pub fn read_schedule(alloc: Global, bytes: &[u8]) -> Result<List<Line>, ScheduleFault>
+    ensures lines { ReadsSchedule result (schedule_of bytes.now) }
+    ensures good { IfOk result (AreGood no_names) }
+{
+    read_lines(alloc, bytes)
+}
+
+#[tactic(auto, unfolding(crate::specs::Schedule::schedule_of))]
+fn read_lines(alloc: Global, bytes: &[u8]) -> Result<List<Line>, ScheduleFault>
     ensures { ReadsSchedule result (schedule_of bytes.now) }
 {
     if bytes.len() > SCHEDULE_LIMIT {

@@ -1,7 +1,7 @@
 use Rattle.std.proofs.Common.{◌≡◌, ◌+◌, ◌++◌, drop}
 use Rattle.wef_replay.specs.Good.{no_names}
 use Rattle.wef_replay.specs.Schedule.{first_bad, lines_of, texts_of}
-use Rattle.wef_replay.proofs.schedule.read_schedule.Given as goal
+use Rattle.wef_replay.proofs.schedule.read_lines.Given as goal
 
 abbrev pub invariant-loop-text : goal.invariant-loop-text
 invariant-loop-text l = record {
