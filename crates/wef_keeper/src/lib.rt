@@ -7,6 +7,8 @@ pub mod keeping;
 pub mod keys;
 pub mod laws;
 pub mod mem_keeper;
+#[cfg(test)]
+mod mem_tests;
 mod paging;
 pub mod table;
 #[cfg(test)]

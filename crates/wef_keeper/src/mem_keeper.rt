@@ -1,10 +1,10 @@
 //! A keeper in memory, which tells everything, and fails where it is told to.
 
-ghost use Rattle.std.specs.Prelude.{◌≡◌, ◌≤◌, true, false, is_some, ◌∷◌, [], refl, IfOk, OnOk, OnErr};
+ghost use Rattle.std.specs.Prelude.{◌≡◌, if◌then◌else◌, ◌≤◌, true, false, is_some, ◌∷◌, [], refl, IfOk, OnOk, OnErr};
 ghost use Rattle.std.specs.FinMap as finite;
 ghost use Rattle.std.specs.declared.option.Option.TheVariants.{Some, None};
 ghost use Rattle.std.proofs.Common.{rules};
-ghost use Rattle.wef_keeper.specs.Keeping.{row_at, outcome};
+ghost use Rattle.wef_keeper.specs.Keeping.{outcome, raised, row_at};
 
 use crate::keeping::{Keeper, KeeperFault};
 use crate::keys::{Change, Key, Row};
@@ -70,6 +70,25 @@ impl MemKeeper {
     {
         self.armed.is_some()
     }
+
+    /// Counts a read, which is refused in doubt.
+    fn begin_read(&mut self) -> Result<(), KeeperFault>
+        ensures answer { result ≡ (if self.old.in_doubt then Err KeeperFault.InDoubt else Ok tt) }
+        ensures count { self.new ≡ record self.old { reads = raised self.old.reads } }
+    {
+        self.reads = self.reads.saturating_add(1);
+        if self.in_doubt {
+            return Err(KeeperFault::InDoubt);
+        }
+        Ok(())
+    }
+
+    /// Counts a commit that has begun.
+    fn count_try(&mut self)
+        ensures { self.new ≡ record self.old { tries = raised self.old.tries } }
+    {
+        self.tries = self.tries.saturating_add(1);
+    }
 }
 
 impl Keeper for MemKeeper {
@@ -98,18 +117,12 @@ impl Keeper for MemKeeper {
     ghost no_doubt = { λ k _. refl };
 
     fn get(&mut self, key: &Key) -> Result<Option<Row>, KeeperFault> {
-        self.reads = self.reads.saturating_add(1);
-        if self.in_doubt {
-            return Err(KeeperFault::InDoubt);
-        }
+        self.begin_read()?;
         Ok(found_row(&self.rows, key)?)
     }
 
     fn page(&mut self, after: &Key, max: u32) -> Result<List<Row>, KeeperFault> {
-        self.reads = self.reads.saturating_add(1);
-        if self.in_doubt {
-            return Err(KeeperFault::InDoubt);
-        }
+        self.begin_read()?;
         Ok(self.rows.page(after, max)?)
     }
 
@@ -120,14 +133,14 @@ impl Keeper for MemKeeper {
         }
         if let Some(after) = self.armed {
             apply_where(&mut self.rows, changes, after)?;
-            self.tries = self.tries.saturating_add(1);
+            self.count_try();
             self.faults = self.faults.saturating_add(1);
             self.armed = None;
             self.in_doubt = true;
             return Err(KeeperFault::Failed);
         }
         self.rows.apply(changes)?;
-        self.tries = self.tries.saturating_add(1);
+        self.count_try();
         Ok(())
     }
 
