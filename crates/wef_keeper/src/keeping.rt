@@ -111,7 +111,7 @@ pub trait Keeper {
         ensures planned { IfSome (plan self.old) (λ planned. FollowsPlan planned result) }
         ensures stands { IfSome (plan self.old) (λ planned. WhereTold (rows self.old) (rows self.new) (λ before now. OnFailed result (now ≡ outcome planned changes before))) }
         ensures left { IfSome (plan self.old) (λ planned. WhereTold (rows self.old) (images self.new) (λ before left. OnFailed result (left ≡ outcome planned changes before ∷ []))) }
-        ensures calm { IfSome (plan self.old) (λ planned. faults self.new ≡ counted result (faults self.old)) }
+        ensures counted { IfSome (plan self.old) (λ planned. faults self.new ≡ counted result (faults self.old)) }
         ensures plan { plan self.new ≡ plan_after result (plan self.old) }
         ensures opened { StaysOpened (opened self.old) (opened self.new) }
         ensures untold { StaysUntold (opened self.old) (rows self.old) (rows self.new) };
