@@ -150,18 +150,20 @@ IsPairKept rows u s c None slot = IsUntouched rows u s c
 IsPairKept rows u s c (Some about) None = IsUntouched rows u s c
 IsPairKept rows u s c (Some about) (Some slot) = IsChannelKept rows u s c about slot (is_in (channels_read about) c)
 
--- A row that keeps a subscription has a name such as a reader gives, and no other part.
-pub record IsSubscriptionKey (key : Key) : Type 0 where
-  pub name : is_subscription key.sub ≡ true
-  pub is_key : key ≡ subscription_key key.sub
+-- The key of a row that keeps a subscription has a name such as a reader gives, and no other part; that of a bookmark has
+-- no number.
+pub record IsRowKey (key : Key) : Type 0 where
+  pub name : key.kind ≡ 1 → is_subscription key.sub ≡ true
+  pub subscription : key.kind ≡ 1 → key ≡ subscription_key key.sub
+  pub bookmark : key.kind ≡ 2 → key.number ≡ 0
 
 pub record IsKept (state : State) : Type 0 where
   -- of every source that no `batch` line named, what is kept is safe; nothing is kept of what isn't there
   pub pairs : (u s c : List ℕ) → is_among state.foreign s ≡ false → IsPairKept state.rows u s c (subscription_at state.rows u) (slot_of state s)
   -- a declared source was named by no `batch` line
   pub apart : (s : List ℕ) (slot : Slot) → slot_of state s ≡ Some slot → is_among state.foreign s ≡ false
-  -- each row that keeps a subscription has a good name
-  pub names : (key : Key) (cell : Cell) → finite.get state.rows key ≡ Some cell → key.kind ≡ 1 → IsSubscriptionKey key
+  -- each row has a key such as the collector gives
+  pub keys : (key : Key) (cell : Cell) → finite.get state.rows key ≡ Some cell → IsRowKey key
   -- each declared source keeps its window, and its sessions are behind what is kept
   pub sources : (s : List ℕ) (slot : Slot) → slot_of state s ≡ Some slot → IsSourceKept state.rows state.messages s slot
   -- each message that was ever sent may be delivered
