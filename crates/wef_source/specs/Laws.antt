@@ -1,6 +1,7 @@
 -- What is true of the batches that sources build.
 use Rattle.std.specs.Prelude.{◌≡◌, ℕ, ◌+◌, ◌<◌, ◌≤◌, true, List, [], ◌∷◌, ◌++◌, length, sum_by}
 use Rattle.wef_batch.specs.Cost.{cost}
+use Rattle.wef_batch.specs.WellFormed.{is_in}
 use Rattle.wef_batch.specs.declared.items.Item.{Item}
 use Rattle.wef_bookmark.specs.Order.{IsAtMost, Marks, number_at}
 use Rattle.wef_keeper.specs.Rows.{Rows}
@@ -36,3 +37,13 @@ IsFull session items (next ∷ left) = (length items + 1 ≤ session.max_items) 
 -- No longer row of candidates would do.
 abbrev pub BuiltItemsAreMost : Type 0
 BuiltItemsAreMost = (rows : Rows) (session : Session) → IsFull session (built_items rows session) (left_items rows session)
+
+-- A session's batches may have an item and 8,192 bytes at least, and its channels' names have at most 256 bytes.
+pub record MaySendOne (session : Session) : Type 0 where
+  pub an_item : 1 ≤ session.max_items
+  pub its_bytes : 8192 ≤ session.max_bytes
+  pub its_name : (c : List ℕ) → is_in (session_channels session) c ≡ true → length c ≤ 256
+
+-- A batch has no item only where there is no candidate.
+abbrev pub EmptyMeansNothingToSend : Type 0
+EmptyMeansNothingToSend = (rows : Rows) (session : Session) → MaySendOne session → (built rows session).items ≡ [] → candidates rows session ≡ []

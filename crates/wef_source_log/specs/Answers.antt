@@ -1,7 +1,5 @@
 -- What the calls of the log answer, by its rows as the call begins.
-use Rattle.std.specs.Prelude.{◌≡◌, ℕ, ◌+◌, ◌<◌, nat_le, Bool, true, false, List, Option, Some, None, length, Result}
-use Rattle.std.specs.declared.result.Result.TheVariants.{Ok, Err}
-use Rattle.wef_event.specs.declared.records.Event.{Event}
+use Rattle.std.specs.Prelude.{◌≡◌, ℕ, ◌+◌, ◌<◌, nat_le, Bool, true, false, List, None, length}
 use Rattle.wef_event.specs.declared.records.EventFault as event
 use Rattle.wef_event.specs.declared.records.EventFault.TheVariants as events
 use Rattle.wef_event.specs.declared.unnumbered.PlainEvent.{PlainEvent}

@@ -4,7 +4,10 @@
 
 pub mod faults;
 pub mod keys;
+pub mod laws;
 pub mod logs;
+#[cfg(test)]
+mod tests;
 
 pub use faults::LogFault;
 pub use logs::Log;

@@ -1,7 +1,7 @@
 //! The log.
 
-ghost use Rattle.std.specs.Prelude.{◌≡◌, ◌≤◌, ◌+◌, ◌++◌, take, map, IfOk, IfErr, OnErr};
-ghost use Rattle.std.specs.FinMap as finite;
+ghost use Rattle.std.specs.Prelude.{◌≡◌, ◌≤◌, ◌++◌, [], ◌∷◌, take, map, IfOk, IfErr, OnOk, OnErr};
+ghost use Rattle.wef_keeper.specs.Rows.{applied};
 ghost use Rattle.wef_source_log.specs.Answers as answers;
 ghost use Rattle.wef_source_log.specs.Windows as windows;
 
@@ -33,6 +33,11 @@ impl Model for Log {
     ghost coded = { finite.code key.the_row.coded cell.the_row.coded };
 
     ghost view = { λ l. l.rows };
+
+    ghost use Rattle.std.specs.Prelude.{◌≤◌};
+    ghost use Rattle.wef_source_log.specs.Windows.{capacity_of};
+
+    ghost invariant = { λ l. 1 ≤ capacity_of l.rows };
 }
 
 impl Log {
@@ -56,14 +61,15 @@ impl Log {
     pub fn boot(&self) -> u64
         ensures { result ≡ windows.boot_of self.now }
     {
-        self.number_at(&boot_key(self.alloc))
+        number_at(&self.rows, &boot_key(self.alloc))
     }
 
     /// How many records of a channel are kept. It takes no memory.
     pub fn capacity(&self) -> u64
-        ensures { result ≡ windows.capacity_of self.now }
+        ensures value { result ≡ windows.capacity_of self.now }
+        ensures some { 1 ≤ result }
     {
-        self.number_at(&capacity_key(self.alloc))
+        number_at(&self.rows, &capacity_key(self.alloc))
     }
 
     /// Writes an event as the next record of its channel, and answers its number. Where the window
@@ -71,6 +77,14 @@ impl Log {
     pub fn write(&mut self, event: &PlainEvent) -> Result<u64, LogFault>
         ensures ok { IfOk result (answers.Writes self.old self.new event.now) }
         ensures window { IfOk result (answers.ExtendsHistory self.old self.new event.now) }
+        ensures refusal { IfErr result (λ fault. answers.RefusesWrite fault self.old event.now) }
+        ensures err { OnErr result (self.new ≡ self.old) }
+    {
+        self.write_next(event)
+    }
+
+    fn write_next(&mut self, event: &PlainEvent) -> Result<u64, LogFault>
+        ensures ok { IfOk result (answers.Writes self.old self.new event.now) }
         ensures refusal { IfErr result (λ fault. answers.RefusesWrite fault self.old event.now) }
         ensures err { OnErr result (self.new ≡ self.old) }
     {
@@ -97,17 +111,12 @@ impl Log {
         ensures refusal { IfErr result answers.WantsMemory }
     {
         let key = last_key(channel)?;
-        Ok(self.number_at(&key))
+        Ok(number_at(&self.rows, &key))
     }
 
     /// The first `max` records of a channel's window above a number, by number. The rest are those
     /// above the page's last number.
-    pub fn page(
-        &self,
-        channel: &ChannelName,
-        after: u64,
-        max: u32,
-    ) -> Result<List<Event>, LogFault>
+    pub fn page(&self, channel: &ChannelName, after: u64, max: u32) -> Result<List<Event>, LogFault>
         requires { 1 ≤ max }
         ensures page { IfOk result (λ page. page ≡ take max (windows.records_after self.now channel.now after)) }
         ensures rest { IfOk result (λ page. windows.records_after self.now channel.now after
@@ -119,17 +128,92 @@ impl Log {
         Ok(events_of(channel, page)?)
     }
 
-    fn number_at(&self, key: &Key) -> u64
-        ensures { result ≡ windows.number_at self.now key.now }
-    {
-        match self.rows.get(key) {
-            Some(cell) => cell.value,
-            None => 0,
-        }
-    }
-
     /// Keeps a record as the last of its channel.
-    fn keep(&mut self, record: Event) -> Result<(), AllocError> {
-        todo!()
+    fn keep(&mut self, record: Event) -> Result<(), AllocError>
+        ensures ok { OnOk result (self.new ≡ applied (windows.write_changes (windows.capacity_of self.old) record.channel record.number record.text) self.old) }
+        ensures err { OnErr result (self.new ≡ self.old) }
+    {
+        let changes = changes_of(self.capacity(), record)?;
+        self.rows.apply(changes)
     }
+}
+
+fn number_at(rows: &Rows, key: &Key) -> u64
+    ensures { result ≡ windows.number_at rows.now key.now }
+{
+    match rows.get(key) {
+        Some(cell) => cell.value,
+        None => 0,
+    }
+}
+
+/// What a record changes as the last of its channel.
+fn changes_of(capacity: u64, record: Event) -> Result<List<Change>, AllocError>
+    ensures { IfOk result (λ changes. changes ≡ windows.write_changes capacity record.channel record.number record.text) }
+{
+    let Event {
+        channel,
+        number,
+        text,
+    } = record;
+    let mut changes = List::new(channel.as_text().alloc());
+    changes.push(Change::Put(Row {
+        key: record_key(&channel, number)?,
+        value: 0,
+        body: text,
+    }))?;
+    push_number(&mut changes, last_key(&channel)?, number)?;
+    push_leaving(&mut changes, capacity, &channel, number)?;
+    Ok(changes)
+}
+
+fn push_number(changes: &mut List<Change>, key: Key, number: u64) -> Result<(), AllocError>
+    ensures { OnOk result (changes.new ≡ changes.old ++ Change.Put (record { key = key; value = number; body = [] }) ∷ []) }
+{
+    let body = Text::new(key.channel.alloc());
+    changes.push(Change::Put(Row {
+        key,
+        value: number,
+        body,
+    }))
+}
+
+/// Deletes the record that leaves a channel's window once a number is the last.
+fn push_leaving(
+    changes: &mut List<Change>,
+    capacity: u64,
+    channel: &ChannelName,
+    number: u64,
+) -> Result<(), AllocError>
+    ensures { OnOk result (changes.new ≡ changes.old ++ windows.leaving capacity channel.now number) }
+{
+    if capacity < number {
+        changes.push(Change::Delete(record_key(channel, number - capacity)?))?;
+    }
+    Ok(())
+}
+
+/// The first number of the window whose last number is this one.
+fn first_for(capacity: u64, last: u64) -> u64
+    requires { 1 ≤ capacity }
+    ensures { result ≡ windows.first_for capacity last }
+{
+    if last < capacity {
+        return 1;
+    }
+    last - capacity + 1
+}
+
+fn events_of(channel: &ChannelName, rows: List<Row>) -> Result<List<Event>, AllocError>
+    ensures { IfOk result (λ events. events ≡ map (windows.event_of_row channel.now) rows) }
+{
+    let mut events = List::new(channel.as_text().alloc());
+    for row in rows.into_vec() {
+        events.push(Event {
+            channel: channel.clone()?,
+            number: row.key.number,
+            text: row.body,
+        })?;
+    }
+    Ok(events)
 }

@@ -1,0 +1,35 @@
+-- Laws of windows: a log in which nothing was written has the window of no history, and what the rows of a window
+-- give is what its histories say.
+use Rattle.std.specs.Prelude.{◌≡◌, ℕ, ◌+◌, ◌-◌, max, List, [], ◌∷◌, drop, length}
+use Rattle.std.specs.FinMap as map
+use Rattle.wef_event.specs.declared.records.Event.{Event}
+use Rattle.wef_keeper.specs.Rows.{Rows}
+use Rattle.wef_source_log.specs.Histories.{History, Histories, history}
+use Rattle.wef_source_log.specs.Windows.{IsWindow, boot_of, capacity_of, first_for, first_of, last_of, records_after, started}
+
+-- records of a channel with these texts, numbered from `n` on
+abbrev pub numbered_from : List ℕ → ℕ → List (List ℕ) → List Event
+numbered_from c n [] = []
+numbered_from c n (text ∷ texts) = record { channel = c; number = n; text = text } ∷ numbered_from c (n + 1) texts
+
+-- the records of a channel's history from a number on, which is 1 or more
+abbrev pub records_from : List ℕ → History → ℕ → List Event
+records_from c records first = numbered_from c first (drop (first - 1) records)
+
+-- What the rows of a window give. The records above a number are those of the history that are in the window and
+-- above it, in order, each once.
+pub record ReadsWindow (rows : Rows) (all : Histories) (capacity boot : ℕ) : Type 0 where
+  pub capacity_is : capacity_of rows ≡ capacity
+  pub boot_is : boot_of rows ≡ boot
+  pub last_is : (c : List ℕ) → last_of rows c ≡ length (history all c)
+  pub first_is : (c : List ℕ) → first_of rows c ≡ first_for capacity (length (history all c))
+  pub records_are : (c : List ℕ) (after : ℕ) →
+      records_after rows c after ≡ records_from c (history all c) (max (first_for capacity (length (history all c))) (after + 1))
+
+-- a log in which nothing was written
+abbrev pub StartIsEmpty : Type 0
+StartIsEmpty = (capacity : ℕ) → IsWindow (started capacity) map.empty capacity 1
+
+-- what a window's rows give
+abbrev pub WindowsRead : Type 0
+WindowsRead = (rows : Rows) (all : Histories) (capacity boot : ℕ) → IsWindow rows all capacity boot → ReadsWindow rows all capacity boot
