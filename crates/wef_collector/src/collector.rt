@@ -10,6 +10,7 @@ ghost use Rattle.wef_collector.specs.Bookmarks.{bookmark_of};
 ghost use Rattle.wef_collector.specs.Held as held;
 ghost use Rattle.wef_collector.specs.Keys as keys;
 ghost use Rattle.wef_collector.specs.Listing.{listed};
+ghost use Rattle.wef_collector.specs.Offers.{offers};
 ghost use Rattle.wef_collector.specs.Report.{report};
 ghost use Rattle.wef_collector.specs.Standing as standings;
 ghost use Rattle.wef_collector.specs.Taken.{taken};
@@ -21,6 +22,7 @@ use crate::faults::CollectorFault;
 use crate::held::held_page;
 use crate::keys::subscription_key;
 use crate::listing::{Listed, list_subscriptions};
+use crate::offering::offers_to;
 use crate::reporting::{report, subscriptions_start};
 use crate::standings::{Standing, standing_in};
 use std::alloc::{AllocError, Global};
@@ -29,7 +31,7 @@ use wef_base::{ChannelName, List, SourceName, SubId, Text};
 use wef_batch::{Batch, judge};
 use wef_bookmark::Bookmark;
 use wef_event::Event;
-use wef_eventing::{Subscription, kept_words};
+use wef_eventing::{Offer, Subscription, kept_words};
 use wef_keeper::{Change, Depth, Key, Row, Rows};
 use wef_query::channels;
 
@@ -172,6 +174,16 @@ impl Collector {
         ensures refusal { IfErr result answers.WantsMemory }
     {
         Ok(list_subscriptions(&self.rows, self.alloc)?)
+    }
+
+    /// The offers to a source that asks: one for each live subscription that the sources begin, in
+    /// the order of names. Each goes on from the bookmark that is kept for the source, and its
+    /// batches come to the host.
+    pub fn offers(&self, source: &SourceName, host: &Text) -> Result<List<Offer>, CollectorFault>
+        ensures ok { IfOk result (λ list. list ≡ offers self.now source.now host.now) }
+        ensures refusal { IfErr result answers.WantsMemory }
+    {
+        Ok(offers_to(&self.rows, self.alloc, source, host)?)
     }
 
     /// How far a source was served for a subscription; also for one that has ended.

@@ -9,6 +9,7 @@ mod held;
 mod keys;
 pub mod laws;
 mod listing;
+mod offering;
 mod reporting;
 mod runs;
 mod sections;
@@ -18,3 +19,6 @@ pub use collector::{Collector, MOST_SUBSCRIPTIONS};
 pub use faults::CollectorFault;
 pub use listing::Listed;
 pub use standings::Standing;
+
+#[cfg(test)]
+mod tests;

@@ -1,2 +1,4 @@
+pub mod AddressesBack
 pub mod AllEvents
 pub mod Back
+pub mod Segments

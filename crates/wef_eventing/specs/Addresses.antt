@@ -50,3 +50,10 @@ source_in address = option_and_then source_name (option_and_then decoded (last_p
 abbrev pub AddressesReadBack : Type 0
 AddressesReadBack = (host u s : List ℕ) → IsUtf8 u → subscription_name u ≡ Some u → IsUtf8 s → source_name s ≡ Some s →
     (subscription_in (delivery_address host u s) ≡ Some u) × (source_in (delivery_address host u s) ≡ Some s)
+
+-- A subscription's name and a source's, as they are kept: each is UTF-8 and reads back as itself.
+pub record AreNames (u s : List ℕ) : Type 0 where
+  pub sub_utf8 : IsUtf8 u
+  pub sub_reads_back : subscription_name u ≡ Some u
+  pub source_utf8 : IsUtf8 s
+  pub source_reads_back : source_name s ≡ Some s

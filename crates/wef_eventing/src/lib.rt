@@ -1,10 +1,12 @@
-//! Subscriptions, and the words that keep them.
+//! Subscriptions, the words that keep them, and the addresses that their batches go to.
 #![tactic(auto)]
 
+pub mod addresses;
 pub mod bodies;
 pub mod kept;
 pub mod subscriptions;
 
+pub use addresses::{delivery_address, source_in, subscription_in};
 pub use bodies::{Body, Offer, Subscribe};
 pub use kept::{kept_words, read_kept};
 pub use subscriptions::{EndStatus, SourceAt, SubKind, Subscription};
