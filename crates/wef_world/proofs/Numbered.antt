@@ -1,0 +1,154 @@
+-- The rows of a section by number: a list in order that answers as the rows do.
+use Rattle.std.proofs.Common.{◌≡◌, ℕ, Bool, true, false, ◌&&◌, cond, List, [], ◌∷◌, map, refl, ap, sym, ◌∙◌, subst, Option, Some, None, nat_lt, nat_eq}
+use Rattle.std.specs.Cmp.{IsTotalOrder, nat_cmp_total, nat_eq_equiv, tied_itself}
+use Rattle.std.specs.Cmp.Lexicographic.{slice_cmp, nat_list_cmp_total, nat_list_eq_equiv, pointwise, bytes_decides}
+use Rattle.std.specs.FinMap as finite
+use Rattle.std.specs.FinMap.{find, is_sorted, nat_cmp-IsAntisymmetric}
+use Rattle.std.specs.FinMap.Entries.{same_entries, where_key, is_sorted-where_key, find-where_key, below_all}
+use Rattle.std.specs.List.{filter}
+use Rattle.std.specs.Ordering.{eq_by_cmp, is_eq, is_lt, nat_cmp, ordering_then}
+use Rattle.std.specs.Prelude.{T}
+use Rattle.std.specs.declared.cmp.Ordering.{Ordering}
+use Rattle.std.specs.declared.cmp.Ordering.TheVariants.{Less, Equal, Greater}
+use Rattle.std.proofs.lemmas.Bool.{and_parts, eqb-true}
+use Rattle.wef_collector.specs.Keys.{key}
+use Rattle.wef_keeper.specs.Rows.{Rows, is_after, key_cmp, key_cmp_exact, row_of}
+use Rattle.wef_keeper.specs.Sections.{is_under, rows_under}
+use Rattle.wef_keeper.specs.declared.keys.Cell.{Cell}
+use Rattle.wef_keeper.specs.declared.keys.Depth.TheVariants.{Channel}
+use Rattle.wef_keeper.specs.declared.keys.Key.{Key}
+use Rattle.wef_keeper.specs.declared.keys.Row.{Row}
+
+-- ---- keys that differ in number alone
+
+pub key_cmp_number : (k : ℕ) (u s c : List ℕ) (m n : ℕ) → key_cmp (key k u s c m) (key k u s c n) ≡ nat_cmp m n
+key_cmp_number k u s c m n = λ i.
+    ordering_then (tied_itself nat_cmp_total k i)
+    (ordering_then (tied_itself nat_list_cmp_total u i)
+    (ordering_then (tied_itself nat_list_cmp_total s i)
+    (ordering_then (tied_itself nat_list_cmp_total c i) (nat_cmp m n))))
+
+under_own : (k : ℕ) (u s c : List ℕ) (m n : ℕ) → is_under Channel (key k u s c m) (key k u s c n) ≡ true
+under_own k u s c m n = λ i.
+    nat_eq_equiv.refl k i && nat_list_eq_equiv.refl u i && nat_list_eq_equiv.refl s i && nat_list_eq_equiv.refl c i
+
+-- a key of the section is the one of its own number
+own_key : (k : ℕ) (u s c : List ℕ) (m : ℕ) (q : Key) → is_under Channel (key k u s c m) q ≡ true → q ≡ key k u s c q.number
+own_key k u s c m q e =
+    let outer = and_parts (nat_eq k q.kind && pointwise nat_eq u q.sub && pointwise nat_eq s q.source) (pointwise nat_eq c q.channel) e in
+    let middle = and_parts (nat_eq k q.kind && pointwise nat_eq u q.sub) (pointwise nat_eq s q.source) outer.0 in
+    let inner = and_parts (nat_eq k q.kind) (pointwise nat_eq u q.sub) middle.0 in
+    let kind = sym (eqb-true k q.kind inner.0) in
+    let sub = sym ((bytes_decides u q.sub).0 inner.1) in
+    let source = sym ((bytes_decides s q.source).0 middle.1) in
+    let channel = sym ((bytes_decides c q.channel).0 outer.1) in
+    λ i. record { kind = kind i; sub = sub i; source = source i; channel = channel i; number = q.number }
+
+-- ---- entries by number
+
+-- each entry's key is the one of its own number
+abbrev AreOwn : ℕ → List ℕ → List ℕ → List ℕ → List (Key × Cell) → Type 0
+AreOwn k u s c [] = Unit {0}
+AreOwn k u s c (e ∷ es) = (e.0 ≡ key k u s c e.0.number) × AreOwn k u s c es
+
+abbrev pub by_number : List (Key × Cell) → List (ℕ × Cell)
+by_number entries = map (λ (e : Key × Cell). (e.0.number, e.1)) entries
+
+are_own : (k : ℕ) (u s c : List ℕ) (m : ℕ) (entries : List (Key × Cell)) → AreOwn k u s c (where_key key_cmp (is_under Channel (key k u s c m)) entries)
+are_own k u s c m [] = tt
+are_own k u s c m (e ∷ es) =
+    elim (is_under Channel (key k u s c m) e.0) as (λ t. is_under Channel (key k u s c m) e.0 ≡ t → AreOwn k u s c (cond t (e ∷ where_key key_cmp (is_under Channel (key k u s c m)) es) (where_key key_cmp (is_under Channel (key k u s c m)) es))) [
+      | true ↦ λ is. (own_key k u s c m e.0 is, are_own k u s c m es)
+      | false ↦ λ is. are_own k u s c m es
+    ] refl
+
+cmp_own : (k : ℕ) (u s c : List ℕ) (n : ℕ) (q : Key) → q ≡ key k u s c q.number → key_cmp (key k u s c n) q ≡ nat_cmp n q.number
+cmp_own k u s c n q own = ap (key_cmp (key k u s c n)) own ∙ key_cmp_number k u s c n q.number
+
+cmp_owns : (k : ℕ) (u s c : List ℕ) (p q : Key) → p ≡ key k u s c p.number → q ≡ key k u s c q.number → key_cmp p q ≡ nat_cmp p.number q.number
+cmp_owns k u s c p q own own' = ap (λ (x : Key). key_cmp x q) own ∙ cmp_own k u s c p.number q own'
+
+below_own : (k : ℕ) (u s c : List ℕ) (q : Key) → q ≡ key k u s c q.number → (es : List (Key × Cell)) → AreOwn k u s c es → below_all key_cmp q es ≡ below_all nat_cmp q.number (by_number es)
+below_own k u s c q own [] all = refl
+below_own k u s c q own (e ∷ es) all = λ i. is_lt (cmp_owns k u s c q e.0 own all.0 i) && below_own k u s c q own es all.1 i
+
+sorted_own : (k : ℕ) (u s c : List ℕ) (es : List (Key × Cell)) → AreOwn k u s c es → is_sorted key_cmp es ≡ is_sorted nat_cmp (by_number es)
+sorted_own k u s c [] all = refl
+sorted_own k u s c (e ∷ es) all = λ i. below_own k u s c e.0 all.0 es all.1 i && sorted_own k u s c es all.1 i
+
+find_own : (k : ℕ) (u s c : List ℕ) (n : ℕ) (es : List (Key × Cell)) → AreOwn k u s c es → find key_cmp (key k u s c n) es ≡ find nat_cmp n (by_number es)
+find_own k u s c n [] all = refl
+find_own k u s c n (e ∷ es) all = λ i. cond (is_eq (cmp_own k u s c n e.0 all.0 i)) (Some e.1) (find_own k u s c n es all.1 i)
+
+abbrev pub own_row : ℕ → List ℕ → List ℕ → List ℕ → ℕ × Cell → Row
+own_row k u s c e = row_of (key k u s c e.0, e.1)
+
+rows_own : (k : ℕ) (u s c : List ℕ) (es : List (Key × Cell)) → AreOwn k u s c es → map row_of es ≡ map (own_row k u s c) (by_number es)
+rows_own k u s c [] all = refl
+rows_own k u s c (e ∷ es) all = λ i. row_of (all.0 i, e.1) ∷ rows_own k u s c es all.1 i
+
+rows_kept : (test : Key → Bool) (entries : List (Key × Cell)) → filter (λ row. test row.key) (map row_of entries) ≡ map row_of (where_key key_cmp test entries)
+rows_kept test [] = refl
+rows_kept test (e ∷ entries) =
+    elim (test e.0) as (λ b. cond b (row_of e ∷ filter (λ row. test row.key) (map row_of entries)) (filter (λ row. test row.key) (map row_of entries)) ≡ map row_of (cond b (e ∷ where_key key_cmp test entries) (where_key key_cmp test entries))) [
+      | true ↦ ap (λ rows. row_of e ∷ rows) (rows_kept test entries)
+      | false ↦ rows_kept test entries
+    ]
+
+-- ---- the rows of a section by number
+
+-- the entries of the rows behind a number
+section : ℕ → List ℕ → List ℕ → List ℕ → ℕ → Rows → List (Key × Cell)
+section k u s c m rows = where_key key_cmp (is_under Channel (key k u s c m)) (where_key key_cmp (is_after (key k u s c m)) (finite.entries rows))
+
+pub numbered : ℕ → List ℕ → List ℕ → List ℕ → ℕ → Rows → List (ℕ × Cell)
+numbered k u s c m rows = by_number (section k u s c m rows)
+
+pub rows_numbered : (k : ℕ) (u s c : List ℕ) (m : ℕ) (rows : Rows) → rows_under Channel (key k u s c m) rows ≡ map (own_row k u s c) (numbered k u s c m rows)
+unfolding numbered section
+rows_numbered k u s c m rows =
+    let behind = where_key key_cmp (is_after (key k u s c m)) (finite.entries rows) in
+    rows_kept (is_under Channel (key k u s c m)) behind ∙ rows_own k u s c (section k u s c m rows) (are_own k u s c m behind)
+
+pub numbered_sorted : (k : ℕ) (u s c : List ℕ) (m : ℕ) (rows : Rows) → T (is_sorted nat_cmp (numbered k u s c m rows))
+unfolding numbered section
+numbered_sorted k u s c m rows =
+    let behind = where_key key_cmp (is_after (key k u s c m)) (finite.entries rows) in
+    subst T (sorted_own k u s c (section k u s c m rows) (are_own k u s c m behind))
+    (is_sorted-where_key key_cmp (is_under Channel (key k u s c m)) behind
+    (is_sorted-where_key key_cmp (is_after (key k u s c m)) (finite.entries rows) (finite.entries_sorted rows)))
+
+pub after_number : (m n : ℕ) → is_lt (nat_cmp m n) ≡ nat_lt m n
+after_number m n = by_tests (nat_lt m n) (nat_eq m n)
+  where
+    by_tests : (t e : Bool) → is_lt (cond t Less (cond e Equal Greater)) ≡ t
+    by_tests true e = refl
+    by_tests false true = refl
+    by_tests false false = refl
+
+alike : (test : Key → Bool) (q x : Key) → key_cmp q x ≡ Equal → test x ≡ test q
+alike test q x tie = ap test (sym (key_cmp_exact q x tie))
+
+pub find_numbered : (k : ℕ) (u s c : List ℕ) (m : ℕ) (rows : Rows) (n : ℕ) → find nat_cmp n (numbered k u s c m rows) ≡ cond (nat_lt m n) (finite.get rows (key k u s c n)) None
+unfolding numbered section
+find_numbered k u s c m rows n =
+    let a = key k u s c m in
+    let q = key k u s c n in
+    let behind = where_key key_cmp (is_after a) (finite.entries rows) in
+    sym (find_own k u s c n (section k u s c m rows) (are_own k u s c m behind))
+    ∙ find-where_key key_cmp (is_under Channel a) q (alike (is_under Channel a) q) behind
+    ∙ ap (λ (t : Bool). cond t (find key_cmp q behind) None) (under_own k u s c m n)
+    ∙ find-where_key key_cmp (is_after a) q (alike (is_after a) q) (finite.entries rows)
+    ∙ (λ i. cond ((ap is_lt (key_cmp_number k u s c m n) ∙ after_number m n) i) (sym (finite.get-entries rows q) i) None)
+
+-- lists in order that answer alike are one
+pub same_numbers : {X : Type 0} (es fs : List (ℕ × X)) → T (is_sorted nat_cmp es) → T (is_sorted nat_cmp fs) → ((n : ℕ) → find nat_cmp n es ≡ find nat_cmp n fs) → es ≡ fs
+same_numbers es fs = same_entries nat_cmp nat_cmp_total nat_cmp-IsAntisymmetric es fs
+
+-- sections whose rows answer alike are one
+pub same_section : (k : ℕ) (u s c : List ℕ) (m : ℕ) (after before : Rows) → ((n : ℕ) → finite.get after (key k u s c n) ≡ finite.get before (key k u s c n))
+    → rows_under Channel (key k u s c m) after ≡ rows_under Channel (key k u s c m) before
+same_section k u s c m after before same =
+    let lists = same_numbers (numbered k u s c m after) (numbered k u s c m before) (numbered_sorted k u s c m after) (numbered_sorted k u s c m before)
+        (λ n. find_numbered k u s c m after n ∙ ap (λ (cell : Option Cell). cond (nat_lt m n) cell None) (same n) ∙ sym (find_numbered k u s c m before n)) in
+    rows_numbered k u s c m after ∙ ap (map (own_row k u s c)) lists ∙ sym (rows_numbered k u s c m before)
