@@ -1,10 +1,7 @@
 -- What is true of offers, sessions and messages stays so while rows, sources and messages grow.
-use Rattle.std.proofs.Common.{◌≡◌, ℕ, zero, suc, ◌+◌, ◌-◌, ◌<◌, ◌≤◌, ◌==◌, Bool, true, false, not, ◌&&◌, cond, List, [], ◌∷◌, ◌++◌, length, nat_lt, nat_le, refl, ap, sym, ◌∙◌, subst, arith, inl, inr, length-append, append-nil}
-use Rattle.std.proofs.lemmas.Bool.Decides.{nat_tests}
-use Rattle.std.specs.Prelude.{Option, Some, None, slice_get, ◌⊎◌}
+use Rattle.std.proofs.Common.{◌≡◌, ℕ, ◌+◌, ◌≤◌, List, [], ◌++◌, length, refl, sym, ◌∙◌, subst, arith, length-append, append-nil}
+use Rattle.std.specs.Prelude.{Option, Some, None}
 use Rattle.std.specs.FinMap as finite
-use Rattle.std.specs.List.{AllByRecursion}
-use Rattle.std.specs.Option.{option_and_then}
 use Rattle.wef_batch.specs.Reach.{reach}
 use Rattle.wef_batch.specs.declared.items.Batch.{Batch}
 use Rattle.wef_batch.specs.declared.items.Item.{Item}
@@ -16,10 +13,8 @@ use Rattle.wef_eventing.specs.declared.bodies.Subscribe.{Subscribe}
 use Rattle.wef_eventing.specs.declared.subscriptions.Subscription.{Subscription}
 use Rattle.wef_keeper.specs.Rows.{Rows}
 use Rattle.wef_query.specs.declared.QueryList.{QueryList}
-use Rattle.wef_source_log.specs.Histories.{Histories, History, history, text_at}
-use Rattle.wef_source.specs.Building.{room_of}
-use Rattle.wef_source.specs.Fits.{Fits, FitsChannel, FitsUpTo, event_at, ranges_in}
-use Rattle.wef_source.specs.Wanted.{IsLost, Range, in_ranges, is_too_large, selected_at, selected_text, wanted}
+use Rattle.wef_source_log.specs.Histories.{Histories, History, history}
+use Rattle.wef_source.specs.Fits.{Fits, FitsChannel, ranges_in}
 use Rattle.wef_source.specs.declared.messages.Delivery.{Delivery}
 use Rattle.wef_source.specs.declared.sessions.Outstanding.{Outstanding}
 use Rattle.wef_source.specs.declared.sessions.Session.{Session}
@@ -30,6 +25,8 @@ use Rattle.wef_world.specs.declared.messages.Message.{Message}
 use Rattle.wef_world.specs.declared.messages.Message.TheVariants.{Ask, Offers, Events, Ack, Fault}
 use Rattle.wef_world.specs.declared.slots.Slot.{Slot}
 use Rattle.wef_world.proofs.Sent.{all_map}
+use Rattle.wef_world.proofs.Takes.{lost_longer}
+use Rattle.wef_world.proofs.WantedEvents.{wanted_longer}
 
 -- Later rows keep each subscription, and no bookmark falls.
 pub record RowsGrow (rows rows' : Rows) : Type 0 where
@@ -72,47 +69,12 @@ same_messages messages m was = was
 
 -- ---- histories that grow
 
-slice_get_longer : (xs ys : History) (n : ℕ) → n < length xs → slice_get (xs ++ ys) n ≡ slice_get xs n
-slice_get_longer [] ys n within = absurd (omega arith)
-slice_get_longer (x ∷ xs) ys zero within = refl
-slice_get_longer (x ∷ xs) ys (suc n) within = let below : n < length xs = omega arith in slice_get_longer xs ys n below
-
-text_longer : (records more : History) (n : ℕ) → n ≤ length records → text_at (records ++ more) n ≡ text_at records n
-text_longer records more zero within = refl
-text_longer records more (suc n) within =
-    let below : suc n - 1 < length records = omega arith in
-    ap (λ (o : Option (List ℕ)). cond (suc n == 0) None o) (slice_get_longer records more (suc n - 1) below)
-
-pub selected_longer : (query : QueryList) (c : List ℕ) (records more : History) (n : ℕ) → n ≤ length records →
-    selected_at query c (records ++ more) n ≡ selected_at query c records n
-selected_longer query c records more n within = ap (option_and_then (selected_text query c)) (text_longer records more n within)
-
-pub wanted_longer : (query : QueryList) (c : List ℕ) (records more : History) (t : ℕ) (ranges : List Range) (n : ℕ) → t ≤ length records →
-    wanted query c (records ++ more) t ranges n ≡ wanted query c records t ranges n
-wanted_longer query c records more t ranges n within =
-    elim (nat_le n t) as (λ b. nat_le n t ≡ b → cond (b && not (in_ranges ranges n)) (selected_at query c (records ++ more) n) None ≡ cond (b && not (in_ranges ranges n)) (selected_at query c records n) None) [
-      | true ↦ λ is.
-          let inside : n ≤ length records = grind (arith, nat_tests, is) in
-          ap (λ (o : Option (List ℕ)). cond (not (in_ranges ranges n)) o None) (selected_longer query c records more n inside)
-      | false ↦ λ is. refl
-    ] refl
-
-lost_longer : (query : QueryList) (max_bytes : ℕ) (c : List ℕ) (records more : History) (capacity n : ℕ) →
-    IsLost query max_bytes c records capacity n → IsLost query max_bytes c (records ++ more) capacity n
-lost_longer query max_bytes c records more capacity n lost =
-    let longer = length-append records more in
-    let within : n ≤ length records = lost.1 in
-    (lost.0, omega (arith, longer, within), elim (lost.2) [
-      | inl over ↦ inl (omega (arith, longer, over))
-      | inr large ↦ inr (ap (is_too_large query (room_of max_bytes) c n) (selected_longer query c records more n within) ∙ large)
-    ])
-
 channel_longer : (query : QueryList) (max_bytes : ℕ) (c : List ℕ) (records more : History) (capacity b : ℕ) (items : List Item) (t : Option ℕ) →
     FitsChannel query max_bytes c records capacity b items t → FitsChannel query max_bytes c (records ++ more) capacity b items t
 channel_longer query max_bytes c records more capacity b items None fits = tt
 channel_longer query max_bytes c records more capacity b items (Some t) fits = record {
   within = omega (arith, length-append records more, fits.within);
-  exact = λ n above. fits.exact n above ∙ sym (wanted_longer query c records more t (ranges_in c items) n fits.within);
+  exact = λ n above. fits.exact n above ∙ sym (wanted_longer query c records more t (ranges_in c items) fits.within n);
   lost = λ n is. lost_longer query max_bytes c records more capacity n (fits.lost n is);
 }
 
