@@ -46,16 +46,16 @@ tie Greater e = cc
 one_name : (a b : List ℕ) → eq_by_cmp (slice_cmp nat_cmp) a b ≡ true → a ≡ b
 one_name a b e = slice_cmp-IsAntisymmetric nat_cmp-IsAntisymmetric a b (tie (slice_cmp nat_cmp a b) e)
 
-by_test : (t : Bool) (P : Option Slot → Type 0) (a b : Option Slot) → (t ≡ true → P a) → P b → P (cond t a b)
+by_test : {X : Type 0} (t : Bool) (P : X → Type 0) (a b : X) → (t ≡ true → P a) → P b → P (cond t a b)
 by_test true P a b f g = f refl
 by_test false P a b f g = g
 
--- what holds of the source that is put, and of each that was there, holds of all
-slot_there : (sources : Slots) (s : List ℕ) (slot : Slot) (r : List ℕ) (P : Option Slot → Type 0) → (r ≡ s → P (Some slot)) → P (finite.get sources r) →
-    P (finite.get (finite.insert sources s slot) r)
-slot_there sources s slot r P at_it elsewhere =
-    subst P (sym (finite.get-insert nat_list_cmp_total sources s slot r))
-    (by_test (eq_by_cmp (slice_cmp nat_cmp) r s) P (Some slot) (finite.get sources r) (λ e. at_it (one_name r s e)) elsewhere)
+-- what holds of the value that is put at a name, and of what was there at each, holds of all
+pub put_there : {X : Type 0} (m : finite.FinMap (slice_cmp nat_cmp) X) (s : List ℕ) (x : X) (r : List ℕ) (P : Option X → Type 0) → (r ≡ s → P (Some x)) → P (finite.get m r) →
+    P (finite.get (finite.insert m s x) r)
+put_there m s x r P at_it elsewhere =
+    subst P (sym (finite.get-insert nat_list_cmp_total m s x r))
+    (by_test (eq_by_cmp (slice_cmp nat_cmp) r s) P (Some x) (finite.get m r) (λ e. at_it (one_name r s e)) elsewhere)
 
 -- the source that was put is there
 pub slot_put : (sources : Slots) (s : List ℕ) (slot : Slot) → finite.get (finite.insert sources s slot) s ≡ Some slot
@@ -166,7 +166,7 @@ record IsSourceMove (state : State) (s : List ℕ) (slot : Slot) (messages : Lis
 
 move_widens : (state : State) (s : List ℕ) (slot : Slot) → ((old : Slot) → slot_of state s ≡ Some old → SlotGrows old slot) → SourcesGrow state.sources (finite.insert state.sources s slot)
 move_widens state s slot wider r old e =
-    slot_there state.sources s slot r (λ o. WhereDeclared o (SlotGrows old)) (λ is. wider old (subst (λ (x : List ℕ). finite.get state.sources x ≡ Some old) is e))
+    put_there state.sources s slot r (λ o. WhereDeclared o (SlotGrows old)) (λ is. wider old (subst (λ (x : List ℕ). finite.get state.sources x ≡ Some old) is e))
     (same_sources state.sources r old e)
 
 some_is : (a b : Slot) → ◌≡◌ {A = Option Slot} (Some a) (Some b) → a ≡ b
@@ -176,14 +176,14 @@ kept_source : (state : State) (s : List ℕ) (slot : Slot) (messages : List Mess
     IsKept (record { rows = state.rows; foreign = state.foreign; sources = finite.insert state.sources s slot; messages = messages })
 kept_source state s slot messages kept move = record {
   pairs = λ u r c other.
-      slot_there state.sources s slot r (λ o. IsPairKept state.rows u r c (subscription_at state.rows u) o)
+      put_there state.sources s slot r (λ o. IsPairKept state.rows u r c (subscription_at state.rows u) o)
       (λ is. subst (λ (x : List ℕ). IsPairKept state.rows u x c (subscription_at state.rows u) (Some slot)) (sym is) (move.pairs u c)) (kept.pairs u r c other);
   apart = λ r new e.
-      slot_there state.sources s slot r (λ o. o ≡ Some new → is_among state.foreign r ≡ false)
+      put_there state.sources s slot r (λ o. o ≡ Some new → is_among state.foreign r ≡ false)
       (λ is _. subst (λ (x : List ℕ). is_among state.foreign x ≡ false) (sym is) move.apart) (kept.apart r new) e;
   keys = kept.keys;
   sources = λ r new e.
-      slot_there state.sources s slot r (λ o. o ≡ Some new → IsSourceKept state.rows messages r new)
+      put_there state.sources s slot r (λ o. o ≡ Some new → IsSourceKept state.rows messages r new)
       (λ is now. subst (λ (x : List ℕ × Slot). IsSourceKept state.rows messages x.0 x.1) (λ i. (sym is i, some_is slot new now i)) move.source)
       (λ old. source_grows state.rows state.rows state.messages messages r new (same_rows state.rows) move.more (kept.sources r new old)) e;
   messages = λ m was. elim (move.new m was) [
