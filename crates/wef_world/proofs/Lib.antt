@@ -1,6 +1,8 @@
 pub mod Fitted
 pub mod Given
+pub mod InOrder
 pub mod LastNumbers
+pub mod Marked
 pub mod Numbered
 pub mod Ranges
 pub mod Spared

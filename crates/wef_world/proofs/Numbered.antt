@@ -1,14 +1,15 @@
 -- The rows of a section by number: a list in order that answers as the rows do.
-use Rattle.std.proofs.Common.{◌≡◌, ℕ, Bool, true, false, ◌&&◌, cond, List, [], ◌∷◌, map, refl, ap, sym, ◌∙◌, subst, Option, Some, None, nat_lt, nat_eq}
-use Rattle.std.specs.Cmp.{IsTotalOrder, nat_cmp_total, nat_eq_equiv, tied_itself}
-use Rattle.std.specs.Cmp.Lexicographic.{slice_cmp, nat_list_cmp_total, nat_list_eq_equiv, pointwise, bytes_decides}
+use Rattle.std.proofs.Common.{◌≡◌, ℕ, ◌<◌, ◌≤◌, ◌==◌, Bool, true, false, ◌&&◌, cond, List, [], ◌∷◌, ◌++◌, map, arith, nat_le, refl, ap, sym, ◌∙◌, subst, Option, Some, None, nat_lt, nat_eq}
+use Rattle.std.specs.Cmp.{nat_cmp_total, nat_eq_equiv, tied_itself, unsigned_ties}
+use Rattle.std.specs.Cmp.Lexicographic.{nat_list_cmp_total, nat_list_eq_equiv, pointwise, bytes_decides}
 use Rattle.std.specs.FinMap as finite
 use Rattle.std.specs.FinMap.{find, is_sorted, nat_cmp-IsAntisymmetric}
 use Rattle.std.specs.FinMap.Entries.{same_entries, where_key, is_sorted-where_key, find-where_key, below_all}
 use Rattle.std.specs.List.{filter}
+use Rattle.std.proofs.lemmas.Bool.Decides.{nat_tests}
+use Rattle.std.specs.Option.{option_or}
 use Rattle.std.specs.Ordering.{eq_by_cmp, is_eq, is_lt, nat_cmp, ordering_then}
 use Rattle.std.specs.Prelude.{T}
-use Rattle.std.specs.declared.cmp.Ordering.{Ordering}
 use Rattle.std.specs.declared.cmp.Ordering.TheVariants.{Less, Equal, Greater}
 use Rattle.std.proofs.lemmas.Bool.{and_parts, eqb-true}
 use Rattle.wef_collector.specs.Keys.{key}
@@ -141,6 +142,63 @@ find_numbered k u s c m rows n =
     ∙ find-where_key key_cmp (is_after a) q (alike (is_after a) q) (finite.entries rows)
     ∙ (λ i. cond ((ap is_lt (key_cmp_number k u s c m n) ∙ after_number m n) i) (sym (finite.get-entries rows q) i) None)
 
+-- ---- lists by number
+
+pub lt_is : (m n : ℕ) → nat_lt m n ≡ true → m < n
+lt_is m n e = grind (arith, nat_tests)
+
+pub le_is : (m n : ℕ) → nat_le m n ≡ true → m ≤ n
+le_is m n e = grind (arith, nat_tests)
+
+pub not_below : (m n : ℕ) → nat_lt m n ≡ false → n ≤ m
+not_below m n e = grind (arith, nat_tests)
+
+pub above_zero : (b n : ℕ) → nat_lt b n ≡ true → nat_lt 0 n ≡ true
+above_zero b n e = grind (arith, nat_tests)
+
+equal_is : (m n : ℕ) → m == n ≡ true → m ≡ n
+equal_is m n e = grind (arith, nat_tests)
+
+lt_tested : (m n : ℕ) → m < n → nat_lt m n ≡ true
+lt_tested m n e = grind (arith, nat_tests)
+
+differs : (m n : ℕ) → m < n → m == n ≡ false
+differs m n e = grind (arith, nat_tests)
+
+differs_back : (m n : ℕ) → m < n → n == m ≡ false
+differs_back m n e = grind (arith, nat_tests)
+
+-- the tests of the order of numbers
+pub below : (m n : ℕ) → m < n → is_lt (nat_cmp m n) ≡ true
+below m n e = after_number m n ∙ lt_tested m n e
+
+pub below_is : (m n : ℕ) → is_lt (nat_cmp m n) ≡ true → m < n
+below_is m n e = lt_is m n (sym (after_number m n) ∙ e)
+
+pub tie_is : (m n : ℕ) → eq_by_cmp nat_cmp m n ≡ true → m ≡ n
+tie_is m n e = equal_is m n (unsigned_ties m n ∙ e)
+
+pub no_tie : (m n : ℕ) → m < n → eq_by_cmp nat_cmp m n ≡ false
+no_tie m n e = sym (unsigned_ties m n) ∙ differs m n e
+
+pub no_tie_back : (m n : ℕ) → m < n → eq_by_cmp nat_cmp n m ≡ false
+no_tie_back m n e = sym (unsigned_ties n m) ∙ differs_back m n e
+
+-- a number at one that is below all, or before it, isn't found
+pub find_above : {X : Type 0} (n k : ℕ) (es : List (ℕ × X)) → n ≤ k → below_all nat_cmp k es ≡ true → find nat_cmp n es ≡ None
+find_above n k [] le h = refl
+find_above n k (e ∷ es) le h =
+    let parts = and_parts (is_lt (nat_cmp k e.0)) (below_all nat_cmp k es) h in
+    let above : k < e.0 = below_is k e.0 parts.0 in
+    (λ i. cond (no_tie n e.0 (omega arith) i) (Some e.1) (find_above n k es le parts.1 i))
+
+pub find-append : {X : Type 0} (n : ℕ) (es fs : List (ℕ × X)) → find nat_cmp n (es ++ fs) ≡ option_or (find nat_cmp n es) (find nat_cmp n fs)
+find-append n [] fs = refl
+find-append n (e ∷ es) fs = elim (eq_by_cmp nat_cmp n e.0) as (λ t. cond t (Some e.1) (find nat_cmp n (es ++ fs)) ≡ option_or (cond t (Some e.1) (find nat_cmp n es)) (find nat_cmp n fs)) [
+  | true ↦ refl
+  | false ↦ find-append n es fs
+]
+
 -- lists in order that answer alike are one
 pub same_numbers : {X : Type 0} (es fs : List (ℕ × X)) → T (is_sorted nat_cmp es) → T (is_sorted nat_cmp fs) → ((n : ℕ) → find nat_cmp n es ≡ find nat_cmp n fs) → es ≡ fs
 same_numbers es fs = same_entries nat_cmp nat_cmp_total nat_cmp-IsAntisymmetric es fs
@@ -150,5 +208,5 @@ pub same_section : (k : ℕ) (u s c : List ℕ) (m : ℕ) (after before : Rows) 
     → rows_under Channel (key k u s c m) after ≡ rows_under Channel (key k u s c m) before
 same_section k u s c m after before same =
     let lists = same_numbers (numbered k u s c m after) (numbered k u s c m before) (numbered_sorted k u s c m after) (numbered_sorted k u s c m before)
-        (λ n. find_numbered k u s c m after n ∙ ap (λ (cell : Option Cell). cond (nat_lt m n) cell None) (same n) ∙ sym (find_numbered k u s c m before n)) in
+    (λ n. find_numbered k u s c m after n ∙ ap (λ (cell : Option Cell). cond (nat_lt m n) cell None) (same n) ∙ sym (find_numbered k u s c m before n)) in
     rows_numbered k u s c m after ∙ ap (map (own_row k u s c)) lists ∙ sym (rows_numbered k u s c m before)

@@ -1,18 +1,16 @@
 -- Ranges of numbers: those of items, and what of them lies above a bookmark.
-use Rattle.std.proofs.Common.{◌≡◌, ℕ, ◌+◌, ◌<◌, ◌≤◌, Bool, true, false, not, ◌&&◌, ◌||◌, cond, List, [], ◌∷◌, ◌++◌, map, refl, ap, sym, ◌∙◌, subst, Option, Some, None, nat_lt, nat_le, arith, if◌then◌else◌}
+use Rattle.std.proofs.Common.{◌≡◌, ℕ, ◌+◌, ◌<◌, ◌≤◌, Bool, true, false, ◌&&◌, ◌||◌, cond, List, [], ◌∷◌, ◌++◌, refl, ap, sym, ◌∙◌, Option, Some, None, nat_lt, nat_le, arith, if◌then◌else◌}
 use Rattle.std.proofs.lemmas.Bool.{and_parts}
 use Rattle.std.proofs.lemmas.Bool.Decides.{nat_tests}
-use Rattle.std.specs.FinMap.{find, is_sorted}
-use Rattle.std.specs.FinMap.Entries.{below_all}
-use Rattle.std.specs.Ordering.{eq_by_cmp, is_eq, is_lt, nat_cmp}
-use Rattle.std.specs.Prelude.{T, max}
+use Rattle.std.specs.Prelude.{max}
 use Rattle.wef_base.specs.Names.{same}
 use Rattle.wef_batch.specs.Reach.{later, span_in}
-use Rattle.wef_batch.specs.WellFormed.{follows, is_above, rises}
+use Rattle.wef_batch.specs.WellFormed.{follows, rises}
 use Rattle.wef_batch.specs.declared.items.Item.{Item}
 use Rattle.wef_batch.specs.declared.items.Item.TheVariants.{Event, Dropped, Loose}
-use Rattle.wef_source.specs.Fits.{ranges_in, with_range}
+use Rattle.wef_source.specs.Fits.{ranges_in}
 use Rattle.wef_source.specs.Wanted.{AreRising, EndBy, Range, in_ranges}
+use Rattle.wef_world.proofs.Numbered.{le_is, lt_is, not_below}
 
 -- what of the ranges lies above a number
 abbrev pub clip : ℕ → List Range → List Range
@@ -99,22 +97,13 @@ rise_sooner : (j k : ℕ) (rs : List Range) → j ≤ k → RiseFrom k rs → Ri
 rise_sooner j k [] le h = tt
 rise_sooner j k (r ∷ rs) le h = let first = h.0 in (omega arith, h.1, h.2)
 
-lt_holds : (m n : ℕ) → nat_lt m n ≡ true → m < n
-lt_holds m n e = grind (arith, nat_tests)
-
-le_holds : (m n : ℕ) → nat_le m n ≡ true → m ≤ n
-le_holds m n e = grind (arith, nat_tests)
-
-not_below : (m n : ℕ) → nat_lt m n ≡ false → n ≤ m
-not_below m n e = grind (arith, nat_tests)
-
 pub clip_rises : (j k b : ℕ) (rs : List Range) → j < max k (b + 1) → RiseFrom k rs → AreRising j (clip b rs)
 clip_rises j k b [] le h = tt
 clip_rises j k b (r ∷ rs) le h =
     let first : k ≤ r.0 = h.0 in
     let size : r.0 ≤ r.1 = h.1 in
     elim (nat_lt b r.1) as (λ x. nat_lt b r.1 ≡ x → AreRising j (cond x ((max r.0 (b + 1), r.1) ∷ clip b rs) (clip b rs))) [
-      | true ↦ λ is. let above : b < r.1 = lt_holds b r.1 is in (omega arith, omega arith, clip_rises r.1 (r.1 + 1) b rs (omega arith) h.2)
+      | true ↦ λ is. let above : b < r.1 = lt_is b r.1 is in (omega arith, omega arith, clip_rises r.1 (r.1 + 1) b rs (omega arith) h.2)
       | false ↦ λ is. let within : r.1 ≤ b = not_below b r.1 is in clip_rises j (r.1 + 1) b rs (omega arith) h.2
     ] refl
 
@@ -126,11 +115,11 @@ after_last None = 0
 after_last (Some n) = n + 1
 
 pub follows_parts : (previous : Option ℕ) (first last : ℕ) → follows previous (Some (first, last)) ≡ true → (after_last previous ≤ first) × (first ≤ last)
-follows_parts None first last e = (omega arith, le_holds first last e)
+follows_parts None first last e = (omega arith, le_is first last e)
 follows_parts (Some n) first last e =
     let parts = and_parts (nat_lt n first) (nat_le first last) e in
-    let above = lt_holds n first parts.0 in
-    (omega arith, le_holds first last parts.1)
+    let above = lt_is n first parts.0 in
+    (omega arith, le_is first last parts.1)
 
 pub follow_later : (previous : Option ℕ) (span : Option (ℕ × ℕ)) → follows previous span ≡ true → after_last previous ≤ after_last (later previous span)
 follow_later previous None e = omega arith
@@ -143,7 +132,7 @@ ranges_rise c previous (Event e ∷ items) h =
     rise_sooner (after_last previous) _ (ranges_in c items) (follow_later previous (span_in c (Event e)) parts.0) (ranges_rise c (later previous (span_in c (Event e))) items parts.1)
 ranges_rise c previous (Dropped channel first last ∷ items) h =
     elim (same channel c) as (λ t. follows previous (cond t (Some (first, last)) None) && rises c (later previous (cond t (Some (first, last)) None)) items ≡ true
-        → RiseFrom (after_last previous) (cond t ((first, last) ∷ ranges_in c items) (ranges_in c items))) [
+    → RiseFrom (after_last previous) (cond t ((first, last) ∷ ranges_in c items) (ranges_in c items))) [
       | true ↦ λ g.
           let parts = and_parts (follows previous (Some (first, last))) (rises c (Some last) items) g in
           let spans = follows_parts previous first last parts.0 in

@@ -1,5 +1,5 @@
 -- Keys that a batch doesn't touch, and what it leaves at those of one of its channels.
-use Rattle.std.proofs.Common.{◌≡◌, ℕ, ◌+◌, Bool, true, false, ◌&&◌, ◌||◌, cond, List, [], ◌∷◌, ◌++◌, refl, ap, sym, ◌∙◌, subst, nat_lt, ◌⊎◌, inl, inr}
+use Rattle.std.proofs.Common.{◌≡◌, ℕ, ◌+◌, Bool, true, false, ◌&&◌, ◌||◌, cond, List, [], ◌∷◌, ◌++◌, refl, ap, ◌∙◌, subst, nat_lt}
 use Rattle.std.specs.FinMap as map
 use Rattle.std.specs.List.{flat_map}
 use Rattle.std.specs.Prelude.{Option, None, Some, max}
@@ -46,6 +46,16 @@ missed_apart u s d q other = record {
   marks = λ n. apart 4 u s d n q other;
   loose = λ n. apart 5 u s d n q other;
 }
+
+pub and_no : (a : Bool) → (a && false) ≡ false
+and_no true = refl
+and_no false = refl
+
+-- a key of a channel is missed by the changes of others
+pub missed_channel : (u s c : List ℕ) (q : Key) → q.channel ≡ c → (d : List ℕ) → same d c ≡ false → IsMissed u s d q
+missed_channel u s c q channel d other =
+    missed_apart u s d q (ap (λ (e : List ℕ). same u q.sub && (same s q.source && same d e)) channel
+    ∙ ap (λ (t : Bool). same u q.sub && (same s q.source && t)) other ∙ ap (λ (t : Bool). same u q.sub && t) (and_no (same s q.source)) ∙ and_no (same u q.sub))
 
 -- ---- changes that don't name a missed key
 

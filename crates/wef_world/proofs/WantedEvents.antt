@@ -1,22 +1,21 @@
 -- What is wanted of a history, by number.
-use Rattle.std.proofs.Common.{◌≡◌, ℕ, ◌+◌, ◌-◌, ◌<◌, ◌≤◌, ◌==◌, Bool, true, false, not, ◌&&◌, cond, List, [], ◌∷◌, ◌++◌, length, map, refl, ap, sym, ◌∙◌, subst, Option, Some, None, nat_lt, nat_le, arith, if◌then◌else◌, length-append, ◌⊎◌, inl, inr}
-use Rattle.std.proofs.lemmas.Bool.{and_parts}
+use Rattle.std.proofs.Common.{◌≡◌, ℕ, ◌+◌, ◌-◌, ◌<◌, ◌≤◌, ◌==◌, Bool, true, false, not, ◌&&◌, cond, List, [], ◌∷◌, ◌++◌, length, map, refl, ap, sym, ◌∙◌, subst, Option, Some, None, nat_lt, nat_le, arith, length-append, ◌⊎◌, inl, inr}
 use Rattle.std.proofs.lemmas.Bool.Decides.{nat_tests}
 use Rattle.std.proofs.lemmas.List.{get_or_append_left}
 use Rattle.std.proofs.lemmas.Option.{slice_get_past, slice_get-get_or}
-use Rattle.std.specs.Cmp.{nat_cmp_total, tied_itself, unsigned_ties}
+use Rattle.std.specs.Cmp.{nat_cmp_total, tied_itself}
 use Rattle.std.specs.FinMap.{find, is_sorted}
 use Rattle.std.specs.FinMap.Entries.{below_all}
 use Rattle.std.specs.List.{filter_map, cons_option}
 use Rattle.std.specs.Option.{option_and_then, option_map}
-use Rattle.std.specs.Ordering.{eq_by_cmp, is_eq, is_lt, nat_cmp}
+use Rattle.std.specs.Ordering.{is_eq, nat_cmp}
 use Rattle.std.specs.Prelude.{T, slice_get}
 use Rattle.wef_event.specs.declared.records.Event.{Event}
 use Rattle.wef_query.specs.declared.QueryList.{QueryList}
 use Rattle.wef_source.specs.Wanted.{Range, in_ranges, selected_at, selected_text, wanted}
 use Rattle.wef_source_log.specs.Histories.{History, text_at}
 use Rattle.wef_world.specs.Safe.{event_with, numbers_from, wanted_event, wanted_events}
-use Rattle.wef_world.proofs.Numbered.{after_number, same_numbers}
+use Rattle.wef_world.proofs.Numbered.{below, find_above, le_is, lt_is, no_tie_back, same_numbers}
 
 -- ---- lists that pick some of the numbers of a list
 
@@ -25,15 +24,6 @@ numbered_with f n = option_map (λ x. (n, x)) (f n)
 
 abbrev pub picked : {X : Type 0} → (ℕ → Option X) → ℕ → List (List ℕ) → List (ℕ × X)
 picked f first texts = filter_map (numbered_with f) (numbers_from first texts)
-
-pub lt_is : (m n : ℕ) → nat_lt m n ≡ true → m < n
-lt_is m n e = grind (arith, nat_tests)
-
-pub le_is : (m n : ℕ) → nat_le m n ≡ true → m ≤ n
-le_is m n e = grind (arith, nat_tests)
-
-lt_holds : (m n : ℕ) → is_lt (nat_cmp m n) ≡ true → m < n
-lt_holds m n e = lt_is m n (sym (after_number m n) ∙ e)
 
 at_first : (first n : ℕ) → first ≤ n → nat_lt first n ≡ false → n ≡ first
 at_first first n le e = grind (arith, nat_tests)
@@ -50,19 +40,13 @@ below_length n size le e = grind (arith, nat_tests)
 longer : (n : ℕ) (records more : History) → n < length records → n < length (records ++ more)
 longer n records more h = omega (arith, length-append {A = List ℕ})
 
-lt_tested : (m n : ℕ) → m < n → is_lt (nat_cmp m n) ≡ true
-lt_tested m n e = after_number m n ∙ lt_true m n e
-  where
-    lt_true : (m n : ℕ) → m < n → nat_lt m n ≡ true
-    lt_true m n e = grind (arith, nat_tests)
-
 picked_above : {X : Type 0} (f : ℕ → Option X) (k first : ℕ) (texts : List (List ℕ)) → k < first → below_all nat_cmp k (picked f first texts) ≡ true
 picked_above f k first [] h = refl
 picked_above f k first (text ∷ texts) h =
     let rest = picked_above f k (first + 1) texts (omega arith) in
     elim (f first) as (λ o. below_all nat_cmp k (cons_option (option_map (λ x. (first, x)) o) (picked f (first + 1) texts)) ≡ true) [
       | None ↦ rest
-      | Some x ↦ λ i. lt_tested k first h i && rest i
+      | Some x ↦ λ i. below k first h i && rest i
     ]
 
 pub picked_sorted : {X : Type 0} (f : ℕ → Option X) (first : ℕ) (texts : List (List ℕ)) → T (is_sorted nat_cmp (picked f first texts))
@@ -74,25 +58,6 @@ picked_sorted f first (text ∷ texts) =
       | Some x ↦ subst (λ (t : Bool). T (t && is_sorted nat_cmp (picked f (first + 1) texts))) (sym (picked_above f first (first + 1) texts (omega arith))) rest
     ]
 
-less : (m n : ℕ) → m < n → eq_by_cmp nat_cmp m n ≡ false
-less m n e = sym (unsigned_ties m n) ∙ unequal m n e
-  where
-    unequal : (m n : ℕ) → m < n → m == n ≡ false
-    unequal m n e = grind (arith, nat_tests)
-
-more : (m n : ℕ) → m < n → eq_by_cmp nat_cmp n m ≡ false
-more m n e = sym (unsigned_ties n m) ∙ unequal m n e
-  where
-    unequal : (m n : ℕ) → m < n → n == m ≡ false
-    unequal m n e = grind (arith, nat_tests)
-
-pub find_above : {X : Type 0} (n k : ℕ) (es : List (ℕ × X)) → n ≤ k → below_all nat_cmp k es ≡ true → find nat_cmp n es ≡ None
-find_above n k [] le h = refl
-find_above n k (e ∷ es) le h =
-    let parts = and_parts (is_lt (nat_cmp k e.0)) (below_all nat_cmp k es) h in
-    let above : k < e.0 = lt_holds k e.0 parts.0 in
-    (λ i. cond (less n e.0 (omega arith) i) (Some e.1) (find_above n k es le parts.1 i))
-
 pub find_picked : {X : Type 0} (f : ℕ → Option X) (first : ℕ) (texts : List (List ℕ)) (n : ℕ) → first ≤ n → (first + length texts ≤ n → f n ≡ None) → find nat_cmp n (picked f first texts) ≡ f n
 find_picked f first [] n le past = sym (past (omega arith))
 find_picked f first (text ∷ texts) n le past =
@@ -102,7 +67,7 @@ find_picked f first (text ∷ texts) n le past =
           let rest = find_picked f (first + 1) texts n (omega arith) (λ h. past (omega arith)) in
           elim (f first) as (λ o. find nat_cmp n (cons_option (option_map (λ x. (first, x)) o) (picked f (first + 1) texts)) ≡ f n) [
             | None ↦ rest
-            | Some x ↦ ap (λ (b : Bool). cond b (Some x) (find nat_cmp n (picked f (first + 1) texts))) (more first n above) ∙ rest
+            | Some x ↦ ap (λ (b : Bool). cond b (Some x) (find nat_cmp n (picked f (first + 1) texts))) (no_tie_back first n above) ∙ rest
           ]
       | false ↦ λ is.
           let here : n ≡ first = at_first first n le is in
@@ -151,7 +116,7 @@ events_map : (query : QueryList) (c : List ℕ) (records : History) (t : ℕ) (r
 events_map query c records t ranges first [] = refl
 events_map query c records t ranges first (text ∷ texts) =
     elim (wanted query c records t ranges first) as (λ o. cons_option (option_map (event_with c first) o) (filter_map (wanted_event query c records t ranges) (numbers_from (first + 1) texts))
-        ≡ map (event_of c) (cons_option (option_map (λ x. (first, x)) o) (picked (wanted query c records t ranges) (first + 1) texts))) [
+    ≡ map (event_of c) (cons_option (option_map (λ x. (first, x)) o) (picked (wanted query c records t ranges) (first + 1) texts))) [
       | None ↦ events_map query c records t ranges (first + 1) texts
       | Some x ↦ ap (λ es. event_with c first x ∷ es) (events_map query c records t ranges (first + 1) texts)
     ]
@@ -180,7 +145,7 @@ pub texts_were : (query : QueryList) (c : List ℕ) (records : History) (t : ℕ
     map (event_of c) texts ≡ wanted_events query c records t ranges → (n : ℕ) → find nat_cmp n texts ≡ wanted query c records t ranges n
 texts_were query c records t ranges texts same n =
     let lists : texts ≡ wanted_texts query c records t ranges =
-        sym (texts_back c texts) ∙ ap (map text_of_event) (same ∙ events_texts query c records t ranges) ∙ texts_back c (wanted_texts query c records t ranges) in
+    sym (texts_back c texts) ∙ ap (map text_of_event) (same ∙ events_texts query c records t ranges) ∙ texts_back c (wanted_texts query c records t ranges) in
     ap (find nat_cmp n) lists ∙ find_wanted query c records t ranges n
 
 -- what is wanted of two histories is the same where each number's is
