@@ -1,7 +1,6 @@
 -- What the collector does keeps what is kept: subscriptions begin and end, and batches come.
-use Rattle.std.proofs.Common.{◌≡◌, ◌≢◌, ℕ, ◌≤◌, Bool, true, false, not, ◌&&◌, cond, List, [], ◌∷◌, ◌++◌, refl, ap, sym, ◌∙◌, subst, arith}
+use Rattle.std.proofs.Common.{◌≡◌, ◌≢◌, ℕ, ◌≤◌, Bool, true, false, ◌&&◌, cond, List, refl, ap, sym, ◌∙◌, subst}
 use Rattle.std.specs.Prelude.{Option, Some, None}
-use Rattle.std.specs.FinMap as finite
 use Rattle.wef_base.specs.Names.{same}
 use Rattle.wef_batch.specs.WellFormed.{is_in, is_well_formed}
 use Rattle.wef_batch.specs.declared.items.Batch.{Batch}
@@ -21,11 +20,10 @@ use Rattle.wef_replay.specs.Good.{is_among, is_subscription}
 use Rattle.wef_source_log.specs.Histories.{history}
 use Rattle.wef_source.specs.declared.messages.Delivery.{Delivery}
 use Rattle.wef_world.specs.Deliveries.{answer_with, events_step, refusal_of, rows_at, rows_with, standing_at, with_answer}
-use Rattle.wef_world.specs.Kept.{IsBehind, IsChannelKept, IsDelivery, IsKept, IsMessageKept, IsPairKept, WasSent}
+use Rattle.wef_world.specs.Kept.{IsBehind, IsChannelKept, IsDelivery, IsKept, IsPairKept, WasSent}
 use Rattle.wef_world.specs.Safe.{IsPairSafe, IsUntouched, about_of, subscription_at}
 use Rattle.wef_world.specs.States.{State, moment, slot_of, with_foreign, with_message, with_rows}
 use Rattle.wef_world.specs.Steps.{delivered, ended, subscribed}
-use Rattle.wef_world.specs.declared.messages.Message.{Message}
 use Rattle.wef_world.specs.declared.messages.Message.TheVariants.{Ack, Events, Fault}
 use Rattle.wef_world.specs.declared.slots.Slot.{Slot}
 use Rattle.wef_query.specs.Order.{with_name}
@@ -58,7 +56,7 @@ added_kept state about kept good none = kept_rows state (added_rows state.rows a
     by_name v s c apart true is =
         let own : subscription_at state.rows v ≡ None = ap (subscription_at state.rows) (sym (one_name about.name v is)) ∙ unknown state.rows about.name none in
         let blank = no_subscription state.rows v s c (slot_of state s)
-            (subst (λ (o : Option Subscription). IsPairKept state.rows v s c o (slot_of state s)) own (kept.pairs v s c apart)) in
+        (subst (λ (o : Option Subscription). IsPairKept state.rows v s c o (slot_of state s)) own (kept.pairs v s c apart)) in
         untouched_pair (added_rows state.rows about) v s c (subscription_at (added_rows state.rows about) v) (slot_of state s)
         (untouched_alike (added_rows state.rows about) state.rows v s c (adding_spares state.rows about v s c) blank)
     by_name v s c apart false other =
@@ -70,13 +68,13 @@ pub subscribe_keeps : (state : State) (about : Subscription) → IsKept state �
 subscribe_keeps state about kept good =
     by_test (λ (rows : Rows). IsKept (with_rows state rows)) (is_there state.rows about.name) state.rows (cond (is_full state.rows) state.rows (added_rows state.rows about))
     (λ there. kept) (λ none. by_test (λ (rows : Rows). IsKept (with_rows state rows)) (is_full state.rows) state.rows (added_rows state.rows about)
-        (λ full. kept) (λ room. added_kept state about kept good none))
+    (λ full. kept) (λ room. added_kept state about kept good none))
 
 ended_kept : (state : State) (u : List ℕ) (about : Subscription) → IsKept state → standing state.rows u ≡ stands.Live about → IsKept (with_rows state (ended_rows state.rows u))
 ended_kept state u about kept live = kept_rows state (ended_rows state.rows u) state.foreign kept (ending_grows state.rows u about live)
     (λ v s c apart.
-        alike_pair (ended_rows state.rows u) state.rows v s c (subscription_at (ended_rows state.rows u) v) (slot_of state s) (ending_spares state.rows u v s c)
-        (subst (λ (o : Option Subscription). IsPairKept state.rows v s c o (slot_of state s)) (sym (subscription_by_ending state.rows u about v live)) (kept.pairs v s c apart)))
+    alike_pair (ended_rows state.rows u) state.rows v s c (subscription_at (ended_rows state.rows u) v) (slot_of state s) (ending_spares state.rows u v s c)
+    (subst (λ (o : Option Subscription). IsPairKept state.rows v s c o (slot_of state s)) (sym (subscription_by_ending state.rows u about v live)) (kept.pairs v s c apart)))
     kept.apart (keys_by_ending state.rows u about live kept.keys)
 
 pub end_keeps : (state : State) (u : List ℕ) → IsKept state → IsKept (with_rows state (ended state.rows u (standing state.rows u)))
@@ -94,12 +92,13 @@ foreign_kept : (state : State) (s : List ℕ) (rows : Rows) → IsKept state →
     AreRowKeys rows → IsKept (with_rows (with_foreign state s) rows)
 foreign_kept state s rows kept none grows pairs keys = kept_rows state rows (with_name state.foreign s) kept grows
     (λ v r c apart.
-        let parts = not_among_with state.foreign s r apart in
-        pairs v r c (λ e. other_name r s parts.1 (sym e)) parts.0)
+    let parts = not_among_with state.foreign s r apart in
+    pairs v r c (λ e. other_name r s parts.1 (sym e)) parts.0)
     (λ r slot there. among_with state.foreign s r (kept.apart r slot there) (apart_name r slot there (same r s) refl)) keys
   where
     none_some : (slot : Slot) → ◌≡◌ {A = Option Slot} None (Some slot) → ⊥
     none_some slot e = cc
+
     apart_name : (r : List ℕ) (slot : Slot) → slot_of state r ≡ Some slot → (t : Bool) → same r s ≡ t → same r s ≡ false
     apart_name r slot there true is = absurd (none_some slot (sym none ∙ ap (slot_of state) (sym (one_name r s is)) ∙ there))
     apart_name r slot there false is = is
@@ -113,8 +112,8 @@ foreign_taken state u s channels batch kept none =
     let rows = taken state.rows u s channels batch moment in
     foreign_kept state s rows kept none (taking_grows state.rows u s channels batch moment)
     (λ v r c other apart.
-        alike_pair rows state.rows v r c (subscription_at rows v) (slot_of state r) (taking_spares_source state.rows u s channels batch moment v r c other)
-        (subst (λ (o : Option Subscription). IsPairKept state.rows v r c o (slot_of state r)) (sym (subscription_by_taking state.rows u s channels batch moment v)) (kept.pairs v r c apart)))
+    alike_pair rows state.rows v r c (subscription_at rows v) (slot_of state r) (taking_spares_source state.rows u s channels batch moment v r c other)
+    (subst (λ (o : Option Subscription). IsPairKept state.rows v r c o (slot_of state r)) (sym (subscription_by_taking state.rows u s channels batch moment v)) (kept.pairs v r c apart)))
     (keys_by_taking state.rows u s channels batch moment kept.keys)
 
 pub batch_keeps : (state : State) (u s : List ℕ) (batch : Batch) → IsKept state → slot_of state s ≡ None →
@@ -145,11 +144,11 @@ served_pair : (state : State) (u s c : List ℕ) (slot : Slot) (delivery : Deliv
 served_pair state u s c slot delivery kept there is at listed =
     let known : subscription_at state.rows u ≡ Some is.about = ap (subscription_at state.rows) (sym at) ∙ is.known in
     let before : IsChannelKept state.rows u s c is.about slot (is_in (channels_read is.about) c) =
-        subst (λ (x : Option Subscription × Option Slot). IsPairKept state.rows u s c x.0 x.1) (λ i. (known i, there i)) (kept.pairs u s c (kept.apart s slot there)) in
+    subst (λ (x : Option Subscription × Option Slot). IsPairKept state.rows u s c x.0 x.1) (λ i. (known i, there i)) (kept.pairs u s c (kept.apart s slot there)) in
     let safe : IsPairSafe state.rows u s c is.about (history slot.histories c) slot.capacity = subst (IsChannelKept state.rows u s c is.about slot) listed before in
     let rows = taken state.rows u s (channels_read is.about) delivery.batch moment in
     let after = fitting_batches_are_safe state.rows u s c is.about slot.histories slot.capacity is.above delivery.batch moment listed safe is.fits
-        (subst (λ (v : List ℕ). number_at is.above c ≤ bookmark_at state.rows v s c) at (is.behind c)) in
+    (subst (λ (v : List ℕ). number_at is.above c ≤ bookmark_at state.rows v s c) at (is.behind c)) in
     subst (λ (x : Option Subscription × Option Slot). IsPairKept rows u s c x.0 x.1) (λ i. (sym known i, sym there i))
     (subst (IsChannelKept rows u s c is.about slot) (sym listed) after.0)
 
@@ -158,12 +157,13 @@ taken_kept : (state : State) (s : List ℕ) (slot : Slot) (delivery : Delivery) 
 taken_kept state s slot delivery kept there is =
     kept_rows state rows state.foreign kept (taking_grows state.rows is.u s (channels_read is.about) delivery.batch moment)
     (λ v r c apart.
-        subst (λ (o : Option Subscription). IsPairKept rows v r c o (slot_of state r)) (sym (subscription_by_taking state.rows is.u s (channels_read is.about) delivery.batch moment v))
-        (by_pair v r c apart (is_served is.u s (channels_read is.about) v r c) refl))
+    subst (λ (o : Option Subscription). IsPairKept rows v r c o (slot_of state r)) (sym (subscription_by_taking state.rows is.u s (channels_read is.about) delivery.batch moment v))
+    (by_pair v r c apart (is_served is.u s (channels_read is.about) v r c) refl))
     kept.apart (keys_by_taking state.rows is.u s (channels_read is.about) delivery.batch moment kept.keys)
   where
     rows : Rows
     rows = taken state.rows is.u s (channels_read is.about) delivery.batch moment
+
     by_pair : (v r c : List ℕ) → is_among state.foreign r ≡ false → (t : Bool) → is_served is.u s (channels_read is.about) v r c ≡ t →
         IsPairKept (taken state.rows is.u s (channels_read is.about) delivery.batch moment) v r c (subscription_at state.rows v) (slot_of state r)
     by_pair v r c apart true e =
@@ -205,23 +205,25 @@ pub events_keep : (state : State) (s : List ℕ) (slot : Slot) (delivery : Deliv
     IsDelivery state.rows s slot delivery → IsKept (events_step state s delivery)
 events_keep state s slot delivery kept there was is =
     subst (λ (x : Option (List ℕ) × Option (List ℕ)).
-        IsKept (with_answer (with_rows state (rows_at state.rows x.0 x.1 delivery.batch)) (answer_with (refusal_of (standing_at state.rows x.0) x.1 delivery.batch) s delivery)))
+    IsKept (with_answer (with_rows state (rows_at state.rows x.0 x.1 delivery.batch)) (answer_with (refusal_of (standing_at state.rows x.0) x.1 delivery.batch) s delivery)))
     (λ i. (sym is.to_subscription i, sym is.to_source i)) (by_standing (standing state.rows is.u) refl)
   where
     by_wish : (t : Bool) →
         IsKept (with_answer (with_rows state (taken state.rows is.u s (channels_read is.about) delivery.batch moment)) (cond t (Some (Ack s delivery.id)) None))
     by_wish true = acked_kept state s slot delivery kept there was is
     by_wish false = taken_kept state s slot delivery kept there is
+
     by_form : (good : Bool) →
         IsKept (with_answer (with_rows state (cond good (taken state.rows is.u s (channels_read is.about) delivery.batch moment) state.rows))
         (answer_with (cond good None (Some InvalidMessage)) s delivery))
     by_form true = by_wish delivery.batch.ack_wanted
     by_form false = fault_kept state s delivery InvalidMessage kept
+
     by_standing : (found : state_of.Standing) → standing state.rows is.u ≡ found →
         IsKept (with_answer (with_rows state (rows_with state.rows is.u found (Some s) delivery.batch)) (answer_with (refusal_of found (Some s) delivery.batch) s delivery))
     by_standing stands.Unknown e = fault_kept state s delivery DestinationUnreachable kept
     by_standing (stands.Ended about) e = fault_kept state s delivery DestinationUnreachable kept
     by_standing (stands.Live about) e =
         subst (λ (x : Subscription).
-            IsKept (with_answer (with_rows state (rows_with state.rows is.u (stands.Live x) (Some s) delivery.batch)) (answer_with (refusal_of (stands.Live x) (Some s) delivery.batch) s delivery)))
+        IsKept (with_answer (with_rows state (rows_with state.rows is.u (stands.Live x) (Some s) delivery.batch)) (answer_with (refusal_of (stands.Live x) (Some s) delivery.batch) s delivery)))
         (one_about is.about about (sym is.known ∙ ap about_of e)) (by_form (is_well_formed (channels_read is.about) delivery.batch))

@@ -1,5 +1,5 @@
 -- What is true of offers, sessions and messages stays so while rows, sources and messages grow.
-use Rattle.std.proofs.Common.{◌≡◌, ℕ, ◌+◌, ◌≤◌, List, [], ◌++◌, length, refl, sym, ◌∙◌, subst, arith, length-append, append-nil}
+use Rattle.std.proofs.Common.{◌≡◌, ℕ, ◌+◌, ◌≤◌, List, [], ◌++◌, refl, sym, ◌∙◌, subst, arith, length-append, append-nil}
 use Rattle.std.specs.Prelude.{Option, Some, None}
 use Rattle.std.specs.FinMap as finite
 use Rattle.wef_batch.specs.Reach.{reach}
@@ -131,6 +131,7 @@ pub source_grows : (rows rows' : Rows) (messages messages' : List Message) (s : 
 source_grows rows rows' messages messages' s slot grows more kept = record {
   name = kept.name;
   capacity = kept.capacity;
+  greatest = kept.greatest;
   window = kept.window;
   sessions = all_map (IsServed rows messages s) (IsServed rows' messages' s) (λ session. served_grows rows rows' messages messages' s session grows more) (opened slot).sessions kept.sessions;
 }

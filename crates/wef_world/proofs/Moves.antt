@@ -18,12 +18,12 @@ use Rattle.wef_replay.specs.Good.{is_among}
 use Rattle.wef_source_log.specs.Histories.{history}
 use Rattle.wef_world.specs.Kept.{IsChannelKept, IsDelivery, IsKept, IsMessageKept, IsPairKept, IsRowKey, IsSourceKept, WasDrawn, WasSent, WhereDeclared, first_ids, request_id, source_of}
 use Rattle.wef_world.specs.Safe.{IsPairSafe, IsUntouched, subscription_at}
-use Rattle.wef_world.specs.States.{Slots, State, opened, slot_of, with_message, with_rows, with_slot}
+use Rattle.wef_world.specs.States.{Slots, State, opened, slot_of, with_message, with_slot}
 use Rattle.wef_world.specs.declared.messages.Message.{Message}
 use Rattle.wef_world.specs.declared.messages.Message.TheVariants.{Ask, Offers, Events, Ack, Fault}
 use Rattle.wef_world.specs.declared.slots.Slot.{Slot}
 use Rattle.wef_world.proofs.Growing.{MessagesGrow, RowsGrow, SlotGrows, SourcesGrow, message_grows, same_messages, same_rows, same_sources, source_grows}
-use Rattle.wef_world.proofs.Sent.{sent_before, sent_last, sent_split}
+use Rattle.wef_world.proofs.Sent.{sent_before, sent_split}
 use Rattle.wef_world.proofs.Takes.{SameViews, safe_alike, safe_longer, safe_untouched, untouched_alike}
 
 -- ---- declared sources
@@ -113,13 +113,13 @@ requests_with : (messages : List Message) (n : Message) → AreOne messages →
 requests_with messages n one fresh a b id was_a was_b same e f =
     elim (sent_split messages n a was_a) [
       | inl old_a ↦ elim (sent_split messages n b was_b) [
-          | inl old_b ↦ one a b id old_a old_b same e f
-          | inr is_b ↦ absurd (fresh a id old_a (same ∙ ap source_of (sym is_b)) e (ap request_id is_b ∙ f))
-        ]
+        | inl old_b ↦ one a b id old_a old_b same e f
+        | inr is_b ↦ absurd (fresh a id old_a (same ∙ ap source_of (sym is_b)) e (ap request_id is_b ∙ f))
+      ]
       | inr is_a ↦ elim (sent_split messages n b was_b) [
-          | inl old_b ↦ absurd (fresh b id old_b (sym same ∙ ap source_of (sym is_a)) f (ap request_id is_a ∙ e))
-          | inr is_b ↦ sym is_a ∙ is_b
-        ]
+        | inl old_b ↦ absurd (fresh b id old_b (sym same ∙ ap source_of (sym is_a)) f (ap request_id is_a ∙ e))
+        | inr is_b ↦ sym is_a ∙ is_b
+      ]
     ]
 
 none_some : (id : ℕ) → ◌≡◌ {A = Option ℕ} None (Some id) → ⊥
@@ -211,6 +211,7 @@ kept_declared state s slot kept none apart source = kept_source state s slot sta
     blank : (u c : List ℕ) (about : Option Subscription) → IsPairKept state.rows u s c about None → IsUntouched state.rows u s c
     blank u c None is = is
     blank u c (Some about) is = is
+
     not_there : (old : Slot) → ◌≡◌ {A = Option Slot} None (Some old) → ⊥
     not_there old e = cc
 
@@ -250,7 +251,7 @@ kept_draw state s old new m id kept there grows source is from drawn fresh = kep
   one = requests_with state.messages m kept.requests (λ n given was same e f.
       let at : given ≡ id = some_id given id (sym f ∙ drawn) in
       let before = declared_at (finite.get state.sources (source_of n)) old (λ slot. WasDrawn slot (Some given))
-          (ap (finite.get state.sources) (same ∙ from) ∙ there) (drawn_before state.rows state.sources state.messages n given (kept.messages n was) e) in
+      (ap (finite.get state.sources) (same ∙ from) ∙ there) (drawn_before state.rows state.sources state.messages n given (kept.messages n was) e) in
       past id (opened old).drawn (subst (λ (k : ℕ). k ≤ first_ids + (opened old).drawn) at before.1) fresh);
 })
   where

@@ -8,7 +8,7 @@ use Rattle.std.specs.Cmp.Lexicographic.{bytes_decides, pointwise, slice_cmp}
 use Rattle.std.specs.FinMap as finite
 use Rattle.std.specs.FinMap.{find, is_sorted}
 use Rattle.std.specs.FinMap.Entries.{below_all}
-use Rattle.std.specs.List.{AllByRecursion, filter, filter_map}
+use Rattle.std.specs.List.{AllByRecursion, filter}
 use Rattle.std.specs.Option.{option_and_then, option_map}
 use Rattle.std.specs.Ordering.{eq_by_cmp, is_eq, is_lt, nat_cmp}
 use Rattle.std.specs.Prelude as prelude
@@ -39,7 +39,7 @@ use Rattle.wef_keeper.specs.declared.keys.Depth.TheVariants.{Kind, Source}
 use Rattle.wef_keeper.specs.declared.keys.Key.{Key}
 use Rattle.wef_keeper.specs.declared.keys.Row.{Row}
 use Rattle.wef_replay.specs.Good.{is_one, is_source, is_subscription}
-use Rattle.wef_world.specs.Kept.{IsBehind, IsOffered, IsRowKey}
+use Rattle.wef_world.specs.Kept.{IsBehind, IsOffered}
 use Rattle.wef_world.specs.Safe.{about_of, subscription_at}
 use Rattle.wef_world.proofs.RowMoves.{AreRowKeys}
 use Rattle.wef_world.proofs.Sent.{all_filter_map, all_map}
@@ -75,9 +75,10 @@ found_behind e es under x found = by_test (eq_by_cmp key_cmp x.0 e.0) refl
 all_found : (es : List (Key × Cell)) → T (is_sorted key_cmp es) → AllByRecursion (λ (e : Key × Cell). find key_cmp e.0 es ≡ Some e.1) es
 all_found [] h = tt
 all_found (e ∷ es) h =
-    let parts = both (below_all key_cmp e.0 es) (is_sorted key_cmp es) h in
-    (ap (λ (t : Bool). cond t (Some e.1) (find key_cmp e.0 es)) ((eq_by_cmp_equiv key_cmp_total).refl e.0),
-     all_map (λ (x : Key × Cell). find key_cmp x.0 es ≡ Some x.1) (λ (x : Key × Cell). find key_cmp x.0 (e ∷ es) ≡ Some x.1) (found_behind e es parts.0) es (all_found es parts.1))
+    let parts = both (below_all key_cmp e.0 es) (is_sorted key_cmp es) h in (
+      ap (λ (t : Bool). cond t (Some e.1) (find key_cmp e.0 es)) ((eq_by_cmp_equiv key_cmp_total).refl e.0),
+      all_map (λ (x : Key × Cell). find key_cmp x.0 es ≡ Some x.1) (λ (x : Key × Cell). find key_cmp x.0 (e ∷ es) ≡ Some x.1) (found_behind e es parts.0) es (all_found es parts.1),
+    )
 
 all_filter : {X : Type 0} (P : X → Type 0) (test : X → Bool) (xs : List X) → AllByRecursion P xs → AllByRecursion (λ x. P x × (test x ≡ true)) (filter test xs)
 all_filter P test [] all = tt
@@ -101,8 +102,8 @@ all_stand rows depth after =
     let entries = all_found (finite.entries rows) (finite.entries_sorted rows) in
     let behind = all_filter (λ (e : Key × Cell). find key_cmp e.0 (finite.entries rows) ≡ Some e.1) (λ (e : Key × Cell). is_after after e.0) (finite.entries rows) entries in
     let standing = all_of_map (λ (e : Key × Cell). (find key_cmp e.0 (finite.entries rows) ≡ Some e.1) × (is_after after e.0 ≡ true))
-        (λ (row : Row). finite.get rows row.key ≡ Some (cell_of_row row)) row_of (λ e found. finite.get-entries rows e.0 ∙ found.0)
-        (filter (λ (e : Key × Cell). is_after after e.0) (finite.entries rows)) behind in
+    (λ (row : Row). finite.get rows row.key ≡ Some (cell_of_row row)) row_of (λ e found. finite.get-entries rows e.0 ∙ found.0)
+    (filter (λ (e : Key × Cell). is_after after e.0) (finite.entries rows)) behind in
     all_map (λ (row : Row). (finite.get rows row.key ≡ Some (cell_of_row row)) × (is_under depth after row.key ≡ true)) (Stands rows depth after)
     (λ row is. record { there = is.0; under = is.1 }) (rows_under depth after rows)
     (all_filter (λ (row : Row). finite.get rows row.key ≡ Some (cell_of_row row)) (λ (row : Row). is_under depth after row.key) (rows_after after rows) standing)
@@ -186,6 +187,7 @@ words_name name (items ∷ bytes ∷ beat ∷ kind ∷ channel ∷ channels) abo
   where
     made : Option Subscription
     made = made_of name (number_between 1 10000 items) (number_between 8192 4194304 bytes) (number_between 1 86400000 beat) (channels_from (channel ∷ channels))
+
     by_kind : (t : Bool) → cond t made None ≡ Some about → about.name ≡ name
     by_kind true is =
         made_name name (number_between 1 10000 items) (number_between 8192 4194304 bytes) (number_between 1 86400000 beat) (channels_from (channel ∷ channels)) about is
@@ -223,16 +225,19 @@ listed_is rows keys row l is e =
   where
     kind : row.key.kind ≡ 1
     kind = sym (eqb-true 1 row.key.kind is.under)
+
     good : is_subscription row.key.sub ≡ true
     good = (keys row.key (cell_of_row row) is.there).name kind
+
     cell : finite.get rows (subscription_key row.key.sub) ≡ Some (cell_of_row row)
     cell = ap (finite.get rows) (sym ((keys row.key (cell_of_row row) is.there).subscription kind)) ∙ is.there
+
     by_kept : (o : Option Subscription) → read_kept row.key.sub row.body ≡ o → option_map (listed_by row.value) o ≡ Some l → IsListed rows l
     by_kept None reads made = absurd (none_listed l made)
     by_kept (Some about) reads made =
         let own : about.name ≡ row.key.sub = kept_name row.key.sub row.body about reads in
         let there : subscription_at rows row.key.sub ≡ Some about =
-            ap (λ (o : Option Cell). about_of (standing_of row.key.sub o)) cell ∙ ap (λ (o : Option Subscription). about_of (standing_by row.value o)) reads ∙ about_by row.value about in
+        ap (λ (o : Option Cell). about_of (standing_of row.key.sub o)) cell ∙ ap (λ (o : Option Subscription). about_of (standing_by row.value o)) reads ∙ about_by row.value about in
         subst (IsListed rows) (one_listed (listed_by row.value about) l made)
         (record { name = ap is_subscription own ∙ good; known = ap (subscription_at rows) own ∙ there })
 
@@ -267,6 +272,7 @@ offer_is rows s host keys good l offer is e = by_test (is_offered l) e
           };
           from = bookmark_behind rows about.name s keys;
         }
+
     by_test : (t : Bool) → cond t (Some (offer_made rows s host l.subscription)) None ≡ Some offer → IsOffered rows s offer.subscribe
     by_test true made = subst (λ (o : Offer). IsOffered rows s o.subscribe) (one_offer (offer_made rows s host l.subscription) offer made) own
     by_test false made = absurd (none_offer offer made)

@@ -1,7 +1,7 @@
 -- What the collector does to its rows lets them grow, and gives them keys of their form.
-use Rattle.std.proofs.Common.{◌≡◌, ◌≢◌, ℕ, ◌+◌, ◌≤◌, ◌==◌, Bool, true, false, ◌&&◌, cond, List, [], ◌∷◌, refl, ap, sym, ◌∙◌, subst, arith}
+use Rattle.std.proofs.Common.{◌≡◌, ◌≢◌, ℕ, ◌≤◌, ◌==◌, Bool, true, false, cond, List, [], ◌∷◌, refl, ap, sym, ◌∙◌, subst, arith}
 use Rattle.std.proofs.lemmas.Bool.Decides.{nat_tests}
-use Rattle.std.specs.Prelude.{Option, Some, None, max, unwrap_or, is_some}
+use Rattle.std.specs.Prelude.{Option, Some, None, unwrap_or, is_some}
 use Rattle.std.specs.FinMap as finite
 use Rattle.std.specs.Ordering.{eq_by_cmp}
 use Rattle.wef_base.specs.Names.{same}
@@ -18,10 +18,9 @@ use Rattle.wef_collector.specs.Keys.{bookmark_key, heard_key, held_key, loose_ke
 use Rattle.wef_collector.specs.Laws.{moved}
 use Rattle.wef_collector.specs.Standing.{standing, standing_of}
 use Rattle.wef_collector.specs.Taken.{taken}
-use Rattle.wef_collector.specs.declared.standings.Standing as state_of
 use Rattle.wef_collector.specs.declared.standings.Standing.TheVariants as is
 use Rattle.wef_eventing.specs.declared.subscriptions.Subscription.{Subscription}
-use Rattle.wef_keeper.specs.Rows.{Rows, key_cmp, key_cmp_exact, key_cmp_total}
+use Rattle.wef_keeper.specs.Rows.{Rows, key_cmp, key_cmp_total}
 use Rattle.wef_keeper.specs.declared.keys.Cell.{Cell}
 use Rattle.wef_keeper.specs.declared.keys.Key.{Key}
 use Rattle.wef_replay.specs.Good.{is_subscription}
@@ -29,7 +28,7 @@ use Rattle.wef_world.specs.Kept.{IsBehind, IsRowKey}
 use Rattle.wef_world.specs.Safe.{about_of, subscription_at}
 use Rattle.wef_world.proofs.Growing.{RowsGrow}
 use Rattle.wef_world.proofs.Spared.{IsMissed, spared}
-use Rattle.wef_world.proofs.Takes.{SameViews, adding_spares, ending_spares, others_by_adding, others_by_ending, standing_by_ending, standing_by_taking}
+use Rattle.wef_world.proofs.Takes.{adding_spares, ending_spares, others_by_adding, others_by_ending, standing_by_ending, standing_by_taking}
 
 abbrev pub AreRowKeys : Rows → Type 0
 AreRowKeys rows = (key : Key) (cell : Cell) → finite.get rows key ≡ Some cell → IsRowKey key
@@ -82,7 +81,7 @@ not_zero n e f = grind (arith, nat_tests, e, f)
 pub keys_by_taking : (rows : Rows) (u s : List ℕ) (channels : List (List ℕ)) (batch : Batch) (now : ℕ) → AreRowKeys rows → AreRowKeys (taken rows u s channels batch now)
 keys_by_taking rows u s channels batch now keys key cell e =
     let before = λ (small : key.kind ≤ 2) (numbered : key.kind ≡ 2 → key.number ≡ 0 → ⊥).
-        keys key cell (sym (same_by_taking rows u s channels batch now key small numbered) ∙ e) in
+    keys key cell (sym (same_by_taking rows u s channels batch now key small numbered) ∙ e) in
     record {
       name = λ kind. (before (omega arith) (λ two. absurd (omega arith))).name kind;
       subscription = λ kind. (before (omega arith) (λ two. absurd (omega arith))).subscription kind;
@@ -97,6 +96,7 @@ taking_covers rows u s channels batch now others c = subst (λ (n : ℕ). number
     reached : (o last : Option ℕ) (b : ℕ) → unwrap_or o 0 ≤ moved b (reach_of o last)
     reached None last b = omega arith
     reached (Some t) last b = omega arith
+
     by_channel : (t : Bool) → is_in channels c ≡ t → number_at batch.to c ≤ cond t (moved (bookmark_at rows u s c) (reach c batch)) (bookmark_at rows u s c)
     by_channel true listed = reached (finite.get batch.to c) (last_in c batch.items) (bookmark_at rows u s c)
     by_channel false listed = let none = ap (λ (o : Option ℕ). unwrap_or o 0) (others c listed) in omega arith

@@ -1,5 +1,5 @@
 -- Messages that were sent, and lists of which each element has a fact.
-use Rattle.std.proofs.Common.{◌≡◌, ℕ, zero, suc, ◌+◌, ◌-◌, ◌==◌, Bool, true, false, List, [], ◌∷◌, ◌++◌, cond, refl, ap, sym, ◌∙◌, subst, inl, inr}
+use Rattle.std.proofs.Common.{◌≡◌, ℕ, zero, suc, ◌-◌, ◌==◌, Bool, true, false, List, [], ◌∷◌, ◌++◌, cond, refl, inl, inr}
 use Rattle.std.specs.Prelude.{Option, Some, None, slice_get, ◌⊎◌}
 use Rattle.std.specs.List.{AllByRecursion, cons_option, filter_map}
 use Rattle.wef_world.specs.Deliveries.{message_at}

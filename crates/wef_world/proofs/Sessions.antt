@@ -1,5 +1,5 @@
 -- What happens to sessions keeps what is true of each.
-use Rattle.std.proofs.Common.{◌≡◌, ℕ, ◌≤◌, ◌==◌, Bool, true, false, cond, List, [], ◌∷◌, refl, ap, sym, ◌∙◌, subst, arith}
+use Rattle.std.proofs.Common.{◌≡◌, ℕ, ◌==◌, Bool, true, false, cond, List, [], ◌∷◌, refl, ap, sym, ◌∙◌, subst, arith}
 use Rattle.std.proofs.lemmas.Bool.Decides.{nat_tests}
 use Rattle.std.specs.Prelude.{Option, Some, None, max}
 use Rattle.std.specs.Cmp.Lexicographic.{slice_cmp}
@@ -20,7 +20,7 @@ use Rattle.wef_source.specs.Sessions.{acknowledged, first_where, is_outstanding,
 use Rattle.wef_source.specs.declared.messages.Delivery.{Delivery}
 use Rattle.wef_source.specs.declared.sessions.Outstanding.{Outstanding}
 use Rattle.wef_source.specs.declared.sessions.Session.{Session}
-use Rattle.wef_world.specs.Kept.{AreTerms, IsAcknowledged, IsBehind, IsOffered, IsServed, WaitsFor, WasSent}
+use Rattle.wef_world.specs.Kept.{AreTerms, IsAcknowledged, IsBehind, IsOffered, IsServed, WaitsFor}
 use Rattle.wef_world.specs.declared.messages.Message.{Message}
 use Rattle.wef_world.specs.declared.messages.Message.TheVariants.{Events}
 use Rattle.wef_world.proofs.Moves.{AreOne}
@@ -165,7 +165,7 @@ acknowledged_served rows messages s relates id session one is at waits served = 
     by_outstanding (Some outstanding) passes waited =
         let own : outstanding.id ≡ id = equal_numbers outstanding.id id passes in
         let same_message = one (Events s waited.0) (Events s is.delivery) id waited.1 is.was_sent refl (waited.2 ∙ ap Some own)
-            (ap (λ (i : MessageId). i.value) (sym is.id) ∙ at) in
+        (ap (λ (i : MessageId). i.value) (sym is.id) ∙ at) in
         let delivery : waited.0 ≡ is.delivery = one_delivery s waited.0 is.delivery same_message in
         let leads = ap (λ (d : Delivery). subscription_in d.notify_to) (sym delivery) ∙ ap subscription_in waited.3 ∙ served.terms.to_subscription in
         let to : is.delivery.batch.to ≡ outstanding.to = ap (λ (d : Delivery). d.batch.to) (sym delivery) ∙ sym waited.4 in

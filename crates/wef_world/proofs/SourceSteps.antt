@@ -1,11 +1,10 @@
 -- What sources do keeps what is kept: they write, ask, send, give up waiting, and take what they are sent.
-use Rattle.std.proofs.Common.{◌≡◌, ℕ, ◌+◌, ◌*◌, ◌<◌, ◌≤◌, ◌==◌, Bool, true, false, cond, List, [], ◌∷◌, ◌++◌, length, refl, ap, sym, ◌∙◌, subst, arith, append-nil}
+use Rattle.std.proofs.Common.{◌≡◌, ℕ, ◌+◌, ◌*◌, ◌<◌, ◌≤◌, Bool, true, false, cond, List, [], ◌∷◌, ◌++◌, length, refl, ap, sym, subst, arith, append-nil}
 use Rattle.std.specs.Prelude.{Option, Some, None, is_some, unwrap_or}
 use Rattle.std.specs.FinMap as finite
 use Rattle.std.specs.List.{AllByRecursion}
 use Rattle.std.specs.Option.{option_map}
 use Rattle.wef_batch.specs.WellFormed.{is_in}
-use Rattle.wef_bookmark.specs.Order.{Marks, number_at}
 use Rattle.wef_collector.proofs.Hits.{one_name}
 use Rattle.wef_collector.specs.Answers.{channels_read}
 use Rattle.wef_collector.specs.Bookmarks.{bookmark_at}
@@ -29,18 +28,17 @@ use Rattle.wef_source.specs.Building.{built}
 use Rattle.wef_source.specs.Fits.{Fits}
 use Rattle.wef_source.specs.Laws.{AreWithin}
 use Rattle.wef_source.specs.Machine.{End, acknowledged_in, adopted, asked, delivery_of, is_idle, is_spent, is_unreachable, lost_in, next_id, refused_in, sent}
-use Rattle.wef_source.specs.Sessions.{acknowledged, first_where, is_named, sending, session_of, settled, waits_for, with_changed, with_offers, without}
-use Rattle.wef_source.specs.declared.messages.Delivery.{Delivery}
+use Rattle.wef_source.specs.Sessions.{acknowledged, is_named, sending, session_of, settled, waits_for, with_changed, without}
 use Rattle.wef_source.specs.declared.sessions.Session.{Session}
 use Rattle.wef_world.specs.Deliveries.{acknowledged_by, after_ack, after_fault, after_offers, at_end, refused_by}
-use Rattle.wef_world.specs.Kept.{IsAcknowledged, IsChannelKept, IsDelivery, IsKept, IsMessageKept, IsOffered, IsPairKept, IsServed, IsSourceKept, WasDrawn, WasSent, WhereDeclared, first_ids}
+use Rattle.wef_world.specs.Kept.{IsAcknowledged, IsChannelKept, IsDelivery, IsKept, IsOffered, IsPairKept, IsServed, IsSourceKept, WasDrawn, first_ids}
 use Rattle.wef_world.specs.Safe.{subscription_at}
 use Rattle.wef_world.specs.Sources.{ask_at, ask_step, at_source, is_too_long, lost_step, poll_at, poll_session, poll_step, recorded, write_at, write_step}
 use Rattle.wef_world.specs.States.{State, moment, opened, slot_of, with_end, with_message, with_slot}
 use Rattle.wef_world.specs.declared.messages.Message.{Message}
 use Rattle.wef_world.specs.declared.messages.Message.TheVariants.{Ask, Events}
 use Rattle.wef_world.specs.declared.slots.Slot.{Slot}
-use Rattle.wef_world.proofs.Growing.{HistoriesGrow, MessagesGrow, SlotGrows, same_histories, same_messages, same_rows, served_grows}
+use Rattle.wef_world.proofs.Growing.{HistoriesGrow, same_histories, same_rows, served_grows}
 use Rattle.wef_world.proofs.Moves.{declared_is, kept_draw, kept_slot, put_there, slot_put}
 use Rattle.wef_world.proofs.Sent.{all_map, sent_before, sent_last}
 use Rattle.wef_world.proofs.Sessions.{acknowledged_served, all_changed, all_first_changed, all_offered, all_without, first_is, first_passes, settled_served}
@@ -63,7 +61,7 @@ by_test P false a b f g = g refl
 source_with_end : (rows : Rows) (messages messages' : List Message) (s : List ℕ) (slot : Slot) (end : End) → IsSourceKept rows messages s slot →
     IsWindow end.rows slot.histories slot.capacity 1 → AllByRecursion (IsServed rows messages' s) end.sessions →
     IsSourceKept rows messages' s (record slot { end = Some end })
-source_with_end rows messages messages' s slot end kept window sessions = record { name = kept.name; capacity = kept.capacity; window = window; sessions = sessions }
+source_with_end rows messages messages' s slot end kept window sessions = record { name = kept.name; capacity = kept.capacity; greatest = kept.greatest; window = window; sessions = sessions }
 
 -- an end with the same log, which drew no more
 kept_end : (state : State) (s : List ℕ) (slot : Slot) (end : End) → IsKept state → slot_of state s ≡ Some slot → end.rows ≡ (opened slot).rows →
@@ -96,15 +94,15 @@ recorded_kept state s slot event kept there room =
     let longer = extends end.rows _ event (last_of end.rows event.channel + 1) (room, refl, refl) slot.histories slot.capacity 1 source.capacity source.window in
     kept_slot state s slot (recorded slot end event) kept there
     (record { capacity = refl; histories = longer_histories slot.histories event.channel text; drawn = omega arith })
-    (record { name = source.name; capacity = source.capacity; window = longer.1; sessions = source.sessions })
+    (record { name = source.name; capacity = source.capacity; greatest = source.greatest; window = longer.1; sessions = source.sessions })
 
 pub write_keeps : (state : State) (s : List ℕ) (event : PlainEvent) → IsKept state → IsKept (write_step state s event)
 write_keeps state s event kept = kept_at state s (λ slot. write_at state s slot (opened slot) event) kept (λ slot there.
     by_test IsKept (is_full (opened slot).rows event.channel) (with_end state s slot (opened slot))
     (cond (is_too_long (opened slot) event) (with_end state s slot (opened slot)) (with_slot state s (recorded slot (opened slot) event)))
     (λ full. kept_same state s slot kept there) (λ room.
-        by_test IsKept (is_too_long (opened slot) event) (with_end state s slot (opened slot)) (with_slot state s (recorded slot (opened slot) event))
-        (λ long. kept_same state s slot kept there) (λ fits. recorded_kept state s slot event kept there room)))
+    by_test IsKept (is_too_long (opened slot) event) (with_end state s slot (opened slot)) (with_slot state s (recorded slot (opened slot) event))
+    (λ long. kept_same state s slot kept there) (λ fits. recorded_kept state s slot event kept there room)))
 
 -- ---- drawing an id
 
@@ -169,9 +167,9 @@ delivery_kept state s slot new session kept there served same_histories same_cap
     let end = opened slot in
     let terms = served.terms in
     let within : AreWithin session.positions slot.histories = λ c.
-        let inside = bookmark_within state session.name s c terms.about slot kept terms.known there in
-        let behind = served.positions c in
-        omega arith in
+    let inside = bookmark_within state session.name s c terms.about slot kept terms.known there in
+    let behind = served.positions c in
+    omega arith in
     let fit = built_fit windows_read end.rows slot.histories slot.capacity 1 session session.positions source.capacity source.window within (λ c. omega arith) in
     record {
       u = session.name;
@@ -200,7 +198,7 @@ sent_kept state s slot session kept there found =
     let messages : List Message = state.messages ++ m ∷ [] in
     let later = served_grows state.rows state.rows state.messages messages s session (same_rows state.rows) (sent_before state.messages m) served in
     let waits : IsServed state.rows messages s (sending (record { id = next_id end; to = (built end.rows session).to }) moment session) =
-        record { terms = later.terms; positions = later.positions; outstanding = (delivery, sent_last state.messages m, refl, refl, refl) } in
+    record { terms = later.terms; positions = later.positions; outstanding = (delivery, sent_last state.messages m, refl, refl, refl) } in
     kept_draw state s slot new m (next_id end) kept there
     (record { capacity = refl; histories = same_histories slot.histories; drawn = omega arith })
     (source_with_end state.rows state.messages messages s slot (sent end session moment) source source.window
@@ -220,8 +218,8 @@ poll_session_keeps state s u slot session kept there found =
     by_test IsKept (is_idle end.rows session) (with_end state s slot end)
     (cond (is_spent end) (with_end state s slot end) (with_message (with_end state s slot (sent end session moment)) (Events s (delivery_of end session))))
     (λ idle. kept_same state s slot kept there) (λ some.
-        by_test IsKept (is_spent end) (with_end state s slot end) (with_message (with_end state s slot (sent end session moment)) (Events s (delivery_of end session)))
-        (λ spent. kept_same state s slot kept there) (λ left. sent_kept state s slot session kept there own))
+    by_test IsKept (is_spent end) (with_end state s slot end) (with_message (with_end state s slot (sent end session moment)) (Events s (delivery_of end session)))
+    (λ spent. kept_same state s slot kept there) (λ left. sent_kept state s slot session kept there own))
 
 pub poll_keeps : (state : State) (s u : List ℕ) → IsKept state → IsKept (poll_step state s u)
 poll_keeps state s u kept = kept_at state s (λ slot. poll_at state s slot (opened slot) (session_of (opened slot).sessions u)) kept (λ slot there.

@@ -1,30 +1,28 @@
 -- Every step of a good schedule keeps what is kept, and what is kept is safe.
-use Rattle.std.proofs.Common.{◌≡◌, ℕ, ◌<◌, ◌≤◌, Bool, true, false, not, ◌&&◌, cond, List, [], ◌∷◌, length, nat_le, refl, ap, sym, ◌∙◌, subst, arith}
+use Rattle.std.proofs.Common.{◌≡◌, ℕ, ◌≤◌, Bool, true, false, not, ◌&&◌, List, [], ◌∷◌, length, nat_le, refl, ap, sym, ◌∙◌, subst, arith}
 use Rattle.std.proofs.lemmas.Bool.{and_parts}
 use Rattle.std.proofs.lemmas.Bool.Decides.{nat_tests}
-use Rattle.std.specs.Prelude.{Option, Some, None, codes, map, unwrap_or}
+use Rattle.std.specs.Prelude.{Option, Some, None, map, unwrap_or}
 use Rattle.std.specs.Cmp.Lexicographic.{slice_cmp}
 use Rattle.std.specs.FinMap as finite
 use Rattle.std.specs.List.{AllByRecursion, filter}
 use Rattle.std.specs.Option.{option_map}
 use Rattle.std.specs.Ordering.{nat_cmp}
 use Rattle.wef_batch.specs.WellFormed.{is_in}
-use Rattle.wef_batch.specs.declared.items.Batch as batch
 use Rattle.wef_collector.specs.Answers.{channels_read}
 use Rattle.wef_collector.specs.Held.{event_of_row}
 use Rattle.wef_collector.specs.Keys.{bookmark_key, held_key, loose_key, mark_key, subscription_key}
 use Rattle.wef_collector.specs.Offers.{offers}
-use Rattle.wef_collector.specs.Standing.{standing, standing_of}
-use Rattle.wef_envelope.specs.declared.MessageId.{MessageId}
+use Rattle.wef_collector.specs.Standing.{standing_of}
 use Rattle.wef_eventing.specs.declared.subscriptions.Subscription.{Subscription}
-use Rattle.wef_keeper.specs.Rows.{Rows, is_after, key_cmp, row_of}
+use Rattle.wef_keeper.specs.Rows.{is_after, key_cmp, row_of}
 use Rattle.wef_keeper.specs.Sections.{is_under, rows_under}
 use Rattle.wef_keeper.specs.declared.keys.Cell.{Cell}
 use Rattle.wef_keeper.specs.declared.keys.Depth.{Depth}
 use Rattle.wef_keeper.specs.declared.keys.Depth.TheVariants.{Channel}
 use Rattle.wef_keeper.specs.declared.keys.Key.{Key}
 use Rattle.wef_keeper.specs.declared.keys.Row.{Row}
-use Rattle.wef_replay.specs.Good.{allows, are_all, are_limits, are_words, is_among, is_between, is_line, is_no_collector, is_source, is_subscription}
+use Rattle.wef_replay.specs.Good.{are_all, are_limits, is_among, is_between, is_line, is_no_collector, is_source, is_subscription}
 use Rattle.wef_replay.specs.declared.lines.Line.{Line}
 use Rattle.wef_replay.specs.declared.lines.Line.TheVariants.{Subscribe, End, Batch, Source, Write, Ask, Poll, Deliver, Back, Lost, Show, Print}
 use Rattle.wef_source_log.proofs.Cells.{starts_empty}
@@ -33,8 +31,8 @@ use Rattle.wef_world.specs.Kept.{IsChannelKept, IsDelivery, IsKept, IsPairKept, 
 use Rattle.wef_world.specs.Laws.{KeptIsSafe, SchedulesAreKept, SchedulesAreSafe, StartIsKept, StepsKeep}
 use Rattle.wef_world.specs.Safe.{IsSafe, IsUntouched, about_of, range_of_row, subscription_at}
 use Rattle.wef_world.specs.Sources.{declared_slot}
-use Rattle.wef_world.specs.States.{State, declared_names, host, names_of, slot_of, start, with_slot}
-use Rattle.wef_world.specs.Steps.{AreAdmitted, admits, states_from, step, subscription_of}
+use Rattle.wef_world.specs.States.{State, declared_names, host, slot_of, start, with_slot}
+use Rattle.wef_world.specs.Steps.{AreAdmitted, states_from, step, subscription_of}
 use Rattle.wef_world.specs.declared.messages.Message.{Message}
 use Rattle.wef_world.specs.declared.messages.Message.TheVariants as sent
 use Rattle.wef_world.specs.declared.slots.Slot.{Slot}
@@ -96,7 +94,7 @@ of_declared (Some slot) P Q holds gives = gives slot refl holds
 taken_keeps : (state : State) (m : Message) → IsKept state → WasSent state.messages m → IsKept (taken_by state m)
 taken_keeps state (sent.Ask s id) kept was =
     of_declared (slot_of state s) (λ (slot : Slot). WasDrawn slot id.value) (IsKept (ask_step state s id)) (kept.messages (sent.Ask s id) was) (λ slot there drawn.
-        kept_reply state (sent.Offers s id (offers state.rows s host)) kept refl (all_offers state.rows s host kept.keys (kept.sources s slot there).name))
+    kept_reply state (sent.Offers s id (offers state.rows s host)) kept refl (all_offers state.rows s host kept.keys (kept.sources s slot there).name))
 taken_keeps state (sent.Offers s relates given) kept was = offers_keep state s relates given kept (kept.messages (sent.Offers s relates given) was)
 taken_keeps state (sent.Events s delivery) kept was =
     of_declared (slot_of state s) (λ (slot : Slot). IsDelivery state.rows s slot delivery) (IsKept (taken_by state (sent.Events s delivery))) (kept.messages (sent.Events s delivery) was)
@@ -117,14 +115,18 @@ not_true : (b : Bool) → not b ≡ true → b ≡ false
 not_true true e = sym e
 not_true false e = refl
 
-from_one : (n : ℕ) → nat_le 1 n ≡ true → 0 < n
-from_one n e = grind (arith, nat_tests, e)
+at_most : (m n : ℕ) → nat_le m n ≡ true → m ≤ n
+at_most m n e = grind (arith, nat_tests, e)
 
-declared_kept : (state : State) (s : List ℕ) (capacity : ℕ) → IsKept state → is_source s ≡ true → 0 < capacity → is_among (declared_names state) s ≡ false →
+within : (least greatest n : ℕ) → is_between least greatest n ≡ true → (least ≤ n) × (n ≤ greatest)
+within least greatest n e = let parts = and_parts (nat_le least n) (nat_le n greatest) e in (at_most least n parts.0, at_most n greatest parts.1)
+
+declared_kept : (state : State) (s : List ℕ) (capacity : ℕ) → IsKept state → is_source s ≡ true → is_between 1 1000000 capacity ≡ true → is_among (declared_names state) s ≡ false →
     is_among state.foreign s ≡ false → IsKept (with_slot state s (declared_slot capacity))
-declared_kept state s capacity kept good some new apart =
+declared_kept state s capacity kept good between new apart =
+    let bounds = within 1 1000000 capacity between in
     kept_declared state s (declared_slot capacity) kept (undeclared state s new) apart
-    (record { name = good; capacity = some; window = starts_empty capacity; sessions = tt })
+    (record { name = good; capacity = bounds.0; greatest = bounds.1; window = starts_empty capacity; sessions = tt })
 
 pub steps_keep : StepsKeep
 steps_keep state (Subscribe u items bytes beat query) kept good =
@@ -139,9 +141,8 @@ steps_keep state (Source s capacity) kept good =
     let parts = and_parts (is_line (Source s capacity)) (not (is_among (declared_names state) s) && not (is_among state.foreign s)) good in
     let line = and_parts (is_source s && is_no_collector s) (is_between 1 1000000 capacity) parts.0 in
     let name = (and_parts (is_source s) (is_no_collector s) line.0).0 in
-    let some = (and_parts (nat_le 1 capacity) (nat_le capacity 1000000) line.1).0 in
     let new = and_parts (not (is_among (declared_names state) s)) (not (is_among state.foreign s)) parts.1 in
-    declared_kept state s capacity kept name (from_one capacity some) (not_true (is_among (declared_names state) s) new.0) (not_true (is_among state.foreign s) new.1)
+    declared_kept state s capacity kept name line.1 (not_true (is_among (declared_names state) s) new.0) (not_true (is_among state.foreign s) new.1)
 steps_keep state (Write s event) kept good = write_keeps state s event kept
 steps_keep state (Ask s) kept good = ask_keeps state s kept
 steps_keep state (Poll s u) kept good = poll_keeps state s u kept

@@ -82,6 +82,7 @@ pub record IsSourceKept (rows : Rows) (messages : List Message) (s : List ℕ) (
   -- its name is such as a reader gives
   pub name : is_source s ≡ true
   pub capacity : 0 < slot.capacity
+  pub greatest : slot.capacity ≤ 1000000
   pub window : IsWindow (opened slot).rows slot.histories slot.capacity 1
   pub sessions : AllByRecursion (IsServed rows messages s) (opened slot).sessions
 
@@ -170,4 +171,4 @@ pub record IsKept (state : State) : Type 0 where
   pub messages : (m : Message) → WasSent state.messages m → IsMessageKept state.rows state.sources state.messages m
   -- two requests of one source with one id are one message
   pub requests : (m n : Message) (id : ℕ) → WasSent state.messages m → WasSent state.messages n → source_of m ≡ source_of n →
-    request_id m ≡ Some id → request_id n ≡ Some id → m ≡ n
+      request_id m ≡ Some id → request_id n ≡ Some id → m ≡ n
