@@ -1,5 +1,7 @@
 -- What the collector does keeps what is kept: subscriptions begin and end, and batches come.
 use Rattle.std.proofs.Common.{◌≡◌, ◌≢◌, ℕ, ◌≤◌, Bool, true, false, ◌&&◌, cond, List, refl, ap, sym, ◌∙◌, subst}
+use Rattle.std.proofs.lemmas.Bool.{and_parts, cond_both}
+use Rattle.std.proofs.lemmas.Option.{none-some, same_Some}
 use Rattle.std.specs.Prelude.{Option, Some, None}
 use Rattle.wef_base.specs.Names.{same}
 use Rattle.wef_batch.specs.WellFormed.{is_in, is_well_formed}
@@ -34,10 +36,6 @@ use Rattle.wef_world.proofs.RowMoves.{AreRowKeys, adding_grows, ending_grows, ke
 use Rattle.wef_world.proofs.Sent.{sent_before}
 use Rattle.wef_world.proofs.Takes.{adding_spares, ending_spares, fitting_batches_are_safe, is_served, taking_spares, taking_spares_source, untouched_alike}
 
-by_test : {X : Type 0} (P : X → Type 0) (t : Bool) (a b : X) → (t ≡ true → P a) → (t ≡ false → P b) → P (cond t a b)
-by_test P true a b f g = f refl
-by_test P false a b f g = g refl
-
 other_name : (a b : List ℕ) → same a b ≡ false → a ≢ b
 other_name a b other e = not_both (subst (λ (x : List ℕ). same a x ≡ true) e (same_self a)) other
 
@@ -66,8 +64,8 @@ added_kept state about kept good none = kept_rows state (added_rows state.rows a
 
 pub subscribe_keeps : (state : State) (about : Subscription) → IsKept state → is_subscription about.name ≡ true → IsKept (with_rows state (subscribed state.rows about))
 subscribe_keeps state about kept good =
-    by_test (λ (rows : Rows). IsKept (with_rows state rows)) (is_there state.rows about.name) state.rows (cond (is_full state.rows) state.rows (added_rows state.rows about))
-    (λ there. kept) (λ none. by_test (λ (rows : Rows). IsKept (with_rows state rows)) (is_full state.rows) state.rows (added_rows state.rows about)
+    cond_both (is_there state.rows about.name) state.rows (cond (is_full state.rows) state.rows (added_rows state.rows about)) (λ (rows : Rows). IsKept (with_rows state rows))
+    (λ there. kept) (λ none. cond_both (is_full state.rows) state.rows (added_rows state.rows about) (λ (rows : Rows). IsKept (with_rows state rows))
     (λ full. kept) (λ room. added_kept state about kept good none))
 
 ended_kept : (state : State) (u : List ℕ) (about : Subscription) → IsKept state → standing state.rows u ≡ stands.Live about → IsKept (with_rows state (ended_rows state.rows u))
@@ -96,11 +94,8 @@ foreign_kept state s rows kept none grows pairs keys = kept_rows state rows (wit
     pairs v r c (λ e. other_name r s parts.1 (sym e)) parts.0)
     (λ r slot there. among_with state.foreign s r (kept.apart r slot there) (apart_name r slot there (same r s) refl)) keys
   where
-    none_some : (slot : Slot) → ◌≡◌ {A = Option Slot} None (Some slot) → ⊥
-    none_some slot e = cc
-
     apart_name : (r : List ℕ) (slot : Slot) → slot_of state r ≡ Some slot → (t : Bool) → same r s ≡ t → same r s ≡ false
-    apart_name r slot there true is = absurd (none_some slot (sym none ∙ ap (slot_of state) (sym (one_name r s is)) ∙ there))
+    apart_name r slot there true is = absurd (none-some slot (sym none ∙ ap (slot_of state) (sym (one_name r s is)) ∙ there))
     apart_name r slot there false is = is
 
 foreign_same : (state : State) (s : List ℕ) → IsKept state → slot_of state s ≡ None → IsKept (with_rows (with_foreign state s) state.rows)
@@ -124,18 +119,10 @@ batch_keeps state u s batch kept none = by_standing (standing state.rows u)
     by_standing stands.Unknown = foreign_same state s kept none
     by_standing (stands.Ended about) = foreign_same state s kept none
     by_standing (stands.Live about) =
-        by_test (λ (rows : Rows). IsKept (with_rows (with_foreign state s) rows)) (is_well_formed (channels_read about) batch)
-        (taken state.rows u s (channels_read about) batch moment) state.rows (λ good. foreign_taken state u s (channels_read about) batch kept none)
+        cond_both (is_well_formed (channels_read about) batch) (taken state.rows u s (channels_read about) batch moment) state.rows (λ (rows : Rows). IsKept (with_rows (with_foreign state s) rows)) (λ good. foreign_taken state u s (channels_read about) batch kept none)
         (λ bad. foreign_same state s kept none)
 
 -- ---- batches of declared sources
-
-split : (a b : Bool) → a && b ≡ true → (a ≡ true) × (b ≡ true)
-split true b e = (refl, e)
-split false b e = absurd (no_truth e)
-  where
-    no_truth : false ≡ true → ⊥
-    no_truth e = cc
 
 -- the pair that a fitting batch is for
 served_pair : (state : State) (u s c : List ℕ) (slot : Slot) (delivery : Delivery) → IsKept state → slot_of state s ≡ Some slot →
@@ -167,19 +154,13 @@ taken_kept state s slot delivery kept there is =
     by_pair : (v r c : List ℕ) → is_among state.foreign r ≡ false → (t : Bool) → is_served is.u s (channels_read is.about) v r c ≡ t →
         IsPairKept (taken state.rows is.u s (channels_read is.about) delivery.batch moment) v r c (subscription_at state.rows v) (slot_of state r)
     by_pair v r c apart true e =
-        let parts = split (same is.u v) (same s r && is_in (channels_read is.about) c) e in
-        let more = split (same s r) (is_in (channels_read is.about) c) parts.1 in
+        let parts = and_parts (same is.u v) (same s r && is_in (channels_read is.about) c) e in
+        let more = and_parts (same s r) (is_in (channels_read is.about) c) parts.1 in
         subst (λ (x : List ℕ × List ℕ). IsPairKept (taken state.rows is.u s (channels_read is.about) delivery.batch moment) x.0 x.1 c (subscription_at state.rows x.0) (slot_of state x.1))
         (λ i. (one_name is.u v parts.0 i, one_name s r more.0 i)) (served_pair state is.u s c slot delivery kept there is refl more.1)
     by_pair v r c apart false e =
         alike_pair (taken state.rows is.u s (channels_read is.about) delivery.batch moment) state.rows v r c (subscription_at state.rows v) (slot_of state r)
         (taking_spares state.rows is.u s (channels_read is.about) delivery.batch moment v r c e) (kept.pairs v r c apart)
-
-one_list : (a b : List ℕ) → ◌≡◌ {A = Option (List ℕ)} (Some a) (Some b) → a ≡ b
-one_list a b e = cc
-
-one_about : (a b : Subscription) → ◌≡◌ {A = Option Subscription} (Some a) (Some b) → a ≡ b
-one_about a b e = cc
 
 -- the collector's acknowledgement of a batch that it took
 acked_kept : (state : State) (s : List ℕ) (slot : Slot) (delivery : Delivery) → IsKept state → slot_of state s ≡ Some slot → WasSent state.messages (Events s delivery) →
@@ -193,7 +174,7 @@ acked_kept state s slot delivery kept there was is =
       was_sent = sent_before state.messages (Ack s delivery.id) (Events s delivery) was;
       id = refl;
       kept = λ v leads.
-          subst (λ (w : List ℕ). IsBehind rows w s delivery.batch.to) (one_list is.u v (sym is.to_subscription ∙ leads))
+          subst (λ (w : List ℕ). IsBehind rows w s delivery.batch.to) (same_Some is.u v (sym is.to_subscription ∙ leads))
           (taking_covers state.rows is.u s (channels_read is.about) delivery.batch moment is.fits.others);
     })
 
@@ -226,4 +207,4 @@ events_keep state s slot delivery kept there was is =
     by_standing (stands.Live about) e =
         subst (λ (x : Subscription).
         IsKept (with_answer (with_rows state (rows_with state.rows is.u (stands.Live x) (Some s) delivery.batch)) (answer_with (refusal_of (stands.Live x) (Some s) delivery.batch) s delivery)))
-        (one_about is.about about (sym is.known ∙ ap about_of e)) (by_form (is_well_formed (channels_read is.about) delivery.batch))
+        (same_Some is.about about (sym is.known ∙ ap about_of e)) (by_form (is_well_formed (channels_read is.about) delivery.batch))

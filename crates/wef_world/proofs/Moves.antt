@@ -1,5 +1,6 @@
 -- What is kept stays so over one change: the rows move on, a source does, or a message is sent.
 use Rattle.std.proofs.Common.{◌≡◌, ℕ, ◌+◌, ◌<◌, ◌≤◌, Bool, true, false, cond, List, [], ◌∷◌, ◌++◌, refl, ap, sym, ◌∙◌, subst, arith, inl, inr}
+use Rattle.std.proofs.lemmas.Option.{none-some, same_Some}
 use Rattle.std.specs.Prelude.{Option, Some, None, ◌⊎◌}
 use Rattle.std.specs.Cmp.{eq_by_cmp_equiv}
 use Rattle.std.specs.Cmp.Lexicographic.{slice_cmp, nat_list_cmp_total}
@@ -122,18 +123,15 @@ requests_with messages n one fresh a b id was_a was_b same e f =
       ]
     ]
 
-none_some : (id : ℕ) → ◌≡◌ {A = Option ℕ} None (Some id) → ⊥
-none_some id e = cc
-
 -- a request that is kept has an id that its source drew
 drawn_before : (rows : Rows) (sources : Slots) (messages : List Message) (m : Message) (id : ℕ) → IsMessageKept rows sources messages m → request_id m ≡ Some id →
     WhereDeclared (finite.get sources (source_of m)) (λ slot. WasDrawn slot (Some id))
 drawn_before rows sources messages (Ask s given) id is e = subst (λ (i : Option ℕ). WhereDeclared (finite.get sources s) (λ slot. WasDrawn slot i)) e is
-drawn_before rows sources messages (Offers s relates offers) id is e = absurd (none_some id e)
+drawn_before rows sources messages (Offers s relates offers) id is e = absurd (none-some id e)
 drawn_before rows sources messages (Events s delivery) id is e =
     declared_map (finite.get sources s) (λ slot. IsDelivery rows s slot delivery) (λ slot. WasDrawn slot (Some id)) (λ slot sent. subst (WasDrawn slot) e sent.drawn) is
-drawn_before rows sources messages (Ack s relates) id is e = absurd (none_some id e)
-drawn_before rows sources messages (Fault s relates fault) id is e = absurd (none_some id e)
+drawn_before rows sources messages (Ack s relates) id is e = absurd (none-some id e)
+drawn_before rows sources messages (Fault s relates fault) id is e = absurd (none-some id e)
 
 -- ---- the changes
 
@@ -169,9 +167,6 @@ move_widens state s slot wider r old e =
     put_there state.sources s slot r (λ o. WhereDeclared o (SlotGrows old)) (λ is. wider old (subst (λ (x : List ℕ). finite.get state.sources x ≡ Some old) is e))
     (same_sources state.sources r old e)
 
-some_is : (a b : Slot) → ◌≡◌ {A = Option Slot} (Some a) (Some b) → a ≡ b
-some_is a b e = cc
-
 kept_source : (state : State) (s : List ℕ) (slot : Slot) (messages : List Message) → IsKept state → IsSourceMove state s slot messages →
     IsKept (record { rows = state.rows; foreign = state.foreign; sources = finite.insert state.sources s slot; messages = messages })
 kept_source state s slot messages kept move = record {
@@ -184,7 +179,7 @@ kept_source state s slot messages kept move = record {
   keys = kept.keys;
   sources = λ r new e.
       put_there state.sources s slot r (λ o. o ≡ Some new → IsSourceKept state.rows messages r new)
-      (λ is now. subst (λ (x : List ℕ × Slot). IsSourceKept state.rows messages x.0 x.1) (λ i. (sym is i, some_is slot new now i)) move.source)
+      (λ is now. subst (λ (x : List ℕ × Slot). IsSourceKept state.rows messages x.0 x.1) (λ i. (sym is i, same_Some slot new now i)) move.source)
       (λ old. source_grows state.rows state.rows state.messages messages r new (same_rows state.rows) move.more (kept.sources r new old)) e;
   messages = λ m was. elim (move.new m was) [
     | inl before ↦ message_grows state.rows state.rows state.sources (finite.insert state.sources s slot) state.messages messages m (same_rows state.rows)
@@ -201,7 +196,7 @@ kept_declared state s slot kept none apart source = kept_source state s slot sta
   apart = apart;
   pairs = λ u c. untouched_pair state.rows u s c (subscription_at state.rows u) (Some slot)
       (blank u c (subscription_at state.rows u) (subst (λ (o : Option Slot). IsPairKept state.rows u s c (subscription_at state.rows u) o) none (kept.pairs u s c apart)));
-  wider = λ old e. absurd (not_there old (sym none ∙ e));
+  wider = λ old e. absurd (none-some old (sym none ∙ e));
   source = source;
   more = same_messages state.messages;
   new = λ m was. inl was;
@@ -212,9 +207,6 @@ kept_declared state s slot kept none apart source = kept_source state s slot sta
     blank u c None is = is
     blank u c (Some about) is = is
 
-    not_there : (old : Slot) → ◌≡◌ {A = Option Slot} None (Some old) → ⊥
-    not_there old e = cc
-
 -- a declared source goes on
 pub kept_slot : (state : State) (s : List ℕ) (old new : Slot) → IsKept state → slot_of state s ≡ Some old → SlotGrows old new →
     IsSourceKept state.rows state.messages s new → IsKept (with_slot state s new)
@@ -222,7 +214,7 @@ kept_slot state s old new kept there grows source = kept_source state s new stat
   apart = kept.apart s old there;
   pairs = λ u c. grown_pair state.rows u s c (subscription_at state.rows u) old new grows
       (subst (λ (o : Option Slot). IsPairKept state.rows u s c (subscription_at state.rows u) o) there (kept.pairs u s c (kept.apart s old there)));
-  wider = λ other e. subst (λ (x : Slot). SlotGrows x new) (some_is old other (sym there ∙ e)) grows;
+  wider = λ other e. subst (λ (x : Slot). SlotGrows x new) (same_Some old other (sym there ∙ e)) grows;
   source = source;
   more = same_messages state.messages;
   new = λ m was. inl was;
@@ -241,7 +233,7 @@ kept_draw state s old new m id kept there grows source is from drawn fresh = kep
   apart = kept.apart s old there;
   pairs = λ u c. grown_pair state.rows u s c (subscription_at state.rows u) old new grows
       (subst (λ (o : Option Slot). IsPairKept state.rows u s c (subscription_at state.rows u) o) there (kept.pairs u s c (kept.apart s old there)));
-  wider = λ other e. subst (λ (x : Slot). SlotGrows x new) (some_is old other (sym there ∙ e)) grows;
+  wider = λ other e. subst (λ (x : Slot). SlotGrows x new) (same_Some old other (sym there ∙ e)) grows;
   source = source;
   more = sent_before state.messages m;
   new = λ n was. elim (sent_split state.messages m n was) [
@@ -249,17 +241,14 @@ kept_draw state s old new m id kept there grows source is from drawn fresh = kep
     | inr e ↦ inr (subst (IsMessageKept state.rows (finite.insert state.sources s new) (state.messages ++ m ∷ [])) e is)
   ];
   one = requests_with state.messages m kept.requests (λ n given was same e f.
-      let at : given ≡ id = some_id given id (sym f ∙ drawn) in
+      let at : given ≡ id = same_Some given id (sym f ∙ drawn) in
       let before = declared_at (finite.get state.sources (source_of n)) old (λ slot. WasDrawn slot (Some given))
       (ap (finite.get state.sources) (same ∙ from) ∙ there) (drawn_before state.rows state.sources state.messages n given (kept.messages n was) e) in
       past id (opened old).drawn (subst (λ (k : ℕ). k ≤ first_ids + (opened old).drawn) at before.1) fresh);
 })
-  where
-    some_id : (a b : ℕ) → ◌≡◌ {A = Option ℕ} (Some a) (Some b) → a ≡ b
-    some_id a b e = cc
 
 none_is : (o : Option ℕ) (id : ℕ) → o ≡ None → o ≡ Some id → ⊥
-none_is o id e f = none_some id (sym e ∙ f)
+none_is o id e f = none-some id (sym e ∙ f)
 
 -- a message is sent that is no request
 pub kept_reply : (state : State) (m : Message) → IsKept state → request_id m ≡ None →

@@ -1,5 +1,6 @@
 -- What the collector offers has the terms of its subscriptions, and begins at most at what it keeps.
 use Rattle.std.proofs.Common.{◌≡◌, ℕ, ◌≤◌, ◌==◌, Bool, true, false, ◌&&◌, cond, List, [], ◌∷◌, nat_eq, refl, ap, sym, ◌∙◌, subst, arith}
+use Rattle.std.proofs.lemmas.Option.{none-some, same_Some}
 use Rattle.std.proofs.lemmas.Bool.{and_parts, eqb-true}
 use Rattle.std.proofs.lemmas.Str.{IsUtf8-from_is_utf8}
 use Rattle.std.specs.Prelude.{Option, Some, None, T, codes, max, unwrap_or}
@@ -61,15 +62,12 @@ below q (e ∷ es) h =
     let parts = both (is_lt (key_cmp q e.0)) (below_all key_cmp q es) h in
     ap (λ (o : Ordering). cond (is_eq o) (Some e.1) (find key_cmp q es)) (less (key_cmp q e.0) parts.0) ∙ below q es parts.1
 
-none_some : (cell : Cell) → ◌≡◌ {A = Option Cell} None (Some cell) → ⊥
-none_some cell e = cc
-
 -- an entry that is found in a list is found behind a lesser one too
 found_behind : (e : Key × Cell) (es : List (Key × Cell)) → T (below_all key_cmp e.0 es) → (x : Key × Cell) → find key_cmp x.0 es ≡ Some x.1 → find key_cmp x.0 (e ∷ es) ≡ Some x.1
 found_behind e es under x found = by_test (eq_by_cmp key_cmp x.0 e.0) refl
   where
     by_test : (t : Bool) → eq_by_cmp key_cmp x.0 e.0 ≡ t → cond t (Some e.1) (find key_cmp x.0 es) ≡ Some x.1
-    by_test true is = absurd (none_some x.1 (sym (below e.0 es under) ∙ ap (λ (q : Key). find key_cmp q es) (sym (one_key x.0 e.0 is)) ∙ found))
+    by_test true is = absurd (none-some x.1 (sym (below e.0 es under) ∙ ap (λ (q : Key). find key_cmp q es) (sym (one_key x.0 e.0 is)) ∙ found))
     by_test false is = found
 
 all_found : (es : List (Key × Cell)) → T (is_sorted key_cmp es) → AllByRecursion (λ (e : Key × Cell). find key_cmp e.0 es ≡ Some e.1) es
@@ -163,26 +161,23 @@ reads_subscription u good = let parts = and_parts (is_utf8 u) (is_one u (subscri
 reads_source : (s : List ℕ) → is_source s ≡ true → IsUtf8 s × (source_name s ≡ Some s)
 reads_source s good = let parts = and_parts (is_utf8 s) (is_one s (source_name s)) good in (IsUtf8-from_is_utf8 s parts.0, one_given s (source_name s) parts.1)
 
-none_about : (about : Subscription) → ◌≡◌ {A = Option Subscription} None (Some about) → ⊥
-none_about about e = cc
-
 made_name : (name : List ℕ) (items bytes beat : Option ℕ) (channels : Option (List (List ℕ))) (about : Subscription) → made_of name items bytes beat channels ≡ Some about → about.name ≡ name
 made_name name (Some items) (Some bytes) (Some beat) (Some channels) about e = sym (ap (λ (o : Option Subscription). name_or name o) e)
   where
     name_or : List ℕ → Option Subscription → List ℕ
     name_or other None = other
     name_or other (Some s) = s.name
-made_name name None bytes beat channels about e = absurd (none_about about e)
-made_name name (Some items) None beat channels about e = absurd (none_about about e)
-made_name name (Some items) (Some bytes) None channels about e = absurd (none_about about e)
-made_name name (Some items) (Some bytes) (Some beat) None about e = absurd (none_about about e)
+made_name name None bytes beat channels about e = absurd (none-some about e)
+made_name name (Some items) None beat channels about e = absurd (none-some about e)
+made_name name (Some items) (Some bytes) None channels about e = absurd (none-some about e)
+made_name name (Some items) (Some bytes) (Some beat) None about e = absurd (none-some about e)
 
 words_name : (name : List ℕ) (words : List (List ℕ)) (about : Subscription) → from_words name words ≡ Some about → about.name ≡ name
-words_name name [] about e = absurd (none_about about e)
-words_name name (items ∷ []) about e = absurd (none_about about e)
-words_name name (items ∷ bytes ∷ []) about e = absurd (none_about about e)
-words_name name (items ∷ bytes ∷ beat ∷ []) about e = absurd (none_about about e)
-words_name name (items ∷ bytes ∷ beat ∷ kind ∷ []) about e = absurd (none_about about e)
+words_name name [] about e = absurd (none-some about e)
+words_name name (items ∷ []) about e = absurd (none-some about e)
+words_name name (items ∷ bytes ∷ []) about e = absurd (none-some about e)
+words_name name (items ∷ bytes ∷ beat ∷ []) about e = absurd (none-some about e)
+words_name name (items ∷ bytes ∷ beat ∷ kind ∷ []) about e = absurd (none-some about e)
 words_name name (items ∷ bytes ∷ beat ∷ kind ∷ channel ∷ channels) about e = by_kind (same kind (codes "all")) e
   where
     made : Option Subscription
@@ -191,7 +186,7 @@ words_name name (items ∷ bytes ∷ beat ∷ kind ∷ channel ∷ channels) abo
     by_kind : (t : Bool) → cond t made None ≡ Some about → about.name ≡ name
     by_kind true is =
         made_name name (number_between 1 10000 items) (number_between 8192 4194304 bytes) (number_between 1 86400000 beat) (channels_from (channel ∷ channels)) about is
-    by_kind false is = absurd (none_about about is)
+    by_kind false is = absurd (none-some about is)
 
 -- the words that keep a subscription are read for its name
 kept_name : (name body : List ℕ) (about : Subscription) → read_kept name body ≡ Some about → about.name ≡ name
@@ -212,12 +207,6 @@ about_by value about = by_test (value == 0)
     by_test true = refl
     by_test false = refl
 
-none_listed : (l : Listed) → ◌≡◌ {A = Option Listed} None (Some l) → ⊥
-none_listed l e = cc
-
-one_listed : (a b : Listed) → ◌≡◌ {A = Option Listed} (Some a) (Some b) → a ≡ b
-one_listed a b e = cc
-
 listed_is : (rows : Rows) → AreRowKeys rows → (row : Row) (l : Listed) → Stands rows Kind (subscription_key []) row → listed_of row ≡ Some l → IsListed rows l
 listed_is rows keys row l is e =
     by_kept (read_kept row.key.sub row.body) refl
@@ -233,21 +222,15 @@ listed_is rows keys row l is e =
     cell = ap (finite.get rows) (sym ((keys row.key (cell_of_row row) is.there).subscription kind)) ∙ is.there
 
     by_kept : (o : Option Subscription) → read_kept row.key.sub row.body ≡ o → option_map (listed_by row.value) o ≡ Some l → IsListed rows l
-    by_kept None reads made = absurd (none_listed l made)
+    by_kept None reads made = absurd (none-some l made)
     by_kept (Some about) reads made =
         let own : about.name ≡ row.key.sub = kept_name row.key.sub row.body about reads in
         let there : subscription_at rows row.key.sub ≡ Some about =
         ap (λ (o : Option Cell). about_of (standing_of row.key.sub o)) cell ∙ ap (λ (o : Option Subscription). about_of (standing_by row.value o)) reads ∙ about_by row.value about in
-        subst (IsListed rows) (one_listed (listed_by row.value about) l made)
+        subst (IsListed rows) (same_Some (listed_by row.value about) l made)
         (record { name = ap is_subscription own ∙ good; known = ap (subscription_at rows) own ∙ there })
 
 -- ---- offers
-
-none_offer : (offer : Offer) → ◌≡◌ {A = Option Offer} None (Some offer) → ⊥
-none_offer offer e = cc
-
-one_offer : (a b : Offer) → ◌≡◌ {A = Option Offer} (Some a) (Some b) → a ≡ b
-one_offer a b e = cc
 
 offer_is : (rows : Rows) (s host : List ℕ) → AreRowKeys rows → is_source s ≡ true → (l : Listed) (offer : Offer) → IsListed rows l → offer_of rows s host l ≡ Some offer →
     IsOffered rows s offer.subscribe
@@ -274,8 +257,8 @@ offer_is rows s host keys good l offer is e = by_test (is_offered l) e
         }
 
     by_test : (t : Bool) → cond t (Some (offer_made rows s host l.subscription)) None ≡ Some offer → IsOffered rows s offer.subscribe
-    by_test true made = subst (λ (o : Offer). IsOffered rows s o.subscribe) (one_offer (offer_made rows s host l.subscription) offer made) own
-    by_test false made = absurd (none_offer offer made)
+    by_test true made = subst (λ (o : Offer). IsOffered rows s o.subscribe) (same_Some (offer_made rows s host l.subscription) offer made) own
+    by_test false made = absurd (none-some offer made)
 
 -- all that is offered to a source is offered well
 pub all_offers : (rows : Rows) (s host : List ℕ) → AreRowKeys rows → is_source s ≡ true → AllByRecursion (λ (offer : Offer). IsOffered rows s offer.subscribe) (offers rows s host)

@@ -1,5 +1,6 @@
 -- What the collector does to its rows lets them grow, and gives them keys of their form.
 use Rattle.std.proofs.Common.{◌≡◌, ◌≢◌, ℕ, ◌≤◌, ◌==◌, Bool, true, false, cond, List, [], ◌∷◌, refl, ap, sym, ◌∙◌, subst, arith}
+use Rattle.std.proofs.lemmas.Option.{none-some}
 use Rattle.std.proofs.lemmas.Bool.Decides.{nat_tests}
 use Rattle.std.specs.Prelude.{Option, Some, None, unwrap_or, is_some}
 use Rattle.std.specs.FinMap as finite
@@ -122,10 +123,6 @@ keys_with rows u cell good keys key found e =
 pub keys_by_adding : (rows : Rows) (about : Subscription) → is_subscription about.name ≡ true → AreRowKeys rows → AreRowKeys (added_rows rows about)
 keys_by_adding rows about good keys = keys_with rows about.name _ good keys
 
-nothing_there : (o : Option Cell) (u : List ℕ) (about : Subscription) → is_some o ≡ false → about_of (standing_of u o) ≡ Some about → ⊥
-nothing_there None u about none known = cc
-nothing_there (Some cell) u about none known = cc
-
 pub subscription_by_adding : (rows : Rows) (about : Subscription) (v : List ℕ) → (about.name ≢ v) → subscription_at (added_rows rows about) v ≡ subscription_at rows v
 subscription_by_adding rows about v other = ap about_of (others_by_adding rows about v other)
 
@@ -137,14 +134,11 @@ unknown rows u none = by_cell (finite.get rows (subscription_key u)) none
     by_cell None e = refl
     by_cell (Some cell) e = cc
 
-none_some : (about : Subscription) → ◌≡◌ {A = Option Subscription} None (Some about) → ⊥
-none_some about e = cc
-
 pub adding_grows : (rows : Rows) (about : Subscription) → is_there rows about.name ≡ false → RowsGrow rows (added_rows rows about)
 adding_grows rows about none = record {
   known = λ v other e.
       subscription_by_adding rows about v
-      (λ is. none_some other (sym (unknown rows about.name none) ∙ ap (subscription_at rows) is ∙ e)) ∙ e;
+      (λ is. none-some other (sym (unknown rows about.name none) ∙ ap (subscription_at rows) is ∙ e)) ∙ e;
   bookmarks = λ u s c. let same_number = (adding_spares rows about u s c).bookmark in omega arith;
 }
 
@@ -169,7 +163,7 @@ pub known_name : (rows : Rows) (u : List ℕ) (about : Subscription) → AreRowK
 known_name rows u about keys known = by_cell (finite.get rows (subscription_key u)) refl known
   where
     by_cell : (o : Option Cell) → finite.get rows (subscription_key u) ≡ o → about_of (standing_of u o) ≡ Some about → is_subscription u ≡ true
-    by_cell None e there = absurd (none_some about there)
+    by_cell None e there = absurd (none-some about there)
     by_cell (Some cell) e there = (keys (subscription_key u) cell e).name refl
 
 pub keys_by_ending : (rows : Rows) (u : List ℕ) (about : Subscription) → standing rows u ≡ is.Live about → AreRowKeys rows → AreRowKeys (ended_rows rows u)

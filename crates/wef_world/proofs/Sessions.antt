@@ -1,5 +1,6 @@
 -- What happens to sessions keeps what is true of each.
 use Rattle.std.proofs.Common.{◌≡◌, ℕ, ◌==◌, Bool, true, false, cond, List, [], ◌∷◌, refl, ap, sym, ◌∙◌, subst, arith}
+use Rattle.std.proofs.lemmas.Option.{none-some, same_Some}
 use Rattle.std.proofs.lemmas.Bool.Decides.{nat_tests}
 use Rattle.std.specs.Prelude.{Option, Some, None, max}
 use Rattle.std.specs.Cmp.Lexicographic.{slice_cmp}
@@ -56,28 +57,22 @@ all_with_session P [] new is_new all = (is_new, tt)
 all_with_session P (s ∷ ss) new is_new all =
     all_placed P (slice_cmp nat_cmp new.name s.name) new s ss (with_session ss new) is_new all.0 all.1 (all_with_session P ss new is_new all.1)
 
-one_session : (a b : Session) → ◌≡◌ {A = Option Session} (Some a) (Some b) → a ≡ b
-one_session a b e = cc
-
-no_session : (a : Session) → ◌≡◌ {A = Option Session} None (Some a) → ⊥
-no_session a e = cc
-
 -- the first that passes is one of them
 pub first_is : (P : Session → Type 0) (test : Session → Bool) (ss : List Session) (s : Session) → first_where test ss ≡ Some s → AllByRecursion P ss → P s
-first_is P test [] s e all = absurd (no_session s e)
+first_is P test [] s e all = absurd (none-some s e)
 first_is P test (x ∷ ss) s e all = by_test (test x) e (λ is. first_is P test ss s is all.1)
   where
     by_test : (t : Bool) → cond t (Some x) (first_where test ss) ≡ Some s → (first_where test ss ≡ Some s → P s) → P s
-    by_test true is rest = subst P (one_session x s is) all.0
+    by_test true is rest = subst P (same_Some x s is) all.0
     by_test false is rest = rest is
 
 -- the first that passes does pass
 pub first_passes : (test : Session → Bool) (ss : List Session) (s : Session) → first_where test ss ≡ Some s → test s ≡ true
-first_passes test [] s e = absurd (no_session s e)
+first_passes test [] s e = absurd (none-some s e)
 first_passes test (x ∷ ss) s e = by_test (test x) refl e (λ is. first_passes test ss s is)
   where
     by_test : (t : Bool) → test x ≡ t → cond t (Some x) (first_where test ss) ≡ Some s → (first_where test ss ≡ Some s → test s ≡ true) → test s ≡ true
-    by_test true passes is rest = subst (λ (y : Session). test y ≡ true) (one_session x s is) passes
+    by_test true passes is rest = subst (λ (y : Session). test y ≡ true) (same_Some x s is) passes
     by_test false passes is rest = rest is
 
 -- the first that passes is changed, and nothing else
@@ -88,7 +83,7 @@ all_first_changed P Q test change (x ∷ ss) s e stays is all = by_test (test x)
   where
     by_test : (t : Bool) → cond t (Some x) (first_where test ss) ≡ Some s → (first_where test ss ≡ Some s → AllByRecursion Q (with_changed test change ss)) →
         AllByRecursion Q (cond t (change x ∷ ss) (x ∷ with_changed test change ss))
-    by_test true there rest = (subst (λ (y : Session). Q (change y)) (sym (one_session x s there)) is, all_map P Q stays ss all.1)
+    by_test true there rest = (subst (λ (y : Session). Q (change y)) (sym (same_Some x s there)) is, all_map P Q stays ss all.1)
     by_test false there rest = (stays x all.0, rest there)
 
 -- ---- a session that begins
@@ -104,13 +99,10 @@ with_channels_number : (b : Marks) (cs : List (List ℕ)) (q : List ℕ) → num
 with_channels_number b [] q = refl
 with_channels_number b (c ∷ cs) q = with_channels_number (raised b c 0) cs q ∙ raised_by_none b c q
 
-one_number : (a b : List ℕ) → ◌≡◌ {A = Option (List ℕ)} (Some a) (Some b) → a ≡ b
-one_number a b e = cc
-
 session_begins : (rows : Rows) (messages : List Message) (s : List ℕ) (now : ℕ) (subscribe : Subscribe) (u : List ℕ) → subscription_in subscribe.notify_to ≡ Some u →
     IsOffered rows s subscribe → IsServed rows messages s (session_from now subscribe u)
 session_begins rows messages s now subscribe u leads offered =
-    let at : offered.u ≡ u = one_number offered.u u (sym offered.terms.to_subscription ∙ leads) in
+    let at : offered.u ≡ u = same_Some offered.u u (sym offered.terms.to_subscription ∙ leads) in
     record {
       terms = subst (λ (v : List ℕ). AreTerms rows v s subscribe.notify_to subscribe.query subscribe.max_items subscribe.max_bytes) at offered.terms;
       positions = λ c.

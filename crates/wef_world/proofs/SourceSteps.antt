@@ -1,5 +1,6 @@
 -- What sources do keeps what is kept: they write, ask, send, give up waiting, and take what they are sent.
 use Rattle.std.proofs.Common.{◌≡◌, ℕ, ◌+◌, ◌*◌, ◌<◌, ◌≤◌, Bool, true, false, cond, List, [], ◌∷◌, ◌++◌, length, refl, ap, sym, subst, arith, append-nil}
+use Rattle.std.proofs.lemmas.Bool.{cond_both}
 use Rattle.std.specs.Prelude.{Option, Some, None, is_some, unwrap_or}
 use Rattle.std.specs.FinMap as finite
 use Rattle.std.specs.List.{AllByRecursion}
@@ -54,10 +55,6 @@ kept_at state s change kept keeps = by_slot (slot_of state s) refl
     by_slot None there = kept
     by_slot (Some slot) there = keeps slot there
 
-by_test : {X : Type 0} (P : X → Type 0) (t : Bool) (a b : X) → (t ≡ true → P a) → (t ≡ false → P b) → P (cond t a b)
-by_test P true a b f g = f refl
-by_test P false a b f g = g refl
-
 source_with_end : (rows : Rows) (messages messages' : List Message) (s : List ℕ) (slot : Slot) (end : End) → IsSourceKept rows messages s slot →
     IsWindow end.rows slot.histories slot.capacity 1 → AllByRecursion (IsServed rows messages' s) end.sessions →
     IsSourceKept rows messages' s (record slot { end = Some end })
@@ -98,10 +95,9 @@ recorded_kept state s slot event kept there room =
 
 pub write_keeps : (state : State) (s : List ℕ) (event : PlainEvent) → IsKept state → IsKept (write_step state s event)
 write_keeps state s event kept = kept_at state s (λ slot. write_at state s slot (opened slot) event) kept (λ slot there.
-    by_test IsKept (is_full (opened slot).rows event.channel) (with_end state s slot (opened slot))
-    (cond (is_too_long (opened slot) event) (with_end state s slot (opened slot)) (with_slot state s (recorded slot (opened slot) event)))
+    cond_both (is_full (opened slot).rows event.channel) (with_end state s slot (opened slot)) (cond (is_too_long (opened slot) event) (with_end state s slot (opened slot)) (with_slot state s (recorded slot (opened slot) event))) IsKept
     (λ full. kept_same state s slot kept there) (λ room.
-    by_test IsKept (is_too_long (opened slot) event) (with_end state s slot (opened slot)) (with_slot state s (recorded slot (opened slot) event))
+    cond_both (is_too_long (opened slot) event) (with_end state s slot (opened slot)) (with_slot state s (recorded slot (opened slot) event)) IsKept
     (λ long. kept_same state s slot kept there) (λ fits. recorded_kept state s slot event kept there room)))
 
 -- ---- drawing an id
@@ -141,8 +137,7 @@ asked_kept state s slot kept there =
 
 pub ask_keeps : (state : State) (s : List ℕ) → IsKept state → IsKept (ask_step state s)
 ask_keeps state s kept = kept_at state s (λ slot. ask_at state s slot (opened slot)) kept (λ slot there.
-    by_test IsKept (is_spent (opened slot)) (with_end state s slot (opened slot))
-    (with_message (with_end state s slot (asked (opened slot))) (Ask s (record { value = Some (next_id (opened slot)); text = [] })))
+    cond_both (is_spent (opened slot)) (with_end state s slot (opened slot)) (with_message (with_end state s slot (asked (opened slot))) (Ask s (record { value = Some (next_id (opened slot)); text = [] }))) IsKept
     (λ spent. kept_same state s slot kept there) (λ left. asked_kept state s slot kept there))
 
 -- ---- sending a batch
@@ -215,10 +210,9 @@ poll_session_keeps state s u slot session kept there found =
     let end = opened slot in
     let named : session.name ≡ u = one_name session.name u (first_passes (is_named u) end.sessions session found) in
     let own = subst (λ (name : List ℕ). session_of end.sessions name ≡ Some session) (sym named) found in
-    by_test IsKept (is_idle end.rows session) (with_end state s slot end)
-    (cond (is_spent end) (with_end state s slot end) (with_message (with_end state s slot (sent end session moment)) (Events s (delivery_of end session))))
+    cond_both (is_idle end.rows session) (with_end state s slot end) (cond (is_spent end) (with_end state s slot end) (with_message (with_end state s slot (sent end session moment)) (Events s (delivery_of end session)))) IsKept
     (λ idle. kept_same state s slot kept there) (λ some.
-    by_test IsKept (is_spent end) (with_end state s slot end) (with_message (with_end state s slot (sent end session moment)) (Events s (delivery_of end session)))
+    cond_both (is_spent end) (with_end state s slot end) (with_message (with_end state s slot (sent end session moment)) (Events s (delivery_of end session))) IsKept
     (λ spent. kept_same state s slot kept there) (λ left. sent_kept state s slot session kept there own))
 
 pub poll_keeps : (state : State) (s u : List ℕ) → IsKept state → IsKept (poll_step state s u)
@@ -245,14 +239,13 @@ refused_kept : (state : State) (s : List ℕ) (slot : Slot) (id : ℕ) (fault : 
     IsKept (with_end state s slot (refused_in (opened slot) id fault))
 refused_kept state s slot id fault kept there =
     kept_end state s slot (refused_in (opened slot) id fault) kept there refl refl
-    (by_test (AllByRecursion (IsServed state.rows state.messages s)) (is_unreachable fault) (without (waits_for id) (opened slot).sessions)
-    (with_changed (waits_for id) settled (opened slot).sessions)
+    (cond_both (is_unreachable fault) (without (waits_for id) (opened slot).sessions) (with_changed (waits_for id) settled (opened slot).sessions) (AllByRecursion (IsServed state.rows state.messages s))
     (λ gone. all_without (IsServed state.rows state.messages s) (waits_for id) (opened slot).sessions (kept.sources s slot there).sessions)
     (λ stays. settled_kept state s slot (waits_for id) kept there))
 
 pub fault_keeps : (state : State) (s : List ℕ) (relates : MessageId) (fault : FaultName) → IsKept state → IsKept (at_end state s (λ end. after_fault end relates fault))
 fault_keeps state s relates fault kept = kept_at state s (λ slot. with_end state s slot (after_fault (opened slot) relates fault)) kept (λ slot there.
-    by_test (λ (end : End). IsKept (with_end state s slot end)) (is_some (waiting_for (opened slot) relates.value)) (refused_by (opened slot) relates.value fault) (opened slot)
+    cond_both (is_some (waiting_for (opened slot) relates.value)) (refused_by (opened slot) relates.value fault) (opened slot) (λ (end : End). IsKept (with_end state s slot end))
     (λ waits. by_id slot there relates.value) (λ none. kept_same state s slot kept there))
   where
     by_id : (slot : Slot) → slot_of state s ≡ Some slot → (o : Option ℕ) → IsKept (with_end state s slot (refused_by (opened slot) o fault))
@@ -264,7 +257,7 @@ fault_keeps state s relates fault kept = kept_at state s (λ slot. with_end stat
 pub ack_keeps : (state : State) (s : List ℕ) (relates : MessageId) → IsKept state → IsAcknowledged state.rows state.messages s relates →
     IsKept (at_end state s (λ end. after_ack end relates))
 ack_keeps state s relates kept is = kept_at state s (λ slot. with_end state s slot (after_ack (opened slot) relates)) kept (λ slot there.
-    by_test (λ (end : End). IsKept (with_end state s slot end)) (is_some (waiting_for (opened slot) relates.value)) (acknowledged_by (opened slot) relates.value) (opened slot)
+    cond_both (is_some (waiting_for (opened slot) relates.value)) (acknowledged_by (opened slot) relates.value) (opened slot) (λ (end : End). IsKept (with_end state s slot end))
     (λ waits. by_id slot there relates.value refl) (λ none. kept_same state s slot kept there))
   where
     by_id : (slot : Slot) → slot_of state s ≡ Some slot → (o : Option ℕ) → relates.value ≡ o → IsKept (with_end state s slot (acknowledged_by (opened slot) o))
@@ -277,6 +270,6 @@ ack_keeps state s relates kept is = kept_at state s (λ slot. with_end state s s
 pub offers_keep : (state : State) (s : List ℕ) (relates : MessageId) (given : List Offer) → IsKept state →
     AllByRecursion (λ (offer : Offer). IsOffered state.rows s offer.subscribe) given → IsKept (at_end state s (λ end. after_offers end relates given))
 offers_keep state s relates given kept are = kept_at state s (λ slot. with_end state s slot (after_offers (opened slot) relates given)) kept (λ slot there.
-    by_test (λ (end : End). IsKept (with_end state s slot end)) (ids_agree (opened slot).ask relates.value) (adopted (opened slot) given moment) (opened slot)
+    cond_both (ids_agree (opened slot).ask relates.value) (adopted (opened slot) given moment) (opened slot) (λ (end : End). IsKept (with_end state s slot end))
     (λ asked_for. kept_end state s slot (adopted (opened slot) given moment) kept there refl refl (all_offered state.rows state.messages s moment [] given are tt))
     (λ other. kept_same state s slot kept there))

@@ -1,5 +1,6 @@
 -- Every step of a good schedule keeps what is kept, and what is kept is safe.
 use Rattle.std.proofs.Common.{◌≡◌, ℕ, ◌≤◌, Bool, true, false, not, ◌&&◌, List, [], ◌∷◌, length, nat_le, refl, ap, sym, ◌∙◌, subst, arith}
+use Rattle.std.proofs.lemmas.Option.{none-some}
 use Rattle.std.proofs.lemmas.Bool.{and_parts}
 use Rattle.std.proofs.lemmas.Bool.Decides.{nat_tests}
 use Rattle.std.specs.Prelude.{Option, Some, None, map, unwrap_or}
@@ -64,14 +65,8 @@ untouched_start u s c = record {
   loose = no_rows Channel (loose_key u s c 0);
 }
 
-none_slot : (slot : Slot) → ◌≡◌ {A = Option Slot} None (Some slot) → ⊥
-none_slot slot e = cc
-
-none_cell : (cell : Cell) → ◌≡◌ {A = Option Cell} None (Some cell) → ⊥
-none_cell cell e = cc
-
 nowhere : (s : List ℕ) (slot : Slot) → slot_of start s ≡ Some slot → ⊥
-nowhere s slot e = none_slot slot (sym (finite.get-empty (slice_cmp nat_cmp) s) ∙ e)
+nowhere s slot e = none-some slot (sym (finite.get-empty (slice_cmp nat_cmp) s) ∙ e)
 
 pub start_is_kept : StartIsKept
 start_is_kept = record {
@@ -79,7 +74,7 @@ start_is_kept = record {
       subst (λ (o : Option Subscription). IsPairKept finite.empty u s c o (slot_of start s))
       (sym (ap (λ (o : Option Cell). about_of (standing_of u o)) (finite.get-empty key_cmp (subscription_key u)))) (untouched_start u s c);
   apart = λ s slot e. absurd (nowhere s slot e);
-  keys = λ key cell e. absurd (none_cell cell (sym (finite.get-empty key_cmp key) ∙ e));
+  keys = λ key cell e. absurd (none-some cell (sym (finite.get-empty key_cmp key) ∙ e));
   sources = λ s slot e. absurd (nowhere s slot e);
   messages = λ m was. absurd was;
   requests = λ m n id was_m was_n same e f. absurd was_m;
