@@ -1,6 +1,6 @@
 //! Batches by example.
 
-use crate::{Batch, Item, judge, loose_sum, reach};
+use crate::{Batch, Item, cost, judge, loose_sum, reach};
 use std::alloc::Global;
 use wef_base::{ChannelName, List, Text, ValueFault};
 use wef_bookmark::Bookmark;
@@ -226,4 +226,63 @@ fn a_batch_reaches_its_bookmark_or_its_last(rt: HostRuntime) {
         loose_sum(batch.items.as_slice()),
         18_446_744_073_709_551_617
     );
+}
+
+#[test]
+fn an_event_costs_its_escaped_text(rt: HostRuntime) {
+    let alloc = rt.alloc();
+    let cases = [
+        (
+            "",
+            "<w:Event Action=\"http://schemas.dmtf.org/wbem/wsman/1/wsman/Event\"></w:Event>",
+        ),
+        (
+            "<Event>\"'</Event>",
+            "<w:Event Action=\"http://schemas.dmtf.org/wbem/wsman/1/wsman/Event\">&lt;Event&gt;\"'&lt;/Event&gt;</w:Event>",
+        ),
+        (
+            "&\t\n\r;\u{e9}\u{20ac}\u{1f600}",
+            "<w:Event Action=\"http://schemas.dmtf.org/wbem/wsman/1/wsman/Event\">&amp;&#x9;&#xA;&#xD;;\u{e9}\u{20ac}\u{1f600}</w:Event>",
+        ),
+    ];
+    for (text, written) in cases {
+        let item = Item::Event(Event {
+            channel: channel(alloc, "a").expect(&rt, "a name"),
+            number: 7,
+            text: Text::from_str(alloc, text).expect(&rt, "memory"),
+        });
+        assert_eq!(&rt; cost(&item), written.len() as u64, "at {text}");
+    }
+}
+
+#[test]
+fn dropped_records_cost_their_numbers(rt: HostRuntime) {
+    let cases = [
+        (
+            Part::Dropped("a", 9, 9),
+            "<w:DroppedEvents u:Channel=\"a\" u:First=\"9\" u:Last=\"9\">1</w:DroppedEvents>",
+        ),
+        (
+            Part::Dropped("a\"&<>\u{e9}\u{20ac}", 10, 109),
+            "<w:DroppedEvents u:Channel=\"a&quot;&amp;&lt;&gt;\u{e9}\u{20ac}\" u:First=\"10\" u:Last=\"109\">100</w:DroppedEvents>",
+        ),
+        (
+            Part::Dropped("a", 0, u64::MAX),
+            "<w:DroppedEvents u:Channel=\"a\" u:First=\"0\" u:Last=\"18446744073709551615\">18446744073709551616</w:DroppedEvents>",
+        ),
+        (
+            Part::Dropped("a", 100, 2),
+            "<w:DroppedEvents u:Channel=\"a\" u:First=\"100\" u:Last=\"2\">1</w:DroppedEvents>",
+        ),
+        (Part::Loose(0), "<w:DroppedEvents>0</w:DroppedEvents>"),
+        (
+            Part::Loose(u64::MAX),
+            "<w:DroppedEvents>18446744073709551615</w:DroppedEvents>",
+        ),
+    ];
+    for (part, written) in cases {
+        let item = item_of(rt.alloc(), part).expect(&rt, "a name");
+        let item = item.expect(&rt, "an item");
+        assert_eq!(&rt; cost(&item), written.len() as u64, "at {written}");
+    }
 }

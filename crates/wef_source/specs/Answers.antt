@@ -105,6 +105,11 @@ AnswersTo end end' (Some id) reply answer = AnswersId end end' id reply answer
 abbrev pub Answers : End → End → MessageId → reply.Reply → moved.Moved → Type 0
 Answers end end' relates reply answer = (is_some (waiting_for end relates.value) ≡ true) × AnswersTo end end' relates.value reply answer
 
+-- an answer to an id that no session waits for is refused
+abbrev pub RefusesId : End → ℕ → SourceFault → Type 0
+RefusesId end id NotAsked = waiting end.sessions id ≡ None
+RefusesId end id _ = ⊥
+
 -- `NotAsked` comes exactly where no session waits for it; no memory is taken.
 abbrev pub RefusesAnswer : SourceFault → End → MessageId → Type 0
 RefusesAnswer NotAsked end relates = waiting_for end relates.value ≡ None

@@ -59,4 +59,4 @@ pub record Fits (query : QueryList) (max_bytes : ℕ) (all : Histories) (capacit
   pub no_loose : loose_sum batch.items ≡ 0
   pub others : (c : List ℕ) → is_in (channels_of query.items) c ≡ false → map.get batch.to c ≡ None
   pub channels : (c : List ℕ) → is_in (channels_of query.items) c ≡ true →
-    FitsChannel query max_bytes c (history all c) capacity (number_at b c) batch.items (reach c batch)
+      FitsChannel query max_bytes c (history all c) capacity (number_at b c) batch.items (reach c batch)

@@ -1,7 +1,11 @@
 pub mod Answers
 pub mod Building
+pub mod Drafting
 pub mod Fits
 pub mod Laws
 pub mod Machine
+pub mod Placing
+pub mod Prepared
+pub mod Serving
 pub mod Sessions
 pub mod Wanted

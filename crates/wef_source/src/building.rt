@@ -1,13 +1,20 @@
 //! The batch that a session sends.
 
-ghost use Rattle.std.specs.Prelude.{◌≡◌, IfOk, IfErr};
+ghost use Rattle.std.specs.Prelude.{◌≡◌, IfOk, IfErr, OnOk};
+ghost use Rattle.std.specs.FinMap as map;
+ghost use Rattle.std.specs.Option.{option_to_list};
 ghost use Rattle.wef_source.specs.Answers.{WantsMemory};
 ghost use Rattle.wef_source.specs.Building as spec;
+ghost use Rattle.wef_source.specs.Drafting as drafting;
 
+use crate::drafting::{Draft, room_of};
 use crate::faults::SourceFault;
 use crate::sessions::Session;
-use std::alloc::Global;
-use wef_batch::Batch;
+use std::alloc::{AllocError, Global};
+use wef_base::ChannelName;
+use wef_batch::{Batch, Item};
+use wef_bookmark::Bookmark;
+use wef_query::channels;
 use wef_source_log::Log;
 
 /// The batch that a session sends next. It has no item where there is nothing to send. The log is
@@ -15,3 +22,105 @@ use wef_source_log::Log;
 pub fn built(alloc: Global, log: &Log, session: &Session) -> Result<Batch, SourceFault>
     ensures ok { IfOk result (λ batch. batch ≡ spec.built log.now session.now) }
     ensures refusal { IfErr result WantsMemory }
+{
+    let channels = channels(alloc, &session.query)?;
+    let draft = drafted(alloc, log, session, channels.as_slice())?;
+    let to = reached(alloc, log, session, channels.as_slice(), &draft.left)?;
+    Ok(Batch {
+        items: draft.items,
+        to,
+        ack_wanted: true,
+    })
+}
+
+/// What is to be said of channels, one after the other, while it fits.
+fn drafted(
+    alloc: Global,
+    log: &Log,
+    session: &Session,
+    channels: &[ChannelName],
+) -> Result<Draft, SourceFault>
+    ensures ok { IfOk result (λ draft. draft
+        ≡ drafting.taken_all (drafting.empty_draft session.now.max_items (spec.room_of session.now.max_bytes)) (spec.candidates_in log.now session.now channels.now)) }
+    ensures refusal { IfErr result WantsMemory }
+{
+    let mut draft = Draft::new(alloc, session.max_items, room_of(session));
+    for channel in channels {
+        draft.take_channel(log, session, channel)?;
+    }
+    Ok(draft)
+}
+
+/// How far channels are read above a session's positions, where an item is left.
+fn reached(
+    alloc: Global,
+    log: &Log,
+    session: &Session,
+    channels: &[ChannelName],
+    left: &Option<Item>,
+) -> Result<Bookmark, SourceFault>
+    ensures ok { IfOk result (λ to. to ≡ spec.with_reaches session.now.positions map.empty (spec.reaches log.now channels.now (option_to_list left.now))) }
+    ensures refusal { IfErr result WantsMemory }
+{
+    let mut to = Bookmark::new(alloc);
+    for channel in channels {
+        if let Some(number) = stop_at(left, channel) {
+            raise_above(&mut to, &session.positions, channel, number)?;
+            return Ok(to);
+        }
+        raise_above(&mut to, &session.positions, channel, log.last(channel)?)?;
+    }
+    Ok(to)
+}
+
+/// Raises a channel to a number, where that is above its position.
+fn raise_above(
+    to: &mut Bookmark,
+    positions: &Bookmark,
+    channel: &ChannelName,
+    number: u64,
+) -> Result<(), SourceFault>
+    ensures ok { OnOk result (to.new ≡ spec.with_reach positions.now to.old (channel.now, number)) }
+    ensures refusal { IfErr result WantsMemory }
+{
+    if number <= positions.at(channel) {
+        return Ok(());
+    }
+    if to.raise(channel, number).is_err() {
+        return Err(SourceFault::NoMemory);
+    }
+    Ok(())
+}
+
+/// How far a channel is read where an item is left: up to that item, where it is of the channel.
+fn stop_at(left: &Option<Item>, channel: &ChannelName) -> Option<u64>
+    ensures { result ≡ drafting.stop_at channel.now left.now }
+{
+    match left {
+        Some(item) if is_of(item, channel) => Some(first_number(item).saturating_sub(1)),
+        _ => None,
+    }
+}
+
+fn is_of(item: &Item, channel: &ChannelName) -> bool
+    ensures { result ≡ spec.is_of channel.now item.now }
+{
+    match item {
+        Item::Event(event) => event.channel == *channel,
+        Item::Dropped {
+            channel: dropped,
+            ..
+        } => *dropped == *channel,
+        Item::Loose { .. } => false,
+    }
+}
+
+fn first_number(item: &Item) -> u64
+    ensures { result ≡ spec.first_number item.now }
+{
+    match item {
+        Item::Event(event) => event.number,
+        Item::Dropped { first, .. } => *first,
+        Item::Loose { .. } => 0,
+    }
+}

@@ -1,5 +1,8 @@
 //! Sessions: what a source remembers of each subscription that it serves.
 
+ghost use Rattle.std.specs.Prelude.{◌≡◌, IfOk};
+
+use std::alloc::AllocError;
 use wef_base::{SubId, Text};
 use wef_bookmark::Bookmark;
 use wef_query::QueryList;
@@ -32,4 +35,14 @@ pub struct Session {
     pub outstanding: Option<Outstanding>,
     /// When the last message of the session was sent.
     pub last_sent: u64,
+}
+
+/// A copy of a text, where there is one.
+pub(crate) fn copied(text: &Option<Text>) -> Result<Option<Text>, AllocError>
+    ensures { IfOk result (λ copy. copy ≡ text.now) }
+{
+    match text {
+        Some(text) => Ok(Some(text.clone()?)),
+        None => Ok(None),
+    }
 }

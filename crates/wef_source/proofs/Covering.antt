@@ -1,0 +1,147 @@
+-- Positions that have each channel that may be moved.
+use Rattle.std.proofs.Common.{◌≡◌, ℕ, ◌+◌, ◌<◌, Bool, true, false, ◌||◌, List, [], ◌∷◌, length, get_or, set, refl, ap, sym, subst, ◌∙◌, cond, Some, None, arith, ⊎_elim}
+use Rattle.std.specs.Prelude.{Option, is_some}
+use Rattle.std.specs.FinMap as map
+use Rattle.std.specs.List.{All, remove}
+use Rattle.std.proofs.lemmas.List.Elements.{All-get_or, All-set}
+use Rattle.std.proofs.lemmas.List.Edits.{get_or-remove_above, get_or-remove_below, length-remove}
+use Rattle.std.proofs.lemmas.Bool.{cases_lt}
+use Rattle.std.specs.Ordering.{nat_cmp, eq_by_cmp, is_eq}
+use Rattle.std.specs.Cmp.{tied_itself}
+use Rattle.std.specs.Cmp.Lexicographic.{slice_cmp, nat_list_cmp_total, same_text}
+use Rattle.wef_base.specs.Names.{same}
+use Rattle.wef_batch.specs.WellFormed.{is_in}
+use Rattle.wef_bookmark.specs.Order.{Marks, joined, raised}
+use Rattle.wef_bookmark.proofs.Joining.{joined_has, raised_has}
+use Rattle.wef_eventing.specs.declared.bodies.Subscribe.{Subscribe}
+use Rattle.wef_query.specs.Selected.{channels_of}
+use Rattle.wef_source.specs.Serving.{AreKept, HasAll, HasEach, IsCovered}
+use Rattle.wef_source.proofs.InOrder.{none_in_order}
+use Rattle.wef_source.specs.Sessions.{acknowledged, moved_by, sending, session_from, settled, with_channels}
+use Rattle.wef_source.specs.declared.sessions.Outstanding.{Outstanding}
+use Rattle.wef_source.specs.declared.sessions.Session.{Session}
+
+nothing_there : (c : List ℕ) → is_some (map.get {K = List ℕ} {X = ℕ} {R = slice_cmp nat_cmp} map.empty c) ≡ false
+nothing_there c = ap is_some (map.get-empty (slice_cmp nat_cmp) c)
+
+pub has_nothing : (p : Marks) → HasAll p map.empty
+has_nothing p c there = let e = nothing_there c in cc
+
+pub either_true : (a b : Bool) → b ≡ true → (a || b) ≡ true
+either_true true b e = refl
+either_true false b e = e
+
+pub either : (a b : Bool) → a ≡ true → (a || b) ≡ true
+either true b e = refl
+either false b e = cc
+
+-- what a bookmark has stays there when another one is joined
+pub joined_has_all : (p q to : Marks) → HasAll p q → HasAll (joined p to) q
+joined_has_all p q to has c there = joined_has p to c ∙ either _ _ (has c there)
+
+pub raised_has_all : (p q : Marks) (c : List ℕ) (n : ℕ) → HasAll p q → HasAll (raised p c n) q
+raised_has_all p q c n has d there = raised_has p c n d ∙ either_true _ _ (has d there)
+
+-- a bookmark that has what another one has, and one more channel, has all when the other is raised there
+pub raised_only : (p to : Marks) (c : List ℕ) (n : ℕ) → is_some (map.get p c) ≡ true → HasAll p to → HasAll p (raised to c n)
+raised_only p to c n there has d found = by (same d c) refl (sym (raised_has to c n d) ∙ found)
+  where
+    by : (t : Bool) → same d c ≡ t → (t || is_some (map.get to d)) ≡ true → is_some (map.get p d) ≡ true
+    by true is h = subst (λ x. is_some (map.get p x) ≡ true) (sym (same_text d c (sym is))) there
+    by false is h = has d h
+
+pub settled_covered : (s : Session) → IsCovered s → IsCovered (settled s)
+settled_covered s h = record { queried = h.queried; awaited = has_nothing s.positions }
+
+pub sending_covered : (s : Session) (outstanding : Outstanding) (now : ℕ) → HasAll s.positions outstanding.to → IsCovered s → IsCovered (sending outstanding now s)
+sending_covered s outstanding now has h = record { queried = h.queried; awaited = has }
+
+pub acknowledged_covered : (s : Session) → IsCovered s → IsCovered (acknowledged s)
+acknowledged_covered s h = by s.outstanding
+  where
+    by : (o : Option Outstanding) → IsCovered (moved_by o s)
+    by None = settled_covered s h
+    by (Some outstanding) = record {
+      queried = λ c in_query. joined_has s.positions outstanding.to c ∙ either _ _ (h.queried c in_query);
+      awaited = has_nothing (joined s.positions outstanding.to);
+    }
+
+-- sessions of which one was changed in a way that keeps it covered
+pub changed_covered : (change : Session → Session) → ((s : Session) → IsCovered s → IsCovered (change s)) → (ss : List Session) (k : ℕ) (s t : Session)
+    → All IsCovered ss → k < length ss → s ≡ get_or ss k s → t ≡ change s → All IsCovered (set ss k t)
+changed_covered change keeps ss k s t all within read made =
+    let here : IsCovered s = subst IsCovered (sym read) (All-get_or IsCovered ss k s within all) in
+    All-set IsCovered ss k t (subst IsCovered (sym made) (keeps s here)) all
+
+pub read_covered : (ss : List Session) (k : ℕ) (s : Session) → All IsCovered ss → k < length ss → s ≡ get_or ss k s → IsCovered s
+read_covered ss k s all within read = subst IsCovered (sym read) (All-get_or IsCovered ss k s within all)
+
+-- sessions of which one was taken out
+pub removed_covered : (ss : List Session) (k : ℕ) → All IsCovered ss → k < length ss → All IsCovered (remove ss k)
+removed_covered ss k all within = λ j d below.
+    let long = length-remove ss k within in
+    ⊎_elim
+    (λ before. rw (get_or-remove_below ss k d j before within) (all j d (omega arith)))
+    (λ behind. rw (get_or-remove_above ss k d j behind within) (all (j + 1) d (omega arith)))
+    (cases_lt j k)
+
+-- each of these entries' channels is found among those
+abbrev pub AreFound : List (List ℕ × ℕ) → List (List ℕ × ℕ) → Type 0
+AreFound all [] = Unit {0}
+AreFound all (e ∷ es) = (is_some (map.find (slice_cmp nat_cmp) e.0 all) ≡ true) × AreFound all es
+
+found_more : (b : Bool) (n : ℕ) (o : Option ℕ) → is_some o ≡ true → is_some (cond b (Some n) o) ≡ true
+found_more true n o there = refl
+found_more false n o there = there
+
+are_found_more : (e : List ℕ × ℕ) (all es : List (List ℕ × ℕ)) → AreFound all es → AreFound (e ∷ all) es
+are_found_more e all [] found = tt
+are_found_more e all (f ∷ fs) found = (found_more (eq_by_cmp (slice_cmp nat_cmp) f.0 e.0) e.1 _ found.0, are_found_more e all fs found.1)
+
+found_itself : (e : List ℕ × ℕ) (es : List (List ℕ × ℕ)) → is_some (map.find (slice_cmp nat_cmp) e.0 (e ∷ es)) ≡ true
+found_itself e es = ap (λ r. is_some (cond (is_eq r) (Some e.1) (map.find (slice_cmp nat_cmp) e.0 es))) (tied_itself nat_list_cmp_total e.0)
+
+are_found : (es : List (List ℕ × ℕ)) → AreFound es es
+are_found [] = tt
+are_found (e ∷ es) = (found_itself e es, are_found_more e es es (are_found es))
+
+-- each of these entries' channels is in a bookmark
+abbrev pub AreIn : Marks → List (List ℕ × ℕ) → Type 0
+AreIn b [] = Unit {0}
+AreIn b (e ∷ es) = (is_some (map.get b e.0) ≡ true) × AreIn b es
+
+are_in_from : (b : Marks) (es : List (List ℕ × ℕ)) → AreFound (map.entries b) es → AreIn b es
+are_in_from b [] found = tt
+are_in_from b (e ∷ es) found = (ap is_some (map.get-entries b e.0) ∙ found.0, are_in_from b es found.1)
+
+pub entries_are_in : (b : Marks) → AreIn b (map.entries b)
+entries_are_in b = are_in_from b (map.entries b) (are_found (map.entries b))
+
+pub none_kept : AreKept []
+none_kept = record { covered = λ k d below. absurd (omega arith); in_order = none_in_order }
+
+channel_kept : (b : Marks) (cs : List (List ℕ)) (c : List ℕ) → is_some (map.get b c) ≡ true → is_some (map.get (with_channels b cs) c) ≡ true
+channel_kept b [] c there = there
+channel_kept b (x ∷ xs) c there = channel_kept (raised b x 0) xs c (raised_has b x 0 c ∙ either_true _ _ there)
+
+same_turned : (x c : List ℕ) → same x c ≡ true → same c x ≡ true
+same_turned x c e =
+    let one = same_text x c (sym e) in
+    subst (λ y. same c y ≡ true) (sym one) (subst (λ y. same y c ≡ true) one e)
+
+-- each channel that is added is there
+channels_added : (b : Marks) (cs : List (List ℕ)) → HasEach (with_channels b cs) cs
+channels_added b [] c listed = cc
+channels_added b (x ∷ xs) c listed = by (channels_added (raised b x 0) xs c) (same x c) refl listed
+  where
+    by : (is_in xs c ≡ true → is_some (map.get (with_channels (raised b x 0) xs) c) ≡ true) → (t : Bool) → same x c ≡ t → (t || is_in xs c) ≡ true → is_some (map.get (with_channels (raised b x 0) xs) c) ≡ true
+    by rest true is there = channel_kept (raised b x 0) xs c (raised_has b x 0 c ∙ either _ _ (same_turned x c is))
+    by rest false is there = rest there
+
+pub begun_covered : (now : ℕ) (subscribe : Subscribe) (u : List ℕ) → IsCovered (session_from now subscribe u)
+begun_covered now subscribe u =
+    let positions = with_channels subscribe.from (channels_of subscribe.query.items) in
+    record {
+      queried = channels_added subscribe.from (channels_of subscribe.query.items);
+      awaited = has_nothing positions;
+    }

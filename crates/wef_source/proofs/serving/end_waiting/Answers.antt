@@ -1,0 +1,36 @@
+use Rattle.std.proofs.Common.{◌≡◌, ap, sym, subst, ◌∙◌, Some, None}
+use Rattle.std.specs.Prelude.{is_some}
+use Rattle.std.specs.List.{position}
+use Rattle.wef_source.specs.Sessions.{waits_for}
+use Rattle.wef_source.proofs.Covering.{removed_covered}
+use Rattle.wef_source.proofs.InOrder.{without_in_order}
+use Rattle.wef_source.proofs.Places.{first_nowhere, is_there, within_at, without_at, without_nowhere}
+use Rattle.wef_source.proofs.serving.end_waiting.Goals as goal
+
+pub returns-in_default-clause-found : goal.returns-in_default-clause-found
+returns-in_default-clause-found c =
+    let none : position (waits_for c.args.id) c.args.sessions.now.items ≡ None = cc in
+    sym (ap is_some (first_nowhere (waits_for c.args.id) c.args.sessions.now.items none))
+
+pub returns-in_default-clause-changed : goal.returns-in_default-clause-changed
+returns-in_default-clause-changed c =
+    let none : position (waits_for c.args.id) c.args.sessions.now.items ≡ None = cc in
+    sym (without_nowhere (waits_for c.args.id) c.args.sessions.now.items none)
+
+pub returns-clause-found : goal.returns-clause-found
+returns-clause-found c =
+    let at : position (waits_for c.args.id) c.args.sessions.now.items ≡ Some c.in-Some.place = cc in
+    sym (is_there (waits_for c.args.id) c.args.sessions.now.items c.in-Some.place c.remove-ended.result at)
+
+pub returns-clause-changed : goal.returns-clause-changed
+returns-clause-changed c =
+    let at : position (waits_for c.args.id) c.args.sessions.now.items ≡ Some c.in-Some.place = cc in
+    c.remove-ended.ensures.items ∙ without_at (waits_for c.args.id) c.args.sessions.now.items c.in-Some.place at
+
+pub returns-clause-kept : goal.returns-clause-kept
+returns-clause-kept c =
+    let at : position (waits_for c.args.id) c.args.sessions.now.items ≡ Some c.in-Some.place = cc in
+    record {
+      covered = rw c.remove-ended.ensures.items (removed_covered c.args.sessions.now.items c.in-Some.place c.requires.covered (within_at (waits_for c.args.id) c.args.sessions.now.items c.in-Some.place at));
+      in_order = rw (returns-clause-changed c) (without_in_order (waits_for c.args.id) c.args.sessions.now.items c.requires.in_order);
+    }

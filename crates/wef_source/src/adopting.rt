@@ -1,0 +1,133 @@
+//! The sessions of offers.
+
+ghost use Rattle.std.specs.Prelude.{◌≡◌, [], IfOk, IfErr, OnOk, OnErr};
+ghost use Rattle.wef_eventing.specs.Addresses.{subscription_in};
+ghost use Rattle.wef_query.specs.Selected.{channels_of};
+ghost use Rattle.wef_source.specs.Answers.{WantsMemory};
+ghost use Rattle.wef_source.specs.Placing as placing;
+ghost use Rattle.wef_source.specs.Serving.{AreKept, IsCovered};
+ghost use Rattle.wef_source.specs.Sessions as spec;
+
+use crate::faults::SourceFault;
+use crate::sessions::{Session, copied};
+use std::alloc::{AllocError, Global};
+use std::cmp::Ordering;
+use wef_base::{ChannelName, List, SubId};
+use wef_bookmark::Bookmark;
+use wef_eventing::{Offer, Subscribe, subscription_in};
+use wef_query::channels;
+
+/// The sessions of offers, begun at a moment, in the order of their names.
+pub fn sessions_of(
+    alloc: Global,
+    offers: &List<Offer>,
+    now: u64,
+) -> Result<Vec<Session>, SourceFault>
+    ensures ok { IfOk result (λ sessions. sessions.items ≡ spec.with_offers now [] offers.now) }
+    ensures kept { IfOk result (λ sessions. AreKept sessions.items) }
+    ensures refusal { IfErr result WantsMemory }
+{
+    let mut sessions = Vec::new(alloc);
+    for offer in offers.as_slice() {
+        take_offer(alloc, &mut sessions, &offer.subscribe, now)?;
+    }
+    Ok(sessions)
+}
+
+/// Takes an offer's session, where its address leads to a subscription. After an error some of the
+/// sessions may stand there.
+fn take_offer(
+    alloc: Global,
+    sessions: &mut Vec<Session>,
+    subscribe: &Subscribe,
+    now: u64,
+) -> Result<(), SourceFault>
+    requires { AreKept sessions.old.items }
+    ensures ok { OnOk result (sessions.new.items
+        ≡ spec.with_offered now sessions.old.items subscribe.now (subscription_in subscribe.now.notify_to)) }
+    ensures kept { OnOk result (AreKept sessions.new.items) }
+    ensures refusal { IfErr result WantsMemory }
+{
+    let Some(name) = subscription_in(&subscribe.notify_to)? else {
+        return Ok(());
+    };
+    let session = session_from(alloc, subscribe, name, now)?;
+    put_session(sessions, session)?;
+    Ok(())
+}
+
+/// The session of a name that serves a subscription, begun at a moment.
+fn session_from(
+    alloc: Global,
+    subscribe: &Subscribe,
+    name: SubId,
+    now: u64,
+) -> Result<Session, SourceFault>
+    ensures ok { IfOk result (λ session. session ≡ spec.session_from now subscribe.now name) }
+    ensures refusal { IfErr result WantsMemory }
+{
+    Ok(Session {
+        name,
+        notify_to: subscribe.notify_to.clone()?,
+        identifier: copied(&subscribe.identifier)?,
+        query: subscribe.query.clone(alloc)?,
+        max_items: subscribe.max_items,
+        max_bytes: subscribe.max_bytes,
+        heartbeat: subscribe.heartbeat,
+        positions: starting_positions(alloc, subscribe)?,
+        outstanding: None,
+        last_sent: now,
+    })
+}
+
+/// Where a subscription begins: each channel of its query has an entry.
+fn starting_positions(alloc: Global, subscribe: &Subscribe) -> Result<Bookmark, SourceFault>
+    ensures ok { IfOk result (λ b. b ≡ spec.with_channels subscribe.now.from (channels_of subscribe.now.query.items)) }
+    ensures refusal { IfErr result WantsMemory }
+{
+    let mut positions = subscribe.from.clone()?;
+    let channels = channels(alloc, &subscribe.query)?;
+    add_channels(&mut positions, channels.as_slice())?;
+    Ok(positions)
+}
+
+/// Adds channels at 0, where they aren't there.
+fn add_channels(positions: &mut Bookmark, channels: &[ChannelName]) -> Result<(), SourceFault>
+    ensures ok { OnOk result (positions.new ≡ spec.with_channels positions.old channels.now) }
+    ensures refusal { IfErr result WantsMemory }
+{
+    for channel in channels {
+        if positions.raise(channel, 0).is_err() {
+            return Err(SourceFault::NoMemory);
+        }
+    }
+    Ok(())
+}
+
+/// Puts a session at its place, in place of one of its name.
+fn put_session(sessions: &mut Vec<Session>, session: Session) -> Result<(), AllocError>
+    requires kept { AreKept sessions.old.items }
+    requires covered { IsCovered session }
+    ensures ok { OnOk result (sessions.new.items ≡ spec.with_session sessions.old.items session) }
+    ensures kept { OnOk result (AreKept sessions.new.items) }
+{
+    match place_in(sessions.as_slice(), &session.name) {
+        Ok(place) => sessions[place] = session,
+        Err(place) => sessions.insert(place, session)?,
+    }
+    Ok(())
+}
+
+/// The place of the session of a name, or where such a session goes.
+fn place_in(sessions: &[Session], name: &SubId) -> Result<usize, usize>
+    ensures { result ≡ placing.place_in sessions.now name.now }
+{
+    for (index, session) in sessions.iter().enumerate() {
+        match name.cmp(&session.name) {
+            Ordering::Less => return Err(index),
+            Ordering::Equal => return Ok(index),
+            Ordering::Greater => {}
+        }
+    }
+    Err(sessions.len())
+}

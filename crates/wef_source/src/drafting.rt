@@ -1,0 +1,204 @@
+//! Drafts of batches: candidates are offered one after the other, and taken while they fit.
+
+ghost use Rattle.std.specs.Prelude.{◌≡◌, ◌∷◌, [], is_some, IfErr, OnOk};
+ghost use Rattle.std.specs.List.{filter_map};
+ghost use Rattle.wef_source.specs.Answers.{WantsMemory};
+ghost use Rattle.wef_source.specs.Building as building;
+ghost use Rattle.wef_source.specs.Drafting as spec;
+ghost use Rattle.wef_source_log.specs.Windows as windows;
+ghost use Rattle.wef_source_log.specs.Windows.{records_after};
+
+use crate::faults::SourceFault;
+use crate::sessions::Session;
+use std::alloc::{AllocError, Global};
+use wef_base::{ChannelName, List};
+use wef_batch::{Item, cost};
+use wef_event::Event;
+use wef_query::{QueryList, selected};
+use wef_source_log::Log;
+
+/// The most records that are read at once.
+const PAGE: u32 = 256;
+
+/// A batch's items so far.
+#[derive(Drop)]
+pub struct Draft {
+    pub items: List<Item>,
+    /// How many items more may be taken.
+    pub items_left: u32,
+    /// How many bytes more they may have.
+    pub bytes_left: u64,
+    /// The first item that didn't fit.
+    pub left: Option<Item>,
+}
+
+impl Draft {
+    /// A draft with room for so many items and so many bytes of them. It takes no memory.
+    pub fn new(alloc: Global, items: u32, bytes: u64) -> Draft
+        ensures { result ≡ spec.empty_draft items bytes }
+    {
+        Draft {
+            items: List::new(alloc),
+            items_left: items,
+            bytes_left: bytes,
+            left: None,
+        }
+    }
+
+    /// Whether an item didn't fit: nothing is taken any more.
+    pub fn is_full(&self) -> bool
+        ensures { result ≡ is_some self.now.left }
+    {
+        self.left.is_some()
+    }
+
+    /// Takes an item, where it fits and all before it did.
+    pub fn take(&mut self, item: Item) -> Result<(), AllocError>
+        ensures { OnOk result (self.new ≡ spec.taken self.old item) }
+    {
+        if self.left.is_some() {
+            return Ok(());
+        }
+        let bytes = cost(&item);
+        if self.items_left == 0 || bytes > self.bytes_left {
+            self.left = Some(item);
+            return Ok(());
+        }
+        self.items.push(item)?;
+        self.items_left -= 1;
+        self.bytes_left -= bytes;
+        Ok(())
+    }
+
+    /// Takes what is to be said of a channel above a position, while it fits. The log is read page by
+    /// page, and no further than what is taken goes.
+    pub fn take_channel(
+        &mut self,
+        log: &Log,
+        session: &Session,
+        channel: &ChannelName,
+    ) -> Result<(), SourceFault>
+        ensures ok { OnOk result (self.new ≡ spec.taken_all self.old (building.channel_candidates log.now session.now channel.now)) }
+        ensures refusal { IfErr result WantsMemory }
+    {
+        let position = session.positions.at(channel);
+        self.take_unread(log, channel, position)?;
+        self.take_records(log, &session.query, room_of(session), channel, position)
+    }
+
+    /// Takes the records that left the window unread, as one range.
+    fn take_unread(
+        &mut self,
+        log: &Log,
+        channel: &ChannelName,
+        position: u64,
+    ) -> Result<(), SourceFault>
+        ensures ok { OnOk result (self.new ≡ spec.taken_all self.old (building.unread log.now channel.now position)) }
+        ensures refusal { IfErr result WantsMemory }
+    {
+        let first = log.first(channel)?;
+        if first.saturating_sub(position) <= 1 {
+            return Ok(());
+        }
+        self.take(Item::Dropped {
+            channel: channel.clone()?,
+            first: position + 1,
+            last: first - 1,
+        })?;
+        Ok(())
+    }
+
+    /// Takes what a channel's records above a position give, page by page.
+    fn take_records(
+        &mut self,
+        log: &Log,
+        query: &QueryList,
+        room: u64,
+        channel: &ChannelName,
+        position: u64,
+    ) -> Result<(), SourceFault>
+        ensures ok { OnOk result (self.new
+            ≡ spec.taken_all self.old (filter_map (building.item_of query.now room) (records_after log.now channel.now position))) }
+        ensures refusal { IfErr result WantsMemory }
+    {
+        let mut after = position;
+        while !self.is_full() {
+            let page = log.page(channel, after, PAGE)?;
+            if page.is_empty() {
+                return Ok(());
+            }
+            after = last_number(after, page.as_slice());
+            self.take_events(query, room, page)?;
+        }
+        Ok(())
+    }
+
+    /// Takes what a record gives.
+    fn take_event(&mut self, query: &QueryList, room: u64, event: Event) -> Result<(), AllocError>
+        ensures { OnOk result (self.new ≡ spec.taken_all self.old (filter_map (building.item_of query.now room) (event ∷ []))) }
+    {
+        if !selected(query, &event.channel) {
+            return Ok(());
+        }
+        self.take(sized_item(room, event))
+    }
+
+    /// Takes what records give, while it fits.
+    fn take_events(
+        &mut self,
+        query: &QueryList,
+        room: u64,
+        events: List<Event>,
+    ) -> Result<(), AllocError>
+        ensures { OnOk result (self.new ≡ spec.taken_all self.old (filter_map (building.item_of query.now room) events)) }
+    {
+        for event in events.into_vec() {
+            self.take_event(query, room, event)?;
+        }
+        Ok(())
+    }
+}
+
+/// The bytes that a session's batch has for items: 4,096 of its bytes are for what stands round them.
+pub fn room_of(session: &Session) -> u64
+    ensures { result ≡ building.room_of session.now.max_bytes }
+{
+    u64::from(session.max_bytes).saturating_sub(4096)
+}
+
+/// The number of the last of some events, and the one before where there is none.
+fn last_number(before: u64, events: &[Event]) -> u64
+    ensures { result ≡ windows.last_number before events.now }
+{
+    let mut last = before;
+    for event in events {
+        last = event.number;
+    }
+    last
+}
+
+/// A record as an item: dropped where its event costs more than the room.
+fn sized_item(room: u64, event: Event) -> Item
+    ensures { result ≡ building.sized_item room event }
+{
+    let item = Item::Event(event);
+    if cost(&item) > room {
+        dropped(item)
+    } else {
+        item
+    }
+}
+
+/// What says that an event's record is gone.
+fn dropped(item: Item) -> Item
+    ensures { result ≡ spec.dropped item }
+{
+    match item {
+        Item::Event(event) => Item::Dropped {
+            channel: event.channel,
+            first: event.number,
+            last: event.number,
+        },
+        other => other,
+    }
+}

@@ -1,0 +1,149 @@
+//! What becomes of sessions.
+
+ghost use Rattle.std.specs.Prelude.{◌≡◌, false, is_some, if◌then◌else◌};
+ghost use Rattle.std.specs.List.{position};
+ghost use Rattle.wef_bookmark.specs.Order.{joined};
+ghost use Rattle.wef_source.specs.Serving.{AreKept, HasAll, IsCovered};
+ghost use Rattle.wef_source.specs.Machine.{is_unreachable};
+ghost use Rattle.wef_source.specs.Sessions as spec;
+
+use crate::sessions::{Outstanding, Session};
+use wef_base::SubId;
+use wef_bookmark::Bookmark;
+use wef_envelope::FaultName;
+
+/// The place of the session of a name.
+pub fn place_of_name(sessions: &[Session], sub: &SubId) -> Option<usize>
+    ensures { result ≡ position (spec.is_named sub.now) sessions.now }
+{
+    sessions.iter().position(|session| session.name == *sub)
+}
+
+/// The place of the session that waits for the answer to an id.
+pub fn place_of_id(sessions: &[Session], id: u128) -> Option<usize>
+    ensures { result ≡ position (spec.waits_for id) sessions.now }
+{
+    sessions.iter().position(|session| waits_for(session, id))
+}
+
+fn waits_for(session: &Session, id: u128) -> bool
+    ensures { result ≡ spec.waits_for id session.now }
+{
+    match &session.outstanding {
+        Some(outstanding) => outstanding.id == id,
+        None => false,
+    }
+}
+
+/// Has the first session of a name wait for nothing, and answers whether there is one.
+pub fn settle_named(sessions: &mut Vec<Session>, sub: &SubId) -> bool
+    requires { AreKept sessions.old.items }
+    ensures found { result ≡ is_some (spec.session_of sessions.old.items sub.now) }
+    ensures changed { sessions.new.items ≡ spec.with_changed (spec.is_named sub.now) spec.settled sessions.old.items }
+    ensures absent { result ≡ false → sessions.new.items ≡ sessions.old.items }
+    ensures kept { AreKept sessions.new.items }
+{
+    let Some(place) = place_of_name(sessions.as_slice(), sub) else {
+        return false;
+    };
+    settle(&mut sessions[place]);
+    true
+}
+
+/// Has the first session that waits for the answer to an id wait for nothing, and answers whether
+/// there is one.
+fn settle_waiting(sessions: &mut Vec<Session>, id: u128) -> bool
+    requires { AreKept sessions.old.items }
+    ensures found { result ≡ is_some (spec.waiting sessions.old.items id) }
+    ensures changed { sessions.new.items ≡ spec.with_changed (spec.waits_for id) spec.settled sessions.old.items }
+    ensures absent { result ≡ false → sessions.new.items ≡ sessions.old.items }
+    ensures kept { AreKept sessions.new.items }
+{
+    let Some(place) = place_of_id(sessions.as_slice(), id) else {
+        return false;
+    };
+    settle(&mut sessions[place]);
+    true
+}
+
+/// Moves the first session that waits for the answer to an id behind its delivery, and answers
+/// whether there is one.
+pub fn move_waiting(sessions: &mut Vec<Session>, id: u128) -> bool
+    requires { AreKept sessions.old.items }
+    ensures found { result ≡ is_some (spec.waiting sessions.old.items id) }
+    ensures changed { sessions.new.items ≡ spec.with_changed (spec.waits_for id) spec.acknowledged sessions.old.items }
+    ensures absent { result ≡ false → sessions.new.items ≡ sessions.old.items }
+    ensures kept { AreKept sessions.new.items }
+{
+    let Some(place) = place_of_id(sessions.as_slice(), id) else {
+        return false;
+    };
+    acknowledge(&mut sessions[place]);
+    true
+}
+
+/// Has the first session that waits for the answer to an id wait for nothing after a fault, or ends it
+/// where the collector doesn't know it any more, and answers whether there is one.
+pub fn refuse_waiting(sessions: &mut Vec<Session>, id: u128, fault: &FaultName) -> bool
+    requires { AreKept sessions.old.items }
+    ensures found { result ≡ is_some (spec.waiting sessions.old.items id) }
+    ensures changed { sessions.new.items ≡ (if is_unreachable fault.now
+        then spec.without (spec.waits_for id) sessions.old.items
+        else spec.with_changed (spec.waits_for id) spec.settled sessions.old.items) }
+    ensures absent { result ≡ false → sessions.new.items ≡ sessions.old.items }
+    ensures kept { AreKept sessions.new.items }
+{
+    if matches!(fault, FaultName::DestinationUnreachable) {
+        return end_waiting(sessions, id);
+    }
+    settle_waiting(sessions, id)
+}
+
+/// Ends the first session that waits for the answer to an id, and answers whether there is one.
+fn end_waiting(sessions: &mut Vec<Session>, id: u128) -> bool
+    requires { AreKept sessions.old.items }
+    ensures found { result ≡ is_some (spec.waiting sessions.old.items id) }
+    ensures changed { sessions.new.items ≡ spec.without (spec.waits_for id) sessions.old.items }
+    ensures absent { result ≡ false → sessions.new.items ≡ sessions.old.items }
+    ensures kept { AreKept sessions.new.items }
+{
+    let Some(place) = place_of_id(sessions.as_slice(), id) else {
+        return false;
+    };
+    let _ended = sessions.remove(place);
+    true
+}
+
+/// Has a session wait for the answer to a delivery that is sent at a moment.
+pub fn send(session: &mut Session, outstanding: Outstanding, now: u64)
+    ensures { session.new ≡ spec.sending outstanding now session.old }
+{
+    session.outstanding = Some(outstanding);
+    session.last_sent = now;
+}
+
+fn settle(session: &mut Session)
+    ensures { session.new ≡ spec.settled session.old }
+{
+    session.outstanding = None;
+}
+
+/// Moves a session behind its delivery. It takes no memory.
+fn acknowledge(session: &mut Session)
+    requires { IsCovered session.old }
+    ensures { session.new ≡ spec.acknowledged session.old }
+{
+    if let Some(outstanding) = session.outstanding.take() {
+        join_present(&mut session.positions, &outstanding.to);
+    }
+}
+
+/// Raises channels that are there to their numbers in another bookmark. It takes no memory.
+fn join_present(positions: &mut Bookmark, to: &Bookmark)
+    requires { HasAll positions.old to.now }
+    ensures { positions.new ≡ joined positions.old to.now }
+{
+    for (channel, number) in to.numbers() {
+        positions.raise(channel, *number).unwrap();
+    }
+}
