@@ -1,18 +1,16 @@
 -- Runs of batches.
 use Rattle.std.proofs.Common.{◌≡◌, ℕ, ◌≤◌, Bool, true, false, ◌&&◌, cond, List, [], ◌∷◌, refl, ap, sym, ◌∙◌, subst, arith}
-use Rattle.std.specs.Prelude.{Option, None, Some, max, unwrap_or}
-use Rattle.std.specs.FinMap as map
+use Rattle.std.specs.Prelude.{Option, None, Some, unwrap_or}
 use Rattle.std.specs.Option.{option_map}
 use Rattle.wef_base.specs.Names.{same}
 use Rattle.wef_batch.specs.declared.items.Batch.{Batch}
 use Rattle.wef_batch.specs.Reach.{reach}
 use Rattle.wef_batch.specs.WellFormed.{is_in}
 use Rattle.wef_keeper.specs.declared.keys.Cell.{Cell}
-use Rattle.wef_keeper.specs.declared.keys.Key.{Key}
 use Rattle.wef_keeper.specs.Rows.{Rows}
 use Rattle.wef_collector.specs.Bookmarks.{bookmark_at}
-use Rattle.wef_collector.specs.Keys.{bookmark_key, held_key}
-use Rattle.wef_collector.specs.Laws.{EventsAreHeld, BookmarkMoves, BookmarkNeverFalls, OthersStay, held_after_all, held_after_items, is_of_pair, moved, moved_by_all, taken_all}
+use Rattle.wef_collector.specs.Keys.{bookmark_key}
+use Rattle.wef_collector.specs.Laws.{EventsAreHeld, BookmarkMoves, BookmarkNeverFalls, OthersStay, held_after_all, is_of_pair, moved, moved_by_all}
 use Rattle.wef_collector.specs.Taken.{taken}
 use Rattle.wef_collector.proofs.Hits.{one_name}
 use Rattle.wef_collector.proofs.Moving.{bookmark_by_taking, others_by_taking}

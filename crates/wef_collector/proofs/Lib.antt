@@ -1,8 +1,10 @@
 pub mod Batches
 pub mod HeldPages
 pub mod Hits
+pub mod ListedThere
 pub mod Live
 pub mod Moving
+pub mod OwnKeys
 pub mod Pages
 pub mod Sources
 pub mod Taking

@@ -1,5 +1,5 @@
 -- What taking a batch leaves at the keys of bookmarks, and at those of other subscriptions and sources.
-use Rattle.std.proofs.Common.{◌≡◌, ◌≢◌, ℕ, ◌+◌, ◌<◌, ◌≤◌, ◌==◌, Bool, true, false, not, ◌||◌, ◌&&◌, cond, List, [], ◌∷◌, ◌++◌, refl, ap, sym, ◌∙◌, subst, arith, nat_lt, if◌then◌else◌}
+use Rattle.std.proofs.Common.{◌≡◌, ℕ, ◌+◌, Bool, true, false, ◌&&◌, cond, List, [], ◌∷◌, ◌++◌, refl, ap, ◌∙◌, subst, arith, nat_lt}
 use Rattle.std.proofs.lemmas.Bool.Decides.{nat_tests}
 use Rattle.std.specs.Prelude.{Option, None, Some, max, unwrap_or}
 use Rattle.std.specs.FinMap as map
@@ -12,12 +12,11 @@ use Rattle.wef_batch.specs.declared.items.Item.TheVariants.{Event, Dropped, Loos
 use Rattle.wef_batch.specs.Reach.{reach, loose_sum}
 use Rattle.wef_batch.specs.WellFormed.{is_in}
 use Rattle.wef_keeper.specs.declared.keys.Cell.{Cell}
-use Rattle.wef_keeper.specs.declared.keys.Change.{Change}
 use Rattle.wef_keeper.specs.declared.keys.Key.{Key}
 use Rattle.wef_keeper.specs.Laws.{get-applied, get-unnamed}
 use Rattle.wef_keeper.specs.Rows.{Rows, found_after, is_named}
 use Rattle.wef_collector.specs.Bookmarks.{bookmark_at}
-use Rattle.wef_collector.specs.Keys.{bookmark_key, held_key, mark_key, loose_key, heard_key}
+use Rattle.wef_collector.specs.Keys.{key, bookmark_key, held_key, mark_key, heard_key}
 use Rattle.wef_collector.specs.Laws.{moved, is_of_pair}
 use Rattle.wef_collector.specs.Taken.{batch_changes, channel_changes, heard_changes, is_later, item_changes, loose_changes, move_changes, put, reach_changes, taken}
 use Rattle.wef_collector.proofs.Hits.{found-append, found_channels, found_flat_other, found_if_other, hits, hits_self, named-append, named_flat, named_if, not_both, one_key, one_name, refuted, same_self}
@@ -141,32 +140,42 @@ other_pair k q other = refuted _ (λ hit.
     let own : is_of_pair k.sub k.source k ≡ true = λ i. same_self k.sub i && same_self k.source i in
     not_both (subst (λ (e : Key). is_of_pair k.sub k.source e ≡ true) at own) other)
 
-item_names : (u s d : List ℕ) (b : ℕ) (q : Key) → is_of_pair u s q ≡ false → (item : Item) → is_named (item_changes u s d b item) q ≡ false
-item_names u s d b q other (Event e) = named_if (same e.channel d && nat_lt b e.number) (put (held_key u s d e.number) 0 e.text) q (other_pair (held_key u s d e.number) q other)
-item_names u s d b q other (Dropped channel first last) =
-    named_if (same channel d && nat_lt b last) (put (mark_key u s d (max first (b + 1))) last []) q (other_pair (mark_key u s d (max first (b + 1))) q other)
-item_names u s d b q other (Loose count) = refl
+-- a key that none of the collector's other keys of a subscription and source is
+abbrev pub IsApart : List ℕ → List ℕ → Key → Type 0
+IsApart u s q = (kind : ℕ) (c : List ℕ) (n : ℕ) → nat_lt 1 kind ≡ true → hits (key kind u s c n) q ≡ false
 
-move_names : (u s d : List ℕ) (b t sum : ℕ) (q : Key) → is_of_pair u s q ≡ false → is_named (move_changes u s d b t sum) q ≡ false
-move_names u s d b t sum q other = by_test (nat_lt b t)
+item_names : (u s d : List ℕ) (b : ℕ) (q : Key) → IsApart u s q → (item : Item) → is_named (item_changes u s d b item) q ≡ false
+item_names u s d b q apart (Event e) = named_if (same e.channel d && nat_lt b e.number) (put (held_key u s d e.number) 0 e.text) q (apart 3 d e.number refl)
+item_names u s d b q apart (Dropped channel first last) =
+    named_if (same channel d && nat_lt b last) (put (mark_key u s d (max first (b + 1))) last []) q (apart 4 d (max first (b + 1)) refl)
+item_names u s d b q apart (Loose count) = refl
+
+move_names : (u s d : List ℕ) (b t sum : ℕ) (q : Key) → IsApart u s q → is_named (move_changes u s d b t sum) q ≡ false
+move_names u s d b t sum q apart = by_test (nat_lt b t)
   where
     by_test : (moves : Bool) → is_named (cond moves (loose_changes u s d b t sum ++ put (bookmark_key u s d) t [] ∷ []) []) q ≡ false
     by_test true = named-append (loose_changes u s d b t sum) (put (bookmark_key u s d) t [] ∷ []) q
-        (named_if (nat_lt 0 sum) _ q (other_pair (loose_key u s d (b + 1)) q other)) (named_if true (put (bookmark_key u s d) t []) q (other_pair (bookmark_key u s d) q other))
+        (named_if (nat_lt 0 sum) _ q (apart 5 d (b + 1) refl)) (named_if true (put (bookmark_key u s d) t []) q (apart 2 d 0 refl))
     by_test false = refl
 
-reach_names : (u s d : List ℕ) (b : ℕ) (batch : Batch) (reached : Option ℕ) (q : Key) → is_of_pair u s q ≡ false → is_named (reach_changes u s d b batch reached) q ≡ false
-reach_names u s d b batch None q other = refl
-reach_names u s d b batch (Some t) q other =
+reach_names : (u s d : List ℕ) (b : ℕ) (batch : Batch) (reached : Option ℕ) (q : Key) → IsApart u s q → is_named (reach_changes u s d b batch reached) q ≡ false
+reach_names u s d b batch None q apart = refl
+reach_names u s d b batch (Some t) q apart =
     named-append (flat_map (item_changes u s d b) batch.items) (move_changes u s d b t (loose_sum batch.items)) q
-    (named_flat (item_changes u s d b) batch.items q (item_names u s d b q other)) (move_names u s d b t (loose_sum batch.items) q other)
+    (named_flat (item_changes u s d b) batch.items q (item_names u s d b q apart)) (move_names u s d b t (loose_sum batch.items) q apart)
 
--- a batch leaves the rows of other subscriptions and sources
-pub others_by_taking : (rows : Rows) (u s : List ℕ) (channels : List (List ℕ)) (batch : Batch) (now : ℕ) (q : Key) → is_of_pair u s q ≡ false →
+-- a batch leaves what stands at a key apart
+pub apart_by_taking : (rows : Rows) (u s : List ℕ) (channels : List (List ℕ)) (batch : Batch) (now : ℕ) (q : Key) → IsApart u s q →
     map.get (taken rows u s channels batch now) q ≡ map.get rows q
 unfolding taken
-others_by_taking rows u s channels batch now q other =
+apart_by_taking rows u s channels batch now q apart =
     get-unnamed (batch_changes rows u s channels batch now) rows q
     (named-append (flat_map (channel_changes rows u s batch) channels) (heard_changes rows u s now) q
-    (named_flat (channel_changes rows u s batch) channels q (λ d. reach_names u s d (bookmark_at rows u s d) batch (reach d batch) q other))
-    (named_if (is_later now (map.get rows (heard_key u s))) (put (heard_key u s) now []) q (other_pair (heard_key u s) q other)))
+    (named_flat (channel_changes rows u s batch) channels q (λ d. reach_names u s d (bookmark_at rows u s d) batch (reach d batch) q apart))
+    (named_if (is_later now (map.get rows (heard_key u s))) (put (heard_key u s) now []) q (apart 6 [] 0 refl)))
+
+-- so it leaves the rows of other subscriptions and sources
+pub others_by_taking : (rows : Rows) (u s : List ℕ) (channels : List (List ℕ)) (batch : Batch) (now : ℕ) (q : Key) → is_of_pair u s q ≡ false →
+    map.get (taken rows u s channels batch now) q ≡ map.get rows q
+others_by_taking rows u s channels batch now q other =
+    apart_by_taking rows u s channels batch now q (λ kind c n above. other_pair (key kind u s c n) q other)

@@ -1,10 +1,9 @@
 -- What taking a batch leaves at the keys of held events and of bookmarks.
-use Rattle.std.proofs.Common.{◌≡◌, ◌≢◌, ℕ, ◌+◌, ◌≤◌, ◌==◌, Bool, true, false, not, ◌||◌, ◌&&◌, cond, List, [], ◌∷◌, ◌++◌, refl, ap, sym, ◌∙◌, subst, arith, nat_lt, inl, inr, if◌then◌else◌}
+use Rattle.std.proofs.Common.{◌≡◌, ℕ, ◌+◌, ◌==◌, Bool, true, false, ◌&&◌, cond, List, [], ◌∷◌, ◌++◌, refl, ap, sym, ◌∙◌, subst, arith, nat_lt, inl, inr}
 use Rattle.std.proofs.lemmas.Bool.Decides.{nat_tests}
-use Rattle.std.specs.Prelude.{Option, None, Some, max, unwrap_or, ◌⊎◌}
+use Rattle.std.specs.Prelude.{Option, None, Some, max, ◌⊎◌}
 use Rattle.std.specs.FinMap as map
 use Rattle.std.specs.List.{flat_map}
-use Rattle.std.specs.Option.{option_map}
 use Rattle.wef_base.specs.Names.{same}
 use Rattle.wef_batch.specs.declared.items.Batch.{Batch}
 use Rattle.wef_batch.specs.declared.items.Item.{Item}
@@ -12,15 +11,14 @@ use Rattle.wef_batch.specs.declared.items.Item.TheVariants.{Event, Dropped, Loos
 use Rattle.wef_batch.specs.Reach.{reach, reach_of, last_in, last_after, later, span_in, loose_sum}
 use Rattle.wef_batch.specs.WellFormed.{is_in}
 use Rattle.wef_keeper.specs.declared.keys.Cell.{Cell}
-use Rattle.wef_keeper.specs.declared.keys.Change.{Change}
 use Rattle.wef_keeper.specs.declared.keys.Key.{Key}
-use Rattle.wef_keeper.specs.Laws.{get-applied, get-unnamed}
-use Rattle.wef_keeper.specs.Rows.{Rows, found_after, is_named, cell_of, key_of}
+use Rattle.wef_keeper.specs.Laws.{get-applied}
+use Rattle.wef_keeper.specs.Rows.{Rows, found_after}
 use Rattle.wef_collector.specs.Bookmarks.{bookmark_at}
-use Rattle.wef_collector.specs.Keys.{bookmark_key, held_key, mark_key, loose_key, heard_key}
-use Rattle.wef_collector.specs.Laws.{is_new, held_as, held_after_items, moved, is_of_pair}
+use Rattle.wef_collector.specs.Keys.{bookmark_key, held_key, mark_key, heard_key}
+use Rattle.wef_collector.specs.Laws.{is_new, held_as, held_after_items}
 use Rattle.wef_collector.specs.Taken.{batch_changes, channel_changes, heard_changes, is_later, item_changes, loose_changes, move_changes, put, reach_changes, taken}
-use Rattle.wef_collector.proofs.Hits.{found-append, found_channels, found_flat_other, found_if, found_if_other, hits, hits_self, named-append, named_flat, named_if, not_both, one_key, one_name, refuted, same_self}
+use Rattle.wef_collector.proofs.Hits.{found-append, found_channels, found_flat_other, found_if, found_if_other, hits, hits_self, not_both, one_key, one_name, refuted, same_self}
 
 -- ---- held events
 

@@ -1,5 +1,5 @@
 -- What taking batches does, in the words of events and bookmarks.
-use Rattle.std.specs.Prelude.{◌≡◌, ◌≢◌, ℕ, ◌≤◌, ◌==◌, nat_lt, max, Bool, true, false, ◌&&◌, List, [], ◌∷◌, Option, Some, None, if◌then◌else◌, IsTrue}
+use Rattle.std.specs.Prelude.{◌≡◌, ℕ, ◌≤◌, ◌==◌, nat_lt, max, Bool, false, ◌&&◌, List, [], ◌∷◌, Option, Some, None, if◌then◌else◌, IsTrue}
 use Rattle.std.specs.FinMap as map
 use Rattle.wef_base.specs.Names.{same}
 use Rattle.wef_batch.specs.declared.items.Batch.{Batch}

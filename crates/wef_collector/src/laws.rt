@@ -1,6 +1,7 @@
-//! Laws of taking batches, as contracts.
+//! Laws of taking batches and of listing, as contracts.
 
 ghost use Rattle.wef_collector.specs.Laws.{BookmarkMoves, BookmarkNeverFalls, EventsAreHeld, OthersStay};
+ghost use Rattle.wef_collector.specs.There.{ListedAreThere, OwnKeysStay};
 
 /// What any run of batches of a subscription and source leaves: by number, the events that stood above the bookmark when their batch came; a bookmark at the greatest reach, and none
 /// that fell; and the rows of all other subscriptions and sources as they were.
@@ -9,4 +10,12 @@ pub fn batches_in_order()
     ensures bookmark { BookmarkMoves }
     ensures never_falls { BookmarkNeverFalls }
     ensures others { OthersStay }
+{}
+
+/// Each subscription that is listed is the one that its name leads to, live or ended as listed,
+/// where each row of a subscription stands at the key of a name that reads back as itself. And so
+/// they stand, whatever the collector does.
+pub fn listed_are_there()
+    ensures there { ListedAreThere }
+    ensures own_keys { OwnKeysStay }
 {}

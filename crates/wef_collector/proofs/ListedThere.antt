@@ -1,0 +1,146 @@
+-- Subscriptions that are listed are those that their names lead to.
+use Rattle.std.proofs.Common.{◌≡◌, ℕ, Bool, true, false, cond, T, ◌&&◌, nat_eq, List, [], ◌∷◌, refl, ap, sym, ◌∙◌}
+use Rattle.std.proofs.lemmas.Bool.{eqb-true}
+use Rattle.std.proofs.lemmas.List.Elements.{All-nil, All-cons, All-head, All-tail, All-filter, All-map, All-weaker, filter_passes}
+use Rattle.std.specs.FinMap as finite
+use Rattle.std.specs.FinMap.Entries.{below_all, find, is_sorted}
+use Rattle.std.specs.List.{All, cons_option, filter, filter_map}
+use Rattle.std.specs.Option.{option_and_then, option_map}
+use Rattle.std.specs.Ordering.{is_lt, is_eq, eq_by_cmp, ordering_reverse}
+use Rattle.std.specs.Prelude.{Option, Some, None, is_some, codes}
+use Rattle.std.specs.declared.cmp.Ordering.{Ordering}
+use Rattle.std.specs.declared.cmp.Ordering.TheVariants.{Less, Equal, Greater}
+use Rattle.wef_base.specs.Names.{same}
+use Rattle.wef_base.specs.Words.{parts}
+use Rattle.wef_eventing.specs.Kept.{channels_from, from_words, made_of, number_between, read_kept}
+use Rattle.wef_eventing.specs.Subscriptions.{all_events}
+use Rattle.wef_eventing.specs.declared.subscriptions.Subscription.{Subscription}
+use Rattle.wef_keeper.specs.Rows.{Rows, cell_of_row, is_after, key_cmp, key_cmp_total, row_of, rows_after}
+use Rattle.wef_keeper.specs.Sections.{is_under}
+use Rattle.wef_keeper.specs.declared.keys.Cell.{Cell}
+use Rattle.wef_keeper.specs.declared.keys.Depth.TheVariants.{Kind}
+use Rattle.wef_keeper.specs.declared.keys.Key.{Key}
+use Rattle.wef_keeper.specs.declared.keys.Row.{Row}
+use Rattle.wef_collector.specs.Keys.{subscription_key}
+use Rattle.wef_collector.specs.Listing.{listed_by, listed_of}
+use Rattle.wef_collector.specs.Standing.{standing, standing_by, standing_of, subscription_rows}
+use Rattle.wef_collector.specs.There.{HaveOwnKeys, ListedAreThere, standing_as}
+use Rattle.wef_collector.specs.declared.listing.Listed.{Listed}
+use Rattle.wef_collector.proofs.Hits.{hits_self}
+
+-- ---- each entry is found at its key
+
+first : (a b : Bool) → T (a && b) → T a
+first true b p = tt
+first false b p = p
+
+second : (a b : Bool) → T (a && b) → T b
+second true b p = p
+second false b p = absurd p
+
+reversed_less : (r : Ordering) → T (is_lt r) → is_eq (ordering_reverse r) ≡ false
+reversed_less Less h = refl
+reversed_less Equal h = absurd h
+reversed_less Greater h = refl
+
+-- a key is none that is less
+other : (k e : Key) → T (is_lt (key_cmp k e)) → eq_by_cmp key_cmp e k ≡ false
+other k e h = ap is_eq (key_cmp_total.antisymm e k) ∙ reversed_less (key_cmp k e) h
+
+Found : List (Key × Cell) → Key × Cell → Type 0
+Found whole entry = find key_cmp entry.0 whole ≡ Some entry.1
+
+found_behind : (k : Key) (c : Cell) (whole es : List (Key × Cell)) → T (below_all key_cmp k es) → All (Found whole) es → All (Found ((k, c) ∷ whole)) es
+unfolding Found
+found_behind k c whole [] above found = All-nil (Found ((k, c) ∷ whole))
+found_behind k c whole (e ∷ es) above found =
+    let less = first (is_lt (key_cmp k e.0)) (below_all key_cmp k es) above in
+    let rest = second (is_lt (key_cmp k e.0)) (below_all key_cmp k es) above in
+    All-cons (Found ((k, c) ∷ whole)) e es
+    (ap (λ (b : Bool). cond b (Some c) (find key_cmp e.0 whole)) (other k e.0 less) ∙ All-head (Found whole) e es found)
+    (found_behind k c whole es rest (All-tail (Found whole) e es found))
+
+entries_found : (es : List (Key × Cell)) → T (is_sorted key_cmp es) → All (Found es) es
+unfolding Found
+entries_found [] h = All-nil (Found [])
+entries_found (e ∷ es) h =
+    let above = first (below_all key_cmp e.0 es) (is_sorted key_cmp es) h in
+    let rest = second (below_all key_cmp e.0 es) (is_sorted key_cmp es) h in
+    All-cons (Found (e ∷ es)) e es (ap (λ (b : Bool). cond b (Some e.1) (find key_cmp e.0 es)) (hits_self e.0)) (found_behind e.0 e.1 es es above (entries_found es rest))
+
+-- ---- a kept subscription has the name that it was read by
+
+made_name : (u : List ℕ) (items bytes beat : Option ℕ) (channels : Option (List (List ℕ))) (s : Subscription) → made_of u items bytes beat channels ≡ Some s → s.name ≡ u
+made_name u (Some items) (Some bytes) (Some beat) (Some channels) s e =
+    let made : all_events u channels items bytes beat ≡ s = cc in
+    sym (ap (λ (x : Subscription). x.name) made)
+made_name u None bytes beat channels s e = cc
+made_name u (Some items) None beat channels s e = cc
+made_name u (Some items) (Some bytes) None channels s e = cc
+made_name u (Some items) (Some bytes) (Some beat) None s e = cc
+
+words_name : (u : List ℕ) (words : List (List ℕ)) (s : Subscription) → from_words u words ≡ Some s → s.name ≡ u
+words_name u (items ∷ bytes ∷ beat ∷ kind ∷ channel ∷ channels) s e = by (same kind (codes "all")) e
+  where
+    by : (b : Bool) → cond b (made_of u (number_between 1 10000 items) (number_between 8192 4194304 bytes) (number_between 1 86400000 beat) (channels_from (channel ∷ channels))) None ≡ Some s → s.name ≡ u
+    by true e = made_name u _ _ _ _ s e
+    by false e = cc
+words_name u [] s e = cc
+words_name u (a ∷ []) s e = cc
+words_name u (a ∷ b ∷ []) s e = cc
+words_name u (a ∷ b ∷ c ∷ []) s e = cc
+words_name u (a ∷ b ∷ c ∷ d ∷ []) s e = cc
+
+kept_name : (u body : List ℕ) (s : Subscription) → read_kept u body ≡ Some s → s.name ≡ u
+unfolding read_kept
+kept_name u body s e = words_name u (parts 32 body) s e
+
+-- ---- a row and what is listed of it
+
+Stands : Rows → Row → Type 0
+Stands rows row = finite.get rows row.key ≡ Some (cell_of_row row)
+
+as_listed : (value : ℕ) (u body : List ℕ) (kept : Option Subscription) (l : Listed) → read_kept u body ≡ kept → option_map (listed_by value) kept ≡ Some l
+    → (l.subscription.name ≡ u) × (standing_by value kept ≡ standing_as l)
+as_listed value u body None l e is = cc
+as_listed value u body (Some s) l e is =
+    let made : listed_by value s ≡ l = cc in
+    (sym (ap (λ (x : Listed). x.subscription.name) made) ∙ kept_name u body s e, ap standing_as made)
+
+one_is_there : (rows : Rows) (row : Row) (l : Listed) → HaveOwnKeys rows → Stands rows row → nat_eq 1 row.key.kind ≡ true → listed_of row ≡ Some l
+    → standing rows l.subscription.name ≡ standing_as l
+unfolding Stands
+one_is_there rows row l own stands kind is =
+    let u = row.key.sub in
+    let key = own row.key (sym (eqb-true 1 row.key.kind kind)) (ap is_some stands) in
+    let read : option_map (listed_by row.value) (read_kept u row.body) ≡ Some l =
+    sym (ap (option_and_then (λ (name : List ℕ). option_map (listed_by row.value) (read_kept name row.body))) key.reads_back) ∙ is in
+    let both = as_listed row.value u row.body (read_kept u row.body) l refl read in
+    ap (standing rows) both.0 ∙ ap (λ (k : Key). standing_of u (finite.get rows k)) (sym key.own) ∙ ap (standing_of u) stands ∙ both.1
+
+-- all of them
+all_are_there : (rows : Rows) (rs : List Row) → HaveOwnKeys rows → All (Stands rows) rs → All (λ (row : Row). nat_eq 1 row.key.kind ≡ true) rs
+    → All (λ (l : Listed). standing rows l.subscription.name ≡ standing_as l) (filter_map listed_of rs)
+all_are_there rows [] own stand kinds = All-nil (λ (l : Listed). standing rows l.subscription.name ≡ standing_as l)
+all_are_there rows (row ∷ rs) own stand kinds =
+    let P = λ (l : Listed). standing rows l.subscription.name ≡ standing_as l in
+    let K = λ (r : Row). nat_eq 1 r.key.kind ≡ true in
+    let rest = all_are_there rows rs own (All-tail (Stands rows) row rs stand) (All-tail K row rs kinds) in
+    elim (listed_of row) as (λ o. listed_of row ≡ o → All P (cons_option o (filter_map listed_of rs))) [
+      | None ↦ λ is. rest
+      | Some l ↦ λ is. All-cons P l (filter_map listed_of rs) (one_is_there rows row l own (All-head (Stands rows) row rs stand) (All-head K row rs kinds) is) rest
+    ] refl
+
+rows_stand : (rows : Rows) → All (Stands rows) (subscription_rows rows)
+unfolding Stands Found
+rows_stand rows =
+    let after = subscription_key [] in
+    let entries = finite.entries rows in
+    let found : All (λ (e : Key × Cell). Stands rows (row_of e)) entries =
+    All-weaker (Found entries) (λ (e : Key × Cell). Stands rows (row_of e)) (λ e is. finite.get-entries rows e.0 ∙ is) entries (entries_found entries (finite.entries_sorted rows)) in
+    All-filter (λ (row : Row). is_under Kind after row.key) (Stands rows) (rows_after after rows)
+    (All-map (Stands rows) row_of (filter (λ (e : Key × Cell). is_after after e.0) entries) (All-filter (λ (e : Key × Cell). is_after after e.0) (λ (e : Key × Cell). Stands rows (row_of e)) entries found))
+
+pub listed_are_there : ListedAreThere
+listed_are_there rows own =
+    all_are_there rows (subscription_rows rows) own (rows_stand rows) (filter_passes (λ (row : Row). is_under Kind (subscription_key []) row.key) (rows_after (subscription_key []) rows))
