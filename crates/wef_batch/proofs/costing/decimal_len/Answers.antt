@@ -1,5 +1,4 @@
-use Rattle.std.proofs.Common.{◌≡◌, ℕ, ◌+◌, ◌^◌, ◌<◌, ◌≤◌, length, arith}
-use Rattle.std.specs.Fmt.{decimal}
+use Rattle.std.proofs.Common.{arith}
 use Rattle.wef_batch.proofs.Costs.{few_digits, one_digit, one_digit_less}
 use Rattle.wef_batch.proofs.costing.decimal_len.Goals as goal
 

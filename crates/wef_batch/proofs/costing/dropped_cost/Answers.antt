@@ -1,4 +1,4 @@
-use Rattle.std.proofs.Common.{◌≡◌, ℕ, List, ◌+◌, ◌-◌, min, length, ap, ◌∙◌}
+use Rattle.std.proofs.Common.{◌≡◌, ℕ, List, ◌+◌, min, length, ap, ◌∙◌}
 use Rattle.std.specs.Fmt.{decimal}
 use Rattle.wef_batch.specs.Cost.{quoted}
 use Rattle.wef_batch.proofs.Costs.{capped_with_numbers, dropped_size}

@@ -1,8 +1,7 @@
-use Rattle.std.proofs.Common.{◌∙◌}
 use Rattle.std.proofs.lemmas.Iterator.{YieldsList-from_chars}
 use Rattle.std.proofs.lemmas.Iterator.Consumers.{YieldsList-end}
 use Rattle.wef_event.specs.Characters.{escape}
-use Rattle.wef_batch.proofs.Costs.{all_of_them, one_more}
+use Rattle.wef_batch.proofs.Costs.{all_of_them}
 use Rattle.wef_batch.proofs.costing.escaped_len.Goals as goal
 
 pub returns : goal.returns

@@ -1,6 +1,5 @@
 use Rattle.std.proofs.Common.{◌≡◌, ℕ, ◌+◌, ◌≤◌, min, length, ap, ◌∙◌, arith}
 use Rattle.std.specs.Fmt.{decimal}
-use Rattle.wef_batch.specs.Cost.{written_loose}
 use Rattle.wef_batch.proofs.Costs.{loose_size}
 use Rattle.wef_batch.proofs.costing.loose_cost.Goals as goal
 

@@ -1,8 +1,7 @@
-use Rattle.std.proofs.Common.{◌∙◌}
 use Rattle.std.proofs.lemmas.Iterator.{YieldsList-from_chars}
 use Rattle.std.proofs.lemmas.Iterator.Consumers.{YieldsList-end}
 use Rattle.wef_batch.specs.Cost.{quoted_character}
-use Rattle.wef_batch.proofs.Costs.{all_of_them, one_more}
+use Rattle.wef_batch.proofs.Costs.{all_of_them}
 use Rattle.wef_batch.proofs.costing.quoted_len.Goals as goal
 
 pub returns : goal.returns
