@@ -1,48 +1,48 @@
 -- What the collector offers has the terms of its subscriptions, and begins at most at what it keeps.
-use Rattle.std.proofs.Common.{◌≡◌, ℕ, ◌≤◌, ◌==◌, Bool, true, false, ◌&&◌, cond, List, [], ◌∷◌, nat_eq, refl, ap, sym, ◌∙◌, subst, arith}
+use Rattle.std.proofs.Common.{◌≡◌, ℕ, ◌≤◌, Bool, true, false, ◌&&◌, cond, List, [], ◌∷◌, nat_eq, refl, ap, sym, ◌∙◌, subst, arith}
+use Rattle.std.proofs.lemmas.List.Elements.{All-head, All-tail}
 use Rattle.std.proofs.lemmas.Option.{none-some, same_Some}
 use Rattle.std.proofs.lemmas.Bool.{and_parts, eqb-true}
 use Rattle.std.proofs.lemmas.Str.{IsUtf8-from_is_utf8}
-use Rattle.std.specs.Prelude.{Option, Some, None, T, codes, max, unwrap_or}
+use Rattle.std.specs.Prelude.{Option, Some, None, T, is_some, max, unwrap_or}
 use Rattle.std.specs.Cmp.{eq_by_cmp_equiv}
 use Rattle.std.specs.Cmp.Lexicographic.{bytes_decides, pointwise, slice_cmp}
 use Rattle.std.specs.FinMap as finite
 use Rattle.std.specs.FinMap.{find, is_sorted}
 use Rattle.std.specs.FinMap.Entries.{below_all}
-use Rattle.std.specs.List.{AllByRecursion, filter}
-use Rattle.std.specs.Option.{option_and_then, option_map}
+use Rattle.std.specs.List.{All, AllByRecursion, filter}
+use Rattle.std.specs.Option.{option_map}
 use Rattle.std.specs.Ordering.{eq_by_cmp, is_eq, is_lt, nat_cmp}
 use Rattle.std.specs.Prelude as prelude
 use Rattle.std.specs.Str.{IsUtf8, is_utf8}
 use Rattle.std.specs.declared.cmp.Ordering.{Ordering}
 use Rattle.std.specs.declared.cmp.Ordering.TheVariants.{Less, Equal, Greater}
 use Rattle.wef_base.specs.Names.{same, source_name, subscription_name}
-use Rattle.wef_base.specs.Words.{parts}
 use Rattle.wef_bookmark.proofs.Joining.{raised_number}
 use Rattle.wef_bookmark.specs.Order.{Marks, number_at, raised}
 use Rattle.wef_collector.proofs.Hits.{one_key, one_name}
 use Rattle.wef_collector.specs.Bookmarks.{bookmark_at, bookmark_of, bookmark_rows, has_channel, raised_by_rows}
-use Rattle.wef_collector.specs.Keys.{bookmark_key, subscription_key}
-use Rattle.wef_collector.specs.Listing.{listed, listed_by, listed_of}
+use Rattle.wef_collector.specs.Keys.{bookmark_key}
+use Rattle.wef_collector.specs.Listing.{listed}
 use Rattle.wef_collector.specs.Offers.{is_offered, offer_made, offer_of, offers}
-use Rattle.wef_collector.specs.Standing.{standing_by, standing_of, subscription_rows}
+use Rattle.wef_collector.proofs.ListedThere.{listed_are_there}
+use Rattle.wef_collector.specs.There.{HaveOwnKeys, IsOwnKey, standing_as}
+use Rattle.wef_collector.specs.Standing.{standing}
 use Rattle.wef_collector.specs.declared.listing.Listed.{Listed}
 use Rattle.wef_collector.specs.declared.standings.Standing.TheVariants.{Ended, Live}
 use Rattle.wef_eventing.proofs.AddressesBack.{addresses_read_back}
-use Rattle.wef_eventing.specs.Kept.{channels_from, from_words, made_of, number_between, read_kept}
 use Rattle.wef_eventing.specs.declared.bodies.Offer.{Offer}
-use Rattle.wef_eventing.specs.declared.subscriptions.Subscription.{Subscription}
 use Rattle.wef_keeper.specs.Rows.{Rows, cell_of_row, is_after, key_cmp, key_cmp_total, row_of, rows_after}
 use Rattle.wef_keeper.specs.Sections.{is_under, rows_under}
 use Rattle.wef_keeper.specs.declared.keys.Cell.{Cell}
 use Rattle.wef_keeper.specs.declared.keys.Depth.{Depth}
-use Rattle.wef_keeper.specs.declared.keys.Depth.TheVariants.{Kind, Source}
+use Rattle.wef_keeper.specs.declared.keys.Depth.TheVariants.{Source}
 use Rattle.wef_keeper.specs.declared.keys.Key.{Key}
 use Rattle.wef_keeper.specs.declared.keys.Row.{Row}
 use Rattle.wef_replay.specs.Good.{is_one, is_source, is_subscription}
 use Rattle.wef_world.specs.Kept.{IsBehind, IsOffered}
 use Rattle.wef_world.specs.Safe.{about_of, subscription_at}
-use Rattle.wef_world.proofs.RowMoves.{AreRowKeys}
+use Rattle.wef_world.proofs.RowMoves.{AreRowKeys, known_name}
 use Rattle.wef_world.proofs.Sent.{all_filter_map, all_map}
 
 -- ---- rows of a section stand in the rows
@@ -161,38 +161,6 @@ reads_subscription u good = let parts = and_parts (is_utf8 u) (is_one u (subscri
 reads_source : (s : List ℕ) → is_source s ≡ true → IsUtf8 s × (source_name s ≡ Some s)
 reads_source s good = let parts = and_parts (is_utf8 s) (is_one s (source_name s)) good in (IsUtf8-from_is_utf8 s parts.0, one_given s (source_name s) parts.1)
 
-made_name : (name : List ℕ) (items bytes beat : Option ℕ) (channels : Option (List (List ℕ))) (about : Subscription) → made_of name items bytes beat channels ≡ Some about → about.name ≡ name
-made_name name (Some items) (Some bytes) (Some beat) (Some channels) about e = sym (ap (λ (o : Option Subscription). name_or name o) e)
-  where
-    name_or : List ℕ → Option Subscription → List ℕ
-    name_or other None = other
-    name_or other (Some s) = s.name
-made_name name None bytes beat channels about e = absurd (none-some about e)
-made_name name (Some items) None beat channels about e = absurd (none-some about e)
-made_name name (Some items) (Some bytes) None channels about e = absurd (none-some about e)
-made_name name (Some items) (Some bytes) (Some beat) None about e = absurd (none-some about e)
-
-words_name : (name : List ℕ) (words : List (List ℕ)) (about : Subscription) → from_words name words ≡ Some about → about.name ≡ name
-words_name name [] about e = absurd (none-some about e)
-words_name name (items ∷ []) about e = absurd (none-some about e)
-words_name name (items ∷ bytes ∷ []) about e = absurd (none-some about e)
-words_name name (items ∷ bytes ∷ beat ∷ []) about e = absurd (none-some about e)
-words_name name (items ∷ bytes ∷ beat ∷ kind ∷ []) about e = absurd (none-some about e)
-words_name name (items ∷ bytes ∷ beat ∷ kind ∷ channel ∷ channels) about e = by_kind (same kind (codes "all")) e
-  where
-    made : Option Subscription
-    made = made_of name (number_between 1 10000 items) (number_between 8192 4194304 bytes) (number_between 1 86400000 beat) (channels_from (channel ∷ channels))
-
-    by_kind : (t : Bool) → cond t made None ≡ Some about → about.name ≡ name
-    by_kind true is =
-        made_name name (number_between 1 10000 items) (number_between 8192 4194304 bytes) (number_between 1 86400000 beat) (channels_from (channel ∷ channels)) about is
-    by_kind false is = absurd (none-some about is)
-
--- the words that keep a subscription are read for its name
-kept_name : (name body : List ℕ) (about : Subscription) → read_kept name body ≡ Some about → about.name ≡ name
-unfolding read_kept
-kept_name name body about e = words_name name (parts 32 body) about e
-
 -- ---- listed subscriptions
 
 -- A listed subscription has a good name, and is the one of the rows.
@@ -200,35 +168,38 @@ record IsListed (rows : Rows) (l : Listed) : Type 0 where
   pub name : is_subscription l.subscription.name ≡ true
   pub known : subscription_at rows l.subscription.name ≡ Some l.subscription
 
-about_by : (value : ℕ) (about : Subscription) → about_of (standing_by value (Some about)) ≡ Some about
-about_by value about = by_test (value == 0)
+own_keys : (rows : Rows) → AreRowKeys rows → HaveOwnKeys rows
+own_keys rows keys key kind there = by_cell (finite.get rows key) refl there
   where
-    by_test : (t : Bool) → about_of (cond t (Live about) (Ended about)) ≡ Some about
+    no_cell : false ≡ true → ⊥
+    no_cell e = cc
+
+    by_cell : (o : Option Cell) → finite.get rows key ≡ o → is_some o ≡ true → IsOwnKey key
+    by_cell None e some = absurd (no_cell some)
+    by_cell (Some cell) e some =
+        let form = keys key cell e in
+        record { own = form.subscription kind; reads_back = (reads_subscription key.sub (form.name kind)).1 }
+
+about_as : (l : Listed) → about_of (standing_as l) ≡ Some l.subscription
+about_as l = by_test l.live
+  where
+    by_test : (live : Bool) → about_of (cond live (Live l.subscription) (Ended l.subscription)) ≡ Some l.subscription
     by_test true = refl
     by_test false = refl
 
-listed_is : (rows : Rows) → AreRowKeys rows → (row : Row) (l : Listed) → Stands rows Kind (subscription_key []) row → listed_of row ≡ Some l → IsListed rows l
-listed_is rows keys row l is e =
-    by_kept (read_kept row.key.sub row.body) refl
-    (sym (ap (option_and_then (λ (u : List ℕ). option_map (listed_by row.value) (read_kept u row.body))) (reads_subscription row.key.sub good).1) ∙ e)
-  where
-    kind : row.key.kind ≡ 1
-    kind = sym (eqb-true 1 row.key.kind is.under)
+listed_is : (rows : Rows) → AreRowKeys rows → (l : Listed) → standing rows l.subscription.name ≡ standing_as l → IsListed rows l
+listed_is rows keys l stands =
+    let known : subscription_at rows l.subscription.name ≡ Some l.subscription = ap about_of stands ∙ about_as l in
+    record { name = known_name rows l.subscription.name l.subscription keys known; known = known }
 
-    good : is_subscription row.key.sub ≡ true
-    good = (keys row.key (cell_of_row row) is.there).name kind
+by_recursion : {X : Type 0} (P : X → Type 0) (xs : List X) → All P xs → AllByRecursion P xs
+by_recursion P [] all = tt
+by_recursion P (x ∷ xs) all = (All-head P x xs all, by_recursion P xs (All-tail P x xs all))
 
-    cell : finite.get rows (subscription_key row.key.sub) ≡ Some (cell_of_row row)
-    cell = ap (finite.get rows) (sym ((keys row.key (cell_of_row row) is.there).subscription kind)) ∙ is.there
-
-    by_kept : (o : Option Subscription) → read_kept row.key.sub row.body ≡ o → option_map (listed_by row.value) o ≡ Some l → IsListed rows l
-    by_kept None reads made = absurd (none-some l made)
-    by_kept (Some about) reads made =
-        let own : about.name ≡ row.key.sub = kept_name row.key.sub row.body about reads in
-        let there : subscription_at rows row.key.sub ≡ Some about =
-        ap (λ (o : Option Cell). about_of (standing_of row.key.sub o)) cell ∙ ap (λ (o : Option Subscription). about_of (standing_by row.value o)) reads ∙ about_by row.value about in
-        subst (IsListed rows) (same_Some (listed_by row.value about) l made)
-        (record { name = ap is_subscription own ∙ good; known = ap (subscription_at rows) own ∙ there })
+all_listed : (rows : Rows) → AreRowKeys rows → AllByRecursion (IsListed rows) (listed rows)
+all_listed rows keys =
+    all_map (λ (l : Listed). standing rows l.subscription.name ≡ standing_as l) (IsListed rows) (listed_is rows keys) (listed rows)
+    (by_recursion (λ (l : Listed). standing rows l.subscription.name ≡ standing_as l) (listed rows) (listed_are_there rows (own_keys rows keys)))
 
 -- ---- offers
 
@@ -263,5 +234,4 @@ offer_is rows s host keys good l offer is e = by_test (is_offered l) e
 -- all that is offered to a source is offered well
 pub all_offers : (rows : Rows) (s host : List ℕ) → AreRowKeys rows → is_source s ≡ true → AllByRecursion (λ (offer : Offer). IsOffered rows s offer.subscribe) (offers rows s host)
 all_offers rows s host keys good =
-    all_filter_map (IsListed rows) (λ (offer : Offer). IsOffered rows s offer.subscribe) (offer_of rows s host) (offer_is rows s host keys good) (listed rows)
-    (all_filter_map (Stands rows Kind (subscription_key [])) (IsListed rows) listed_of (listed_is rows keys) (subscription_rows rows) (all_stand rows Kind (subscription_key [])))
+    all_filter_map (IsListed rows) (λ (offer : Offer). IsOffered rows s offer.subscribe) (offer_of rows s host) (offer_is rows s host keys good) (listed rows) (all_listed rows keys)
