@@ -55,3 +55,7 @@ SchedulesAreKept = (lines : List Line) → AreAdmitted start lines → AllByRecu
 -- In every state of a good schedule what is kept is safe.
 abbrev pub SchedulesAreSafe : Type 0
 SchedulesAreSafe = (lines : List Line) → AreAdmitted start lines → AllByRecursion IsSafe (states lines)
+
+-- each state of a run of lines is safe
+abbrev pub AreSafe : List Line → Type 0
+AreSafe lines = AllByRecursion IsSafe (states lines)
