@@ -1,6 +1,6 @@
 //! The sessions of offers.
 
-ghost use Rattle.std.specs.Prelude.{◌≡◌, [], IfOk, IfErr, OnOk, OnErr};
+ghost use Rattle.std.specs.Prelude.{◌≡◌, [], IfOk, IfErr, OnOk};
 ghost use Rattle.wef_eventing.specs.Addresses.{subscription_in};
 ghost use Rattle.wef_query.specs.Selected.{channels_of};
 ghost use Rattle.wef_source.specs.Answers.{WantsMemory};

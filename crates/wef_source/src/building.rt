@@ -10,7 +10,7 @@ ghost use Rattle.wef_source.specs.Drafting as drafting;
 use crate::drafting::{Draft, room_of};
 use crate::faults::SourceFault;
 use crate::sessions::Session;
-use std::alloc::{AllocError, Global};
+use std::alloc::Global;
 use wef_base::ChannelName;
 use wef_batch::{Batch, Item};
 use wef_bookmark::Bookmark;

@@ -1,6 +1,6 @@
 //! The source end.
 
-ghost use Rattle.std.specs.Prelude.{◌≡◌, ◌≤◌, [], false, true, is_some, IfOk, IfErr, OnOk, OnErr, IsOk};
+ghost use Rattle.std.specs.Prelude.{◌≡◌, ◌≤◌, [], false, true, is_some, IfOk, IfErr, OnOk, OnErr};
 ghost use Rattle.wef_envelope.specs.Ids.{ids_agree};
 ghost use Rattle.wef_query.specs.Order.{IsInOrder};
 ghost use Rattle.wef_source.specs.Answers as answers;
