@@ -1,3 +1,5 @@
+pub mod Admitted
+pub mod Declared
 pub mod Fitted
 pub mod Given
 pub mod InOrder
