@@ -2,7 +2,6 @@
 
 ghost use Rattle.std.specs.Prelude.{◌≡◌, ◌++◌, IfOk, IfErr};
 ghost use Rattle.wef_replay.specs.Schedule.{schedule_of};
-ghost use Rattle.wef_world.specs.Steps.{trail};
 ghost use Rattle.wef_cli.specs.Command.{is_replay};
 ghost use Rattle.wef_cli.specs.Endings.{Told, ReplayEnds, RunEnds, message_of, status_of};
 ghost use Rattle.wef_cli.specs.Streams.{WritesPart};
@@ -13,14 +12,14 @@ use crate::command::is_replay;
 use crate::ending::Ending;
 use crate::streams::{InputFault, read_whole, write_whole};
 use std::alloc::Global;
-use wef_base::{Bytes, List, Sink, Source, Text};
-use wef_replay::{Line, ScheduleFault, read_schedule};
-use wef_world::{World, WorldFault};
+use wef_base::{Bytes, Sink, Source, Text};
+use wef_replay::{ScheduleFault, read_schedule};
+use wef_world::{WorldFault, run_lines};
 
 /// Runs `wef` with the words that follow the program's name, and answers its exit status.
 ///
 /// The one command is `replay`: it reads a schedule to its end, checks it whole, does its lines and
-/// writes what they print. What ended the run is told in one line to `err`, or in as much of it as
+/// writes what they print. Each state on the way is safe. What ended the run is told in one line to `err`, or in as much of it as
 /// `err` takes. Status 6 alone comes free: for want of memory.
 pub fn run<I: Source, O: Sink, E: Sink>(
     alloc: Global,
@@ -86,21 +85,8 @@ fn trail_of(alloc: Global, bytes: &[u8]) -> Result<Bytes, ScheduleFault>
     ensures refusal { IfErr result (λ fault. IsRefused fault (schedule_of bytes.now)) }
 {
     let lines = read_schedule(alloc, bytes)?;
-    match done(alloc, lines) {
+    match run_lines(alloc, lines) {
         Ok(text) => Ok(text),
         Err(WorldFault::NoMemory) => Err(ScheduleFault::NoMemory),
     }
-}
-
-/// Does lines, one after the other, and gathers what they print. Each line is let go once it is done.
-#[tactic(auto, unfolding(wef_world::specs::Steps::trail))]
-fn done(alloc: Global, lines: List<Line>) -> Result<Bytes, WorldFault>
-    ensures { IfOk result (λ text. text ≡ trail lines) }
-{
-    let mut world = World::new(alloc);
-    let mut out = Bytes::new(alloc);
-    for line in lines.into_vec() {
-        world.apply(&line, &mut out)?;
-    }
-    Ok(out)
 }

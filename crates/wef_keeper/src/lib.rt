@@ -3,12 +3,18 @@
 #![tactic(auto)]
 
 mod cells;
+pub mod keeping;
 pub mod keys;
 pub mod laws;
+pub mod mem_keeper;
+#[cfg(test)]
+mod mem_tests;
 mod paging;
 pub mod table;
 #[cfg(test)]
 mod tests;
 
+pub use keeping::{Keeper, KeeperFault};
 pub use keys::{Cell, Change, Depth, Key, Row};
+pub use mem_keeper::MemKeeper;
 pub use table::Rows;

@@ -45,7 +45,7 @@ fn is_wanted(depth: Option<Depth>, after: &Key, key: &Key) -> bool
 }
 
 /// A copy of the row that stands at a key.
-fn row_at(key: &Key, cell: &Cell) -> Result<Row, AllocError>
+pub(crate) fn row_at(key: &Key, cell: &Cell) -> Result<Row, AllocError>
     ensures { IfOk result (λ row. row ≡ row_of (key.now, cell.now)) }
 {
     Ok(Row {

@@ -1,14 +1,15 @@
 -- The lines of a schedule are good, each after those before it.
-use Rattle.std.proofs.Common.{◌≡◌, ℕ, ◌+◌, Bool, true, false, cond, List, [], ◌∷◌, length, refl, nat_lt, Ok, Err, subst}
+use Rattle.std.proofs.Common.{◌≡◌, ℕ, ◌+◌, Bool, true, false, cond, List, [], ◌∷◌, length, refl, nat_lt, Ok, Err, Result, subst, IfOk}
 use Rattle.std.specs.Prelude.{Option, Some, None}
 use Rattle.std.specs.Option.{option_and_then}
 use Rattle.std.proofs.lemmas.Bool.{and_from}
 use Rattle.wef_replay.specs.Good.{AreGood, Names, allows, is_line, no_names, noted}
 use Rattle.wef_replay.specs.Grammar.{meaning}
 use Rattle.wef_replay.specs.Laws.{ScheduleLinesAreGood}
-use Rattle.wef_replay.specs.Schedule.{first_bad, if_allowed, lines_of, schedule_of, texts_of, unless_bad}
+use Rattle.wef_replay.specs.Schedule.{ReadsSchedule, first_bad, if_allowed, lines_of, schedule_of, texts_of, unless_bad}
 use Rattle.wef_replay.specs.declared.lines.Line.{Line}
-use Rattle.wef_replay.specs.declared.schedule.ScheduleFault.TheVariants.{TooLong}
+use Rattle.wef_replay.specs.declared.schedule.ScheduleFault.{ScheduleFault}
+use Rattle.wef_replay.specs.declared.schedule.ScheduleFault.TheVariants.{BadLine, NoMemory, TooLong}
 use Rattle.wef_replay.proofs.Following.{bad_by, lines_by}
 use Rattle.wef_replay.proofs.Gifts.{AllOf}
 use Rattle.wef_replay.proofs.GoodLines.{IsGoodLine, good-meaning}

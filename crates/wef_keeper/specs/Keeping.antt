@@ -1,0 +1,123 @@
+-- The words of the store contract: what a call of a keeper answers, and how its meanings move with the answer.
+use Rattle.std.specs.Prelude.{◌≡◌, ℕ, ◌+◌, ◌≤◌, Bool, true, false, cond, ◌⊎◌, min, is_some, List, Option, Some, None, Result, Ok, Err, IfSome}
+use Rattle.std.specs.FinMap as finite
+use Rattle.std.specs.Option.{option_map}
+use Rattle.wef_base.specs.Counts.{Rose}
+use Rattle.wef_keeper.specs.Rows.{Rows, applied, row_of}
+use Rattle.wef_keeper.specs.declared.keeping.KeeperFault.{KeeperFault}
+use Rattle.wef_keeper.specs.declared.keeping.KeeperFault.TheVariants.{NoMemory, Failed, InDoubt}
+use Rattle.wef_keeper.specs.declared.keys.Change.{Change}
+use Rattle.wef_keeper.specs.declared.keys.Key.{Key}
+use Rattle.wef_keeper.specs.declared.keys.Row.{Row}
+
+-- a fact of what is told before a call and what is told after it; no fact where either isn't told
+abbrev pub WhereTold : {A B : Type 0} → Option A → Option B → (A → B → Type 0) → Type 0
+WhereTold before now Holds = IfSome before (λ told. IfSome now (λ tells. Holds told tells))
+
+-- what is told before and after is the same
+abbrev pub Stays : {A : Type 0} → Option A → Option A → Type 0
+Stays before now = WhereTold before now (λ told tells. tells ≡ told)
+
+-- a keeper that is opened and doesn't tell doesn't begin to
+abbrev pub StaysUntold : {A : Type 0} → Bool → Option A → Option A → Type 0
+StaysUntold opened before now = opened ≡ true → is_some before ≡ false → is_some now ≡ false
+
+-- a keeper that is opened stays so
+abbrev pub StaysOpened : Bool → Bool → Type 0
+StaysOpened before now = before ≡ true → now ≡ true
+
+-- a count after one more, which stays at 2^64 - 1
+abbrev pub raised : ℕ → ℕ
+raised count = min (count + 1) 18446744073709551615
+
+-- whether a call failed in the store
+abbrev pub is_failed : {T : Type 0} → Result T KeeperFault → Bool
+is_failed (Ok answer) = false
+is_failed (Err NoMemory) = false
+is_failed (Err Failed) = true
+is_failed (Err InDoubt) = false
+
+-- whether a call was refused for doubt
+abbrev pub is_in_doubt : {T : Type 0} → Result T KeeperFault → Bool
+is_in_doubt (Ok answer) = false
+is_in_doubt (Err NoMemory) = false
+is_in_doubt (Err Failed) = false
+is_in_doubt (Err InDoubt) = true
+
+-- a fact of a call that failed in the store
+abbrev pub OnFailed : {T : Type 0} → Result T KeeperFault → Type 0 → Type 0
+OnFailed (Ok answer) Fact = Unit {0}
+OnFailed (Err NoMemory) Fact = Unit {0}
+OnFailed (Err Failed) Fact = Fact
+OnFailed (Err InDoubt) Fact = Unit {0}
+
+-- a fact of a call that was refused before anything began: for want of memory, or for doubt
+abbrev pub OnRefused : {T : Type 0} → Result T KeeperFault → Type 0 → Type 0
+OnRefused (Ok answer) Fact = Unit {0}
+OnRefused (Err NoMemory) Fact = Fact
+OnRefused (Err Failed) Fact = Unit {0}
+OnRefused (Err InDoubt) Fact = Fact
+
+-- the count of faults doesn't fall, and a call fails only where it rises
+abbrev pub HasFault : {T : Type 0} → Result T KeeperFault → ℕ → ℕ → Type 0
+HasFault result before now = (before ≤ now) × OnFailed result (Rose before now)
+
+-- the count of faults after a call, where all faults are told: one more where it failed
+abbrev pub counted : {T : Type 0} → Result T KeeperFault → ℕ → ℕ
+counted result faults = cond (is_failed result) (raised faults) faults
+
+-- a call that doesn't fail, and counts no fault
+abbrev pub HasNoFault : {T : Type 0} → Result T KeeperFault → ℕ → ℕ → Type 0
+HasNoFault result before now = (is_failed result ≡ false) × (now ≡ before)
+
+-- the row of a key, where there is one
+abbrev pub row_at : Key → Rows → Option Row
+row_at key rows = option_map (λ cell. row_of (key, cell)) (finite.get rows key)
+
+-- whether there is doubt after a commit with this answer
+abbrev pub leaves_doubt : {T : Type 0} → Result T KeeperFault → Bool
+leaves_doubt (Ok answer) = false
+leaves_doubt (Err NoMemory) = false
+leaves_doubt (Err Failed) = true
+leaves_doubt (Err InDoubt) = true
+
+-- the count of commits begun, after a commit with this answer
+abbrev pub tried : {T : Type 0} → Result T KeeperFault → ℕ → ℕ
+tried (Ok answer) tries = raised tries
+tried (Err NoMemory) tries = tries
+tried (Err Failed) tries = raised tries
+tried (Err InDoubt) tries = tries
+
+-- an image that a failed commit may leave: the rows before it, or the rows with its changes
+abbrev pub IsBeforeOrAfter : List Change → Rows → Rows → Type 0
+IsBeforeOrAfter changes rows image = (image ≡ rows) ⊎ (image ≡ applied changes rows)
+
+-- a commit goes as planned: it doesn't fail, or isn't done; want of memory and doubt come before the plan
+abbrev pub FollowsPlan : {T : Type 0} → Option Bool → Result T KeeperFault → Type 0
+FollowsPlan None result = is_failed result ≡ false
+FollowsPlan (Some after) (Ok answer) = ⊥
+FollowsPlan (Some after) (Err fault) = Unit {0}
+
+-- the rows that a commit leaves by its plan, once it has begun
+abbrev pub outcome : Option Bool → List Change → Rows → Rows
+outcome None changes rows = applied changes rows
+outcome (Some after) changes rows = cond after (applied changes rows) rows
+
+-- the plan after a commit with this answer: one that has begun uses it up, and the next isn't planned to fail
+abbrev pub plan_after : {T : Type 0} → Result T KeeperFault → Option (Option Bool) → Option (Option Bool)
+plan_after (Ok answer) plan = option_map (λ used. None) plan
+plan_after (Err NoMemory) plan = plan
+plan_after (Err Failed) plan = option_map (λ used. None) plan
+plan_after (Err InDoubt) plan = plan
+
+-- whether there is doubt after an opening with this answer
+abbrev pub stays_in_doubt : {T : Type 0} → Result T KeeperFault → Bool → Bool
+stays_in_doubt (Ok answer) doubt = false
+stays_in_doubt (Err fault) doubt = doubt
+
+-- what an opening may answer: out of doubt it is done or fails, and it is never refused for doubt
+abbrev pub Reopens : {T : Type 0} → Result T KeeperFault → Bool → Type 0
+Reopens (Ok answer) doubt = Unit {0}
+Reopens (Err NoMemory) doubt = doubt ≡ false
+Reopens (Err Failed) doubt = Unit {0}
+Reopens (Err InDoubt) doubt = ⊥

@@ -1,0 +1,172 @@
+//! A keeper in memory, which tells everything, and fails where it is told to.
+
+ghost use Rattle.std.specs.Prelude.{◌≡◌, if◌then◌else◌, ◌≤◌, true, false, is_some, ◌∷◌, [], refl, IfOk, OnOk, OnErr};
+ghost use Rattle.std.specs.FinMap as finite;
+ghost use Rattle.std.specs.declared.option.Option.TheVariants.{Some, None};
+ghost use Rattle.std.proofs.Common.{rules};
+ghost use Rattle.wef_keeper.specs.Keeping.{outcome, raised, row_at};
+
+use crate::keeping::{Keeper, KeeperFault};
+use crate::keys::{Change, Key, Row};
+use crate::paging::row_at;
+use crate::table::Rows;
+use std::alloc::{AllocError, Global};
+use wef_base::List;
+
+/// Rows in memory. A commit fails only where it is armed to.
+///
+/// After a failed commit the rows are those that the store kept: with the changes or without, as
+/// the commit was armed. So the end of the doubt takes no memory.
+#[derive(Drop)]
+pub struct MemKeeper {
+    rows: Rows,
+    armed: Option<bool>,
+    in_doubt: bool,
+    tries: u64,
+    reads: u64,
+    faults: u64,
+}
+
+impl MemKeeper {
+    /// A keeper without rows, not armed. It takes no memory.
+    pub fn new(alloc: Global) -> MemKeeper
+        ensures { result ≡ record { rows = finite.empty; armed = None; in_doubt = false; tries = 0; reads = 0; faults = 0 } }
+    {
+        MemKeeper {
+            rows: Rows::new(alloc),
+            armed: None,
+            in_doubt: false,
+            tries: 0,
+            reads: 0,
+            faults: 0,
+        }
+    }
+
+    /// Arms the next commit: it fails, and its changes are kept where `after` is true. An earlier
+    /// arming is replaced. A commit that is refused for want of memory or for doubt leaves it armed.
+    pub fn fail_next(&mut self, after: bool)
+        ensures { self.new ≡ record self.old { armed = Some after } }
+    {
+        self.armed = Some(after);
+    }
+
+    /// Disarms the next commit.
+    pub fn calm(&mut self)
+        ensures { self.new ≡ record self.old { armed = None } }
+    {
+        self.armed = None;
+    }
+
+    /// Ends the doubt with the rows that stand, as a crash and a new start do. It takes no memory.
+    pub fn crash(&mut self)
+        ensures { self.new ≡ record self.old { in_doubt = false } }
+    {
+        self.in_doubt = false;
+    }
+
+    /// Whether the next commit is armed.
+    pub fn is_armed(&self) -> bool
+        ensures { result ≡ is_some self.now.armed }
+    {
+        self.armed.is_some()
+    }
+
+    /// Counts a read, which is refused in doubt.
+    fn begin_read(&mut self) -> Result<(), KeeperFault>
+        ensures answer { result ≡ (if self.old.in_doubt then Err KeeperFault.InDoubt else Ok tt) }
+        ensures count { self.new ≡ record self.old { reads = raised self.old.reads } }
+    {
+        self.reads = self.reads.saturating_add(1);
+        if self.in_doubt {
+            return Err(KeeperFault::InDoubt);
+        }
+        Ok(())
+    }
+
+    /// Counts a commit that has begun.
+    fn count_try(&mut self)
+        ensures { self.new ≡ record self.old { tries = raised self.old.tries } }
+    {
+        self.tries = self.tries.saturating_add(1);
+    }
+}
+
+impl Keeper for MemKeeper {
+    ghost rows = { λ k. Some k.rows };
+
+    ghost images = { λ k. Some (k.rows ∷ []) };
+
+    ghost doubt = { λ k. k.in_doubt };
+
+    ghost tries = { λ k. k.tries };
+
+    ghost reads = { λ k. k.reads };
+
+    ghost faults = { λ k. k.faults };
+
+    ghost opened = { λ k. true };
+
+    ghost plan = { λ k. Some k.armed };
+
+    ghost tells_both = { λ k. refl };
+
+    ghost tells_opened = { λ k. refl };
+
+    ghost few_images = { λ k. Prim.search rules };
+
+    ghost no_doubt = { λ k _. refl };
+
+    fn get(&mut self, key: &Key) -> Result<Option<Row>, KeeperFault> {
+        self.begin_read()?;
+        Ok(found_row(&self.rows, key)?)
+    }
+
+    fn page(&mut self, after: &Key, max: u32) -> Result<List<Row>, KeeperFault> {
+        self.begin_read()?;
+        Ok(self.rows.page(after, max)?)
+    }
+
+    /// An armed commit whose changes want memory is refused for it, and stays armed.
+    fn commit(&mut self, changes: List<Change>) -> Result<(), KeeperFault> {
+        if self.in_doubt {
+            return Err(KeeperFault::InDoubt);
+        }
+        if let Some(after) = self.armed {
+            apply_where(&mut self.rows, changes, after)?;
+            self.count_try();
+            self.faults = self.faults.saturating_add(1);
+            self.armed = None;
+            self.in_doubt = true;
+            return Err(KeeperFault::Failed);
+        }
+        self.rows.apply(changes)?;
+        self.count_try();
+        Ok(())
+    }
+
+    fn reopen(&mut self) -> Result<(), KeeperFault> {
+        self.in_doubt = false;
+        Ok(())
+    }
+}
+
+/// The row of a key, or none where there is none.
+fn found_row(rows: &Rows, key: &Key) -> Result<Option<Row>, AllocError>
+    ensures { IfOk result (λ row. row ≡ row_at key.now rows.now) }
+{
+    match rows.get(key) {
+        Some(cell) => Ok(Some(row_at(key, cell)?)),
+        None => Ok(None),
+    }
+}
+
+/// Applies the changes of a commit that fails, where it is armed to keep them.
+fn apply_where(rows: &mut Rows, changes: List<Change>, after: bool) -> Result<(), AllocError>
+    ensures ok { OnOk result (rows.new ≡ outcome (Some after) changes rows.old) }
+    ensures err { OnErr result (rows.new ≡ rows.old) }
+{
+    if after {
+        rows.apply(changes)?;
+    }
+    Ok(())
+}
