@@ -1,4 +1,6 @@
+pub mod Admitted
 pub mod CollectorSteps
+pub mod Declared
 pub mod Fitted
 pub mod Given
 pub mod Growing

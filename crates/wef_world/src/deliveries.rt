@@ -35,7 +35,11 @@ impl World {
         ensures { result ≡ steps.number_back self.now number }
     {
         let count = self.messages.len() as u64;
-        if count == 0 { 0 } else { count - number % count }
+        if count == 0 {
+            0
+        } else {
+            count - number % count
+        }
     }
 
     /// Delivers the message of a number.

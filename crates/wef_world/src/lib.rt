@@ -7,6 +7,7 @@ pub mod histories;
 pub mod laws;
 pub mod messages;
 mod printing;
+pub mod runs;
 pub mod slots;
 mod source_lines;
 pub mod sources;
@@ -14,4 +15,5 @@ mod world;
 
 pub use faults::WorldFault;
 pub use messages::Message;
+pub use runs::run_lines;
 pub use world::World;

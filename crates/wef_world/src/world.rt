@@ -4,7 +4,7 @@ ghost use Rattle.std.specs.Prelude.{◌≡◌, ◌++◌, true, IfOk, OnOk, OnErr
 ghost use Rattle.wef_collector.specs.Report.{report};
 ghost use Rattle.wef_collector.specs.Standing.{standing};
 ghost use Rattle.wef_world.specs.Printed as texts;
-ghost use Rattle.wef_replay.specs.Good.{allows};
+ghost use Rattle.wef_replay.specs.Good.{allows, is_among};
 ghost use Rattle.wef_world.specs.States as states;
 ghost use Rattle.wef_world.specs.Steps as steps;
 
@@ -56,7 +56,7 @@ impl Model for World {
 
     ghost coded = { code_by ((Rows × List (List ℕ)) × (Slots × List Message))
         (coded× (coded× (map.code key.the_row.coded cell.the_row.coded) (coded_list (coded_list coded_ℕ)))
-            (coded× (map.code (coded_list coded_ℕ) slot.the_row.coded) (coded_list message.the_row.coded)))
+        (coded× (map.code (coded_list coded_ℕ) slot.the_row.coded) (coded_list message.the_row.coded)))
         (λ s. ((s.rows, s.foreign), (s.sources, s.messages)))
         (λ p. record { rows = p.0.0; foreign = p.0.1; sources = p.1.0; messages = p.1.1 }) (λ _. refl) };
 
@@ -89,16 +89,26 @@ impl World {
         ensures { result ≡ allows (states.names_of self.now) line.now }
     {
         match line {
-            Line::Batch { source, .. } => !self.sources.has(source),
-            Line::Source { source, .. } => {
-                !self.sources.has(source) && !self.foreign.contains(source)
-            }
-            Line::Write { source, .. } => self.sources.has(source),
-            Line::Ask { source } => self.sources.has(source),
-            Line::Poll { source, .. } => self.sources.has(source),
-            Line::Lost { source, .. } => self.sources.has(source),
+            Line::Batch { source, .. } => !self.has_declared(source),
+            Line::Source { source, .. } => !self.has_declared(source) && !self.has_foreign(source),
+            Line::Write { source, .. } => self.has_declared(source),
+            Line::Ask { source } => self.has_declared(source),
+            Line::Poll { source, .. } => self.has_declared(source),
+            Line::Lost { source, .. } => self.has_declared(source),
             _ => true,
         }
+    }
+
+    fn has_declared(&self, source: &SourceName) -> bool
+        ensures { result ≡ is_among (states.declared_names self.now) source.now }
+    {
+        self.sources.has(source)
+    }
+
+    fn has_foreign(&self, source: &SourceName) -> bool
+        ensures { result ≡ is_among self.now.foreign source.now }
+    {
+        self.foreign.contains(source)
     }
 
     /// Does one line that the world admits, and appends what it prints. After a fault the world isn't
@@ -187,12 +197,7 @@ impl World {
         }
     }
 
-    fn take(
-        &mut self,
-        sub: &SubId,
-        source: &SourceName,
-        batch: &Batch,
-    ) -> Result<Text, WorldFault>
+    fn take(&mut self, sub: &SubId, source: &SourceName, batch: &Batch) -> Result<Text, WorldFault>
         ensures state { OnOk result (self.new ≡ states.with_rows (states.with_foreign self.old source.now) (steps.delivered self.old.rows sub.now source.now batch.now (standing self.old.rows sub.now))) }
         ensures printed { IfOk result (λ text. text ≡ texts.batch_text sub.now source.now (steps.answer batch.now (standing self.old.rows sub.now))) }
     {

@@ -1,0 +1,32 @@
+//! Whole schedules.
+
+ghost use Rattle.std.specs.Prelude.{◌≡◌, IfOk};
+ghost use Rattle.wef_replay.specs.Good.{AreGood, no_names};
+ghost use Rattle.wef_world.specs.Admitting.{GoodLinesAreAdmitted};
+ghost use Rattle.wef_world.specs.Steps.{trail};
+
+use crate::faults::WorldFault;
+use crate::world::World;
+use std::alloc::Global;
+use wef_base::{Bytes, List};
+use wef_replay::Line;
+
+/// Does lines, one after the other, from a world in which nothing has happened, and gathers what they
+/// print. Each line is let go once it is done.
+#[tactic(auto, unfolding(crate::specs::Steps::trail))]
+pub fn run_lines(alloc: Global, lines: List<Line>) -> Result<Bytes, WorldFault>
+    requires { AreGood no_names lines }
+    ensures { IfOk result (λ text. text ≡ trail lines) }
+{
+    let mut world = World::new(alloc);
+    let mut out = Bytes::new(alloc);
+    for line in lines.into_vec() {
+        world.apply(&line, &mut out)?;
+    }
+    Ok(out)
+}
+
+/// The world admits each line of a schedule whose lines are good.
+pub fn good_lines_are_admitted()
+    ensures { GoodLinesAreAdmitted }
+{}
