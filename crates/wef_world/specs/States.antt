@@ -35,6 +35,11 @@ pub record State : Type 0 where
 abbrev pub start : State
 start = record { rows = finite.empty; foreign = []; sources = finite.empty; messages = [] }
 
+-- what a world holds, where it still has its ends; nothing else
+abbrev pub held : Option State → State
+held None = start
+held (Some state) = state
+
 -- a world with other rows
 abbrev pub with_rows : State → Rows → State
 with_rows state rows = record state { rows = rows }

@@ -16,7 +16,7 @@ use crate::faults::WorldFault;
 use crate::messages::Message;
 use crate::printing::{adopted_word, answered_line, fault_answer, no_message_line, took_line};
 use crate::sources::Sources;
-use crate::world::{MOMENT, World};
+use crate::ends::{Ends, MOMENT};
 use std::alloc::{AllocError, Global};
 use wef_base::{List, SourceName, SubId, Text};
 use wef_batch::Batch;
@@ -28,7 +28,7 @@ use wef_source::{Delivery, Reply};
 /// Where sources find the collector.
 const HOST: &str = "collector:5985";
 
-impl World {
+impl Ends {
     /// The number of the message that so many messages, counted round, came behind. 0 where none was
     /// sent.
     pub(crate) fn number_back(&self, number: u64) -> u64

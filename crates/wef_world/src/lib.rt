@@ -2,6 +2,7 @@
 #![tactic(auto)]
 
 mod deliveries;
+mod ends;
 pub mod faults;
 pub mod histories;
 pub mod laws;

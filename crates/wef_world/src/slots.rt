@@ -6,7 +6,7 @@ ghost use Rattle.wef_source.specs.Machine.{start_of};
 
 use crate::faults::WorldFault;
 use crate::histories::Histories;
-use crate::world::MOMENT;
+use crate::ends::MOMENT;
 use std::alloc::Global;
 use std::marker::Model;
 use wef_base::{List, SubId};

@@ -8,12 +8,12 @@ use crate::faults::WorldFault;
 use crate::messages::Message;
 use crate::printing::{name_line, pair_line, sent_ask_line, sent_events_line, wrote_line};
 use crate::slots::{Capacity, Polled, Slot, Written};
-use crate::world::World;
+use crate::ends::Ends;
 use std::alloc::AllocError;
 use wef_base::{SourceName, SubId, Text};
 use wef_event::PlainEvent;
 
-impl World {
+impl Ends {
     /// Declares a source.
     pub(crate) fn declare(
         &mut self,
