@@ -2,8 +2,11 @@ pub mod Fitted
 pub mod Given
 pub mod InOrder
 pub mod LastNumbers
+pub mod Lines
 pub mod Marked
+pub mod NameMaps
 pub mod Numbered
+pub mod Opened
 pub mod Ranges
 pub mod Spared
 pub mod Takes
