@@ -1,4 +1,5 @@
 pub mod Admitted
+pub mod Changed
 pub mod CollectorSteps
 pub mod Declared
 pub mod Fitted
@@ -6,11 +7,14 @@ pub mod Given
 pub mod Growing
 pub mod InOrder
 pub mod LastNumbers
+pub mod Lines
 pub mod Marked
 pub mod Moves
+pub mod NameMaps
 pub mod Names
 pub mod Numbered
 pub mod Offering
+pub mod Opened
 pub mod Ranges
 pub mod RowMoves
 pub mod Sent

@@ -109,9 +109,10 @@ impl Slot {
     pub fn open(&mut self, alloc: Global) -> Result<(), WorldFault>
         ensures { OnOk result (self.new ≡ slots.slot_with self.old (opened self.old)) }
     {
-        if self.end.is_none() {
-            self.end = Some(start(alloc, self.capacity.records())?);
+        if self.end.is_some() {
+            return Ok(());
         }
+        self.end = Some(start(alloc, self.capacity.records())?);
         Ok(())
     }
 

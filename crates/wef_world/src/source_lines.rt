@@ -41,11 +41,13 @@ impl Ends {
         };
         let written = slot.write(self.alloc, event)?;
         self.sources.put(source, slot)?;
-        Ok(match written {
-            Written::Record(number) => wrote_line(source, &event.channel, number)?,
-            Written::Full => pair_line("full", source.as_text(), event.channel.as_text())?,
-            Written::TooLong => pair_line("toolong", source.as_text(), event.channel.as_text())?,
-        })
+        match written {
+            Written::Record(number) => Ok(wrote_line(source, &event.channel, number)?),
+            Written::Full => Ok(pair_line("full", source.as_text(), event.channel.as_text())?),
+            Written::TooLong => {
+                Ok(pair_line("toolong", source.as_text(), event.channel.as_text())?)
+            }
+        }
     }
 
     /// Lets a source ask for its subscriptions.
