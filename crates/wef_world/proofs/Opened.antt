@@ -1,7 +1,12 @@
 -- A source whose end runs.
-use Rattle.std.proofs.Common.{◌≡◌, ℕ, true, false, refl, ap, sym, ◌∙◌, Some, None}
+use Rattle.std.proofs.Common.{◌≡◌, ℕ, Bool, true, false, List, [], ◌∷◌, cond, refl, ap, sym, ◌∙◌, Some, None}
 use Rattle.std.specs.Prelude.{Option, is_some}
-use Rattle.wef_source.specs.Machine.{End, start_of}
+use Rattle.wef_source.specs.Answers.{RefusesLost}
+use Rattle.wef_source.specs.Machine.{End, lost_in, start_of}
+use Rattle.wef_source.specs.Sessions.{first_where, is_named, settled, with_changed}
+use Rattle.wef_source.specs.declared.faults.SourceFault.{SourceFault}
+use Rattle.wef_source.specs.declared.faults.SourceFault.TheVariants.{UnknownSubscription}
+use Rattle.wef_source.specs.declared.sessions.Session.{Session}
 use Rattle.wef_world.specs.Slots.{slot_with}
 use Rattle.wef_world.specs.States.{opened, running}
 use Rattle.wef_world.specs.declared.slots.Slot.{Slot}
@@ -29,3 +34,17 @@ end_is slot slot' end is has = let same : Some end ≡ Some (opened slot) = sym 
 -- a source that runs, with another end
 pub with_another : (slot slot' : Slot) (end : End) → slot' ≡ slot_with slot (opened slot) → slot_with slot' end ≡ slot_with slot end
 with_another slot slot' end is = ap (λ s. slot_with s end) is
+
+-- changing the first session that passes changes nothing where none does
+unchanged : (test : Session → Bool) (change : Session → Session) (ss : List Session) → first_where test ss ≡ None → with_changed test change ss ≡ ss
+unchanged test change [] none = refl
+unchanged test change (s ∷ ss) none =
+    elim (test s) as (λ t. cond t (Some s) (first_where test ss) ≡ None → cond t (change s ∷ ss) (s ∷ with_changed test change ss) ≡ s ∷ ss) [
+      | true ↦ λ h. cc
+      | false ↦ λ h. ap (λ rest. s ∷ rest) (unchanged test change ss h)
+    ] none
+
+-- where no session has the name, none waits for less
+pub lost_refused : (fault : SourceFault) (end : End) (u : List ℕ) → RefusesLost fault end u → lost_in end u ≡ end
+lost_refused UnknownSubscription end u none = ap (λ ss. record end { sessions = ss }) (unchanged (is_named u) settled end.sessions none)
+lost_refused _ end u h = absurd h
