@@ -1,6 +1,6 @@
 //! All that a source ever wrote.
 
-ghost use Rattle.std.specs.Prelude.{◌≡◌, OnOk};
+ghost use Rattle.std.specs.Prelude.{◌≡◌, [], ◌∷◌, IfOk, OnOk};
 ghost use Rattle.std.specs.BTreeMap.{IsOrdered};
 ghost use Rattle.std.specs.Cmp.Lexicographic.{slice_cmp};
 ghost use Rattle.std.specs.FinMap as map;
@@ -65,13 +65,19 @@ fn append_in(
     ensures ok { OnOk result (map.from_entries records.new.entries ≡ extended (map.from_entries records.old.entries) channel.now text.now) }
     ensures ordered { IsOrdered (slice_cmp nat_cmp) records.new }
 {
-    let text = text.clone()?;
     if let Some(texts) = records.get_mut(channel) {
-        texts.push(text)?;
+        texts.push(text.clone()?)?;
         return Ok(());
     }
-    let mut texts = List::new(alloc);
-    texts.push(text)?;
-    records.insert(channel.clone()?, texts)?;
+    records.insert(channel.clone()?, one_record(alloc, text)?)?;
     Ok(())
+}
+
+/// The history of one record.
+fn one_record(alloc: Global, text: &Text) -> Result<List<Text>, AllocError>
+    ensures { IfOk result (λ texts. texts ≡ text.now ∷ []) }
+{
+    let mut texts = List::new(alloc);
+    texts.push(text.clone()?)?;
+    Ok(texts)
 }

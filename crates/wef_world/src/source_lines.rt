@@ -105,10 +105,9 @@ impl Ends {
         let is_there = slot.lose(self.alloc, sub)?;
         self.sources.put(source, slot)?;
         if is_there {
-            Ok(Text::new(self.alloc))
-        } else {
-            Ok(pair_line("unknown", source.as_text(), sub.as_text())?)
+            return Ok(Text::new(self.alloc));
         }
+        Ok(pair_line("unknown", source.as_text(), sub.as_text())?)
     }
 
     /// Sends a message, and answers its number.
