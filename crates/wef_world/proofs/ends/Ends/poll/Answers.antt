@@ -6,7 +6,7 @@ use Rattle.wef_source.specs.Sessions.{session_of}
 use Rattle.wef_world.specs.Slots.{PollsAs}
 use Rattle.wef_world.specs.declared.messages.Message.TheVariants.{Events}
 use Rattle.wef_world.specs.declared.slots.Polled.TheVariants as polled
-use Rattle.wef_world.proofs.world.World.poll.Goals as goal
+use Rattle.wef_world.proofs.ends.Ends.poll.Goals as goal
 
 pub returns-in_default-clause-state : goal.returns-in_default-clause-state
 returns-in_default-clause-state c =

@@ -3,7 +3,7 @@ use Rattle.wef_world.proofs.Lines.{lost, no_source, put_is}
 use Rattle.wef_world.specs.Sources.{lost_step}
 use Rattle.wef_world.specs.States.{State, opened, with_end}
 use Rattle.wef_source.specs.Machine.{lost_in}
-use Rattle.wef_world.proofs.world.World.lose.Goals as goal
+use Rattle.wef_world.proofs.ends.Ends.lose.Goals as goal
 
 pub returns-in_default-clause-state : goal.returns-in_default-clause-state
 returns-in_default-clause-state c =

@@ -4,7 +4,7 @@ use Rattle.wef_world.specs.Sources.{ask_at, ask_step}
 use Rattle.wef_world.specs.States.{State, opened, with_message}
 use Rattle.wef_world.specs.Slots.{AsksAs}
 use Rattle.wef_world.specs.declared.messages.Message.TheVariants.{Ask}
-use Rattle.wef_world.proofs.world.World.ask.Goals as goal
+use Rattle.wef_world.proofs.ends.Ends.ask.Goals as goal
 
 pub returns-in_default-clause-state : goal.returns-in_default-clause-state
 returns-in_default-clause-state c =

@@ -2,7 +2,7 @@ use Rattle.std.proofs.Common.{ap, ◌∙◌}
 use Rattle.wef_world.proofs.Lines.{no_source, on_ok, put_is, wrote}
 use Rattle.wef_world.specs.Sources.{write_at, write_step}
 use Rattle.wef_world.specs.States.{State, opened}
-use Rattle.wef_world.proofs.world.World.write.Goals as goal
+use Rattle.wef_world.proofs.ends.Ends.write.Goals as goal
 
 pub returns-in_default-clause-state : goal.returns-in_default-clause-state
 returns-in_default-clause-state c =
