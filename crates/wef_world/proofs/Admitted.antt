@@ -1,15 +1,14 @@
 -- Good lines are admitted: the world that lines leave has the names that they gave.
 use Rattle.std.proofs.Common.{◌≡◌, ℕ, Bool, true, false, not, ◌&&◌, ◌||◌, cond, List, [], ◌∷◌, Ordering, refl, ap, sym, ◌∙◌, Some}
-use Rattle.std.proofs.Math.Bool.{or_comm}
 use Rattle.std.proofs.lemmas.Map.Lookups.{exact_bytes}
 use Rattle.std.specs.Prelude.{Option, None, is_some}
 use Rattle.std.specs.Cmp.Lexicographic.{nat_list_cmp_total, slice_cmp, texts_ties}
-use Rattle.std.specs.FinMap.{get, get-insert}
-use Rattle.std.specs.Ordering.{eq_by_cmp, is_eq, nat_cmp}
+use Rattle.std.specs.FinMap.{empty, get-empty, get-insert}
+use Rattle.std.specs.Ordering.{eq_by_cmp, is_eq, match_ordering, nat_cmp}
 use Rattle.std.specs.declared.cmp.Ordering.TheVariants.{Less, Equal, Greater}
 use Rattle.wef_base.specs.Names.{same}
 use Rattle.wef_event.specs.declared.unnumbered.PlainEvent.{PlainEvent}
-use Rattle.wef_query.proofs.Sorting.{has-with_name}
+use Rattle.wef_query.specs.Order.{with_name}
 use Rattle.wef_replay.specs.Alike.{AreAlike}
 use Rattle.wef_replay.specs.Good.{AreGood, Names, allows, is_among, is_line, no_names, noted}
 use Rattle.wef_replay.specs.declared.lines.Line.{Line}
@@ -19,9 +18,9 @@ use Rattle.wef_source.specs.Sessions.{session_of}
 use Rattle.wef_source.specs.declared.sessions.Session.{Session}
 use Rattle.wef_source_log.specs.Answers.{is_full}
 use Rattle.wef_world.specs.Admitting.{GoodLinesAreAdmitted}
-use Rattle.wef_world.specs.Deliveries.{at_end, deliver_message, message_at, number_back, taken_by, with_answer}
+use Rattle.wef_world.specs.Deliveries.{after_ack, after_fault, after_offers, answer_with, at_end, deliver_message, message_at, number_back, refusal_at, rows_after, taken_by, with_answer}
 use Rattle.wef_world.specs.Sources.{ask_at, at_source, is_too_long, poll_at, poll_session, write_at}
-use Rattle.wef_world.specs.States.{State, declared_names, names_of, opened, slot_of, start, with_message, with_slot}
+use Rattle.wef_world.specs.States.{State, declared_names, names_of, opened, slot_of, start, with_end, with_message, with_rows, with_slot}
 use Rattle.wef_world.specs.Steps.{AreAdmitted, admits, step}
 use Rattle.wef_world.specs.declared.messages.Message.{Message}
 use Rattle.wef_world.specs.declared.messages.Message.TheVariants as sent
@@ -66,7 +65,7 @@ same_at_source state s change h = by (slot_of state s) refl
     by (Some slot) e = h slot e
 
 same_end : (state : State) (s : List ℕ) (change : machine.End → machine.End) → HasSameSources state (at_end state s change)
-same_end state s change = same_at_source state s _ (λ slot found. same_slot state s slot _ found)
+same_end state s change = same_at_source state s (λ slot. with_end state s slot (change (opened slot))) (λ slot found. same_slot state s slot _ found)
 
 same_write : (state : State) (s : List ℕ) (event : PlainEvent) (slot : Slot) → slot_of state s ≡ Some slot → HasSameSources state (write_at state s slot (opened slot) event)
 same_write state s event slot found =
@@ -92,10 +91,11 @@ same_answer old new (Some message) h = same_message old new message h
 
 same_taken : (state : State) (message : Message) → HasSameSources state (taken_by state message)
 same_taken state (sent.Ask s id) = same_message state state _ (same_itself state)
-same_taken state (sent.Offers s relates given) = same_end state s _
-same_taken state (sent.Events s delivery) = same_answer state _ _ (record { declared = λ q. refl; foreign = refl })
-same_taken state (sent.Ack s relates) = same_end state s _
-same_taken state (sent.Fault s relates fault) = same_end state s _
+same_taken state (sent.Offers s relates given) = same_end state s (λ end. after_offers end relates given)
+same_taken state (sent.Events s delivery) =
+    same_answer state (with_rows state (rows_after state.rows delivery)) (answer_with (refusal_at state.rows delivery) s delivery) (record { declared = λ q. refl; foreign = refl })
+same_taken state (sent.Ack s relates) = same_end state s (λ end. after_ack end relates)
+same_taken state (sent.Fault s relates fault) = same_end state s (λ end. after_fault end relates fault)
 
 same_delivered : (state : State) (message : Option Message) → HasSameSources state (deliver_message state message)
 same_delivered state None = same_itself state
@@ -109,6 +109,25 @@ same_names old new names h alike = record {
   foreign = λ s. ap (λ (these : List (List ℕ)). is_among these s) h.foreign ∙ alike.foreign s;
 }
 
+in_front : (a b c : Bool) → (a || (b || c)) ≡ (b || (a || c))
+in_front true true c = refl
+in_front true false c = refl
+in_front false b c = refl
+
+once : (a b : Bool) → (a || b) ≡ (a || (a || b))
+once true b = refl
+once false b = refl
+
+one_foreign : (names : List (List ℕ)) (s q : List ℕ) → is_among (with_name names s) q ≡ (same q s || is_among names q)
+one_foreign [] s q = refl
+one_foreign (x ∷ names) s q = by (one_foreign names s q) (slice_cmp nat_cmp s x) refl
+  where
+    by : is_among (with_name names s) q ≡ (same q s || is_among names q) → (o : Ordering) → slice_cmp nat_cmp s x ≡ o
+        → is_among (match_ordering o (s ∷ x ∷ names) (x ∷ names) (x ∷ with_name names s)) q ≡ (same q s || (same q x || is_among names q))
+    by rest Less e = refl
+    by rest Equal e = once (same q x) (is_among names q) ∙ ap (λ (y : List ℕ). same q y || (same q x || is_among names q)) (sym (exact_bytes s x e))
+    by rest Greater e = ap (λ (t : Bool). same q x || t) rest ∙ in_front (same q x) (same q s) (is_among names q)
+
 one_declared : (state : State) (names : Names) (s : List ℕ) (slot : Slot) → AreAlike (names_of state) names
     → (q : List ℕ) → is_among (declared_names (with_slot state s slot)) q ≡ (same q s || is_among names.declared q)
 one_declared state names s slot alike q =
@@ -120,17 +139,18 @@ leaves_names : (line : Line) (state : State) (names : Names) → AreAlike (names
 leaves_names (Source s capacity) state names alike = record { declared = one_declared state names s _ alike; foreign = alike.foreign }
 leaves_names (Batch u s b) state names alike = record {
   declared = alike.declared;
-  foreign = λ q. has-with_name state.foreign s q ∙ or_comm (is_among state.foreign q) (same q s) ∙ ap (λ (t : Bool). same q s || t) (alike.foreign q);
+  foreign = λ q. one_foreign state.foreign s q ∙ ap (λ (t : Bool). same q s || t) (alike.foreign q);
 }
 leaves_names (Subscribe u items bytes beat query) state names alike = record { declared = alike.declared; foreign = alike.foreign }
 leaves_names (End u) state names alike = record { declared = alike.declared; foreign = alike.foreign }
-leaves_names (Write s event) state names alike = same_names state _ names (same_at_source state s _ (same_write state s event)) alike
-leaves_names (Ask s) state names alike = same_names state _ names (same_at_source state s _ (same_ask state s)) alike
+leaves_names (Write s event) state names alike = same_names state (step (Write s event) state) names (same_at_source state s (λ slot. write_at state s slot (opened slot) event) (same_write state s event)) alike
+leaves_names (Ask s) state names alike = same_names state (step (Ask s) state) names (same_at_source state s (λ slot. ask_at state s slot (opened slot)) (same_ask state s)) alike
 leaves_names (Poll s u) state names alike =
-    same_names state _ names (same_at_source state s _ (λ slot. same_poll state s slot (session_of (opened slot).sessions u))) alike
-leaves_names (Deliver k) state names alike = same_names state _ names (same_delivered state (message_at state k)) alike
-leaves_names (Back n) state names alike = same_names state _ names (same_delivered state (message_at state (number_back state n))) alike
-leaves_names (Lost s u) state names alike = same_names state _ names (same_at_source state s _ (λ slot found. same_slot state s slot _ found)) alike
+    same_names state (step (Poll s u) state) names
+    (same_at_source state s (λ slot. poll_at state s slot (opened slot) (session_of (opened slot).sessions u)) (λ slot. same_poll state s slot (session_of (opened slot).sessions u))) alike
+leaves_names (Deliver k) state names alike = same_names state (step (Deliver k) state) names (same_delivered state (message_at state k)) alike
+leaves_names (Back n) state names alike = same_names state (step (Back n) state) names (same_delivered state (message_at state (number_back state n))) alike
+leaves_names (Lost s u) state names alike = same_names state (step (Lost s u) state) names (same_at_source state s (λ slot. with_end state s slot (machine.lost_in (opened slot) u)) (λ slot found. same_slot state s slot _ found)) alike
 leaves_names Show state names alike = alike
 leaves_names (Print u s c) state names alike = alike
 
@@ -152,5 +172,8 @@ all_admitted (line ∷ lines) state names alike good = (
   all_admitted lines (step line state) (noted line names) (leaves_names line state names alike) good.1,
 )
 
+none_declared : (s : List ℕ) → is_among (declared_names start) s ≡ false
+none_declared s = among_declared empty s ∙ ap is_some (get-empty (slice_cmp nat_cmp) s)
+
 pub good_lines : GoodLinesAreAdmitted
-good_lines lines good = all_admitted lines start no_names (record { declared = λ s. refl; foreign = λ s. refl }) good
+good_lines lines good = all_admitted lines start no_names (record { declared = none_declared; foreign = λ s. refl }) good

@@ -1,5 +1,5 @@
 -- The names of the declared sources are those at which their map has one.
-use Rattle.std.proofs.Common.{◌≡◌, ℕ, Bool, true, false, ◌||◌, cond, List, [], ◌∷◌, refl, ◌∙◌, Some}
+use Rattle.std.proofs.Common.{◌≡◌, ℕ, Bool, true, false, ◌||◌, cond, List, [], ◌∷◌, refl, ap, sym, ◌∙◌, Some}
 use Rattle.std.specs.Prelude.{Option, is_some, map}
 use Rattle.std.specs.Cmp.Lexicographic.{slice_cmp, texts_ties}
 use Rattle.std.specs.FinMap as finite
@@ -19,4 +19,4 @@ among_keys (e ∷ es) s =
     (λ i. texts_ties s e.0 i || among_keys es s i) ∙ first_or_rest (eq_by_cmp (slice_cmp nat_cmp) s e.0) e.1 (finite.find (slice_cmp nat_cmp) s es)
 
 pub among_declared : (sources : Slots) (s : List ℕ) → is_among (map (λ (entry : List ℕ × Slot). entry.0) (finite.entries sources)) s ≡ is_some (finite.get sources s)
-among_declared sources s = among_keys (finite.entries sources) s
+among_declared sources s = among_keys (finite.entries sources) s ∙ ap is_some (sym (finite.get-entries sources s))

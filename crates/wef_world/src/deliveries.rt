@@ -12,11 +12,11 @@ ghost use Rattle.wef_world.specs.Slots.{after_reply, changed_at, waits_in};
 ghost use Rattle.wef_world.specs.declared.messages.Message.TheVariants.{Offers};
 ghost use Rattle.wef_world.specs.States as states;
 
+use crate::ends::{Ends, MOMENT};
 use crate::faults::WorldFault;
 use crate::messages::Message;
 use crate::printing::{adopted_word, answered_line, fault_answer, no_message_line, took_line};
 use crate::sources::Sources;
-use crate::ends::{Ends, MOMENT};
 use std::alloc::{AllocError, Global};
 use wef_base::{List, SourceName, SubId, Text};
 use wef_batch::Batch;

@@ -4,9 +4,9 @@ ghost use Rattle.std.specs.Prelude.{◌≡◌, ◌≤◌, IfOk};
 ghost use Rattle.wef_event.specs.Unnumbered.{numbered};
 ghost use Rattle.wef_source.specs.Machine.{start_of};
 
+use crate::ends::MOMENT;
 use crate::faults::WorldFault;
 use crate::histories::Histories;
-use crate::ends::MOMENT;
 use std::alloc::Global;
 use std::marker::Model;
 use wef_base::{List, SubId};

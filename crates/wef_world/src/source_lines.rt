@@ -4,11 +4,11 @@ ghost use Rattle.std.specs.Prelude.{◌≡◌, [], IfOk, OnOk};
 ghost use Rattle.wef_world.specs.Sources as steps;
 ghost use Rattle.wef_world.specs.States as states;
 
+use crate::ends::Ends;
 use crate::faults::WorldFault;
 use crate::messages::Message;
 use crate::printing::{name_line, pair_line, sent_ask_line, sent_events_line, wrote_line};
 use crate::slots::{Capacity, Polled, Slot, Written};
-use crate::ends::Ends;
 use std::alloc::AllocError;
 use wef_base::{SourceName, SubId, Text};
 use wef_event::PlainEvent;
