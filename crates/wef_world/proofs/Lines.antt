@@ -4,12 +4,12 @@ use Rattle.std.specs.Prelude.{Option, OnOk}
 use Rattle.std.specs.FinMap as map
 use Rattle.wef_event.specs.declared.unnumbered.PlainEvent.{PlainEvent}
 use Rattle.wef_envelope.specs.declared.MessageId.{MessageId}
-use Rattle.wef_source.specs.Machine.{asked, lost_in, sent}
+use Rattle.wef_source.specs.Machine.{lost_in}
 use Rattle.wef_source.specs.Sessions.{session_of}
 use Rattle.wef_source.specs.declared.sessions.Session.{Session}
 use Rattle.wef_world.specs.Slots.{AsksAs, PollsAs, PollsIn, WritesTo, slot_with}
 use Rattle.wef_world.specs.Sources.{ask_at, ask_step, at_source, lost_step, poll_at, poll_step, write_at, write_step}
-use Rattle.wef_world.specs.States.{Slots, State, moment, opened, slot_of, with_end, with_message, with_slot}
+use Rattle.wef_world.specs.States.{Slots, State, opened, slot_of, with_end, with_message, with_slot}
 use Rattle.wef_world.specs.declared.messages.Message.TheVariants.{Ask, Events}
 use Rattle.wef_world.specs.declared.slots.Polled.{Polled}
 use Rattle.wef_world.specs.declared.slots.Polled.TheVariants as polled

@@ -1,7 +1,6 @@
-use Rattle.std.proofs.Common.{ap, sym, ◌∙◌, Some}
+use Rattle.std.proofs.Common.{ap, sym, ◌∙◌}
 use Rattle.wef_source.specs.Machine.{End, lost_in}
 use Rattle.wef_world.specs.Slots.{slot_with}
-use Rattle.wef_world.specs.declared.slots.Slot.{Slot}
 use Rattle.wef_world.proofs.Opened.{end_is, lost_refused}
 use Rattle.wef_world.proofs.slots.Slot.lose.Goals as goal
 

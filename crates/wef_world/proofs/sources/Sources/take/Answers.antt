@@ -1,4 +1,4 @@
-use Rattle.std.proofs.Common.{ap, sym, ◌∙◌}
+use Rattle.std.proofs.Common.{ap, ◌∙◌}
 use Rattle.std.specs.FinMap as map
 use Rattle.wef_world.proofs.NameMaps.{get_given, none_given}
 use Rattle.wef_world.specs.States.{Slots}

@@ -1,20 +1,21 @@
-use Rattle.std.proofs.Common.{◌≡◌, true, ap, subst, sym, ◌∙◌}
-use Rattle.std.specs.Prelude.{Option, Some}
+use Rattle.std.proofs.Common.{◌≡◌, true, subst, sym}
 use Rattle.wef_world.specs.Kept.{IsKept}
-use Rattle.wef_world.specs.States.{State, held}
+use Rattle.wef_world.specs.States.{held}
 use Rattle.wef_world.specs.Steps.{admits}
 use Rattle.wef_world.proofs.Steps.{start_is_kept, steps_keep}
 use Rattle.wef_world.proofs.world.World.apply.Goals as goal
 
+-- a world that lost its ends is as new
 pub invariant_of-self-in_err-text : goal.invariant_of-self-in_err-text
-invariant_of-self-in_err-text c = subst (λ (ends : Option State). IsKept (held ends)) (sym c.take.ensures.after) start_is_kept
+invariant_of-self-in_err-text c = subst (λ ends. IsKept (held ends)) (sym c.take.ensures.after) start_is_kept
 
 pub invariant_of-self-in_err-extend : goal.invariant_of-self-in_err-extend
-invariant_of-self-in_err-extend c = subst (λ (ends : Option State). IsKept (held ends)) (sym c.take.ensures.after) start_is_kept
+invariant_of-self-in_err-extend c = subst (λ ends. IsKept (held ends)) (sym c.take.ensures.after) start_is_kept
 
+-- the step of a line that is admitted keeps what is kept
 pub invariant_of-self-2 : goal.invariant_of-self-2
 invariant_of-self-2 c =
-    let has : c.self.inside.ends ≡ Some c.in-Some.ends = sym c.take.ensures.value ∙ c.in-Some.is in
-    let kept = subst (λ (ends : Option State). IsKept (held ends)) has c.self.invariant in
-    let admitted = subst (λ (state : State). admits state c.args.line.now ≡ true) (sym c.self.view_is ∙ ap held has) c.requires in
+    let kept : IsKept c.in-Some.ends = subst (λ ends. IsKept (held ends)) (sym c.in-Some.ensures.value) c.self.invariant in
+    let good : admits (held c.self.inside.ends) c.args.line.now ≡ true = subst (λ state. admits state c.args.line.now ≡ true) (sym c.self.view_is) c.requires in
+    let admitted : admits c.in-Some.ends c.args.line.now ≡ true = subst (λ ends. admits (held ends) c.args.line.now ≡ true) (sym c.in-Some.ensures.value) good in
     subst IsKept (sym c.in_ok-text.ensures.state) (steps_keep c.in-Some.ends c.args.line.now kept admitted)
