@@ -21,7 +21,7 @@ use Rattle.wef_world.specs.Admitting.{GoodLinesAreAdmitted}
 use Rattle.wef_world.specs.Deliveries.{after_ack, after_fault, after_offers, answer_with, at_end, deliver_message, message_at, number_back, refusal_at, rows_after, taken_by, with_answer}
 use Rattle.wef_world.specs.Sources.{ask_at, at_source, is_too_long, poll_at, poll_session, write_at}
 use Rattle.wef_world.specs.States.{State, declared_names, names_of, opened, slot_of, start, with_end, with_message, with_rows, with_slot}
-use Rattle.wef_world.specs.Steps.{AreAdmitted, admits, step}
+use Rattle.wef_world.specs.Steps.{AreAdmitted, step}
 use Rattle.wef_world.specs.declared.messages.Message.{Message}
 use Rattle.wef_world.specs.declared.messages.Message.TheVariants as sent
 use Rattle.wef_world.specs.declared.slots.Slot.{Slot}

@@ -1,7 +1,6 @@
 -- Why a batch is acknowledged.
-use Rattle.std.proofs.Common.{◌≡◌, refl, ap, ◌∙◌, Bool, List, ℕ, cond}
+use Rattle.std.proofs.Common.{ap, ◌∙◌, Bool, cond}
 use Rattle.std.specs.Prelude.{codes}
-use Rattle.wef_batch.specs.declared.items.Batch.{Batch}
 use Rattle.wef_world.specs.Laws.{AcknowledgementIsGiven}
 use Rattle.wef_world.specs.Printed.{fault_answer}
 use Rattle.wef_world.specs.Steps.{answer}

@@ -1,6 +1,6 @@
 -- Deliveries: what the end that a message is for makes of it, what it answers, and what is printed. Any message may be
 -- delivered at any time, and again.
-use Rattle.std.specs.Prelude.{ℕ, ◌+◌, ◌-◌, ◌%◌, ◌==◌, Bool, List, [], ◌∷◌, ◌++◌, length, slice_get, is_some, Option, Some, None, codes, if◌then◌else◌}
+use Rattle.std.specs.Prelude.{ℕ, ◌-◌, ◌%◌, ◌==◌, List, length, slice_get, is_some, Option, Some, None, codes, if◌then◌else◌}
 use Rattle.wef_batch.specs.declared.items.Batch.{Batch}
 use Rattle.wef_batch.specs.WellFormed.{is_well_formed}
 use Rattle.wef_collector.specs.Answers.{channels_read}

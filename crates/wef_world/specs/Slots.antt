@@ -1,20 +1,17 @@
 -- What using a source does to it and answers.
-use Rattle.std.specs.Prelude.{◌≡◌, ℕ, ◌+◌, Bool, true, false, List, [], length, is_some, Option, Some, None}
+use Rattle.std.specs.Prelude.{◌≡◌, ℕ, ◌+◌, Bool, true, false, List, [], is_some, Option, Some, None}
 use Rattle.std.specs.FinMap as map
 use Rattle.wef_event.specs.declared.unnumbered.PlainEvent.{PlainEvent}
-use Rattle.wef_envelope.specs.Ids.{ids_agree}
 use Rattle.wef_envelope.specs.declared.MessageId.{MessageId}
-use Rattle.wef_eventing.specs.declared.bodies.Offer.{Offer}
 use Rattle.wef_source_log.specs.Answers.{is_full}
 use Rattle.wef_source_log.specs.Windows.{last_of}
 use Rattle.wef_source.specs.Answers.{waiting_for}
-use Rattle.wef_source.specs.Machine.{End, adopted, asked, delivery_of, is_idle, is_spent, lost_in, next_id, sent}
+use Rattle.wef_source.specs.Machine.{End, asked, delivery_of, is_idle, is_spent, next_id, sent}
 use Rattle.wef_source.specs.Sessions.{session_of}
-use Rattle.wef_source.specs.declared.messages.Delivery.{Delivery}
 use Rattle.wef_source.specs.declared.messages.Reply.{Reply}
 use Rattle.wef_source.specs.declared.messages.Reply.TheVariants as replies
 use Rattle.wef_source.specs.declared.sessions.Session.{Session}
-use Rattle.wef_world.specs.Deliveries.{after_ack, after_fault, after_offers}
+use Rattle.wef_world.specs.Deliveries.{after_ack, after_fault}
 use Rattle.wef_world.specs.Sources.{is_too_long, recorded}
 use Rattle.wef_world.specs.States.{Slots, moment, opened}
 use Rattle.wef_world.specs.declared.slots.Polled.{Polled}

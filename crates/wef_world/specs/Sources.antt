@@ -1,5 +1,5 @@
 -- The lines of sources: what each does to a source and to the world, and what it prints.
-use Rattle.std.specs.Prelude.{ℕ, ◌+◌, Bool, List, [], ◌∷◌, ◌++◌, is_none, Option, Some, None, codes, if◌then◌else◌}
+use Rattle.std.specs.Prelude.{ℕ, ◌+◌, Bool, List, [], is_none, Option, Some, None, codes, if◌then◌else◌}
 use Rattle.std.specs.FinMap as map
 use Rattle.wef_event.specs.Unnumbered.{numbered}
 use Rattle.wef_event.specs.declared.unnumbered.PlainEvent.{PlainEvent}
@@ -11,7 +11,6 @@ use Rattle.wef_source.specs.Sessions.{session_of}
 use Rattle.wef_source.specs.declared.sessions.Session.{Session}
 use Rattle.wef_world.specs.Printed.{pair_line, name_line, sent_ask_line, sent_events_line, wrote_line}
 use Rattle.wef_world.specs.States.{State, moment, next_number, opened, slot_of, with_end, with_message, with_slot}
-use Rattle.wef_world.specs.declared.messages.Message.{Message}
 use Rattle.wef_world.specs.declared.messages.Message.TheVariants.{Ask, Events}
 use Rattle.wef_world.specs.declared.slots.Slot.{Slot}
 

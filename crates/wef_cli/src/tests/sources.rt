@@ -96,10 +96,7 @@ fn with_letters(alloc: Global, letters: usize, report: &str) -> Result<Script, F
     )?;
     script.writes(1, 1)?;
     script.writes_long(2, letters)?;
-    script.does(
-        "write pc1 application 1 4 b\n",
-        "wrote pc1 application 3\n",
-    )?;
+    script.does("write pc1 application 1 4 b\n", "wrote pc1 application 3\n")?;
     script.asks()?;
     script.does(
         "poll pc1 base\ndeliver 3\nshow\n",
@@ -239,9 +236,7 @@ fn a_thousand_lines(rt: HostRuntime) -> Result<(), Fail> {
     let mut report = Text::from_str(alloc, "subscription base live\n")?;
     for source in 0..4 {
         push_line(&mut report, " source", source, "")?;
-        report.push_str(
-            "  channel application bookmark 230\n   held 131-230\n   dropped 1-130\n",
-        )?;
+        report.push_str("  channel application bookmark 230\n   held 131-230\n   dropped 1-130\n")?;
     }
     report.push_str("end\n")?;
     assert!(rt; ran.out.taken().ends_with(report.as_str().as_bytes()));
