@@ -1,25 +1,41 @@
 #!/usr/bin/env python3
-"""Writes a schedule of EVENTS events, in batches of 20, of SOURCES sources in turn.
+"""Writes a schedule of about SIZE events, or lines, of SOURCES sources in turn.
 
-    bench/schedules.py EVENTS SOURCES > FILE
+    bench/schedules.py events SIZE SOURCES > FILE     batches of foreign sources
+    bench/schedules.py lines SIZE SOURCES > FILE      writes, polls and deliveries of declared sources
 """
 import sys
 
 BATCH = 20
 
 
-def main():
-    events, sources = int(sys.argv[1]), int(sys.argv[2])
-    out = sys.stdout
-    out.write("subscribe base 20 512000 900000 all application\n")
+def batches(events, sources):
+    """Batches of events, and the report."""
+    yield "subscribe base 20 512000 900000 all application"
     next_number = [1] * sources
     for turn in range(events // BATCH):
         source = turn % sources
         first = next_number[source]
         next_number[source] = first + BATCH
         words = " ".join(f"e:application:{number}:a" for number in range(first, first + BATCH))
-        out.write(f"batch base pc{source} {words} ack\n")
-    out.write("show\n")
+        yield f"batch base pc{source} {words} ack"
+    yield "show"
 
 
-main()
+def exchanges(lines, sources):
+    """As many events written as a batch has, then the batch and its answer delivered, and the report."""
+    yield "subscribe base 20 512000 900000 all application"
+    for source in range(sources):
+        yield from (f"source s{source} 1000", f"ask s{source}", "back 0", "back 0")
+    done = 1 + 4 * sources
+    for turn in range((lines - done + BATCH + 2) // (BATCH + 3)):
+        source = turn % sources
+        yield from [f"write s{source} application 1 4 a"] * BATCH
+        yield from (f"poll s{source} base", "back 0", "back 0")
+    yield "show"
+
+
+KINDS = {"events": batches, "lines": exchanges}
+
+kind, size, sources = KINDS[sys.argv[1]], int(sys.argv[2]), int(sys.argv[3])
+sys.stdout.writelines(f"{line}\n" for line in kind(size, sources))
