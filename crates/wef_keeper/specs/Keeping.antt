@@ -1,5 +1,5 @@
--- The words of the store contract: what a call of a keeper answers, and how its meanings move with the answer.
-use Rattle.std.specs.Prelude.{◌≡◌, ℕ, ◌+◌, ◌≤◌, Bool, true, false, cond, ◌⊎◌, min, is_some, List, Option, Some, None, Result, Ok, Err, IfSome}
+-- The words of the store contract: what a call of a keeper answers, and what is known of the store before and after it.
+use Rattle.std.specs.Prelude.{◌≡◌, ℕ, ◌+◌, ◌≤◌, Bool, true, false, cond, ◌⊎◌, min, is_some, List, [], ◌∷◌, Option, Some, None, Result, Ok, Err, IfSome, All}
 use Rattle.std.specs.FinMap as finite
 use Rattle.std.specs.Option.{option_map}
 use Rattle.wef_base.specs.Counts.{Rose}
@@ -10,21 +10,61 @@ use Rattle.wef_keeper.specs.declared.keys.Change.{Change}
 use Rattle.wef_keeper.specs.declared.keys.Key.{Key}
 use Rattle.wef_keeper.specs.declared.keys.Row.{Row}
 
--- a fact of what is told before a call and what is told after it; no fact where either isn't told
-abbrev pub WhereTold : {A B : Type 0} → Option A → Option B → (A → B → Type 0) → Type 0
-WhereTold before now Holds = IfSome before (λ told. IfSome now (λ tells. Holds told tells))
+-- What is known of a store.
+pub record Store : Type 0 where
+  -- the rows, where the store tells them
+  pub rows : Option Rows
+  -- the row maps of which an opening finds one, where it tells them
+  pub images : Option (List Rows)
+  -- whether a commit failed and no opening has found yet what it left
+  pub doubt : Bool
+  -- how many commits have begun; it stays at 2^64 - 1
+  pub tries : ℕ
+  -- how many times `get` and `page` were called; it stays at 2^64 - 1
+  pub reads : ℕ
+  -- how many calls have failed; it never falls, and stays at 2^64 - 1
+  pub faults : ℕ
+  -- whether the store was opened
+  pub opened : Bool
+  -- where it is told, whether the next commit will fail, and then whether its changes are kept all the same
+  pub plan : Option (Option Bool)
 
--- what is told before and after is the same
+-- a fact of what is told; none where it isn't
+abbrev pub WhereTold : {A : Type 0} → Option A → (A → Type 0) → Type 0
+WhereTold None Holds = ⊥
+WhereTold (Some told) Holds = Holds told
+
+-- what is told now was told before, and is the same
 abbrev pub Stays : {A : Type 0} → Option A → Option A → Type 0
-Stays before now = WhereTold before now (λ told tells. tells ≡ told)
+Stays before now = IfSome now (λ told. before ≡ Some told)
 
--- a keeper that is opened and doesn't tell doesn't begin to
-abbrev pub StaysUntold : {A : Type 0} → Bool → Option A → Option A → Type 0
-StaysUntold opened before now = opened ≡ true → is_some before ≡ false → is_some now ≡ false
+-- a fact of what is told now, by what was told before; nothing is told now that wasn't told before
+abbrev pub Follows : {A B : Type 0} → Option A → Option B → (A → B → Type 0) → Type 0
+Follows before now Holds = IfSome now (λ tells. WhereTold before (λ told. Holds told tells))
 
--- a keeper that is opened stays so
-abbrev pub StaysOpened : Bool → Bool → Type 0
-StaysOpened before now = before ≡ true → now ≡ true
+-- a fact of the rows that an opened store tells after a call, by those that it told before
+abbrev pub OfRows : Store → Store → (Rows → Rows → Type 0) → Type 0
+OfRows before now Holds = before.opened ≡ true → Follows before.rows now.rows Holds
+
+-- a fact of the images that an opened store tells after a call, by the rows that it told before
+abbrev pub OfImages : Store → Store → (Rows → List Rows → Type 0) → Type 0
+OfImages before now Holds = before.opened ≡ true → Follows before.rows now.images Holds
+
+-- a store that is opened stays so
+abbrev pub StaysOpened : Store → Store → Type 0
+StaysOpened before now = before.opened ≡ true → now.opened ≡ true
+
+-- an opened store that tells nothing doesn't begin to
+abbrev pub StaysUntold : Store → Store → Type 0
+StaysUntold before now = before.opened ≡ true → is_some before.images ≡ false → is_some now.rows ≡ false
+
+-- an opened store tells no other rows and images than before
+abbrev pub KeepsRows : Store → Store → Type 0
+KeepsRows before now = before.opened ≡ true → Stays before.rows now.rows × Stays before.images now.images
+
+-- nothing of what is kept changes
+abbrev pub IsAsBefore : Store → Store → Type 0
+IsAsBefore before now = KeepsRows before now × (now.doubt ≡ before.doubt) × (now.tries ≡ before.tries) × (now.plan ≡ before.plan)
 
 -- a count after one more, which stays at 2^64 - 1
 abbrev pub raised : ℕ → ℕ
@@ -69,6 +109,10 @@ counted result faults = cond (is_failed result) (raised faults) faults
 -- a call that doesn't fail, and counts no fault
 abbrev pub HasNoFault : {T : Type 0} → Result T KeeperFault → ℕ → ℕ → Type 0
 HasNoFault result before now = (is_failed result ≡ false) × (now ≡ before)
+
+-- where the plan is told, a call that isn't a commit doesn't fail
+abbrev pub IsCalm : {T : Type 0} → Result T KeeperFault → Store → Store → Type 0
+IsCalm result before now = IfSome before.plan (λ planned. HasNoFault result before.faults now.faults)
 
 -- the row of a key, where there is one
 abbrev pub row_at : Key → Rows → Option Row
@@ -121,3 +165,9 @@ Reopens (Ok answer) doubt = Unit {0}
 Reopens (Err NoMemory) doubt = doubt ≡ false
 Reopens (Err Failed) doubt = Unit {0}
 Reopens (Err InDoubt) doubt = ⊥
+
+-- one of the row maps of a list
+abbrev pub IsOneOf : List Rows → Rows → Type 0
+IsOneOf [] rows = ⊥
+IsOneOf (image ∷ []) rows = rows ≡ image
+IsOneOf (image ∷ images) rows = (rows ≡ image) ⊎ IsOneOf images rows

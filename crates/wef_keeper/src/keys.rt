@@ -48,11 +48,36 @@ pub struct Row {
     pub body: Text,
 }
 
+impl Row {
+    /// A copy of the row, in memory of its own.
+    pub fn clone(&self) -> Result<Row, AllocError>
+        ensures { IfOk result (λ copy. copy ≡ self.now) }
+    {
+        Ok(Row {
+            key: self.key.clone()?,
+            value: self.value,
+            body: self.body.clone()?,
+        })
+    }
+}
+
 /// One change of the rows: what stands at a key from now on, or that nothing does.
 #[derive(Debug, Drop)]
 pub enum Change {
     Put(Row),
     Delete(Key),
+}
+
+impl Change {
+    /// A copy of the change, in memory of its own.
+    pub fn clone(&self) -> Result<Change, AllocError>
+        ensures { IfOk result (λ copy. copy ≡ self.now) }
+    {
+        Ok(match self {
+            Change::Put(row) => Change::Put(row.clone()?),
+            Change::Delete(key) => Change::Delete(key.clone()?),
+        })
+    }
 }
 
 /// How many parts of a key all rows of a section share.

@@ -2,6 +2,7 @@
 //! whole lists of changes.
 #![tactic(auto)]
 
+pub mod access;
 mod cells;
 pub mod keeping;
 pub mod keys;
@@ -14,6 +15,7 @@ pub mod table;
 #[cfg(test)]
 mod tests;
 
+pub use access::StoreFault;
 pub use keeping::{Keeper, KeeperFault};
 pub use keys::{Cell, Change, Depth, Key, Row};
 pub use mem_keeper::MemKeeper;

@@ -92,21 +92,16 @@ impl MemKeeper {
 }
 
 impl Keeper for MemKeeper {
-    ghost rows = { λ k. Some k.rows };
-
-    ghost images = { λ k. Some (k.rows ∷ []) };
-
-    ghost doubt = { λ k. k.in_doubt };
-
-    ghost tries = { λ k. k.tries };
-
-    ghost reads = { λ k. k.reads };
-
-    ghost faults = { λ k. k.faults };
-
-    ghost opened = { λ k. true };
-
-    ghost plan = { λ k. Some k.armed };
+    ghost store = { λ k. record {
+        rows = Some k.rows;
+        images = Some (k.rows ∷ []);
+        doubt = k.in_doubt;
+        tries = k.tries;
+        reads = k.reads;
+        faults = k.faults;
+        opened = true;
+        plan = Some k.armed;
+    } };
 
     ghost tells_both = { λ k. refl };
 
@@ -126,8 +121,9 @@ impl Keeper for MemKeeper {
         Ok(self.rows.page(after, max)?)
     }
 
-    /// An armed commit whose changes want memory is refused for it, and stays armed.
-    fn commit(&mut self, changes: List<Change>) -> Result<(), KeeperFault> {
+    /// The changes are copied. An armed commit that wants memory for them is refused for it, and stays
+    /// armed.
+    fn commit(&mut self, changes: &List<Change>) -> Result<(), KeeperFault> {
         if self.in_doubt {
             return Err(KeeperFault::InDoubt);
         }
@@ -139,7 +135,7 @@ impl Keeper for MemKeeper {
             self.in_doubt = true;
             return Err(KeeperFault::Failed);
         }
-        self.rows.apply(changes)?;
+        self.rows.apply(copied(self.rows.alloc(), changes)?)?;
         self.count_try();
         Ok(())
     }
@@ -161,12 +157,22 @@ fn found_row(rows: &Rows, key: &Key) -> Result<Option<Row>, AllocError>
 }
 
 /// Applies the changes of a commit that fails, where it is armed to keep them.
-fn apply_where(rows: &mut Rows, changes: List<Change>, after: bool) -> Result<(), AllocError>
-    ensures ok { OnOk result (rows.new ≡ outcome (Some after) changes rows.old) }
+fn apply_where(rows: &mut Rows, changes: &List<Change>, after: bool) -> Result<(), AllocError>
+    ensures ok { OnOk result (rows.new ≡ outcome (Some after) changes.now rows.old) }
     ensures err { OnErr result (rows.new ≡ rows.old) }
 {
     if after {
-        rows.apply(changes)?;
+        rows.apply(copied(rows.alloc(), changes)?)?;
     }
     Ok(())
+}
+
+fn copied(alloc: Global, changes: &List<Change>) -> Result<List<Change>, AllocError>
+    ensures { IfOk result (λ copy. copy ≡ changes.now) }
+{
+    let mut copy = List::new(alloc);
+    for change in changes.as_slice() {
+        copy.push(change.clone()?)?;
+    }
+    Ok(copy)
 }

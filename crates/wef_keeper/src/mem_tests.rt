@@ -1,7 +1,7 @@
 //! A keeper in memory that fails where it is told to, and pages of a thousand rows.
 
 ghost use Rattle.std.specs.Prelude.{◌≡◌, ◌≤◌, take, IfOk, OnOk};
-ghost use Rattle.wef_keeper.specs.Keeping.{WhereTold, raised};
+ghost use Rattle.wef_keeper.specs.Keeping.{OfRows, raised};
 ghost use Rattle.wef_keeper.specs.Rows.{applied, rows_after};
 
 use crate::{Change, Keeper, KeeperFault, Key, MemKeeper, Row};
@@ -63,15 +63,15 @@ fn value_at<K: Keeper>(keeper: &mut K, alloc: Global, number: u64) -> Result<u64
 /// Two commits and a page, each by the store contract alone.
 fn page_of_both<K: Keeper>(
     keeper: &mut K,
-    first: List<Change>,
-    second: List<Change>,
+    first: &List<Change>,
+    second: &List<Change>,
     after: &Key,
     max: u32,
 ) -> Result<List<Row>, KeeperFault>
     requires { 1 ≤ max }
-    ensures tries { OnOk result (K.tries keeper.new ≡ raised (raised (K.tries keeper.old))) }
-    ensures reads { OnOk result (K.reads keeper.new ≡ raised (K.reads keeper.old)) }
-    ensures page { WhereTold (K.rows keeper.old) (K.rows keeper.new) (λ before now. IfOk result (λ page. page ≡ take max (rows_after after.now (applied second (applied first before))))) }
+    ensures tries { OnOk result ((K.store keeper.new).tries ≡ raised (raised (K.store keeper.old).tries)) }
+    ensures reads { OnOk result ((K.store keeper.new).reads ≡ raised (K.store keeper.old).reads) }
+    ensures page { OfRows (K.store keeper.old) (K.store keeper.new) (λ before now. IfOk result (λ page. page ≡ take max (rows_after after.now (applied second.now (applied first.now before))))) }
 {
     keeper.commit(first)?;
     keeper.commit(second)?;
@@ -84,7 +84,7 @@ fn a_page_has_both_commits(rt: HostRuntime) -> Result<(), Fail> {
     let mut keeper = MemKeeper::new(alloc);
     let first = one(alloc, 1, 5)?;
     let second = one(alloc, 2, 7)?;
-    let page = page_of_both(&mut keeper, first, second, &key(alloc, 0), 3)?;
+    let page = page_of_both(&mut keeper, &first, &second, &key(alloc, 0), 3)?;
     assert_eq!(rt; page.len(), 2);
     Ok(())
 }
@@ -93,10 +93,10 @@ fn a_page_has_both_commits(rt: HostRuntime) -> Result<(), Fail> {
 /// a crash or an opening.
 fn value_left(alloc: Global, after: bool, crashes: bool) -> Result<u64, KeeperFault> {
     let mut keeper = MemKeeper::new(alloc);
-    keeper.commit(one(alloc, 1, 5)?)?;
+    keeper.commit(&one(alloc, 1, 5)?)?;
     keeper.fail_next(after);
-    let _failed = keeper.commit(one(alloc, 1, 8)?);
-    let _in_doubt = keeper.commit(one(alloc, 1, 9)?);
+    let _failed = keeper.commit(&one(alloc, 1, 8)?);
+    let _in_doubt = keeper.commit(&one(alloc, 1, 9)?);
     if crashes {
         keeper.crash();
     } else {
@@ -120,7 +120,7 @@ fn a_calmed_commit_is_done(rt: HostRuntime) -> Result<(), Fail> {
     let mut keeper = MemKeeper::new(alloc);
     keeper.fail_next(true);
     keeper.calm();
-    keeper.commit(one(alloc, 4, 6)?)?;
+    keeper.commit(&one(alloc, 4, 6)?)?;
     assert!(rt; !keeper.is_armed());
     assert_eq!(rt; value_at(&mut keeper, alloc, 4)?, 6);
     Ok(())
@@ -134,7 +134,7 @@ fn pages_of_a_thousand_rows(rt: HostRuntime) -> Result<(), Fail> {
         changes.push(put(alloc, number, number))?;
     }
     let mut keeper = MemKeeper::new(alloc);
-    keeper.commit(changes)?;
+    keeper.commit(&changes)?;
     for (after, max, rows) in PAGES {
         let page = keeper.page(&key(alloc, after), max)?;
         assert_eq!(rt; page.len(), rows);

@@ -50,6 +50,10 @@ impl Rows {
         }
     }
 
+    pub(crate) fn alloc(&self) -> Global {
+        self.alloc
+    }
+
     /// What stands at a key.
     pub fn get(&self, key: &Key) -> Option<&Cell>
         ensures { option_copied result ≡ finite.get self.now key.now }

@@ -1,0 +1,15 @@
+use Rattle.std.proofs.Common.{◌≡◌, subst, sym, true, take, map, List, All}
+use Rattle.std.proofs.lemmas.List.Elements.{All-map, All-take, filter_passes}
+use Rattle.std.specs.FinMap as finite
+use Rattle.std.specs.List.{filter}
+use Rattle.wef_keeper.specs.Rows.{is_after, row_of, rows_after}
+use Rattle.wef_keeper.specs.declared.keys.Row.{Row}
+use Rattle.wef_keeper.proofs.mem_keeper.MemKeeperKeeper.page.Goals as goal
+
+pub returns-clause-behind : goal.returns-clause-behind
+returns-clause-behind c =
+    let after = c.args.after.now in
+    let entries = finite.entries c.begin_read.new.self.rows in
+    let whole = All-map (λ (row : Row). is_after after row.key ≡ true) row_of _ (filter_passes (λ entry. is_after after entry.0) entries) in
+    let P : List Row → Type 0 = All (λ (row : Row). is_after after row.key ≡ true) in
+    subst P (sym c.in_ok-page.ensures) (All-take (λ (row : Row). is_after after row.key ≡ true) c.args.max (rows_after after c.begin_read.new.self.rows) whole)
