@@ -12,7 +12,7 @@ use Rattle.wef_source_log.specs.declared.faults.LogFault.TheVariants as log_faul
 use Rattle.wef_source.specs.Machine.{End, acknowledged_in, adopted, asked, delivery_of, is_idle, is_spent, lost_in, next_id, refused_in, sent, with_written}
 use Rattle.wef_source.specs.Sessions.{session_of, waiting}
 use Rattle.wef_source.specs.declared.faults.SourceFault.{SourceFault}
-use Rattle.wef_source.specs.declared.faults.SourceFault.TheVariants.{NoMemory, Full, TooLong, NotAsked, UnknownSubscription, Spent}
+use Rattle.wef_source.specs.declared.faults.SourceFault.TheVariants.{NoMemory, Failed, Full, TooLong, NotAsked, UnknownSubscription, Spent}
 use Rattle.wef_source.specs.declared.messages.Moved as moved
 use Rattle.wef_source.specs.declared.messages.Moved.TheVariants as moves
 use Rattle.wef_source.specs.declared.messages.Poll as poll
@@ -26,19 +26,7 @@ abbrev pub source_fault : the_log_fault.LogFault → SourceFault
 source_fault log_faults.NoMemory = NoMemory
 source_fault log_faults.Full = Full
 source_fault log_faults.TooLong = TooLong
-
--- What was written is the next record of its channel.
-abbrev pub Writes : End → End → PlainEvent → ℕ → Type 0
-Writes end end' event n =
-    (answers.is_full end.rows event.channel ≡ false) × (n ≡ last_of end.rows event.channel + 1)
-    × (end' ≡ with_written end event.channel (next_text end.rows event))
-
--- A write is refused as the log refuses it.
-abbrev pub RefusesWrite : SourceFault → End → PlainEvent → Type 0
-RefusesWrite NoMemory end event = Unit {0}
-RefusesWrite Full end event = answers.RefusesWrite log_faults.Full end.rows event
-RefusesWrite TooLong end event = answers.RefusesWrite log_faults.TooLong end.rows event
-RefusesWrite _ end event = ⊥
+source_fault log_faults.Failed = Failed
 
 -- An ask draws the next id.
 abbrev pub Asks : End → End → MessageId → Type 0
@@ -60,19 +48,20 @@ RefusesAdopt NoMemory end relates = Unit {0}
 RefusesAdopt NotAsked end relates = ids_agree end.ask relates.value ≡ false
 RefusesAdopt _ end relates = ⊥
 
--- A session sends what is built for it; it says Nothing exactly where a reply is outstanding or there is no item.
-abbrev pub PollsSession : End → End → Session → ℕ → poll.Poll → Type 0
-PollsSession end end' session now polls.Nothing = (is_idle end.rows session ≡ true) × (end' ≡ end)
-PollsSession end end' session now (polls.Send delivery) =
-    (is_idle end.rows session ≡ false) × (is_spent end ≡ false) × (delivery ≡ delivery_of end session) × (end' ≡ sent end session now)
+-- A session sends what is built for it from the rows; it says Nothing exactly where a reply is outstanding or there is
+-- no item.
+abbrev pub PollsSession : Rows → End → End → Session → ℕ → poll.Poll → Type 0
+PollsSession rows end end' session now polls.Nothing = (is_idle rows session ≡ true) × (end' ≡ end)
+PollsSession rows end end' session now (polls.Send delivery) =
+    (is_idle rows session ≡ false) × (is_spent end ≡ false) × (delivery ≡ delivery_of rows end session) × (end' ≡ sent rows end session now)
 
-abbrev pub PollsIn : End → End → Option Session → ℕ → poll.Poll → Type 0
-PollsIn end end' None now answer = ⊥
-PollsIn end end' (Some session) now answer = PollsSession end end' session now answer
+abbrev pub PollsIn : Rows → End → End → Option Session → ℕ → poll.Poll → Type 0
+PollsIn rows end end' None now answer = ⊥
+PollsIn rows end end' (Some session) now answer = PollsSession rows end end' session now answer
 
 -- A poll asks the session of the name.
-abbrev pub Polls : End → End → List ℕ → ℕ → poll.Poll → Type 0
-Polls end end' u now answer = PollsIn end end' (session_of end.sessions u) now answer
+abbrev pub Polls : Rows → End → End → List ℕ → ℕ → poll.Poll → Type 0
+Polls rows end end' u now answer = PollsIn rows end end' (session_of end.sessions u) now answer
 
 -- a fact of a session that is there
 abbrev pub WhereThere : Option Session → (Session → Type 0) → Type 0
@@ -80,12 +69,13 @@ WhereThere None P = ⊥
 WhereThere (Some session) P = P session
 
 -- `UnknownSubscription` comes exactly where no session has the name, `Spent` exactly where the session has something to
--- send and no id is left.
-abbrev pub RefusesPoll : SourceFault → End → List ℕ → Type 0
-RefusesPoll NoMemory end u = Unit {0}
-RefusesPoll UnknownSubscription end u = session_of end.sessions u ≡ None
-RefusesPoll Spent end u = WhereThere (session_of end.sessions u) (λ session. is_idle end.rows session ≡ false) × (is_spent end ≡ true)
-RefusesPoll _ end u = ⊥
+-- send and no id is left. `Failed` has its cause in the store.
+abbrev pub RefusesPoll : SourceFault → Rows → End → List ℕ → Type 0
+RefusesPoll NoMemory rows end u = Unit {0}
+RefusesPoll Failed rows end u = Unit {0}
+RefusesPoll UnknownSubscription rows end u = session_of end.sessions u ≡ None
+RefusesPoll Spent rows end u = WhereThere (session_of end.sessions u) (λ session. is_idle rows session ≡ false) × (is_spent end ≡ true)
+RefusesPoll _ rows end u = ⊥
 
 -- the session that waits for the answer to an id, where the id has a value
 abbrev pub waiting_for : End → Option ℕ → Option Session
