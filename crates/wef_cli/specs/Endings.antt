@@ -9,8 +9,8 @@ use Rattle.wef_replay.specs.Schedule.{schedule_of}
 use Rattle.wef_replay.specs.declared.lines.Line.{Line}
 use Rattle.wef_replay.specs.declared.schedule.ScheduleFault as fault
 use Rattle.wef_replay.specs.declared.schedule.ScheduleFault.TheVariants as faults
-use Rattle.wef_world.specs.Laws.{AreSafe}
-use Rattle.wef_world.specs.Steps.{trail}
+use Rattle.wef_machine.specs.Laws.{AreSafe}
+use Rattle.wef_machine.specs.Steps.{trail}
 use Rattle.wef_cli.specs.Command.{is_replay}
 use Rattle.wef_cli.specs.Streams.{WritesPart}
 use Rattle.wef_cli.specs.declared.ending.Ending.{Ending}

@@ -5,8 +5,8 @@ use Rattle.wef_replay.specs.Schedule.{schedule_of}
 use Rattle.wef_replay.specs.declared.lines.Line.{Line}
 use Rattle.wef_replay.specs.declared.schedule.ScheduleFault as fault
 use Rattle.wef_replay.specs.declared.schedule.ScheduleFault.TheVariants as faults
-use Rattle.wef_world.specs.Laws.{AreSafe}
-use Rattle.wef_world.specs.Steps.{trail}
+use Rattle.wef_machine.specs.Laws.{AreSafe}
+use Rattle.wef_machine.specs.Steps.{trail}
 
 -- the text is the trail of a good schedule, each state of whose run is safe
 abbrev pub IsTrail : List ℕ → Result (List Line) fault.ScheduleFault → Type 0

@@ -11,9 +11,9 @@ use Rattle.wef_source.specs.Sessions.{session_of}
 use Rattle.wef_source.specs.declared.messages.Reply.{Reply}
 use Rattle.wef_source.specs.declared.messages.Reply.TheVariants as replies
 use Rattle.wef_source.specs.declared.sessions.Session.{Session}
-use Rattle.wef_world.specs.Deliveries.{after_ack, after_fault}
-use Rattle.wef_world.specs.Sources.{is_too_long, recorded}
-use Rattle.wef_world.specs.States.{Slots, moment, opened}
+use Rattle.wef_machine.specs.Deliveries.{after_ack, after_fault}
+use Rattle.wef_machine.specs.Sources.{is_too_long, recorded}
+use Rattle.wef_machine.specs.States.{Slots, moment, opened}
 use Rattle.wef_world.specs.declared.slots.Polled.{Polled}
 use Rattle.wef_world.specs.declared.slots.Polled.TheVariants as polled
 use Rattle.wef_world.specs.declared.slots.Slot.{Slot}

@@ -6,11 +6,11 @@ ghost use Rattle.std.specs.Option.{option_copied};
 ghost use Rattle.wef_batch.specs.declared.items.Batch.{Batch};
 ghost use Rattle.wef_collector.specs.Offers.{offers};
 ghost use Rattle.wef_collector.specs.Standing.{standing};
-ghost use Rattle.wef_world.specs.Deliveries as steps;
-ghost use Rattle.wef_world.specs.Printed.{answered_line};
+ghost use Rattle.wef_machine.specs.Deliveries as steps;
+ghost use Rattle.wef_machine.specs.Printed.{answered_line};
 ghost use Rattle.wef_world.specs.Slots.{after_reply, changed_at, waits_in};
-ghost use Rattle.wef_world.specs.declared.messages.Message.TheVariants.{Offers};
-ghost use Rattle.wef_world.specs.States as states;
+ghost use Rattle.wef_machine.specs.declared.messages.Message.TheVariants.{Offers};
+ghost use Rattle.wef_machine.specs.States as states;
 
 use crate::ends::{Ends, MOMENT};
 use crate::faults::WorldFault;

@@ -3,10 +3,10 @@
 ghost use Rattle.std.specs.Prelude.{◌≡◌, true, IfOk, OnOk};
 ghost use Rattle.wef_collector.specs.Report.{report};
 ghost use Rattle.wef_collector.specs.Standing.{standing};
-ghost use Rattle.wef_world.specs.Printed as texts;
+ghost use Rattle.wef_machine.specs.Printed as texts;
 ghost use Rattle.wef_replay.specs.Good.{allows, is_among};
-ghost use Rattle.wef_world.specs.States as states;
-ghost use Rattle.wef_world.specs.Steps as steps;
+ghost use Rattle.wef_machine.specs.States as states;
+ghost use Rattle.wef_machine.specs.Steps as steps;
 
 use crate::faults::WorldFault;
 use crate::messages::Message;
@@ -47,10 +47,10 @@ impl Model for Ends {
     ghost use Rattle.wef_keeper.specs.Rows.{Rows};
     ghost use Rattle.wef_keeper.specs.contracts.keys.Key as key;
     ghost use Rattle.wef_keeper.specs.contracts.keys.Cell as cell;
-    ghost use Rattle.wef_world.specs.States.{State, Slots};
-    ghost use Rattle.wef_world.specs.contracts.messages.Message as message;
+    ghost use Rattle.wef_machine.specs.States.{State, Slots};
+    ghost use Rattle.wef_machine.specs.contracts.messages.Message as message;
     ghost use Rattle.wef_world.specs.contracts.slots.Slot as slot;
-    ghost use Rattle.wef_world.specs.declared.messages.Message.{Message};
+    ghost use Rattle.wef_machine.specs.declared.messages.Message.{Message};
 
     ghost Value = { State };
 

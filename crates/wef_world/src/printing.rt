@@ -5,7 +5,7 @@ ghost use Rattle.std.specs.List.{flat_map};
 ghost use Rattle.wef_collector.specs.Answers as answers;
 ghost use Rattle.wef_collector.specs.Held.{held_after, last_number};
 ghost use Rattle.wef_collector.specs.Standing.{standing};
-ghost use Rattle.wef_world.specs.Printed as spec;
+ghost use Rattle.wef_machine.specs.Printed as spec;
 
 use std::alloc::{AllocError, Global};
 use wef_base::{ChannelName, SourceName, SubId, Text};

@@ -2,9 +2,9 @@
 
 ghost use Rattle.std.specs.Prelude.{◌≡◌, IfOk};
 ghost use Rattle.wef_replay.specs.Good.{AreGood, no_names};
-ghost use Rattle.wef_world.specs.Admitting.{GoodLinesAreAdmitted};
-ghost use Rattle.wef_world.specs.Laws.{AreSafe};
-ghost use Rattle.wef_world.specs.Steps.{trail};
+ghost use Rattle.wef_machine.specs.Admitting.{GoodLinesAreAdmitted};
+ghost use Rattle.wef_machine.specs.Laws.{AreSafe};
+ghost use Rattle.wef_machine.specs.Steps.{trail};
 
 use crate::faults::WorldFault;
 use crate::world::World;

@@ -89,10 +89,10 @@ impl Slot {
     ghost use Rattle.wef_source.specs.Answers.{waiting_for};
     ghost use Rattle.wef_source.specs.Machine.{adopted, lost_in};
     ghost use Rattle.wef_source.specs.Sessions.{session_of};
-    ghost use Rattle.wef_world.specs.Deliveries.{after_offers};
+    ghost use Rattle.wef_machine.specs.Deliveries.{after_offers};
     ghost use Rattle.wef_world.specs.Slots as slots;
-    ghost use Rattle.wef_world.specs.Sources.{declared_slot};
-    ghost use Rattle.wef_world.specs.States.{moment, opened};
+    ghost use Rattle.wef_machine.specs.Sources.{declared_slot};
+    ghost use Rattle.wef_machine.specs.States.{moment, opened};
 
     /// A source that was just declared.
     pub fn new(alloc: Global, capacity: Capacity) -> Slot

@@ -1,8 +1,8 @@
 //! The lines of sources.
 
 ghost use Rattle.std.specs.Prelude.{◌≡◌, [], IfOk, OnOk};
-ghost use Rattle.wef_world.specs.Sources as steps;
-ghost use Rattle.wef_world.specs.States as states;
+ghost use Rattle.wef_machine.specs.Sources as steps;
+ghost use Rattle.wef_machine.specs.States as states;
 
 use crate::ends::Ends;
 use crate::faults::WorldFault;

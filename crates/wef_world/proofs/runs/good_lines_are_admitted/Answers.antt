@@ -1,4 +1,4 @@
-use Rattle.wef_world.proofs.Admitted.{good_lines}
+use Rattle.wef_machine.proofs.Admitted.{good_lines}
 use Rattle.wef_world.proofs.runs.good_lines_are_admitted.Goals as goal
 
 pub returns : goal.returns
