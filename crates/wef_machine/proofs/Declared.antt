@@ -5,8 +5,7 @@ use Rattle.std.specs.Cmp.Lexicographic.{slice_cmp, texts_ties}
 use Rattle.std.specs.FinMap as finite
 use Rattle.std.specs.Ordering.{eq_by_cmp, nat_cmp}
 use Rattle.wef_replay.specs.Good.{is_among}
-use Rattle.wef_machine.specs.States.{Slots}
-use Rattle.wef_machine.specs.declared.slots.Slot.{Slot}
+use Rattle.wef_machine.specs.States.{Slot, Slots}
 
 -- a value stands at a name where the first entry has it, or one of the rest
 pub first_or_rest : {X : Type 0} (b : Bool) (x : X) (rest : Option X) → (b || is_some rest) ≡ is_some (cond b (Some x) rest)

@@ -15,15 +15,15 @@ use Rattle.wef_keeper.specs.Rows.{Rows}
 use Rattle.wef_query.specs.declared.QueryList.{QueryList}
 use Rattle.wef_source_log.specs.Histories.{Histories, History, history}
 use Rattle.wef_source.specs.Fits.{Fits, FitsChannel, ranges_in}
+use Rattle.wef_source.specs.Machine.{End}
 use Rattle.wef_source.specs.declared.messages.Delivery.{Delivery}
 use Rattle.wef_source.specs.declared.sessions.Outstanding.{Outstanding}
 use Rattle.wef_source.specs.declared.sessions.Session.{Session}
-use Rattle.wef_machine.specs.Kept.{AreTerms, IsAcknowledged, IsBehind, IsDelivery, IsMessageKept, IsOffered, IsServed, IsSourceKept, WaitsFor, WasDrawn, WasSent, WhereDeclared, first_ids}
+use Rattle.wef_machine.specs.Kept.{AreTerms, IsAcknowledged, IsBehind, IsDelivery, IsMessageKept, IsOffered, IsReached, IsRunningKept, IsServed, IsSourceKept, WaitsFor, WasDrawn, WasSent, WhereDeclared, last_id}
 use Rattle.wef_machine.specs.Safe.{subscription_at}
-use Rattle.wef_machine.specs.States.{Slots, opened}
+use Rattle.wef_machine.specs.States.{Slot, Slots}
 use Rattle.wef_machine.specs.declared.messages.Message.{Message}
 use Rattle.wef_machine.specs.declared.messages.Message.TheVariants.{Ask, Offers, Events, Ack, Fault}
-use Rattle.wef_machine.specs.declared.slots.Slot.{Slot}
 use Rattle.wef_machine.proofs.Sent.{all_map}
 use Rattle.wef_machine.proofs.Takes.{lost_longer}
 use Rattle.wef_machine.proofs.WantedEvents.{wanted_longer}
@@ -41,7 +41,7 @@ pub record HistoriesGrow (all all' : Histories) : Type 0 where
 pub record SlotGrows (slot slot' : Slot) : Type 0 where
   pub capacity : slot.capacity ≡ slot'.capacity
   pub histories : HistoriesGrow slot.histories slot'.histories
-  pub drawn : (opened slot).drawn ≤ (opened slot').drawn
+  pub drawn : last_id slot slot.end ≤ last_id slot' slot'.end
 
 abbrev pub SourcesGrow : Slots → Slots → Type 0
 SourcesGrow sources sources' = (s : List ℕ) (slot : Slot) → finite.get sources s ≡ Some slot → WhereDeclared (finite.get sources' s) (SlotGrows slot)
@@ -94,6 +94,10 @@ fits_longer query max_bytes all all' capacity b batch grows fits = record {
 pub behind_grows : (rows rows' : Rows) (u s : List ℕ) (b : Marks) → RowsGrow rows rows' → IsBehind rows u s b → IsBehind rows' u s b
 behind_grows rows rows' u s b grows behind c = let more = grows.bookmarks u s c in let less = behind c in omega arith
 
+reached_grows : (rows rows' : Rows) (u s : List ℕ) (about : Subscription) (batch : Batch) → RowsGrow rows rows' → IsReached rows u s about batch → IsReached rows' u s about batch
+reached_grows rows rows' u s about batch grows within c t listed reached =
+    let more = grows.bookmarks u s c in let less = within c t listed reached in omega arith
+
 pub terms_grow : (rows rows' : Rows) (u s address : List ℕ) (query : QueryList) (max_items max_bytes : ℕ) → RowsGrow rows rows' →
     AreTerms rows u s address query max_items max_bytes → AreTerms rows' u s address query max_items max_bytes
 terms_grow rows rows' u s address query max_items max_bytes grows terms = record {
@@ -126,6 +130,15 @@ served_grows rows rows' messages messages' s session grows more served = record 
   outstanding = waits_grow messages messages' s session.notify_to session.outstanding more served.outstanding;
 }
 
+running_grows : (rows rows' : Rows) (messages messages' : List Message) (s : List ℕ) (slot : Slot) (end : Option End) → RowsGrow rows rows' → MessagesGrow messages messages' →
+    IsRunningKept rows messages s slot end → IsRunningKept rows' messages' s slot end
+running_grows rows rows' messages messages' s slot None grows more kept = tt
+running_grows rows rows' messages messages' s slot (Some end) grows more kept = (record {
+  boot = kept.0.boot;
+  drawn = kept.0.drawn;
+  sessions = all_map (IsServed rows messages s) (IsServed rows' messages' s) (λ session. served_grows rows rows' messages messages' s session grows more) end.sessions kept.0.sessions;
+}, kept.1)
+
 pub source_grows : (rows rows' : Rows) (messages messages' : List Message) (s : List ℕ) (slot : Slot) → RowsGrow rows rows' → MessagesGrow messages messages' →
     IsSourceKept rows messages s slot → IsSourceKept rows' messages' s slot
 source_grows rows rows' messages messages' s slot grows more kept = record {
@@ -133,15 +146,13 @@ source_grows rows rows' messages messages' s slot grows more kept = record {
   capacity = kept.capacity;
   greatest = kept.greatest;
   window = kept.window;
-  sessions = all_map (IsServed rows messages s) (IsServed rows' messages' s) (λ session. served_grows rows rows' messages messages' s session grows more) (opened slot).sessions kept.sessions;
+  formed = kept.formed;
+  running = running_grows rows rows' messages messages' s slot slot.end grows more kept.running;
 }
 
 drawn_grows : (slot slot' : Slot) (id : Option ℕ) → SlotGrows slot slot' → WasDrawn slot id → WasDrawn slot' id
 drawn_grows slot slot' None grows drawn = drawn
-drawn_grows slot slot' (Some id) grows drawn = let more = grows.drawn in let at_most = drawn.1 in (drawn.0, more_drawn id (opened slot).drawn (opened slot').drawn at_most more)
-  where
-    more_drawn : (id d d' : ℕ) → id ≤ first_ids + d → d ≤ d' → id ≤ first_ids + d'
-    more_drawn id d d' e f = omega arith
+drawn_grows slot slot' (Some id) grows drawn = let more = grows.drawn in omega arith
 
 delivery_grows : (rows rows' : Rows) (s : List ℕ) (slot slot' : Slot) (delivery : Delivery) → RowsGrow rows rows' → SlotGrows slot slot' →
     IsDelivery rows s slot delivery → IsDelivery rows' s slot' delivery
@@ -164,7 +175,13 @@ acknowledged_grows rows rows' messages messages' s relates grows more is = recor
   delivery = is.delivery;
   was_sent = more _ is.was_sent;
   id = is.id;
-  kept = λ u e. behind_grows rows rows' u s is.delivery.batch.to grows (is.kept u e);
+  u = is.u;
+  about = is.about;
+  known = grows.known is.u is.about is.known;
+  to_subscription = is.to_subscription;
+  to_source = is.to_source;
+  reached = reached_grows rows rows' is.u s is.about is.delivery.batch grows is.reached;
+  behind = behind_grows rows rows' is.u s is.delivery.batch.to grows is.behind;
 }
 
 -- a fact of a declared source that stays while the source grows

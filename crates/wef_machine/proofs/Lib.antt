@@ -1,10 +1,12 @@
-pub mod Admitted
 pub mod CollectorSteps
 pub mod Declared
 pub mod Fitted
+pub mod FittingNumbers
 pub mod Given
+pub mod GoodLines
 pub mod Growing
 pub mod InOrder
+pub mod Lower
 pub mod Marked
 pub mod Moves
 pub mod NameMaps

@@ -17,12 +17,12 @@ use Rattle.wef_keeper.specs.declared.keys.Cell.{Cell}
 use Rattle.wef_keeper.specs.declared.keys.Key.{Key}
 use Rattle.wef_replay.specs.Good.{is_among}
 use Rattle.wef_source_log.specs.Histories.{history}
-use Rattle.wef_machine.specs.Kept.{IsChannelKept, IsDelivery, IsKept, IsMessageKept, IsPairKept, IsRowKey, IsSourceKept, WasDrawn, WasSent, WhereDeclared, first_ids, request_id, source_of}
+use Rattle.wef_machine.specs.Kept.{IsChannelKept, IsDelivery, IsKept, IsMessageKept, IsPairKept, IsRowKey, IsSourceKept, IsWorldKept, WasDrawn, WasSent, WhereDeclared, last_id, request_id, source_of}
 use Rattle.wef_machine.specs.Safe.{IsPairSafe, IsUntouched, subscription_at}
-use Rattle.wef_machine.specs.States.{Slots, State, opened, slot_of, with_message, with_slot}
+use Rattle.wef_machine.specs.States.{Slot, Slots, State, slot_of, with_message, with_slot}
+use Rattle.wef_collector.specs.Forms.{AreFormed}
 use Rattle.wef_machine.specs.declared.messages.Message.{Message}
 use Rattle.wef_machine.specs.declared.messages.Message.TheVariants.{Ask, Offers, Events, Ack, Fault}
-use Rattle.wef_machine.specs.declared.slots.Slot.{Slot}
 use Rattle.wef_machine.proofs.Growing.{MessagesGrow, RowsGrow, SlotGrows, SourcesGrow, message_grows, same_messages, same_rows, same_sources, source_grows}
 use Rattle.wef_machine.proofs.Sent.{sent_before, sent_split}
 use Rattle.wef_machine.proofs.Takes.{SameViews, safe_alike, safe_longer, safe_untouched, untouched_alike}
@@ -139,12 +139,13 @@ drawn_before rows sources messages (Fault s relates fault) id is e = absurd (non
 pub kept_rows : (state : State) (rows : Rows) (foreign : List (List ℕ)) → IsKept state → RowsGrow state.rows rows →
     ((u s c : List ℕ) → is_among foreign s ≡ false → IsPairKept rows u s c (subscription_at rows u) (slot_of state s)) →
     ((s : List ℕ) (slot : Slot) → slot_of state s ≡ Some slot → is_among foreign s ≡ false) →
-    ((key : Key) (cell : Cell) → finite.get rows key ≡ Some cell → IsRowKey key) →
-    IsKept (record { rows = rows; foreign = foreign; sources = state.sources; messages = state.messages })
-kept_rows state rows foreign kept grows pairs apart keys = record {
+    ((key : Key) (cell : Cell) → finite.get rows key ≡ Some cell → IsRowKey key) → AreFormed rows →
+    IsWorldKept rows foreign state.sources state.messages
+kept_rows state rows foreign kept grows pairs apart keys formed = record {
   pairs = pairs;
   apart = apart;
   keys = keys;
+  formed = formed;
   sources = λ s slot e. source_grows state.rows rows state.messages state.messages s slot grows (same_messages state.messages) (kept.sources s slot e);
   messages = λ m was.
       message_grows state.rows rows state.sources state.sources state.messages state.messages m grows (same_sources state.sources) (same_messages state.messages)
@@ -168,7 +169,7 @@ move_widens state s slot wider r old e =
     (same_sources state.sources r old e)
 
 kept_source : (state : State) (s : List ℕ) (slot : Slot) (messages : List Message) → IsKept state → IsSourceMove state s slot messages →
-    IsKept (record { rows = state.rows; foreign = state.foreign; sources = finite.insert state.sources s slot; messages = messages })
+    IsWorldKept state.rows state.foreign (finite.insert state.sources s slot) messages
 kept_source state s slot messages kept move = record {
   pairs = λ u r c other.
       put_there state.sources s slot r (λ o. IsPairKept state.rows u r c (subscription_at state.rows u) o)
@@ -177,6 +178,7 @@ kept_source state s slot messages kept move = record {
       put_there state.sources s slot r (λ o. o ≡ Some new → is_among state.foreign r ≡ false)
       (λ is _. subst (λ (x : List ℕ). is_among state.foreign x ≡ false) (sym is) move.apart) (kept.apart r new) e;
   keys = kept.keys;
+  formed = kept.formed;
   sources = λ r new e.
       put_there state.sources s slot r (λ o. o ≡ Some new → IsSourceKept state.rows messages r new)
       (λ is now. subst (λ (x : List ℕ × Slot). IsSourceKept state.rows messages x.0 x.1) (λ i. (sym is i, same_Some slot new now i)) move.source)
@@ -221,14 +223,14 @@ kept_slot state s old new kept there grows source = kept_source state s new stat
   one = kept.requests;
 })
 
-past : (id d : ℕ) → id ≤ first_ids + d → first_ids + d < id → ⊥
-past id d e f = omega arith
+past : (id last : ℕ) → id ≤ last → last < id → ⊥
+past id last e f = omega arith
 
 -- a declared source draws an id, and sends its request
 pub kept_draw : (state : State) (s : List ℕ) (old new : Slot) (m : Message) (id : ℕ) → IsKept state → slot_of state s ≡ Some old → SlotGrows old new →
     IsSourceKept state.rows (state.messages ++ m ∷ []) s new →
     IsMessageKept state.rows (finite.insert state.sources s new) (state.messages ++ m ∷ []) m →
-    source_of m ≡ s → request_id m ≡ Some id → first_ids + (opened old).drawn < id → IsKept (with_message (with_slot state s new) m)
+    source_of m ≡ s → request_id m ≡ Some id → last_id old old.end < id → IsKept (with_message (with_slot state s new) m)
 kept_draw state s old new m id kept there grows source is from drawn fresh = kept_source state s new (state.messages ++ m ∷ []) kept (record {
   apart = kept.apart s old there;
   pairs = λ u c. grown_pair state.rows u s c (subscription_at state.rows u) old new grows
@@ -244,7 +246,7 @@ kept_draw state s old new m id kept there grows source is from drawn fresh = kep
       let at : given ≡ id = same_Some given id (sym f ∙ drawn) in
       let before = declared_at (finite.get state.sources (source_of n)) old (λ slot. WasDrawn slot (Some given))
       (ap (finite.get state.sources) (same ∙ from) ∙ there) (drawn_before state.rows state.sources state.messages n given (kept.messages n was) e) in
-      past id (opened old).drawn (subst (λ (k : ℕ). k ≤ first_ids + (opened old).drawn) at before.1) fresh);
+      past id (last_id old old.end) (subst (λ (k : ℕ). k ≤ last_id old old.end) at before) fresh);
 })
 
 none_is : (o : Option ℕ) (id : ℕ) → o ≡ None → o ≡ Some id → ⊥
@@ -257,6 +259,7 @@ kept_reply state m kept none is = record {
   pairs = kept.pairs;
   apart = kept.apart;
   keys = kept.keys;
+  formed = kept.formed;
   sources = λ s slot e.
       source_grows state.rows state.rows state.messages (state.messages ++ m ∷ []) s slot (same_rows state.rows) (sent_before state.messages m) (kept.sources s slot e);
   messages = λ n was. elim (sent_split state.messages m n was) [

@@ -11,7 +11,7 @@ use Rattle.wef_base.specs.Names.{same}
 use Rattle.wef_query.specs.Order.{with_name}
 use Rattle.wef_replay.specs.Good.{is_among}
 use Rattle.wef_machine.specs.States.{State, declared_names, slot_of}
-use Rattle.wef_machine.specs.declared.slots.Slot.{Slot}
+use Rattle.wef_machine.specs.States.{Slot}
 
 pub either_false : (a b : Bool) → (a || b) ≡ false → (a ≡ false) × (b ≡ false)
 either_false true b e = absurd cc

@@ -11,7 +11,7 @@ use Rattle.wef_bookmark.specs.Order.{number_at}
 use Rattle.wef_collector.specs.Answers.{added_rows, channels_read, ended_rows}
 use Rattle.wef_collector.specs.Bookmarks.{bookmark_at}
 use Rattle.wef_collector.specs.Held.{event_of_row, held_after, loose_rows}
-use Rattle.wef_collector.specs.Keys.{bookmark_key, held_key, loose_key, mark_key, subscription_key}
+use Rattle.wef_collector.specs.Keys.{bookmark_key, boot_key, held_key, loose_key, mark_key, subscription_key}
 use Rattle.wef_collector.specs.Laws.{moved}
 use Rattle.wef_collector.specs.Standing.{kept_body, standing, standing_by, standing_of}
 use Rattle.wef_collector.specs.Taken.{reach_changes, taken}
@@ -177,6 +177,19 @@ putting_spares rows v cell u s c = same_views (finite.insert rows (subscription_
   marks = λ n. finite.get-insert key_cmp_total rows (subscription_key v) cell (mark_key u s c n);
   loose = λ n. finite.get-insert key_cmp_total rows (subscription_key v) cell (loose_key u s c n);
 })
+
+-- a boot number says nothing of a pair
+pub booting_spares : (rows : Rows) (cell : Cell) (u s c : List ℕ) → SameViews (finite.insert rows boot_key cell) rows u s c
+booting_spares rows cell u s c = same_views (finite.insert rows boot_key cell) rows u s c (record {
+  bookmark = finite.get-insert key_cmp_total rows boot_key cell (bookmark_key u s c);
+  held = λ n. finite.get-insert key_cmp_total rows boot_key cell (held_key u s c n);
+  marks = λ n. finite.get-insert key_cmp_total rows boot_key cell (mark_key u s c n);
+  loose = λ n. finite.get-insert key_cmp_total rows boot_key cell (loose_key u s c n);
+})
+
+-- nor of a subscription
+pub standing_by_booting : (rows : Rows) (cell : Cell) (v : List ℕ) → standing (finite.insert rows boot_key cell) v ≡ standing rows v
+standing_by_booting rows cell v = ap (standing_of v) (finite.get-insert key_cmp_total rows boot_key cell (subscription_key v))
 
 -- what stands for a subscription once its row is put
 put_own : (rows : Rows) (v : List ℕ) (cell : Cell) → standing (finite.insert rows (subscription_key v) cell) v ≡ standing_of v (Some cell)

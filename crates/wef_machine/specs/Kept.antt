@@ -3,19 +3,24 @@
 use Rattle.std.specs.Prelude.{◌≡◌, ℕ, ◌+◌, ◌*◌, ◌≤◌, ◌<◌, Bool, true, false, List, [], ◌∷◌, Option, Some, None, ◌⊎◌}
 use Rattle.std.specs.FinMap as finite
 use Rattle.std.specs.List.{AllByRecursion}
+use Rattle.wef_batch.specs.Reach.{reach}
 use Rattle.wef_batch.specs.WellFormed.{is_in}
+use Rattle.wef_batch.specs.declared.items.Batch.{Batch}
 use Rattle.wef_bookmark.specs.Order.{Marks, number_at}
 use Rattle.wef_collector.specs.Answers.{channels_read}
 use Rattle.wef_collector.specs.Bookmarks.{bookmark_at}
 use Rattle.wef_collector.specs.Forms as collector
+use Rattle.wef_collector.specs.Keys.{subscription_key}
 use Rattle.wef_envelope.specs.declared.MessageId.{MessageId}
 use Rattle.wef_eventing.specs.Addresses.{source_in, subscription_in}
 use Rattle.wef_eventing.specs.declared.bodies.Offer.{Offer}
 use Rattle.wef_eventing.specs.declared.bodies.Subscribe.{Subscribe}
 use Rattle.wef_eventing.specs.declared.subscriptions.Subscription.{Subscription}
 use Rattle.wef_keeper.specs.Rows.{Rows}
+use Rattle.wef_keeper.specs.declared.keys.Cell.{Cell}
+use Rattle.wef_keeper.specs.declared.keys.Key.{Key}
 use Rattle.wef_query.specs.declared.QueryList.{QueryList}
-use Rattle.wef_replay.specs.Good.{is_among, is_source}
+use Rattle.wef_replay.specs.Good.{is_among, is_source, is_subscription}
 use Rattle.wef_source_log.specs.Histories.{history}
 use Rattle.wef_source_log.specs.Forms as log
 use Rattle.wef_source_log.specs.Windows.{IsWindow, boot_of}
@@ -25,7 +30,7 @@ use Rattle.wef_source.specs.declared.messages.Delivery.{Delivery}
 use Rattle.wef_source.specs.declared.sessions.Outstanding.{Outstanding}
 use Rattle.wef_source.specs.declared.sessions.Session.{Session}
 use Rattle.wef_machine.specs.Safe.{IsPairSafe, IsUntouched, subscription_at}
-use Rattle.wef_machine.specs.States.{Slot, Slots, State, slot_of}
+use Rattle.wef_machine.specs.States.{Slot, Slots, State}
 use Rattle.wef_machine.specs.declared.messages.Message.{Message}
 use Rattle.wef_machine.specs.declared.messages.Message.TheVariants.{Ask, Offers, Events, Ack, Fault}
 
@@ -42,6 +47,10 @@ WhereDeclared (Some slot) P = P slot
 -- a bookmark is in no channel further than what is kept of a subscription and a source
 abbrev pub IsBehind : Rows → List ℕ → List ℕ → Marks → Type 0
 IsBehind rows u s b = (c : List ℕ) → number_at b c ≤ bookmark_at rows u s c
+
+-- each channel that a subscription reads is kept of a source at least as far as a batch reads it
+abbrev pub IsReached : Rows → List ℕ → List ℕ → Subscription → Batch → Type 0
+IsReached rows u s about batch = (c : List ℕ) (t : ℕ) → is_in (channels_read about) c ≡ true → reach c batch ≡ Some t → t ≤ bookmark_at rows u s c
 
 -- The terms on which a source serves a subscription are the subscription's own.
 pub record AreTerms (rows : Rows) (u s address : List ℕ) (query : QueryList) (max_items max_bytes : ℕ) : Type 0 where
@@ -121,12 +130,20 @@ pub record IsDelivery (rows : Rows) (s : List ℕ) (slot : Slot) (delivery : Del
   pub fits : Fits about.query about.max_bytes slot.histories slot.capacity above delivery.batch
   pub drawn : WasDrawn slot delivery.id.value
 
--- An acknowledgement is for a delivery of its source, and all that the batch reads is kept.
+-- An acknowledgement is for a delivery of its source to a subscription that is there, and all that the batch reads of the
+-- subscription's channels is kept.
 pub record IsAcknowledged (rows : Rows) (messages : List Message) (s : List ℕ) (relates : MessageId) : Type 0 where
   pub delivery : Delivery
   pub was_sent : WasSent messages (Events s delivery)
   pub id : relates ≡ delivery.id
-  pub kept : (u : List ℕ) → subscription_in delivery.notify_to ≡ Some u → IsBehind rows u s delivery.batch.to
+  pub u : List ℕ
+  pub about : Subscription
+  pub known : subscription_at rows u ≡ Some about
+  pub to_subscription : subscription_in delivery.notify_to ≡ Some u
+  pub to_source : source_in delivery.notify_to ≡ Some s
+  pub reached : IsReached rows u s about delivery.batch
+  -- in no channel, of the subscription or not, is the batch's bookmark further than what is kept
+  pub behind : IsBehind rows u s delivery.batch.to
 
 -- What is true of a message that was ever sent. A fault says nothing that could do harm.
 abbrev pub IsMessageKept : Rows → Slots → List Message → Message → Type 0
@@ -164,17 +181,30 @@ IsPairKept rows u s c None slot = IsUntouched rows u s c
 IsPairKept rows u s c (Some about) None = IsUntouched rows u s c
 IsPairKept rows u s c (Some about) (Some slot) = IsChannelKept rows u s c about slot (is_in (channels_read about) c)
 
-pub record IsKept (state : State) : Type 0 where
+-- The key of a row that keeps a subscription has a name such as a reader gives, and no other part; that of a bookmark has
+-- no number.
+pub record IsRowKey (key : Key) : Type 0 where
+  pub name : key.kind ≡ 1 → is_subscription key.sub ≡ true
+  pub subscription : key.kind ≡ 1 → key ≡ subscription_key key.sub
+  pub bookmark : key.kind ≡ 2 → key.number ≡ 0
+
+-- What is kept of a world, by the rows that stand in the collector's store, the names of foreign sources, the declared
+-- sources, and all messages that were ever sent. Who runs, and what is armed, says nothing of it.
+pub record IsWorldKept (rows : Rows) (foreign : List (List ℕ)) (slots : Slots) (all : List Message) : Type 0 where
   -- of every source that no `batch` line named, what is kept is safe; nothing is kept of what isn't there
-  pub pairs : (u s c : List ℕ) → is_among state.foreign s ≡ false → IsPairKept state.rows u s c (subscription_at state.rows u) (slot_of state s)
+  pub pairs : (u s c : List ℕ) → is_among foreign s ≡ false → IsPairKept rows u s c (subscription_at rows u) (finite.get slots s)
   -- a declared source was named by no `batch` line
-  pub apart : (s : List ℕ) (slot : Slot) → slot_of state s ≡ Some slot → is_among state.foreign s ≡ false
-  -- each row of the collector's store is of its form
-  pub formed : collector.AreFormed state.rows
+  pub apart : (s : List ℕ) (slot : Slot) → finite.get slots s ≡ Some slot → is_among foreign s ≡ false
+  -- each row has a key such as the collector gives, and is of its form
+  pub keys : (key : Key) (cell : Cell) → finite.get rows key ≡ Some cell → IsRowKey key
+  pub formed : collector.AreFormed rows
   -- each declared source keeps its window, and its sessions are behind what is kept
-  pub sources : (s : List ℕ) (slot : Slot) → slot_of state s ≡ Some slot → IsSourceKept state.rows state.messages s slot
+  pub sources : (s : List ℕ) (slot : Slot) → finite.get slots s ≡ Some slot → IsSourceKept rows all s slot
   -- each message that was ever sent may be delivered
-  pub messages : (m : Message) → WasSent state.messages m → IsMessageKept state.rows state.sources state.messages m
+  pub messages : (m : Message) → WasSent all m → IsMessageKept rows slots all m
   -- two requests of one source with one id are one message
-  pub requests : (m n : Message) (id : ℕ) → WasSent state.messages m → WasSent state.messages n → source_of m ≡ source_of n →
+  pub requests : (m n : Message) (id : ℕ) → WasSent all m → WasSent all n → source_of m ≡ source_of n →
       request_id m ≡ Some id → request_id n ≡ Some id → m ≡ n
+
+abbrev pub IsKept : State → Type 0
+IsKept state = IsWorldKept state.rows state.foreign state.sources state.messages

@@ -1,6 +1,6 @@
 -- What a schedule promises beside its steps.
 use Rattle.std.specs.List.{AllByRecursion}
-use Rattle.std.specs.Prelude.{◌≡◌, ◌≤◌, List, ℕ, true, codes}
+use Rattle.std.specs.Prelude.{◌≡◌, ◌≤◌, List, ℕ, true, None, codes}
 use Rattle.wef_batch.specs.declared.items.Batch.{Batch}
 use Rattle.wef_batch.specs.Reach.{reach}
 use Rattle.wef_batch.specs.WellFormed.{is_in, is_well_formed}
@@ -9,7 +9,7 @@ use Rattle.wef_collector.specs.Answers.{channels_read}
 use Rattle.wef_collector.specs.Bookmarks.{bookmark_at}
 use Rattle.wef_collector.specs.Laws.{moved}
 use Rattle.wef_collector.specs.Taken.{taken}
-use Rattle.wef_collector.specs.declared.standings.Standing.{Standing}
+use Rattle.wef_collector.specs.Standing.{standing}
 use Rattle.wef_collector.specs.declared.standings.Standing.TheVariants.{Live}
 use Rattle.wef_eventing.specs.declared.subscriptions.Subscription.{Subscription}
 use Rattle.wef_keeper.specs.Rows.{Rows}
@@ -19,12 +19,15 @@ use Rattle.wef_replay.specs.declared.lines.Line.{Line}
 use Rattle.wef_machine.specs.Kept.{IsKept}
 use Rattle.wef_machine.specs.Safe.{IsPairSafe, IsSafe}
 use Rattle.wef_machine.specs.States.{State, start}
-use Rattle.wef_machine.specs.Steps.{AreAdmitted, admits, answer, states, step}
+use Rattle.wef_machine.specs.Steps.{AreAdmitted, admits, states, step}
+use Rattle.wef_machine.specs.Deliveries.{answer_word, batch_effect}
 
--- A well-formed batch for a live subscription that asks for an acknowledgement gets it.
+-- A well-formed batch for a live subscription that asks for an acknowledgement gets it, unless its commit fails as it is
+-- armed to.
 abbrev pub AcknowledgementIsGiven : Type 0
-AcknowledgementIsGiven = (found : Standing) (about : Subscription) (batch : Batch) →
-    found ≡ Live about → is_well_formed (channels_read about) batch ≡ true → batch.ack_wanted ≡ true → answer batch found ≡ codes "ack"
+AcknowledgementIsGiven = (state : State) (u s : List ℕ) (about : Subscription) (batch : Batch) →
+    standing state.rows u ≡ Live about → is_well_formed (channels_read about) batch ≡ true → batch.ack_wanted ≡ true → state.armed ≡ None →
+    answer_word state (batch_effect state.rows u s batch) batch ≡ codes "ack"
 
 -- What is kept of a pair stays safe when a batch is taken that fits the source's histories above some bookmark, though
 -- the kept one may be further by now. The kept bookmark is then the greater of the old one and the batch's reach.
@@ -48,14 +51,18 @@ StepsKeep = (state : State) (line : Line) → IsKept state → admits state line
 abbrev pub KeptIsSafe : Type 0
 KeptIsSafe = (state : State) → IsKept state → IsSafe state
 
--- In every state of a good schedule all is kept.
-abbrev pub SchedulesAreKept : Type 0
-SchedulesAreKept = (lines : List Line) → AreAdmitted start lines → AllByRecursion IsKept (states lines)
-
--- In every state of a good schedule what is kept is safe.
-abbrev pub SchedulesAreSafe : Type 0
-SchedulesAreSafe = (lines : List Line) → AreAdmitted start lines → AllByRecursion IsSafe (states lines)
+-- each state of a run of lines is kept
+abbrev pub AreKept : List Line → Type 0
+AreKept lines = AllByRecursion IsKept (states lines)
 
 -- each state of a run of lines is safe
 abbrev pub AreSafe : List Line → Type 0
 AreSafe lines = AllByRecursion IsSafe (states lines)
+
+-- In every state of a good schedule all is kept.
+abbrev pub SchedulesAreKept : Type 0
+SchedulesAreKept = (lines : List Line) → AreAdmitted start lines → AreKept lines
+
+-- In every state of a good schedule what is kept is safe.
+abbrev pub SchedulesAreSafe : Type 0
+SchedulesAreSafe = (lines : List Line) → AreAdmitted start lines → AreSafe lines

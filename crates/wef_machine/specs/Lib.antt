@@ -1,4 +1,3 @@
-pub mod Admitting
 pub mod Arming
 pub mod Collecting
 pub mod Deliveries

@@ -3,7 +3,6 @@
 #![tactic(auto)]
 
 pub mod arming;
-pub mod laws;
 pub mod messages;
 
 pub use arming::{Armed, Fate};
