@@ -1,3 +1,5 @@
+pub mod ByPages
 mod Live
+pub mod Openings
 mod Pages
 mod Places
