@@ -3,3 +3,4 @@ mod Live
 pub mod Openings
 mod Pages
 mod Places
+pub mod Told
