@@ -51,6 +51,7 @@ impl From<KeeperFault> for StoreFault {
 }
 
 /// Makes a keeper ready: opened, and out of doubt with one of its images.
+#[tactic(auto, using(crate::proofs::Openings::narrows_kept))]
 pub fn open<K: Keeper>(keeper: &mut K) -> Result<(), StoreFault>
     ensures ready { OnOk result (access.IsReady (K.store keeper.new)) }
     ensures found { OnOk result (access.Finds (K.store keeper.old) (K.store keeper.new)) }
