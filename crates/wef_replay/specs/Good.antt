@@ -2,7 +2,8 @@
 --     subscribe    items from 1 to 10,000, bytes from 8,192 to 4,194,304, the beat from 1 to 86,400,000, and one channel or more, all
 --                  events of each, in one group
 --     batch        of a source that isn't named `collector` and wasn't declared, with one word or more; the numbers of events and of
---                  dropped records are from 1 to 2^63 - 1, counts and how far the batch reads a channel up to that
+--                  dropped records are from 1 to 2^63 - 1, counts and how far the batch reads a channel up to that; the texts of
+--                  events may be any here (`PlainEvents` says what they are in the lines that a schedule gives)
 --     source       of a capacity from 1 to 1,000,000, not named `collector`, not declared yet and not named by a batch yet
 --     write        of a declared source, and the event's text fits with the greatest number
 --     ask, poll, lost    of a declared source
