@@ -2,6 +2,7 @@
 use Rattle.std.proofs.Common.{◌≡◌, ℕ, ◌+◌, Bool, true, false, ◌&&◌, List, [], ◌∷◌, length, refl, arith}
 use Rattle.std.specs.Prelude.{◌==◌, Option, Some, None, codes, is_some, not}
 use Rattle.std.specs.List.{list_all}
+use Rattle.std.specs.Option.{option_and_then, option_map}
 use Rattle.std.specs.Str.{is_utf8}
 use Rattle.std.proofs.lemmas.Bool.{and_from, and_parts}
 use Rattle.std.proofs.lemmas.Bool.Decides.{nat_tests}
@@ -12,13 +13,15 @@ use Rattle.wef_event.specs.Unnumbered.{numbered}
 use Rattle.wef_event.specs.declared.unnumbered.PlainEvent.{PlainEvent}
 use Rattle.wef_query.specs.Queries.{all_events_of}
 use Rattle.wef_replay.specs.BatchWords.{empty_batch, greatest, read_words}
-use Rattle.wef_replay.specs.Good.{are_all, asks_for_all, fits_always, is_channel, is_line, is_no_collector, is_source, is_subscription}
-use Rattle.wef_replay.specs.Grammar.{all_of, ask_line, back_line, batch_line, deliver_line, does_nothing, end_line, event_if_xml, event_words, fitting_event, if_fits, line_of_words, lost_line, meaning, poll_line, print_line, show_line, source_line, source_line_of, subscribe_line, subscribe_numbers, write_line}
+use Rattle.wef_replay.specs.Good.{are_all, asks_for_all, fits_always, is_channel, is_end, is_line, is_no_collector, is_source, is_subscription}
+use Rattle.wef_replay.specs.Grammar.{all_of, ask_line, back_line, batch_line, calm_line, crash_line, deliver_line, does_nothing, end_line, event_if_xml, event_words, fail_line, failure_line_of, fitting_event, if_fits, line_of_words, lost_line, meaning, poll_line, print_line, show_line, source_line, source_line_of, stop_line, subscribe_line, subscribe_numbers, write_line}
 use Rattle.wef_replay.specs.PlainEvents.{HasPlainEvents}
 use Rattle.wef_replay.specs.Reading.{with_first}
-use Rattle.wef_replay.specs.Values.{channel_word, channel_words, number_word, sending_source_word, source_word, subscription_word}
+use Rattle.wef_replay.specs.Values.{after_word, channel_word, channel_words, end_word, number_word, sending_source_word, source_word, subscription_word}
+use Rattle.wef_replay.specs.declared.lines.EndName.{EndName}
+use Rattle.wef_replay.specs.declared.lines.EndName.TheVariants as end
 use Rattle.wef_replay.specs.declared.lines.Line.{Line}
-use Rattle.wef_replay.specs.declared.lines.Line.TheVariants.{Subscribe, End, Batch, Source, Write, Ask, Poll, Deliver, Back, Lost, Print}
+use Rattle.wef_replay.specs.declared.lines.Line.TheVariants.{Subscribe, End, Batch, Source, Write, Ask, Poll, Deliver, Back, Lost, Print, Crash, Fail, Stop}
 use Rattle.wef_replay.proofs.Gifts.{AllOf, all_of-if, all_of-map, all_of-tested, all_of-then}
 use Rattle.wef_replay.proofs.GoodBatches.{good-batch_words}
 use Rattle.wef_replay.proofs.GoodNames.{decoded_is_text, good-channel, good-sending_source, good-source, good-subscription}
@@ -176,7 +179,53 @@ good-print_line (sub ∷ source ∷ channel ∷ []) =
     all_of-map _ IsGoodLine (λ c. Print u s c) (channel_word channel) (good-channel channel) (λ c is_c. (λ i. is_u i && is_s i && is_c i, tt))))
 good-print_line (a ∷ b ∷ c ∷ d ∷ more) = tt
 
+-- ---- failures
+
+good-end_word : (word : List ℕ) → AllOf (λ e. is_end e ≡ true) (end_word word)
+good-end_word word =
+    all_of-if (λ e. is_end e ≡ true) (same word (codes "collector")) (Some end.Collector) _ refl
+    (all_of-map _ (λ e. is_end e ≡ true) (λ s. end.Source s) (sending_source_word word) (good-sending_source word) (λ s h. h))
+
+-- a line of an end and of `before` or `after`
+good-armed : (line : EndName → Bool → Line) → ((e : EndName) (after : Bool) → is_end e ≡ true → IsGoodLine (line e after)) → (end when : List ℕ)
+    → AllOf IsGoodLine (option_and_then (λ e. option_map (λ after. line e after) (after_word when)) (end_word end))
+good-armed line good end when =
+    all_of-then _ IsGoodLine _ (end_word end) (good-end_word end) (λ e is_e.
+    all_of-map (λ _. Unit {0}) IsGoodLine (λ after. line e after) (after_word when) (any (after_word when)) (λ after _. good e after is_e))
+  where
+    any : (given : Option Bool) → AllOf (λ _. Unit {0}) given
+    any None = tt
+    any (Some after) = tt
+
+good-crash_line : (words : List (List ℕ)) → AllOf IsGoodLine (crash_line words)
+good-crash_line [] = tt
+good-crash_line (end ∷ []) = all_of-map _ IsGoodLine (λ e. Crash e) (end_word end) (good-end_word end) (λ e h. (h, tt))
+good-crash_line (a ∷ b ∷ more) = tt
+
+good-fail_line : (words : List (List ℕ)) → AllOf IsGoodLine (fail_line words)
+good-fail_line [] = tt
+good-fail_line (a ∷ []) = tt
+good-fail_line (end ∷ when ∷ []) = good-armed (λ e after. Fail e after) (λ e after h. (h, tt)) end when
+good-fail_line (a ∷ b ∷ c ∷ more) = tt
+
+good-stop_line : (words : List (List ℕ)) → AllOf IsGoodLine (stop_line words)
+good-stop_line [] = tt
+good-stop_line (a ∷ []) = tt
+good-stop_line (end ∷ when ∷ []) = good-armed (λ e after. Stop e after) (λ e after h. (h, tt)) end when
+good-stop_line (a ∷ b ∷ c ∷ more) = tt
+
+good-calm_line : (words : List (List ℕ)) → AllOf IsGoodLine (calm_line words)
+good-calm_line [] = (refl, tt)
+good-calm_line (word ∷ words) = tt
+
 -- ---- any line
+
+good-failure_line_of : (kind : List ℕ) (words : List (List ℕ)) → AllOf IsGoodLine (failure_line_of kind words)
+good-failure_line_of kind words =
+    all_of-if IsGoodLine (same kind (codes "crash")) _ _ (good-crash_line words)
+    (all_of-if IsGoodLine (same kind (codes "fail")) _ _ (good-fail_line words)
+    (all_of-if IsGoodLine (same kind (codes "stop")) _ _ (good-stop_line words)
+    (all_of-if IsGoodLine (same kind (codes "calm")) _ None (good-calm_line words) tt)))
 
 good-source_line_of : (kind : List ℕ) (words : List (List ℕ)) → AllOf IsGoodLine (source_line_of kind words)
 good-source_line_of kind words =
@@ -186,7 +235,7 @@ good-source_line_of kind words =
     (all_of-if IsGoodLine (same kind (codes "poll")) _ _ (good-poll_line words)
     (all_of-if IsGoodLine (same kind (codes "lost")) _ _ (good-lost_line words)
     (all_of-if IsGoodLine (same kind (codes "deliver")) _ _ (good-deliver_line words)
-    (all_of-if IsGoodLine (same kind (codes "back")) _ None (good-back_line words) tt))))))
+    (all_of-if IsGoodLine (same kind (codes "back")) _ _ (good-back_line words) (good-failure_line_of kind words)))))))
 
 good-line_of_words : (words : List (List ℕ)) → AllOf IsGoodLine (line_of_words words)
 good-line_of_words [] = tt
