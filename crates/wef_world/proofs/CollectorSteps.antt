@@ -22,7 +22,7 @@ use Rattle.wef_replay.specs.Good.{is_among, is_subscription}
 use Rattle.wef_source_log.specs.Histories.{history}
 use Rattle.wef_source.specs.declared.messages.Delivery.{Delivery}
 use Rattle.wef_world.specs.Deliveries.{answer_with, events_step, refusal_of, rows_at, rows_with, standing_at, with_answer}
-use Rattle.wef_world.specs.Kept.{IsBehind, IsChannelKept, IsDelivery, IsKept, IsPairKept, WasSent}
+use Rattle.wef_world.specs.Kept.{IsChannelKept, IsDelivery, IsKept, IsPairKept, WasSent}
 use Rattle.wef_world.specs.Safe.{IsPairSafe, IsUntouched, about_of, subscription_at}
 use Rattle.wef_world.specs.States.{State, moment, slot_of, with_foreign, with_message, with_rows}
 use Rattle.wef_world.specs.Steps.{delivered, ended, subscribed}
@@ -32,7 +32,7 @@ use Rattle.wef_query.specs.Order.{with_name}
 use Rattle.wef_world.proofs.Growing.{RowsGrow, same_rows}
 use Rattle.wef_world.proofs.Moves.{alike_pair, kept_reply, kept_rows, untouched_pair}
 use Rattle.wef_world.proofs.Names.{among_with, not_among_with}
-use Rattle.wef_world.proofs.RowMoves.{AreRowKeys, adding_grows, ending_grows, keys_by_adding, keys_by_ending, keys_by_taking, subscription_by_adding, subscription_by_ending, subscription_by_taking, taking_covers, taking_grows, unknown}
+use Rattle.wef_world.proofs.RowMoves.{AreRowKeys, adding_grows, ending_grows, keys_by_adding, keys_by_ending, keys_by_taking, subscription_by_adding, subscription_by_ending, subscription_by_taking, taking_covers, taking_grows, taking_reaches, unknown}
 use Rattle.wef_world.proofs.Sent.{sent_before}
 use Rattle.wef_world.proofs.Takes.{adding_spares, ending_spares, fitting_batches_are_safe, is_served, taking_spares, taking_spares_source, untouched_alike}
 
@@ -173,9 +173,13 @@ acked_kept state s slot delivery kept there was is =
       delivery = delivery;
       was_sent = sent_before state.messages (Ack s delivery.id) (Events s delivery) was;
       id = refl;
-      kept = λ v leads.
-          subst (λ (w : List ℕ). IsBehind rows w s delivery.batch.to) (same_Some is.u v (sym is.to_subscription ∙ leads))
-          (taking_covers state.rows is.u s (channels_read is.about) delivery.batch moment is.fits.others);
+      u = is.u;
+      about = is.about;
+      known = subscription_by_taking state.rows is.u s (channels_read is.about) delivery.batch moment is.u ∙ is.known;
+      to_subscription = is.to_subscription;
+      to_source = is.to_source;
+      reached = taking_reaches state.rows is.u s (channels_read is.about) delivery.batch moment;
+      behind = taking_covers state.rows is.u s (channels_read is.about) delivery.batch moment is.fits.others;
     })
 
 -- the collector's answer that it didn't take a batch

@@ -18,7 +18,7 @@ use Rattle.wef_source.specs.Fits.{Fits, FitsChannel, ranges_in}
 use Rattle.wef_source.specs.declared.messages.Delivery.{Delivery}
 use Rattle.wef_source.specs.declared.sessions.Outstanding.{Outstanding}
 use Rattle.wef_source.specs.declared.sessions.Session.{Session}
-use Rattle.wef_world.specs.Kept.{AreTerms, IsAcknowledged, IsBehind, IsDelivery, IsMessageKept, IsOffered, IsServed, IsSourceKept, WaitsFor, WasDrawn, WasSent, WhereDeclared, first_ids}
+use Rattle.wef_world.specs.Kept.{AreTerms, IsAcknowledged, IsBehind, IsDelivery, IsMessageKept, IsOffered, IsReached, IsServed, IsSourceKept, WaitsFor, WasDrawn, WasSent, WhereDeclared, first_ids}
 use Rattle.wef_world.specs.Safe.{subscription_at}
 use Rattle.wef_world.specs.States.{Slots, opened}
 use Rattle.wef_world.specs.declared.messages.Message.{Message}
@@ -94,6 +94,10 @@ fits_longer query max_bytes all all' capacity b batch grows fits = record {
 pub behind_grows : (rows rows' : Rows) (u s : List ℕ) (b : Marks) → RowsGrow rows rows' → IsBehind rows u s b → IsBehind rows' u s b
 behind_grows rows rows' u s b grows behind c = let more = grows.bookmarks u s c in let less = behind c in omega arith
 
+reached_grows : (rows rows' : Rows) (u s : List ℕ) (about : Subscription) (batch : Batch) → RowsGrow rows rows' → IsReached rows u s about batch → IsReached rows' u s about batch
+reached_grows rows rows' u s about batch grows within c t listed reached =
+    let more = grows.bookmarks u s c in let less = within c t listed reached in omega arith
+
 pub terms_grow : (rows rows' : Rows) (u s address : List ℕ) (query : QueryList) (max_items max_bytes : ℕ) → RowsGrow rows rows' →
     AreTerms rows u s address query max_items max_bytes → AreTerms rows' u s address query max_items max_bytes
 terms_grow rows rows' u s address query max_items max_bytes grows terms = record {
@@ -164,7 +168,13 @@ acknowledged_grows rows rows' messages messages' s relates grows more is = recor
   delivery = is.delivery;
   was_sent = more _ is.was_sent;
   id = is.id;
-  kept = λ u e. behind_grows rows rows' u s is.delivery.batch.to grows (is.kept u e);
+  u = is.u;
+  about = is.about;
+  known = grows.known is.u is.about is.known;
+  to_subscription = is.to_subscription;
+  to_source = is.to_source;
+  reached = reached_grows rows rows' is.u s is.about is.delivery.batch grows is.reached;
+  behind = behind_grows rows rows' is.u s is.delivery.batch.to grows is.behind;
 }
 
 -- a fact of a declared source that stays while the source grows

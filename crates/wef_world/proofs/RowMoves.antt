@@ -2,7 +2,7 @@
 use Rattle.std.proofs.Common.{◌≡◌, ◌≢◌, ℕ, ◌≤◌, ◌==◌, Bool, true, false, cond, List, [], ◌∷◌, refl, ap, sym, ◌∙◌, subst, arith}
 use Rattle.std.proofs.lemmas.Option.{none-some}
 use Rattle.std.proofs.lemmas.Bool.Decides.{nat_tests}
-use Rattle.std.specs.Prelude.{Option, Some, None, unwrap_or, is_some}
+use Rattle.std.specs.Prelude.{Option, Some, None, max, unwrap_or, is_some}
 use Rattle.std.specs.FinMap as finite
 use Rattle.std.specs.Ordering.{eq_by_cmp}
 use Rattle.wef_base.specs.Names.{same}
@@ -29,7 +29,7 @@ use Rattle.wef_world.specs.Kept.{IsBehind, IsRowKey}
 use Rattle.wef_world.specs.Safe.{about_of, subscription_at}
 use Rattle.wef_world.proofs.Growing.{RowsGrow}
 use Rattle.wef_world.proofs.Spared.{IsMissed, spared}
-use Rattle.wef_world.proofs.Takes.{adding_spares, ending_spares, others_by_adding, others_by_ending, standing_by_ending, standing_by_taking}
+use Rattle.wef_world.proofs.Takes.{adding_spares, bookmark_moved, ending_spares, others_by_adding, others_by_ending, standing_by_ending, standing_by_taking}
 
 abbrev pub AreRowKeys : Rows → Type 0
 AreRowKeys rows = (key : Key) (cell : Cell) → finite.get rows key ≡ Some cell → IsRowKey key
@@ -101,6 +101,13 @@ taking_covers rows u s channels batch now others c = subst (λ (n : ℕ). number
     by_channel : (t : Bool) → is_in channels c ≡ t → number_at batch.to c ≤ cond t (moved (bookmark_at rows u s c) (reach c batch)) (bookmark_at rows u s c)
     by_channel true listed = reached (finite.get batch.to c) (last_in c batch.items) (bookmark_at rows u s c)
     by_channel false listed = let none = ap (λ (o : Option ℕ). unwrap_or o 0) (others c listed) in omega arith
+
+-- and each listed channel at least as far as the batch reads it
+pub taking_reaches : (rows : Rows) (u s : List ℕ) (channels : List (List ℕ)) (batch : Batch) (now : ℕ) (c : List ℕ) (t : ℕ) → is_in channels c ≡ true → reach c batch ≡ Some t →
+    t ≤ bookmark_at (taken rows u s channels batch now) u s c
+taking_reaches rows u s channels batch now c t listed reached =
+    let is : bookmark_at (taken rows u s channels batch now) u s c ≡ max (bookmark_at rows u s c) t = bookmark_moved rows u s channels batch now c listed ∙ ap (moved (bookmark_at rows u s c)) reached in
+    omega arith
 
 -- ---- a subscription that begins or ends
 

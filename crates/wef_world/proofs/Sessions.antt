@@ -161,8 +161,10 @@ acknowledged_served rows messages s relates id session one is at waits served = 
         let delivery : waited.0 ≡ is.delivery = one_delivery s waited.0 is.delivery same_message in
         let leads = ap (λ (d : Delivery). subscription_in d.notify_to) (sym delivery) ∙ ap subscription_in waited.3 ∙ served.terms.to_subscription in
         let to : is.delivery.batch.to ≡ outstanding.to = ap (λ (d : Delivery). d.batch.to) (sym delivery) ∙ sym waited.4 in
+        let path : is.u ≡ session.name = same_Some is.u session.name (sym is.to_subscription ∙ leads) in
         record {
           terms = served.terms;
-          positions = joined_behind rows session.name s session.positions outstanding.to served.positions (subst (IsBehind rows session.name s) to (is.kept session.name leads));
+          positions = joined_behind rows session.name s session.positions outstanding.to served.positions
+              (subst (λ (x : List ℕ × Marks). IsBehind rows x.0 s x.1) (λ i. (path i, to i)) is.behind);
           outstanding = tt;
         }

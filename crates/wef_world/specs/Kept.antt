@@ -3,7 +3,9 @@
 use Rattle.std.specs.Prelude.{◌≡◌, ℕ, ◌+◌, ◌≤◌, ◌<◌, Bool, true, false, List, [], ◌∷◌, Option, Some, None, ◌⊎◌}
 use Rattle.std.specs.FinMap as finite
 use Rattle.std.specs.List.{AllByRecursion}
+use Rattle.wef_batch.specs.Reach.{reach}
 use Rattle.wef_batch.specs.WellFormed.{is_in}
+use Rattle.wef_batch.specs.declared.items.Batch.{Batch}
 use Rattle.wef_bookmark.specs.Order.{Marks, number_at}
 use Rattle.wef_collector.specs.Answers.{channels_read}
 use Rattle.wef_collector.specs.Bookmarks.{bookmark_at}
@@ -43,6 +45,10 @@ WhereDeclared (Some slot) P = P slot
 -- a bookmark is in no channel further than what is kept of a subscription and a source
 abbrev pub IsBehind : Rows → List ℕ → List ℕ → Marks → Type 0
 IsBehind rows u s b = (c : List ℕ) → number_at b c ≤ bookmark_at rows u s c
+
+-- each channel that a subscription reads is kept of a source at least as far as a batch reads it
+abbrev pub IsReached : Rows → List ℕ → List ℕ → Subscription → Batch → Type 0
+IsReached rows u s about batch = (c : List ℕ) (t : ℕ) → is_in (channels_read about) c ≡ true → reach c batch ≡ Some t → t ≤ bookmark_at rows u s c
 
 -- The terms on which a source serves a subscription are the subscription's own.
 pub record AreTerms (rows : Rows) (u s address : List ℕ) (query : QueryList) (max_items max_bytes : ℕ) : Type 0 where
@@ -108,12 +114,20 @@ pub record IsDelivery (rows : Rows) (s : List ℕ) (slot : Slot) (delivery : Del
   pub fits : Fits about.query about.max_bytes slot.histories slot.capacity above delivery.batch
   pub drawn : WasDrawn slot delivery.id.value
 
--- An acknowledgement is for a delivery of its source, and all that the batch reads is kept.
+-- An acknowledgement is for a delivery of its source to a subscription that is there, and all that the batch reads of the
+-- subscription's channels is kept.
 pub record IsAcknowledged (rows : Rows) (messages : List Message) (s : List ℕ) (relates : MessageId) : Type 0 where
   pub delivery : Delivery
   pub was_sent : WasSent messages (Events s delivery)
   pub id : relates ≡ delivery.id
-  pub kept : (u : List ℕ) → subscription_in delivery.notify_to ≡ Some u → IsBehind rows u s delivery.batch.to
+  pub u : List ℕ
+  pub about : Subscription
+  pub known : subscription_at rows u ≡ Some about
+  pub to_subscription : subscription_in delivery.notify_to ≡ Some u
+  pub to_source : source_in delivery.notify_to ≡ Some s
+  pub reached : IsReached rows u s about delivery.batch
+  -- in no channel, of the subscription or not, is the batch's bookmark further than what is kept
+  pub behind : IsBehind rows u s delivery.batch.to
 
 -- What is true of a message that was ever sent. A fault says nothing that could do harm.
 abbrev pub IsMessageKept : Rows → Slots → List Message → Message → Type 0

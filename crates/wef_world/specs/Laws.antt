@@ -48,14 +48,18 @@ StepsKeep = (state : State) (line : Line) → IsKept state → admits state line
 abbrev pub KeptIsSafe : Type 0
 KeptIsSafe = (state : State) → IsKept state → IsSafe state
 
--- In every state of a good schedule all is kept.
-abbrev pub SchedulesAreKept : Type 0
-SchedulesAreKept = (lines : List Line) → AreAdmitted start lines → AllByRecursion IsKept (states lines)
-
--- In every state of a good schedule what is kept is safe.
-abbrev pub SchedulesAreSafe : Type 0
-SchedulesAreSafe = (lines : List Line) → AreAdmitted start lines → AllByRecursion IsSafe (states lines)
+-- each state of a run of lines is kept
+abbrev pub AreKept : List Line → Type 0
+AreKept lines = AllByRecursion IsKept (states lines)
 
 -- each state of a run of lines is safe
 abbrev pub AreSafe : List Line → Type 0
 AreSafe lines = AllByRecursion IsSafe (states lines)
+
+-- In every state of a good schedule all is kept.
+abbrev pub SchedulesAreKept : Type 0
+SchedulesAreKept = (lines : List Line) → AreAdmitted start lines → AreKept lines
+
+-- In every state of a good schedule what is kept is safe.
+abbrev pub SchedulesAreSafe : Type 0
+SchedulesAreSafe = (lines : List Line) → AreAdmitted start lines → AreSafe lines

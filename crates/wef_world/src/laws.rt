@@ -22,7 +22,7 @@ pub fn steps_keep()
 /// Whatever a good schedule does, what the collector holds of each declared source is, up to the
 /// bookmark, just what the subscription selects of all that the source wrote, each record once and in
 /// order, but for records that are marked as dropped; and only records that were overwritten or are
-/// too large are marked.
+/// too large are marked. Every batch that was acknowledged lies within that bookmark.
 pub fn law_safe()
     ensures kept { SchedulesAreKept }
     ensures safe { SchedulesAreSafe }
