@@ -9,7 +9,7 @@ use Rattle.wef_replay.specs.Schedule.{schedule_of}
 use Rattle.wef_replay.specs.declared.lines.Line.{Line}
 use Rattle.wef_replay.specs.declared.schedule.ScheduleFault as fault
 use Rattle.wef_replay.specs.declared.schedule.ScheduleFault.TheVariants as faults
-use Rattle.wef_machine.specs.Laws.{AreSafe}
+use Rattle.wef_machine.specs.Laws.{AreKept, AreSafe}
 use Rattle.wef_machine.specs.Steps.{trail}
 use Rattle.wef_cli.specs.Command.{is_replay}
 use Rattle.wef_cli.specs.Streams.{WritesPart}
@@ -57,9 +57,9 @@ HasFailed told = Rose told.faults_before told.faults_after
 abbrev pub IsUnwritten : Told → Type 0
 IsUnwritten out = Keeps out.before out.after
 
--- What is written is the trail of the schedule, and each state of its run is safe.
+-- What is written is the trail of the schedule, and each state of its run is kept, and so it is safe.
 abbrev pub WroteTrail : Told → Result (List Line) fault.ScheduleFault → Type 0
-WroteTrail out (Ok lines) = Appends out.before out.after (trail lines) × AreSafe lines
+WroteTrail out (Ok lines) = Appends out.before out.after (trail lines) × AreKept lines × AreSafe lines
 WroteTrail out (Err e) = ⊥
 
 -- What is written is a front part of the trail of the schedule.

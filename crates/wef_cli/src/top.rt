@@ -19,8 +19,9 @@ use wef_world::{WorldFault, run_lines};
 /// Runs `wef` with the words that follow the program's name, and answers its exit status.
 ///
 /// The one command is `replay`: it reads a schedule to its end, checks it whole, does its lines and
-/// writes what they print. Each state on the way is safe. What ended the run is told in one line to `err`, or in as much of it as
-/// `err` takes. Status 6 alone comes free: for want of memory.
+/// writes what they print. Each state on the way is kept, and so it is safe. What ended the run is told
+/// in one line to `err`, or in as much of it as `err` takes. Status 6 alone comes free: for want of
+/// memory.
 pub fn run<I: Source, O: Sink, E: Sink>(
     alloc: Global,
     words: &[Text],
