@@ -51,6 +51,7 @@ impl From<KeeperFault> for StoreFault {
 }
 
 /// Makes a keeper ready: opened, and out of doubt with one of its images.
+#[tactic(auto, using(crate::proofs::Openings::narrows_kept))]
 pub fn open<K: Keeper>(keeper: &mut K) -> Result<(), StoreFault>
     ensures ready { OnOk result (access.IsReady (K.store keeper.new)) }
     ensures found { OnOk result (access.Finds (K.store keeper.old) (K.store keeper.new)) }
@@ -106,7 +107,11 @@ fn front(after: &Key, depth: Depth, rows: List<Row>) -> Result<List<Row>, AllocE
 pub const PAGE: u32 = 256;
 
 /// All rows behind a key that share its parts down to a depth.
-pub fn section<K: Keeper>(keeper: &mut K, after: &Key, depth: Depth) -> Result<List<Row>, StoreFault>
+pub fn section<K: Keeper>(
+    keeper: &mut K,
+    after: &Key,
+    depth: Depth,
+) -> Result<List<Row>, StoreFault>
     requires { access.IsReady (K.store keeper.old) }
     ensures section { IfSome (K.store keeper.new).rows (λ rows. IfOk result (λ section. section ≡ rows_under depth after.now rows)) }
     ensures reads { access.Reads access.AnyRows (access.fails result) (K.store keeper.old) (K.store keeper.new) }
