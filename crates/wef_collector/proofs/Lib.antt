@@ -1,4 +1,5 @@
 pub mod Batches
+pub mod Forming
 pub mod HeldPages
 pub mod Hits
 pub mod ListedThere
@@ -6,5 +7,7 @@ pub mod Live
 pub mod Moving
 pub mod OwnKeys
 pub mod Pages
+pub mod ReadsOf
 pub mod Sources
+pub mod Stands
 pub mod Taking

@@ -26,47 +26,7 @@ use Rattle.wef_collector.specs.Listing.{listed_by, listed_of}
 use Rattle.wef_collector.specs.Standing.{standing, standing_by, standing_of, subscription_rows}
 use Rattle.wef_collector.specs.There.{HaveOwnKeys, ListedAreThere, standing_as}
 use Rattle.wef_collector.specs.declared.listing.Listed.{Listed}
-use Rattle.wef_collector.proofs.Hits.{hits_self}
-
--- ---- each entry is found at its key
-
-first : (a b : Bool) → T (a && b) → T a
-first true b p = tt
-first false b p = p
-
-second : (a b : Bool) → T (a && b) → T b
-second true b p = p
-second false b p = absurd p
-
-reversed_less : (r : Ordering) → T (is_lt r) → is_eq (ordering_reverse r) ≡ false
-reversed_less Less h = refl
-reversed_less Equal h = absurd h
-reversed_less Greater h = refl
-
--- a key is none that is less
-other : (k e : Key) → T (is_lt (key_cmp k e)) → eq_by_cmp key_cmp e k ≡ false
-other k e h = ap is_eq (key_cmp_total.antisymm e k) ∙ reversed_less (key_cmp k e) h
-
-Found : List (Key × Cell) → Key × Cell → Type 0
-Found whole entry = find key_cmp entry.0 whole ≡ Some entry.1
-
-found_behind : (k : Key) (c : Cell) (whole es : List (Key × Cell)) → T (below_all key_cmp k es) → All (Found whole) es → All (Found ((k, c) ∷ whole)) es
-unfolding Found
-found_behind k c whole [] above found = All-nil (Found ((k, c) ∷ whole))
-found_behind k c whole (e ∷ es) above found =
-    let less = first (is_lt (key_cmp k e.0)) (below_all key_cmp k es) above in
-    let rest = second (is_lt (key_cmp k e.0)) (below_all key_cmp k es) above in
-    All-cons (Found ((k, c) ∷ whole)) e es
-    (ap (λ (b : Bool). cond b (Some c) (find key_cmp e.0 whole)) (other k e.0 less) ∙ All-head (Found whole) e es found)
-    (found_behind k c whole es rest (All-tail (Found whole) e es found))
-
-entries_found : (es : List (Key × Cell)) → T (is_sorted key_cmp es) → All (Found es) es
-unfolding Found
-entries_found [] h = All-nil (Found [])
-entries_found (e ∷ es) h =
-    let above = first (below_all key_cmp e.0 es) (is_sorted key_cmp es) h in
-    let rest = second (below_all key_cmp e.0 es) (is_sorted key_cmp es) h in
-    All-cons (Found (e ∷ es)) e es (ap (λ (b : Bool). cond b (Some e.1) (find key_cmp e.0 es)) (hits_self e.0)) (found_behind e.0 e.1 es es above (entries_found es rest))
+use Rattle.wef_collector.proofs.Stands.{Stands, rows_stand}
 
 -- ---- a kept subscription has the name that it was read by
 
@@ -97,9 +57,6 @@ kept_name u body s e = words_name u (parts 32 body) s e
 
 -- ---- a row and what is listed of it
 
-Stands : Rows → Row → Type 0
-Stands rows row = finite.get rows row.key ≡ Some (cell_of_row row)
-
 as_listed : (value : ℕ) (u body : List ℕ) (kept : Option Subscription) (l : Listed) → read_kept u body ≡ kept → option_map (listed_by value) kept ≡ Some l
     → (l.subscription.name ≡ u) × (standing_by value kept ≡ standing_as l)
 as_listed value u body None l e is = cc
@@ -109,7 +66,6 @@ as_listed value u body (Some s) l e is =
 
 one_is_there : (rows : Rows) (row : Row) (l : Listed) → HaveOwnKeys rows → Stands rows row → nat_eq 1 row.key.kind ≡ true → listed_of row ≡ Some l
     → standing rows l.subscription.name ≡ standing_as l
-unfolding Stands
 one_is_there rows row l own stands kind is =
     let u = row.key.sub in
     let key = own row.key (sym (eqb-true 1 row.key.kind kind)) (ap is_some stands) in
@@ -131,16 +87,6 @@ all_are_there rows (row ∷ rs) own stand kinds =
       | Some l ↦ λ is. All-cons P l (filter_map listed_of rs) (one_is_there rows row l own (All-head (Stands rows) row rs stand) (All-head K row rs kinds) is) rest
     ] refl
 
-rows_stand : (rows : Rows) → All (Stands rows) (subscription_rows rows)
-unfolding Stands Found
-rows_stand rows =
-    let after = subscription_key [] in
-    let entries = finite.entries rows in
-    let found : All (λ (e : Key × Cell). Stands rows (row_of e)) entries =
-    All-weaker (Found entries) (λ (e : Key × Cell). Stands rows (row_of e)) (λ e is. finite.get-entries rows e.0 ∙ is) entries (entries_found entries (finite.entries_sorted rows)) in
-    All-filter (λ (row : Row). is_under Kind after row.key) (Stands rows) (rows_after after rows)
-    (All-map (Stands rows) row_of (filter (λ (e : Key × Cell). is_after after e.0) entries) (All-filter (λ (e : Key × Cell). is_after after e.0) (λ (e : Key × Cell). Stands rows (row_of e)) entries found))
-
 pub listed_are_there : ListedAreThere
 listed_are_there rows own =
-    all_are_there rows (subscription_rows rows) own (rows_stand rows) (filter_passes (λ (row : Row). is_under Kind (subscription_key []) row.key) (rows_after (subscription_key []) rows))
+    all_are_there rows (subscription_rows rows) own (rows_stand Kind (subscription_key []) rows) (filter_passes (λ (row : Row). is_under Kind (subscription_key []) row.key) (rows_after (subscription_key []) rows))

@@ -1,14 +1,12 @@
 -- What the calls of the collector answer, by its rows as the call begins.
-use Rattle.std.specs.Prelude.{◌≡◌, ℕ, Bool, true, false, List, is_some}
+use Rattle.std.specs.Prelude.{◌≡◌, ℕ, Bool, true, false, List, Option, is_some, IfSome}
 use Rattle.std.specs.FinMap as map
-use Rattle.wef_batch.specs.declared.items.Batch.{Batch}
-use Rattle.wef_batch.specs.WellFormed.{is_well_formed}
 use Rattle.wef_eventing.specs.Kept.{kept_words}
 use Rattle.wef_eventing.specs.declared.subscriptions.Subscription.{Subscription}
 use Rattle.wef_keeper.specs.Rows.{Rows}
 use Rattle.wef_query.specs.Selected as selected
 use Rattle.wef_collector.specs.Keys.{subscription_key}
-use Rattle.wef_collector.specs.Standing.{kept_body, is_full}
+use Rattle.wef_collector.specs.Standing.{kept_body, standing}
 use Rattle.wef_collector.specs.declared.faults.CollectorFault as fault
 use Rattle.wef_collector.specs.declared.faults.CollectorFault.TheVariants as faults
 use Rattle.wef_collector.specs.declared.standings.Standing as state
@@ -41,41 +39,30 @@ IsEnded is.Unknown = ⊥
 IsEnded (is.Ended s) = Unit {0}
 IsEnded (is.Live s) = ⊥
 
--- `Exists` comes exactly where the name is there, and then `TooMany` exactly where there is no room.
-abbrev pub RefusesAdd : fault.CollectorFault → Rows → Subscription → Type 0
-RefusesAdd faults.NoMemory rows s = Unit {0}
-RefusesAdd faults.Exists rows s = is_there rows s.name ≡ true
-RefusesAdd faults.TooMany rows s = (is_there rows s.name ≡ false) × (is_full rows ≡ true)
-RefusesAdd _ rows s = ⊥
-
--- `NoSubscription` comes exactly where no subscription has the name, `Ended` exactly where it has ended.
-abbrev pub RefusesName : fault.CollectorFault → state.Standing → Type 0
-RefusesName faults.NoMemory found = Unit {0}
-RefusesName faults.NoSubscription found = found ≡ is.Unknown
-RefusesName faults.Ended found = IsEnded found
-RefusesName _ found = ⊥
-
--- Besides, `NotWellFormed` comes exactly where the batch isn't well-formed for a live subscription's channels.
-abbrev pub RefusesBatch : fault.CollectorFault → state.Standing → Batch → Type 0
-RefusesBatch faults.NotWellFormed found batch = WhereLive found (λ s. is_well_formed (channels_read s) batch ≡ false)
-RefusesBatch faults.NoMemory found batch = Unit {0}
-RefusesBatch faults.NoSubscription found batch = found ≡ is.Unknown
-RefusesBatch faults.Ended found batch = IsEnded found
-RefusesBatch _ found batch = ⊥
-
 -- whether a subscription has the name, ended or not
 abbrev pub is_known : state.Standing → Bool
 is_known is.Unknown = false
 is_known (is.Ended s) = true
 is_known (is.Live s) = true
 
--- `NoSubscription` comes exactly where no subscription has the name.
-abbrev pub RefusesUnknown : fault.CollectorFault → state.Standing → Type 0
-RefusesUnknown faults.NoMemory found = Unit {0}
-RefusesUnknown faults.NoSubscription found = is_known found ≡ false
-RefusesUnknown _ found = ⊥
+-- Want of memory and a failed store may come at any time. `NoSubscription` comes exactly where no subscription has the
+-- name, `Ended` exactly where it has ended, by the rows where they are told.
+abbrev pub RefusesName : fault.CollectorFault → Option Rows → List ℕ → Type 0
+RefusesName faults.NoMemory told u = Unit {0}
+RefusesName faults.Failed told u = Unit {0}
+RefusesName faults.NoSubscription told u = IfSome told (λ rows. standing rows u ≡ is.Unknown)
+RefusesName faults.Ended told u = IfSome told (λ rows. IsEnded (standing rows u))
+RefusesName _ told u = ⊥
 
--- want of memory, and nothing else
-abbrev pub WantsMemory : fault.CollectorFault → Type 0
-WantsMemory faults.NoMemory = Unit {0}
-WantsMemory _ = ⊥
+-- `NoSubscription` comes exactly where no subscription has the name.
+abbrev pub RefusesUnknown : fault.CollectorFault → Option Rows → List ℕ → Type 0
+RefusesUnknown faults.NoMemory told u = Unit {0}
+RefusesUnknown faults.Failed told u = Unit {0}
+RefusesUnknown faults.NoSubscription told u = IfSome told (λ rows. is_known (standing rows u) ≡ false)
+RefusesUnknown _ told u = ⊥
+
+-- want of memory or a failed store, and nothing else
+abbrev pub IsOfStore : fault.CollectorFault → Type 0
+IsOfStore faults.NoMemory = Unit {0}
+IsOfStore faults.Failed = Unit {0}
+IsOfStore _ = ⊥

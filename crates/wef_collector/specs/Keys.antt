@@ -5,6 +5,7 @@
 --     4 a mark of dropped records, by its first number: the last
 --     5 loose records, by the first number of the range that they fell in: its last; their count in digits
 --     6 when a source was last heard for a subscription: the moment
+--     8 how often the collector was started: the boot number
 use Rattle.std.specs.Prelude.{ℕ, List, []}
 use Rattle.wef_keeper.specs.declared.keys.Key.{Key}
 
@@ -28,3 +29,6 @@ loose_key u s c first = key 5 u s c first
 
 abbrev pub heard_key : List ℕ → List ℕ → Key
 heard_key u s = key 6 u s [] 0
+
+abbrev pub boot_key : Key
+boot_key = key 8 [] [] [] 0

@@ -2,6 +2,7 @@
 use Rattle.std.specs.Prelude.{ℕ, Bool, true, false, ◌&&◌, List, Option, Some, None, if◌then◌else◌}
 use Rattle.std.specs.Fmt.{decimal}
 use Rattle.std.specs.List.{filter_map}
+use Rattle.wef_bookmark.specs.Order.{Marks}
 use Rattle.wef_eventing.specs.Addresses.{delivery_address}
 use Rattle.wef_eventing.specs.declared.bodies.Offer.{Offer}
 use Rattle.wef_eventing.specs.declared.subscriptions.SubKind.{SubKind}
@@ -21,10 +22,10 @@ begins_at_sources ByCollector = false
 abbrev pub is_offered : Listed → Bool
 is_offered l = l.live && begins_at_sources l.subscription.kind
 
--- the offer of a subscription to a source: its version in decimal digits, and a wish for the events above the
--- kept bookmark, at the address of both at the host
-abbrev pub offer_made : Rows → List ℕ → List ℕ → Subscription → Offer
-offer_made rows s host subscription = record {
+-- an offer of a subscription to a source: its version in decimal digits, and a wish for the events above a bookmark,
+-- at the address of both at the host
+abbrev pub offer_from : Marks → List ℕ → List ℕ → Subscription → Offer
+offer_from from s host subscription = record {
   version = decimal subscription.version;
   subscribe = record {
     notify_to = delivery_address host subscription.name s;
@@ -35,9 +36,13 @@ offer_made rows s host subscription = record {
     max_bytes = subscription.max_bytes;
     heartbeat = subscription.heartbeat;
     expires = None;
-    from = bookmark_of rows subscription.name s;
+    from = from;
   };
 }
+
+-- it goes on from the bookmark that is kept
+abbrev pub offer_made : Rows → List ℕ → List ℕ → Subscription → Offer
+offer_made rows s host subscription = offer_from (bookmark_of rows subscription.name s) s host subscription
 
 -- the offer of a listed subscription, where it is offered
 abbrev pub offer_of : Rows → List ℕ → List ℕ → Listed → Option Offer

@@ -53,10 +53,13 @@ channel_report rows u s row =
     channel_line row.key.channel row.value ++ held_line rows u s row.key.channel ++ dropped_line rows u s row.key.channel
     ++ flat_map loose_line (loose_rows rows u s row.key.channel)
 
--- the sources of a subscription that have a bookmark or were heard, each once, in the order of names
+-- the sources of rows, each once, in the order of names
+abbrev pub sources_in : List Row → List Row → List (List ℕ)
+sources_in served heard = in_order (map (λ (row : Row). row.key.source) served ++ map (λ (row : Row). row.key.source) heard)
+
+-- the sources of a subscription that have a bookmark or were heard
 abbrev pub sources_of : Rows → List ℕ → List (List ℕ)
-sources_of rows u =
-    in_order (map (λ (row : Row). row.key.source) (rows_under Sub (bookmark_key u [] []) rows) ++ map (λ (row : Row). row.key.source) (rows_under Sub (heard_key u []) rows))
+sources_of rows u = sources_in (rows_under Sub (bookmark_key u [] []) rows) (rows_under Sub (heard_key u []) rows)
 
 unfoldable pub source_line : List ℕ → List ℕ
 source_line s = codes " source " ++ printed s ++ 10 ∷ []

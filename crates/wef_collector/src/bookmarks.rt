@@ -1,26 +1,42 @@
 //! The kept bookmark of a subscription and a source.
 
-ghost use Rattle.std.specs.Prelude.{◌≡◌, [], ◌∷◌, IfOk, OnOk};
+ghost use Rattle.std.specs.Prelude.{◌≡◌, [], ◌∷◌, IfOk, IfSome, OnOk};
+ghost use Rattle.std.specs.FinMap as map;
 ghost use Rattle.std.specs.List.{filter};
+ghost use Rattle.wef_keeper.specs.Access as access;
 ghost use Rattle.wef_collector.specs.Bookmarks as spec;
+ghost use Rattle.wef_collector.specs.Forms.{AreFormed};
 
 use crate::keys::bookmark_key;
-use crate::sections::section;
-use std::alloc::AllocError;
+use crate::reading::formed_section;
+use std::alloc::{AllocError, Global};
 use wef_base::{ChannelName, SourceName, SubId, Text, ValueFault};
 use wef_bookmark::Bookmark;
-use wef_keeper::{Depth, Row, Rows};
+use wef_keeper::{Depth, Keeper, Row, StoreFault};
 
 /// The bookmark of a subscription and a source.
-pub fn bookmark_of(rows: &Rows, sub: &SubId, source: &SourceName) -> Result<Bookmark, AllocError>
-    ensures { IfOk result (λ bookmark. bookmark ≡ spec.bookmark_of rows.now sub.now source.now) }
+pub fn bookmark_of<K: Keeper>(
+    keeper: &mut K,
+    sub: &SubId,
+    source: &SourceName,
+) -> Result<Bookmark, StoreFault>
+    requires { access.IsReady (K.store keeper.old) }
+    ensures bookmark { IfSome (K.store keeper.new).rows (λ rows. IfOk result (λ bookmark. bookmark ≡ spec.bookmark_of rows sub.now source.now)) }
+    ensures reads { access.Reads AreFormed (access.fails result) (K.store keeper.old) (K.store keeper.new) }
 {
     let alloc = sub.as_text().alloc();
     let none = Text::new(alloc);
     let start = bookmark_key(sub.as_text(), source.as_text(), &none)?;
-    let kept = section(rows, &start, Depth::Source)?;
+    let kept = formed_section(keeper, &start, Depth::Source)?;
+    Ok(bookmark_by(alloc, kept.as_slice())?)
+}
+
+/// The bookmark that rows make.
+fn bookmark_by(alloc: Global, rows: &[Row]) -> Result<Bookmark, AllocError>
+    ensures { IfOk result (λ bookmark. bookmark ≡ spec.raised_by_rows map.empty (filter spec.has_channel rows.now)) }
+{
     let mut bookmark = Bookmark::new(alloc);
-    for row in kept.as_slice() {
+    for row in rows {
         raise_by(&mut bookmark, row)?;
     }
     Ok(bookmark)

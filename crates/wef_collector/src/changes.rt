@@ -1,54 +1,96 @@
 //! What taking a batch changes.
 
-ghost use Rattle.std.specs.Prelude.{◌≡◌, ◌+◌, ◌<◌, [], ◌∷◌, ◌++◌, IfOk, OnOk};
+ghost use Rattle.std.specs.Prelude.{◌≡◌, ◌+◌, ◌<◌, [], ◌∷◌, ◌++◌, IfOk, IfSome, OnOk};
 ghost use Rattle.std.specs.Fmt.{decimal};
 ghost use Rattle.std.specs.List.{flat_map};
 ghost use Rattle.wef_batch.specs.Reach as reaches;
+ghost use Rattle.wef_keeper.specs.Access as access;
+ghost use Rattle.wef_collector.specs.Forms.{AreFormed};
 ghost use Rattle.wef_collector.specs.Keys as keys;
 ghost use Rattle.wef_collector.specs.Taken as spec;
 ghost use Rattle.wef_collector.specs.Bookmarks as bookmarks;
 
 use crate::keys::{bookmark_key, heard_key, held_key, loose_key, mark_key};
+use crate::reading::formed_cell;
 use std::alloc::AllocError;
 use wef_base::{ChannelName, List, SourceName, SubId, Text};
 use wef_batch::{Batch, Item, loose_sum, reach};
-use wef_keeper::{Change, Key, Row, Rows};
+use wef_keeper::{Change, Keeper, Key, Row, StoreFault};
 
 /// All that a batch for these channels changes.
-pub fn batch_changes(
-    rows: &Rows,
+pub fn batch_changes<K: Keeper>(
+    keeper: &mut K,
     sub: &SubId,
     source: &SourceName,
     channels: &[ChannelName],
     batch: &Batch,
     now: u64,
-) -> Result<List<Change>, AllocError>
-    requires { reaches.loose_sum batch.now.items < 18446744073709551616 }
-    ensures { IfOk result (λ changes. changes ≡ spec.batch_changes rows.now sub.now source.now channels.now batch.now now) }
+) -> Result<List<Change>, StoreFault>
+    requires ready { access.IsReady (K.store keeper.old) }
+    requires loose { reaches.loose_sum batch.now.items < 18446744073709551616 }
+    ensures changes { IfSome (K.store keeper.new).rows (λ rows. IfOk result (λ changes. changes ≡ spec.batch_changes rows sub.now source.now channels.now batch.now now)) }
+    ensures reads { access.Reads AreFormed (access.fails result) (K.store keeper.old) (K.store keeper.new) }
 {
     let mut changes = List::new(sub.as_text().alloc());
     for channel in channels {
-        push_channel_changes(&mut changes, rows, sub, source, channel, batch)?;
+        push_channel_changes(&mut changes, keeper, sub, source, channel, batch)?;
     }
-    push_heard_changes(&mut changes, rows, sub, source, now)?;
+    push_heard_changes(&mut changes, keeper, sub, source, now)?;
     Ok(changes)
 }
 
-fn push_channel_changes(
+fn push_channel_changes<K: Keeper>(
     changes: &mut List<Change>,
-    rows: &Rows,
+    keeper: &mut K,
     sub: &SubId,
     source: &SourceName,
     channel: &ChannelName,
     batch: &Batch,
-) -> Result<(), AllocError>
-    requires { reaches.loose_sum batch.now.items < 18446744073709551616 }
-    ensures { OnOk result (changes.new ≡ changes.old ++ spec.channel_changes rows.now sub.now source.now batch.now channel.now) }
+) -> Result<(), StoreFault>
+    requires ready { access.IsReady (K.store keeper.old) }
+    requires loose { reaches.loose_sum batch.now.items < 18446744073709551616 }
+    ensures changes { IfSome (K.store keeper.new).rows (λ rows. OnOk result (changes.new ≡ changes.old ++ spec.channel_changes rows sub.now source.now batch.now channel.now)) }
+    ensures reads { access.Reads AreFormed (access.fails result) (K.store keeper.old) (K.store keeper.new) }
 {
     let Some(to) = reach(batch, channel) else {
         return Ok(());
     };
-    let bookmark = bookmark_at(rows, sub, source, channel)?;
+    let bookmark = bookmark_at(keeper, sub, source, channel)?;
+    push_reach_changes(changes, sub, source, channel, bookmark, batch, to)?;
+    Ok(())
+}
+
+/// How far a source's channel was served.
+pub fn bookmark_at<K: Keeper>(
+    keeper: &mut K,
+    sub: &SubId,
+    source: &SourceName,
+    channel: &ChannelName,
+) -> Result<u64, StoreFault>
+    requires { access.IsReady (K.store keeper.old) }
+    ensures number { IfSome (K.store keeper.new).rows (λ rows. IfOk result (λ number. number ≡ bookmarks.bookmark_at rows sub.now source.now channel.now)) }
+    ensures reads { access.Reads AreFormed (access.fails result) (K.store keeper.old) (K.store keeper.new) }
+{
+    let key = bookmark_key(sub.as_text(), source.as_text(), channel.as_text())?;
+    match formed_cell(keeper, &key)? {
+        Some(cell) => Ok(cell.value),
+        None => Ok(0),
+    }
+}
+
+/// What a batch that reaches a channel up to a number changes in it.
+fn push_reach_changes(
+    changes: &mut List<Change>,
+    sub: &SubId,
+    source: &SourceName,
+    channel: &ChannelName,
+    bookmark: u64,
+    batch: &Batch,
+    to: u64,
+) -> Result<(), AllocError>
+    requires { reaches.loose_sum batch.now.items < 18446744073709551616 }
+    ensures { OnOk result (changes.new ≡ changes.old ++ spec.reach_changes sub.now source.now channel.now bookmark batch.now (Some to)) }
+{
     push_items_changes(
         changes,
         sub,
@@ -66,22 +108,6 @@ fn push_channel_changes(
         to,
         loose_sum(batch.items.as_slice()),
     )
-}
-
-/// How far a source's channel was served.
-pub fn bookmark_at(
-    rows: &Rows,
-    sub: &SubId,
-    source: &SourceName,
-    channel: &ChannelName,
-) -> Result<u64, AllocError>
-    ensures { IfOk result (λ number. number ≡ bookmarks.bookmark_at rows.now sub.now source.now channel.now) }
-{
-    let key = bookmark_key(sub.as_text(), source.as_text(), channel.as_text())?;
-    match rows.get(&key) {
-        Some(cell) => Ok(cell.value),
-        None => Ok(0),
-    }
 }
 
 fn push_items_changes(
@@ -178,19 +204,24 @@ fn push_loose_change(
     push_put(changes, key, to, digits)
 }
 
-fn push_heard_changes(
+fn push_heard_changes<K: Keeper>(
     changes: &mut List<Change>,
-    rows: &Rows,
+    keeper: &mut K,
     sub: &SubId,
     source: &SourceName,
     now: u64,
-) -> Result<(), AllocError>
-    ensures { OnOk result (changes.new ≡ changes.old ++ spec.heard_changes rows.now sub.now source.now now) }
+) -> Result<(), StoreFault>
+    requires { access.IsReady (K.store keeper.old) }
+    ensures changes { IfSome (K.store keeper.new).rows (λ rows. OnOk result (changes.new ≡ changes.old ++ spec.heard_changes rows sub.now source.now now)) }
+    ensures reads { access.Reads AreFormed (access.fails result) (K.store keeper.old) (K.store keeper.new) }
 {
     let key = heard_key(sub.as_text(), source.as_text())?;
-    match rows.get(&key) {
+    match formed_cell(keeper, &key)? {
         Some(cell) if now <= cell.value => Ok(()),
-        _ => push_put(changes, key, now, Text::new(sub.as_text().alloc())),
+        _ => {
+            push_put(changes, key, now, Text::new(sub.as_text().alloc()))?;
+            Ok(())
+        }
     }
 }
 

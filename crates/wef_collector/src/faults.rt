@@ -2,8 +2,9 @@
 
 use std::alloc::AllocError;
 use thiserror::Error;
+use wef_keeper::StoreFault;
 
-/// Why the collector refuses a call. It is as before after each refusal.
+/// Why the collector refuses a call. Its rows are as before after each refusal but `Failed`.
 #[derive(Clone, Copy, Debug, PartialEq, Eq, Error)]
 pub enum CollectorFault {
     #[error("no memory")]
@@ -18,6 +19,11 @@ pub enum CollectorFault {
     NotWellFormed,
     #[error("there are too many subscriptions")]
     TooMany,
+    /// After a commit there is doubt, which the next call ends.
+    #[error("the store failed")]
+    Failed,
+    #[error("the boot number is the greatest")]
+    Full,
 }
 
 impl From<AllocError> for CollectorFault {
@@ -28,5 +34,19 @@ impl From<AllocError> for CollectorFault {
 
     fn from(_error: AllocError) -> CollectorFault {
         CollectorFault::NoMemory
+    }
+}
+
+impl From<StoreFault> for CollectorFault {
+    ghost use Rattle.std.specs.Prelude.{◌≡◌};
+    ghost use Rattle.wef_collector.specs.Faults.{collector_fault};
+
+    ghost from_gives = { λ fault e. e ≡ collector_fault fault };
+
+    fn from(fault: StoreFault) -> CollectorFault {
+        match fault {
+            StoreFault::NoMemory => CollectorFault::NoMemory,
+            StoreFault::Failed => CollectorFault::Failed,
+        }
     }
 }

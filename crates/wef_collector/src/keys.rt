@@ -1,9 +1,9 @@
 //! The keys of the collector's rows.
 
-ghost use Rattle.std.specs.Prelude.{◌≡◌, IfOk};
+ghost use Rattle.std.specs.Prelude.{◌≡◌, [], IfOk};
 ghost use Rattle.wef_collector.specs.Keys as keys;
 
-use std::alloc::AllocError;
+use std::alloc::{AllocError, Global};
 use wef_base::{SubId, Text};
 use wef_keeper::Key;
 
@@ -19,6 +19,32 @@ pub fn subscription_key(sub: &SubId) -> Result<Key, AllocError>
         channel: Text::new(alloc),
         number: 0,
     })
+}
+
+/// The key in front of all subscriptions.
+pub fn subscriptions_start(alloc: Global) -> Key
+    ensures { result ≡ keys.subscription_key [] }
+{
+    only_kind(alloc, 1)
+}
+
+/// The key of the boot number.
+pub fn boot_key(alloc: Global) -> Key
+    ensures { result ≡ keys.boot_key }
+{
+    only_kind(alloc, 8)
+}
+
+fn only_kind(alloc: Global, kind: u8) -> Key
+    ensures { result ≡ keys.key kind [] [] [] 0 }
+{
+    Key {
+        kind,
+        sub: Text::new(alloc),
+        source: Text::new(alloc),
+        channel: Text::new(alloc),
+        number: 0,
+    }
 }
 
 /// The key of a channel's bookmark.

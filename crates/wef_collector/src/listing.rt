@@ -1,15 +1,17 @@
 //! The subscriptions that are kept, one after the other.
 
-ghost use Rattle.std.specs.Prelude.{◌≡◌, [], ◌∷◌, ◌++◌, IfOk, OnOk};
+ghost use Rattle.std.specs.Prelude.{◌≡◌, [], ◌∷◌, ◌++◌, IfOk, IfSome, OnOk};
 ghost use Rattle.std.specs.List.{filter_map};
+ghost use Rattle.wef_keeper.specs.Access as access;
+ghost use Rattle.wef_collector.specs.Forms.{AreFormed};
 ghost use Rattle.wef_collector.specs.Listing as spec;
 
-use crate::reporting::subscriptions_start;
-use crate::sections::section;
+use crate::keys::subscriptions_start;
+use crate::reading::formed_section;
 use std::alloc::{AllocError, Global};
 use wef_base::{List, SubId, ValueFault};
 use wef_eventing::{Subscription, read_kept};
-use wef_keeper::{Depth, Row, Rows};
+use wef_keeper::{Depth, Keeper, Row, StoreFault};
 
 /// A subscription that is kept.
 #[derive(Debug, Drop)]
@@ -20,13 +22,24 @@ pub struct Listed {
 }
 
 /// The subscriptions of the rows, in the order of their names.
-pub fn list_subscriptions(rows: &Rows, alloc: Global) -> Result<List<Listed>, AllocError>
-    ensures { IfOk result (λ list. list ≡ spec.listed rows.now) }
+pub fn list_subscriptions<K: Keeper>(
+    keeper: &mut K,
+    alloc: Global,
+) -> Result<List<Listed>, StoreFault>
+    requires { access.IsReady (K.store keeper.old) }
+    ensures list { IfSome (K.store keeper.new).rows (λ rows. IfOk result (λ list. list ≡ spec.listed rows)) }
+    ensures reads { access.Reads AreFormed (access.fails result) (K.store keeper.old) (K.store keeper.new) }
 {
     let start = subscriptions_start(alloc);
-    let subscriptions = section(rows, &start, Depth::Kind)?;
+    let subscriptions = formed_section(keeper, &start, Depth::Kind)?;
+    Ok(listed_in(alloc, subscriptions.as_slice())?)
+}
+
+fn listed_in(alloc: Global, rows: &[Row]) -> Result<List<Listed>, AllocError>
+    ensures { IfOk result (λ list. list ≡ filter_map spec.listed_of rows.now) }
+{
     let mut list = List::new(alloc);
-    for row in subscriptions.as_slice() {
+    for row in rows {
         push_listed(&mut list, row)?;
     }
     Ok(list)

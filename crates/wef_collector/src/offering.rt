@@ -1,48 +1,57 @@
 //! The offers to sources that ask for their subscriptions.
 
-ghost use Rattle.std.specs.Prelude.{◌≡◌, [], ◌∷◌, ◌++◌, IfOk, OnOk};
+ghost use Rattle.std.specs.Prelude.{◌≡◌, [], ◌∷◌, ◌++◌, IfOk, IfSome, OnOk};
 ghost use Rattle.std.specs.Fmt.{decimal};
 ghost use Rattle.std.specs.List.{filter_map};
+ghost use Rattle.wef_keeper.specs.Access as access;
+ghost use Rattle.wef_collector.specs.Forms.{AreFormed};
 ghost use Rattle.wef_collector.specs.Offers as spec;
 
 use crate::bookmarks::bookmark_of;
 use crate::listing::{Listed, list_subscriptions};
 use std::alloc::{AllocError, Global};
 use wef_base::{List, SourceName, Text};
+use wef_bookmark::Bookmark;
 use wef_eventing::{Offer, SubKind, Subscribe, Subscription, delivery_address};
-use wef_keeper::Rows;
+use wef_keeper::{Keeper, StoreFault};
 
 /// The offers to a source, in the order of their subscriptions' names. Batches for them go to the
 /// host.
-pub fn offers_to(
-    rows: &Rows,
+pub fn offers_to<K: Keeper>(
+    keeper: &mut K,
     alloc: Global,
     source: &SourceName,
     host: &Text,
-) -> Result<List<Offer>, AllocError>
-    ensures { IfOk result (λ offers. offers ≡ spec.offers rows.now source.now host.now) }
+) -> Result<List<Offer>, StoreFault>
+    requires { access.IsReady (K.store keeper.old) }
+    ensures offers { IfSome (K.store keeper.new).rows (λ rows. IfOk result (λ offers. offers ≡ spec.offers rows source.now host.now)) }
+    ensures reads { access.Reads AreFormed (access.fails result) (K.store keeper.old) (K.store keeper.new) }
 {
-    let subscriptions = list_subscriptions(rows, alloc)?;
+    let subscriptions = list_subscriptions(keeper, alloc)?;
     let mut offers = List::new(alloc);
     for listed in subscriptions.as_slice() {
-        push_offer(&mut offers, rows, source, host, listed)?;
+        push_offer(&mut offers, keeper, source, host, listed)?;
     }
     Ok(offers)
 }
 
-fn push_offer(
+fn push_offer<K: Keeper>(
     offers: &mut List<Offer>,
-    rows: &Rows,
+    keeper: &mut K,
     source: &SourceName,
     host: &Text,
     listed: &Listed,
-) -> Result<(), AllocError>
-    ensures { OnOk result (offers.new ≡ offers.old ++ filter_map (spec.offer_of rows.now source.now host.now) (listed.now ∷ [])) }
+) -> Result<(), StoreFault>
+    requires { access.IsReady (K.store keeper.old) }
+    ensures offers { IfSome (K.store keeper.new).rows (λ rows. OnOk result (offers.new ≡ offers.old ++ filter_map (spec.offer_of rows source.now host.now) (listed.now ∷ []))) }
+    ensures reads { access.Reads AreFormed (access.fails result) (K.store keeper.old) (K.store keeper.new) }
 {
     if !is_offered(listed) {
         return Ok(());
     }
-    offers.push(offer_made(rows, source, host, &listed.subscription)?)
+    let offer = offer_made(keeper, source, host, &listed.subscription)?;
+    offers.push(offer)?;
+    Ok(())
 }
 
 fn is_offered(listed: &Listed) -> bool
@@ -60,13 +69,28 @@ fn begins_at_sources(kind: SubKind) -> bool
     }
 }
 
-fn offer_made(
-    rows: &Rows,
+fn offer_made<K: Keeper>(
+    keeper: &mut K,
+    source: &SourceName,
+    host: &Text,
+    subscription: &Subscription,
+) -> Result<Offer, StoreFault>
+    requires { access.IsReady (K.store keeper.old) }
+    ensures offer { IfSome (K.store keeper.new).rows (λ rows. IfOk result (λ offer. offer ≡ spec.offer_made rows source.now host.now subscription.now)) }
+    ensures reads { access.Reads AreFormed (access.fails result) (K.store keeper.old) (K.store keeper.new) }
+{
+    let from = bookmark_of(keeper, &subscription.name, source)?;
+    Ok(offer_from(from, source, host, subscription)?)
+}
+
+/// The offer of a subscription that goes on from a bookmark.
+fn offer_from(
+    from: Bookmark,
     source: &SourceName,
     host: &Text,
     subscription: &Subscription,
 ) -> Result<Offer, AllocError>
-    ensures { IfOk result (λ offer. offer ≡ spec.offer_made rows.now source.now host.now subscription.now) }
+    ensures { IfOk result (λ offer. offer ≡ spec.offer_from from source.now host.now subscription.now) }
 {
     let name = &subscription.name;
     let address = delivery_address(host, name, source)?;
@@ -81,7 +105,7 @@ fn offer_made(
             max_bytes: subscription.max_bytes,
             heartbeat: subscription.heartbeat,
             expires: None,
-            from: bookmark_of(rows, name, source)?,
+            from,
         },
     })
 }

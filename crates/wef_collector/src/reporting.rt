@@ -1,58 +1,55 @@
 //! The report of all that is kept, as text.
 
-ghost use Rattle.std.specs.Prelude.{◌≡◌, [], ◌++◌, List, map, IfOk, OnOk};
+ghost use Rattle.std.specs.Prelude.{◌≡◌, ◌++◌, List, map, IfOk, IfSome, OnOk};
 ghost use Rattle.std.specs.List.{flat_map};
+ghost use Rattle.wef_keeper.specs.Access as access;
 ghost use Rattle.wef_keeper.specs.Sections.{rows_under};
 ghost use Rattle.wef_query.specs.Order.{with_names};
+ghost use Rattle.wef_collector.specs.Forms.{AreFormed};
 ghost use Rattle.wef_collector.specs.Held.{loose_rows};
-ghost use Rattle.wef_collector.specs.Keys as keys;
 ghost use Rattle.wef_collector.specs.Runs.{runs_from, runs_of, runs_text};
 ghost use Rattle.wef_collector.specs.Report as spec;
 ghost use Rattle.wef_keeper.specs.declared.keys.Row as the_row;
 
-use crate::keys::{bookmark_key, heard_key, held_key, loose_key, mark_key};
+use crate::keys::{bookmark_key, heard_key, held_key, loose_key, mark_key, subscriptions_start};
+use crate::reading::{formed_page, formed_section};
 use crate::runs::{RunWriter, Span};
-use crate::sections::{PAGE, last_key_of, section};
 use std::alloc::{AllocError, Global};
 use std::collections::BTreeSet;
 use wef_base::{List, Text};
-use wef_keeper::{Depth, Key, Row, Rows};
+use wef_keeper::access::{PAGE, last_key_of};
+use wef_keeper::{Depth, Keeper, Key, Row, StoreFault};
 
 /// The report of the rows.
 #[tactic(auto, unfolding(crate::specs::Report::report))]
-pub fn report(rows: &Rows, alloc: Global) -> Result<Text, AllocError>
-    ensures { IfOk result (λ text. text ≡ spec.report rows.now) }
+pub fn report<K: Keeper>(keeper: &mut K, alloc: Global) -> Result<Text, StoreFault>
+    requires { access.IsReady (K.store keeper.old) }
+    ensures text { IfSome (K.store keeper.new).rows (λ rows. IfOk result (λ text. text ≡ spec.report rows)) }
+    ensures reads { access.Reads AreFormed (access.fails result) (K.store keeper.old) (K.store keeper.new) }
 {
     let start = subscriptions_start(alloc);
-    let subscriptions = section(rows, &start, Depth::Kind)?;
+    let subscriptions = formed_section(keeper, &start, Depth::Kind)?;
     let mut text = Text::new(alloc);
     for row in subscriptions.as_slice() {
-        push_subscription(&mut text, rows, row)?;
+        push_subscription(&mut text, keeper, row)?;
     }
     text.push_str("end\n")?;
     Ok(text)
 }
 
-/// The key in front of all subscriptions.
-pub fn subscriptions_start(alloc: Global) -> Key
-    ensures { result ≡ keys.subscription_key [] }
-{
-    Key {
-        kind: 1,
-        sub: Text::new(alloc),
-        source: Text::new(alloc),
-        channel: Text::new(alloc),
-        number: 0,
-    }
-}
-
-fn push_subscription(text: &mut Text, rows: &Rows, row: &Row) -> Result<(), AllocError>
-    ensures { OnOk result (text.new ≡ text.old ++ spec.subscription_report rows.now row.now) }
+fn push_subscription<K: Keeper>(
+    text: &mut Text,
+    keeper: &mut K,
+    row: &Row,
+) -> Result<(), StoreFault>
+    requires { access.IsReady (K.store keeper.old) }
+    ensures text { IfSome (K.store keeper.new).rows (λ rows. OnOk result (text.new ≡ text.old ++ spec.subscription_report rows row.now)) }
+    ensures reads { access.Reads AreFormed (access.fails result) (K.store keeper.old) (K.store keeper.new) }
 {
     push_subscription_line(text, &row.key.sub, row.value)?;
-    let sources = sources_of(rows, &row.key.sub)?;
+    let sources = sources_of(keeper, &row.key.sub)?;
     for source in sources.as_slice() {
-        push_source(text, rows, &row.key.sub, source)?;
+        push_source(text, keeper, &row.key.sub, source)?;
     }
     Ok(())
 }
@@ -81,17 +78,26 @@ fn push_state(text: &mut Text, value: u64) -> Result<(), AllocError>
 }
 
 /// The sources of a subscription that have a bookmark or were heard, each once, in order.
-#[tactic(auto, using(crate::proofs::Sources::with_names_join))]
-fn sources_of(rows: &Rows, sub: &Text) -> Result<List<Text>, AllocError>
-    ensures { IfOk result (λ sources. sources ≡ spec.sources_of rows.now sub.now) }
+fn sources_of<K: Keeper>(keeper: &mut K, sub: &Text) -> Result<List<Text>, StoreFault>
+    requires { access.IsReady (K.store keeper.old) }
+    ensures sources { IfSome (K.store keeper.new).rows (λ rows. IfOk result (λ sources. sources ≡ spec.sources_of rows sub.now)) }
+    ensures reads { access.Reads AreFormed (access.fails result) (K.store keeper.old) (K.store keeper.new) }
 {
     let none = Text::new(sub.alloc());
-    let served = section(rows, &bookmark_key(sub, &none, &none)?, Depth::Sub)?;
-    let heard = section(rows, &heard_key(sub, &none)?, Depth::Sub)?;
-    let mut sources = BTreeSet::new(sub.alloc());
-    add_sources(&mut sources, served.as_slice())?;
-    add_sources(&mut sources, heard.as_slice())?;
-    Ok(List::from(sources.into_iter().collect::<Vec<Text>>(sub.alloc())?))
+    let served = formed_section(keeper, &bookmark_key(sub, &none, &none)?, Depth::Sub)?;
+    let heard = formed_section(keeper, &heard_key(sub, &none)?, Depth::Sub)?;
+    Ok(sources_in(sub.alloc(), served.as_slice(), heard.as_slice())?)
+}
+
+/// The sources of rows, each once, in order.
+#[tactic(auto, using(crate::proofs::Sources::with_names_join))]
+fn sources_in(alloc: Global, served: &[Row], heard: &[Row]) -> Result<List<Text>, AllocError>
+    ensures { IfOk result (λ sources. sources ≡ spec.sources_in served.now heard.now) }
+{
+    let mut sources = BTreeSet::new(alloc);
+    add_sources(&mut sources, served)?;
+    add_sources(&mut sources, heard)?;
+    Ok(List::from(sources.into_iter().collect::<Vec<Text>>(alloc)?))
 }
 
 fn add_sources(sources: &mut BTreeSet<Text>, rows: &[Row]) -> Result<(), AllocError>
@@ -103,14 +109,21 @@ fn add_sources(sources: &mut BTreeSet<Text>, rows: &[Row]) -> Result<(), AllocEr
     Ok(())
 }
 
-fn push_source(text: &mut Text, rows: &Rows, sub: &Text, source: &Text) -> Result<(), AllocError>
-    ensures { OnOk result (text.new ≡ text.old ++ spec.source_report rows.now sub.now source.now) }
+fn push_source<K: Keeper>(
+    text: &mut Text,
+    keeper: &mut K,
+    sub: &Text,
+    source: &Text,
+) -> Result<(), StoreFault>
+    requires { access.IsReady (K.store keeper.old) }
+    ensures text { IfSome (K.store keeper.new).rows (λ rows. OnOk result (text.new ≡ text.old ++ spec.source_report rows sub.now source.now)) }
+    ensures reads { access.Reads AreFormed (access.fails result) (K.store keeper.old) (K.store keeper.new) }
 {
     push_source_line(text, source)?;
     let none = Text::new(sub.alloc());
-    let channels = section(rows, &bookmark_key(sub, source, &none)?, Depth::Source)?;
+    let channels = formed_section(keeper, &bookmark_key(sub, source, &none)?, Depth::Source)?;
     for row in channels.as_slice() {
-        push_channel(text, rows, sub, source, row)?;
+        push_channel(text, keeper, sub, source, row)?;
     }
     Ok(())
 }
@@ -125,20 +138,22 @@ fn push_source_line(text: &mut Text, source: &Text) -> Result<(), AllocError>
     Ok(())
 }
 
-fn push_channel(
+fn push_channel<K: Keeper>(
     text: &mut Text,
-    rows: &Rows,
+    keeper: &mut K,
     sub: &Text,
     source: &Text,
     row: &Row,
-) -> Result<(), AllocError>
-    ensures { OnOk result (text.new ≡ text.old ++ spec.channel_report rows.now sub.now source.now row.now) }
+) -> Result<(), StoreFault>
+    requires { access.IsReady (K.store keeper.old) }
+    ensures text { IfSome (K.store keeper.new).rows (λ rows. OnOk result (text.new ≡ text.old ++ spec.channel_report rows sub.now source.now row.now)) }
+    ensures reads { access.Reads AreFormed (access.fails result) (K.store keeper.old) (K.store keeper.new) }
 {
     let channel = &row.key.channel;
     push_channel_line(text, channel, row.value)?;
-    push_held(text, rows, sub, source, channel)?;
-    push_dropped(text, rows, sub, source, channel)?;
-    push_loose(text, rows, sub, source, channel)
+    push_held(text, keeper, sub, source, channel)?;
+    push_dropped(text, keeper, sub, source, channel)?;
+    push_loose(text, keeper, sub, source, channel)
 }
 
 #[tactic(auto, unfolding(crate::specs::Report::channel_line))]
@@ -154,31 +169,37 @@ fn push_channel_line(text: &mut Text, channel: &Text, bookmark: u64) -> Result<(
 }
 
 #[tactic(auto, unfolding(crate::specs::Report::held_line))]
-fn push_held(
+fn push_held<K: Keeper>(
     text: &mut Text,
-    rows: &Rows,
+    keeper: &mut K,
     sub: &Text,
     source: &Text,
     channel: &Text,
-) -> Result<(), AllocError>
-    ensures { OnOk result (text.new ≡ text.old ++ spec.held_line rows.now sub.now source.now channel.now) }
+) -> Result<(), StoreFault>
+    requires { access.IsReady (K.store keeper.old) }
+    ensures text { IfSome (K.store keeper.new).rows (λ rows. OnOk result (text.new ≡ text.old ++ spec.held_line rows sub.now source.now channel.now)) }
+    ensures reads { access.Reads AreFormed (access.fails result) (K.store keeper.old) (K.store keeper.new) }
 {
-    let runs = runs_behind(rows, held_key(sub, source, channel, 0)?, Spans::Held)?;
-    push_labelled(text, "   held", &runs)
+    let runs = runs_behind(keeper, held_key(sub, source, channel, 0)?, Spans::Held)?;
+    push_labelled(text, "   held", &runs)?;
+    Ok(())
 }
 
 #[tactic(auto, unfolding(crate::specs::Report::dropped_line))]
-fn push_dropped(
+fn push_dropped<K: Keeper>(
     text: &mut Text,
-    rows: &Rows,
+    keeper: &mut K,
     sub: &Text,
     source: &Text,
     channel: &Text,
-) -> Result<(), AllocError>
-    ensures { OnOk result (text.new ≡ text.old ++ spec.dropped_line rows.now sub.now source.now channel.now) }
+) -> Result<(), StoreFault>
+    requires { access.IsReady (K.store keeper.old) }
+    ensures text { IfSome (K.store keeper.new).rows (λ rows. OnOk result (text.new ≡ text.old ++ spec.dropped_line rows sub.now source.now channel.now)) }
+    ensures reads { access.Reads AreFormed (access.fails result) (K.store keeper.old) (K.store keeper.new) }
 {
-    let runs = runs_behind(rows, mark_key(sub, source, channel, 0)?, Spans::Marks)?;
-    push_labelled(text, "   dropped", &runs)
+    let runs = runs_behind(keeper, mark_key(sub, source, channel, 0)?, Spans::Marks)?;
+    push_labelled(text, "   dropped", &runs)?;
+    Ok(())
 }
 
 fn push_labelled(text: &mut Text, label: &str, runs: &Text) -> Result<(), AllocError>
@@ -192,17 +213,26 @@ fn push_labelled(text: &mut Text, label: &str, runs: &Text) -> Result<(), AllocE
     text.push_str("\n")
 }
 
-fn push_loose(
+fn push_loose<K: Keeper>(
     text: &mut Text,
-    rows: &Rows,
+    keeper: &mut K,
     sub: &Text,
     source: &Text,
     channel: &Text,
-) -> Result<(), AllocError>
-    ensures { OnOk result (text.new ≡ text.old ++ flat_map spec.loose_line (loose_rows rows.now sub.now source.now channel.now)) }
+) -> Result<(), StoreFault>
+    requires { access.IsReady (K.store keeper.old) }
+    ensures text { IfSome (K.store keeper.new).rows (λ rows. OnOk result (text.new ≡ text.old ++ flat_map spec.loose_line (loose_rows rows sub.now source.now channel.now))) }
+    ensures reads { access.Reads AreFormed (access.fails result) (K.store keeper.old) (K.store keeper.new) }
 {
-    let loose = section(rows, &loose_key(sub, source, channel, 0)?, Depth::Channel)?;
-    for row in loose.as_slice() {
+    let loose = formed_section(keeper, &loose_key(sub, source, channel, 0)?, Depth::Channel)?;
+    push_loose_lines(text, loose.as_slice())?;
+    Ok(())
+}
+
+fn push_loose_lines(text: &mut Text, rows: &[Row]) -> Result<(), AllocError>
+    ensures { OnOk result (text.new ≡ text.old ++ flat_map spec.loose_line rows.now) }
+{
+    for row in rows {
         push_loose_line(text, row)?;
     }
     Ok(())
@@ -249,18 +279,20 @@ impl Spans {
 }
 
 /// The runs of the rows of a channel behind a key, read page by page.
-fn runs_behind(rows: &Rows, after: Key, spans: Spans) -> Result<Text, AllocError>
-    ensures { IfOk result (λ text. text ≡ runs_text (runs_of (map (spec.span_of spans) (rows_under Depth.Channel after rows.now)))) }
+fn runs_behind<K: Keeper>(keeper: &mut K, after: Key, spans: Spans) -> Result<Text, StoreFault>
+    requires { access.IsReady (K.store keeper.old) }
+    ensures text { IfSome (K.store keeper.new).rows (λ rows. IfOk result (λ text. text ≡ runs_text (runs_of (map (spec.span_of spans) (rows_under Depth.Channel after rows))))) }
+    ensures reads { access.Reads AreFormed (access.fails result) (K.store keeper.old) (K.store keeper.new) }
 {
     let mut writer = RunWriter::new(after.sub.alloc());
     let mut last = after;
     loop {
-        let page = rows.section_page(&last, Depth::Channel, PAGE)?;
+        let page = formed_page(keeper, &last, Depth::Channel, PAGE)?;
         let is_last = page.len() < PAGE as usize;
         last = last_key_of(last, page.as_slice())?;
         add_page(&mut writer, page.as_slice(), spans)?;
         if is_last {
-            return writer.finish();
+            return Ok(writer.finish()?);
         }
     }
 }

@@ -74,6 +74,12 @@ HasOpened before now =
 abbrev pub OpensAndReads : (Rows → Type 0) → Bool → Store → Store → Type 0
 OpensAndReads AreFormed failed before now = HasOpened before now × HasCause AreFormed failed before now × IsSure AreFormed failed before now
 
+-- an opening wants memory only where there is no doubt
+abbrev pub IsRefused : {T : Type 0} → Result T StoreFault → Bool → Type 0
+IsRefused (Ok answer) doubt = Unit {0}
+IsRefused (Err NoMemory) doubt = doubt ≡ false
+IsRefused (Err Failed) doubt = Unit {0}
+
 -- a fact of one of the row maps of a list
 abbrev pub AnyOf : List Rows → (Rows → Type 0) → Type 0
 AnyOf [] Holds = ⊥

@@ -1,4 +1,5 @@
-use Rattle.std.proofs.Common.{◌≡◌, ◌++◌, length, map}
+use Rattle.std.proofs.Common.{◌≡◌, ◌++◌, ◌-◌, map, IfSome}
+use Rattle.wef_keeper.specs.Access.{HasRead}
 use Rattle.wef_keeper.specs.Sections.{rows_under}
 use Rattle.wef_keeper.specs.declared.keys.Depth.TheVariants.{Channel}
 use Rattle.wef_collector.specs.Report.{span_of}
@@ -6,9 +7,13 @@ use Rattle.wef_collector.specs.Runs.{runs_from, runs_of, runs_text}
 use Rattle.wef_collector.proofs.reporting.runs_behind.Given as goal
 
 abbrev pub invariant-loop-last : goal.invariant-loop-last
-invariant-loop-last l =
-    l.writer.text ++ runs_text (runs_from l.writer.running (map (span_of l.spans) (rows_under Channel l.last l.rows)))
-    ≡ runs_text (runs_of (map (span_of l.spans) (rows_under Channel l.fn.after l.rows)))
+invariant-loop-last g l = record {
+  read : HasRead (g.K.Keeper.store l.fn.keeper) (g.K.Keeper.store l.keeper);
+  rest : IfSome (g.K.Keeper.store l.keeper).rows (λ rows.
+    l.writer.text ++ runs_text (runs_from l.writer.running (map (span_of l.spans) (rows_under Channel l.last rows)))
+    ≡ runs_text (runs_of (map (span_of l.spans) (rows_under Channel l.fn.after rows))));
+}
 
+-- the numbers of a channel's rows rise
 abbrev pub decreases-loop-last : goal.decreases-loop-last
-decreases-loop-last l = length (rows_under Channel l.last l.rows)
+decreases-loop-last g l = 18446744073709551616 - l.last.number

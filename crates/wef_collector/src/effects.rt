@@ -1,0 +1,152 @@
+//! What the collector's calls change, or why they are refused.
+
+ghost use Rattle.std.specs.Prelude.{◌≡◌, [], ◌∷◌, IfErr, IfOk, IfSome};
+ghost use Rattle.std.specs.FinMap as map;
+ghost use Rattle.wef_eventing.specs.Kept.{read_kept};
+ghost use Rattle.wef_eventing.specs.Kept as kept;
+ghost use Rattle.wef_eventing.specs.Subscriptions.{IsAllEvents};
+ghost use Rattle.wef_keeper.specs.Access as access;
+ghost use Rattle.wef_collector.specs.Boots.{boot_of};
+ghost use Rattle.wef_collector.specs.Calls as calls;
+ghost use Rattle.wef_collector.specs.Faults.{fails};
+ghost use Rattle.wef_collector.specs.Forms.{AreFormed};
+ghost use Rattle.wef_collector.specs.Standing as standings;
+ghost use Rattle.wef_collector.specs.Taken as taken;
+
+use crate::changes::batch_changes;
+use crate::faults::CollectorFault;
+use crate::keys::{boot_key, subscription_key, subscriptions_start};
+use crate::reading::{formed_cell, formed_page};
+use crate::standings::live_in;
+use std::alloc::{AllocError, Global};
+use wef_base::numbers::MAX;
+use wef_base::{List, SourceName, SubId, Text};
+use wef_batch::{Batch, judge};
+use wef_eventing::{Subscription, kept_words};
+use wef_keeper::{Change, Depth, Keeper, Key, Row, StoreFault};
+use wef_query::channels;
+
+/// The most subscriptions that are kept, ended ones counted.
+pub const MOST_SUBSCRIPTIONS: u32 = 256;
+
+/// A subscription more, where its name isn't there and there is room.
+pub fn add_changes<K: Keeper>(
+    keeper: &mut K,
+    alloc: Global,
+    subscription: &Subscription,
+) -> Result<List<Change>, CollectorFault>
+    requires { access.IsReady (K.store keeper.old) }
+    ensures effect { IfSome (K.store keeper.new).rows (λ rows. calls.Tells result (calls.add_effect rows subscription.now)) }
+    ensures reads_back { IfOk result (λ _. IsAllEvents subscription.now → read_kept subscription.now.name (kept.kept_words subscription.now) ≡ Some subscription.now) }
+    ensures listed { IfErr result calls.OfAdd }
+    ensures reads { access.Reads AreFormed (fails result) (K.store keeper.old) (K.store keeper.new) }
+{
+    let key = subscription_key(&subscription.name)?;
+    if formed_cell(keeper, &key)?.is_some() {
+        return Err(CollectorFault::Exists);
+    }
+    if is_full(keeper, alloc)? {
+        return Err(CollectorFault::TooMany);
+    }
+    let body = kept_words(subscription)?;
+    Ok(one_put(alloc, key, 0, body)?)
+}
+
+fn is_full<K: Keeper>(keeper: &mut K, alloc: Global) -> Result<bool, StoreFault>
+    requires { access.IsReady (K.store keeper.old) }
+    ensures full { IfSome (K.store keeper.new).rows (λ rows. IfOk result (λ full. full ≡ standings.is_full rows)) }
+    ensures reads { access.Reads AreFormed (access.fails result) (K.store keeper.old) (K.store keeper.new) }
+{
+    let start = subscriptions_start(alloc);
+    let page = formed_page(keeper, &start, Depth::Kind, MOST_SUBSCRIPTIONS)?;
+    Ok(page.len() == MOST_SUBSCRIPTIONS as usize)
+}
+
+/// A live subscription ends.
+pub fn end_changes<K: Keeper>(
+    keeper: &mut K,
+    alloc: Global,
+    sub: &SubId,
+) -> Result<List<Change>, CollectorFault>
+    requires { access.IsReady (K.store keeper.old) }
+    ensures effect { IfSome (K.store keeper.new).rows (λ rows. calls.Tells result (calls.end_effect rows sub.now)) }
+    ensures listed { IfErr result calls.OfEnd }
+    ensures reads { access.Reads AreFormed (fails result) (K.store keeper.old) (K.store keeper.new) }
+{
+    live_in(keeper, sub)?;
+    let key = subscription_key(sub)?;
+    let body = body_of(keeper, alloc, &key)?;
+    Ok(one_put(alloc, key, 1, body)?)
+}
+
+/// The words that stand at a key.
+fn body_of<K: Keeper>(keeper: &mut K, alloc: Global, key: &Key) -> Result<Text, StoreFault>
+    requires { access.IsReady (K.store keeper.old) }
+    ensures body { IfSome (K.store keeper.new).rows (λ rows. IfOk result (λ body. body ≡ standings.kept_body (map.get rows key.now))) }
+    ensures reads { access.Reads AreFormed (access.fails result) (K.store keeper.old) (K.store keeper.new) }
+{
+    match formed_cell(keeper, key)? {
+        Some(cell) => Ok(cell.body),
+        None => Ok(Text::new(alloc)),
+    }
+}
+
+/// A batch that is well-formed for a live subscription's channels is taken.
+pub fn take_changes<K: Keeper>(
+    keeper: &mut K,
+    alloc: Global,
+    sub: &SubId,
+    source: &SourceName,
+    batch: &Batch,
+    now: u64,
+) -> Result<List<Change>, CollectorFault>
+    requires { access.IsReady (K.store keeper.old) }
+    ensures effect { IfSome (K.store keeper.new).rows (λ rows. calls.Tells result (calls.take_effect rows sub.now source.now batch.now now)) }
+    ensures listed { IfErr result calls.OfTake }
+    ensures reads { access.Reads AreFormed (fails result) (K.store keeper.old) (K.store keeper.new) }
+{
+    let subscription = live_in(keeper, sub)?;
+    let channels = channels(alloc, &subscription.query)?;
+    if !judge(batch, channels.as_slice()) {
+        return Err(CollectorFault::NotWellFormed);
+    }
+    Ok(batch_changes(keeper, sub, source, channels.as_slice(), batch, now)?)
+}
+
+/// The boot number rises by one, below the greatest.
+pub fn boot_changes<K: Keeper>(
+    keeper: &mut K,
+    alloc: Global,
+) -> Result<List<Change>, CollectorFault>
+    requires { access.IsReady (K.store keeper.old) }
+    ensures effect { IfSome (K.store keeper.new).rows (λ rows. calls.Tells result (calls.boot_effect rows)) }
+    ensures listed { IfErr result calls.OfStart }
+    ensures reads { access.Reads AreFormed (fails result) (K.store keeper.old) (K.store keeper.new) }
+{
+    let boot = boot_in(keeper, alloc)?;
+    if boot >= MAX {
+        return Err(CollectorFault::Full);
+    }
+    Ok(one_put(alloc, boot_key(alloc), boot + 1, Text::new(alloc))?)
+}
+
+/// The boot number, 0 where none is kept.
+fn boot_in<K: Keeper>(keeper: &mut K, alloc: Global) -> Result<u64, StoreFault>
+    requires { access.IsReady (K.store keeper.old) }
+    ensures boot { IfSome (K.store keeper.new).rows (λ rows. IfOk result (λ boot. boot ≡ boot_of rows)) }
+    ensures reads { access.Reads AreFormed (access.fails result) (K.store keeper.old) (K.store keeper.new) }
+{
+    match formed_cell(keeper, &boot_key(alloc))? {
+        Some(cell) => Ok(cell.value),
+        None => Ok(0),
+    }
+}
+
+/// The list of one change, which puts a row.
+fn one_put(alloc: Global, key: Key, value: u64, body: Text) -> Result<List<Change>, AllocError>
+    ensures { IfOk result (λ changes. changes ≡ taken.put key value body ∷ []) }
+{
+    let mut changes = List::new(alloc);
+    changes.push(Change::Put(Row { key, value, body }))?;
+    Ok(changes)
+}
