@@ -1,3 +1,6 @@
+pub mod ByPages
 mod Live
+pub mod Openings
 mod Pages
 mod Places
+pub mod Told

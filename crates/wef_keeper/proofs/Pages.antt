@@ -1,9 +1,11 @@
 -- Pages and sections of a list of entries in order.
-use Rattle.std.proofs.Common.{◌≡◌, ℕ, zero, suc, Bool, true, false, cond, ◌&&◌, refl, sym, ap, ◌∙◌, subst, Option, Some, None, List, [], ◌∷◌, ◌++◌, map, take, drop, nat_eq}
-use Rattle.std.proofs.lemmas.List.Elements.{filter_agree}
+use Rattle.std.proofs.Common.{◌≡◌, ℕ, zero, suc, Bool, true, false, cond, ◌&&◌, T, refl, sym, ap, ◌∙◌, subst, Option, Some, None, List, [], ◌∷◌, ◌++◌, map, take, drop, nat_eq, All}
+use Rattle.std.proofs.lemmas.List.Elements.{filter_agree, All-head, All-tail}
 use Rattle.std.specs.BTreeMap.Range.{entries_between}
 use Rattle.std.specs.Cmp.{IsTotalOrder, alike_right, tied_itself, Equal-is, unsigned_ties, nat_cmp_total, nat_eq_equiv}
 use Rattle.std.specs.Cmp.Lexicographic.{slice_cmp, pointwise, texts_ties, nat_list_cmp_total, nat_list_eq_equiv}
+use Rattle.std.specs.FinMap as finite
+use Rattle.std.specs.FinMap.Entries.{below_all, is_sorted}
 use Rattle.std.specs.List.{filter, AllByRecursion}
 use Rattle.std.specs.List.Sorted.{IsStrictlySortedBy}
 use Rattle.std.specs.Map.{keys_of}
@@ -11,14 +13,16 @@ use Rattle.std.specs.Ordering.{nat_cmp, ordering_then, is_lt, is_eq}
 use Rattle.std.specs.declared.cmp.Ordering.{Ordering}
 use Rattle.std.specs.declared.cmp.Ordering.TheVariants.{Less, Equal, Greater}
 use Rattle.std.specs.declared.ops.Bound.TheVariants.{Excluded, Unbounded}
+use Rattle.wef_keeper.specs.Access.{front_rows, IsBehind}
 use Rattle.wef_keeper.proofs.Live.{filled, Above, entries-live, above_filled}
 use Rattle.wef_keeper.specs.Cells.{live, standing}
-use Rattle.wef_keeper.specs.Rows.{key_cmp, key_cmp_exact, key_cmp_total, row_of, rows_after, is_after}
+use Rattle.wef_keeper.specs.Rows.{Rows, key_cmp, key_cmp_exact, key_cmp_total, row_of, rows_after, is_after}
 use Rattle.wef_keeper.specs.Sections.{is_under, is_wanted, front, rows_under, last_key}
 use Rattle.wef_keeper.specs.declared.keys.Cell.{Cell}
 use Rattle.wef_keeper.specs.declared.keys.Depth.{Depth}
 use Rattle.wef_keeper.specs.declared.keys.Depth.TheVariants.{Kind, Sub, Source, Channel}
 use Rattle.wef_keeper.specs.declared.keys.Key.{Key}
+use Rattle.wef_keeper.specs.declared.keys.Row.{Row}
 
 -- ---- keys between two keys of a section are of the section
 
@@ -149,6 +153,32 @@ rising_kept test (e ∷ entries) h =
       | false ↦ rising_kept test entries h.1
     ]
 
+-- the entries of a finite map rise
+first_of : (a b : Bool) → T (a && b) → T a
+first_of true b h = tt
+first_of false b h = h
+
+second_of : (a b : Bool) → T (a && b) → T b
+second_of true b h = h
+second_of false b h = absurd h
+
+lower : (r : Ordering) → T (is_lt r) → r ≡ Less
+lower Less h = refl
+lower Equal h = absurd h
+lower Greater h = absurd h
+
+below_above : (key : Key) (entries : List (Key × Cell)) → T (below_all key_cmp key entries) → Above key_cmp key entries
+below_above key [] h = tt
+below_above key (e ∷ entries) h = (lower (key_cmp key e.0) (first_of _ _ h), below_above key entries (second_of (is_lt (key_cmp key e.0)) _ h))
+
+sorted_rising : (entries : List (Key × Cell)) → T (is_sorted key_cmp entries) → Rising entries
+unfolding IsStrictlySortedBy
+sorted_rising [] h = tt
+sorted_rising (e ∷ entries) h = (below_above e.0 entries (first_of _ _ h), sorted_rising entries (second_of (below_all key_cmp e.0 entries) _ h))
+
+rising_rows : (rows : Rows) → Rising (finite.entries rows)
+rising_rows rows = sorted_rising (finite.entries rows) (finite.entries_sorted rows)
+
 all_kept : {X : Type 0} (test : Key → Bool) (P : Key → Type 0) → ((key : Key) → test key ≡ true → P key) → (entries : List (Key × X)) → AllByRecursion P (keys_of (kept test entries))
 all_kept test P has [] = tt
 all_kept test P has (e ∷ entries) =
@@ -246,9 +276,11 @@ page_is a entries h =
 abbrev pub is_of : Depth → Key → Key → Bool
 is_of depth a key = is_after a key && is_under depth a key
 
+under_is : (depth : Depth) (a : Key) (rows : Rows) → rows_under depth a rows ≡ map row_of (kept (is_of depth a) (finite.entries rows))
+under_is depth a rows = rows_kept (is_under depth a) _ ∙ ap (map row_of) (fuse (is_under depth a) (is_after a) (finite.entries rows))
+
 under_live : (depth : Depth) (a : Key) (entries : List (Key × Option Cell)) → Rising entries → rows_under depth a (live entries) ≡ map row_of (kept (is_of depth a) (filled entries))
-under_live depth a entries h =
-    ap (filter (λ row. is_under depth a row.key)) (after_live a entries h) ∙ rows_kept (is_under depth a) _ ∙ ap (map row_of) (fuse (is_under depth a) (is_after a) (filled entries))
+under_live depth a entries h = under_is depth a (live entries) ∙ ap (λ es. map row_of (kept (is_of depth a) es)) (entries-live entries h)
 
 pub section_is : (depth : Depth) (a : Key) (entries : List (Key × Option Cell)) → Rising entries
     → standing (front (λ key. is_wanted (Some depth) a key) (entries_between key_cmp (Excluded a) Unbounded entries)) ≡ rows_under depth a (live entries)
@@ -326,15 +358,53 @@ continues : (depth : Depth) (a x : Key) → is_of depth a x ≡ true → Continu
 continues depth a x e q =
     later (is_after x q) (is_under depth x q) (is_after a q) (is_under depth a q) (under_same depth a x q (and_right (is_after a x) _ e)) (after_after a x q (and_left (is_after a x) _ e))
 
-pub rest_is : (depth : Depth) (a : Key) (n : ℕ) (entries : List (Key × Option Cell)) → Rising entries
-    → rows_under depth a (live entries) ≡ take n (rows_under depth a (live entries)) ++ rows_under depth (last_key a (take n (rows_under depth a (live entries)))) (live entries)
-rest_is depth a n entries h =
-    let section = kept (is_of depth a) (filled entries) in
+pub rest_is : (depth : Depth) (a : Key) (n : ℕ) (rows : Rows) → rows_under depth a rows ≡ take n (rows_under depth a rows) ++ rows_under depth (last_key a (take n (rows_under depth a rows))) rows
+rest_is depth a n rows =
+    let entries = finite.entries rows in
+    let section = kept (is_of depth a) entries in
     let z = last_of a (take n section) in
     let goes : Continues depth a z =
-    last_has (Continues depth a) n a section (λ q. twice (is_after a q) (is_under depth a q)) (all_kept (is_of depth a) (Continues depth a) (continues depth a) (filled entries)) in
-    let above : Above key_cmp a section = all_kept (is_of depth a) (λ key. key_cmp a key ≡ Less) (λ key t. less (key_cmp a key) (and_left (is_after a key) _ t)) (filled entries) in
-    let left : kept (is_of depth z) (filled entries) ≡ drop n section =
-    filter_agree _ _ (λ e. goes e.0) (filled entries) ∙ sym (fuse (is_after z) (is_of depth a) (filled entries)) ∙ behind_last n a section above (rising_kept (is_of depth a) (filled entries) (rising_filled entries h)) in
-    subst (λ rows. rows ≡ take n rows ++ rows_under depth (last_key a (take n rows)) (live entries)) (sym (under_live depth a entries h))
-    (parts n section ∙ ap (λ rows. take n (map row_of section) ++ rows) (ap (map row_of) (sym left) ∙ sym (under_live depth z entries h) ∙ ap (λ key. rows_under depth key (live entries)) (sym (last_is n a section))))
+    last_has (Continues depth a) n a section (λ q. twice (is_after a q) (is_under depth a q)) (all_kept (is_of depth a) (Continues depth a) (continues depth a) entries) in
+    let above : Above key_cmp a section = all_kept (is_of depth a) (λ key. key_cmp a key ≡ Less) (λ key t. less (key_cmp a key) (and_left (is_after a key) _ t)) entries in
+    let left : kept (is_of depth z) entries ≡ drop n section =
+    filter_agree _ _ (λ e. goes e.0) entries ∙ sym (fuse (is_after z) (is_of depth a) entries) ∙ behind_last n a section above (rising_kept (is_of depth a) entries (rising_rows rows)) in
+    subst (λ page. page ≡ take n page ++ rows_under depth (last_key a (take n page)) rows) (sym (under_is depth a rows))
+    (parts n section ∙ ap (λ left. take n (map row_of section) ++ left) (ap (map row_of) (sym left) ∙ sym (under_is depth z rows) ∙ ap (λ key. rows_under depth key rows) (sym (last_is n a section))))
+
+-- ---- a page of a section is the front of a page of all rows
+
+front_map : (depth : Depth) (a : Key) (entries : List (Key × Cell)) → map row_of (front (is_under depth a) entries) ≡ front_rows depth a (map row_of entries)
+front_map depth a [] = refl
+front_map depth a (e ∷ entries) =
+    elim (is_under depth a e.0) as (λ b. map row_of (cond b (e ∷ front (is_under depth a) entries) []) ≡ cond b (row_of e ∷ front_rows depth a (map row_of entries)) []) [
+      | true ↦ ap (λ rows. row_of e ∷ rows) (front_map depth a entries)
+      | false ↦ refl
+    ]
+
+front_under : (depth : Depth) (a : Key) (rows : Rows) → rows_under depth a rows ≡ front_rows depth a (rows_after a rows)
+front_under depth a rows =
+    let entries = finite.entries rows in
+    rows_kept (is_under depth a) (kept (is_after a) entries)
+    ∙ ap (map row_of) (front_is depth a (kept (is_after a) entries) (all_kept (is_after a) (λ key. key_cmp a key ≡ Less) (λ key t. less (key_cmp a key) t) entries) (rising_kept (is_after a) entries (rising_rows rows)))
+    ∙ front_map depth a (kept (is_after a) entries)
+
+front_take : (depth : Depth) (a : Key) (n : ℕ) (rows : List Row) → front_rows depth a (take n rows) ≡ take n (front_rows depth a rows)
+front_take depth a zero rows = refl
+front_take depth a (suc n) [] = refl
+front_take depth a (suc n) (row ∷ rows) =
+    elim (is_under depth a row.key) as (λ b. cond b (row ∷ front_rows depth a (take n rows)) [] ≡ take (suc n) (cond b (row ∷ front_rows depth a rows) [])) [
+      | true ↦ ap (λ page. row ∷ page) (front_take depth a n rows)
+      | false ↦ refl
+    ]
+
+pub page_front : (depth : Depth) (a : Key) (n : ℕ) (rows : Rows) → front_rows depth a (take n (rows_after a rows)) ≡ take n (rows_under depth a rows)
+page_front depth a n rows = front_take depth a n (rows_after a rows) ∙ ap (take n) (sym (front_under depth a rows))
+
+-- its rows are of the section, and behind the key
+pub front_behind : (depth : Depth) (a : Key) (page : List Row) → All (λ (row : Row). is_after a row.key ≡ true) page → AllByRecursion (IsBehind depth a) (front_rows depth a page)
+front_behind depth a [] h = tt
+front_behind depth a (row ∷ page) h =
+    elim (is_under depth a row.key) as (λ b. is_under depth a row.key ≡ b → AllByRecursion (IsBehind depth a) (cond b (row ∷ front_rows depth a page) [])) [
+      | true ↦ λ t. (record { under = t; after_it = All-head (λ (row : Row). is_after a row.key ≡ true) row page h }, front_behind depth a page (All-tail (λ (row : Row). is_after a row.key ≡ true) row page h))
+      | false ↦ λ t. tt
+    ] refl

@@ -2,7 +2,7 @@
 use Rattle.std.specs.Prelude.{◌≡◌, ℕ, ◌≤◌, Bool, true, false, ◌⊎◌, is_none, List, [], ◌∷◌, Option, Some, None, Result, Ok, Err, IfSome, if◌then◌else◌}
 use Rattle.std.specs.List.{AllByRecursion}
 use Rattle.wef_base.specs.Counts.{Rose}
-use Rattle.wef_keeper.specs.Keeping.{Store, IsBeforeOrAfter, IsOneOf, Follows, Stays, WhereTold, outcome, raised}
+use Rattle.wef_keeper.specs.Keeping.{Store, IsBeforeOrAfter, IsOneOf, Follows, Stays, outcome, raised}
 use Rattle.wef_keeper.specs.Rows.{Rows, applied, is_after}
 use Rattle.wef_keeper.specs.Sections.{is_under}
 use Rattle.wef_keeper.specs.declared.access.StoreFault.{StoreFault}

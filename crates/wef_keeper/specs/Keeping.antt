@@ -1,5 +1,5 @@
 -- The words of the store contract: what a call of a keeper answers, and what is known of the store before and after it.
-use Rattle.std.specs.Prelude.{◌≡◌, ℕ, ◌+◌, ◌≤◌, Bool, true, false, cond, ◌⊎◌, min, is_some, List, [], ◌∷◌, Option, Some, None, Result, Ok, Err, IfSome, All}
+use Rattle.std.specs.Prelude.{◌≡◌, ℕ, ◌+◌, ◌≤◌, Bool, true, false, cond, ◌⊎◌, min, is_some, List, [], ◌∷◌, Option, Some, None, Result, Ok, Err, IfSome}
 use Rattle.std.specs.FinMap as finite
 use Rattle.std.specs.Option.{option_map}
 use Rattle.wef_base.specs.Counts.{Rose}

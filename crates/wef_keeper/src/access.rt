@@ -106,7 +106,11 @@ fn front(after: &Key, depth: Depth, rows: List<Row>) -> Result<List<Row>, AllocE
 pub const PAGE: u32 = 256;
 
 /// All rows behind a key that share its parts down to a depth.
-pub fn section<K: Keeper>(keeper: &mut K, after: &Key, depth: Depth) -> Result<List<Row>, StoreFault>
+pub fn section<K: Keeper>(
+    keeper: &mut K,
+    after: &Key,
+    depth: Depth,
+) -> Result<List<Row>, StoreFault>
     requires { access.IsReady (K.store keeper.old) }
     ensures section { IfSome (K.store keeper.new).rows (λ rows. IfOk result (λ section. section ≡ rows_under depth after.now rows)) }
     ensures reads { access.Reads access.AnyRows (access.fails result) (K.store keeper.old) (K.store keeper.new) }

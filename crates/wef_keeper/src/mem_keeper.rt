@@ -93,14 +93,14 @@ impl MemKeeper {
 
 impl Keeper for MemKeeper {
     ghost store = { λ k. record {
-        rows = Some k.rows;
-        images = Some (k.rows ∷ []);
-        doubt = k.in_doubt;
-        tries = k.tries;
-        reads = k.reads;
-        faults = k.faults;
-        opened = true;
-        plan = Some k.armed;
+      rows = Some k.rows;
+      images = Some (k.rows ∷ []);
+      doubt = k.in_doubt;
+      tries = k.tries;
+      reads = k.reads;
+      faults = k.faults;
+      opened = true;
+      plan = Some k.armed;
     } };
 
     ghost tells_both = { λ k. refl };

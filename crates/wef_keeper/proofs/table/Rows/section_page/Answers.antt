@@ -1,5 +1,4 @@
-use Rattle.std.proofs.Common.{◌≡◌, ◌++◌, sym, ap, subst, ◌∙◌, take}
-use Rattle.wef_keeper.specs.Rows.{Rows}
+use Rattle.std.proofs.Common.{◌++◌, sym, ap, ◌∙◌, take}
 use Rattle.wef_keeper.specs.Sections.{rows_under, last_key}
 use Rattle.wef_keeper.proofs.Pages.{section_is, rest_is}
 use Rattle.wef_keeper.proofs.table.Rows.section_page.Goals as goal
@@ -13,6 +12,4 @@ pub returns-clause-rest : goal.returns-clause-rest
 returns-clause-rest c =
     let depth = c.args.depth in
     let after = c.args.after.now in
-    let whole = subst (λ (rows : Rows). rows_under depth after rows ≡ take c.args.max (rows_under depth after rows) ++ rows_under depth (last_key after (take c.args.max (rows_under depth after rows))) rows)
-    c.self.view_is (rest_is depth after c.args.max c.self.inside.cells.entries c.self.invariant.ordered) in
-    whole ∙ ap (λ page. page ++ rows_under depth (last_key after page) c.args.self.now) (sym (returns-clause-page c))
+    rest_is depth after c.args.max c.args.self.now ∙ ap (λ page. page ++ rows_under depth (last_key after page) c.args.self.now) (sym (returns-clause-page c))
