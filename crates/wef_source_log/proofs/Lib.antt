@@ -1,3 +1,3 @@
 pub mod Cells
 pub mod Pages
-pub mod Reading
+pub mod Contents

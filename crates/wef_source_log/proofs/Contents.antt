@@ -208,11 +208,11 @@ records_read rows all capacity boot window c after =
 
 boot_in : (rows : Rows) (all : Histories) (capacity boot : ℕ) → IsWindow rows all capacity boot → boot_of rows ≡ boot
 unfolding number_of
-boot_in rows all capacity boot window = ap number_of window.boot_row
+boot_in rows all capacity boot window = ap number_of window.boot_row ∙ last_cell-number boot
 
 pub windows_read : WindowsRead
-windows_read rows all capacity boot window =
-    let capacity_is = capacity_in rows all capacity boot window in
+windows_read rows all capacity boot begun window =
+    let capacity_is = capacity_in rows all capacity boot begun window in
     let last_is = last_in rows all capacity boot window in
     record {
       capacity_is = capacity_is;
