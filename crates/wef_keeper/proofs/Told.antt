@@ -10,3 +10,8 @@ follows_kept before (Some rows) Holds stays follows = subst (λ (o : Option Rows
 -- a fact of the rows that an opened store keeps is a fact of those that it tells now
 pub told_now : (before now : Store) (Holds : Rows → Rows → Type 0) → before.opened ≡ true → KeepsRows before now → OfRows before now Holds → IfSome now.rows (λ rows. Holds rows rows)
 told_now before now Holds opened keeps of = follows_kept before.rows now.rows Holds (keeps opened).0 (of opened)
+
+-- what was said of the rows before is said of those that are told now
+pub told_still : (before now : Option Rows) (Holds : Rows → Type 0) → Stays before now → IfSome before Holds → IfSome now Holds
+told_still before None Holds stays holds = tt
+told_still before (Some rows) Holds stays holds = subst (λ (o : Option Rows). IfSome o Holds) stays holds

@@ -1,7 +1,6 @@
-use Rattle.std.proofs.Common.{◌≡◌, subst, sym, true, take, map, List, All}
+use Rattle.std.proofs.Common.{◌≡◌, subst, sym, true, List, All}
 use Rattle.std.proofs.lemmas.List.Elements.{All-map, All-take, filter_passes}
 use Rattle.std.specs.FinMap as finite
-use Rattle.std.specs.List.{filter}
 use Rattle.wef_keeper.specs.Rows.{is_after, row_of, rows_after}
 use Rattle.wef_keeper.specs.declared.keys.Row.{Row}
 use Rattle.wef_keeper.proofs.mem_keeper.MemKeeperKeeper.page.Goals as goal
