@@ -53,7 +53,7 @@ impl From<KeeperFault> for StoreFault {
 /// Makes a keeper ready: opened, and out of doubt with one of its images.
 pub fn open<K: Keeper>(keeper: &mut K) -> Result<(), StoreFault>
     ensures ready { OnOk result (access.IsReady (K.store keeper.new)) }
-    ensures found { OnOk result (access.Finds (K.store keeper.old) (K.store keeper.new)) }
+    ensures found { access.fails result ≡ false → access.Finds (K.store keeper.old) (K.store keeper.new) }
     ensures opened { access.OpensAndReads access.AnyRows (access.fails result) (K.store keeper.old) (K.store keeper.new) }
 {
     keeper.reopen()?;
@@ -152,6 +152,7 @@ pub fn commit<K: Keeper>(keeper: &mut K, changes: &List<Change>) -> Result<(), S
     requires { access.IsReady (K.store keeper.old) }
     ensures leaves { access.Leaves changes.now result (K.store keeper.old) (K.store keeper.new) }
     ensures planned { IfSome (K.store keeper.old).plan (λ planned. access.LeavesPlanned changes.now planned result (K.store keeper.old) (K.store keeper.new)) }
+    ensures faults { (K.store keeper.old).faults ≤ (K.store keeper.new).faults }
 {
     if changes.is_empty() {
         return Ok(());
