@@ -159,7 +159,7 @@ history-extended all c text d =
 
 -- ---- what a window's rows give
 
-last_cell-number : (n : ℕ) → unwrap_or (option_map (λ (k : Cell). k.value) (last_cell n)) 0 ≡ n
+pub last_cell-number : (n : ℕ) → unwrap_or (option_map (λ (k : Cell). k.value) (last_cell n)) 0 ≡ n
 last_cell-number n =
     elim (n == 0) as (λ t. (n == 0) ≡ t → unwrap_or (option_map (λ (k : Cell). k.value) (if t then None else Some (number_cell n))) 0 ≡ n) [
       | true ↦ λ e. grind (arith, nat_tests, e)

@@ -1,8 +1,8 @@
 -- The forms of a log's rows. A row of another form was spoilt in its store, and a call that reads it fails.
 use Rattle.std.specs.Prelude.{◌≡◌, ℕ, ◌==◌, nat_le, Bool, true, false, ◌&&◌, List, length, Option, Some, None, IfSome, if◌then◌else◌}
+use Rattle.std.specs.FinMap as finite
 use Rattle.wef_base.specs.Names.{channel_name, same}
-use Rattle.wef_keeper.specs.Keeping.{row_at}
-use Rattle.wef_keeper.specs.Rows.{Rows}
+use Rattle.wef_keeper.specs.Rows.{Rows, row_of}
 use Rattle.wef_keeper.specs.declared.keys.Key.{Key}
 use Rattle.wef_keeper.specs.declared.keys.Row.{Row}
 
@@ -40,7 +40,7 @@ abbrev pub is_boot : Row → Bool
 is_boot row = is_bare row && nat_le row.value 9223372036854775807
 
 -- whether a row is of its form; a row of another kind isn't the log's
-abbrev pub is_formed : Row → Bool
+unfoldable pub is_formed : Row → Bool
 is_formed row =
     if row.key.kind == 9 then is_record row
     else (if row.key.kind == 10 then is_last row
@@ -49,8 +49,8 @@ is_formed row =
     else true)))
 
 -- each row that stands is of its form
-abbrev pub AreFormed : Rows → Type 0
-AreFormed rows = (key : Key) → IfSome (row_at key rows) (λ row. is_formed row ≡ true)
+unfoldable pub AreFormed : Rows → Type 0
+AreFormed rows = (key : Key) → IfSome (finite.get rows key) (λ cell. is_formed (row_of (key, cell)) ≡ true)
 
 -- whether a row, where there is one, is of its form
 abbrev pub is_whole : Option Row → Bool

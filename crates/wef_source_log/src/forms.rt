@@ -22,6 +22,7 @@ pub fn are_formed(rows: &[Row]) -> Result<bool, AllocError>
 }
 
 /// Whether a row is of its form. Rows of other kinds than the log's have none.
+#[tactic(auto, unfolding(crate::specs::Forms::is_formed))]
 pub fn is_formed(row: &Row) -> Result<bool, AllocError>
     ensures { IfOk result (λ formed. formed ≡ forms.is_formed row.now) }
 {
