@@ -10,10 +10,11 @@ use Rattle.std.specs.Cmp.Lexicographic.{nat_list_cmp_total, nat_list_eq_equiv}
 use Rattle.std.specs.FinMap as finite
 use Rattle.std.specs.FinMap.{find, is_sorted}
 use Rattle.std.specs.FinMap.Entries.{below_all, find-where_key, is_sorted-where_key, same_entries, where_key}
-use Rattle.std.specs.List.{filter}
+use Rattle.std.specs.List.{AllByRecursion, filter}
 use Rattle.std.specs.Option.{option_map}
 use Rattle.std.specs.Ordering.{is_eq, is_lt, nat_cmp, ordering_then}
 use Rattle.wef_event.specs.declared.records.Event.{Event}
+use Rattle.wef_keeper.specs.Access.{IsBehind}
 use Rattle.wef_keeper.specs.Rows.{Rows, is_after, key_cmp, key_cmp_exact, key_cmp_total, row_of}
 use Rattle.wef_keeper.specs.Sections.{is_under}
 use Rattle.wef_keeper.specs.declared.keys.Cell.{Cell}
@@ -73,6 +74,16 @@ section_entries p u (e ∷ es) =
       ]
       | false ↦ section_entries p u es
     ]
+
+-- rows behind a record's key, of its channel, have greater numbers
+pub records_above : (c : List ℕ) (after : ℕ) (start : Key) (rows : List Row) → start ≡ record_key c after → AllByRecursion (IsBehind Channel start) rows
+    → AllByRecursion (λ (event : Event). after < event.number) (map (event_of_row c) rows)
+records_above c after start [] begins all = tt
+records_above c after start (row ∷ rows) begins all =
+    let under = subst (λ (k : Key). is_under Channel k row.key ≡ true) begins all.0.under in
+    let behind = subst (λ (k : Key). is_after k row.key ≡ true) begins all.0.after_it in
+    let own = own_key c after row.key under in
+    (rose c after row.key.number (subst (λ (k : Key). is_after (record_key c after) k ≡ true) own behind), records_above c after start rows begins all.1)
 
 -- ---- the entries of numbered texts
 

@@ -19,7 +19,7 @@ use Rattle.wef_keeper.specs.declared.keys.Change.TheVariants.{Delete, Put}
 use Rattle.wef_keeper.specs.declared.keys.Depth.{Depth}
 use Rattle.wef_keeper.specs.declared.keys.Key.{Key}
 use Rattle.wef_keeper.specs.declared.keys.Row.{Row}
-use Rattle.wef_source_log.specs.Forms.{AreFormed, has_number, is_bare, is_boot, is_capacity, is_channel, is_formed, is_last, is_nameless, is_read, is_record}
+use Rattle.wef_source_log.specs.Forms.{AreFormed, has_number, is_bare, is_boot, is_capacity, is_channel, is_formed, is_last, is_nameless, is_read, is_record, is_whole}
 use Rattle.wef_source_log.specs.Keys.{boot_key, capacity_key, last_key, record_key}
 use Rattle.wef_source_log.specs.Laws.{FormsStay}
 use Rattle.wef_source_log.specs.Windows.{boot_of, capacity_changes, capacity_of, last_of, leaving, start_changes, started, write_changes, written}
@@ -66,6 +66,10 @@ formed_front n depth after rows page formed is =
 pub no_row : (told : Option Rows) (key : Key) (row : Row) → is_formed row ≡ false → IfSome told (λ rows. Some row ≡ row_at key rows) → IfSome told (λ rows. AreFormed rows → ⊥)
 no_row None key row ill is = tt
 no_row (Some rows) key row ill is = λ formed. let well = formed_at rows key row formed is in cc
+
+pub no_whole : (told : Option Rows) (key : Key) (found : Option Row) → is_whole found ≡ false → IfSome told (λ rows. found ≡ row_at key rows) → IfSome told (λ rows. AreFormed rows → ⊥)
+no_whole told key None ill is = let bad : ⊥ = cc in absurd bad
+no_whole told key (Some row) ill is = no_row told key row ill is
 
 pub no_page : (told : Option Rows) (n : ℕ) (depth : Depth) (after : Key) (page : List Row) → list_all is_formed page ≡ false → IfSome told (λ rows. page ≡ take n (rows_under depth after rows)) → IfSome told (λ rows. AreFormed rows → ⊥)
 no_page None n depth after page ill is = tt

@@ -16,5 +16,5 @@ for_any A None a = tt
 for_any A (Some planned) a = a
 
 -- a call that finds rows which aren't of their form fails
-pub ill_formed : (before now : Store) → Reads AnyRows false before now → IfSome now.rows (λ rows. AreFormed rows → ⊥) → Reads AreFormed true before now
-ill_formed before now reads ill = (reads.0, (λ _. never (Rose before.faults now.faults) now.rows ill), for_any (IfSome now.rows (λ rows. AreFormed rows → true ≡ false)) before.plan (never (true ≡ false) now.rows ill))
+pub ill_formed : (before now : Store) → HasRead before now → IfSome now.rows (λ rows. AreFormed rows → ⊥) → Reads AreFormed true before now
+ill_formed before now read ill = (read, (λ _. never (Rose before.faults now.faults) now.rows ill), for_any (IfSome now.rows (λ rows. AreFormed rows → true ≡ false)) before.plan (never (true ≡ false) now.rows ill))
