@@ -5,16 +5,37 @@ use Rattle.wef_event.specs.declared.records.EventFault.TheVariants as events
 use Rattle.wef_event.specs.declared.unnumbered.PlainEvent.{PlainEvent}
 use Rattle.wef_event.specs.Unnumbered.{numbered, numbered_text}
 use Rattle.wef_keeper.specs.Rows.{Rows}
+use Rattle.wef_keeper.specs.declared.access.StoreFault as store
+use Rattle.wef_keeper.specs.declared.access.StoreFault.TheVariants as stores
 use Rattle.wef_keeper.specs.declared.keys.Change.{Change}
 use Rattle.wef_source_log.specs.Histories.{Histories, history, extended}
 use Rattle.wef_source_log.specs.Windows.{IsWindow, boot_of, capacity_of, last_of, start_changes, write_changes}
 use Rattle.wef_source_log.specs.declared.faults.LogFault.{LogFault}
-use Rattle.wef_source_log.specs.declared.faults.LogFault.TheVariants.{NoMemory, Full, TooLong}
+use Rattle.wef_source_log.specs.declared.faults.LogFault.TheVariants.{NoMemory, Failed, Full, TooLong}
 
 -- a fault of making an event, as the log's
 abbrev pub log_fault : event.EventFault → LogFault
 log_fault events.NoMemory = NoMemory
 log_fault events.TooLong = TooLong
+
+-- a fault of the store, as the log's
+abbrev pub kept_fault : store.StoreFault → LogFault
+kept_fault stores.NoMemory = NoMemory
+kept_fault stores.Failed = Failed
+
+-- a call that only reads is refused for want of memory, or where the store failed
+abbrev pub RefusesRead : LogFault → Type 0
+RefusesRead NoMemory = Unit {0}
+RefusesRead Failed = Unit {0}
+RefusesRead Full = ⊥
+RefusesRead TooLong = ⊥
+
+-- a start isn't refused as too long
+abbrev pub RefusesStart : LogFault → Type 0
+RefusesStart NoMemory = Unit {0}
+RefusesStart Failed = Unit {0}
+RefusesStart Full = Unit {0}
+RefusesStart TooLong = ⊥
 
 -- whether a channel has all numbers
 abbrev pub is_full : Rows → List ℕ → Bool

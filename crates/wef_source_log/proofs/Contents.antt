@@ -10,10 +10,11 @@ use Rattle.std.specs.Cmp.Lexicographic.{nat_list_cmp_total, nat_list_eq_equiv}
 use Rattle.std.specs.FinMap as finite
 use Rattle.std.specs.FinMap.{find, is_sorted}
 use Rattle.std.specs.FinMap.Entries.{below_all, find-where_key, is_sorted-where_key, same_entries, where_key}
-use Rattle.std.specs.List.{filter}
+use Rattle.std.specs.List.{AllByRecursion, filter}
 use Rattle.std.specs.Option.{option_map}
 use Rattle.std.specs.Ordering.{is_eq, is_lt, nat_cmp, ordering_then}
 use Rattle.wef_event.specs.declared.records.Event.{Event}
+use Rattle.wef_keeper.specs.Access.{IsBehind}
 use Rattle.wef_keeper.specs.Rows.{Rows, is_after, key_cmp, key_cmp_exact, key_cmp_total, row_of}
 use Rattle.wef_keeper.specs.Sections.{is_under}
 use Rattle.wef_keeper.specs.declared.keys.Cell.{Cell}
@@ -24,7 +25,7 @@ use Rattle.wef_source_log.specs.Histories.{Histories, History, history, text_at}
 use Rattle.wef_source_log.specs.Keys.{record_key}
 use Rattle.wef_source_log.specs.Laws.{WindowsRead, numbered_from, records_from}
 use Rattle.wef_source_log.specs.Windows.{IsWindow, boot_of, event_of_row, first_for, record_cell, records_after, text_cell}
-use Rattle.wef_source_log.proofs.Cells.{capacity_in, hits, hits_record, last_in, number_of, one, tie}
+use Rattle.wef_source_log.proofs.Cells.{capacity_in, hits, hits_record, last_cell-number, last_in, number_of, one, tie}
 use Rattle.wef_source_log.proofs.Pages.{own_key}
 
 -- ---- the order of a channel's records
@@ -73,6 +74,16 @@ section_entries p u (e ∷ es) =
       ]
       | false ↦ section_entries p u es
     ]
+
+-- rows behind a record's key, of its channel, have greater numbers
+pub records_above : (c : List ℕ) (after : ℕ) (start : Key) (rows : List Row) → start ≡ record_key c after → AllByRecursion (IsBehind Channel start) rows
+    → AllByRecursion (λ (event : Event). after < event.number) (map (event_of_row c) rows)
+records_above c after start [] begins all = tt
+records_above c after start (row ∷ rows) begins all =
+    let under = subst (λ (k : Key). is_under Channel k row.key ≡ true) begins all.0.under in
+    let behind = subst (λ (k : Key). is_after k row.key ≡ true) begins all.0.after_it in
+    let own = own_key c after row.key under in
+    (rose c after row.key.number (subst (λ (k : Key). is_after (record_key c after) k ≡ true) own behind), records_above c after start rows begins all.1)
 
 -- ---- the entries of numbered texts
 
@@ -208,11 +219,11 @@ records_read rows all capacity boot window c after =
 
 boot_in : (rows : Rows) (all : Histories) (capacity boot : ℕ) → IsWindow rows all capacity boot → boot_of rows ≡ boot
 unfolding number_of
-boot_in rows all capacity boot window = ap number_of window.boot_row
+boot_in rows all capacity boot window = ap number_of window.boot_row ∙ last_cell-number boot
 
 pub windows_read : WindowsRead
-windows_read rows all capacity boot window =
-    let capacity_is = capacity_in rows all capacity boot window in
+windows_read rows all capacity boot begun window =
+    let capacity_is = capacity_in rows all capacity boot begun window in
     let last_is = last_in rows all capacity boot window in
     record {
       capacity_is = capacity_is;
