@@ -19,8 +19,8 @@ unarmed armed (change ∷ changes) e = ap (λ (a : Option Armed). fate a (change
 
 pub acknowledged : AcknowledgementIsGiven
 acknowledged state u s about batch live good wanted calm =
-    let effect : BatchEffect = Ok (batch_changes state.rows u s (channels_read about) batch moment) in
-    ap (λ found. answer_word state (batch_effect_by state.rows u s batch found) batch) live
+    let effect : BatchEffect = Ok (batch_changes state.collector.rows u s (channels_read about) batch moment) in
+    ap (λ found. answer_word state (batch_effect_by state.collector.rows u s batch found) batch) live
     ∙ ap (λ (t : Bool). answer_word state (cond t effect (Err InvalidMessage)) batch) good
-    ∙ ap (batch_word batch) (unarmed state.armed (batch_changes state.rows u s (channels_read about) batch moment) calm)
+    ∙ ap (batch_word batch) (unarmed state.collector.armed (batch_changes state.collector.rows u s (channels_read about) batch moment) calm)
     ∙ ap (λ (t : Bool). cond t (codes "ack") (codes "quiet")) wanted

@@ -1,3 +1,4 @@
+pub mod Admitted
 pub mod CollectorSteps
 pub mod Declared
 pub mod Fitted

@@ -136,7 +136,7 @@ drawn_before rows sources messages (Fault s relates fault) id is e = absurd (non
 -- ---- the changes
 
 -- the rows of the collector move on, and more sources were named by `batch` lines
-pub kept_rows : (state : State) (rows : Rows) (foreign : List (List ℕ)) → IsKept state → RowsGrow state.rows rows →
+pub kept_rows : (state : State) (rows : Rows) (foreign : List (List ℕ)) → IsKept state → RowsGrow state.collector.rows rows →
     ((u s c : List ℕ) → is_among foreign s ≡ false → IsPairKept rows u s c (subscription_at rows u) (slot_of state s)) →
     ((s : List ℕ) (slot : Slot) → slot_of state s ≡ Some slot → is_among foreign s ≡ false) →
     ((key : Key) (cell : Cell) → finite.get rows key ≡ Some cell → IsRowKey key) → AreFormed rows →
@@ -146,9 +146,9 @@ kept_rows state rows foreign kept grows pairs apart keys formed = record {
   apart = apart;
   keys = keys;
   formed = formed;
-  sources = λ s slot e. source_grows state.rows rows state.messages state.messages s slot grows (same_messages state.messages) (kept.sources s slot e);
+  sources = λ s slot e. source_grows state.collector.rows rows state.messages state.messages s slot grows (same_messages state.messages) (kept.sources s slot e);
   messages = λ m was.
-      message_grows state.rows rows state.sources state.sources state.messages state.messages m grows (same_sources state.sources) (same_messages state.messages)
+      message_grows state.collector.rows rows state.sources state.sources state.messages state.messages m grows (same_sources state.sources) (same_messages state.messages)
       (kept.messages m was);
   requests = kept.requests;
 }
@@ -156,11 +156,11 @@ kept_rows state rows foreign kept grows pairs apart keys formed = record {
 -- A source is one that is further from now on, and messages are sent.
 record IsSourceMove (state : State) (s : List ℕ) (slot : Slot) (messages : List Message) : Type 0 where
   pub apart : is_among state.foreign s ≡ false
-  pub pairs : (u c : List ℕ) → IsPairKept state.rows u s c (subscription_at state.rows u) (Some slot)
+  pub pairs : (u c : List ℕ) → IsPairKept state.collector.rows u s c (subscription_at state.collector.rows u) (Some slot)
   pub wider : (old : Slot) → slot_of state s ≡ Some old → SlotGrows old slot
-  pub source : IsSourceKept state.rows messages s slot
+  pub source : IsSourceKept state.collector.rows messages s slot
   pub more : MessagesGrow state.messages messages
-  pub new : (m : Message) → WasSent messages m → WasSent state.messages m ⊎ IsMessageKept state.rows (finite.insert state.sources s slot) messages m
+  pub new : (m : Message) → WasSent messages m → WasSent state.messages m ⊎ IsMessageKept state.collector.rows (finite.insert state.sources s slot) messages m
   pub one : AreOne messages
 
 move_widens : (state : State) (s : List ℕ) (slot : Slot) → ((old : Slot) → slot_of state s ≡ Some old → SlotGrows old slot) → SourcesGrow state.sources (finite.insert state.sources s slot)
@@ -169,22 +169,22 @@ move_widens state s slot wider r old e =
     (same_sources state.sources r old e)
 
 kept_source : (state : State) (s : List ℕ) (slot : Slot) (messages : List Message) → IsKept state → IsSourceMove state s slot messages →
-    IsWorldKept state.rows state.foreign (finite.insert state.sources s slot) messages
+    IsWorldKept state.collector.rows state.foreign (finite.insert state.sources s slot) messages
 kept_source state s slot messages kept move = record {
   pairs = λ u r c other.
-      put_there state.sources s slot r (λ o. IsPairKept state.rows u r c (subscription_at state.rows u) o)
-      (λ is. subst (λ (x : List ℕ). IsPairKept state.rows u x c (subscription_at state.rows u) (Some slot)) (sym is) (move.pairs u c)) (kept.pairs u r c other);
+      put_there state.sources s slot r (λ o. IsPairKept state.collector.rows u r c (subscription_at state.collector.rows u) o)
+      (λ is. subst (λ (x : List ℕ). IsPairKept state.collector.rows u x c (subscription_at state.collector.rows u) (Some slot)) (sym is) (move.pairs u c)) (kept.pairs u r c other);
   apart = λ r new e.
       put_there state.sources s slot r (λ o. o ≡ Some new → is_among state.foreign r ≡ false)
       (λ is _. subst (λ (x : List ℕ). is_among state.foreign x ≡ false) (sym is) move.apart) (kept.apart r new) e;
   keys = kept.keys;
   formed = kept.formed;
   sources = λ r new e.
-      put_there state.sources s slot r (λ o. o ≡ Some new → IsSourceKept state.rows messages r new)
-      (λ is now. subst (λ (x : List ℕ × Slot). IsSourceKept state.rows messages x.0 x.1) (λ i. (sym is i, same_Some slot new now i)) move.source)
-      (λ old. source_grows state.rows state.rows state.messages messages r new (same_rows state.rows) move.more (kept.sources r new old)) e;
+      put_there state.sources s slot r (λ o. o ≡ Some new → IsSourceKept state.collector.rows messages r new)
+      (λ is now. subst (λ (x : List ℕ × Slot). IsSourceKept state.collector.rows messages x.0 x.1) (λ i. (sym is i, same_Some slot new now i)) move.source)
+      (λ old. source_grows state.collector.rows state.collector.rows state.messages messages r new (same_rows state.collector.rows) move.more (kept.sources r new old)) e;
   messages = λ m was. elim (move.new m was) [
-    | inl before ↦ message_grows state.rows state.rows state.sources (finite.insert state.sources s slot) state.messages messages m (same_rows state.rows)
+    | inl before ↦ message_grows state.collector.rows state.collector.rows state.sources (finite.insert state.sources s slot) state.messages messages m (same_rows state.collector.rows)
         (move_widens state s slot move.wider) move.more (kept.messages m before)
     | inr is ↦ is
   ];
@@ -193,11 +193,11 @@ kept_source state s slot messages kept move = record {
 
 -- a source that is declared
 pub kept_declared : (state : State) (s : List ℕ) (slot : Slot) → IsKept state → slot_of state s ≡ None → is_among state.foreign s ≡ false →
-    IsSourceKept state.rows state.messages s slot → IsKept (with_slot state s slot)
+    IsSourceKept state.collector.rows state.messages s slot → IsKept (with_slot state s slot)
 kept_declared state s slot kept none apart source = kept_source state s slot state.messages kept (record {
   apart = apart;
-  pairs = λ u c. untouched_pair state.rows u s c (subscription_at state.rows u) (Some slot)
-      (blank u c (subscription_at state.rows u) (subst (λ (o : Option Slot). IsPairKept state.rows u s c (subscription_at state.rows u) o) none (kept.pairs u s c apart)));
+  pairs = λ u c. untouched_pair state.collector.rows u s c (subscription_at state.collector.rows u) (Some slot)
+      (blank u c (subscription_at state.collector.rows u) (subst (λ (o : Option Slot). IsPairKept state.collector.rows u s c (subscription_at state.collector.rows u) o) none (kept.pairs u s c apart)));
   wider = λ old e. absurd (none-some old (sym none ∙ e));
   source = source;
   more = same_messages state.messages;
@@ -205,17 +205,17 @@ kept_declared state s slot kept none apart source = kept_source state s slot sta
   one = kept.requests;
 })
   where
-    blank : (u c : List ℕ) (about : Option Subscription) → IsPairKept state.rows u s c about None → IsUntouched state.rows u s c
+    blank : (u c : List ℕ) (about : Option Subscription) → IsPairKept state.collector.rows u s c about None → IsUntouched state.collector.rows u s c
     blank u c None is = is
     blank u c (Some about) is = is
 
 -- a declared source goes on
 pub kept_slot : (state : State) (s : List ℕ) (old new : Slot) → IsKept state → slot_of state s ≡ Some old → SlotGrows old new →
-    IsSourceKept state.rows state.messages s new → IsKept (with_slot state s new)
+    IsSourceKept state.collector.rows state.messages s new → IsKept (with_slot state s new)
 kept_slot state s old new kept there grows source = kept_source state s new state.messages kept (record {
   apart = kept.apart s old there;
-  pairs = λ u c. grown_pair state.rows u s c (subscription_at state.rows u) old new grows
-      (subst (λ (o : Option Slot). IsPairKept state.rows u s c (subscription_at state.rows u) o) there (kept.pairs u s c (kept.apart s old there)));
+  pairs = λ u c. grown_pair state.collector.rows u s c (subscription_at state.collector.rows u) old new grows
+      (subst (λ (o : Option Slot). IsPairKept state.collector.rows u s c (subscription_at state.collector.rows u) o) there (kept.pairs u s c (kept.apart s old there)));
   wider = λ other e. subst (λ (x : Slot). SlotGrows x new) (same_Some old other (sym there ∙ e)) grows;
   source = source;
   more = same_messages state.messages;
@@ -228,24 +228,24 @@ past id last e f = omega arith
 
 -- a declared source draws an id, and sends its request
 pub kept_draw : (state : State) (s : List ℕ) (old new : Slot) (m : Message) (id : ℕ) → IsKept state → slot_of state s ≡ Some old → SlotGrows old new →
-    IsSourceKept state.rows (state.messages ++ m ∷ []) s new →
-    IsMessageKept state.rows (finite.insert state.sources s new) (state.messages ++ m ∷ []) m →
+    IsSourceKept state.collector.rows (state.messages ++ m ∷ []) s new →
+    IsMessageKept state.collector.rows (finite.insert state.sources s new) (state.messages ++ m ∷ []) m →
     source_of m ≡ s → request_id m ≡ Some id → last_id old old.end < id → IsKept (with_message (with_slot state s new) m)
 kept_draw state s old new m id kept there grows source is from drawn fresh = kept_source state s new (state.messages ++ m ∷ []) kept (record {
   apart = kept.apart s old there;
-  pairs = λ u c. grown_pair state.rows u s c (subscription_at state.rows u) old new grows
-      (subst (λ (o : Option Slot). IsPairKept state.rows u s c (subscription_at state.rows u) o) there (kept.pairs u s c (kept.apart s old there)));
+  pairs = λ u c. grown_pair state.collector.rows u s c (subscription_at state.collector.rows u) old new grows
+      (subst (λ (o : Option Slot). IsPairKept state.collector.rows u s c (subscription_at state.collector.rows u) o) there (kept.pairs u s c (kept.apart s old there)));
   wider = λ other e. subst (λ (x : Slot). SlotGrows x new) (same_Some old other (sym there ∙ e)) grows;
   source = source;
   more = sent_before state.messages m;
   new = λ n was. elim (sent_split state.messages m n was) [
     | inl before ↦ inl before
-    | inr e ↦ inr (subst (IsMessageKept state.rows (finite.insert state.sources s new) (state.messages ++ m ∷ [])) e is)
+    | inr e ↦ inr (subst (IsMessageKept state.collector.rows (finite.insert state.sources s new) (state.messages ++ m ∷ [])) e is)
   ];
   one = requests_with state.messages m kept.requests (λ n given was same e f.
       let at : given ≡ id = same_Some given id (sym f ∙ drawn) in
       let before = declared_at (finite.get state.sources (source_of n)) old (λ slot. WasDrawn slot (Some given))
-      (ap (finite.get state.sources) (same ∙ from) ∙ there) (drawn_before state.rows state.sources state.messages n given (kept.messages n was) e) in
+      (ap (finite.get state.sources) (same ∙ from) ∙ there) (drawn_before state.collector.rows state.sources state.messages n given (kept.messages n was) e) in
       past id (last_id old old.end) (subst (λ (k : ℕ). k ≤ last_id old old.end) at before) fresh);
 })
 
@@ -254,18 +254,18 @@ none_is o id e f = none-some id (sym e ∙ f)
 
 -- a message is sent that is no request
 pub kept_reply : (state : State) (m : Message) → IsKept state → request_id m ≡ None →
-    IsMessageKept state.rows state.sources (state.messages ++ m ∷ []) m → IsKept (with_message state m)
+    IsMessageKept state.collector.rows state.sources (state.messages ++ m ∷ []) m → IsKept (with_message state m)
 kept_reply state m kept none is = record {
   pairs = kept.pairs;
   apart = kept.apart;
   keys = kept.keys;
   formed = kept.formed;
   sources = λ s slot e.
-      source_grows state.rows state.rows state.messages (state.messages ++ m ∷ []) s slot (same_rows state.rows) (sent_before state.messages m) (kept.sources s slot e);
+      source_grows state.collector.rows state.collector.rows state.messages (state.messages ++ m ∷ []) s slot (same_rows state.collector.rows) (sent_before state.messages m) (kept.sources s slot e);
   messages = λ n was. elim (sent_split state.messages m n was) [
-    | inl before ↦ message_grows state.rows state.rows state.sources state.sources state.messages (state.messages ++ m ∷ []) n (same_rows state.rows)
+    | inl before ↦ message_grows state.collector.rows state.collector.rows state.sources state.sources state.messages (state.messages ++ m ∷ []) n (same_rows state.collector.rows)
         (same_sources state.sources) (sent_before state.messages m) (kept.messages n before)
-    | inr e ↦ subst (IsMessageKept state.rows state.sources (state.messages ++ m ∷ [])) e is
+    | inr e ↦ subst (IsMessageKept state.collector.rows state.sources (state.messages ++ m ∷ [])) e is
   ];
   requests = requests_with state.messages m kept.requests (λ n id was same e f. none_is (request_id m) id none f);
 }

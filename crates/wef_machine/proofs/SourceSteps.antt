@@ -54,7 +54,7 @@ use Rattle.wef_machine.proofs.Sessions.{acknowledged_served, all_changed, all_fi
 
 -- a source is as it should be, beside what the rows and the messages say
 abbrev IsKeptSlot : State → List ℕ → Slot → Type 0
-IsKeptSlot state s slot = IsSourceKept state.rows state.messages s slot
+IsKeptSlot state s slot = IsSourceKept state.collector.rows state.messages s slot
 
 -- ---- an opening
 
@@ -75,7 +75,7 @@ record IsStore (slot : Slot) (rows : Rows) : Type 0 where
   later : boot_of slot.rows ≤ boot_of rows
 
 with_store : (state : State) (s : List ℕ) (slot : Slot) (rows : Rows) (end : Option End) → IsKeptSlot state s slot → IsStore slot rows →
-    IsRunningKept state.rows state.messages s (record slot { rows = rows; end = end }) end → IsKeptSlot state s (record slot { rows = rows; end = end })
+    IsRunningKept state.collector.rows state.messages s (record slot { rows = rows; end = end }) end → IsKeptSlot state s (record slot { rows = rows; end = end })
 with_store state s slot rows end kept store running = record {
   name = kept.name;
   capacity = kept.capacity;
@@ -156,7 +156,7 @@ opened_kept lower state s slot armed kept = by_end slot.end refl
 
 -- What an opening of a source leaves as it is.
 pub record IsOpened (before after : State) : Type 0 where
-  pub rows : after.rows ≡ before.rows
+  pub rows : after.collector.rows ≡ before.collector.rows
   pub messages : after.messages ≡ before.messages
 
 -- what a line does to a source keeps all where it does so once the source runs
@@ -181,8 +181,8 @@ at_source_keeps lower state s change kept keeps = by_slot (slot_of state s) refl
 -- ---- one end in place of another
 
 running_is : (state : State) (s : List ℕ) (slot : Slot) (end : End) → IsKeptSlot state s slot → slot.end ≡ Some end →
-    IsEndKept state.rows state.messages s slot end × (0 < end.boot)
-running_is state s slot end kept runs = subst (λ (o : Option End). IsRunningKept state.rows state.messages s slot o) runs kept.running
+    IsEndKept state.collector.rows state.messages s slot end × (0 < end.boot)
+running_is state s slot end kept runs = subst (λ (o : Option End). IsRunningKept state.collector.rows state.messages s slot o) runs kept.running
 
 source_with_end : (rows : Rows) (messages messages' : List Message) (s : List ℕ) (slot : Slot) (end : End) → IsSourceKept rows messages s slot → end.boot ≡ boot_of slot.rows →
     0 < end.boot → end.drawn ≤ most_drawn → AllByRecursion (IsServed rows messages' s) end.sessions → IsSourceKept rows messages' s (slot_with slot end)
@@ -197,7 +197,7 @@ source_with_end rows messages messages' s slot end kept boot some drawn sessions
 
 -- an end of the same start, which drew no more
 kept_end : (state : State) (s : List ℕ) (slot : Slot) (end new : End) → IsKept state → slot_of state s ≡ Some slot → slot.end ≡ Some end → new.boot ≡ end.boot →
-    new.drawn ≡ end.drawn → AllByRecursion (IsServed state.rows state.messages s) new.sessions → IsKept (with_end state s slot new)
+    new.drawn ≡ end.drawn → AllByRecursion (IsServed state.collector.rows state.messages s) new.sessions → IsKept (with_end state s slot new)
 kept_end state s slot end new kept there runs same_boot same_drawn sessions =
     let source = kept.sources s slot there in
     let is = running_is state s slot end source runs in
@@ -209,7 +209,7 @@ kept_end state s slot end new kept there runs same_boot same_drawn sessions =
       histories = same_histories slot.histories;
       drawn = subst (λ (o : Option End). last_id slot o ≤ new.boot * 18446744073709551616 + new.drawn) (sym runs) (omega (arith, same_boot, same_drawn));
     })
-    (source_with_end state.rows state.messages state.messages s slot new source (same_boot ∙ is.0.boot) (omega (arith, same_boot)) (omega (arith, same_drawn)) sessions)
+    (source_with_end state.collector.rows state.messages state.messages s slot new source (same_boot ∙ is.0.boot) (omega (arith, same_boot)) (omega (arith, same_drawn)) sessions)
 
 -- ---- writing
 
@@ -334,11 +334,11 @@ write_keeps lower state s event kept named = at_source_keeps lower state s (writ
 below_most : (d : ℕ) → nat_le most_drawn d ≡ false → d + 1 ≤ most_drawn
 below_most d e = grind (arith, nat_tests, e)
 
-all_later : (state : State) (s : List ℕ) (m : Message) (sessions : List Session) → AllByRecursion (IsServed state.rows state.messages s) sessions →
-    AllByRecursion (IsServed state.rows (state.messages ++ m ∷ []) s) sessions
+all_later : (state : State) (s : List ℕ) (m : Message) (sessions : List Session) → AllByRecursion (IsServed state.collector.rows state.messages s) sessions →
+    AllByRecursion (IsServed state.collector.rows (state.messages ++ m ∷ []) s) sessions
 all_later state s m sessions all =
-    all_map (IsServed state.rows state.messages s) (IsServed state.rows (state.messages ++ m ∷ []) s)
-    (λ session. served_grows state.rows state.rows state.messages (state.messages ++ m ∷ []) s session (same_rows state.rows) (sent_before state.messages m)) sessions all
+    all_map (IsServed state.collector.rows state.messages s) (IsServed state.collector.rows (state.messages ++ m ∷ []) s)
+    (λ session. served_grows state.collector.rows state.collector.rows state.messages (state.messages ++ m ∷ []) s session (same_rows state.collector.rows) (sent_before state.messages m)) sessions all
 
 -- an end that drew one id more goes further
 draws : (slot : Slot) (end new : End) → slot.end ≡ Some end → new.boot ≡ end.boot → new.drawn ≡ end.drawn + 1 → SlotGrows slot (slot_with slot new)
@@ -359,7 +359,7 @@ asked_kept state s slot end kept there runs left =
     let new : Slot = slot_with slot (asked end) in
     let m : Message = Ask s (record { value = Some (next_id end); text = [] }) in
     kept_draw state s slot new m (next_id end) kept there (draws slot end (asked end) runs refl refl)
-    (source_with_end state.rows state.messages (state.messages ++ m ∷ []) s slot (asked end) source is.0.boot is.1 (below_most end.drawn left)
+    (source_with_end state.collector.rows state.messages (state.messages ++ m ∷ []) s slot (asked end) source is.0.boot is.1 (below_most end.drawn left)
     (all_later state s m end.sessions is.0.sessions))
     (declared_is (finite.get (finite.insert state.sources s new) s) new (λ (o : Slot). WasDrawn o (Some (next_id end))) (slot_put state.sources s new) (omega arith))
     refl refl (fresh_id slot end runs)
@@ -377,15 +377,15 @@ channel_within rows u s c about slot true kept = kept.within
 channel_within rows u s c about slot false kept = omega (arith, kept.bookmark)
 
 -- what is kept of a declared source for a subscription that is there is within its histories
-pub bookmark_within : (state : State) (u s c : List ℕ) (about : Subscription) (slot : Slot) → IsKept state → subscription_at state.rows u ≡ Some about →
-    slot_of state s ≡ Some slot → bookmark_at state.rows u s c ≤ length (history slot.histories c)
+pub bookmark_within : (state : State) (u s c : List ℕ) (about : Subscription) (slot : Slot) → IsKept state → subscription_at state.collector.rows u ≡ Some about →
+    slot_of state s ≡ Some slot → bookmark_at state.collector.rows u s c ≤ length (history slot.histories c)
 bookmark_within state u s c about slot kept known there =
-    channel_within state.rows u s c about slot (is_in (channels_read about) c)
-    (subst (λ (x : Option Subscription × Option Slot). IsPairKept state.rows u s c x.0 x.1) (λ i. (known i, there i)) (kept.pairs u s c (kept.apart s slot there)))
+    channel_within state.collector.rows u s c about slot (is_in (channels_read about) c)
+    (subst (λ (x : Option Subscription × Option Slot). IsPairKept state.collector.rows u s c x.0 x.1) (λ i. (known i, there i)) (kept.pairs u s c (kept.apart s slot there)))
 
 delivery_kept : Lower → (state : State) (s : List ℕ) (slot new : Slot) (end : End) (session : Session) → IsKept state → slot_of state s ≡ Some slot → slot.end ≡ Some end →
-    IsServed state.rows state.messages s session → new.histories ≡ slot.histories → new.capacity ≡ slot.capacity → WasDrawn new (Some (next_id end)) →
-    IsDelivery state.rows s new (delivery_of slot.rows end session)
+    IsServed state.collector.rows state.messages s session → new.histories ≡ slot.histories → new.capacity ≡ slot.capacity → WasDrawn new (Some (next_id end)) →
+    IsDelivery state.collector.rows s new (delivery_of slot.rows end session)
 delivery_kept lower state s slot new end session kept there runs served same_histories same_capacity drawn =
     let source = kept.sources s slot there in
     let is = running_is state s slot end source runs in
@@ -416,21 +416,21 @@ sent_kept : Lower → (state : State) (s : List ℕ) (slot : Slot) (end : End) (
 sent_kept lower state s slot end session kept there runs left found =
     let source = kept.sources s slot there in
     let is = running_is state s slot end source runs in
-    let served = first_is (IsServed state.rows state.messages s) (is_named session.name) end.sessions session found is.0.sessions in
+    let served = first_is (IsServed state.collector.rows state.messages s) (is_named session.name) end.sessions session found is.0.sessions in
     let after : End = sent slot.rows end session moment in
     let new : Slot = slot_with slot after in
     let delivery = delivery_of slot.rows end session in
     let m : Message = Events s delivery in
     let messages : List Message = state.messages ++ m ∷ [] in
-    let later = served_grows state.rows state.rows state.messages messages s session (same_rows state.rows) (sent_before state.messages m) served in
-    let waits : IsServed state.rows messages s (sending (record { id = next_id end; to = (built slot.rows session).to }) moment session) =
+    let later = served_grows state.collector.rows state.collector.rows state.messages messages s session (same_rows state.collector.rows) (sent_before state.messages m) served in
+    let waits : IsServed state.collector.rows messages s (sending (record { id = next_id end; to = (built slot.rows session).to }) moment session) =
     record { terms = later.terms; positions = later.positions; outstanding = (delivery, sent_last state.messages m, refl, refl, refl) } in
     kept_draw state s slot new m (next_id end) kept there (draws slot end after runs refl refl)
-    (source_with_end state.rows state.messages messages s slot after source is.0.boot is.1 (below_most end.drawn left)
-    (all_first_changed (IsServed state.rows state.messages s) (IsServed state.rows messages s) (is_named session.name)
+    (source_with_end state.collector.rows state.messages messages s slot after source is.0.boot is.1 (below_most end.drawn left)
+    (all_first_changed (IsServed state.collector.rows state.messages s) (IsServed state.collector.rows messages s) (is_named session.name)
     (sending (record { id = next_id end; to = (built slot.rows session).to }) moment) end.sessions session found
-    (λ x. served_grows state.rows state.rows state.messages messages s x (same_rows state.rows) (sent_before state.messages m)) waits is.0.sessions))
-    (declared_is (finite.get (finite.insert state.sources s new) s) new (λ (o : Slot). IsDelivery state.rows s o delivery) (slot_put state.sources s new)
+    (λ x. served_grows state.collector.rows state.collector.rows state.messages messages s x (same_rows state.collector.rows) (sent_before state.messages m)) waits is.0.sessions))
+    (declared_is (finite.get (finite.insert state.sources s new) s) new (λ (o : Slot). IsDelivery state.collector.rows s o delivery) (slot_put state.sources s new)
     (delivery_kept lower state s slot new end session kept there runs served refl refl (omega arith)))
     refl refl (fresh_id slot end runs)
 
@@ -455,9 +455,9 @@ poll_keeps lower state s u kept = at_source_keeps lower state s (poll_at s u) ke
 -- ---- what ends a session's waiting
 
 settled_kept : (state : State) (s : List ℕ) (slot : Slot) (end : End) (test : Session → Bool) → IsKept state → slot_of state s ≡ Some slot → slot.end ≡ Some end →
-    AllByRecursion (IsServed state.rows state.messages s) (with_changed test settled end.sessions)
+    AllByRecursion (IsServed state.collector.rows state.messages s) (with_changed test settled end.sessions)
 settled_kept state s slot end test kept there runs =
-    all_changed (IsServed state.rows state.messages s) test settled (λ session passes. settled_served state.rows state.messages s session) end.sessions
+    all_changed (IsServed state.collector.rows state.messages s) test settled (λ session passes. settled_served state.collector.rows state.messages s session) end.sessions
     (running_is state s slot end (kept.sources s slot there) runs).0.sessions
 
 same_end : (state : State) (s : List ℕ) (slot : Slot) (end : End) → IsKept state → slot_of state s ≡ Some slot → slot.end ≡ Some end → IsKept (with_end state s slot end)
@@ -471,8 +471,8 @@ refused_kept : (state : State) (s : List ℕ) (slot : Slot) (end : End) (id : �
     IsKept (with_end state s slot (refused_in end id fault))
 refused_kept state s slot end id fault kept there runs =
     kept_end state s slot end (refused_in end id fault) kept there runs refl refl
-    (cond_both (is_unreachable fault) (without (waits_for id) end.sessions) (with_changed (waits_for id) settled end.sessions) (AllByRecursion (IsServed state.rows state.messages s))
-    (λ gone. all_without (IsServed state.rows state.messages s) (waits_for id) end.sessions (running_is state s slot end (kept.sources s slot there) runs).0.sessions)
+    (cond_both (is_unreachable fault) (without (waits_for id) end.sessions) (with_changed (waits_for id) settled end.sessions) (AllByRecursion (IsServed state.collector.rows state.messages s))
+    (λ gone. all_without (IsServed state.collector.rows state.messages s) (waits_for id) end.sessions (running_is state s slot end (kept.sources s slot there) runs).0.sessions)
     (λ stays. settled_kept state s slot end (waits_for id) kept there runs))
 
 pub fault_keeps : Lower → (state : State) (s : List ℕ) (relates : MessageId) (fault : FaultName) → IsKept state →
@@ -487,28 +487,28 @@ fault_keeps lower state s relates fault kept = at_source_keeps lower state s (en
 
 -- ---- what sources are sent
 
-pub ack_keeps : Lower → (state : State) (s : List ℕ) (relates : MessageId) → IsKept state → IsAcknowledged state.rows state.messages s relates →
+pub ack_keeps : Lower → (state : State) (s : List ℕ) (relates : MessageId) → IsKept state → IsAcknowledged state.collector.rows state.messages s relates →
     IsKept (at_source state s (end_at s (λ end. after_ack end relates)))
 ack_keeps lower state s relates kept is = at_source_keeps lower state s (end_at s (λ end. after_ack end relates)) kept (λ now slot end kept_now opened there runs.
     let is_now = subst (λ (x : Rows × List Message). IsAcknowledged x.0 x.1 s relates) (λ i. (sym opened.rows i, sym opened.messages i)) is in
     cond_both (is_some (waiting_for end relates.value)) (acknowledged_by end relates.value) end (λ (after : End). IsKept (with_end now s slot after))
     (λ waits. by_id now slot end kept_now is_now there runs relates.value refl) (λ none. same_end now s slot end kept_now there runs))
   where
-    by_id : (now : State) (slot : Slot) (end : End) → IsKept now → IsAcknowledged now.rows now.messages s relates → slot_of now s ≡ Some slot → slot.end ≡ Some end →
+    by_id : (now : State) (slot : Slot) (end : End) → IsKept now → IsAcknowledged now.collector.rows now.messages s relates → slot_of now s ≡ Some slot → slot.end ≡ Some end →
         (o : Option ℕ) → relates.value ≡ o → IsKept (with_end now s slot (acknowledged_by end o))
     by_id now slot end kept_now is_now there runs None at = same_end now s slot end kept_now there runs
     by_id now slot end kept_now is_now there runs (Some id) at =
         kept_end now s slot end (acknowledged_in end id) kept_now there runs refl refl
-        (all_changed (IsServed now.rows now.messages s) (waits_for id) acknowledged
-        (λ session waits. acknowledged_served now.rows now.messages s relates id session kept_now.requests is_now at waits) end.sessions
+        (all_changed (IsServed now.collector.rows now.messages s) (waits_for id) acknowledged
+        (λ session waits. acknowledged_served now.collector.rows now.messages s relates id session kept_now.requests is_now at waits) end.sessions
         (running_is now s slot end (kept_now.sources s slot there) runs).0.sessions)
 
 pub offers_keep : Lower → (state : State) (s : List ℕ) (relates : MessageId) (given : List Offer) → IsKept state →
-    AllByRecursion (λ (offer : Offer). IsOffered state.rows s offer.subscribe) given → IsKept (at_source state s (end_at s (λ end. after_offers end relates given)))
+    AllByRecursion (λ (offer : Offer). IsOffered state.collector.rows s offer.subscribe) given → IsKept (at_source state s (end_at s (λ end. after_offers end relates given)))
 offers_keep lower state s relates given kept are = at_source_keeps lower state s (end_at s (λ end. after_offers end relates given)) kept (λ now slot end kept_now opened there runs.
     let are_now = subst (λ (rows : Rows). AllByRecursion (λ (offer : Offer). IsOffered rows s offer.subscribe) given) (sym opened.rows) are in
     cond_both (ids_agree end.ask relates.value) (adopted end given moment) end (λ (after : End). IsKept (with_end now s slot after))
-    (λ asked_for. kept_end now s slot end (adopted end given moment) kept_now there runs refl refl (all_offered now.rows now.messages s moment [] given are_now tt))
+    (λ asked_for. kept_end now s slot end (adopted end given moment) kept_now there runs refl refl (all_offered now.collector.rows now.messages s moment [] given are_now tt))
     (λ other. same_end now s slot end kept_now there runs))
 
 -- ---- a crash
@@ -516,7 +516,7 @@ offers_keep lower state s relates given kept are = at_source_keeps lower state s
 pub crash_keeps : (state : State) (s : List ℕ) → IsKept state → IsKept (crash_slot state s (slot_of state s))
 crash_keeps state s kept = by_slot (slot_of state s) refl
   where
-    crashed : (slot : Slot) → slot_of state s ≡ Some slot → (end : Option End) → slot.end ≡ end → IsRunningKept state.rows state.messages s slot end → SlotGrows slot (crashed_slot slot)
+    crashed : (slot : Slot) → slot_of state s ≡ Some slot → (end : Option End) → slot.end ≡ end → IsRunningKept state.collector.rows state.messages s slot end → SlotGrows slot (crashed_slot slot)
     crashed slot there None e runs = record {
       capacity = refl;
       histories = same_histories slot.histories;

@@ -98,11 +98,11 @@ taken_keeps : Lower → (state : State) (m : Message) → IsKept state → WasSe
 taken_keeps lower state (sent.Ask s id) kept was = at_collector_keeps lower state (offers_at s id) kept (λ now kept_now opened.
     let was_now : WasSent now.messages (sent.Ask s id) = subst (λ (ms : List Message). WasSent ms (sent.Ask s id)) (sym opened.messages) was in
     of_declared (slot_of now s) (λ (slot : Slot). WasDrawn slot id.value) (IsKept (offers_at s id now)) (kept_now.messages (sent.Ask s id) was_now) (λ slot there drawn.
-    kept_reply now (sent.Offers s id (offers now.rows s host)) kept_now refl (all_offers now.rows s host kept_now.keys (kept_now.sources s slot there).name)))
+    kept_reply now (sent.Offers s id (offers now.collector.rows s host)) kept_now refl (all_offers now.collector.rows s host kept_now.keys (kept_now.sources s slot there).name)))
 taken_keeps lower state (sent.Offers s relates given) kept was = offers_keep lower state s relates given kept (kept.messages (sent.Offers s relates given) was)
 taken_keeps lower state (sent.Events s delivery) kept was = at_collector_keeps lower state (events_at s delivery) kept (λ now kept_now opened.
     let was_now : WasSent now.messages (sent.Events s delivery) = subst (λ (ms : List Message). WasSent ms (sent.Events s delivery)) (sym opened.messages) was in
-    of_declared (slot_of now s) (λ (slot : Slot). IsDelivery now.rows s slot delivery) (IsKept (events_at s delivery now)) (kept_now.messages (sent.Events s delivery) was_now)
+    of_declared (slot_of now s) (λ (slot : Slot). IsDelivery now.collector.rows s slot delivery) (IsKept (events_at s delivery now)) (kept_now.messages (sent.Events s delivery) was_now)
     (λ slot there is. events_keep lower now s slot delivery kept_now there was_now is))
 taken_keeps lower state (sent.Ack s relates) kept was = ack_keeps lower state s relates kept (kept.messages (sent.Ack s relates) was)
 taken_keeps lower state (sent.Fault s relates fault) kept was = fault_keeps lower state s relates fault kept
@@ -187,11 +187,11 @@ steps_keep lower state (Print u s c) kept good = at_collector_keeps lower state 
 
 -- ---- what is kept is safe
 
-channel_at : (state : State) (u s c : List ℕ) (about : Subscription) (slot : Slot) (reads : Bool) → IsKept state → subscription_at state.rows u ≡ Some about →
-    slot_of state s ≡ Some slot → is_in (channels_read about) c ≡ reads → IsChannelKept state.rows u s c about slot reads
+channel_at : (state : State) (u s c : List ℕ) (about : Subscription) (slot : Slot) (reads : Bool) → IsKept state → subscription_at state.collector.rows u ≡ Some about →
+    slot_of state s ≡ Some slot → is_in (channels_read about) c ≡ reads → IsChannelKept state.collector.rows u s c about slot reads
 channel_at state u s c about slot reads kept known there is =
-    subst (IsChannelKept state.rows u s c about slot) is
-    (subst (λ (x : Option Subscription × Option Slot). IsPairKept state.rows u s c x.0 x.1) (λ i. (known i, there i)) (kept.pairs u s c (kept.apart s slot there)))
+    subst (IsChannelKept state.collector.rows u s c about slot) is
+    (subst (λ (x : Option Subscription × Option Slot). IsPairKept state.collector.rows u s c x.0 x.1) (λ i. (known i, there i)) (kept.pairs u s c (kept.apart s slot there)))
 
 pub kept_is_safe : KeptIsSafe
 kept_is_safe state kept = record {

@@ -21,7 +21,7 @@ use Rattle.wef_source.specs.Answers.{waiting_for}
 use Rattle.wef_source.specs.Machine.{End, acknowledged_in, adopted, refused_in}
 use Rattle.wef_source.specs.declared.messages.Delivery.{Delivery}
 use Rattle.wef_machine.specs.Arming.{fate}
-use Rattle.wef_machine.specs.Collecting.{after_call, at_collector, print_at_collector}
+use Rattle.wef_machine.specs.Collecting.{at_collector, with_call, print_at_collector}
 use Rattle.wef_machine.specs.Printed.{adopted_word, answered_line, fate_word, fault_answer, no_message_line, took_line}
 use Rattle.wef_machine.specs.Sources.{at_source, print_at_slot}
 use Rattle.wef_machine.specs.States.{Slot, State, host, moment, next_number, slot_of, with_end, with_message}
@@ -71,7 +71,7 @@ answer_by Stopped s delivery = None
 
 -- its answer to a delivery
 abbrev pub answer_with : State → BatchEffect → List ℕ → Delivery → Option Message
-answer_with state (Ok changes) s delivery = answer_by (fate state.armed changes) s delivery
+answer_with state (Ok changes) s delivery = answer_by (fate state.collector.armed changes) s delivery
 answer_with state (Err fault) s delivery = Some (sent.Fault s delivery.id fault)
 
 -- the word for a batch that is committed
@@ -82,7 +82,7 @@ batch_word batch Stopped = codes "stopped"
 
 -- the word for what became of a batch
 abbrev pub answer_word : State → BatchEffect → Batch → List ℕ
-answer_word state (Ok changes) batch = batch_word batch (fate state.armed changes)
+answer_word state (Ok changes) batch = batch_word batch (fate state.collector.armed changes)
 answer_word state (Err fault) batch = fault_answer fault
 
 -- the world with an answer, where there is one
@@ -97,21 +97,21 @@ took_text k word (Some answer) j = answered_line k word j
 
 -- an open collector takes a delivery of a source with this effect
 abbrev pub events_by : State → BatchEffect → List ℕ → Delivery → State
-events_by state effect s delivery = with_answer (after_call state effect) (answer_with state effect s delivery)
+events_by state effect s delivery = with_answer (with_call state effect) (answer_with state effect s delivery)
 
 abbrev pub events_at : List ℕ → Delivery → State → State
-events_at s delivery state = events_by state (delivery_effect state.rows delivery) s delivery
+events_at s delivery state = events_by state (delivery_effect state.collector.rows delivery) s delivery
 
 abbrev pub events_text_by : State → BatchEffect → ℕ → List ℕ → Delivery → List ℕ
 events_text_by state effect k s delivery =
     took_text k (answer_word state effect delivery.batch) (answer_with state effect s delivery) (next_number state)
 
 abbrev pub events_text : ℕ → List ℕ → Delivery → State → List ℕ
-events_text k s delivery state = events_text_by state (delivery_effect state.rows delivery) k s delivery
+events_text k s delivery state = events_text_by state (delivery_effect state.collector.rows delivery) k s delivery
 
 -- an open collector takes an ask of a source
 abbrev pub offers_at : List ℕ → MessageId → State → State
-offers_at s id state = with_message state (sent.Offers s id (offers state.rows s host))
+offers_at s id state = with_message state (sent.Offers s id (offers state.collector.rows s host))
 
 abbrev pub offers_text : ℕ → State → List ℕ
 offers_text k state = answered_line k (codes "offers") (next_number state)

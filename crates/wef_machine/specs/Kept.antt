@@ -207,4 +207,4 @@ pub record IsWorldKept (rows : Rows) (foreign : List (List ℕ)) (slots : Slots)
       request_id m ≡ Some id → request_id n ≡ Some id → m ≡ n
 
 abbrev pub IsKept : State → Type 0
-IsKept state = IsWorldKept state.rows state.foreign state.sources state.messages
+IsKept state = IsWorldKept state.collector.rows state.foreign state.sources state.messages

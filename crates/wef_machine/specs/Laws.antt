@@ -26,8 +26,8 @@ use Rattle.wef_machine.specs.Deliveries.{answer_word, batch_effect}
 -- armed to.
 abbrev pub AcknowledgementIsGiven : Type 0
 AcknowledgementIsGiven = (state : State) (u s : List ℕ) (about : Subscription) (batch : Batch) →
-    standing state.rows u ≡ Live about → is_well_formed (channels_read about) batch ≡ true → batch.ack_wanted ≡ true → state.armed ≡ None →
-    answer_word state (batch_effect state.rows u s batch) batch ≡ codes "ack"
+    standing state.collector.rows u ≡ Live about → is_well_formed (channels_read about) batch ≡ true → batch.ack_wanted ≡ true → state.collector.armed ≡ None →
+    answer_word state (batch_effect state.collector.rows u s batch) batch ≡ codes "ack"
 
 -- What is kept of a pair stays safe when a batch is taken that fits the source's histories above some bookmark, though
 -- the kept one may be further by now. The kept bookmark is then the greater of the old one and the batch's reach.

@@ -1,3 +1,4 @@
+pub mod Admitting
 pub mod Arming
 pub mod Collecting
 pub mod Deliveries

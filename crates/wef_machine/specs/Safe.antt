@@ -71,7 +71,7 @@ pub record IsUntouched (rows : Rows) (u s c : List ℕ) : Type 0 where
 -- Of every subscription that was ever added, also when it has ended, every declared source and every channel of the
 -- subscription, what is kept is safe; of other channels of a declared source nothing is kept.
 pub record IsSafe (state : State) : Type 0 where
-  pub pairs : (u s c : List ℕ) (about : Subscription) (slot : Slot) → subscription_at state.rows u ≡ Some about → slot_of state s ≡ Some slot →
-      is_in (channels_read about) c ≡ true → IsPairSafe state.rows u s c about (history slot.histories c) slot.capacity
-  pub others : (u s c : List ℕ) (about : Subscription) (slot : Slot) → subscription_at state.rows u ≡ Some about → slot_of state s ≡ Some slot →
-      is_in (channels_read about) c ≡ false → IsUntouched state.rows u s c
+  pub pairs : (u s c : List ℕ) (about : Subscription) (slot : Slot) → subscription_at state.collector.rows u ≡ Some about → slot_of state s ≡ Some slot →
+      is_in (channels_read about) c ≡ true → IsPairSafe state.collector.rows u s c about (history slot.histories c) slot.capacity
+  pub others : (u s c : List ℕ) (about : Subscription) (slot : Slot) → subscription_at state.collector.rows u ≡ Some about → slot_of state s ≡ Some slot →
+      is_in (channels_read about) c ≡ false → IsUntouched state.collector.rows u s c

@@ -35,27 +35,38 @@ Slots = finite.FinMap (slice_cmp nat_cmp) Slot
 abbrev pub Arms : Type 0
 Arms = finite.FinMap (slice_cmp nat_cmp) Armed
 
--- The rows that stand in the collector's store, whether the collector runs, and what is armed in its store; the names of
--- the sources that `batch` lines gave, each once, in the order of their bytes; the declared sources; what is armed in
--- their stores; and all messages that were ever sent, in that order. A message's number is its place: the first has
--- number 1.
-pub record State : Type 0 where
+-- The collector: the rows that stand in its store, whether it runs, and what is armed in its store.
+pub record Collector : Type 0 where
   pub rows : Rows
   pub runs : Bool
   pub armed : Option Armed
+
+-- The collector; the names of the sources that `batch` lines gave, each once, in the order of their bytes; the declared
+-- sources; what is armed in their stores; and all messages that were ever sent, in that order. A message's number is its
+-- place: the first has number 1.
+pub record State : Type 0 where
+  pub collector : Collector
   pub foreign : List (List ℕ)
   pub sources : Slots
   pub arms : Arms
   pub messages : List Message
 
+-- a collector that never ran
+abbrev pub new_collector : Collector
+new_collector = record { rows = finite.empty; runs = false; armed = None }
+
 -- a world in which nothing has happened
 abbrev pub start : State
-start = record { rows = finite.empty; runs = false; armed = None; foreign = []; sources = finite.empty; arms = finite.empty; messages = [] }
+start = record { collector = new_collector; foreign = []; sources = finite.empty; arms = finite.empty; messages = [] }
 
 -- what a world holds, where it still has its ends; nothing else
 abbrev pub held : Option State → State
 held None = start
 held (Some state) = state
+
+-- a world with the collector as it is from now on
+abbrev pub with_collector : State → Collector → State
+with_collector state collector = record state { collector = collector }
 
 -- a world with the name of one more foreign source
 abbrev pub with_foreign : State → List ℕ → State

@@ -20,11 +20,11 @@ use Rattle.wef_replay.specs.declared.lines.EndName.TheVariants as ends
 use Rattle.wef_replay.specs.declared.lines.Line.{Line}
 use Rattle.wef_replay.specs.declared.lines.Line.TheVariants.{Subscribe, End, Batch, Source, Write, Ask, Poll, Deliver, Back, Lost, Crash, Fail, Stop, Calm, Show, Print}
 use Rattle.wef_machine.specs.Arming.{fate}
-use Rattle.wef_machine.specs.Collecting.{after_call, at_collector, print_at_collector}
+use Rattle.wef_machine.specs.Collecting.{at_collector, print_at_collector, with_call}
 use Rattle.wef_machine.specs.Deliveries.{answer_word, batch_effect, deliver_printed, deliver_step, number_back}
 use Rattle.wef_machine.specs.Printed.{name_line, batch_text, collector_name, events_text, fate_line, fate_word}
 use Rattle.wef_machine.specs.Sources.{ask_printed, ask_step, crash_slot, declared_slot, fate_text, lost_printed, lost_step, poll_printed, poll_step, write_printed, write_step}
-use Rattle.wef_machine.specs.States.{State, names_of, slot_of, start, with_arm, with_foreign, with_slot}
+use Rattle.wef_machine.specs.States.{State, names_of, slot_of, start, with_arm, with_collector, with_foreign, with_slot}
 use Rattle.wef_machine.specs.declared.arming.Armed.{Armed}
 use Rattle.wef_machine.specs.declared.arming.Fate.{Fate}
 
@@ -44,7 +44,7 @@ subscription_of u items bytes beat query = record {
 
 -- an open collector is given a subscription
 abbrev pub subscribe_at : Subscription → State → State
-subscribe_at subscription state = after_call state (add_effect state.rows subscription)
+subscribe_at subscription state = with_call state (add_effect state.collector.rows subscription)
 
 abbrev pub subscribe_refused : List ℕ → the_collector_fault.CollectorFault → List ℕ
 subscribe_refused u collector_faults.Exists = name_line (codes "exists") u
@@ -52,15 +52,15 @@ subscribe_refused u collector_faults.TooMany = codes "full" ++ 10 ∷ []
 subscribe_refused u _ = []
 
 abbrev pub subscribe_text_by : State → List ℕ → Effect → List ℕ
-subscribe_text_by state u (Ok changes) = fate_text (fate state.armed changes) collector_name (name_line (codes "added") u)
+subscribe_text_by state u (Ok changes) = fate_text (fate state.collector.armed changes) collector_name (name_line (codes "added") u)
 subscribe_text_by state u (Err fault) = subscribe_refused u fault
 
 abbrev pub subscribe_text : Subscription → State → List ℕ
-subscribe_text subscription state = subscribe_text_by state subscription.name (add_effect state.rows subscription)
+subscribe_text subscription state = subscribe_text_by state subscription.name (add_effect state.collector.rows subscription)
 
 -- an open collector ends a subscription
 abbrev pub end_at : List ℕ → State → State
-end_at u state = after_call state (end_effect state.rows u)
+end_at u state = with_call state (end_effect state.collector.rows u)
 
 abbrev pub end_refused : List ℕ → the_collector_fault.CollectorFault → List ℕ
 end_refused u collector_faults.NoSubscription = name_line (codes "unknown") u
@@ -68,18 +68,18 @@ end_refused u collector_faults.Ended = name_line (codes "already") u
 end_refused u _ = []
 
 abbrev pub end_text_by : State → List ℕ → Effect → List ℕ
-end_text_by state u (Ok changes) = fate_text (fate state.armed changes) collector_name (name_line (codes "ended") u)
+end_text_by state u (Ok changes) = fate_text (fate state.collector.armed changes) collector_name (name_line (codes "ended") u)
 end_text_by state u (Err fault) = end_refused u fault
 
 abbrev pub end_text : List ℕ → State → List ℕ
-end_text u state = end_text_by state u (end_effect state.rows u)
+end_text u state = end_text_by state u (end_effect state.collector.rows u)
 
 -- an open collector takes a foreign source's batch
 abbrev pub batch_at : List ℕ → List ℕ → batch.Batch → State → State
-batch_at u s b state = after_call state (batch_effect state.rows u s b)
+batch_at u s b state = with_call state (batch_effect state.collector.rows u s b)
 
 abbrev pub batch_line : List ℕ → List ℕ → batch.Batch → State → List ℕ
-batch_line u s b state = batch_text u s (answer_word state (batch_effect state.rows u s b) b)
+batch_line u s b state = batch_text u s (answer_word state (batch_effect state.collector.rows u s b) b)
 
 -- an open collector reports what is held
 abbrev pub print_text_by : Rows → List ℕ → List ℕ → List ℕ → state.Standing → List ℕ
@@ -88,10 +88,10 @@ print_text_by rows u s c (is.Ended old) = events_text (held_after rows u s c 0)
 print_text_by rows u s c (is.Live about) = events_text (held_after rows u s c 0)
 
 abbrev pub print_text : List ℕ → List ℕ → List ℕ → State → List ℕ
-print_text u s c state = print_text_by state.rows u s c (standing state.rows u)
+print_text u s c state = print_text_by state.collector.rows u s c (standing state.collector.rows u)
 
 abbrev pub show_text : State → List ℕ
-show_text state = report state.rows
+show_text state = report state.collector.rows
 
 -- a world as it is
 abbrev pub unchanged : State → State
@@ -106,7 +106,7 @@ closed_batch u s fate = batch_text u s (fate_word fate)
 
 -- an end that crashes: it doesn't run any more, and its store stays
 abbrev pub crash_step : State → the_end.EndName → State
-crash_step state ends.Collector = record state { runs = false }
+crash_step state ends.Collector = with_collector state (record state.collector { runs = false })
 crash_step state (ends.Source s) = crash_slot state s (slot_of state s)
 
 -- the name of an end
@@ -116,12 +116,12 @@ end_name (ends.Source s) = s
 
 -- an end whose next commit is armed
 abbrev pub arm_step : State → the_end.EndName → Armed → State
-arm_step state ends.Collector armed = record state { armed = Some armed }
+arm_step state ends.Collector armed = with_collector state (record state.collector { armed = Some armed })
 arm_step state (ends.Source s) armed = with_arm state s (Some armed)
 
 -- nothing is armed any more
 abbrev pub calm_step : State → State
-calm_step state = record state { armed = None; arms = finite.empty }
+calm_step state = record state { collector = record state.collector { armed = None }; arms = finite.empty }
 
 -- the state after a line
 abbrev pub step : Line → State → State

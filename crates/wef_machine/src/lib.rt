@@ -3,6 +3,7 @@
 #![tactic(auto)]
 
 pub mod arming;
+pub mod laws;
 pub mod messages;
 
 pub use arming::{Armed, Fate};
