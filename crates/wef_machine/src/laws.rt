@@ -1,5 +1,6 @@
 //! What a schedule promises beside its steps, as contracts.
 
+ghost use Rattle.wef_machine.specs.Admitting.{GoodLinesAreAdmitted};
 ghost use Rattle.wef_machine.specs.Laws.{AcknowledgementIsGiven, FittingBatchesAreSafe, KeptIsSafe, SchedulesAreKept, SchedulesAreSafe, StartIsKept, StepsKeep};
 
 /// A well-formed batch for a live subscription that asks for an acknowledgement gets it.
@@ -26,4 +27,9 @@ pub fn steps_keep()
 pub fn law_safe()
     ensures kept { SchedulesAreKept }
     ensures safe { SchedulesAreSafe }
+{}
+
+/// The world admits each line of a schedule whose lines are good.
+pub fn good_lines_are_admitted()
+    ensures { GoodLinesAreAdmitted }
 {}

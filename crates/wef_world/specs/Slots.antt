@@ -1,5 +1,5 @@
 -- What using a declared source does to it and answers, where it runs.
-use Rattle.std.specs.Prelude.{◌≡◌, ℕ, ◌+◌, ◌<◌, Bool, true, false, List, length, is_some, Option, Some, None, Ok, Err, if◌then◌else◌}
+use Rattle.std.specs.Prelude.{◌≡◌, ℕ, ◌+◌, ◌<◌, Bool, true, false, List, length, is_some, Option, Some, None, Ok, Err, codes, if◌then◌else◌}
 use Rattle.std.specs.FinMap as map
 use Rattle.wef_envelope.specs.Ids.{ids_agree}
 use Rattle.wef_envelope.specs.declared.MessageId.{MessageId}
@@ -13,13 +13,15 @@ use Rattle.wef_source.specs.declared.messages.Reply.{Reply}
 use Rattle.wef_source.specs.declared.messages.Reply.TheVariants as replies
 use Rattle.wef_source.specs.declared.sessions.Session.{Session}
 use Rattle.wef_source_log.specs.Answers.{Effect, next_text, write_effect}
+use Rattle.wef_source_log.specs.Forms.{AreFormed}
 use Rattle.wef_source_log.specs.Histories.{extended}
 use Rattle.wef_source_log.specs.Windows.{IsWindow, boot_of, last_of}
 use Rattle.wef_source_log.specs.declared.faults.LogFault.TheVariants as log_faults
 use Rattle.wef_machine.specs.Arming.{armed_after, fate, is_done}
 use Rattle.wef_machine.specs.Deliveries.{after_ack, after_fault, after_offers}
-use Rattle.wef_machine.specs.Sources.{slot_opened, slot_opening, slot_written, with_opened}
-use Rattle.wef_machine.specs.States.{Slot, State, arm_of, moment, slot_with}
+use Rattle.wef_machine.specs.Printed.{fate_word}
+use Rattle.wef_machine.specs.Sources.{armed_opened, slot_opened, slot_opening, slot_written}
+use Rattle.wef_machine.specs.States.{Arms, Slot, Slots, arms_with, moment, slot_with}
 use Rattle.wef_machine.specs.declared.arming.Armed.{Armed}
 use Rattle.wef_machine.specs.declared.arming.Fate.{Fate}
 use Rattle.wef_world.specs.declared.slots.Polled.{Polled}
@@ -117,16 +119,79 @@ abbrev pub HearsAs : Slot → Slot → MessageId → Reply → Bool → Type 0
 HearsAs slot slot' relates reply waits =
     WhereRuns slot.end (λ end. (waits ≡ is_some (waiting_for end relates.value)) × (slot' ≡ slot_with slot (after_reply end relates reply)))
 
--- a world with a source opened, where it is declared, and how that went
-abbrev pub opened_at : State → List ℕ → Option Slot → State
-opened_at state s None = state
-opened_at state s (Some slot) = with_opened state s slot
+-- sources with that of a name opened, where it is declared
+abbrev pub sources_opened_by : Slots → Arms → List ℕ → Option Slot → Slots
+sources_opened_by sources arms s None = sources
+sources_opened_by sources arms s (Some slot) = map.insert sources s (slot_opened (map.get arms s) slot)
 
-abbrev pub opening_at : State → List ℕ → Option Slot → Option Fate
-opening_at state s None = None
-opening_at state s (Some slot) = Some (slot_opening (arm_of state s) slot)
+abbrev pub sources_opened : Slots → Arms → List ℕ → Slots
+sources_opened sources arms s = sources_opened_by sources arms s (map.get sources s)
+
+-- what is armed once it is
+abbrev pub arms_opened_by : Arms → List ℕ → Option Slot → Arms
+arms_opened_by arms s None = arms
+arms_opened_by arms s (Some slot) = arms_with arms s (armed_opened (map.get arms s) slot)
+
+abbrev pub arms_opened : Slots → Arms → List ℕ → Arms
+arms_opened sources arms s = arms_opened_by arms s (map.get sources s)
+
+-- how that went
+abbrev pub opening_by : Arms → List ℕ → Option Slot → Option Fate
+opening_by arms s None = None
+opening_by arms s (Some slot) = Some (slot_opening (map.get arms s) slot)
+
+abbrev pub opening_in : Slots → Arms → List ℕ → Option Fate
+opening_in sources arms s = opening_by arms s (map.get sources s)
+
+-- the rows of a source that is declared are of their form
+abbrev pub IsFormedAt : Option Slot → Type 0
+IsFormedAt None = Unit {0}
+IsFormedAt (Some slot) = AreFormed slot.rows
 
 -- a fact of a declared source that runs
 abbrev pub AtRunning : Option Slot → (Slot → End → Type 0) → Type 0
 AtRunning None Holds = ⊥
 AtRunning (Some slot) Holds = WhereRuns slot.end (Holds slot)
+
+-- a declared source runs, its rows are of their form, and it has the window of its histories
+pub record IsReadySlot (slot : Slot) : Type 0 where
+  pub runs : is_some slot.end ≡ true
+  pub formed : AreFormed slot.rows
+  pub window : HasWindow slot
+
+abbrev pub IsReady : Option Slot → Type 0
+IsReady None = ⊥
+IsReady (Some slot) = IsReadySlot slot
+
+-- sources in which that of a name is opened and, where it runs, changed by what its end does
+abbrev pub changed_where_runs : Slots → List ℕ → Slot → (End → End) → Option End → Slots
+changed_where_runs sources s slot change None = map.insert sources s slot
+changed_where_runs sources s slot change (Some end) = map.insert (map.insert sources s slot) s (slot_with slot (change end))
+
+abbrev pub sources_changed_by : Slots → Arms → List ℕ → (End → End) → Option Slot → Slots
+sources_changed_by sources arms s change None = sources
+sources_changed_by sources arms s change (Some slot) =
+    changed_where_runs sources s (slot_opened (map.get arms s) slot) change (slot_opened (map.get arms s) slot).end
+
+abbrev pub sources_changed : Slots → Arms → List ℕ → (End → End) → Slots
+sources_changed sources arms s change = sources_changed_by sources arms s change (map.get sources s)
+
+-- the word for what it did: why it couldn't be opened, where it doesn't run; one that isn't declared asked for nothing
+abbrev pub word_where_runs : Fate → (End → List ℕ) → Option End → List ℕ
+word_where_runs how word None = fate_word how
+word_where_runs how word (Some end) = word end
+
+abbrev pub word_by : Arms → List ℕ → (End → List ℕ) → Option Slot → List ℕ
+word_by arms s word None = codes "not-asked"
+word_by arms s word (Some slot) = word_where_runs (slot_opening (map.get arms s) slot) word (slot_opened (map.get arms s) slot).end
+
+abbrev pub word_at : Slots → Arms → List ℕ → (End → List ℕ) → List ℕ
+word_at sources arms s word = word_by arms s word (map.get sources s)
+
+-- the word for an answer that a session waited for, or that none did
+abbrev pub heard_word : Bool → Reply → List ℕ
+heard_word waits replies.Ack = if waits then codes "moved" else codes "not-asked"
+heard_word waits (replies.Fault fault) = if waits then codes "refused" else codes "not-asked"
+
+abbrev pub reply_word : End → MessageId → Reply → List ℕ
+reply_word end relates reply = heard_word (is_some (waiting_for end relates.value)) reply

@@ -2,7 +2,6 @@
 
 ghost use Rattle.std.specs.Prelude.{◌≡◌, IfOk};
 ghost use Rattle.wef_replay.specs.Good.{AreGood, no_names};
-ghost use Rattle.wef_machine.specs.Admitting.{GoodLinesAreAdmitted};
 ghost use Rattle.wef_machine.specs.Laws.{AreKept, AreSafe};
 ghost use Rattle.wef_machine.specs.Steps.{trail};
 
@@ -14,7 +13,7 @@ use wef_replay::Line;
 
 /// Does lines, one after the other, from a world in which nothing has happened, and gathers what they
 /// print. Each line is let go once it is done. Each state on the way is kept, and so it is safe.
-#[tactic(auto, unfolding(crate::specs::Steps::trail))]
+#[tactic(auto, unfolding(wef_machine::specs::Steps::trail))]
 pub fn run_lines(alloc: Global, lines: List<Line>) -> Result<Bytes, WorldFault>
     requires { AreGood no_names lines }
     ensures text { IfOk result (λ text. text ≡ trail lines) }
@@ -28,8 +27,3 @@ pub fn run_lines(alloc: Global, lines: List<Line>) -> Result<Bytes, WorldFault>
     }
     Ok(out)
 }
-
-/// The world admits each line of a schedule whose lines are good.
-pub fn good_lines_are_admitted()
-    ensures { GoodLinesAreAdmitted }
-{}
