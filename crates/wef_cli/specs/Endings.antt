@@ -61,8 +61,8 @@ IsUnwritten out = Keeps out.before out.after
 abbrev pub WroteText : Told → List ℕ → Type 0
 WroteText object text = Appends object.before object.after text ⊎ (HasFailed object × WritesPart object.before object.after text)
 
--- The message of an ending was written, as far as the stream of messages took it. That of a bad line is made in memory: only where
--- memory is wanting for it, nothing is written.
+-- The message of an ending was written, as far as the stream of messages took it. That of a bad line is made in memory, which may
+-- be wanting: so it is written, or nothing is.
 abbrev pub WroteMessage : Ending → Told → Type 0
 WroteMessage (BadLine k) err = WroteText err (message_of (BadLine k)) ⊎ IsUnwritten err
 WroteMessage ending err = WroteText err (message_of ending)
