@@ -1,6 +1,6 @@
 -- How a run ends: the status and the message of each ending, and what the ending says of the words, of what was
 -- read and of what was written.
-use Rattle.std.specs.Prelude.{◌≡◌, ℕ, Bool, true, false, List, [], ◌∷◌, ◌++◌, Option, Some, None, IfSome, Result, codes}
+use Rattle.std.specs.Prelude.{◌≡◌, ◌⊎◌, ℕ, Bool, true, false, List, [], ◌∷◌, ◌++◌, Option, Some, None, IfSome, Result, codes}
 use Rattle.std.specs.declared.result.Result.TheVariants.{Ok, Err}
 use Rattle.std.specs.Fmt.{decimal}
 use Rattle.std.specs.Io.KnownBytes.{Appends, Keeps, IsAtEnd}
@@ -56,6 +56,16 @@ HasFailed told = Rose told.faults_before told.faults_after
 -- Nothing was written.
 abbrev pub IsUnwritten : Told → Type 0
 IsUnwritten out = Keeps out.before out.after
+
+-- The text was written; or the object failed, and a part of the text from its beginning was.
+abbrev pub WroteText : Told → List ℕ → Type 0
+WroteText object text = Appends object.before object.after text ⊎ (HasFailed object × WritesPart object.before object.after text)
+
+-- The message of an ending was written, as far as the stream of messages took it. That of a bad line is made in memory, which may
+-- be wanting: so it is written, or nothing is.
+abbrev pub WroteMessage : Ending → Told → Type 0
+WroteMessage (BadLine k) err = WroteText err (message_of (BadLine k)) ⊎ IsUnwritten err
+WroteMessage ending err = WroteText err (message_of ending)
 
 -- What is written is the trail of the schedule, and each state of its run is kept, and so it is safe.
 abbrev pub WroteTrail : Told → Result (List Line) fault.ScheduleFault → Type 0

@@ -1,8 +1,7 @@
 //! How a run ends: its status, and the line that it writes to the stream of messages.
 
-ghost use Rattle.std.specs.Prelude.{◌≡◌, IfOk};
+ghost use Rattle.std.specs.Prelude.{◌≡◌, IfOk, OnOk, OnErr};
 ghost use Rattle.wef_cli.specs.Endings as spec;
-ghost use Rattle.wef_cli.specs.Streams.{WritesPart};
 
 use crate::streams::write_whole;
 use std::alloc::{AllocError, Global};
@@ -41,13 +40,21 @@ impl Ending {
     }
 
     /// Writes the message, or as much of it as the stream takes. A failed write changes nothing else.
+    /// Only the text of a bad line is made in memory: where that is wanting, nothing is written.
     #[tactic(auto, unfolding(crate::specs::Endings::message_of))]
-    pub fn tell<E: Sink>(self, alloc: Global, err: &mut E)
-        ensures { WritesPart (E.taken err.old) (E.taken err.new) (spec.message_of self) }
+    pub fn tell<E: Sink>(self, alloc: Global, err: &mut E) -> Result<(), AllocError>
+        ensures ok { OnOk result (spec.WroteText
+            (record { before = E.taken err.old; after = E.taken err.new; faults_before = E.faults err.old; faults_after = E.faults err.new })
+            (spec.message_of self)) }
+        ensures err { OnErr result ((spec.HasFixedMessage self → ⊥) × spec.IsUnwritten
+            (record { before = E.taken err.old; after = E.taken err.new; faults_before = E.faults err.old; faults_after = E.faults err.new })) }
     {
         match self {
             Ending::BadLine(line) => tell_line(alloc, line, err),
-            _ => tell_text(self.fixed_message(), err),
+            _ => {
+                tell_text(self.fixed_message(), err);
+                Ok(())
+            }
         }
     }
 
@@ -68,19 +75,26 @@ impl Ending {
     }
 }
 
+/// Writes a text, or as much of it as the stream takes.
 fn tell_text<E: Sink>(text: &str, err: &mut E)
-    ensures { WritesPart (E.taken err.old) (E.taken err.new) text.now }
+    ensures { spec.WroteText
+        (record { before = E.taken err.old; after = E.taken err.new; faults_before = E.faults err.old; faults_after = E.faults err.new })
+        text.now }
 {
     let _ = write_whole(err, text.as_bytes());
 }
 
 /// Writes which line isn't good, where memory for the text is left.
-fn tell_line<E: Sink>(alloc: Global, line: u64, err: &mut E)
-    ensures { WritesPart (E.taken err.old) (E.taken err.new) (spec.bad_line_text line) }
+fn tell_line<E: Sink>(alloc: Global, line: u64, err: &mut E) -> Result<(), AllocError>
+    ensures ok { OnOk result (spec.WroteText
+        (record { before = E.taken err.old; after = E.taken err.new; faults_before = E.faults err.old; faults_after = E.faults err.new })
+        (spec.bad_line_text line)) }
+    ensures err { OnErr result (spec.IsUnwritten
+        (record { before = E.taken err.old; after = E.taken err.new; faults_before = E.faults err.old; faults_after = E.faults err.new })) }
 {
-    if let Ok(text) = line_text(alloc, line) {
-        tell_text(text.as_str(), err);
-    }
+    let text = line_text(alloc, line)?;
+    tell_text(text.as_str(), err);
+    Ok(())
 }
 
 #[tactic(auto, unfolding(crate::specs::Endings::bad_line_text))]
