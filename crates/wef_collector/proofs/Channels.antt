@@ -1,5 +1,5 @@
 -- The rows of a channel's section: their numbers rise.
-use Rattle.std.proofs.Common.{◌≡◌, ℕ, ◌+◌, ◌<◌, Bool, true, false, ◌&&◌, cond, List, [], ◌∷◌, length, nat_eq, nat_lt, refl, sym, ap, ◌∙◌, subst, arith}
+use Rattle.std.proofs.Common.{◌≡◌, ℕ, ◌+◌, ◌<◌, Bool, true, false, ◌&&◌, cond, List, [], ◌∷◌, ◌++◌, length, nat_eq, nat_lt, refl, sym, ap, ◌∙◌, subst, arith}
 use Rattle.std.proofs.lemmas.Bool.{and_parts, eqb-true}
 use Rattle.std.proofs.lemmas.Bool.Decides.{nat_tests}
 use Rattle.std.specs.Cmp.{IsTotalOrder, nat_cmp_total}
@@ -14,6 +14,7 @@ use Rattle.wef_keeper.specs.Sections.{is_under, last_key}
 use Rattle.wef_keeper.specs.declared.keys.Depth.TheVariants.{Channel}
 use Rattle.wef_keeper.specs.declared.keys.Key.{Key}
 use Rattle.wef_keeper.specs.declared.keys.Row.{Row}
+use Rattle.wef_collector.specs.Report.{last_row_number}
 
 -- a key of a channel's section with its own number
 abbrev pub numbered : Key → ℕ → Key
@@ -69,3 +70,15 @@ last_higher of first (row ∷ rows) above all = last_higher of row.key rows (hig
 pub page_rises : (of : Key) (page : List Row) → 0 < length page → AllByRecursion (IsBehind Channel of) page → of.number < (last_key of page).number
 page_rises of [] some all = absurd (omega arith)
 page_rises of (row ∷ rows) some all = last_higher of row.key rows (higher of row all.0) all.1
+
+-- the key of the last row is that of the last number
+last_from : (of first : Key) (rows : List Row) → first ≡ numbered of first.number → AllByRecursion (IsBehind Channel of) rows → last_key first rows ≡ numbered of (last_row_number first.number rows)
+last_from of first [] own all = own
+last_from of first (row ∷ rows) own all = last_from of row.key rows (own_number of row.key all.0.under) all.1
+
+pub last_is : (of : Key) (page : List Row) → AllByRecursion (IsBehind Channel of) page → last_key of page ≡ numbered of (last_row_number of.number page)
+last_is of page all = last_from of of page refl all
+
+pub last_row_number-push : (n : ℕ) (front : List Row) (row : Row) → last_row_number n (front ++ row ∷ []) ≡ row.key.number
+last_row_number-push n [] row = refl
+last_row_number-push n (first ∷ front) row = last_row_number-push first.key.number front row

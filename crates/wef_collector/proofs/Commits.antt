@@ -3,13 +3,14 @@ use Rattle.std.proofs.Common.{◌≡◌, ℕ, ◌≤◌, Bool, true, false, cond
 use Rattle.std.specs.List.{AllByRecursion}
 use Rattle.std.specs.Prelude.{Option, Some, None, Result, Ok, Err, IfSome, List, [], ◌∷◌, length, is_some, ◌⊎◌}
 use Rattle.wef_base.specs.Counts.{Rose}
-use Rattle.wef_keeper.specs.Access.{AnyOf, AnyRows, Finds, From, HasRead, Leaves, LeavesPlanned, Narrows, OpensAndReads, Reads, fails as store_fails, is_idle, is_planned, plan_with, tries_with}
+use Rattle.wef_keeper.specs.Access.{AnyOf, AnyRows, Finds, From, HasRead, IsRefused, Leaves, LeavesPlanned, Narrows, OpensAndReads, Reads, fails as store_fails, is_idle, is_planned, plan_with, tries_with}
 use Rattle.wef_keeper.specs.Keeping.{Follows, IsBeforeOrAfter, IsOneOf, Stays, Store, WhereTold, outcome, raised}
 use Rattle.wef_keeper.specs.Rows.{Rows, applied}
 use Rattle.wef_keeper.specs.declared.keys.Change.{Change}
+use Rattle.wef_keeper.specs.declared.access.StoreFault.{StoreFault}
 use Rattle.wef_keeper.specs.declared.access.StoreFault.TheVariants as store
 use Rattle.wef_collector.specs.Calls.{Answers, ByPlan, ByTries, Effect, IsCall, Makes, MayLeave, OnImages, Tells, TriesOnce, WhereMade}
-use Rattle.wef_collector.specs.Faults.{fails}
+use Rattle.wef_collector.specs.Faults.{collector_fault, fails, is_failure}
 use Rattle.wef_collector.specs.Forms.{AreFormed}
 use Rattle.wef_collector.specs.declared.faults.CollectorFault.{CollectorFault}
 use Rattle.wef_collector.specs.declared.faults.CollectorFault.TheVariants.{NoMemory, NoSubscription, Exists, Ended, NotWellFormed, TooMany, Failed, Full}
@@ -304,3 +305,34 @@ pub unmade_call : (effect : Rows → Effect) (before mid now : Store) → Finds 
 unmade_call effect before mid now finds opens read =
     let reads : Reads AreFormed false mid now = (read, (λ no. cc), reads_any mid.plan now.rows) in
     refused_call effect NoMemory before now (finds_still before.images mid.rows now.rows finds read.1) (opens_reads false before mid now opens.0 reads) (free_told now.rows)
+
+-- ---- the whole call, by where it ends
+
+-- it isn't opened
+pub not_opened : (effect : Rows → Effect) (fault : StoreFault) (before now : Store) → IfSome before.images (λ left. (1 ≤ length left) × (length left ≤ 2)) → is_some now.images ≡ is_some now.rows
+    → (now.doubt ≡ false → IfSome now.images (λ left. WhereTold now.rows (λ stand. left ≡ stand ∷ []))) → OpensAndReads AnyRows (store_fails {T = Unit {0}} (Err fault)) before now → IsRefused {T = Unit {0}} (Err fault) before.doubt
+    → IsCall effect (Err (collector_fault fault)) before now
+not_opened effect store.NoMemory before now few both only opens calm = unopened_call effect before now both only calm opens
+not_opened effect store.Failed before now few both only opens calm = unfound_call effect before now few opens
+
+-- it is refused
+pub refused : (effect : Rows → Effect) (fault : CollectorFault) (before mid now : Store) → Finds before mid → OpensAndReads AnyRows false before mid → Reads AreFormed (is_failure fault) mid now
+    → IfSome now.rows (λ rows. Tells (Err fault) (effect rows)) → IsCall effect (Err fault) before now
+refused effect fault before mid now finds opens reads tells =
+    refused_call effect fault before now (finds_still before.images mid.rows now.rows finds reads.0.1) (opens_reads (is_failure fault) before mid now opens.0 reads) tells
+
+-- its changes aren't committed
+pub not_committed : (effect : Rows → Effect) (fault : StoreFault) (changes : List Change) (before opened mid now : Store) → IfSome before.images (λ left. (1 ≤ length left) × (length left ≤ 2))
+    → Finds before opened → OpensAndReads AnyRows false before opened → Reads AreFormed false opened mid → IfSome mid.rows (λ rows. effect rows ≡ Ok changes)
+    → Leaves changes (Err fault) mid now → IfSome mid.plan (λ planned. LeavesPlanned changes planned (Err fault) mid now) → mid.faults ≤ now.faults → IsCall effect (Err (collector_fault fault)) before now
+not_committed effect store.NoMemory changes before opened mid now few finds opens reads made leaves planned higher =
+    unmade_call effect before mid now (finds_still before.images opened.rows mid.rows finds reads.0.1) (opens_reads false before opened mid opens.0 reads) leaves
+not_committed effect store.Failed changes before opened mid now few finds opens reads made leaves planned higher =
+    failed_call effect changes before mid now few (finds_still before.images opened.rows mid.rows finds reads.0.1) (opens_reads false before opened mid opens.0 reads) made leaves planned higher
+
+-- they are
+pub committed : (effect : Rows → Effect) (changes : List Change) (before opened mid now : Store)
+    → Finds before opened → OpensAndReads AnyRows false before opened → Reads AreFormed false opened mid → IfSome mid.rows (λ rows. effect rows ≡ Ok changes)
+    → Leaves changes (Ok tt) mid now → IfSome mid.plan (λ planned. LeavesPlanned changes planned (Ok tt) mid now) → mid.faults ≤ now.faults → IsCall effect (Ok tt) before now
+committed effect changes before opened mid now finds opens reads made leaves planned higher =
+    done_call effect changes before mid now (finds_still before.images opened.rows mid.rows finds reads.0.1) (opens_reads false before opened mid opens.0 reads) made leaves planned higher
