@@ -4,6 +4,7 @@ use Rattle.wef_keeper.specs.Rows.{Rows}
 use Rattle.wef_collector.specs.Calls.{Effect, IsCall, add_effect}
 use Rattle.wef_collector.specs.Faults.{collector_fault}
 use Rattle.wef_collector.specs.declared.faults.CollectorFault.{CollectorFault}
+use Rattle.wef_collector.proofs.Live.{added_lives}
 use Rattle.wef_collector.proofs.Commits.{committed, not_committed, not_opened, refused}
 use Rattle.wef_collector.proofs.collector.Collector.add.Goals as goal
 
@@ -52,3 +53,9 @@ returns-clause-call g c =
     let commit = c.in_ok-commit.ensures in
     committed (λ rows. add_effect rows c.args.subscription.now) c.in_ok-changes.changes before opened mid now c.in_ok-open.ensures.found c.in_ok-open.ensures.opened
     c.in_ok-changes.ensures.reads c.in_ok-changes.ensures.effect commit.leaves commit.planned commit.faults
+
+pub returns-clause-live : goal.returns-clause-live
+returns-clause-live g c =
+    let mid = g.K.Keeper.store c.add_changes.new.keeper in
+    let now = g.K.Keeper.store c.commit.new.keeper in
+    added_lives mid.rows now.rows c.args.subscription.now c.in_ok-changes.changes c.in_ok-commit.ensures.leaves.1 c.in_ok-changes.ensures.effect c.in_ok-changes.ensures.reads_back
