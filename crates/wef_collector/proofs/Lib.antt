@@ -1,4 +1,6 @@
 pub mod Batches
+pub mod Channels
+pub mod Commits
 pub mod Forming
 pub mod HeldPages
 pub mod Hits

@@ -10,14 +10,18 @@ abbrev pub collector_fault : StoreFault → CollectorFault
 collector_fault store.NoMemory = NoMemory
 collector_fault store.Failed = Failed
 
+-- whether a refusal says that the store failed
+abbrev pub is_failure : CollectorFault → Bool
+is_failure NoMemory = false
+is_failure NoSubscription = false
+is_failure Exists = false
+is_failure Ended = false
+is_failure NotWellFormed = false
+is_failure TooMany = false
+is_failure Failed = true
+is_failure Full = false
+
 -- whether a call failed in the store
 abbrev pub fails : {T : Type 0} → Result T CollectorFault → Bool
 fails (Ok answer) = false
-fails (Err NoMemory) = false
-fails (Err NoSubscription) = false
-fails (Err Exists) = false
-fails (Err Ended) = false
-fails (Err NotWellFormed) = false
-fails (Err TooMany) = false
-fails (Err Failed) = true
-fails (Err Full) = false
+fails (Err fault) = is_failure fault

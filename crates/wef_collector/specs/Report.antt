@@ -31,6 +31,11 @@ abbrev pub span_of : Spans → Row → Span
 span_of HeldSpans row = record { first = row.key.number; last = row.key.number }
 span_of MarkSpans row = record { first = row.key.number; last = row.value }
 
+-- the number of a page's last row, and the one that it was read behind where it has no row
+abbrev pub last_row_number : ℕ → List Row → ℕ
+last_row_number after [] = after
+last_row_number after (row ∷ rows) = last_row_number row.key.number rows
+
 -- a line of runs, unless there is none
 abbrev pub labelled : List ℕ → List ℕ → List ℕ
 labelled label [] = []

@@ -17,7 +17,7 @@ use crate::runs::{RunWriter, Span};
 use std::alloc::{AllocError, Global};
 use std::collections::BTreeSet;
 use wef_base::{List, Text};
-use wef_keeper::access::{PAGE, last_key_of};
+use wef_keeper::access::PAGE;
 use wef_keeper::{Depth, Keeper, Key, Row, StoreFault};
 
 /// The report of the rows.
@@ -285,15 +285,25 @@ fn runs_behind<K: Keeper>(keeper: &mut K, after: Key, spans: Spans) -> Result<Te
     ensures reads { access.Reads AreFormed (access.fails result) (K.store keeper.old) (K.store keeper.new) }
 {
     let mut writer = RunWriter::new(after.sub.alloc());
-    let mut last = after;
+    let mut after = after;
     loop {
-        let page = formed_page(keeper, &last, Depth::Channel, PAGE)?;
-        let is_last = page.len() < PAGE as usize;
-        last = last_key_of(last, page.as_slice())?;
+        let page = formed_page(keeper, &after, Depth::Channel, PAGE)?;
         add_page(&mut writer, page.as_slice(), spans)?;
+        let is_last = page.len() < PAGE as usize;
         if is_last {
             return Ok(writer.finish()?);
         }
+        after.number = last_number(after.number, page.as_slice());
+    }
+}
+
+/// The number of the last row, and the one given where there is none.
+fn last_number(after: u64, page: &[Row]) -> u64
+    ensures { result ≡ spec.last_row_number after page.now }
+{
+    match page.split_last() {
+        Some((row, _)) => row.key.number,
+        None => after,
     }
 }
 

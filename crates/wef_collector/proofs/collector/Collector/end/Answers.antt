@@ -1,0 +1,54 @@
+use Rattle.std.proofs.Common.{rules, ◌≡◌, subst, sym}
+use Rattle.std.specs.Prelude.{Result, Ok, Err}
+use Rattle.wef_keeper.specs.Rows.{Rows}
+use Rattle.wef_collector.specs.Calls.{Effect, IsCall, end_effect}
+use Rattle.wef_collector.specs.Faults.{collector_fault}
+use Rattle.wef_collector.specs.declared.faults.CollectorFault.{CollectorFault}
+use Rattle.wef_collector.proofs.Commits.{committed, not_committed, not_opened, refused}
+use Rattle.wef_collector.proofs.collector.Collector.end.Goals as goal
+
+pub returns-in_err-open-clause-call : goal.returns-in_err-open-clause-call
+returns-in_err-open-clause-call g c =
+    let keeper = g.met.K.Keeper in
+    let before = g.K.Keeper.store c.args.self.now.keeper in
+    let now = g.K.Keeper.store c.open.new.keeper in
+    let effect : Rows → Effect = λ rows. end_effect rows c.args.sub.now in
+    let fault = c.in_err-open.field-0.0 in
+    let answer : c.from_residual.result ≡ Err (collector_fault fault) = search rules in
+    let call = not_opened effect fault before now (keeper.few_images c.args.self.now.keeper) (keeper.tells_both c.open.new.keeper) (keeper.no_doubt c.open.new.keeper) c.in_err-open.ensures.opened c.in_err-open.ensures.refused in
+    subst (λ (result : Result (Unit {0}) CollectorFault). IsCall effect result before now) (sym answer) call
+
+pub returns-in_err-changes-clause-call : goal.returns-in_err-changes-clause-call
+returns-in_err-changes-clause-call g c =
+    let before = g.K.Keeper.store c.args.self.now.keeper in
+    let mid = g.K.Keeper.store c.open.new.keeper in
+    let now = g.K.Keeper.store c.end_changes.new.keeper in
+    let effect : Rows → Effect = λ rows. end_effect rows c.args.sub.now in
+    let fault = c.in_err-changes.field-0.0 in
+    let answer : c.from_residual-in_err-changes.result ≡ Err fault = search rules in
+    let call = refused effect fault before mid now c.in_ok-open.ensures.found c.in_ok-open.ensures.opened c.in_err-changes.ensures.reads c.in_err-changes.ensures.effect in
+    subst (λ (result : Result (Unit {0}) CollectorFault). IsCall effect result before now) (sym answer) call
+
+pub returns-in_err-commit-clause-call : goal.returns-in_err-commit-clause-call
+returns-in_err-commit-clause-call g c =
+    let before = g.K.Keeper.store c.args.self.now.keeper in
+    let opened = g.K.Keeper.store c.open.new.keeper in
+    let mid = g.K.Keeper.store c.end_changes.new.keeper in
+    let now = g.K.Keeper.store c.commit.new.keeper in
+    let effect : Rows → Effect = λ rows. end_effect rows c.args.sub.now in
+    let fault = c.in_err-commit.field-0.0 in
+    let answer : c.from_residual-in_err-commit.result ≡ Err (collector_fault fault) = search rules in
+    let commit = c.in_err-commit.ensures in
+    let call = not_committed effect fault c.in_ok-changes.changes before opened mid now (g.met.K.Keeper.few_images c.args.self.now.keeper) c.in_ok-open.ensures.found c.in_ok-open.ensures.opened
+    c.in_ok-changes.ensures.reads c.in_ok-changes.ensures.effect commit.leaves commit.planned commit.faults in
+    subst (λ (result : Result (Unit {0}) CollectorFault). IsCall effect result before now) (sym answer) call
+
+pub returns-clause-call : goal.returns-clause-call
+returns-clause-call g c =
+    let before = g.K.Keeper.store c.args.self.now.keeper in
+    let opened = g.K.Keeper.store c.open.new.keeper in
+    let mid = g.K.Keeper.store c.end_changes.new.keeper in
+    let now = g.K.Keeper.store c.commit.new.keeper in
+    let commit = c.in_ok-commit.ensures in
+    committed (λ rows. end_effect rows c.args.sub.now) c.in_ok-changes.changes before opened mid now c.in_ok-open.ensures.found c.in_ok-open.ensures.opened
+    c.in_ok-changes.ensures.reads c.in_ok-changes.ensures.effect commit.leaves commit.planned commit.faults
