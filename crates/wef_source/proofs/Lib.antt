@@ -13,3 +13,4 @@ pub mod Places
 pub mod Polling
 pub mod Reaches
 pub mod Sendable
+pub mod Told

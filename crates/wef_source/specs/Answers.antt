@@ -1,15 +1,12 @@
 -- What the calls of a source answer, by what it holds as the call begins.
-use Rattle.std.specs.Prelude.{◌≡◌, ℕ, ◌+◌, true, false, List, [], length, is_some, Option, Some, None}
+use Rattle.std.specs.Prelude.{◌≡◌, ℕ, ◌+◌, Bool, true, false, List, [], length, is_some, Option, Some, None, Result, Ok, Err}
 use Rattle.wef_envelope.specs.Ids.{ids_agree}
 use Rattle.wef_envelope.specs.declared.MessageId.{MessageId}
-use Rattle.wef_event.specs.declared.unnumbered.PlainEvent.{PlainEvent}
 use Rattle.wef_eventing.specs.declared.bodies.Offer.{Offer}
-use Rattle.wef_source_log.specs.Answers as answers
-use Rattle.wef_source_log.specs.Answers.{next_text}
-use Rattle.wef_source_log.specs.Windows.{last_of}
+use Rattle.wef_keeper.specs.Rows.{Rows}
 use Rattle.wef_source_log.specs.declared.faults.LogFault as the_log_fault
 use Rattle.wef_source_log.specs.declared.faults.LogFault.TheVariants as log_faults
-use Rattle.wef_source.specs.Machine.{End, acknowledged_in, adopted, asked, delivery_of, is_idle, is_spent, lost_in, next_id, refused_in, sent, with_written}
+use Rattle.wef_source.specs.Machine.{End, acknowledged_in, adopted, asked, delivery_of, is_idle, is_spent, lost_in, next_id, refused_in, sent}
 use Rattle.wef_source.specs.Sessions.{session_of, waiting}
 use Rattle.wef_source.specs.declared.faults.SourceFault.{SourceFault}
 use Rattle.wef_source.specs.declared.faults.SourceFault.TheVariants.{NoMemory, Failed, Full, TooLong, NotAsked, UnknownSubscription, Spent}
@@ -27,6 +24,62 @@ source_fault log_faults.NoMemory = NoMemory
 source_fault log_faults.Full = Full
 source_fault log_faults.TooLong = TooLong
 source_fault log_faults.Failed = Failed
+
+-- a refusal of a source's log, by what the source answers; the log gives no other
+abbrev pub logged_fault : SourceFault → the_log_fault.LogFault
+logged_fault NoMemory = log_faults.NoMemory
+logged_fault Failed = log_faults.Failed
+logged_fault Full = log_faults.Full
+logged_fault TooLong = log_faults.TooLong
+logged_fault NotAsked = log_faults.Failed
+logged_fault UnknownSubscription = log_faults.Failed
+logged_fault Spent = log_faults.Failed
+
+-- the log's answer, by the source's
+abbrev pub logged : {T : Type 0} → Result T SourceFault → Result T the_log_fault.LogFault
+logged (Ok answer) = Ok answer
+logged (Err fault) = Err (logged_fault fault)
+
+-- the log's refusals
+abbrev pub RefusesLog : SourceFault → Type 0
+RefusesLog NoMemory = Unit {0}
+RefusesLog Failed = Unit {0}
+RefusesLog Full = Unit {0}
+RefusesLog TooLong = Unit {0}
+RefusesLog NotAsked = ⊥
+RefusesLog UnknownSubscription = ⊥
+RefusesLog Spent = ⊥
+
+-- a start's refusals
+abbrev pub RefusesStart : SourceFault → Type 0
+RefusesStart NoMemory = Unit {0}
+RefusesStart Failed = Unit {0}
+RefusesStart Full = Unit {0}
+RefusesStart TooLong = ⊥
+RefusesStart NotAsked = ⊥
+RefusesStart UnknownSubscription = ⊥
+RefusesStart Spent = ⊥
+
+-- a call that only reads the log is refused for want of memory, or where the store failed
+abbrev pub RefusesRead : SourceFault → Type 0
+RefusesRead NoMemory = Unit {0}
+RefusesRead Failed = Unit {0}
+RefusesRead Full = ⊥
+RefusesRead TooLong = ⊥
+RefusesRead NotAsked = ⊥
+RefusesRead UnknownSubscription = ⊥
+RefusesRead Spent = ⊥
+
+-- whether a call failed in the store
+abbrev pub fails : {T : Type 0} → Result T SourceFault → Bool
+fails (Ok answer) = false
+fails (Err NoMemory) = false
+fails (Err Failed) = true
+fails (Err Full) = false
+fails (Err TooLong) = false
+fails (Err NotAsked) = false
+fails (Err UnknownSubscription) = false
+fails (Err Spent) = false
 
 -- An ask draws the next id.
 abbrev pub Asks : End → End → MessageId → Type 0
@@ -76,6 +129,14 @@ RefusesPoll Failed rows end u = Unit {0}
 RefusesPoll UnknownSubscription rows end u = session_of end.sessions u ≡ None
 RefusesPoll Spent rows end u = WhereThere (session_of end.sessions u) (λ session. is_idle rows session ≡ false) × (is_spent end ≡ true)
 RefusesPoll _ rows end u = ⊥
+
+-- a poll's refusals, also where the rows aren't told
+abbrev pub MayRefusePoll : SourceFault → End → List ℕ → Type 0
+MayRefusePoll NoMemory end u = is_some (session_of end.sessions u) ≡ true
+MayRefusePoll Failed end u = is_some (session_of end.sessions u) ≡ true
+MayRefusePoll UnknownSubscription end u = session_of end.sessions u ≡ None
+MayRefusePoll Spent end u = (is_some (session_of end.sessions u) ≡ true) × (is_spent end ≡ true)
+MayRefusePoll _ end u = ⊥
 
 -- the session that waits for the answer to an id, where the id has a value
 abbrev pub waiting_for : End → Option ℕ → Option Session

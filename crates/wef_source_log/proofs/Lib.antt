@@ -6,3 +6,4 @@ pub mod Pages
 pub mod ReadsOf
 pub mod Stands
 pub mod Stores
+pub mod Writes

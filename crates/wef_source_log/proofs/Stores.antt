@@ -11,12 +11,34 @@ use Rattle.wef_keeper.specs.declared.access.StoreFault as store
 use Rattle.wef_keeper.specs.declared.access.StoreFault.TheVariants as stores
 use Rattle.wef_keeper.specs.declared.keys.Change.{Change}
 use Rattle.wef_source_log.specs.Answers.{Effect, kept_fault}
-use Rattle.wef_source_log.specs.Calls.{Answers, ByPlan, ByTries, Does, MayFind, Makes, OnImages, fails}
+use Rattle.wef_source_log.specs.Calls.{Answers, ByPlan, ByTries, Does, MayFind, Makes, OnImages, Tells, fails}
 use Rattle.wef_source_log.specs.Forms.{AreFormed}
 use Rattle.wef_source_log.specs.Ready.{DoesReady, LeavesImages, OnReadyImages, Prepares}
 use Rattle.wef_source_log.specs.declared.changing.Prepared.{Prepared}
 use Rattle.wef_source_log.specs.declared.faults.LogFault.{LogFault}
 use Rattle.wef_source_log.specs.declared.faults.LogFault.TheVariants.{NoMemory, Failed, Full, TooLong}
+
+-- ---- facts of some rows that were found
+
+weaker_any : (P Q : Rows → Type 0) (old : List Rows) → ((found : Rows) → P found → Q found) → AnyOf old P → AnyOf old Q
+weaker_any P Q [] step any = any
+weaker_any P Q (image ∷ images) step any = weaker_in P Q image images step any (weaker_any P Q images step)
+  where
+    weaker_in : (P Q : Rows → Type 0) (image : Rows) (images : List Rows) → ((found : Rows) → P found → Q found) → AnyOf (image ∷ images) P → (AnyOf images P → AnyOf images Q) → AnyOf (image ∷ images) Q
+    weaker_in P Q image [] step any rest = step image any
+    weaker_in P Q image (next ∷ images) step any rest =
+        elim any [
+          | inl holds ↦ inl (step image holds)
+          | inr later ↦ inr (rest later)
+        ]
+
+pub from_weaker : (P Q : Rows → Rows → Type 0) (before now : Store) → ((found after : Rows) → P found after → Q found after) → From before now P → From before now Q
+from_weaker P Q before now step from = told before.images now.rows from
+  where
+    told : (images : Option (List Rows)) (rows : Option Rows) → IfSome images (λ old. IfSome rows (λ after. AnyOf old (λ found. P found after))) → IfSome images (λ old. IfSome rows (λ after. AnyOf old (λ found. Q found after)))
+    told None rows h = tt
+    told (Some old) None h = tt
+    told (Some old) (Some after) h = weaker_any (λ found. P found after) (λ found. Q found after) old (λ found. step found after) h
 
 -- ---- what an opening found
 
@@ -74,6 +96,11 @@ from_unless : (P : Rows → Rows → Type 0) (failed : Bool) (before mid now : S
     → (failed ≡ true → (found after : Rows) → P found after) → From before now P
 from_unless P true before mid now has finds follows free = from_free P before now has (free refl)
 from_unless P false before mid now has finds follows free = from_found P before mid now finds (follows refl)
+
+follows_both : (P Q : Rows → Rows → Type 0) (before now : Option Rows) → Follows before now P → Follows before now Q → Follows before now (λ found after. P found after × Q found after)
+follows_both P Q before None first second = tt
+follows_both P Q None (Some after) first second = absurd first
+follows_both P Q (Some found) (Some after) first second = (first, second)
 
 free_answer : {T : Type 0} (result : Result T LogFault) (effect : Effect) (found after : Rows) → fails result ≡ true → Answers result effect found after
 free_answer (Ok answer) effect found after e = let bad : ⊥ = cc in absurd bad
@@ -140,8 +167,9 @@ planned_of result effect before mid now (Some planned) finds follows = from_foun
 pub opened_does : (effect : Rows → Effect) (number : Rows → ℕ) (result : Result ℕ LogFault) (before mid now : Store) → HasImages before → Finds before mid → HasOpened before mid
     → DoesReady effect number result mid now → Does effect number result before now
 opened_does effect number result before mid now has finds opened does = record {
-  answer = from_unless (λ found after. Answers result (effect found) found after) (fails result) before mid now has finds does.answer (λ e found after. free_answer result (effect found) found after e);
-  number_is = from_unless (λ found after. IfOk result (λ n. n ≡ number found)) (fails result) before mid now has finds does.number_is (λ e found after. free_number result (number found) e);
+  answer = from_unless (Tells result effect number) (fails result) before mid now has finds
+      (λ e. follows_both (λ found after. Answers result (effect found) found after) (λ found after. IfOk result (λ n. n ≡ number found)) mid.rows now.rows (does.answer e) (does.number_is e))
+      (λ e found after. (free_answer result (effect found) found after e, free_number result (number found) e));
   images = images_found result effect before mid now finds does.images;
   planned = planned_of result effect before mid now before.plan finds (subst (λ (plan : Option (Option Bool)). IfSome plan (λ planned. Follows mid.rows now.rows (λ found after. ByPlan planned result (effect found) found after now))) opened.2 does.planned);
   tries = subst (λ (n : ℕ). ByTries result n now.tries) opened.1 does.tries;
@@ -179,8 +207,7 @@ any_cause failed before now cause e = told now.rows (cause e)
 pub opening_refused : (effect : Rows → Effect) (number : Rows → ℕ) (fault : store.StoreFault) (before now : Store) → HasImages before
     → (access.fails {T = Unit {0}} (Err fault) ≡ false → Finds before now) → OpensAndReads AnyRows (access.fails {T = Unit {0}} (Err fault)) before now → Does effect number (Err (kept_fault fault)) before now
 opening_refused effect number stores.NoMemory before now has finds opened = record {
-  answer = from_found (λ found after. after ≡ found) before now now (finds refl) (itself (λ found after. after ≡ found) now.rows (λ rows. refl));
-  number_is = from_found (λ found after. Unit {0}) before now now (finds refl) (itself (λ found after. Unit {0}) now.rows (λ rows. tt));
+  answer = from_found (Tells (Err NoMemory) effect number) before now now (finds refl) (itself (Tells (Err NoMemory) effect number) now.rows (λ rows. (refl, tt)));
   images = tt;
   planned = kept_plan before now before.plan (finds refl) opened.0.2;
   tries = opened.0.1;
@@ -189,8 +216,7 @@ opening_refused effect number stores.NoMemory before now has finds opened = reco
   ready = tt;
 }
 opening_refused effect number stores.Failed before now has finds opened = record {
-  answer = from_free (λ found after. Unit {0}) before now has (λ found after. tt);
-  number_is = from_free (λ found after. Unit {0}) before now has (λ found after. tt);
+  answer = from_free (Tells (Err Failed) effect number) before now has (λ found after. (tt, tt));
   images = narrow_of effect before.images now.images opened.0.0;
   planned = refused_plan effect before now before.plan opened.2;
   tries = inl opened.0.1;

@@ -74,10 +74,13 @@ ByTries (Err Failed) before now = (now ≡ before) ⊎ (now ≡ raised before)
 ByTries (Err Full) before now = now ≡ before
 ByTries (Err TooLong) before now = now ≡ before
 
--- What a call does that answers a number: the number, by the rows that it found, and the changes.
+-- what a call leaves of the rows that it found, and which number it answers
+abbrev pub Tells : Result ℕ LogFault → (Rows → Effect) → (Rows → ℕ) → Rows → Rows → Type 0
+Tells result effect number found after = Answers result (effect found) found after × IfOk result (λ n. n ≡ number found)
+
+-- What a call does that answers a number.
 pub record Does (effect : Rows → Effect) (number : Rows → ℕ) (result : Result ℕ LogFault) (before now : Store) : Type 0 where
-  pub answer : From before now (λ found after. Answers result (effect found) found after)
-  pub number_is : From before now (λ found after. IfOk result (λ n. n ≡ number found))
+  pub answer : From before now (Tells result effect number)
   pub images : OnImages result effect before now
   pub planned : IfSome before.plan (λ planned. From before now (λ found after. ByPlan planned result (effect found) found after now))
   pub tries : ByTries result before.tries now.tries

@@ -20,6 +20,7 @@ use wef_event::{Event, PlainEvent};
 use wef_keeper::{Keeper, MemKeeper, access};
 
 /// A log that keeps the last records of each channel in a store.
+#[derive(Drop)]
 pub struct Log<K> {
     keeper: K,
     boot: u64,
@@ -95,7 +96,12 @@ impl<K: Keeper> Log<K> {
 
     /// The first `max` records of a channel's window above a number, by number. The rest are those
     /// above the page's last number.
-    pub fn page(&mut self, channel: &ChannelName, after: u64, max: u32) -> Result<List<Event>, LogFault>
+    pub fn page(
+        &mut self,
+        channel: &ChannelName,
+        after: u64,
+        max: u32,
+    ) -> Result<List<Event>, LogFault>
         requires { 1 ≤ max }
         ensures page { IfSome (K.store self.new.keeper).rows (λ rows. IfOk result (λ page. page ≡ take max (windows.records_after rows channel.now after))) }
         ensures rest { IfSome (K.store self.new.keeper).rows (λ rows. IfOk result (λ page. windows.records_after rows channel.now after
@@ -145,7 +151,12 @@ impl<K: Keeper> Log<K> {
     }
 
     /// As `page`, in a store that is ready.
-    pub fn page_ready(&mut self, channel: &ChannelName, after: u64, max: u32) -> Result<List<Event>, LogFault>
+    pub fn page_ready(
+        &mut self,
+        channel: &ChannelName,
+        after: u64,
+        max: u32,
+    ) -> Result<List<Event>, LogFault>
         requires max { 1 ≤ max }
         requires ready { access.IsReady (K.store self.old.keeper) }
         ensures page { IfSome (K.store self.new.keeper).rows (λ rows. IfOk result (λ page. page ≡ take max (windows.records_after rows channel.now after))) }

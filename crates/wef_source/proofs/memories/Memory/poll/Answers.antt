@@ -7,7 +7,7 @@ use Rattle.wef_source.specs.Prepared.{Prepares, outstanding_of}
 use Rattle.wef_source.specs.Sessions.{is_named, sending, session_of}
 use Rattle.wef_source.proofs.Places.{changed_at, first_at, first_nowhere, passes_at, same_session, within_at}
 use Rattle.wef_source.proofs.Polling.{polls_nothing, polls_send, refuses_poll, sent_kept}
-use Rattle.wef_source.proofs.source.SourceEnd.poll.Goals as goal
+use Rattle.wef_source.proofs.memories.Memory.poll.Goals as goal
 
 pub returns-in_default-clause-refusal : goal.returns-in_default-clause-refusal
 returns-in_default-clause-refusal c =
