@@ -1,5 +1,6 @@
-//! Laws of taking batches and of listing, as contracts.
+//! Laws of taking batches, of listing, and of the rows' forms, as contracts.
 
+ghost use Rattle.wef_collector.specs.FormsStay.{FormsStay};
 ghost use Rattle.wef_collector.specs.Laws.{BookmarkMoves, BookmarkNeverFalls, EventsAreHeld, OthersStay};
 ghost use Rattle.wef_collector.specs.There.{ListedAreThere, OwnKeysStay};
 
@@ -18,4 +19,9 @@ pub fn batches_in_order()
 pub fn listed_are_there()
     ensures there { ListedAreThere }
     ensures own_keys { OwnKeysStay }
+{}
+
+/// Rows that are of their form stay so, whatever the collector does.
+pub fn forms_stay()
+    ensures { FormsStay }
 {}
