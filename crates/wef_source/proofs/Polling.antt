@@ -53,11 +53,13 @@ polls_send rows before end u now s delivery outstanding ss same found name prepa
 -- the same, whatever the rows are
 pub sends_next : (before end : End) (u : List ℕ) (now : ℕ) (s : Session) (delivery : Delivery) (outstanding : Outstanding) (ss : List Session) → before ≡ end → Draws end s delivery outstanding
     → ss ≡ with_changed (is_named u) (sending outstanding now) before.sessions → Sends end (record before { drawn = before.drawn + 1; sessions = ss }) u now (Send delivery)
-sends_next before end u now s delivery outstanding ss same draws changed =
-    (draws.0, draws.1,
-    (λ k. record before { drawn = before.drawn + 1; sessions = changed k })
-    ∙ (λ k. record (same k) { drawn = (same k).drawn + 1; sessions = with_changed (is_named u) (sending outstanding now) (same k).sessions })
-    ∙ (λ k. record end { drawn = end.drawn + 1; sessions = with_changed (is_named u) (sending (draws.2 k) now) end.sessions }))
+sends_next before end u now s delivery outstanding ss same draws changed = (
+  draws.0,
+  draws.1,
+  (λ k. record before { drawn = before.drawn + 1; sessions = changed k })
+      ∙ (λ k. record (same k) { drawn = (same k).drawn + 1; sessions = with_changed (is_named u) (sending outstanding now) (same k).sessions })
+      ∙ (λ k. record end { drawn = end.drawn + 1; sessions = with_changed (is_named u) (sending (draws.2 k) now) end.sessions }),
+)
 
 -- ---- what a batch reads is of channels that the positions have
 
