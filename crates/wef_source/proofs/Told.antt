@@ -42,9 +42,15 @@ counts_twice (Some planned) None a b c e h k = cc
 counts_twice (Some planned) (Some same) a b c e h k = k ∙ h
 
 pub read_twice : (before mid now : Store) → HasRead before mid → HasRead mid now → HasRead before now
-read_twice before mid now h k =
-    (k.0, stays_twice before.rows mid.rows now.rows h.1 k.1, stays_twice before.images mid.images now.images h.2 k.2, k.3 ∙ h.3, k.4 ∙ h.4, up before.faults mid.faults now.faults h.5 k.5,
-    counts_twice before.plan mid.plan before.faults mid.faults now.faults h.4 h.6 k.6)
+read_twice before mid now h k = (
+  k.0,
+  stays_twice before.rows mid.rows now.rows h.1 k.1,
+  stays_twice before.images mid.images now.images h.2 k.2,
+  k.3 ∙ h.3,
+  k.4 ∙ h.4,
+  up before.faults mid.faults now.faults h.5 k.5,
+  counts_twice before.plan mid.plan before.faults mid.faults now.faults h.4 h.6 k.6,
+)
   where
     up : (a b c : ℕ) → a ≤ b → b ≤ c → a ≤ c
     up a b c p q = omega arith
