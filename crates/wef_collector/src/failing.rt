@@ -1,7 +1,8 @@
 //! A keeper of the tests. It fails at the calls of given numbers, and tells nothing of its rows.
 
-ghost use Rattle.std.specs.Prelude.{◌≡◌, false, true, IfOk, refl};
+ghost use Rattle.std.specs.Prelude.{◌≡◌, ◌≤◌, true, refl};
 ghost use Rattle.std.specs.declared.option.Option.TheVariants.{None};
+ghost use Rattle.wef_base.specs.Counts.{Rose};
 ghost use Rattle.wef_keeper.specs.Keeping.{raised};
 
 use std::alloc::{AllocError, Global};
@@ -50,7 +51,9 @@ impl FailingKeeper {
     }
 
     fn count_fault(&mut self)
-        ensures { self.new ≡ record self.old { faults = raised self.old.faults } }
+        ensures count { self.new ≡ record self.old { faults = raised self.old.faults } }
+        ensures higher { self.old.faults ≤ self.new.faults }
+        ensures rose { Rose self.old.faults self.new.faults }
     {
         self.faults = self.faults.saturating_add(1);
     }
