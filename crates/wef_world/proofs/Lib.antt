@@ -1,4 +1,5 @@
 pub mod Changed
+pub mod CollectorCalls
 pub mod LastNumbers
-pub mod Opened
 pub mod Lines
+pub mod Opened
