@@ -1,4 +1,6 @@
+pub mod Asked
 pub mod Changed
 pub mod LastNumbers
 pub mod Opened
-pub mod Lines
+pub mod Started
+pub mod Windowed
