@@ -1,10 +1,9 @@
 -- Rows that are told, and stores that are read one call after the other.
-use Rattle.std.proofs.Common.{◌≡◌, ℕ, ◌-◌, ◌<◌, ◌≤◌, ◌==◌, Bool, true, false, refl, subst, ◌∙◌, arith, length, Option, Some, None, List, [], ◌∷◌, IfSome}
-use Rattle.std.proofs.lemmas.Bool.Decides.{nat_tests}
+use Rattle.std.proofs.Common.{◌≡◌, ℕ, ◌-◌, ◌<◌, ◌≤◌, ◌==◌, Bool, false, refl, subst, ◌∙◌, arith, length, Option, Some, None, List, [], ◌∷◌, IfSome}
 use Rattle.std.specs.List.{AllByRecursion}
 use Rattle.wef_event.specs.declared.records.Event.{Event}
 use Rattle.wef_keeper.proofs.Openings.{all_one}
-use Rattle.wef_keeper.specs.Access.{CountsNone, HasCause, HasOpened, HasRead, IsReady, IsSure, Narrows, OpensAndReads}
+use Rattle.wef_keeper.specs.Access.{HasRead, IsReady, OpensAndReads}
 use Rattle.wef_keeper.specs.Keeping.{IsOneOf, Stays, Store}
 use Rattle.wef_keeper.specs.Rows.{Rows}
 use Rattle.wef_source_log.specs.Windows.{last_number}
