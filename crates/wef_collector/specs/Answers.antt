@@ -28,12 +28,7 @@ ended_rows rows u = map.insert rows (subscription_key u) (record { value = 1; bo
 abbrev pub channels_read : Subscription → List (List ℕ)
 channels_read s = selected.channels_of s.query.items
 
--- a fact of a live subscription
-abbrev pub WhereLive : state.Standing → (Subscription → Type 0) → Type 0
-WhereLive is.Unknown P = ⊥
-WhereLive (is.Ended s) P = ⊥
-WhereLive (is.Live s) P = P s
-
+-- a subscription that was ended
 abbrev pub IsEnded : state.Standing → Type 0
 IsEnded is.Unknown = ⊥
 IsEnded (is.Ended s) = Unit {0}

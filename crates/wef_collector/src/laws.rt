@@ -1,5 +1,6 @@
-//! Laws of taking batches and of listing, as contracts.
+//! Laws of taking batches, of listing, and of rows of their form, as contracts.
 
+ghost use Rattle.wef_collector.specs.FormsStay.{FormsStay};
 ghost use Rattle.wef_collector.specs.Laws.{BookmarkMoves, BookmarkNeverFalls, EventsAreHeld, OthersStay};
 ghost use Rattle.wef_collector.specs.There.{ListedAreThere, OwnKeysStay};
 
@@ -18,4 +19,10 @@ pub fn batches_in_order()
 pub fn listed_are_there()
     ensures there { ListedAreThere }
     ensures own_keys { OwnKeysStay }
+{}
+
+/// Rows that are all of their form stay so, whatever the collector does: where there is none, over
+/// a start, where a subscription is added or ends, and over a batch that is taken.
+pub fn forms_stay()
+    ensures { FormsStay }
 {}

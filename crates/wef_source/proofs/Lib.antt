@@ -8,6 +8,7 @@ pub mod Drafts
 pub mod Fitting
 pub mod InOrder
 pub mod Items
+pub mod Logged
 pub mod Placements
 pub mod Places
 pub mod Polling

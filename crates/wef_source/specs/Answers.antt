@@ -1,5 +1,6 @@
 -- What the calls of a source answer, by what it holds as the call begins.
 use Rattle.std.specs.Prelude.{◌≡◌, ℕ, ◌+◌, Bool, true, false, List, [], length, is_some, Option, Some, None, Result, Ok, Err}
+use Rattle.wef_bookmark.specs.Order.{Marks}
 use Rattle.wef_envelope.specs.Ids.{ids_agree}
 use Rattle.wef_envelope.specs.declared.MessageId.{MessageId}
 use Rattle.wef_eventing.specs.declared.bodies.Offer.{Offer}
@@ -7,7 +8,7 @@ use Rattle.wef_keeper.specs.Rows.{Rows}
 use Rattle.wef_source_log.specs.declared.faults.LogFault as the_log_fault
 use Rattle.wef_source_log.specs.declared.faults.LogFault.TheVariants as log_faults
 use Rattle.wef_source.specs.Machine.{End, acknowledged_in, adopted, asked, delivery_of, is_idle, is_spent, lost_in, next_id, refused_in, sent}
-use Rattle.wef_source.specs.Sessions.{session_of, waiting}
+use Rattle.wef_source.specs.Sessions.{is_named, sending, session_of, waiting, with_changed}
 use Rattle.wef_source.specs.declared.faults.SourceFault.{SourceFault}
 use Rattle.wef_source.specs.declared.faults.SourceFault.TheVariants.{NoMemory, Failed, Full, TooLong, NotAsked, UnknownSubscription, Spent}
 use Rattle.wef_source.specs.declared.messages.Moved as moved
@@ -129,6 +130,20 @@ RefusesPoll Failed rows end u = Unit {0}
 RefusesPoll UnknownSubscription rows end u = session_of end.sessions u ≡ None
 RefusesPoll Spent rows end u = WhereThere (session_of end.sessions u) (λ session. is_idle rows session ≡ false) × (is_spent end ≡ true)
 RefusesPoll _ rows end u = ⊥
+
+-- a source whose session of a name sent a delivery of the next id that reads so far
+abbrev pub sent_to : End → List ℕ → Marks → ℕ → End
+sent_to end u to now = record end {
+  drawn = end.drawn + 1;
+  sessions = with_changed (is_named u) (sending (record { id = next_id end; to = to }) now) end.sessions;
+}
+
+-- What a poll does to what is remembered, also where the rows aren't told: what it sends has the next id, and its
+-- session awaits the answer.
+abbrev pub Sends : End → End → List ℕ → ℕ → poll.Poll → Type 0
+Sends end end' u now polls.Nothing = end' ≡ end
+Sends end end' u now (polls.Send delivery) =
+    (is_spent end ≡ false) × (delivery.id ≡ record { value = Some (next_id end); text = [] }) × (end' ≡ sent_to end u delivery.batch.to now)
 
 -- a poll's refusals, also where the rows aren't told
 abbrev pub MayRefusePoll : SourceFault → End → List ℕ → Type 0

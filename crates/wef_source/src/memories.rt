@@ -8,7 +8,7 @@ ghost use Rattle.wef_source_log.specs.Forms.{AreFormed};
 ghost use Rattle.wef_source.specs.Answers as answers;
 ghost use Rattle.wef_source.specs.Answers.{fails};
 ghost use Rattle.wef_source.specs.Machine as machine;
-ghost use Rattle.wef_source.specs.Prepared.{Awaits, MayRefuseToPrepare, Prepares, RefusesToPrepare};
+ghost use Rattle.wef_source.specs.Prepared.{MayDraw, MayRefuseToPrepare, Prepares, RefusesToPrepare};
 ghost use Rattle.wef_source.specs.Serving.{IsCovered};
 ghost use Rattle.wef_source.specs.Sessions as the_sessions;
 
@@ -134,6 +134,7 @@ impl Memory {
     ) -> Result<Poll, SourceFault>
         ensures ok { IfSome (K.store log.new.keeper).rows (λ rows. IfOk result (answers.Polls rows self.old self.new sub.now now)) }
         ensures refusal { IfSome (K.store log.new.keeper).rows (λ rows. IfErr result (λ fault. answers.RefusesPoll fault rows self.old sub.now)) }
+        ensures sends { IfOk result (answers.Sends self.old self.new sub.now now) }
         ensures listed { IfErr result (λ fault. answers.MayRefusePoll fault self.old sub.now) }
         ensures err { OnErr result (self.new ≡ self.old) }
         ensures reads { access.OpensAndReads AreFormed (fails result) (K.store log.old.keeper) (K.store log.new.keeper) }
@@ -210,7 +211,7 @@ impl Memory {
         requires { IsCovered session.now }
         ensures ok { IfSome (K.store log.new.keeper).rows (λ rows. IfOk result (Prepares rows self.now session.now)) }
         ensures refusal { IfSome (K.store log.new.keeper).rows (λ rows. IfErr result (RefusesToPrepare rows self.now session.now)) }
-        ensures covered { IfOk result (Awaits session.now) }
+        ensures draws { IfOk result (MayDraw self.now session.now) }
         ensures listed { IfErr result (MayRefuseToPrepare self.now) }
         ensures reads { access.OpensAndReads AreFormed (fails result) (K.store log.old.keeper) (K.store log.new.keeper) }
     {
@@ -232,7 +233,7 @@ impl Memory {
         requires ready { access.IsReady (K.store log.old.keeper) }
         ensures ok { IfSome (K.store log.new.keeper).rows (λ rows. IfOk result (Prepares rows self.now session.now)) }
         ensures refusal { IfSome (K.store log.new.keeper).rows (λ rows. IfErr result (RefusesToPrepare rows self.now session.now)) }
-        ensures covered { IfOk result (Awaits session.now) }
+        ensures draws { IfOk result (MayDraw self.now session.now) }
         ensures listed { IfErr result (MayRefuseToPrepare self.now) }
         ensures reads { access.Reads AreFormed (fails result) (K.store log.old.keeper) (K.store log.new.keeper) }
     {

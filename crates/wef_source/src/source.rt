@@ -135,6 +135,7 @@ impl<K: Keeper> SourceEnd<K> {
     pub fn poll(&mut self, sub: &SubId, now: u64) -> Result<Poll, SourceFault>
         ensures ok { IfSome (K.store self.new.log.keeper).rows (λ rows. IfOk result (answers.Polls rows self.old.memory self.new.memory sub.now now)) }
         ensures refusal { IfSome (K.store self.new.log.keeper).rows (λ rows. IfErr result (λ fault. answers.RefusesPoll fault rows self.old.memory sub.now)) }
+        ensures sends { IfOk result (answers.Sends self.old.memory self.new.memory sub.now now) }
         ensures listed { IfErr result (λ fault. answers.MayRefusePoll fault self.old.memory sub.now) }
         ensures err { OnErr result (self.new.memory ≡ self.old.memory) }
         ensures reads { access.OpensAndReads AreFormed (fails result) (K.store self.old.log.keeper) (K.store self.new.log.keeper) }

@@ -1,18 +1,11 @@
--- A source whose end runs.
-use Rattle.std.proofs.Common.{◌≡◌, ℕ, Bool, true, false, List, [], ◌∷◌, cond, refl, ap, sym, ◌∙◌, Some, None}
+-- A source that runs.
+use Rattle.std.proofs.Common.{◌≡◌, ℕ, Bool, true, false, List, [], ◌∷◌, cond, refl, ap, Some, None}
 use Rattle.wef_source.specs.Answers.{RefusesLost}
 use Rattle.wef_source.specs.Machine.{End, lost_in}
 use Rattle.wef_source.specs.Sessions.{first_where, is_named, settled, with_changed}
 use Rattle.wef_source.specs.declared.faults.SourceFault.{SourceFault}
 use Rattle.wef_source.specs.declared.faults.SourceFault.TheVariants.{UnknownSubscription}
 use Rattle.wef_source.specs.declared.sessions.Session.{Session}
-use Rattle.wef_world.specs.Slots.{slot_with}
-use Rattle.wef_machine.specs.States.{opened}
-use Rattle.wef_world.specs.declared.slots.Slot.{Slot}
-
--- the end that a source has once it runs
-pub end_is : (slot slot' : Slot) (end : End) → slot' ≡ slot_with slot (opened slot) → slot'.end ≡ Some end → end ≡ opened slot
-end_is slot slot' end is has = let same : Some end ≡ Some (opened slot) = sym has ∙ ap (λ (s : Slot). s.end) is in cc
 
 -- changing the first session that passes changes nothing where none does
 unchanged : (test : Session → Bool) (change : Session → Session) (ss : List Session) → first_where test ss ≡ None → with_changed test change ss ≡ ss

@@ -12,7 +12,7 @@ use Rattle.wef_source.specs.Machine.{End, start_of}
 use Rattle.wef_source.specs.declared.faults.SourceFault as the_fault
 use Rattle.wef_source.specs.declared.faults.SourceFault.TheVariants as faults
 use Rattle.wef_source.specs.declared.source.SourceEnd.{SourceEnd}
-use Rattle.wef_source_log.specs.Answers.{Effect, start_effect, write_effect}
+use Rattle.wef_source_log.specs.Answers.{Effect, write_effect}
 use Rattle.wef_source_log.specs.Windows.{boot_of, last_of}
 use Rattle.wef_source_log.specs.declared.faults.LogFault.TheVariants as log_faults
 

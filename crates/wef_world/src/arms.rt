@@ -22,12 +22,12 @@ impl Model for Arms {
     ghost use Rattle.std.specs.Ordering.{nat_cmp};
     ghost use Rattle.std.specs.Cmp.Lexicographic.{slice_cmp};
     ghost use Rattle.std.specs.BTreeMap.{IsOrdered};
-    ghost use Rattle.wef_machine.specs.contracts.arming.Armed as armed;
+    ghost use Rattle.wef_machine.specs.contracts.arming.Armed as arm;
     ghost use Rattle.wef_machine.specs.declared.arming.Armed.{Armed};
 
     ghost Value = { map.FinMap (slice_cmp nat_cmp) Armed };
 
-    ghost coded = { map.code (coded_list coded_ℕ) armed.the_row.coded };
+    ghost coded = { map.code (coded_list coded_ℕ) arm.the_row.coded };
 
     ghost view = { λ a. map.from_entries a.armed.entries };
 

@@ -75,7 +75,7 @@ impl Model for Slot {
     ghost use Rattle.wef_keeper.specs.contracts.keys.Cell as cell;
     ghost use Rattle.wef_machine.specs.States.{Slot};
     ghost use Rattle.wef_source.specs.Machine.{End};
-    ghost use Rattle.wef_source.specs.contracts.source.Memory as memory;
+    ghost use Rattle.wef_source.specs.contracts.memories.Memory as memory;
     ghost use Rattle.wef_source_log.specs.Histories.{Histories};
 
     ghost Value = { Slot };
@@ -178,17 +178,19 @@ impl Slot {
         self.place.arrange(plan_of(*armed));
         match self.place.write(event) {
             Ok(number) => {
-                self.record(event, number)?;
                 let _done = settle_source(&mut self.place, armed, false);
+                self.record(event, number)?;
                 Ok(Written::Record(number))
             }
             Err(SourceFault::Full) => Ok(Written::Full),
             Err(SourceFault::TooLong) => Ok(Written::TooLong),
             Err(SourceFault::Failed) => {
-                if is_kept(*armed) {
+                let is_kept = is_kept(*armed);
+                let fate = settle_source(&mut self.place, armed, true);
+                if is_kept {
                     self.record(event, next)?;
                 }
-                Ok(Written::Broken(settle_source(&mut self.place, armed, true)))
+                Ok(Written::Broken(fate))
             }
             Err(_) => Err(WorldFault::NoMemory),
         }

@@ -31,7 +31,7 @@ impl Model for SourcePlace {
     ghost use Rattle.wef_keeper.specs.contracts.keys.Key as key;
     ghost use Rattle.wef_keeper.specs.contracts.keys.Cell as cell;
     ghost use Rattle.wef_source.specs.Machine.{End};
-    ghost use Rattle.wef_source.specs.contracts.source.Memory as memory;
+    ghost use Rattle.wef_source.specs.contracts.memories.Memory as memory;
     ghost use Rattle.wef_world.specs.SourcePlaces.{SourceHeld, source_held};
 
     ghost Value = { SourceHeld };

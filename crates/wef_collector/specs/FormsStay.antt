@@ -1,0 +1,42 @@
+-- Rows of their form stay so, whatever the collector does.
+use Rattle.std.specs.Prelude.{◌≡◌, ℕ, ◌+◌, ◌≤◌, nat_lt, true, List, [], Some}
+use Rattle.std.specs.FinMap as map
+use Rattle.std.specs.List.{AllByRecursion}
+use Rattle.wef_batch.specs.WellFormed.{is_well_formed}
+use Rattle.wef_batch.specs.declared.items.Batch.{Batch}
+use Rattle.wef_batch.specs.declared.items.Item.{Item}
+use Rattle.wef_batch.specs.declared.items.Item.TheVariants.{Event, Dropped, Loose}
+use Rattle.wef_eventing.specs.Kept.{kept_words, read_kept}
+use Rattle.wef_eventing.specs.declared.subscriptions.Subscription.{Subscription}
+use Rattle.wef_keeper.specs.Rows.{Rows}
+use Rattle.wef_collector.specs.Answers.{added_rows, channels_read, ended_rows}
+use Rattle.wef_collector.specs.Boots.{boot_of}
+use Rattle.wef_collector.specs.Forms.{AreFormed, is_source_name, is_subscription_name}
+use Rattle.wef_collector.specs.Keys.{boot_key}
+use Rattle.wef_collector.specs.Standing.{standing}
+use Rattle.wef_collector.specs.Taken.{taken}
+use Rattle.wef_collector.specs.declared.standings.Standing.TheVariants.{Live}
+
+-- an item's numbers are such as records have
+abbrev pub HasNumber : Item → Type 0
+HasNumber (Event event) = event.number ≤ 9223372036854775807
+HasNumber (Dropped channel first last) = last ≤ 9223372036854775807
+HasNumber (Loose count) = Unit {0}
+
+-- The numbers of a batch are such as records have.
+pub record HasNumbers (batch : Batch) : Type 0 where
+  pub items : AllByRecursion HasNumber batch.items
+  pub to : (c : List ℕ) (n : ℕ) → map.get batch.to c ≡ Some n → n ≤ 9223372036854775807
+
+-- Rows of their form stay so, whatever the collector does: it begins without a row, and is started, a subscription is
+-- added and ends, and a batch is taken.
+pub record FormsStay : Type 0 where
+  pub nothing : AreFormed map.empty
+  pub start : (rows : Rows) → nat_lt (boot_of rows) 9223372036854775807 ≡ true → AreFormed rows
+      → AreFormed (map.insert rows boot_key (record { value = boot_of rows + 1; body = [] }))
+  pub add : (rows : Rows) (s : Subscription) → is_subscription_name s.name ≡ true → read_kept s.name (kept_words s) ≡ Some s → AreFormed rows
+      → AreFormed (added_rows rows s)
+  pub end : (rows : Rows) (u : List ℕ) (about : Subscription) → standing rows u ≡ Live about → AreFormed rows → AreFormed (ended_rows rows u)
+  pub take : (rows : Rows) (u s : List ℕ) (about : Subscription) (batch : Batch) (now : ℕ) → standing rows u ≡ Live about → is_source_name s ≡ true
+      → is_well_formed (channels_read about) batch ≡ true → HasNumbers batch → now ≤ 253402300799999 → AreFormed rows
+      → AreFormed (taken rows u s (channels_read about) batch now)
