@@ -1,15 +1,21 @@
 -- What a call of the collector leaves of it and answers, by how it was armed.
-use Rattle.std.proofs.Common.{◌≡◌, Bool, true, false, ◌&&◌, cond, List, [], ◌∷◌, refl, ap, sym, ◌∙◌, subst}
+use Rattle.std.proofs.Common.{◌≡◌, ◌+◌, nat_lt, Bool, true, false, ◌&&◌, List, [], ◌∷◌, ap, sym, ◌∙◌, subst}
+use Rattle.std.proofs.lemmas.Bool.{cond_both}
 use Rattle.std.specs.Prelude.{Option, Some, None, Result, Ok, Err, IfOk, OnOk, not}
-use Rattle.wef_collector.specs.Calls.{Effect}
+use Rattle.wef_collector.proofs.FormsStay.{forms_stay}
+use Rattle.wef_collector.specs.Boots.{boot_of}
+use Rattle.wef_collector.specs.Calls.{Effect, boot_effect}
+use Rattle.wef_collector.specs.Forms.{AreFormed}
+use Rattle.wef_collector.specs.Keys.{boot_key}
+use Rattle.wef_collector.specs.Taken.{put}
 use Rattle.wef_collector.specs.declared.faults.CollectorFault.{CollectorFault}
-use Rattle.wef_collector.specs.declared.faults.CollectorFault.TheVariants.{NoMemory, NoSubscription, Exists, Ended, NotWellFormed, TooMany, Failed, Full}
+use Rattle.wef_collector.specs.declared.faults.CollectorFault.TheVariants.{NoMemory, Failed, Full}
 use Rattle.wef_keeper.specs.Access.{is_planned, plan_with}
 use Rattle.wef_keeper.specs.Keeping.{outcome}
 use Rattle.wef_keeper.specs.Rows.{Rows, applied}
 use Rattle.wef_keeper.specs.declared.keys.Change.{Change}
-use Rattle.wef_machine.specs.Arming.{fate_of, is_stopped, plan_of}
-use Rattle.wef_machine.specs.Collecting.{after_call, commits}
+use Rattle.wef_machine.specs.Arming.{committed, fate_of, is_stopped, plan_of}
+use Rattle.wef_machine.specs.Collecting.{after_call, opened, starts}
 use Rattle.wef_machine.specs.States.{Collector}
 use Rattle.wef_machine.specs.declared.arming.Armed.{Armed}
 use Rattle.wef_machine.specs.declared.arming.Fate.{Fate}
@@ -127,3 +133,18 @@ pub call_answers : (c : Collector) (effect : Rows → Effect) (answer : Result U
 call_answers c effect answer place place' armed' (Ok called) call =
     (called_leaves c (effect c.rows) answer place place' armed' called (call_did c effect answer place place' armed' (Ok called) call) (call_settles c effect answer place place' armed' (Ok called) call)).1
 call_answers c effect answer place place' armed' (Err fault) call = tt
+
+-- ---- an opening
+
+booted_formed : (armed : Option Armed) (rows : Rows) → nat_lt (boot_of rows) 9223372036854775807 ≡ true → AreFormed rows → AreFormed (committed armed (put boot_key (boot_of rows + 1) [] ∷ []) rows)
+booted_formed None rows room formed = forms_stay.start rows room formed
+booted_formed (Some a) rows room formed =
+    cond_both a.after (applied (put boot_key (boot_of rows + 1) [] ∷ []) rows) rows AreFormed (λ _. forms_stay.start rows room formed) (λ _. formed)
+
+-- rows of their form stay so
+pub opened_formed : (c : Collector) → AreFormed c.rows → AreFormed (opened c).rows
+opened_formed c formed =
+    cond_both c.runs c (starts c (boot_effect c.rows)) (λ (x : Collector). AreFormed x.rows) (λ _. formed)
+    (λ _.
+    cond_both (nat_lt (boot_of c.rows) 9223372036854775807) (Ok (put boot_key (boot_of c.rows + 1) [] ∷ [])) (Err Full) (λ (effect : Effect). AreFormed (starts c effect).rows)
+    (λ room. booted_formed c.armed c.rows room formed) (λ full. formed))

@@ -1,10 +1,13 @@
 -- What becomes of calls that change the collector's rows.
-use Rattle.std.specs.Prelude.{◌≡◌, ◌&&◌, not, is_some, Option, None, Result, Ok, Err, if◌then◌else◌}
+use Rattle.std.specs.Prelude.{◌≡◌, List, ℕ, codes, ◌&&◌, not, is_some, Option, None, Result, Ok, Err, if◌then◌else◌}
 use Rattle.wef_collector.specs.Calls.{Effect}
 use Rattle.wef_collector.specs.declared.faults.CollectorFault.{CollectorFault}
 use Rattle.wef_collector.specs.declared.faults.CollectorFault.TheVariants.{NoMemory, Failed}
 use Rattle.wef_machine.specs.Arming.{fate, fate_of, is_stopped}
+use Rattle.wef_machine.specs.Printed.{collector_name, name_line}
+use Rattle.wef_machine.specs.Sources.{fate_text}
 use Rattle.wef_machine.specs.States.{Collector}
+use Rattle.wef_machine.specs.Steps.{end_refused, subscribe_refused}
 use Rattle.wef_machine.specs.declared.arming.Armed.{Armed}
 use Rattle.wef_machine.specs.declared.arming.Fate.{Fate}
 use Rattle.wef_machine.specs.declared.arming.Fate.TheVariants.{Done}
@@ -33,3 +36,13 @@ Settles (Err Failed) place place' armed armed' (Committed how) = (how ≡ fate_o
 Settles (Err Failed) place place' armed armed' (Refused refused) = ⊥
 Settles (Err fault) place place' armed armed' (Committed how) = ⊥
 Settles (Err fault) place place' armed armed' (Refused refused) = (refused ≡ fault) × (place' ≡ place) × (armed' ≡ armed)
+
+-- what is printed of a call that adds a subscription
+abbrev pub added_text : List ℕ → Called → List ℕ
+added_text u (Committed how) = fate_text how collector_name (name_line (codes "added") u)
+added_text u (Refused fault) = subscribe_refused u fault
+
+-- what is printed of one that ends a subscription
+abbrev pub ended_text : List ℕ → Called → List ℕ
+ended_text u (Committed how) = fate_text how collector_name (name_line (codes "ended") u)
+ended_text u (Refused fault) = end_refused u fault

@@ -72,8 +72,20 @@ impl CollectorSide {
         }
     }
 
-    /// Lets the collector run, if it doesn't yet, and answers how that went.
+    /// Lets the collector run, if it doesn't yet, and answers how that went. Rows of their form stay
+    /// so.
+    #[tactic(auto, using(crate::proofs::CollectorCalls::opened_formed))]
     pub fn open(&mut self, alloc: Global) -> Result<Fate, WorldFault>
+        requires formed { AreFormed self.old.rows }
+        ensures collector { OnOk result (self.new ≡ collecting.opened self.old) }
+        ensures fate { IfOk result (λ fate. fate ≡ collecting.opening self.old) }
+        ensures formed { OnOk result (AreFormed self.new.rows) }
+    {
+        self.try_open(alloc)
+    }
+
+    /// The same.
+    fn try_open(&mut self, alloc: Global) -> Result<Fate, WorldFault>
         requires formed { AreFormed self.old.rows }
         ensures collector { OnOk result (self.new ≡ collecting.opened self.old) }
         ensures fate { IfOk result (λ fate. fate ≡ collecting.opening self.old) }

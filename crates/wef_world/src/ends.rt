@@ -7,6 +7,7 @@ ghost use Rattle.wef_machine.specs.Printed as texts;
 ghost use Rattle.wef_machine.specs.States as states;
 ghost use Rattle.wef_machine.specs.Steps as steps;
 ghost use Rattle.wef_collector.specs.Forms.{AreFormed};
+ghost use Rattle.wef_world.specs.Called as called;
 ghost use Rattle.wef_replay.specs.Good.{allows, has_end, is_among};
 
 use crate::arms::Arms;
@@ -56,13 +57,13 @@ impl Model for Ends {
     ghost use Rattle.wef_machine.specs.contracts.arming.Armed as armed;
     ghost use Rattle.wef_machine.specs.contracts.messages.Message as message;
     ghost use Rattle.wef_machine.specs.declared.messages.Message.{Message};
-    ghost use Rattle.wef_world.specs.contracts.collector_side.CollectorSide as the_collector;
+    ghost use Rattle.wef_world.specs.contracts.collector_side.CollectorSide as side;
     ghost use Rattle.wef_world.specs.contracts.slots.Slot as slot;
 
     ghost Value = { State };
 
     ghost coded = { code_by ((Collector × List (List ℕ)) × (Slots × (Arms × List Message)))
-        (coded× (coded× the_collector.the_row.coded (coded_list (coded_list coded_ℕ)))
+        (coded× (coded× side.the_row.coded (coded_list (coded_list coded_ℕ)))
         (coded× (map.code (coded_list coded_ℕ) slot.the_row.coded) (coded× (map.code (coded_list coded_ℕ) armed.the_row.coded) (coded_list message.the_row.coded))))
         (λ s. ((s.collector, s.foreign), (s.sources, (s.arms, s.messages))))
         (λ p. record { collector = p.0.0; foreign = p.0.1; sources = p.1.0; arms = p.1.1.0; messages = p.1.1.1 }) (λ _. refl) };
@@ -215,13 +216,8 @@ impl Ends {
         ensures state { OnOk result (self.new ≡ steps.subscribe_at subscription.now self.old) }
         ensures printed { IfOk result (λ text. text ≡ steps.subscribe_text subscription.now self.old) }
     {
-        let name = subscription.name.as_text();
-        match self.collector.add(subscription)? {
-            Called::Committed(Fate::Done) => Ok(name_line("added", name)?),
-            Called::Committed(fate) => Ok(fate_line(self.alloc, fate, COLLECTOR)?),
-            Called::Refused(CollectorFault::Exists) => Ok(name_line("exists", name)?),
-            Called::Refused(_) => Ok(Text::from_str(self.alloc, "full\n")?),
-        }
+        let called = self.collector.add(subscription)?;
+        Ok(added_line(self.alloc, subscription.name.as_text(), called)?)
     }
 
     fn end(&mut self, sub: &SubId) -> Result<Text, WorldFault>
@@ -241,14 +237,8 @@ impl Ends {
         ensures state { OnOk result (self.new ≡ steps.end_at sub.now self.old) }
         ensures printed { IfOk result (λ text. text ≡ steps.end_text sub.now self.old) }
     {
-        match self.collector.end(sub)? {
-            Called::Committed(Fate::Done) => Ok(name_line("ended", sub.as_text())?),
-            Called::Committed(fate) => Ok(fate_line(self.alloc, fate, COLLECTOR)?),
-            Called::Refused(CollectorFault::NoSubscription) => {
-                Ok(name_line("unknown", sub.as_text())?)
-            }
-            Called::Refused(_) => Ok(name_line("already", sub.as_text())?),
-        }
+        let called = self.collector.end(sub)?;
+        Ok(ended_line(self.alloc, sub.as_text(), called)?)
     }
 
     fn take(&mut self, sub: &SubId, source: &SourceName, batch: &Batch) -> Result<Text, WorldFault>
@@ -349,5 +339,31 @@ impl Ends {
         self.collector.arm(None);
         self.arms = Arms::new(self.alloc);
         Ok(Text::new(self.alloc))
+    }
+}
+
+/// What is printed of a call that adds a subscription.
+fn added_line(alloc: Global, name: &Text, answer: Called) -> Result<Text, AllocError>
+    ensures { IfOk result (λ text. text ≡ called.added_text name.now answer) }
+{
+    match answer {
+        Called::Committed(Fate::Done) => name_line("added", name),
+        Called::Committed(fate) => fate_line(alloc, fate, COLLECTOR),
+        Called::Refused(CollectorFault::Exists) => name_line("exists", name),
+        Called::Refused(CollectorFault::TooMany) => Text::from_str(alloc, "full\n"),
+        Called::Refused(_) => Ok(Text::new(alloc)),
+    }
+}
+
+/// What is printed of a call that ends a subscription.
+fn ended_line(alloc: Global, name: &Text, answer: Called) -> Result<Text, AllocError>
+    ensures { IfOk result (λ text. text ≡ called.ended_text name.now answer) }
+{
+    match answer {
+        Called::Committed(Fate::Done) => name_line("ended", name),
+        Called::Committed(fate) => fate_line(alloc, fate, COLLECTOR),
+        Called::Refused(CollectorFault::NoSubscription) => name_line("unknown", name),
+        Called::Refused(CollectorFault::Ended) => name_line("already", name),
+        Called::Refused(_) => Ok(Text::new(alloc)),
     }
 }
