@@ -56,13 +56,13 @@ impl Model for Ends {
     ghost use Rattle.wef_machine.specs.contracts.arming.Armed as armed;
     ghost use Rattle.wef_machine.specs.contracts.messages.Message as message;
     ghost use Rattle.wef_machine.specs.declared.messages.Message.{Message};
-    ghost use Rattle.wef_world.specs.contracts.collector_side.CollectorSide as collector;
+    ghost use Rattle.wef_world.specs.contracts.collector_side.CollectorSide as side;
     ghost use Rattle.wef_world.specs.contracts.slots.Slot as slot;
 
     ghost Value = { State };
 
     ghost coded = { code_by ((Collector × List (List ℕ)) × (Slots × (Arms × List Message)))
-        (coded× (coded× collector.the_row.coded (coded_list (coded_list coded_ℕ)))
+        (coded× (coded× side.the_row.coded (coded_list (coded_list coded_ℕ)))
         (coded× (map.code (coded_list coded_ℕ) slot.the_row.coded) (coded× (map.code (coded_list coded_ℕ) armed.the_row.coded) (coded_list message.the_row.coded))))
         (λ s. ((s.collector, s.foreign), (s.sources, (s.arms, s.messages))))
         (λ p. record { collector = p.0.0; foreign = p.0.1; sources = p.1.0; arms = p.1.1.0; messages = p.1.1.1 }) (λ _. refl) };
