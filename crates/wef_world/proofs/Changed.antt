@@ -47,7 +47,7 @@ word_is sources arms s opened at taken said word found says =
     where_taken sources arms s opened at taken (λ slot end. said ≡ word end) found says
     ∙ sym (ap (word_by arms s word) at.there ∙ ap (word_where_runs (slot_opening (get arms s) at.slot) word) at.runs)
 
-where_map : (o : Option End) (P Q : End → Type 0) → ((end : End) → P end → Q end) → WhereRuns o P → WhereRuns o Q
+pub where_map : (o : Option End) (P Q : End → Type 0) → ((end : End) → P end → Q end) → WhereRuns o P → WhereRuns o Q
 where_map None P Q f h = absurd h
 where_map (Some end) P Q f h = f end h
 

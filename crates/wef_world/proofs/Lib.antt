@@ -1,7 +1,11 @@
 pub mod Asked
 pub mod Changed
 pub mod LastNumbers
+pub mod Lines
 pub mod Opened
+pub mod OpenedKept
 pub mod Openings
+pub mod Ready
 pub mod Started
+pub mod Stays
 pub mod Windowed
