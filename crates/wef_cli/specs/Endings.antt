@@ -61,11 +61,15 @@ IsUnwritten out = Keeps out.before out.after
 abbrev pub WroteText : Told → List ℕ → Type 0
 WroteText object text = Appends object.before object.after text ⊎ (HasFailed object × WritesPart object.before object.after text)
 
--- The message of an ending was written, as far as the stream of messages took it. That of a bad line is made in memory, which may
--- be wanting: so it is written, or nothing is.
+-- The message of an ending was written, as far as the stream of messages took it.
 abbrev pub WroteMessage : Ending → Told → Type 0
-WroteMessage (BadLine k) err = WroteText err (message_of (BadLine k)) ⊎ IsUnwritten err
 WroteMessage ending err = WroteText err (message_of ending)
+
+-- The second ending is told for the first: it is the same. In place of a bad line, whose message alone is made in memory, want of
+-- memory may be told.
+abbrev pub IsToldAs : Ending → Ending → Type 0
+IsToldAs (BadLine k) told = (told ≡ BadLine k) ⊎ (told ≡ NoMemory)
+IsToldAs ending told = told ≡ ending
 
 -- What is written is the trail of the schedule, and each state of its run is kept, and so it is safe.
 abbrev pub WroteTrail : Told → Result (List Line) fault.ScheduleFault → Type 0

@@ -19,8 +19,8 @@ use wef_world::{WorldFault, run_lines};
 ///
 /// The one command is `replay`: it reads a schedule to its end, checks it whole, does its lines and
 /// writes what they print. Each state on the way is kept, and so it is safe. What ended the run is told
-/// in one line to `err`, or in as much of it as `err` takes; of a bad line nothing is told where memory is
-/// wanting. Status 6 alone comes free: for want of memory.
+/// in one line to `err`, or in as much of it as `err` takes. Status 6 alone comes free: for want of
+/// memory, also for the text that tells of a bad line.
 pub fn run<I: Source, O: Sink, E: Sink>(
     alloc: Global,
     words: &[Text],
@@ -36,8 +36,8 @@ pub fn run<I: Source, O: Sink, E: Sink>(
         (record { before = O.taken out.old; after = O.taken out.new; faults_before = O.faults out.old; faults_after = O.faults out.new }) }
 {
     let ending = ending_of(alloc, words, input, out);
-    let _ = ending.tell(alloc, err);
-    ending.status()
+    let told = ending.tell(alloc, err);
+    told.status()
 }
 
 fn ending_of<I: Source, O: Sink>(

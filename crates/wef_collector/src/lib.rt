@@ -24,4 +24,6 @@ pub use listing::Listed;
 pub use standings::Standing;
 
 #[cfg(test)]
+mod failing;
+#[cfg(test)]
 mod tests;

@@ -1,31 +1,39 @@
 -- Good lines are admitted: the world that lines leave has the names that they gave.
 use Rattle.std.proofs.Common.{◌≡◌, ℕ, Bool, true, false, not, ◌&&◌, ◌||◌, cond, List, [], ◌∷◌, Ordering, refl, ap, sym, ◌∙◌, Some}
 use Rattle.std.proofs.lemmas.Map.Lookups.{exact_bytes}
-use Rattle.std.specs.Prelude.{Option, None, is_some}
+use Rattle.std.specs.Prelude.{Option, None, Ok, Err, is_some}
 use Rattle.std.specs.Cmp.Lexicographic.{nat_list_cmp_total, slice_cmp, texts_ties}
 use Rattle.std.specs.FinMap.{empty, get-empty, get-insert}
 use Rattle.std.specs.Ordering.{eq_by_cmp, is_eq, match_ordering, nat_cmp}
 use Rattle.std.specs.declared.cmp.Ordering.TheVariants.{Less, Equal, Greater}
 use Rattle.wef_base.specs.Names.{same}
 use Rattle.wef_event.specs.declared.unnumbered.PlainEvent.{PlainEvent}
+use Rattle.wef_collector.specs.Calls.{add_effect, end_effect}
 use Rattle.wef_query.specs.Order.{with_name}
 use Rattle.wef_replay.specs.Alike.{AreAlike}
-use Rattle.wef_replay.specs.Good.{AreGood, Names, allows, is_among, is_line, no_names, noted}
+use Rattle.wef_replay.specs.Good.{AreGood, Names, allows, has_end, is_among, is_line, no_names, noted}
+use Rattle.wef_replay.specs.declared.lines.EndName.{EndName}
+use Rattle.wef_replay.specs.declared.lines.EndName.TheVariants as ends
 use Rattle.wef_replay.specs.declared.lines.Line.{Line}
-use Rattle.wef_replay.specs.declared.lines.Line.TheVariants.{Subscribe, End, Batch, Source, Write, Ask, Poll, Deliver, Back, Lost, Show, Print}
+use Rattle.wef_replay.specs.declared.lines.Line.TheVariants.{Subscribe, End, Batch, Source, Write, Ask, Poll, Deliver, Back, Lost, Crash, Fail, Stop, Calm, Show, Print}
 use Rattle.wef_source.specs.Machine as machine
 use Rattle.wef_source.specs.Sessions.{session_of}
 use Rattle.wef_source.specs.declared.sessions.Session.{Session}
-use Rattle.wef_source_log.specs.Answers.{is_full}
+use Rattle.wef_source_log.specs.Answers.{Effect, write_effect}
 use Rattle.wef_machine.specs.Admitting.{GoodLinesAreAdmitted}
-use Rattle.wef_machine.specs.Deliveries.{after_ack, after_fault, after_offers, answer_with, at_end, deliver_message, message_at, number_back, refusal_at, rows_after, taken_by, with_answer}
-use Rattle.wef_machine.specs.Sources.{ask_at, at_source, is_too_long, poll_at, poll_session, write_at}
-use Rattle.wef_machine.specs.States.{State, declared_names, names_of, opened, slot_of, start, with_end, with_message, with_rows, with_slot}
-use Rattle.wef_machine.specs.Steps.{AreAdmitted, step}
+use Rattle.wef_machine.specs.Arming.{is_done}
+use Rattle.wef_machine.specs.Collecting as collecting
+use Rattle.wef_machine.specs.Collecting.{after_call, at_collector, opening}
+use Rattle.wef_machine.specs.Deliveries.{after_ack, after_fault, after_offers, answer_with, deliver_message, delivery_effect, end_at, events_at, message_at, number_back, offers_at, taken_by, with_answer}
+use Rattle.wef_machine.specs.Sources as sources
+use Rattle.wef_machine.specs.Sources.{ask_at, at_slot, at_source, crash_slot, lost_at, poll_at, poll_in, slot_opened, where_runs, write_at, write_by}
+use Rattle.wef_machine.specs.States.{Collector, Slot, State, arm_of, declared_names, names_of, slot_of, start, with_arm, with_collector, with_foreign, with_message, with_slot}
+use Rattle.wef_machine.specs.Steps.{AreAdmitted, arm_step, batch_at, crash_step, end_at as ended_at, step, subscribe_at, subscription_of, unchanged}
+use Rattle.wef_machine.specs.declared.arming.Armed.{Armed}
 use Rattle.wef_machine.specs.declared.messages.Message.{Message}
 use Rattle.wef_machine.specs.declared.messages.Message.TheVariants as sent
-use Rattle.wef_machine.specs.declared.slots.Slot.{Slot}
 use Rattle.wef_machine.proofs.Declared.{among_declared, first_or_rest}
+use Rattle.wef_machine.proofs.Moves.{slot_put}
 
 -- ---- steps that give no name
 
@@ -50,56 +58,102 @@ same_slot state s old new found = record { declared = λ q. ap is_some (get-inse
     by q true e = sym (ap is_some (ap (slot_of state) (exact_bytes q s (equal (slice_cmp nat_cmp q s) e)) ∙ found))
     by q false e = refl
 
+same_both : (x y z : State) → HasSameSources x y → HasSameSources y z → HasSameSources x z
+same_both x y z h k = record { declared = λ q. k.declared q ∙ h.declared q; foreign = k.foreign ∙ h.foreign }
+
 same_message : (old new : State) (message : Message) → HasSameSources old new → HasSameSources old (with_message new message)
 same_message old new message h = record { declared = h.declared; foreign = h.foreign }
+
+same_arm : (old new : State) (s : List ℕ) (armed : Option Armed) → HasSameSources old new → HasSameSources old (with_arm new s armed)
+same_arm old new s armed h = record { declared = h.declared; foreign = h.foreign }
+
+same_collector : (old new : State) (collector : Collector) → HasSameSources old new → HasSameSources old (with_collector new collector)
+same_collector old new collector h = record { declared = h.declared; foreign = h.foreign }
 
 same_either : (old : State) (b : Bool) (x y : State) → HasSameSources old x → HasSameSources old y → HasSameSources old (cond b x y)
 same_either old true x y hx hy = hx
 same_either old false x y hx hy = hy
 
-same_at_source : (state : State) (s : List ℕ) (change : Slot → State) → ((slot : Slot) → slot_of state s ≡ Some slot → HasSameSources state (change slot)) → HasSameSources state (at_source state (slot_of state s) change)
-same_at_source state s change h = by (slot_of state s) refl
-  where
-    by : (found : Option Slot) → slot_of state s ≡ found → HasSameSources state (at_source state found change)
-    by None e = same_itself state
-    by (Some slot) e = h slot e
-
-same_end : (state : State) (s : List ℕ) (change : machine.End → machine.End) → HasSameSources state (at_end state s change)
-same_end state s change = same_at_source state s (λ slot. with_end state s slot (change (opened slot))) (λ slot found. same_slot state s slot _ found)
-
-same_write : (state : State) (s : List ℕ) (event : PlainEvent) (slot : Slot) → slot_of state s ≡ Some slot → HasSameSources state (write_at state s slot (opened slot) event)
-same_write state s event slot found =
-    same_either state (is_full (opened slot).rows event.channel) _ _ (same_slot state s slot _ found)
-    (same_either state (is_too_long (opened slot) event) _ _ (same_slot state s slot _ found) (same_slot state s slot _ found))
-
-same_ask : (state : State) (s : List ℕ) (slot : Slot) → slot_of state s ≡ Some slot → HasSameSources state (ask_at state s slot (opened slot))
-same_ask state s slot found =
-    same_either state (machine.is_spent (opened slot)) _ _ (same_slot state s slot _ found) (same_message state _ _ (same_slot state s slot _ found))
-
-same_session : (state : State) (s : List ℕ) (slot : Slot) (session : Session) → slot_of state s ≡ Some slot → HasSameSources state (poll_session state s slot (opened slot) session)
-same_session state s slot session found =
-    same_either state (machine.is_idle (opened slot).rows session) _ _ (same_slot state s slot _ found)
-    (same_either state (machine.is_spent (opened slot)) _ _ (same_slot state s slot _ found) (same_message state _ _ (same_slot state s slot _ found)))
-
-same_poll : (state : State) (s : List ℕ) (slot : Slot) (session : Option Session) → slot_of state s ≡ Some slot → HasSameSources state (poll_at state s slot (opened slot) session)
-same_poll state s slot None found = same_slot state s slot _ found
-same_poll state s slot (Some session) found = same_session state s slot session found
+-- what is done at the collector declares nothing
+same_at_collector : (state : State) (change : State → State) → ((now : State) → HasSameSources now (change now)) → HasSameSources state (at_collector state change)
+same_at_collector state change h =
+    same_either state (is_done (opening state.collector)) (change (collecting.with_opened state)) (collecting.with_opened state)
+    (same_both state (collecting.with_opened state) (change (collecting.with_opened state)) (same_collector state state _ (same_itself state)) (h (collecting.with_opened state)))
+    (same_collector state state _ (same_itself state))
 
 same_answer : (old new : State) (answer : Option Message) → HasSameSources old new → HasSameSources old (with_answer new answer)
 same_answer old new None h = h
 same_answer old new (Some message) h = same_message old new message h
 
+-- what is done at a source that is there keeps it there
+abbrev Keeps : List ℕ → (State → Slot → machine.End → State) → Type 0
+Keeps s change = (now : State) (slot : Slot) (end : machine.End) → slot_of now s ≡ Some slot → HasSameSources now (change now slot end)
+
+same_at_source : (state : State) (s : List ℕ) (change : State → Slot → machine.End → State) → Keeps s change → HasSameSources state (at_source state s change)
+same_at_source state s change h = by (slot_of state s) refl
+  where
+    runs : (now : State) (slot : Slot) (end : Option machine.End) → slot_of now s ≡ Some slot → HasSameSources now (where_runs now slot end change)
+    runs now slot None there = same_itself now
+    runs now slot (Some end) there = h now slot end there
+
+    by : (found : Option Slot) → slot_of state s ≡ found → HasSameSources state (at_slot state s found change)
+    by None e = same_itself state
+    by (Some slot) e =
+        let new = slot_opened (arm_of state s) slot in
+        same_both state (sources.with_opened state s slot) (where_runs (sources.with_opened state s slot) new new.end change)
+        (same_arm state (with_slot state s new) s _ (same_slot state s slot new e))
+        (runs (sources.with_opened state s slot) new new.end (slot_put state.sources s new))
+
+keeps_end : (s : List ℕ) (change : machine.End → machine.End) → Keeps s (end_at s change)
+keeps_end s change now slot end there = same_slot now s slot _ there
+
+keeps_lost : (s u : List ℕ) → Keeps s (lost_at s u)
+keeps_lost s u now slot end there = same_slot now s slot _ there
+
+keeps_write : (s : List ℕ) (event : PlainEvent) → Keeps s (write_at s event)
+keeps_write s event now slot end there = by (write_effect slot.rows event)
+  where
+    by : (effect : Effect) → HasSameSources now (write_by now s slot end event effect)
+    by (Ok changes) = same_arm now (with_slot now s _) s _ (same_slot now s slot _ there)
+    by (Err fault) = same_itself now
+
+keeps_ask : (s : List ℕ) → Keeps s (ask_at s)
+keeps_ask s now slot end there =
+    same_either now (machine.is_spent end) _ _ (same_itself now) (same_message now _ _ (same_slot now s slot _ there))
+
+keeps_poll : (s u : List ℕ) → Keeps s (poll_at s u)
+keeps_poll s u now slot end there = by (session_of end.sessions u)
+  where
+    by : (session : Option Session) → HasSameSources now (poll_in s now slot end session)
+    by None = same_itself now
+    by (Some session) =
+        same_either now (machine.is_idle slot.rows session) _ _ (same_itself now)
+        (same_either now (machine.is_spent end) _ _ (same_itself now) (same_message now _ _ (same_slot now s slot _ there)))
+
 same_taken : (state : State) (message : Message) → HasSameSources state (taken_by state message)
-same_taken state (sent.Ask s id) = same_message state state _ (same_itself state)
-same_taken state (sent.Offers s relates given) = same_end state s (λ end. after_offers end relates given)
+same_taken state (sent.Ask s id) = same_at_collector state (offers_at s id) (λ now. same_message now now _ (same_itself now))
+same_taken state (sent.Offers s relates given) = same_at_source state s _ (keeps_end s (λ end. after_offers end relates given))
 same_taken state (sent.Events s delivery) =
-    same_answer state (with_rows state (rows_after state.rows delivery)) (answer_with (refusal_at state.rows delivery) s delivery) (record { declared = λ q. refl; foreign = refl })
-same_taken state (sent.Ack s relates) = same_end state s (λ end. after_ack end relates)
-same_taken state (sent.Fault s relates fault) = same_end state s (λ end. after_fault end relates fault)
+    same_at_collector state (events_at s delivery) (λ now. same_answer now _ (answer_with now (delivery_effect now.collector.rows delivery) s delivery)
+    (same_collector now now _ (same_itself now)))
+same_taken state (sent.Ack s relates) = same_at_source state s _ (keeps_end s (λ end. after_ack end relates))
+same_taken state (sent.Fault s relates fault) = same_at_source state s _ (keeps_end s (λ end. after_fault end relates fault))
 
 same_delivered : (state : State) (message : Option Message) → HasSameSources state (deliver_message state message)
 same_delivered state None = same_itself state
 same_delivered state (Some message) = same_taken state message
+
+same_crashed : (state : State) (end : EndName) → HasSameSources state (crash_step state end)
+same_crashed state ends.Collector = same_collector state state _ (same_itself state)
+same_crashed state (ends.Source s) = by (slot_of state s) refl
+  where
+    by : (found : Option Slot) → slot_of state s ≡ found → HasSameSources state (crash_slot state s found)
+    by None e = same_itself state
+    by (Some slot) e = same_slot state s slot _ e
+
+same_armed : (state : State) (end : EndName) (armed : Armed) → HasSameSources state (arm_step state end armed)
+same_armed state ends.Collector armed = same_collector state state _ (same_itself state)
+same_armed state (ends.Source s) armed = same_arm state state s (Some armed) (same_itself state)
 
 -- ---- each line leaves the names that it gave
 
@@ -137,24 +191,38 @@ one_declared state names s slot alike q =
 
 leaves_names : (line : Line) (state : State) (names : Names) → AreAlike (names_of state) names → AreAlike (names_of (step line state)) (noted line names)
 leaves_names (Source s capacity) state names alike = record { declared = one_declared state names s _ alike; foreign = alike.foreign }
-leaves_names (Batch u s b) state names alike = record {
-  declared = alike.declared;
-  foreign = λ q. one_foreign state.foreign s q ∙ ap (λ (t : Bool). same q s || t) (alike.foreign q);
-}
-leaves_names (Subscribe u items bytes beat query) state names alike = record { declared = alike.declared; foreign = alike.foreign }
-leaves_names (End u) state names alike = record { declared = alike.declared; foreign = alike.foreign }
-leaves_names (Write s event) state names alike = same_names state (step (Write s event) state) names (same_at_source state s (λ slot. write_at state s slot (opened slot) event) (same_write state s event)) alike
-leaves_names (Ask s) state names alike = same_names state (step (Ask s) state) names (same_at_source state s (λ slot. ask_at state s slot (opened slot)) (same_ask state s)) alike
-leaves_names (Poll s u) state names alike =
-    same_names state (step (Poll s u) state) names
-    (same_at_source state s (λ slot. poll_at state s slot (opened slot) (session_of (opened slot).sessions u)) (λ slot. same_poll state s slot (session_of (opened slot).sessions u))) alike
+leaves_names (Batch u s b) state names alike =
+    same_names (with_foreign state s) (step (Batch u s b) state) (noted (Batch u s b) names)
+    (same_at_collector (with_foreign state s) (batch_at u s b) (λ now. same_collector now now _ (same_itself now)))
+    (record {
+      declared = alike.declared;
+      foreign = λ q. one_foreign state.foreign s q ∙ ap (λ (t : Bool). same q s || t) (alike.foreign q);
+    })
+leaves_names (Subscribe u items bytes beat query) state names alike =
+    same_names state (step (Subscribe u items bytes beat query) state) names
+    (same_at_collector state (subscribe_at (subscription_of u items bytes beat query))
+    (λ now. same_collector now now (after_call now.collector (add_effect now.collector.rows (subscription_of u items bytes beat query))) (same_itself now))) alike
+leaves_names (End u) state names alike =
+    same_names state (step (End u) state) names
+    (same_at_collector state (ended_at u) (λ now. same_collector now now (after_call now.collector (end_effect now.collector.rows u)) (same_itself now))) alike
+leaves_names (Write s event) state names alike = same_names state (step (Write s event) state) names (same_at_source state s (write_at s event) (keeps_write s event)) alike
+leaves_names (Ask s) state names alike = same_names state (step (Ask s) state) names (same_at_source state s (ask_at s) (keeps_ask s)) alike
+leaves_names (Poll s u) state names alike = same_names state (step (Poll s u) state) names (same_at_source state s (poll_at s u) (keeps_poll s u)) alike
 leaves_names (Deliver k) state names alike = same_names state (step (Deliver k) state) names (same_delivered state (message_at state k)) alike
 leaves_names (Back n) state names alike = same_names state (step (Back n) state) names (same_delivered state (message_at state (number_back state n))) alike
-leaves_names (Lost s u) state names alike = same_names state (step (Lost s u) state) names (same_at_source state s (λ slot. with_end state s slot (machine.lost_in (opened slot) u)) (λ slot found. same_slot state s slot _ found)) alike
-leaves_names Show state names alike = alike
-leaves_names (Print u s c) state names alike = alike
+leaves_names (Lost s u) state names alike = same_names state (step (Lost s u) state) names (same_at_source state s (lost_at s u) (keeps_lost s u)) alike
+leaves_names (Crash end) state names alike = same_names state (step (Crash end) state) names (same_crashed state end) alike
+leaves_names (Fail end after) state names alike = same_names state (step (Fail end after) state) names (same_armed state end _) alike
+leaves_names (Stop end after) state names alike = same_names state (step (Stop end after) state) names (same_armed state end _) alike
+leaves_names Calm state names alike = same_names state (step Calm state) names (record { declared = λ q. refl; foreign = refl }) alike
+leaves_names Show state names alike = same_names state (step Show state) names (same_at_collector state unchanged (λ now. same_itself now)) alike
+leaves_names (Print u s c) state names alike = same_names state (step (Print u s c) state) names (same_at_collector state unchanged (λ now. same_itself now)) alike
 
 -- ---- so each good line is admitted
+
+has_end-alike : (end : EndName) (these those : Names) → AreAlike these those → has_end these end ≡ has_end those end
+has_end-alike ends.Collector these those alike = refl
+has_end-alike (ends.Source s) these those alike = alike.declared s
 
 allows-alike : (line : Line) (these those : Names) → AreAlike these those → allows these line ≡ allows those line
 allows-alike (Batch u s b) these those alike = ap not (alike.declared s)
@@ -163,6 +231,9 @@ allows-alike (Write s event) these those alike = alike.declared s
 allows-alike (Ask s) these those alike = alike.declared s
 allows-alike (Poll s u) these those alike = alike.declared s
 allows-alike (Lost s u) these those alike = alike.declared s
+allows-alike (Crash end) these those alike = has_end-alike end these those alike
+allows-alike (Fail end after) these those alike = has_end-alike end these those alike
+allows-alike (Stop end after) these those alike = has_end-alike end these those alike
 allows-alike _ these those alike = refl
 
 all_admitted : (lines : List Line) (state : State) (names : Names) → AreAlike (names_of state) names → AreGood names lines → AreAdmitted state lines

@@ -3,9 +3,8 @@
 use Rattle.std.proofs.Common.{◌≡◌, ◌≢◌, ℕ, ◌+◌, ◌≤◌, Bool, true, false, ◌&&◌, cond, List, [], ◌∷◌, ◌++◌, refl, ap, sym, ◌∙◌, subst, nat_lt, arith}
 use Rattle.std.proofs.lemmas.Bool.{and_parts, cond_both}
 use Rattle.std.proofs.lemmas.Option.{none-some, same_Some}
-use Rattle.std.specs.Prelude.{Option, Some, None, Result, Ok, Err, is_some}
+use Rattle.std.specs.Prelude.{Option, Some, None, Ok, Err}
 use Rattle.std.specs.FinMap as finite
-use Rattle.std.specs.Option.{option_map}
 use Rattle.wef_base.specs.Names.{same}
 use Rattle.wef_batch.specs.WellFormed.{is_in, is_well_formed}
 use Rattle.wef_batch.specs.declared.items.Batch.{Batch}
@@ -25,7 +24,6 @@ use Rattle.wef_envelope.specs.declared.FaultName.{FaultName}
 use Rattle.wef_envelope.specs.declared.FaultName.TheVariants.{InvalidMessage, DestinationUnreachable, InternalError}
 use Rattle.wef_eventing.specs.Kept.{kept_words, read_kept}
 use Rattle.wef_eventing.specs.declared.subscriptions.Subscription.{Subscription}
-use Rattle.wef_keeper.specs.Keeping.{outcome}
 use Rattle.wef_keeper.specs.Rows.{Rows, applied}
 use Rattle.wef_keeper.specs.declared.keys.Cell.{Cell}
 use Rattle.wef_keeper.specs.declared.keys.Change.{Change}
@@ -33,10 +31,10 @@ use Rattle.wef_replay.specs.Good.{is_among, is_source, is_subscription}
 use Rattle.wef_source_log.specs.Histories.{history}
 use Rattle.wef_source_log.specs.Windows as windows
 use Rattle.wef_source.specs.declared.messages.Delivery.{Delivery}
-use Rattle.wef_machine.specs.Arming.{committed, fate, fate_of, is_done, plan_of}
+use Rattle.wef_machine.specs.Arming.{committed, fate, is_done}
 use Rattle.wef_machine.specs.Collecting.{at_collector, commits, opening, starts, with_call, with_opened}
-use Rattle.wef_machine.specs.Deliveries.{BatchEffect, answer_by, answer_with, batch_effect_by, effect_at, events_at, events_by, with_answer}
-use Rattle.wef_machine.specs.Kept.{IsAcknowledged, IsBehind, IsChannelKept, IsDelivery, IsKept, IsPairKept, IsWorldKept, WasSent}
+use Rattle.wef_machine.specs.Deliveries.{BatchEffect, answer_by, batch_effect_by, effect_at, events_at, events_by, with_answer}
+use Rattle.wef_machine.specs.Kept.{IsAcknowledged, IsChannelKept, IsDelivery, IsKept, IsPairKept, IsWorldKept, WasSent}
 use Rattle.wef_machine.specs.Safe.{IsPairSafe, IsUntouched, about_of, subscription_at}
 use Rattle.wef_machine.specs.States.{Collector, Slot, State, moment, slot_of, with_collector, with_foreign, with_message}
 use Rattle.wef_machine.specs.Steps.{batch_at, end_at, subscribe_at}
@@ -46,12 +44,13 @@ use Rattle.wef_machine.specs.declared.arming.Fate.TheVariants.{Done, Failed, Sto
 use Rattle.wef_machine.specs.declared.messages.Message.{Message}
 use Rattle.wef_machine.specs.declared.messages.Message.TheVariants.{Ack, Events, Fault}
 use Rattle.wef_query.specs.Order.{with_name}
-use Rattle.wef_machine.proofs.Growing.{RowsGrow, same_rows}
+use Rattle.wef_machine.proofs.Growing.{same_rows}
 use Rattle.wef_machine.proofs.FittingNumbers.{fitting_numbers}
-use Rattle.wef_machine.proofs.Lower.{HasNumbers, Lower}
+use Rattle.wef_collector.specs.FormsStay.{HasNumbers}
+use Rattle.wef_machine.proofs.Lower.{Lower}
 use Rattle.wef_machine.proofs.Moves.{alike_pair, kept_reply, kept_rows, untouched_pair}
 use Rattle.wef_machine.proofs.Names.{among_with, not_among_with}
-use Rattle.wef_machine.proofs.RowMoves.{AreRowKeys, adding_grows, booting_grows, ending_grows, keys_by_adding, keys_by_booting, keys_by_ending, keys_by_taking, subscription_by_adding, subscription_by_booting, subscription_by_ending, subscription_by_taking, taking_covers, taking_grows, taking_reaches, unknown}
+use Rattle.wef_machine.proofs.RowMoves.{adding_grows, booting_grows, ending_grows, keys_by_adding, keys_by_booting, keys_by_ending, keys_by_taking, subscription_by_adding, subscription_by_booting, subscription_by_ending, subscription_by_taking, taking_covers, taking_grows, taking_reaches, unknown}
 use Rattle.wef_machine.proofs.Sent.{sent_before}
 use Rattle.wef_machine.proofs.Takes.{adding_spares, booting_spares, ending_spares, fitting_batches_are_safe, is_served, taking_spares, taking_spares_source, untouched_alike}
 

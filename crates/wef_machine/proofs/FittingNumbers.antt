@@ -9,7 +9,7 @@ use Rattle.std.specs.List.{AllByRecursion, list_all}
 use Rattle.wef_base.specs.Names.{same}
 use Rattle.wef_batch.proofs.Reached.{items_are_reached}
 use Rattle.wef_batch.specs.Reach.{last_in, loose_sum, reach, reach_of, span_in}
-use Rattle.wef_batch.specs.WellFormed.{ends_by, is_in, is_in_order, is_listed, is_well_formed}
+use Rattle.wef_batch.specs.WellFormed.{ends_by, is_in, is_in_order, is_listed}
 use Rattle.wef_batch.specs.declared.items.Batch.{Batch}
 use Rattle.wef_batch.specs.declared.items.Item.{Item}
 use Rattle.wef_batch.specs.declared.items.Item.TheVariants.{Event, Dropped, Loose}
@@ -19,7 +19,7 @@ use Rattle.wef_query.specs.Selected.{channels_of}
 use Rattle.wef_query.specs.declared.QueryList.{QueryList}
 use Rattle.wef_source.specs.Fits.{Fits, FitsChannel}
 use Rattle.wef_source_log.specs.Histories.{Histories, History, history}
-use Rattle.wef_machine.proofs.Lower.{HasNumber, HasNumbers}
+use Rattle.wef_collector.specs.FormsStay.{HasNumber, HasNumbers}
 
 at_most : (m n : ℕ) → nat_le m n ≡ true → m ≤ n
 at_most m n e = grind (arith, nat_tests, e)
@@ -68,12 +68,13 @@ fitting_numbers query max_bytes all capacity b batch fits lengths = record {
         ((c : List ℕ) → is_in (channels_of query.items) c ≡ true → list_all (λ item. ends_by (reach c batch) (span_in c item)) items ≡ true) → AllByRecursion HasNumber items
     each [] are ends = tt
     each (item ∷ items) are ends =
-        let parts = and_parts (is_listed channels item) (list_all (is_listed channels) items) are in
-        (number item (record {
-          listed = parts.0;
-          ends = λ c here. (and_parts (ends_by (reach c batch) (span_in c item)) (list_all (λ other. ends_by (reach c batch) (span_in c other)) items) (ends c here)).0;
-        }),
-        each items parts.1 (λ c here. (and_parts (ends_by (reach c batch) (span_in c item)) (list_all (λ other. ends_by (reach c batch) (span_in c other)) items) (ends c here)).1))
+        let parts = and_parts (is_listed channels item) (list_all (is_listed channels) items) are in (
+          number item (record {
+            listed = parts.0;
+            ends = λ c here. (and_parts (ends_by (reach c batch) (span_in c item)) (list_all (λ other. ends_by (reach c batch) (span_in c other)) items) (ends c here)).0;
+          }),
+          each items parts.1 (λ c here. (and_parts (ends_by (reach c batch) (span_in c item)) (list_all (λ other. ends_by (reach c batch) (span_in c other)) items) (ends c here)).1),
+        )
 
     by_channel : (c : List ℕ) (n : ℕ) → map.get batch.to c ≡ Some n → (reads : Bool) → is_in (channels_of query.items) c ≡ reads → n ≤ 9223372036854775807
     by_channel c n e true here =

@@ -1,7 +1,6 @@
 -- Why a batch is acknowledged.
-use Rattle.std.proofs.Common.{◌≡◌, ◌∙◌, ap, refl, sym, ℕ, List, [], ◌∷◌, Bool, true, cond, Option, None}
+use Rattle.std.proofs.Common.{◌≡◌, ◌∙◌, ap, refl, List, [], ◌∷◌, Bool, cond, Option, None}
 use Rattle.std.specs.Prelude.{Ok, Err, codes}
-use Rattle.wef_batch.specs.declared.items.Batch.{Batch}
 use Rattle.wef_envelope.specs.declared.FaultName.TheVariants.{InvalidMessage}
 use Rattle.wef_collector.specs.Answers.{channels_read}
 use Rattle.wef_collector.specs.Taken.{batch_changes}
@@ -9,7 +8,7 @@ use Rattle.wef_keeper.specs.declared.keys.Change.{Change}
 use Rattle.wef_machine.specs.Arming.{fate}
 use Rattle.wef_machine.specs.Deliveries.{BatchEffect, answer_word, batch_effect_by, batch_word}
 use Rattle.wef_machine.specs.Laws.{AcknowledgementIsGiven}
-use Rattle.wef_machine.specs.States.{State, moment}
+use Rattle.wef_machine.specs.States.{moment}
 use Rattle.wef_machine.specs.declared.arming.Armed.{Armed}
 use Rattle.wef_machine.specs.declared.arming.Fate.TheVariants.{Done}
 

@@ -1,5 +1,5 @@
 -- What a good line says: its subscription reads back from the words that keep it, and its numbers are such as records have.
-use Rattle.std.proofs.Common.{◌≡◌, ℕ, ◌+◌, ◌<◌, ◌≤◌, ◌==◌, Bool, true, false, not, ◌&&◌, cond, List, [], ◌∷◌, length, map, nat_le, refl, ap, sym, ◌∙◌, subst, arith}
+use Rattle.std.proofs.Common.{◌≡◌, ℕ, ◌<◌, ◌≤◌, ◌==◌, Bool, true, false, not, ◌&&◌, cond, List, [], ◌∷◌, length, map, nat_le, refl, ap, sym, ◌∙◌, subst, arith}
 use Rattle.std.proofs.lemmas.Bool.{and_parts}
 use Rattle.std.proofs.lemmas.Bool.Decides.{nat_tests}
 use Rattle.std.proofs.lemmas.List.Elements.{All-nil, All-cons}
@@ -20,15 +20,14 @@ use Rattle.wef_event.specs.Unnumbered.{numbered}
 use Rattle.wef_event.specs.declared.unnumbered.PlainEvent.{PlainEvent}
 use Rattle.wef_eventing.proofs.Back.{reads_back}
 use Rattle.wef_eventing.specs.Kept.{HasKeptName, kept_words, read_kept}
-use Rattle.wef_eventing.specs.Subscriptions.{AreLimits, IsAllEvents, channels_named}
-use Rattle.wef_eventing.specs.declared.subscriptions.Subscription.{Subscription}
+use Rattle.wef_eventing.specs.Subscriptions.{AreLimits}
 use Rattle.wef_query.specs.Queries.{all_events_of}
 use Rattle.wef_query.specs.declared.QueryItem.{QueryItem}
 use Rattle.wef_query.specs.declared.QueryList.{QueryList}
 use Rattle.wef_replay.specs.Good.{are_all, are_limits, are_words, asks_for_all, fits_always, has_word, is_between, is_channel, is_count, is_item, is_line, is_no_collector, is_number, is_one, is_reach, is_source, is_subscription}
 use Rattle.wef_replay.specs.declared.lines.Line.TheVariants as lines
 use Rattle.wef_machine.specs.Steps.{subscription_of}
-use Rattle.wef_machine.proofs.Lower.{HasNumber, HasNumbers}
+use Rattle.wef_collector.specs.FormsStay.{HasNumber, HasNumbers}
 
 -- ---- names and numbers
 

@@ -1,5 +1,5 @@
 -- What is true of offers, sessions and messages stays so while rows, sources and messages grow.
-use Rattle.std.proofs.Common.{◌≡◌, ℕ, ◌+◌, ◌≤◌, List, [], ◌++◌, refl, sym, ◌∙◌, subst, arith, length-append, append-nil}
+use Rattle.std.proofs.Common.{◌≡◌, ℕ, ◌≤◌, List, [], ◌++◌, refl, sym, ◌∙◌, subst, arith, length-append, append-nil}
 use Rattle.std.specs.Prelude.{Option, Some, None}
 use Rattle.std.specs.FinMap as finite
 use Rattle.wef_batch.specs.Reach.{reach}
@@ -133,11 +133,14 @@ served_grows rows rows' messages messages' s session grows more served = record 
 running_grows : (rows rows' : Rows) (messages messages' : List Message) (s : List ℕ) (slot : Slot) (end : Option End) → RowsGrow rows rows' → MessagesGrow messages messages' →
     IsRunningKept rows messages s slot end → IsRunningKept rows' messages' s slot end
 running_grows rows rows' messages messages' s slot None grows more kept = tt
-running_grows rows rows' messages messages' s slot (Some end) grows more kept = (record {
-  boot = kept.0.boot;
-  drawn = kept.0.drawn;
-  sessions = all_map (IsServed rows messages s) (IsServed rows' messages' s) (λ session. served_grows rows rows' messages messages' s session grows more) end.sessions kept.0.sessions;
-}, kept.1)
+running_grows rows rows' messages messages' s slot (Some end) grows more kept = (
+  record {
+    boot = kept.0.boot;
+    drawn = kept.0.drawn;
+    sessions = all_map (IsServed rows messages s) (IsServed rows' messages' s) (λ session. served_grows rows rows' messages messages' s session grows more) end.sessions kept.0.sessions;
+  },
+  kept.1,
+)
 
 pub source_grows : (rows rows' : Rows) (messages messages' : List Message) (s : List ℕ) (slot : Slot) → RowsGrow rows rows' → MessagesGrow messages messages' →
     IsSourceKept rows messages s slot → IsSourceKept rows' messages' s slot

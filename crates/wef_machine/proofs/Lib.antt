@@ -8,6 +8,7 @@ pub mod GoodLines
 pub mod Growing
 pub mod InOrder
 pub mod Lower
+pub mod LowerFacts
 pub mod Marked
 pub mod Moves
 pub mod NameMaps

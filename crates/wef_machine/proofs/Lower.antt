@@ -1,16 +1,14 @@
 -- Facts of the crates below that the law stands on.
-use Rattle.std.proofs.Common.{◌≡◌, ℕ, ◌+◌, ◌≤◌, ◌<◌, true, false, List, [], ◌∷◌, length, nat_lt, nat_le, Option, Some}
+use Rattle.std.proofs.Common.{◌≡◌, ℕ, ◌+◌, ◌≤◌, ◌<◌, true, false, List, [], length, nat_lt, Some}
 use Rattle.std.specs.FinMap as map
-use Rattle.std.specs.List.{AllByRecursion}
 use Rattle.wef_base.specs.Names.{channel_name}
 use Rattle.wef_batch.specs.WellFormed.{is_well_formed}
 use Rattle.wef_batch.specs.declared.items.Batch.{Batch}
-use Rattle.wef_batch.specs.declared.items.Item.{Item}
-use Rattle.wef_batch.specs.declared.items.Item.TheVariants.{Event, Dropped, Loose}
 use Rattle.wef_bookmark.specs.Order.{IsAtMost, Marks}
 use Rattle.wef_collector.specs.Answers.{added_rows, channels_read, ended_rows}
 use Rattle.wef_collector.specs.Boots.{boot_of}
 use Rattle.wef_collector.specs.Forms as collector
+use Rattle.wef_collector.specs.FormsStay.{HasNumbers}
 use Rattle.wef_collector.specs.Keys.{boot_key}
 use Rattle.wef_collector.specs.Standing.{standing}
 use Rattle.wef_collector.specs.Taken.{taken}
@@ -18,7 +16,7 @@ use Rattle.wef_collector.specs.declared.standings.Standing.TheVariants.{Live}
 use Rattle.wef_event.specs.declared.unnumbered.PlainEvent.{PlainEvent}
 use Rattle.wef_eventing.specs.Kept.{kept_words, read_kept}
 use Rattle.wef_eventing.specs.declared.subscriptions.Subscription.{Subscription}
-use Rattle.wef_keeper.specs.Rows.{Rows, applied}
+use Rattle.wef_keeper.specs.Rows.{Rows}
 use Rattle.wef_replay.specs.Good.{is_source, is_subscription}
 use Rattle.wef_source.specs.Building.{built}
 use Rattle.wef_source.specs.Fits.{Fits}
@@ -29,16 +27,6 @@ use Rattle.wef_source_log.specs.Forms as log
 use Rattle.wef_source_log.specs.Histories.{Histories, extended, history}
 use Rattle.wef_source_log.specs.Windows as windows
 use Rattle.wef_source_log.specs.Windows.{IsWindow, started, last_of, written}
-
--- a batch's numbers are such as records have
-abbrev pub HasNumber : Item → Type 0
-HasNumber (Event event) = event.number ≤ 9223372036854775807
-HasNumber (Dropped channel first last) = last ≤ 9223372036854775807
-HasNumber (Loose count) = Unit {0}
-
-pub record HasNumbers (batch : Batch) : Type 0 where
-  pub items : AllByRecursion HasNumber batch.items
-  pub to : (c : List ℕ) (n : ℕ) → map.get batch.to c ≡ Some n → n ≤ 9223372036854775807
 
 pub record Lower : Type 0 where
   -- the collector's rows keep their form

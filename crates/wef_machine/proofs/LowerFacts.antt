@@ -1,12 +1,13 @@
 -- The facts of the crates below, from these crates' laws.
-use Rattle.std.proofs.Common.{◌≡◌, ◌∙◌, ℕ, ◌+◌, ◌≤◌, ◌<◌, Bool, true, false, List, nat_le, refl, ap, sym, subst, arith}
+use Rattle.std.proofs.Common.{◌≡◌, ◌∙◌, ℕ, ◌+◌, ◌≤◌, ◌<◌, true, false, List, nat_le, refl, ap, arith}
+use Rattle.std.proofs.lemmas.Bool.{and_parts}
 use Rattle.std.proofs.lemmas.Bool.Decides.{nat_tests}
 use Rattle.std.specs.Prelude.{Option, Some, None, IfSome, unwrap_or}
 use Rattle.std.specs.FinMap as finite
 use Rattle.std.specs.Option.{option_map}
-use Rattle.wef_base.specs.Names.{source_name, subscription_name}
+use Rattle.std.specs.Str.{is_utf8}
 use Rattle.wef_collector.proofs.FormsStay.{forms_stay as collector_forms}
-use Rattle.wef_collector.specs.Bookmarks.{is_one}
+use Rattle.wef_collector.specs.Forms.{is_source_name, is_subscription_name}
 use Rattle.wef_keeper.specs.Rows.{Rows, row_of}
 use Rattle.wef_keeper.specs.declared.keys.Cell.{Cell}
 use Rattle.wef_replay.specs.Good.{is_source, is_subscription}
@@ -15,7 +16,7 @@ use Rattle.wef_source_log.proofs.Cells.{extends, last_cell-number, last_in, noth
 use Rattle.wef_source_log.proofs.Contents.{windows_read}
 use Rattle.wef_source_log.proofs.Forming.{forms_stay as log_forms, number_within}
 use Rattle.wef_source_log.specs.Forms as log
-use Rattle.wef_source_log.specs.Histories.{Histories, history}
+use Rattle.wef_source_log.specs.Histories.{Histories}
 use Rattle.wef_source_log.specs.Keys.{last_key}
 use Rattle.wef_source_log.specs.Windows.{IsWindow, boot_of, last_of}
 use Rattle.wef_machine.proofs.Lower.{Lower}
@@ -34,14 +35,21 @@ last_within rows c formed = by_cell (finite.get rows (last_key c)) (formed (last
     by_cell None e = omega arith
     by_cell (Some cell) e = number_within (row_of (last_key c, cell)) e refl
 
+-- a name that a line may have is one such as the collector keeps
+subscription_named : (u : List ℕ) → is_subscription u ≡ true → is_subscription_name u ≡ true
+subscription_named u e = (and_parts (is_utf8 u) (is_subscription_name u) e).1
+
+source_named : (s : List ℕ) → is_source s ≡ true → is_source_name s ≡ true
+source_named s e = (and_parts (is_utf8 s) (is_source_name s) e).1
+
 pub lower : Lower
 lower = record {
   formed_empty = collector_forms.nothing;
   formed_booted = collector_forms.start;
-  formed_added = λ rows about name back formed. collector_forms.add rows about (and_second name) back formed;
+  formed_added = λ rows about name back formed. collector_forms.add rows about (subscription_named about.name name) back formed;
   formed_ended = collector_forms.end;
   formed_taken = λ rows u s about batch now live source good numbers soon formed.
-      collector_forms.take rows u s about batch now live (and_second source) good (record { items = numbers.items; to = numbers.to }) soon formed;
+      collector_forms.take rows u s about batch now live (source_named s source) good numbers soon formed;
   log_empty = nothing_is_empty;
   log_starts = starts_keep;
   log_extends = λ rows event all capacity boot some begun window. (extends rows _ event (last_of rows event.channel + 1) refl refl all capacity boot some begun window).1;

@@ -3,7 +3,7 @@
 use Rattle.std.proofs.Common.{◌≡◌, ℕ, ◌+◌, ◌*◌, ◌<◌, ◌≤◌, Bool, true, false, cond, List, [], ◌∷◌, ◌++◌, length, refl, ap, sym, ◌∙◌, subst, nat_le, arith, append-nil}
 use Rattle.std.proofs.lemmas.Bool.{cond_both}
 use Rattle.std.proofs.lemmas.Bool.Decides.{nat_tests}
-use Rattle.std.specs.Prelude.{Option, Some, None, Result, Ok, Err, is_none, is_some, unwrap_or}
+use Rattle.std.specs.Prelude.{Option, Some, None, Ok, Err, is_none, is_some, unwrap_or}
 use Rattle.std.specs.FinMap as finite
 use Rattle.std.specs.List.{AllByRecursion}
 use Rattle.wef_base.specs.Names.{channel_name}
@@ -18,11 +18,10 @@ use Rattle.wef_event.specs.Unnumbered.{numbered}
 use Rattle.wef_event.specs.declared.unnumbered.PlainEvent.{PlainEvent}
 use Rattle.wef_eventing.specs.declared.bodies.Offer.{Offer}
 use Rattle.wef_eventing.specs.declared.subscriptions.Subscription.{Subscription}
-use Rattle.wef_keeper.specs.Keeping.{outcome}
-use Rattle.wef_keeper.specs.Rows.{Rows, applied}
+use Rattle.wef_keeper.specs.Rows.{Rows}
 use Rattle.wef_keeper.specs.declared.keys.Change.{Change}
 use Rattle.wef_query.specs.declared.QueryList.{QueryList}
-use Rattle.wef_source_log.specs.Answers.{Effect, is_boot_full, is_full, next_text, start_effect, write_effect}
+use Rattle.wef_source_log.specs.Answers.{Effect, is_boot_full, is_full, next_text}
 use Rattle.wef_source_log.specs.Forms as log
 use Rattle.wef_source_log.specs.Histories.{Histories, History, extended, history}
 use Rattle.wef_source_log.specs.Windows.{IsWindow, boot_of, capacity_of, last_of, start_changes, started, write_changes, written}
@@ -34,12 +33,12 @@ use Rattle.wef_source.specs.Laws.{AreWithin}
 use Rattle.wef_source.specs.Machine.{End, acknowledged_in, adopted, asked, delivery_of, is_idle, is_spent, is_unreachable, lost_in, most_drawn, next_id, refused_in, sent, start_of}
 use Rattle.wef_source.specs.Sessions.{acknowledged, is_named, sending, session_of, settled, waits_for, with_changed, without}
 use Rattle.wef_source.specs.declared.sessions.Session.{Session}
-use Rattle.wef_machine.specs.Arming.{armed_after, committed, fate}
+use Rattle.wef_machine.specs.Arming.{committed, fate}
 use Rattle.wef_machine.specs.Deliveries.{acknowledged_by, after_ack, after_fault, after_offers, end_at, refused_by}
-use Rattle.wef_machine.specs.Kept.{IsAcknowledged, IsChannelKept, IsDelivery, IsEndKept, IsKept, IsOffered, IsPairKept, IsRunningKept, IsServed, IsSourceKept, IsWorldKept, WasDrawn, WasSent, last_id}
+use Rattle.wef_machine.specs.Kept.{IsAcknowledged, IsChannelKept, IsDelivery, IsEndKept, IsKept, IsOffered, IsPairKept, IsRunningKept, IsServed, IsSourceKept, WasDrawn, last_id}
 use Rattle.wef_machine.specs.Safe.{subscription_at}
-use Rattle.wef_machine.specs.Sources.{armed_opened, ask_at, ask_step, at_slot, at_source, crash_slot, crashed_slot, end_after, end_started, histories_written, lost_at, lost_step, poll_at, poll_in, poll_session, poll_step, slot_opened, slot_opened_by, slot_started, slot_written, where_runs, with_opened, write_at, write_by, write_step}
-use Rattle.wef_machine.specs.States.{Slot, State, arm_of, moment, slot_of, slot_with, with_arm, with_end, with_message, with_slot}
+use Rattle.wef_machine.specs.Sources.{ask_at, ask_step, at_slot, at_source, crash_slot, crashed_slot, end_after, end_started, lost_at, lost_step, poll_at, poll_in, poll_session, poll_step, slot_opened, slot_opened_by, slot_started, slot_written, where_runs, with_opened, write_at, write_by, write_step}
+use Rattle.wef_machine.specs.States.{Slot, State, arm_of, moment, slot_of, slot_with, with_end, with_message, with_slot}
 use Rattle.wef_machine.specs.declared.arming.Armed.{Armed}
 use Rattle.wef_machine.specs.declared.arming.Fate.{Fate}
 use Rattle.wef_machine.specs.declared.arming.Fate.TheVariants.{Done, Failed, Stopped}

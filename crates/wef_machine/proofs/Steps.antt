@@ -28,14 +28,12 @@ use Rattle.wef_replay.specs.declared.lines.Line.{Line}
 use Rattle.wef_replay.specs.declared.lines.Line.TheVariants.{Subscribe, End, Batch, Source, Write, Ask, Poll, Deliver, Back, Lost, Crash, Fail, Stop, Calm, Show, Print}
 use Rattle.wef_replay.specs.declared.lines.EndName.{EndName}
 use Rattle.wef_replay.specs.declared.lines.EndName.TheVariants as ends
-use Rattle.wef_query.specs.declared.QueryItem.{QueryItem}
 use Rattle.wef_source_log.specs.Keys.{boot_key}
 use Rattle.wef_source_log.specs.Windows.{IsWindow, boot_of}
 use Rattle.wef_machine.specs.Deliveries.{deliver_message, deliver_step, events_at, message_at, number_back, offers_at, taken_by}
 use Rattle.wef_machine.specs.Kept.{IsChannelKept, IsDelivery, IsKept, IsPairKept, WasDrawn, WasSent, WhereDeclared}
 use Rattle.wef_machine.specs.Laws.{KeptIsSafe, SchedulesAreKept, SchedulesAreSafe, StartIsKept, StepsKeep}
 use Rattle.wef_machine.specs.Safe.{IsSafe, IsUntouched, about_of, range_of_row, subscription_at}
-use Rattle.wef_machine.specs.Collecting.{at_collector}
 use Rattle.wef_machine.specs.Sources.{declared_slot}
 use Rattle.wef_machine.specs.States.{Slot, State, declared_names, host, slot_of, start, with_foreign, with_slot}
 use Rattle.wef_machine.specs.Steps.{AreAdmitted, arm_step, batch_at, crash_step, end_at, states_from, step, subscribe_at, subscription_of, unchanged}

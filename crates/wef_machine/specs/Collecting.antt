@@ -1,6 +1,6 @@
 -- What lines and deliveries do at the collector. It begins closed, and is opened by the next line that uses it; an opening
 -- is a commit, and so is each call that changes its rows.
-use Rattle.std.specs.Prelude.{ℕ, Bool, false, ◌&&◌, not, List, [], Option, Some, None, Result, Ok, Err, if◌then◌else◌}
+use Rattle.std.specs.Prelude.{ℕ, ◌&&◌, not, List, Result, Ok, Err, if◌then◌else◌}
 use Rattle.wef_collector.specs.Calls.{Effect, boot_effect}
 use Rattle.wef_keeper.specs.declared.keys.Change.{Change}
 use Rattle.wef_machine.specs.Arming.{armed_after, committed, fate, is_done, is_stopped}

@@ -1,6 +1,6 @@
 -- The lines of sources: what each does to a source and to the world, and what it prints. A source begins closed, and is
 -- opened by the next line that uses it; an opening is a commit, and so is a write.
-use Rattle.std.specs.Prelude.{ℕ, ◌+◌, Bool, List, [], Option, Some, None, Result, Ok, Err, codes, if◌then◌else◌}
+use Rattle.std.specs.Prelude.{ℕ, ◌+◌, List, [], Option, Some, None, Ok, Err, codes, if◌then◌else◌}
 use Rattle.std.specs.FinMap as map
 use Rattle.wef_event.specs.declared.unnumbered.PlainEvent.{PlainEvent}
 use Rattle.wef_keeper.specs.Rows.{Rows}
@@ -13,7 +13,7 @@ use Rattle.wef_source_log.specs.declared.faults.LogFault.TheVariants as log_faul
 use Rattle.wef_source.specs.Machine.{End, asked, delivery_of, is_idle, is_spent, lost_in, next_id, sent, start_of}
 use Rattle.wef_source.specs.Sessions.{session_of}
 use Rattle.wef_source.specs.declared.sessions.Session.{Session}
-use Rattle.wef_machine.specs.Arming.{armed_after, committed, fate, is_done, is_kept, is_stopped}
+use Rattle.wef_machine.specs.Arming.{armed_after, committed, fate, is_kept}
 use Rattle.wef_machine.specs.Printed.{fate_line, name_line, pair_line, sent_ask_line, sent_events_line, wrote_line}
 use Rattle.wef_machine.specs.States.{Slot, State, arm_of, moment, next_number, slot_of, with_arm, with_end, with_message, with_slot}
 use Rattle.wef_machine.specs.declared.arming.Armed.{Armed}

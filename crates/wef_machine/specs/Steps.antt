@@ -1,5 +1,5 @@
 -- What a schedule does: a step for each line, from a world in which nothing has happened, and what the line prints before it.
-use Rattle.std.specs.Prelude.{◌≡◌, ℕ, Bool, true, false, List, [], ◌∷◌, ◌++◌, Option, Some, None, Result, Ok, Err, if◌then◌else◌, codes}
+use Rattle.std.specs.Prelude.{◌≡◌, ℕ, Bool, true, false, List, [], ◌∷◌, ◌++◌, Some, None, Ok, Err, codes}
 use Rattle.std.specs.FinMap as finite
 use Rattle.wef_batch.specs.declared.items.Batch as batch
 use Rattle.wef_collector.specs.Calls.{Effect, add_effect, end_effect}

@@ -1,7 +1,7 @@
 -- The log's answer, by the source's.
 use Rattle.std.proofs.Common.{◌≡◌, ℕ, subst, sym, IfOk, Result}
 use Rattle.std.specs.declared.result.Result.TheVariants.{Ok, Err}
-use Rattle.wef_source.specs.Answers.{logged, logged_fault}
+use Rattle.wef_source.specs.Answers.{logged}
 use Rattle.wef_source.specs.declared.faults.SourceFault.{SourceFault}
 use Rattle.wef_source_log.specs.declared.faults.LogFault.{LogFault}
 

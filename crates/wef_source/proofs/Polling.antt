@@ -1,16 +1,15 @@
 -- A poll of the session of a name.
-use Rattle.std.proofs.Common.{◌≡◌, ℕ, zero, suc, drop, ◌+◌, ◌-◌, ◌<◌, cond, true, false, List, [], ◌∷◌, get_or, length, set, refl, sym, subst, ◌∙◌, Some, None}
+use Rattle.std.proofs.Common.{◌≡◌, ℕ, zero, suc, drop, ◌+◌, ◌<◌, cond, true, false, List, [], ◌∷◌, get_or, length, set, refl, sym, subst, ◌∙◌, Some, None}
 use Rattle.std.specs.Prelude.{is_some, nat_lt}
 use Rattle.std.specs.FinMap as map
 use Rattle.std.proofs.lemmas.List.Elements.{All-set}
-use Rattle.wef_batch.specs.declared.items.Item.{Item}
 use Rattle.wef_bookmark.specs.Order.{Marks, number_at, raised}
 use Rattle.wef_keeper.specs.Rows.{Rows}
 use Rattle.wef_source.specs.Answers.{MayRefusePoll, Polls, PollsIn, RefusesPoll, Sends, WhereThere}
-use Rattle.wef_source.specs.Building.{built, left_items, first_number, is_of, reaches, session_channels, with_reach, with_reaches}
+use Rattle.wef_source.specs.Building.{with_reach}
 use Rattle.wef_source.specs.Machine.{End, is_idle, sent}
 use Rattle.wef_source.specs.Prepared.{Draws, MayRefuseToPrepare, Prepares, RefusesToPrepare}
-use Rattle.wef_source.specs.Serving.{AreKept, HasAll, HasEach, IsCovered}
+use Rattle.wef_source.specs.Serving.{AreKept, HasAll, IsCovered}
 use Rattle.wef_source.specs.Sessions.{is_named, sending, session_of, with_changed}
 use Rattle.wef_source.specs.declared.faults.SourceFault.{SourceFault}
 use Rattle.wef_source.specs.declared.faults.SourceFault.TheVariants.{NoMemory, Failed, Full, TooLong, NotAsked, UnknownSubscription, Spent}
@@ -20,9 +19,8 @@ use Rattle.wef_source.specs.declared.sessions.Outstanding.{Outstanding}
 use Rattle.wef_source.specs.declared.sessions.Session.{Session}
 use Rattle.wef_batch.specs.WellFormed.{is_in}
 use Rattle.wef_base.specs.Names.{same}
-use Rattle.wef_source_log.specs.Windows.{last_of}
 use Rattle.std.specs.Cmp.Lexicographic.{nat_list_eq_equiv}
-use Rattle.wef_source.proofs.Covering.{either, either_true, has_nothing, raised_only, read_covered, sending_covered}
+use Rattle.wef_source.proofs.Covering.{either, either_true, raised_only, read_covered, sending_covered}
 use Rattle.wef_source.proofs.InOrder.{changed_in_order, sending_name}
 
 pub polls_nothing : (rows : Rows) (end : End) (u : List ℕ) (now : ℕ) (s : Session) → session_of end.sessions u ≡ Some s → Prepares rows end s None → Polls rows end end u now Nothing
@@ -53,11 +51,13 @@ polls_send rows before end u now s delivery outstanding ss same found name prepa
 -- the same, whatever the rows are
 pub sends_next : (before end : End) (u : List ℕ) (now : ℕ) (s : Session) (delivery : Delivery) (outstanding : Outstanding) (ss : List Session) → before ≡ end → Draws end s delivery outstanding
     → ss ≡ with_changed (is_named u) (sending outstanding now) before.sessions → Sends end (record before { drawn = before.drawn + 1; sessions = ss }) u now (Send delivery)
-sends_next before end u now s delivery outstanding ss same draws changed =
-    (draws.0, draws.1,
-    (λ k. record before { drawn = before.drawn + 1; sessions = changed k })
-    ∙ (λ k. record (same k) { drawn = (same k).drawn + 1; sessions = with_changed (is_named u) (sending outstanding now) (same k).sessions })
-    ∙ (λ k. record end { drawn = end.drawn + 1; sessions = with_changed (is_named u) (sending (draws.2 k) now) end.sessions }))
+sends_next before end u now s delivery outstanding ss same draws changed = (
+  draws.0,
+  draws.1,
+  (λ k. record before { drawn = before.drawn + 1; sessions = changed k })
+      ∙ (λ k. record (same k) { drawn = (same k).drawn + 1; sessions = with_changed (is_named u) (sending outstanding now) (same k).sessions })
+      ∙ (λ k. record end { drawn = end.drawn + 1; sessions = with_changed (is_named u) (sending (draws.2 k) now) end.sessions }),
+)
 
 -- ---- what a batch reads is of channels that the positions have
 

@@ -1,10 +1,9 @@
 -- Rows that are told, and stores that are read one call after the other.
-use Rattle.std.proofs.Common.{◌≡◌, ℕ, ◌-◌, ◌<◌, ◌≤◌, ◌==◌, Bool, true, false, refl, subst, ◌∙◌, arith, length, Option, Some, None, List, [], ◌∷◌, IfSome}
-use Rattle.std.proofs.lemmas.Bool.Decides.{nat_tests}
+use Rattle.std.proofs.Common.{◌≡◌, ℕ, ◌-◌, ◌<◌, ◌≤◌, ◌==◌, Bool, false, refl, subst, ◌∙◌, arith, length, Option, Some, None, List, [], ◌∷◌, IfSome}
 use Rattle.std.specs.List.{AllByRecursion}
 use Rattle.wef_event.specs.declared.records.Event.{Event}
 use Rattle.wef_keeper.proofs.Openings.{all_one}
-use Rattle.wef_keeper.specs.Access.{CountsNone, HasCause, HasOpened, HasRead, IsReady, IsSure, Narrows, OpensAndReads}
+use Rattle.wef_keeper.specs.Access.{HasRead, IsReady, OpensAndReads}
 use Rattle.wef_keeper.specs.Keeping.{IsOneOf, Stays, Store}
 use Rattle.wef_keeper.specs.Rows.{Rows}
 use Rattle.wef_source_log.specs.Windows.{last_number}
@@ -42,9 +41,15 @@ counts_twice (Some planned) None a b c e h k = cc
 counts_twice (Some planned) (Some same) a b c e h k = k ∙ h
 
 pub read_twice : (before mid now : Store) → HasRead before mid → HasRead mid now → HasRead before now
-read_twice before mid now h k =
-    (k.0, stays_twice before.rows mid.rows now.rows h.1 k.1, stays_twice before.images mid.images now.images h.2 k.2, k.3 ∙ h.3, k.4 ∙ h.4, up before.faults mid.faults now.faults h.5 k.5,
-    counts_twice before.plan mid.plan before.faults mid.faults now.faults h.4 h.6 k.6)
+read_twice before mid now h k = (
+  k.0,
+  stays_twice before.rows mid.rows now.rows h.1 k.1,
+  stays_twice before.images mid.images now.images h.2 k.2,
+  k.3 ∙ h.3,
+  k.4 ∙ h.4,
+  up before.faults mid.faults now.faults h.5 k.5,
+  counts_twice before.plan mid.plan before.faults mid.faults now.faults h.4 h.6 k.6,
+)
   where
     up : (a b c : ℕ) → a ≤ b → b ≤ c → a ≤ c
     up a b c p q = omega arith

@@ -1,9 +1,9 @@
 -- What a call does in a ready store that commits what it prepared.
-use Rattle.std.proofs.Common.{◌≡◌, ℕ, ◌≤◌, Bool, true, false, refl, sym, subst, ap, ◌∙◌, inl, inr, ◌⊎◌, arith, Option, Some, None, List, [], ◌∷◌, IfSome, IfOk, if◌then◌else◌}
+use Rattle.std.proofs.Common.{◌≡◌, ℕ, ◌≤◌, Bool, true, false, sym, subst, ap, ◌∙◌, inr, ◌⊎◌, arith, Option, Some, None, List, [], ◌∷◌, IfSome, if◌then◌else◌}
 use Rattle.std.specs.List.{AllByRecursion}
 use Rattle.std.specs.declared.result.Result.TheVariants.{Ok, Err}
 use Rattle.wef_base.specs.Counts.{Rose}
-use Rattle.wef_keeper.specs.Access.{HasCause, HasRead, Leaves, LeavesPlanned, is_idle, is_planned}
+use Rattle.wef_keeper.specs.Access.{HasCause, HasRead, Leaves, LeavesPlanned, is_idle}
 use Rattle.wef_keeper.specs.Keeping.{Follows, IsBeforeOrAfter, Stays, Store, outcome, raised}
 use Rattle.wef_keeper.specs.Rows.{Rows, applied}
 use Rattle.wef_keeper.specs.declared.access.StoreFault as store
@@ -14,7 +14,7 @@ use Rattle.wef_source_log.specs.Calls.{ByPlan, FailsByPlan, GoesByPlan, Makes}
 use Rattle.wef_source_log.specs.Forms.{AreFormed}
 use Rattle.wef_source_log.specs.Ready.{DoesReady, Prepares}
 use Rattle.wef_source_log.specs.declared.changing.Prepared.{Prepared}
-use Rattle.wef_source_log.specs.declared.faults.LogFault.TheVariants.{NoMemory, Failed}
+use Rattle.wef_source_log.specs.declared.faults.LogFault.TheVariants.{Failed}
 use Rattle.wef_source_log.proofs.Stores.{free_stays, keeps_plan, stays_follow, told_same}
 
 -- ---- a call in a ready store: what it prepared is committed

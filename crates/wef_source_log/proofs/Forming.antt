@@ -1,5 +1,5 @@
 -- Rows of their form: each that is read is, and what is written leaves them so.
-use Rattle.std.proofs.Common.{◌≡◌, ℕ, ◌+◌, ◌-◌, ◌<◌, ◌≤◌, ◌==◌, nat_le, nat_lt, nat_eq, Bool, true, false, cond, ◌&&◌, List, [], ◌∷◌, ◌++◌, take, length, refl, ap, sym, ◌∙◌, subst, arith, if◌then◌else◌}
+use Rattle.std.proofs.Common.{◌≡◌, ℕ, ◌+◌, ◌-◌, ◌<◌, ◌≤◌, ◌==◌, nat_le, nat_lt, Bool, true, false, cond, ◌&&◌, List, [], ◌∷◌, ◌++◌, take, length, refl, ap, sym, ◌∙◌, subst, arith, if◌then◌else◌}
 use Rattle.std.proofs.lemmas.Bool.{and_parts}
 use Rattle.std.proofs.lemmas.Bool.Decides.{nat_tests}
 use Rattle.std.proofs.lemmas.List.Elements.{All-head, All-tail, All-take, All-weaker}
@@ -22,7 +22,7 @@ use Rattle.wef_keeper.specs.declared.keys.Row.{Row}
 use Rattle.wef_source_log.specs.Forms.{AreFormed, has_number, is_bare, is_boot, is_capacity, is_channel, is_formed, is_last, is_nameless, is_read, is_record, is_whole}
 use Rattle.wef_source_log.specs.Keys.{boot_key, capacity_key, last_key, record_key}
 use Rattle.wef_source_log.specs.Laws.{FormsStay}
-use Rattle.wef_source_log.specs.Windows.{boot_of, capacity_changes, capacity_of, last_of, leaving, start_changes, started, write_changes, written}
+use Rattle.wef_source_log.specs.Windows.{boot_of, capacity_changes, capacity_of, last_of, start_changes, write_changes}
 use Rattle.wef_source_log.proofs.Cells.{hits, tie}
 use Rattle.wef_source_log.proofs.Stands.{Stands, rows_stand}
 

@@ -2,7 +2,7 @@
 use Rattle.std.proofs.Common.{◌≡◌, Bool, true, false}
 use Rattle.std.specs.Prelude.{Option, Some, None, IfSome}
 use Rattle.wef_base.specs.Counts.{Rose}
-use Rattle.wef_keeper.specs.Access.{AnyRows, HasCause, HasRead, IsSure, Reads}
+use Rattle.wef_keeper.specs.Access.{HasRead, Reads}
 use Rattle.wef_keeper.specs.Keeping.{Store}
 use Rattle.wef_keeper.specs.Rows.{Rows}
 use Rattle.wef_source_log.specs.Forms.{AreFormed}

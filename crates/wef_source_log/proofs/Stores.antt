@@ -1,19 +1,18 @@
 -- What a call does in a store, from what its parts do.
-use Rattle.std.proofs.Common.{◌≡◌, ℕ, ◌+◌, ◌<◌, ◌≤◌, min, Bool, true, false, refl, sym, subst, ap, ◌∙◌, inl, inr, ◌⊎◌, arith, length, Option, Some, None, List, [], ◌∷◌, Result, IfSome, IfOk, OnOk, if◌then◌else◌}
+use Rattle.std.proofs.Common.{◌≡◌, ℕ, ◌≤◌, Bool, true, false, refl, sym, subst, ◌∙◌, inl, inr, ◌⊎◌, arith, length, Option, Some, None, List, [], ◌∷◌, Result, IfSome, IfOk}
 use Rattle.std.specs.List.{AllByRecursion}
 use Rattle.std.specs.declared.result.Result.TheVariants.{Ok, Err}
 use Rattle.wef_base.specs.Counts.{Rose}
 use Rattle.wef_keeper.specs.Access.{AnyOf, AnyRows, Finds, From, HasCause, HasOpened, HasRead, IsReady, IsSure, Leaves, LeavesPlanned, OpensAndReads, Reads, is_idle, tries_with}
 use Rattle.wef_keeper.specs.Access as access
-use Rattle.wef_keeper.specs.Keeping.{Follows, IsBeforeOrAfter, IsOneOf, Stays, Store, WhereTold, outcome, raised}
-use Rattle.wef_keeper.specs.Rows.{Rows, applied}
+use Rattle.wef_keeper.specs.Keeping.{Follows, IsOneOf, Stays, Store, WhereTold}
+use Rattle.wef_keeper.specs.Rows.{Rows}
 use Rattle.wef_keeper.specs.declared.access.StoreFault as store
 use Rattle.wef_keeper.specs.declared.access.StoreFault.TheVariants as stores
-use Rattle.wef_keeper.specs.declared.keys.Change.{Change}
 use Rattle.wef_source_log.specs.Answers.{Effect, kept_fault}
-use Rattle.wef_source_log.specs.Calls.{Answers, ByPlan, ByTries, Does, MayFind, Makes, OnImages, Tells, fails}
+use Rattle.wef_source_log.specs.Calls.{Answers, ByPlan, ByTries, Does, Makes, OnImages, Tells, fails}
 use Rattle.wef_source_log.specs.Forms.{AreFormed}
-use Rattle.wef_source_log.specs.Ready.{DoesReady, LeavesImages, OnReadyImages, Prepares}
+use Rattle.wef_source_log.specs.Ready.{DoesReady, OnReadyImages, Prepares}
 use Rattle.wef_source_log.specs.declared.changing.Prepared.{Prepared}
 use Rattle.wef_source_log.specs.declared.faults.LogFault.{LogFault}
 use Rattle.wef_source_log.specs.declared.faults.LogFault.TheVariants.{NoMemory, Failed, Full, TooLong}

@@ -1,14 +1,12 @@
 -- That a write extends the histories.
-use Rattle.std.proofs.Common.{◌≡◌, ℕ, ◌+◌, refl, sym, ap, ◌∙◌, Bool, true, false, Result, IfOk, if◌then◌else◌}
+use Rattle.std.proofs.Common.{◌≡◌, ℕ, ◌+◌, Bool, true, false, Result, IfOk, if◌then◌else◌}
 use Rattle.std.specs.Prelude.{is_none}
 use Rattle.std.specs.declared.result.Result.TheVariants.{Ok, Err}
 use Rattle.wef_event.specs.Unnumbered.{numbered}
 use Rattle.wef_event.specs.declared.unnumbered.PlainEvent.{PlainEvent}
-use Rattle.wef_keeper.specs.Keeping.{Store}
-use Rattle.wef_keeper.specs.Access.{From}
 use Rattle.wef_keeper.specs.Rows.{Rows}
-use Rattle.wef_source_log.specs.Answers.{Effect, ExtendsHistory, is_full, next_text, write_effect}
-use Rattle.wef_source_log.specs.Calls.{Answers, Makes, Tells}
+use Rattle.wef_source_log.specs.Answers.{ExtendsHistory, is_full, next_text, write_effect}
+use Rattle.wef_source_log.specs.Calls.{Makes, Tells}
 use Rattle.wef_source_log.specs.Windows.{capacity_of, last_of, write_changes, written}
 use Rattle.wef_source_log.specs.declared.faults.LogFault.{LogFault}
 use Rattle.wef_source_log.specs.declared.faults.LogFault.TheVariants.{Full, TooLong}

@@ -1,5 +1,6 @@
 pub mod Asked
 pub mod Changed
+pub mod CollectorCalls
 pub mod LastNumbers
 pub mod Lines
 pub mod Opened

@@ -1,5 +1,5 @@
 -- What becomes of calls that change the collector's rows.
-use Rattle.std.specs.Prelude.{◌≡◌, Bool, ◌&&◌, not, is_some, Option, Some, None, Result, Ok, Err, if◌then◌else◌}
+use Rattle.std.specs.Prelude.{◌≡◌, ◌&&◌, not, is_some, Option, None, Result, Ok, Err, if◌then◌else◌}
 use Rattle.wef_collector.specs.Calls.{Effect}
 use Rattle.wef_collector.specs.declared.faults.CollectorFault.{CollectorFault}
 use Rattle.wef_collector.specs.declared.faults.CollectorFault.TheVariants.{NoMemory, Failed}
@@ -23,9 +23,13 @@ abbrev pub SettlesAs : Fate → CollectorHeld → CollectorHeld → Option Armed
 SettlesAs how place place' armed armed' =
     (place' ≡ record place { runs = place.runs && not (is_stopped how) }) × (armed' ≡ (if is_some place.plan then armed else None))
 
--- What was armed is settled by a call's answer: a commit that failed went as armed, a refusal changes nothing.
+-- What was armed is settled by a call's answer: a commit that failed went as armed, a refusal changes nothing. Want of
+-- memory is no outcome of a call.
 abbrev pub Settles : Result Unit CollectorFault → CollectorHeld → CollectorHeld → Option Armed → Option Armed → Called → Type 0
 Settles (Ok done) place place' armed armed' (Committed how) = (how ≡ Done) × SettlesAs how place place' armed armed'
+Settles (Ok done) place place' armed armed' (Refused refused) = ⊥
+Settles (Err NoMemory) place place' armed armed' called = ⊥
 Settles (Err Failed) place place' armed armed' (Committed how) = (how ≡ fate_of armed) × SettlesAs how place place' armed armed'
+Settles (Err Failed) place place' armed armed' (Refused refused) = ⊥
+Settles (Err fault) place place' armed armed' (Committed how) = ⊥
 Settles (Err fault) place place' armed armed' (Refused refused) = (refused ≡ fault) × (place' ≡ place) × (armed' ≡ armed)
-Settles answer place place' armed armed' called = ⊥

@@ -189,7 +189,11 @@ impl CollectorPlace {
     }
 
     /// The offers to a source that asks.
-    pub fn offers(&mut self, source: &SourceName, host: &Text) -> Result<List<Offer>, CollectorFault>
+    pub fn offers(
+        &mut self,
+        source: &SourceName,
+        host: &Text,
+    ) -> Result<List<Offer>, CollectorFault>
         requires runs { self.old.runs ≡ true }
         requires formed { AreFormed self.old.rows }
         ensures stays { self.new ≡ self.old }

@@ -1,6 +1,6 @@
 //! The collector in a world: where it is, and how its next commit goes.
 
-ghost use Rattle.std.specs.Prelude.{◌≡◌, ◌≤◌, ◌++◌, true, take, IfOk, IfErr, OnOk};
+ghost use Rattle.std.specs.Prelude.{◌≡◌, ◌≤◌, ◌++◌, true, false, take, IfOk, IfErr, OnOk};
 ghost use Rattle.wef_collector.specs.Answers.{is_known};
 ghost use Rattle.wef_collector.specs.Calls as calls;
 ghost use Rattle.wef_collector.specs.Forms.{AreFormed};
@@ -49,13 +49,13 @@ impl Model for CollectorSide {
     ghost use Rattle.wef_keeper.specs.contracts.keys.Key as key;
     ghost use Rattle.wef_keeper.specs.contracts.keys.Cell as cell;
     ghost use Rattle.wef_machine.specs.States.{Collector};
-    ghost use Rattle.wef_machine.specs.contracts.arming.Armed as armed;
+    ghost use Rattle.wef_machine.specs.contracts.arming.Armed as one_armed;
     ghost use Rattle.wef_machine.specs.declared.arming.Armed.{Armed};
 
     ghost Value = { Collector };
 
     ghost coded = { code_by (Rows × (Bool × Option Armed))
-        (coded× (map.code key.the_row.coded cell.the_row.coded) (coded× coded_bool (coded_option armed.the_row.coded)))
+        (coded× (map.code key.the_row.coded cell.the_row.coded) (coded× coded_bool (coded_option one_armed.the_row.coded)))
         (λ c. (c.rows, (c.runs, c.armed))) (λ p. record { rows = p.0; runs = p.1.0; armed = p.1.1 }) (λ _. refl) };
 
     ghost view = { λ c. record { rows = c.place.rows; runs = c.place.runs; armed = c.armed } };
@@ -160,7 +160,11 @@ impl CollectorSide {
     }
 
     /// The offers to a source that asks.
-    pub fn offers(&mut self, source: &SourceName, host: &Text) -> Result<List<Offer>, CollectorFault>
+    pub fn offers(
+        &mut self,
+        source: &SourceName,
+        host: &Text,
+    ) -> Result<List<Offer>, CollectorFault>
         requires runs { self.old.runs ≡ true }
         requires formed { AreFormed self.old.rows }
         ensures stays { self.new ≡ self.old }

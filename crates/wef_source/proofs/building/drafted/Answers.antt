@@ -1,5 +1,4 @@
 use Rattle.std.proofs.Common.{◌≡◌, suc, ◌+◌, ◌∷◌, ◌<◌, ◌∙◌, add-one, ap, drop, drop-cons, length, sym, arith}
-use Rattle.std.specs.Prelude.{Option}
 use Rattle.wef_keeper.specs.Rows.{Rows}
 use Rattle.wef_source.specs.Building.{candidates_in, channel_candidates, room_of}
 use Rattle.wef_source.specs.Drafting.{empty_draft, taken_all}

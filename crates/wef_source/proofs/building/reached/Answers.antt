@@ -1,10 +1,9 @@
-use Rattle.std.proofs.Common.{◌≡◌, true, suc, ◌+◌, ◌∷◌, ◌<◌, ◌∙◌, add-one, ap, arith, drop, drop-cons, length, refl, subst, sym, None}
-use Rattle.std.specs.Prelude.{is_some}
+use Rattle.std.proofs.Common.{◌≡◌, suc, ◌+◌, ◌∷◌, ◌<◌, ◌∙◌, add-one, ap, arith, drop, drop-cons, length, subst, sym, None}
 use Rattle.std.specs.FinMap as map
 use Rattle.std.specs.Option.{option_to_list}
 use Rattle.wef_bookmark.specs.Order.{Marks}
 use Rattle.wef_keeper.specs.Rows.{Rows}
-use Rattle.wef_source.specs.Building.{reaches, with_reach, with_reaches}
+use Rattle.wef_source.specs.Building.{reaches, with_reaches}
 use Rattle.wef_source.specs.Drafting.{stop_at}
 use Rattle.wef_source.specs.Serving.{HasAll}
 use Rattle.wef_source_log.specs.Windows.{last_of}

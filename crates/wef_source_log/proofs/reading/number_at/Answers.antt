@@ -1,4 +1,4 @@
-use Rattle.std.proofs.Common.{◌≡◌, true, subst, Option, Some, IfSome}
+use Rattle.std.proofs.Common.{◌≡◌, true, subst, Option, IfSome}
 use Rattle.wef_keeper.specs.Keeping.{row_at}
 use Rattle.wef_keeper.specs.declared.keys.Row.{Row}
 use Rattle.wef_source_log.specs.Forms.{is_formed}

@@ -4,6 +4,7 @@ use Rattle.std.specs.Prelude.{codes}
 use Rattle.wef_event.specs.declared.records.Event.{Event}
 use Rattle.wef_collector.specs.Held.{held_after}
 use Rattle.wef_collector.proofs.Pages.{last_page}
+use Rattle.wef_machine.specs.States.{Collector}
 use Rattle.wef_machine.specs.Printed.{event_line, events_text}
 use Rattle.wef_world.proofs.printing.held_text.Goals as goal
 
@@ -16,6 +17,7 @@ returns-then-is_last-clause-text c =
     let short : length page < 256 = omega arith in
     let whole = last_page 256 _ page _ c.in_ok-page.ensures.page c.in_ok-page.ensures.rest short in
     let told = rw c.as_slice-in-loop-text.ensures at c.in_ok-push_events.ensures in
-    let all = told ∙ ap (λ (events : List Event). c.loop-text.text ++ flat_map event_line events) (sym whole) ∙ c.loop-text.invariant in
-    let events = held_after c.args.collector.now c.args.sub.now c.args.source.now c.args.channel.now 0 in
+    let all = told ∙ ap (λ (events : List Event). c.loop-text.text ++ flat_map event_line events) (sym whole) ∙ c.loop-text.invariant.done
+    ∙ ap (λ (collector : Collector). flat_map event_line (held_after collector.rows c.args.sub.now c.args.source.now c.args.channel.now 0)) c.loop-text.invariant.stays in
+    let events = held_after c.args.collector.now.rows c.args.sub.now c.args.source.now c.args.channel.now 0 in
     c.in_ok-push_str.ensures.ok ∙ ap (λ (text : List ℕ). text ++ (codes "end" ++ 10 ∷ [])) all ∙ sym (append_assoc (flat_map event_line events) (codes "end") (10 ∷ []))

@@ -5,8 +5,10 @@ use Rattle.wef_machine.specs.Printed.{event_line}
 use Rattle.wef_world.proofs.printing.held_text.Given as goal
 
 abbrev pub invariant-loop-text : goal.invariant-loop-text
-invariant-loop-text l =
-    l.text ++ flat_map event_line (held_after l.collector l.sub l.source l.channel l.after) ≡ flat_map event_line (held_after l.collector l.sub l.source l.channel 0)
+invariant-loop-text l = record {
+  stays : l.collector ≡ l.initial.collector;
+  done : l.text ++ flat_map event_line (held_after l.collector.rows l.sub l.source l.channel l.after) ≡ flat_map event_line (held_after l.collector.rows l.sub l.source l.channel 0);
+}
 
 abbrev pub decreases-loop-text : goal.decreases-loop-text
-decreases-loop-text l = length (held_after l.collector l.sub l.source l.channel l.after)
+decreases-loop-text l = length (held_after l.collector.rows l.sub l.source l.channel l.after)

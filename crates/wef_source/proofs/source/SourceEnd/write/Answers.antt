@@ -1,4 +1,4 @@
-use Rattle.std.proofs.Common.{◌≡◌, ℕ, ◌+◌, IfOk}
+use Rattle.std.proofs.Common.{◌≡◌, ◌+◌, IfOk}
 use Rattle.wef_source_log.specs.Answers.{ExtendsHistory}
 use Rattle.wef_source_log.specs.Windows.{last_of}
 use Rattle.wef_source_log.proofs.Stores.{from_weaker}
