@@ -142,7 +142,7 @@ started_kept lower state s slot armed kept closed room = by_fate (fate armed (st
     by_fate Stopped e = (with_store state s slot rows None kept store tt, closed_grows)
 
 -- a source that is opened, or couldn't be, is kept and further
-opened_kept : Lower → (state : State) (s : List ℕ) (slot : Slot) (armed : Option Armed) → IsKeptSlot state s slot →
+pub opened_kept : Lower → (state : State) (s : List ℕ) (slot : Slot) (armed : Option Armed) → IsKeptSlot state s slot →
     IsKeptSlot state s (slot_opened armed slot) × SlotGrows slot (slot_opened armed slot)
 opened_kept lower state s slot armed kept = by_end slot.end refl
   where

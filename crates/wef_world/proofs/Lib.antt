@@ -2,6 +2,11 @@ pub mod Asked
 pub mod Changed
 pub mod CollectorCalls
 pub mod LastNumbers
+pub mod Lines
 pub mod Opened
+pub mod OpenedKept
+pub mod Openings
+pub mod Ready
 pub mod Started
+pub mod Stays
 pub mod Windowed

@@ -9,7 +9,9 @@ ghost use Rattle.wef_world.specs.Slots as slots;
 
 use crate::ends::Ends;
 use crate::faults::WorldFault;
-use crate::printing::{fate_line, name_line, pair_line, sent_ask_line, sent_events_line, wrote_line};
+use crate::printing::{
+    fate_line, name_line, pair_line, sent_ask_line, sent_events_line, wrote_line,
+};
 use crate::slots::{Capacity, Polled, Slot, Written};
 use crate::sources::open_source;
 use std::alloc::AllocError;
@@ -49,11 +51,7 @@ impl Ends {
     }
 
     /// Lets a running source write an event.
-    fn write_running(
-        &mut self,
-        source: &SourceName,
-        event: &PlainEvent,
-    ) -> Result<Text, WorldFault>
+    fn write_running(&mut self, source: &SourceName, event: &PlainEvent) -> Result<Text, WorldFault>
         requires ready { slots.IsReady (map.get self.old.sources source.now) }
         ensures state { OnOk result (slots.AtRunning (map.get self.old.sources source.now) (λ slot end. self.new ≡ steps.write_at source.now event.now self.old slot end)) }
         ensures printed { IfOk result (λ text. slots.AtRunning (map.get self.old.sources source.now) (λ slot end. text ≡ steps.write_text source.now event.now self.old slot end)) }

@@ -1,31 +1,30 @@
-use Rattle.std.proofs.Common.{ap, ◌∙◌, subst, Some, None}
-use Rattle.wef_world.proofs.Lines.{asked_as, no_source, put_is}
-use Rattle.wef_machine.specs.Sources.{ask_at, ask_step}
-use Rattle.wef_machine.specs.States.{State, opened, with_message}
-use Rattle.wef_world.specs.Slots.{AsksAs}
-use Rattle.wef_machine.specs.declared.messages.Message.TheVariants.{Ask}
+use Rattle.std.proofs.Common.{sym, ◌∙◌}
+use Rattle.wef_machine.specs.Sources.{ask_at, closed_line, ask_text}
+use Rattle.wef_machine.specs.States.{State}
+use Rattle.wef_world.proofs.Lines.{ran_where_ok, said_where_ok}
+use Rattle.wef_world.proofs.Openings.{runs_at}
+use Rattle.wef_world.proofs.Ready.{formed_at, ready_at}
 use Rattle.wef_world.proofs.ends.Ends.ask.Goals as goal
 
-pub returns-in_default-clause-state : goal.returns-in_default-clause-state
-returns-in_default-clause-state c =
-    let before : State = record { rows = c.self.inside.collector; foreign = c.self.inside.foreign.keys; sources = c.self.inside.sources; messages = c.self.inside.messages } in
-    let s = c.args.source.now in
-    no_source before s c.take.new.self (λ slot. ask_at before s slot (opened slot)) c.in_default.ensures.slot c.take.ensures.rest ∙ ap (λ (w : State). ask_step w s) c.self.view_is
+pub open_source-requires : goal.open_source-requires
+open_source-requires c =
+    let before : State = record { collector = c.self.inside.collector; foreign = c.self.inside.foreign.keys; sources = c.self.inside.sources; arms = c.self.inside.arms; messages = c.self.inside.messages } in
+    formed_at before c.args.self.now c.args.source.now c.self.view_is c.requires.kept
 
-pub returns-in_default-asked-clause-state : goal.returns-in_default-asked-clause-state
-returns-in_default-asked-clause-state c =
-    let before : State = record { rows = c.self.inside.collector; foreign = c.self.inside.foreign.keys; sources = c.self.inside.sources; messages = c.self.inside.messages } in
-    let s = c.args.source.now in
-    let put = put_is before s c.ask.new.self c.take.new.self c.put.new.self c.take.ensures.rest c.in_ok-put.ensures in
-    let asks = subst (AsksAs c.in-Some.slot c.ask.new.self) c.in_default-asked.is c.in_ok-asked.ensures in
-    put ∙ asked_as before s c.in-Some.slot c.ask.new.self None c.in-Some.ensures.slot asks ∙ ap (λ (w : State). ask_step w s) c.self.view_is
+pub ask_running-requires : goal.ask_running-requires
+ask_running-requires c =
+    let before : State = record { collector = c.self.inside.collector; foreign = c.self.inside.foreign.keys; sources = c.self.inside.sources; arms = c.self.inside.arms; messages = c.self.inside.messages } in
+    let at = runs_at c.self.inside.sources c.self.inside.arms c.args.source.now c.open_source.new.sources c.in-Some-Done.field-0 c.in_ok-open_source.ensures.sources (sym c.in-Some-Done.is ∙ c.in_ok-open_source.ensures.fate) c.in-Some-Done.field-0-is in
+    record { ready = ready_at before c.args.self.now c.args.source.now c.open_source.new.sources c.self.view_is c.requires.kept at }
 
-pub returns-clause-state : goal.returns-clause-state
-returns-clause-state c =
-    let before : State = record { rows = c.self.inside.collector; foreign = c.self.inside.foreign.keys; sources = c.self.inside.sources; messages = c.self.inside.messages } in
-    let s = c.args.source.now in
-    let put = put_is before s c.ask.new.self c.take.new.self c.put.new.self c.take.ensures.rest c.in_ok-put.ensures in
-    let id = c.in-Some-asked.id in
-    let asks = subst (AsksAs c.in-Some.slot c.ask.new.self) c.in-Some-asked.is c.in_ok-asked.ensures in
-    c.in_ok-number.ensures.state ∙ (λ i. with_message (put i) (Ask (c.in_ok-clone.ensures i) id))
-    ∙ asked_as before s c.in-Some.slot c.ask.new.self (Some id) c.in-Some.ensures.slot asks ∙ ap (λ (w : State). ask_step w s) c.self.view_is
+pub returns-in-Some-Done-clause-state : goal.returns-in-Some-Done-clause-state
+returns-in-Some-Done-clause-state c =
+    let before : State = record { collector = c.self.inside.collector; foreign = c.self.inside.foreign.keys; sources = c.self.inside.sources; arms = c.self.inside.arms; messages = c.self.inside.messages } in
+    let at = runs_at c.self.inside.sources c.self.inside.arms c.args.source.now c.open_source.new.sources c.in-Some-Done.field-0 c.in_ok-open_source.ensures.sources (sym c.in-Some-Done.is ∙ c.in_ok-open_source.ensures.fate) c.in-Some-Done.field-0-is in
+    ran_where_ok c.ask_running.result before c.args.self.now c.args.source.now c.open_source.new.sources c.open_source.new.arms c.ask_running.new.self (ask_at c.args.source.now) c.self.view_is at c.in_ok-open_source.ensures.arms c.ask_running.ensures.state
+
+pub returns-in-Some-Done-clause-printed : goal.returns-in-Some-Done-clause-printed
+returns-in-Some-Done-clause-printed c =
+    let before : State = record { collector = c.self.inside.collector; foreign = c.self.inside.foreign.keys; sources = c.self.inside.sources; arms = c.self.inside.arms; messages = c.self.inside.messages } in
+    let at = runs_at c.self.inside.sources c.self.inside.arms c.args.source.now c.open_source.new.sources c.in-Some-Done.field-0 c.in_ok-open_source.ensures.sources (sym c.in-Some-Done.is ∙ c.in_ok-open_source.ensures.fate) c.in-Some-Done.field-0-is in
+    said_where_ok c.ask_running.result before c.args.self.now c.args.source.now c.open_source.new.sources c.open_source.new.arms (closed_line c.args.source.now) (ask_text c.args.source.now) c.self.view_is at c.in_ok-open_source.ensures.arms c.ask_running.ensures.printed
