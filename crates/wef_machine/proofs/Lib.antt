@@ -17,6 +17,7 @@ pub mod Numbered
 pub mod Offering
 pub mod Ranges
 pub mod RowMoves
+pub mod Schedules
 pub mod Sent
 pub mod Sessions
 pub mod SourceSteps

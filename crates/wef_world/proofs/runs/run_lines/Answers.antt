@@ -3,7 +3,7 @@ use Rattle.wef_replay.specs.declared.lines.Line.{Line}
 use Rattle.wef_machine.specs.States.{State}
 use Rattle.wef_machine.specs.Steps.{AreAdmitted, trail, trail_from}
 use Rattle.wef_machine.proofs.Admitted.{good_lines}
-use Rattle.wef_machine.proofs.Steps.{schedules_are_kept, schedules_are_safe}
+use Rattle.wef_machine.proofs.Schedules.{schedules_are_kept, schedules_are_safe}
 use Rattle.wef_world.proofs.runs.run_lines.Goals as goal
 
 pub loop-line-init : goal.loop-line-init
