@@ -1,6 +1,7 @@
 pub mod Asked
 pub mod Changed
 pub mod CollectorCalls
+pub mod CollectorOutcomes
 pub mod LastNumbers
 pub mod Opened
 pub mod Started

@@ -58,6 +58,7 @@ impl Ends {
     }
 
     /// Delivers the message of a number.
+    #[tactic(auto, using(crate::proofs::CollectorOutcomes::answers_as, crate::proofs::CollectorOutcomes::words_as))]
     pub(crate) fn deliver(&mut self, number: u64) -> Result<Text, WorldFault>
         requires kept { IsKept self.old }
         ensures state { OnOk result (self.new ≡ steps.deliver_step self.old number) }
