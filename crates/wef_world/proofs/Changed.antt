@@ -1,8 +1,7 @@
 -- A source that is taken out, opened, changed and put back.
-use Rattle.std.proofs.Common.{◌≡◌, ℕ, Bool, true, false, cond, List, ap, sym, ◌∙◌}
+use Rattle.std.proofs.Common.{◌≡◌, ℕ, Bool, cond, List, ap, sym, ◌∙◌}
 use Rattle.std.specs.Prelude.{Option, Some, None, codes, is_some, length}
 use Rattle.std.specs.FinMap.{get, insert, remove}
-use Rattle.wef_envelope.specs.Ids.{ids_agree}
 use Rattle.wef_envelope.specs.declared.MessageId.{MessageId}
 use Rattle.wef_eventing.specs.declared.bodies.Offer.{Offer}
 use Rattle.wef_source.specs.Answers.{waiting_for}
@@ -15,7 +14,7 @@ use Rattle.wef_machine.specs.States.{Arms, Slot, Slots, moment, slot_with}
 use Rattle.wef_machine.proofs.NameMaps.{put_back, remove_absent}
 use Rattle.wef_world.specs.Slots.{AdoptsAs, AdoptsBy, HearsAs, WhereRuns, after_reply, changed_where_runs, heard_word, reply_word, sources_changed, sources_changed_by, sources_opened, sources_opened_by, word_at, word_by, word_where_runs}
 use Rattle.wef_machine.specs.Sources.{slot_opening}
-use Rattle.wef_world.proofs.Openings.{RunsAt, taken_is, where_taken}
+use Rattle.wef_world.proofs.Openings.{RunsAt, where_taken}
 
 -- nothing is opened where none has the name
 pub none_opened : (sources rest : Slots) (arms : Arms) (s : List ℕ) → rest ≡ remove sources s → None ≡ get sources s → rest ≡ sources_opened sources arms s

@@ -1,5 +1,5 @@
 -- What the lines of a source do, by what using it did: it is opened, taken out, used, and put back.
-use Rattle.std.proofs.Common.{◌≡◌, ℕ, Bool, true, false, cond, List, refl, ap, sym, ◌∙◌, subst}
+use Rattle.std.proofs.Common.{◌≡◌, ℕ, Bool, true, false, cond, List, ap, sym, ◌∙◌, subst}
 use Rattle.std.specs.Prelude.{Option, Some, None, Result, Ok, Err, IfOk, OnOk, is_some}
 use Rattle.std.specs.FinMap.{get, insert, remove}
 use Rattle.wef_envelope.specs.declared.MessageId.{MessageId}
@@ -10,8 +10,8 @@ use Rattle.wef_source.specs.declared.messages.Delivery.{Delivery}
 use Rattle.wef_source.specs.declared.sessions.Session.{Session}
 use Rattle.wef_source_log.specs.Answers.{Effect, write_effect}
 use Rattle.wef_machine.specs.Printed.{sent_events_line}
-use Rattle.wef_machine.specs.Sources.{armed_opened, ask_at, at_slot, at_source, crash_slot, lost_at, poll_at, poll_in, poll_text, poll_text_in, print_at_slot, print_at_source, print_where_runs, slot_opened, slot_opening, where_runs, with_opened, write_at, write_by}
-use Rattle.wef_machine.specs.States.{Arms, Slot, Slots, State, arm_of, arms_with, next_number, slot_of, slot_with, with_message, with_slot}
+use Rattle.wef_machine.specs.Sources.{ask_at, at_slot, at_source, crash_slot, lost_at, poll_at, poll_in, poll_text, poll_text_in, print_at_slot, print_at_source, print_where_runs, slot_opened, slot_opening, where_runs, with_opened, write_at, write_by}
+use Rattle.wef_machine.specs.States.{Arms, Slot, Slots, State, arm_of, arms_with, next_number, slot_of, slot_with, with_message}
 use Rattle.wef_machine.specs.declared.arming.Armed.{Armed}
 use Rattle.wef_machine.specs.declared.arming.Fate.{Fate}
 use Rattle.wef_machine.specs.declared.messages.Message.TheVariants.{Ask, Events}

@@ -3,7 +3,6 @@ use Rattle.std.proofs.Common.{◌≡◌, ℕ, ◌<◌, List, refl, ap, sym, subs
 use Rattle.std.specs.Prelude.{Option, Some, None, is_some}
 use Rattle.std.specs.FinMap.{get}
 use Rattle.wef_source.specs.Machine.{End}
-use Rattle.wef_source_log.specs.Windows.{boot_of}
 use Rattle.wef_machine.specs.Kept.{IsKept, IsRunningKept}
 use Rattle.wef_machine.specs.Sources.{slot_opened}
 use Rattle.wef_machine.specs.States.{Slot, Slots, State, arm_of, slot_of}

@@ -1,5 +1,5 @@
 -- What becomes of a batch that is given to the collector.
-use Rattle.std.specs.Prelude.{◌≡◌, ℕ, List, Option, Some, None, Ok, Err, codes, if◌then◌else◌}
+use Rattle.std.specs.Prelude.{◌≡◌, ℕ, List, Option, Some, Ok, Err}
 use Rattle.wef_batch.specs.declared.items.Batch.{Batch}
 use Rattle.wef_envelope.specs.declared.FaultName.{FaultName}
 use Rattle.wef_machine.specs.Arming.{fate}

@@ -1,4 +1,3 @@
-use Rattle.std.proofs.Common.{rules}
 use Rattle.wef_machine.specs.States.{State}
 use Rattle.wef_world.proofs.Ready.{formed_at}
 use Rattle.wef_world.proofs.ends.Ends.deliver.Goals as goal
