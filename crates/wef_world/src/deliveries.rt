@@ -20,7 +20,9 @@ use crate::arms::Arms;
 use crate::collector_side::{Called, CollectorSide};
 use crate::ends::{Ends, MOMENT};
 use crate::faults::WorldFault;
-use crate::printing::{adopted_word, answered_line, fate_word, fault_answer, no_message_line, took_line};
+use crate::printing::{
+    adopted_word, answered_line, fate_word, fault_answer, no_message_line, took_line,
+};
 use crate::sources::{Sources, open_source};
 use std::alloc::{AllocError, Global};
 use wef_base::{List, SourceName, SubId, Text};
@@ -94,11 +96,25 @@ impl Ends {
                 relates,
                 offers,
             } => {
-                let word = give_offers(alloc, &mut self.sources, &mut self.arms, source, relates, offers)?;
+                let word = give_offers(
+                    alloc,
+                    &mut self.sources,
+                    &mut self.arms,
+                    source,
+                    relates,
+                    offers,
+                )?;
                 Ok(took_line(alloc, number, word.as_str())?)
             }
             Message::Ack { source, relates } => {
-                let word = give_reply(alloc, &mut self.sources, &mut self.arms, source, relates, &Reply::Ack)?;
+                let word = give_reply(
+                    alloc,
+                    &mut self.sources,
+                    &mut self.arms,
+                    source,
+                    relates,
+                    &Reply::Ack,
+                )?;
                 Ok(took_line(alloc, number, word.as_str())?)
             }
             Message::Fault {
@@ -107,7 +123,14 @@ impl Ends {
                 name,
             } => {
                 let reply = Reply::Fault(name.clone()?);
-                let word = give_reply(alloc, &mut self.sources, &mut self.arms, source, relates, &reply)?;
+                let word = give_reply(
+                    alloc,
+                    &mut self.sources,
+                    &mut self.arms,
+                    source,
+                    relates,
+                    &reply,
+                )?;
                 Ok(took_line(alloc, number, word.as_str())?)
             }
         }
@@ -157,10 +180,7 @@ fn answer_to_ask(
 }
 
 /// Lets a running collector take a delivery.
-fn take_delivery(
-    collector: &mut CollectorSide,
-    delivery: &Delivery,
-) -> Result<Outcome, WorldFault>
+fn take_delivery(collector: &mut CollectorSide, delivery: &Delivery) -> Result<Outcome, WorldFault>
     requires runs { collector.old.runs ≡ true }
     requires formed { AreFormed collector.old.rows }
     ensures collector { OnOk result (collector.new ≡ collecting.after_call collector.old (steps.delivery_effect collector.old.rows delivery.now)) }
