@@ -1,11 +1,10 @@
 -- Why a run ends as its schedule calls for.
-use Rattle.std.proofs.Common.{◌≡◌, ℕ, List, refl, ap, sym, ◌∙◌, subst, inl, inr}
-use Rattle.std.specs.Prelude.{Option, Some, IfSome, Result, ◌⊎◌}
+use Rattle.std.proofs.Common.{◌≡◌, ℕ, List, refl, ap, sym, subst, inl, inr}
+use Rattle.std.specs.Prelude.{Option, Some, IfSome, Result}
 use Rattle.std.specs.declared.result.Result.TheVariants.{Ok, Err}
 use Rattle.wef_replay.specs.Schedule.{schedule_of}
 use Rattle.wef_replay.specs.declared.lines.Line.{Line}
 use Rattle.wef_replay.specs.declared.schedule.ScheduleFault as fault
-use Rattle.wef_replay.specs.declared.schedule.ScheduleFault.TheVariants as faults
 use Rattle.wef_cli.specs.Complete.{EndsAsCalledFor, ending_for}
 use Rattle.wef_cli.specs.Endings.{IsBadAt, IsTooLong, Told, WroteTrail}
 use Rattle.wef_cli.specs.declared.ending.Ending.TheVariants as ends

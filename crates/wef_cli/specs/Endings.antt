@@ -1,6 +1,6 @@
 -- How a run ends: the status and the message of each ending, and what the ending says of the words, of what was
 -- read and of what was written.
-use Rattle.std.specs.Prelude.{◌≡◌, ◌⊎◌, ℕ, Bool, true, false, List, [], ◌∷◌, ◌++◌, Option, Some, None, IfSome, Result, codes}
+use Rattle.std.specs.Prelude.{◌≡◌, ◌⊎◌, ℕ, Bool, true, false, List, [], ◌∷◌, ◌++◌, Option, IfSome, Result, codes}
 use Rattle.std.specs.declared.result.Result.TheVariants.{Ok, Err}
 use Rattle.std.specs.Fmt.{decimal}
 use Rattle.std.specs.Io.KnownBytes.{Appends, Keeps, IsAtEnd}
@@ -11,7 +11,6 @@ use Rattle.wef_replay.specs.declared.schedule.ScheduleFault as fault
 use Rattle.wef_replay.specs.declared.schedule.ScheduleFault.TheVariants as faults
 use Rattle.wef_machine.specs.Laws.{AreKept, AreSafe}
 use Rattle.wef_machine.specs.Steps.{trail}
-use Rattle.wef_cli.specs.Command.{is_replay}
 use Rattle.wef_cli.specs.Streams.{WritesPart}
 use Rattle.wef_cli.specs.declared.ending.Ending.{Ending}
 use Rattle.wef_cli.specs.declared.ending.Ending.TheVariants.{Done, BadCommand, BadLine, TooLong, InputFailed, OutputFailed, NoMemory}

@@ -1,9 +1,8 @@
 -- What reading a whole input and writing a whole text do.
-use Rattle.std.specs.Prelude.{◌≡◌, ℕ, ◌<◌, ◌≤◌, List, ◌++◌, length, take, Option, None, Some, Result, IfSome}
+use Rattle.std.specs.Prelude.{◌≡◌, ℕ, ◌<◌, ◌≤◌, List, length, take, Option, Result, IfSome}
 use Rattle.std.specs.declared.result.Result.TheVariants.{Ok, Err}
-use Rattle.std.specs.Io.KnownBytes.{Appends, Keeps, IsAtEnd}
+use Rattle.std.specs.Io.KnownBytes.{Appends, IsAtEnd}
 use Rattle.wef_base.specs.Counts.{Rose}
-use Rattle.wef_base.specs.declared.bytes.Bytes.{Bytes}
 use Rattle.wef_cli.specs.declared.streams.InputFault.{InputFault}
 use Rattle.wef_cli.specs.declared.streams.InputFault.TheVariants.{NoMemory, Failed, TooLong}
 

@@ -1,7 +1,6 @@
 -- What making the trail of a schedule's bytes answers.
 use Rattle.std.specs.Prelude.{◌≡◌, ℕ, List, Result}
 use Rattle.std.specs.declared.result.Result.TheVariants.{Ok, Err}
-use Rattle.wef_replay.specs.Schedule.{schedule_of}
 use Rattle.wef_replay.specs.declared.lines.Line.{Line}
 use Rattle.wef_replay.specs.declared.schedule.ScheduleFault as fault
 use Rattle.wef_replay.specs.declared.schedule.ScheduleFault.TheVariants as faults

@@ -109,7 +109,8 @@ const ARMED: [&str; 8] = [
 ];
 
 /// Whatever was armed is over; the source writes its last event, asks again, and sends all that it has.
-const SETTLED: &str = "calm\nsubscribe base 2 512000 900000 all application\nwrite pc1 application 1 4 a\nask pc1\nback 0\nback 0\npoll pc1 base\nback 0\nback 0\npoll pc1 base\nback 0\nback 0\npoll pc1 base\nback 0\nback 0\npoll pc1 base\nback 0\nback 0\npoll pc1 base\nback 0\nback 0\nshow\n";
+const SETTLED: &str =
+    "calm\nsubscribe base 2 512000 900000 all application\nwrite pc1 application 1 4 a\nask pc1\nback 0\nback 0\npoll pc1 base\nback 0\nback 0\npoll pc1 base\nback 0\nback 0\npoll pc1 base\nback 0\nback 0\npoll pc1 base\nback 0\nback 0\npoll pc1 base\nback 0\nback 0\nshow\n";
 
 /// What the report ends with where all 9 events are held, or one fewer since its write failed.
 const REPORTS: [&str; 2] = [
@@ -134,9 +135,11 @@ fn armed_before(alloc: Global, at: usize, armed: &str) -> Result<Text, Fail> {
 fn holds_all(alloc: Global, at: usize, armed: &str) -> Result<bool, Fail> {
     let schedule = armed_before(alloc, at, armed)?;
     let ran = replayed(alloc, schedule.as_str().as_bytes())?;
-    Ok(REPORTS
-        .iter()
-        .any(|report| ran.out.taken().ends_with(report.as_bytes())))
+    Ok(
+        REPORTS
+            .iter()
+            .any(|report| ran.out.taken().ends_with(report.as_bytes())),
+    )
 }
 
 #[test]

@@ -1,4 +1,4 @@
-use Rattle.std.proofs.Common.{◌≤◌, ◌+◌, length, arith, length-drop}
+use Rattle.std.proofs.Common.{arith, length-drop}
 use Rattle.std.proofs.lemmas.List.{take_rest}
 use Rattle.wef_cli.proofs.Written.{next_piece}
 use Rattle.wef_cli.proofs.streams.write_whole.Goals as goal
