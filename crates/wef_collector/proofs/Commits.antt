@@ -1,9 +1,9 @@
 -- A call that opens its store, reads, and makes at most one commit: what each of its ways to end means for the whole call.
 use Rattle.std.proofs.Common.{◌≡◌, ℕ, ◌≤◌, Bool, true, false, cond, refl, sym, ap, ◌∙◌, subst, arith, inl, inr}
 use Rattle.std.specs.List.{AllByRecursion}
-use Rattle.std.specs.Prelude.{Option, Some, None, Result, Ok, Err, IfSome, List, [], ◌∷◌, length, is_some, ◌⊎◌}
+use Rattle.std.specs.Prelude.{Option, Some, None, Ok, Err, IfSome, List, [], ◌∷◌, length, is_some, ◌⊎◌}
 use Rattle.wef_base.specs.Counts.{Rose}
-use Rattle.wef_keeper.specs.Access.{AnyOf, AnyRows, Finds, From, HasRead, IsRefused, Leaves, LeavesPlanned, Narrows, OpensAndReads, Reads, fails as store_fails, is_idle, is_planned, plan_with, tries_with}
+use Rattle.wef_keeper.specs.Access.{AnyOf, AnyRows, Finds, HasRead, IsRefused, Leaves, LeavesPlanned, Narrows, OpensAndReads, Reads, fails as store_fails, is_idle, is_planned, plan_with, tries_with}
 use Rattle.wef_keeper.specs.Keeping.{Follows, IsBeforeOrAfter, IsOneOf, Stays, Store, WhereTold, outcome, raised}
 use Rattle.wef_keeper.specs.Rows.{Rows, applied}
 use Rattle.wef_keeper.specs.declared.keys.Change.{Change}
@@ -14,7 +14,7 @@ use Rattle.wef_collector.specs.Faults.{collector_fault, fails, is_failure}
 use Rattle.wef_collector.specs.Forms.{AreFormed}
 use Rattle.wef_collector.specs.declared.faults.CollectorFault.{CollectorFault}
 use Rattle.wef_collector.specs.declared.faults.CollectorFault.TheVariants.{NoMemory, NoSubscription, Exists, Ended, NotWellFormed, TooMany, Failed, Full}
-use Rattle.wef_collector.proofs.ReadsOf.{only_opens, opens_reads, still_told, told_both}
+use Rattle.wef_collector.proofs.ReadsOf.{only_opens, opens_reads, still_told}
 
 -- ---- images
 
@@ -248,11 +248,11 @@ done_call effect changes before mid now finds opens made leaves planned higher =
     let tries = λ (found after : Rows). ByTries (Ok tt) (effect found) before.tries now.tries in
     record {
       answer = from_found before.images mid.rows now.rows answers finds
-      (follows_with mid.rows now.rows after_is answers is_made follows made (λ found after is made. subst (λ (e : Effect). Makes e found after) (sym made) is));
+          (follows_with mid.rows now.rows after_is answers is_made follows made (λ found after is made. subst (λ (e : Effect). Makes e found after) (sym made) is));
       images = tt;
       planned = plan_done before.plan effect changes before.images mid now opened.2 finds follows made planned;
       tries = from_found before.images mid.rows now.rows tries finds
-      (follows_with mid.rows now.rows after_is tries is_made follows made (λ found after _ made. subst (λ (e : Effect). WhereMade e (λ made. now.tries ≡ tries_with made before.tries)) (sym made) count));
+          (follows_with mid.rows now.rows after_is tries is_made follows made (λ found after _ made. subst (λ (e : Effect). WhereMade e (λ made. now.tries ≡ tries_with made before.tries)) (sym made) count));
       once = subst (λ (n : ℕ). (n ≡ before.tries) ⊎ (n ≡ raised before.tries)) (sym count) (once_idle (is_idle changes) before.tries);
       cause = λ no. cc;
       faults = omega arith;

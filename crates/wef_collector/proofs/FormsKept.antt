@@ -1,33 +1,30 @@
 -- Rows stay of their form as the collector changes them.
-use Rattle.std.proofs.Common.{◌≡◌, ℕ, ◌+◌, ◌<◌, ◌≤◌, Bool, true, false, ◌&&◌, cond, List, [], ◌∷◌, ◌++◌, nat_le, nat_lt, refl, ap, sym, ◌∙◌, subst, arith}
+use Rattle.std.proofs.Common.{◌≡◌, ℕ, ◌+◌, ◌≤◌, Bool, true, false, ◌&&◌, cond, List, [], ◌∷◌, ◌++◌, nat_le, nat_lt, refl, ap, sym, ◌∙◌, subst, arith}
 use Rattle.std.proofs.lemmas.Bool.{and_parts}
 use Rattle.std.proofs.lemmas.Bool.Decides.{nat_tests}
 use Rattle.std.specs.FinMap as map
 use Rattle.std.specs.Fmt.{decimal}
 use Rattle.std.specs.List.{AllByRecursion, flat_map, list_all}
-use Rattle.std.specs.Option.{option_map}
 use Rattle.std.specs.Prelude.{Option, Some, None, is_some, max, IfSome}
 use Rattle.wef_base.proofs.Decimals.{plain_number-decimal}
 use Rattle.wef_base.specs.Names.{channel_name, same, source_name, subscription_name}
-use Rattle.wef_base.specs.Numbers.{plain_number}
 use Rattle.wef_batch.specs.Reach.{last_after, last_in, later, loose_sum, reach, reach_of, span_in}
 use Rattle.wef_batch.specs.WellFormed.{follows, is_above, is_at_least, is_in_order, is_listed, is_well_formed, rises}
 use Rattle.wef_batch.specs.declared.items.Batch.{Batch}
 use Rattle.wef_batch.specs.declared.items.Item.{Item}
 use Rattle.wef_batch.specs.declared.items.Item.TheVariants.{Event, Dropped, Loose}
 use Rattle.wef_eventing.specs.Kept.{kept_words, read_kept}
-use Rattle.wef_eventing.specs.declared.subscriptions.Subscription.{Subscription}
 use Rattle.wef_keeper.specs.Rows.{Rows, applied, cell_of_row, key_cmp, key_cmp_total, row_of}
 use Rattle.wef_keeper.specs.declared.keys.Cell.{Cell}
 use Rattle.wef_keeper.specs.declared.keys.Change.{Change}
 use Rattle.wef_keeper.specs.declared.keys.Change.TheVariants.{Put, Delete}
 use Rattle.wef_keeper.specs.declared.keys.Key.{Key}
 use Rattle.wef_keeper.specs.declared.keys.Row.{Row}
-use Rattle.wef_collector.specs.Answers.{added_rows, ended_rows, is_there}
+use Rattle.wef_collector.specs.Answers.{ended_rows, is_there}
 use Rattle.wef_collector.specs.Bookmarks.{bookmark_at, is_one}
 use Rattle.wef_collector.specs.Boots.{boot_of}
-use Rattle.wef_collector.specs.Forms.{AreFormed, is_boot_row, is_bookmark_row, is_empty, is_formed, is_heard_row, is_held_row, is_loose_row, is_mark_row, is_number, is_subscription_name, is_subscription_row, names_channel, names_source}
-use Rattle.wef_collector.specs.FormsStay.{FormsStay, HasNumbers, ItemHasNumbers, booted_rows}
+use Rattle.wef_collector.specs.Forms.{AreFormed, is_boot_row, is_bookmark_row, is_formed, is_heard_row, is_held_row, is_loose_row, is_mark_row, is_subscription_name, is_subscription_row, names_channel, names_source}
+use Rattle.wef_collector.specs.FormsStay.{FormsStay, HasNumbers, ItemHasNumbers}
 use Rattle.wef_collector.specs.Keys.{bookmark_key, boot_key, heard_key, held_key, loose_key, mark_key, subscription_key}
 use Rattle.wef_collector.specs.Standing.{kept_body}
 use Rattle.wef_collector.specs.Taken.{batch_changes, channel_changes, heard_changes, is_later, item_changes, loose_changes, move_changes, put, reach_changes, taken}
@@ -187,9 +184,9 @@ item_well u s c b named (Event event) facts =
     well_if (same event.channel c && nat_lt b event.number) (put (held_key u s c event.number) 0 event.text) (λ _. held_well u s c event.number event.text (named event.number) facts.1)
 item_well u s c b named (Dropped channel first last) facts =
     well_if (same channel c && nat_lt b last) (put (mark_key u s c (max first (b + 1))) last []) (λ test.
-        let parts = and_parts (same channel c) (nat_lt b last) test in
-        let order : nat_le first last ≡ true = subst (λ (t : Bool). IfSome (cond t (Some (first, last)) None) (λ (span : ℕ × ℕ). nat_le span.0 span.1 ≡ true)) parts.0 facts.0 in
-        mark_well u s c (max first (b + 1)) last (named 0) (cut_order first last b (lower first last order) (below b last parts.1)) facts.1)
+    let parts = and_parts (same channel c) (nat_lt b last) test in
+    let order : nat_le first last ≡ true = subst (λ (t : Bool). IfSome (cond t (Some (first, last)) None) (λ (span : ℕ × ℕ). nat_le span.0 span.1 ≡ true)) parts.0 facts.0 in
+    mark_well u s c (max first (b + 1)) last (named 0) (cut_order first last b (lower first last order) (below b last parts.1)) facts.1)
 item_well u s c b named (Loose count) facts = tt
 
 move_well : (u s c : List ℕ) (b t sum : ℕ) → ((n : ℕ) → names_channel (held_key u s c n) ≡ true) → t ≤ 9223372036854775807 → sum ≤ 9223372036854775807 → AllByRecursion IsWell (move_changes u s c b t sum)

@@ -3,7 +3,7 @@ use Rattle.std.proofs.Common.{◌≡◌, ℕ, Bool, true, false, cond, List, [],
 use Rattle.std.specs.Cmp.{eq_by_cmp_equiv}
 use Rattle.std.specs.FinMap as map
 use Rattle.std.specs.Ordering.{eq_by_cmp}
-use Rattle.std.specs.Prelude.{Option, Some, None, Result, Ok, Err, IfSome, if◌then◌else◌}
+use Rattle.std.specs.Prelude.{Option, Some, None, Ok, Err, IfSome, if◌then◌else◌}
 use Rattle.wef_batch.specs.WellFormed.{is_well_formed}
 use Rattle.wef_batch.specs.declared.items.Batch.{Batch}
 use Rattle.wef_eventing.specs.Kept.{kept_words, read_kept}
@@ -17,7 +17,7 @@ use Rattle.wef_collector.specs.Keys.{subscription_key}
 use Rattle.wef_collector.specs.Standing.{is_full, standing, standing_by, standing_of}
 use Rattle.wef_eventing.specs.declared.subscriptions.Subscription.{Subscription}
 use Rattle.wef_collector.specs.Answers.{channels_read, is_there}
-use Rattle.wef_collector.specs.Calls.{Effect, add_effect, take_by, take_effect}
+use Rattle.wef_collector.specs.Calls.{add_effect, take_by, take_effect}
 use Rattle.wef_collector.specs.Taken.{batch_changes, put}
 use Rattle.wef_collector.specs.declared.faults.CollectorFault.TheVariants.{Exists, NotWellFormed, TooMany}
 use Rattle.wef_collector.specs.declared.standings.Standing.{Standing}

@@ -1,9 +1,9 @@
 -- Facts of what a store tells, and reads one after the other.
-use Rattle.std.proofs.Common.{◌≡◌, ℕ, ◌≤◌, Bool, true, false, sym, ◌∙◌, subst, arith}
+use Rattle.std.proofs.Common.{◌≡◌, ℕ, ◌≤◌, Bool, true, false, ◌∙◌, subst, arith}
 use Rattle.std.specs.List.{AllByRecursion}
 use Rattle.std.specs.Prelude.{Option, Some, None, IfSome, List}
 use Rattle.wef_base.specs.Counts.{Rose}
-use Rattle.wef_keeper.specs.Access.{AnyRows, CountsNone, HasCause, HasOpened, HasRead, IsSure, Narrows, OpensAndReads, Reads}
+use Rattle.wef_keeper.specs.Access.{AnyRows, HasOpened, OpensAndReads, Reads}
 use Rattle.wef_keeper.specs.Keeping.{IsOneOf, Stays, Store}
 use Rattle.wef_keeper.specs.Rows.{Rows}
 use Rattle.wef_collector.specs.Forms.{AreFormed}
@@ -55,10 +55,11 @@ opens_reads failed before mid now opened reads =
     let below : before.faults ≤ now.faults = omega arith in
     let tries = read.3 ∙ opened.1 in
     let plan = read.4 ∙ opened.2 in
-    let none = counts_none before.plan before.faults mid.faults now.faults opened.4 (same_plan before.plan mid.plan (now.faults ≡ mid.faults) opened.2 read.6) in
-    ((narrows_still before.images mid.images now.images opened.0 read.2, tries, plan, below, none, (λ _. read.0.0), (λ _. read.0.1)),
+    let none = counts_none before.plan before.faults mid.faults now.faults opened.4 (same_plan before.plan mid.plan (now.faults ≡ mid.faults) opened.2 read.6) in (
+      (narrows_still before.images mid.images now.images opened.0 read.2, tries, plan, below, none, (λ _. read.0.0), (λ _. read.0.1)),
       (λ fails. cause_from now.rows before.faults mid.faults now.faults low (reads.1 fails)),
-      same_plan before.plan mid.plan (IfSome now.rows (λ rows. AreFormed rows → failed ≡ false)) opened.2 reads.2)
+      same_plan before.plan mid.plan (IfSome now.rows (λ rows. AreFormed rows → failed ≡ false)) opened.2 reads.2,
+    )
 
 any_cause : (P : Type 0) (told : Option Rows) → IfSome told (λ rows. AnyRows rows → P) → IfSome told (λ rows. AreFormed rows → P)
 any_cause P None holds = tt

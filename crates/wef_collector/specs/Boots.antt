@@ -1,5 +1,5 @@
 -- The boot number: how often the collector was started over these rows.
-use Rattle.std.specs.Prelude.{ℕ, Option, unwrap_or}
+use Rattle.std.specs.Prelude.{ℕ, unwrap_or}
 use Rattle.std.specs.FinMap as map
 use Rattle.std.specs.Option.{option_map}
 use Rattle.wef_keeper.specs.Rows.{Rows}

@@ -172,11 +172,7 @@ impl<K: Keeper> Collector<K> {
     }
 
     /// How far a source was served for a subscription; also for one that has ended.
-    pub fn bookmark(
-        &mut self,
-        sub: &SubId,
-        source: &SourceName,
-    ) -> Result<Bookmark, CollectorFault>
+    pub fn bookmark(&mut self, sub: &SubId, source: &SourceName) -> Result<Bookmark, CollectorFault>
         ensures known { IfSome (K.store self.new.keeper).rows (λ rows. OnOk result (answers.is_known (standings.standing rows sub.now) ≡ true)) }
         ensures ok { IfSome (K.store self.new.keeper).rows (λ rows. IfOk result (λ bookmark. bookmark ≡ bookmark_of rows sub.now source.now)) }
         ensures refusal { IfErr result (λ fault. answers.RefusesUnknown fault (K.store self.new.keeper).rows sub.now) }

@@ -163,10 +163,7 @@ impl Retries {
     }
 }
 
-fn again(
-    alloc: Global,
-    keeper: FailingKeeper,
-) -> Result<Collector<FailingKeeper>, CollectorFault> {
+fn again(alloc: Global, keeper: FailingKeeper) -> Result<Collector<FailingKeeper>, CollectorFault> {
     match Collector::start(alloc, keeper) {
         Ok(collector) => Ok(collector),
         Err((_, fault)) => Err(fault),

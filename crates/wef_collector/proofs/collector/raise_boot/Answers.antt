@@ -1,5 +1,5 @@
 use Rattle.std.proofs.Common.{rules, ◌≡◌, subst, sym}
-use Rattle.std.specs.Prelude.{Result, Ok, Err}
+use Rattle.std.specs.Prelude.{Result, Err}
 use Rattle.wef_keeper.specs.Rows.{Rows}
 use Rattle.wef_collector.specs.Calls.{Effect, IsCall, boot_effect}
 use Rattle.wef_collector.specs.Faults.{collector_fault}

@@ -1,11 +1,10 @@
 use Rattle.std.proofs.Common.{rules, ◌≡◌, ◌∙◌, true, false, ap, sym, List}
-use Rattle.std.specs.Prelude.{Result, Ok, IfSome}
+use Rattle.std.specs.Prelude.{Ok}
 use Rattle.std.proofs.lemmas.Option.{IfSome_then}
 use Rattle.wef_batch.specs.WellFormed.{is_well_formed}
-use Rattle.wef_keeper.specs.Rows.{Rows}
 use Rattle.wef_keeper.specs.declared.keys.Change.{Change}
 use Rattle.wef_collector.specs.Answers.{channels_read}
-use Rattle.wef_collector.specs.Calls.{Effect, take_effect}
+use Rattle.wef_collector.specs.Calls.{take_effect}
 use Rattle.wef_collector.specs.Standing.{standing}
 use Rattle.wef_collector.specs.Taken.{batch_changes}
 use Rattle.wef_collector.specs.declared.standings.Standing.TheVariants.{Live}

@@ -1,5 +1,4 @@
 use Rattle.std.proofs.Common.{rules, ◌≡◌, ◌<◌, ◌∙◌, ◌++◌, List, [], map, length, take, ap, sym, subst, append-nil, arith}
-use Rattle.std.specs.Prelude.{IfSome}
 use Rattle.wef_keeper.proofs.ByPages.{last_page}
 use Rattle.wef_keeper.specs.Rows.{Rows}
 use Rattle.wef_keeper.specs.Sections.{last_key, rows_under}
@@ -49,9 +48,9 @@ loop-after-preserved g c =
     record {
       read = search rules;
       rest = told_both now.rows (λ rows. rows_under Channel after rows ≡ page ++ rows_under Channel (last_key after page) rows) (λ rows. text_of (rows_under Channel after rows) ≡ whole_text rows)
-      (λ rows. written.text ++ runs_text (runs_from written.running (map (span_of c.args.spans) (rows_under Channel next rows))) ≡ whole_text rows)
-      c.in_ok-page.ensures.rest done
-      (λ rows splits so. told (rows_under Channel next rows) ∙ ap text_of (ap (λ (k : Key). page ++ rows_under Channel k rows) is_next ∙ sym splits) ∙ so);
+          (λ rows. written.text ++ runs_text (runs_from written.running (map (span_of c.args.spans) (rows_under Channel next rows))) ≡ whole_text rows)
+          c.in_ok-page.ensures.rest done
+          (λ rows splits so. told (rows_under Channel next rows) ∙ ap text_of (ap (λ (k : Key). page ++ rows_under Channel k rows) is_next ∙ sym splits) ∙ so);
     }
 
 pub loop-after-smaller : goal.loop-after-smaller

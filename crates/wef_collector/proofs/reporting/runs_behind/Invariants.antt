@@ -10,8 +10,8 @@ abbrev pub invariant-loop-after : goal.invariant-loop-after
 invariant-loop-after g l = record {
   read : HasRead (g.K.Keeper.store l.fn.keeper) (g.K.Keeper.store l.keeper);
   rest : IfSome (g.K.Keeper.store l.keeper).rows (λ rows.
-    l.writer.text ++ runs_text (runs_from l.writer.running (map (span_of l.spans) (rows_under Channel l.after rows)))
-    ≡ runs_text (runs_of (map (span_of l.spans) (rows_under Channel l.fn.after rows))));
+      l.writer.text ++ runs_text (runs_from l.writer.running (map (span_of l.spans) (rows_under Channel l.after rows)))
+      ≡ runs_text (runs_of (map (span_of l.spans) (rows_under Channel l.fn.after rows))));
 }
 
 -- the numbers of a channel's rows rise
