@@ -1,6 +1,6 @@
 -- How a run ends: the status and the message of each ending, and what the ending says of the words, of what was
 -- read and of what was written.
-use Rattle.std.specs.Prelude.{◌≡◌, ℕ, Bool, true, false, List, [], ◌∷◌, ◌++◌, Option, Some, None, IfSome, Result, codes}
+use Rattle.std.specs.Prelude.{◌≡◌, ◌⊎◌, ℕ, Bool, true, false, List, [], ◌∷◌, ◌++◌, Option, Some, None, IfSome, Result, codes}
 use Rattle.std.specs.declared.result.Result.TheVariants.{Ok, Err}
 use Rattle.std.specs.Fmt.{decimal}
 use Rattle.std.specs.Io.KnownBytes.{Appends, Keeps, IsAtEnd}
@@ -9,8 +9,8 @@ use Rattle.wef_replay.specs.Schedule.{schedule_of}
 use Rattle.wef_replay.specs.declared.lines.Line.{Line}
 use Rattle.wef_replay.specs.declared.schedule.ScheduleFault as fault
 use Rattle.wef_replay.specs.declared.schedule.ScheduleFault.TheVariants as faults
-use Rattle.wef_world.specs.Laws.{AreSafe}
-use Rattle.wef_world.specs.Steps.{trail}
+use Rattle.wef_machine.specs.Laws.{AreKept, AreSafe}
+use Rattle.wef_machine.specs.Steps.{trail}
 use Rattle.wef_cli.specs.Command.{is_replay}
 use Rattle.wef_cli.specs.Streams.{WritesPart}
 use Rattle.wef_cli.specs.declared.ending.Ending.{Ending}
@@ -57,9 +57,23 @@ HasFailed told = Rose told.faults_before told.faults_after
 abbrev pub IsUnwritten : Told → Type 0
 IsUnwritten out = Keeps out.before out.after
 
--- What is written is the trail of the schedule, and each state of its run is safe.
+-- The text was written; or the object failed, and a part of the text from its beginning was.
+abbrev pub WroteText : Told → List ℕ → Type 0
+WroteText object text = Appends object.before object.after text ⊎ (HasFailed object × WritesPart object.before object.after text)
+
+-- The message of an ending was written, as far as the stream of messages took it.
+abbrev pub WroteMessage : Ending → Told → Type 0
+WroteMessage ending err = WroteText err (message_of ending)
+
+-- The second ending is told for the first: it is the same. In place of a bad line, whose message alone is made in memory, want of
+-- memory may be told.
+abbrev pub IsToldAs : Ending → Ending → Type 0
+IsToldAs (BadLine k) told = (told ≡ BadLine k) ⊎ (told ≡ NoMemory)
+IsToldAs ending told = told ≡ ending
+
+-- What is written is the trail of the schedule, and each state of its run is kept, and so it is safe.
 abbrev pub WroteTrail : Told → Result (List Line) fault.ScheduleFault → Type 0
-WroteTrail out (Ok lines) = Appends out.before out.after (trail lines) × AreSafe lines
+WroteTrail out (Ok lines) = Appends out.before out.after (trail lines) × AreKept lines × AreSafe lines
 WroteTrail out (Err e) = ⊥
 
 -- What is written is a front part of the trail of the schedule.

@@ -2,7 +2,7 @@
 
 ghost use Rattle.std.specs.Prelude.{◌≡◌, IfOk};
 ghost use Rattle.wef_cli.specs.Endings as spec;
-ghost use Rattle.wef_cli.specs.Streams.{WritesPart};
+ghost use Rattle.wef_cli.specs.declared.ending.Ending.TheVariants as the_endings;
 
 use crate::streams::write_whole;
 use std::alloc::{AllocError, Global};
@@ -40,14 +40,19 @@ impl Ending {
         }
     }
 
-    /// Writes the message, or as much of it as the stream takes. A failed write changes nothing else.
-    #[tactic(auto, unfolding(crate::specs::Endings::message_of))]
-    pub fn tell<E: Sink>(self, alloc: Global, err: &mut E)
-        ensures { WritesPart (E.taken err.old) (E.taken err.new) (spec.message_of self) }
+    /// Writes the message, or as much of it as the stream takes, and answers the ending that is told.
+    /// The text of a bad line is made in memory: where that is wanting, the run ends so, and this is told.
+    pub fn tell<E: Sink>(self, alloc: Global, err: &mut E) -> Ending
+        ensures told { spec.IsToldAs self result }
+        ensures message { spec.WroteMessage result
+            (record { before = E.taken err.old; after = E.taken err.new; faults_before = E.faults err.old; faults_after = E.faults err.new }) }
     {
         match self {
             Ending::BadLine(line) => tell_line(alloc, line, err),
-            _ => tell_text(self.fixed_message(), err),
+            _ => {
+                tell_text(self.fixed_message(), err);
+                self
+            }
         }
     }
 
@@ -68,18 +73,31 @@ impl Ending {
     }
 }
 
+/// Writes a text, or as much of it as the stream takes.
 fn tell_text<E: Sink>(text: &str, err: &mut E)
-    ensures { WritesPart (E.taken err.old) (E.taken err.new) text.now }
+    ensures { spec.WroteText
+        (record { before = E.taken err.old; after = E.taken err.new; faults_before = E.faults err.old; faults_after = E.faults err.new })
+        text.now }
 {
     let _ = write_whole(err, text.as_bytes());
 }
 
-/// Writes which line isn't good, where memory for the text is left.
-fn tell_line<E: Sink>(alloc: Global, line: u64, err: &mut E)
-    ensures { WritesPart (E.taken err.old) (E.taken err.new) (spec.bad_line_text line) }
+/// Writes which line isn't good, or that memory is wanting for the text.
+#[tactic(auto, unfolding(crate::specs::Endings::message_of))]
+fn tell_line<E: Sink>(alloc: Global, line: u64, err: &mut E) -> Ending
+    ensures told { spec.IsToldAs (the_endings.BadLine line) result }
+    ensures message { spec.WroteMessage result
+        (record { before = E.taken err.old; after = E.taken err.new; faults_before = E.faults err.old; faults_after = E.faults err.new }) }
 {
-    if let Ok(text) = line_text(alloc, line) {
-        tell_text(text.as_str(), err);
+    match line_text(alloc, line) {
+        Ok(text) => {
+            tell_text(text.as_str(), err);
+            Ending::BadLine(line)
+        }
+        Err(_) => {
+            tell_text(Ending::NoMemory.fixed_message(), err);
+            Ending::NoMemory
+        }
     }
 }
 

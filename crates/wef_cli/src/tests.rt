@@ -7,6 +7,7 @@ use std::test::Fail;
 use wef_base::{Bytes, List, MemSink, MemSource, Text};
 
 mod bad_lines;
+mod crashes;
 mod limits;
 mod reports;
 mod sources;

@@ -3,8 +3,7 @@
 ghost use Rattle.std.specs.Prelude.{◌≡◌, ◌++◌, IfOk, IfErr};
 ghost use Rattle.wef_replay.specs.Schedule.{schedule_of};
 ghost use Rattle.wef_cli.specs.Command.{is_replay};
-ghost use Rattle.wef_cli.specs.Endings.{Told, ReplayEnds, RunEnds, message_of, status_of};
-ghost use Rattle.wef_cli.specs.Streams.{WritesPart};
+ghost use Rattle.wef_cli.specs.Endings.{Told, ReplayEnds, RunEnds, WroteMessage, status_of};
 ghost use Rattle.wef_cli.specs.Trails.{IsTrail, IsRefused};
 ghost use Rattle.wef_cli.specs.declared.ending.Ending as the_ending;
 
@@ -19,8 +18,9 @@ use wef_world::{WorldFault, run_lines};
 /// Runs `wef` with the words that follow the program's name, and answers its exit status.
 ///
 /// The one command is `replay`: it reads a schedule to its end, checks it whole, does its lines and
-/// writes what they print. Each state on the way is safe. What ended the run is told in one line to `err`, or in as much of it as
-/// `err` takes. Status 6 alone comes free: for want of memory.
+/// writes what they print. Each state on the way is kept, and so it is safe. What ended the run is told
+/// in one line to `err`, or in as much of it as `err` takes. Status 6 alone comes free: for want of
+/// memory, also for the text that tells of a bad line.
 pub fn run<I: Source, O: Sink, E: Sink>(
     alloc: Global,
     words: &[Text],
@@ -29,14 +29,15 @@ pub fn run<I: Source, O: Sink, E: Sink>(
     err: &mut E,
 ) -> u8
     ensures { (ending : the_ending.Ending) × (result ≡ status_of ending)
-        × WritesPart (E.taken err.old) (E.taken err.new) (message_of ending)
+        × WroteMessage ending
+        (record { before = E.taken err.old; after = E.taken err.new; faults_before = E.faults err.old; faults_after = E.faults err.new })
         × RunEnds (is_replay words.now) ending
         (record { before = I.left input.old; after = I.left input.new; faults_before = I.faults input.old; faults_after = I.faults input.new })
         (record { before = O.taken out.old; after = O.taken out.new; faults_before = O.faults out.old; faults_after = O.faults out.new }) }
 {
     let ending = ending_of(alloc, words, input, out);
-    ending.tell(alloc, err);
-    ending.status()
+    let told = ending.tell(alloc, err);
+    told.status()
 }
 
 fn ending_of<I: Source, O: Sink>(

@@ -2,7 +2,7 @@ pub mod Batches
 pub mod Channels
 pub mod Commits
 pub mod Forming
-pub mod FormsKept
+pub mod FormsStay
 pub mod HeldPages
 pub mod Hits
 pub mod ListedThere

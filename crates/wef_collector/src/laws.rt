@@ -1,4 +1,4 @@
-//! Laws of taking batches, of listing, and of the rows' forms, as contracts.
+//! Laws of taking batches, of listing, and of rows of their form, as contracts.
 
 ghost use Rattle.wef_collector.specs.FormsStay.{FormsStay};
 ghost use Rattle.wef_collector.specs.Laws.{BookmarkMoves, BookmarkNeverFalls, EventsAreHeld, OthersStay};
@@ -21,7 +21,8 @@ pub fn listed_are_there()
     ensures own_keys { OwnKeysStay }
 {}
 
-/// Rows that are of their form stay so, whatever the collector does.
+/// Rows that are all of their form stay so, whatever the collector does: where there is none, over
+/// a start, where a subscription is added or ends, and over a batch that is taken.
 pub fn forms_stay()
     ensures { FormsStay }
 {}

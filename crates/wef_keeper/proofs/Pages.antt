@@ -1,6 +1,6 @@
 -- Pages and sections of a list of entries in order.
 use Rattle.std.proofs.Common.{◌≡◌, ℕ, zero, suc, Bool, true, false, cond, ◌&&◌, T, refl, sym, ap, ◌∙◌, subst, Option, Some, None, List, [], ◌∷◌, ◌++◌, map, take, drop, nat_eq, All}
-use Rattle.std.proofs.lemmas.List.Elements.{filter_agree, All-head, All-tail}
+use Rattle.std.proofs.lemmas.List.Elements.{filter_agree, filter_passes, All-head, All-tail, All-map, All-take}
 use Rattle.std.specs.BTreeMap.Range.{entries_between}
 use Rattle.std.specs.Cmp.{IsTotalOrder, alike_right, tied_itself, Equal-is, unsigned_ties, nat_cmp_total, nat_eq_equiv}
 use Rattle.std.specs.Cmp.Lexicographic.{slice_cmp, pointwise, texts_ties, nat_list_cmp_total, nat_list_eq_equiv}
@@ -271,6 +271,14 @@ pub page_is : (a : Key) (entries : List (Key × Option Cell)) → Rising entries
     → standing (front (λ key. is_wanted None a key) (entries_between key_cmp (Excluded a) Unbounded entries)) ≡ rows_after a (live entries)
 page_is a entries h =
     ap standing (front_all _ ∙ between_is a entries) ∙ standing_is (kept (is_after a) entries) ∙ ap (map row_of) (filled_kept (is_after a) entries) ∙ sym (after_live a entries h)
+
+-- the rows of a page are behind the key
+pub page_behind : (a : Key) (n : ℕ) (rows : Rows) (page : List Row) → page ≡ take n (rows_after a rows) → All (λ (row : Row). is_after a row.key ≡ true) page
+page_behind a n rows page is =
+    let entries = finite.entries rows in
+    let whole = All-map (λ (row : Row). is_after a row.key ≡ true) row_of _ (filter_passes (λ entry. is_after a entry.0) entries) in
+    let P : List Row → Type 0 = All (λ (row : Row). is_after a row.key ≡ true) in
+    subst P (sym is) (All-take (λ (row : Row). is_after a row.key ≡ true) n (rows_after a rows) whole)
 
 -- whether a key is of the section behind `a`
 abbrev pub is_of : Depth → Key → Key → Bool

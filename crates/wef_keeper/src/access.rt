@@ -54,7 +54,7 @@ impl From<KeeperFault> for StoreFault {
 #[tactic(auto, using(crate::proofs::Openings::narrows_kept))]
 pub fn open<K: Keeper>(keeper: &mut K) -> Result<(), StoreFault>
     ensures ready { OnOk result (access.IsReady (K.store keeper.new)) }
-    ensures found { OnOk result (access.Finds (K.store keeper.old) (K.store keeper.new)) }
+    ensures found { access.fails result ≡ false → access.Finds (K.store keeper.old) (K.store keeper.new) }
     ensures opened { access.OpensAndReads access.AnyRows (access.fails result) (K.store keeper.old) (K.store keeper.new) }
     ensures refused { access.IsRefused result (K.store keeper.old).doubt }
 {

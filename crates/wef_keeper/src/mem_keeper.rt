@@ -116,6 +116,7 @@ impl Keeper for MemKeeper {
         Ok(found_row(&self.rows, key)?)
     }
 
+    #[tactic(auto, using(crate::proofs::Pages::page_behind))]
     fn page(&mut self, after: &Key, max: u32) -> Result<List<Row>, KeeperFault> {
         self.begin_read()?;
         Ok(self.rows.page(after, max)?)

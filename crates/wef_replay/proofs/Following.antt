@@ -4,11 +4,13 @@ use Rattle.std.specs.Prelude.{Option, Some, None, is_some}
 use Rattle.std.specs.Option.{option_and_then, option_flatten}
 use Rattle.wef_base.specs.Names.{same}
 use Rattle.wef_replay.specs.Alike.{AreAlike}
-use Rattle.wef_replay.specs.Good.{Names, allows, noted}
+use Rattle.wef_replay.specs.Good.{Names, allows, has_end, noted}
 use Rattle.wef_replay.specs.Grammar.{meaning}
 use Rattle.wef_replay.specs.Schedule.{first_bad, if_allowed, lines_of, meaning_after, noted_if_some, with_line}
+use Rattle.wef_replay.specs.declared.lines.EndName.{EndName}
+use Rattle.wef_replay.specs.declared.lines.EndName.TheVariants as end
 use Rattle.wef_replay.specs.declared.lines.Line.{Line}
-use Rattle.wef_replay.specs.declared.lines.Line.TheVariants.{Subscribe, End, Batch, Source, Write, Ask, Poll, Deliver, Back, Lost, Show, Print}
+use Rattle.wef_replay.specs.declared.lines.Line.TheVariants.{Subscribe, End, Batch, Source, Write, Ask, Poll, Deliver, Back, Lost, Show, Print, Crash, Fail, Stop, Calm}
 
 -- ---- one text
 
@@ -48,10 +50,18 @@ alike_noted (Back n) a b alike = alike
 alike_noted (Lost s u) a b alike = alike
 alike_noted Show a b alike = alike
 alike_noted (Print u s c) a b alike = alike
+alike_noted (Crash e) a b alike = alike
+alike_noted (Fail e after) a b alike = alike
+alike_noted (Stop e after) a b alike = alike
+alike_noted Calm a b alike = alike
 
 alike_noted_if_some : (act : Option Line) (a b : Names) → AreAlike a b → AreAlike (noted_if_some act a) (noted_if_some act b)
 alike_noted_if_some None a b alike = alike
 alike_noted_if_some (Some line) a b alike = alike_noted line a b alike
+
+has_end-alike : (e : EndName) (a b : Names) → AreAlike a b → has_end a e ≡ has_end b e
+has_end-alike end.Collector a b alike = refl
+has_end-alike (end.Source s) a b alike = alike.declared s
 
 allows-alike : (line : Line) (a b : Names) → AreAlike a b → allows a line ≡ allows b line
 allows-alike (Source s capacity) a b alike = λ i. not (alike.declared s i) && not (alike.foreign s i)
@@ -66,6 +76,10 @@ allows-alike (Back n) a b alike = refl
 allows-alike (Lost s u) a b alike = alike.declared s
 allows-alike Show a b alike = refl
 allows-alike (Print u s c) a b alike = refl
+allows-alike (Crash e) a b alike = has_end-alike e a b alike
+allows-alike (Fail e after) a b alike = has_end-alike e a b alike
+allows-alike (Stop e after) a b alike = has_end-alike e a b alike
+allows-alike Calm a b alike = refl
 
 if_allowed-alike : (act : Option Line) (a b : Names) → AreAlike a b → if_allowed a act ≡ if_allowed b act
 if_allowed-alike None a b alike = refl

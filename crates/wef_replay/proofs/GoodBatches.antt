@@ -4,61 +4,75 @@ use Rattle.std.specs.Prelude.{◌==◌, Option, Some, None, codes, not, unwrap_o
 use Rattle.std.specs.Cmp.Lexicographic.{slice_cmp}
 use Rattle.std.specs.FinMap as map
 use Rattle.std.specs.FinMap.Entries.{by_order}
-use Rattle.std.specs.List.{list_all}
+use Rattle.std.specs.List.{All, list_all}
 use Rattle.std.specs.Ordering.{eq_by_cmp, nat_cmp}
+use Rattle.std.specs.Str.{is_utf8}
 use Rattle.std.specs.declared.cmp.Ordering.TheVariants.{Less, Equal, Greater}
 use Rattle.std.proofs.lemmas.Bool.{and_from, and_parts, or_left, or_right}
 use Rattle.std.proofs.lemmas.Bool.Decides.{nat_tests}
 use Rattle.std.proofs.lemmas.Cmp.{nat_list_cmp_total}
+use Rattle.std.proofs.lemmas.List.Elements.{All-nil, All-push}
 use Rattle.std.proofs.lemmas.List.Folds.{list_all-append}
 use Rattle.wef_base.specs.Names.{same}
-use Rattle.wef_base.specs.Words.{parts}
+use Rattle.wef_base.specs.Words.{decoded, parts}
 use Rattle.wef_batch.specs.declared.items.Batch as batch
 use Rattle.wef_batch.specs.declared.items.Item.TheVariants as item
 use Rattle.wef_bookmark.specs.Order.{Marks, number_at, raised}
+use Rattle.wef_event.specs.Characters.{is_xml_text}
 use Rattle.wef_event.specs.PlainEvent.{plain_event, plain_text}
 use Rattle.wef_event.specs.declared.records.Event.{Event}
-use Rattle.wef_replay.specs.BatchWords.{added, batch_word, data_word, dropped_word, empty_batch, event_word, greatest, if_word, is_nothing, loose_word, reach_word, read_words, word_of}
+use Rattle.wef_replay.specs.BatchWords.{added, batch_word, colon_joined, data_word, dropped_word, empty_batch, event_word, greatest, if_word, if_xml_text, is_nothing, loose_word, reach_word, read_words, word_of}
 use Rattle.wef_replay.specs.Good.{are_words, has_word, is_channel, is_count, is_item, is_number, is_reach}
+use Rattle.wef_replay.specs.PlainEvents.{IsPlainItem}
 use Rattle.wef_replay.specs.Values.{channel_word, number_word}
 use Rattle.wef_replay.specs.declared.batches.BatchWord.{BatchWord}
 use Rattle.wef_replay.specs.declared.batches.BatchWord.TheVariants.{Item, Reach, Ack}
-use Rattle.wef_replay.proofs.Gifts.{AllOf, all_of-if, all_of-map, all_of-then}
-use Rattle.wef_replay.proofs.GoodNames.{good-channel}
+use Rattle.wef_replay.proofs.Gifts.{AllOf, all_of-if, all_of-map, all_of-tested, all_of-then}
+use Rattle.wef_replay.proofs.GoodNames.{decoded_is_text, good-channel}
 use Rattle.wef_replay.proofs.GoodNumbers.{count_from_between, good-number, is_count-max}
 
 -- ---- one word
 
--- what a word says is within the limits
+-- what a word says is within the limits, and its event is plain
 abbrev IsGoodWord : BatchWord → Type 0
-IsGoodWord (Item i) = is_item i ≡ true
+IsGoodWord (Item i) = (is_item i ≡ true) × IsPlainItem i
 IsGoodWord (Reach c n) = is_reach (c, n) ≡ true
 IsGoodWord Ack = Unit {0}
 
-good-plain_event : (c : List ℕ) (n : ℕ) (d : List ℕ) → is_channel c ≡ true → is_number n ≡ true → AllOf (λ event. (is_channel event.channel && is_number event.number) ≡ true) (plain_event c n 0 0 d)
-good-plain_event c n d channel number =
-    all_of-if (λ (event : Event). (is_channel event.channel && is_number event.number) ≡ true) (nat_lt 1048576 (length (plain_text c n 0 0 d))) None _ tt
-    (and_from (is_channel c) (is_number n) channel number)
+-- a word of XML Chars
+abbrev IsXmlWord : List ℕ → Type 0
+IsXmlWord word = (is_utf8 word ≡ true) × (is_xml_text word ≡ true)
+
+good-data_word : (piece : List ℕ) (more : List (List ℕ)) → AllOf IsXmlWord (data_word piece more)
+good-data_word piece more =
+    all_of-then (λ word. is_utf8 word ≡ true) IsXmlWord if_xml_text (decoded (colon_joined piece more)) (decoded_is_text (colon_joined piece more))
+    (λ word text. all_of-tested IsXmlWord (is_xml_text word) word (λ characters. (text, characters)))
+
+good-plain_event : (c : List ℕ) (n : ℕ) (word : List ℕ) → is_channel c ≡ true → is_number n ≡ true → IsXmlWord word → AllOf (λ event. IsGoodWord (Item (item.Event event))) (plain_event c n 0 0 word)
+good-plain_event c n word channel number characters = by (nat_lt 1048576 (length (plain_text c n 0 0 word))) refl
+  where
+    made : Event
+    made = record { channel = c; number = n; text = plain_text c n 0 0 word }
+
+    by : (b : Bool) → nat_lt 1048576 (length (plain_text c n 0 0 word)) ≡ b → AllOf (λ event. IsGoodWord (Item (item.Event event))) (cond b None (Some made))
+    by true long = tt
+    by false fits = (and_from (is_channel c) (is_number n) channel number, (word, characters.0, characters.1, ap (λ (b : Bool). cond b None (Some made)) fits))
 
 good-event_word : (channel number piece : List ℕ) (more : List (List ℕ)) → AllOf IsGoodWord (event_word channel number piece more)
 good-event_word channel number piece more =
     all_of-then (λ c. is_channel c ≡ true) IsGoodWord _ (channel_word channel) (good-channel channel) (λ c is_c.
     all_of-then (λ n. is_number n ≡ true) IsGoodWord _ (number_word 1 greatest number) (good-number 1 greatest number) (λ n is_n.
-    all_of-then (λ d. Unit {0}) IsGoodWord _ (data_word piece more) (anything (data_word piece more)) (λ d _.
-    all_of-map (λ (event : Event). (is_channel event.channel && is_number event.number) ≡ true) IsGoodWord _ (plain_event c n 0 0 d) (good-plain_event c n d is_c is_n) (λ event h. h))))
-  where
-    anything : {X : Type 0} (given : Option X) → AllOf (λ x. Unit {0}) given
-    anything None = tt
-    anything (Some x) = tt
+    all_of-then IsXmlWord IsGoodWord _ (data_word piece more) (good-data_word piece more) (λ word characters.
+    all_of-map (λ (event : Event). IsGoodWord (Item (item.Event event))) IsGoodWord _ (plain_event c n 0 0 word) (good-plain_event c n word is_c is_n characters) (λ event h. h))))
 
 good-dropped_word : (channel first last : List ℕ) → AllOf IsGoodWord (dropped_word channel first last)
 good-dropped_word channel first last =
     all_of-then (λ c. is_channel c ≡ true) IsGoodWord _ (channel_word channel) (good-channel channel) (λ c is_c.
     all_of-then (λ n. is_number n ≡ true) IsGoodWord _ (number_word 1 greatest first) (good-number 1 greatest first) (λ a is_a.
-    all_of-map (λ n. is_number n ≡ true) IsGoodWord _ (number_word 1 greatest last) (good-number 1 greatest last) (λ b is_b. λ i. is_c i && is_a i && is_b i)))
+    all_of-map (λ n. is_number n ≡ true) IsGoodWord _ (number_word 1 greatest last) (good-number 1 greatest last) (λ b is_b. (λ i. is_c i && is_a i && is_b i, tt))))
 
 good-loose_word : (count : List ℕ) → AllOf IsGoodWord (loose_word count)
-good-loose_word count = all_of-map _ IsGoodWord (λ n. Item (item.Loose n)) (number_word 0 greatest count) (good-number 0 greatest count) count_from_between
+good-loose_word count = all_of-map _ IsGoodWord (λ n. Item (item.Loose n)) (number_word 0 greatest count) (good-number 0 greatest count) (λ n h. (count_from_between n h, tt))
 
 good-reach_word : (channel number : List ℕ) → AllOf IsGoodWord (reach_word channel number)
 good-reach_word channel number =
@@ -112,17 +126,19 @@ good-raised b c n channel count all =
 
 record IsGoodSoFar (b : batch.Batch) : Type 0 where
   items : list_all is_item b.items ≡ true
+  plain : All IsPlainItem b.items
   to : list_all is_reach (map.entries b.to) ≡ true
 
 good-added : (word : BatchWord) (b : batch.Batch) → IsGoodWord word → IsGoodSoFar b → IsGoodSoFar (added word b)
 good-added (Item i) b good so_far = record {
-  items = list_all-append is_item b.items (i ∷ []) ∙ (λ j. so_far.items j && (good j && true));
+  items = list_all-append is_item b.items (i ∷ []) ∙ (λ j. so_far.items j && (good.0 j && true));
+  plain = All-push IsPlainItem b.items i so_far.plain good.1;
   to = so_far.to;
 }
 good-added (Reach c n) b good so_far =
     let parts = and_parts (is_channel c) (is_count n) good in
-    record { items = so_far.items; to = good-raised b.to c n parts.0 parts.1 so_far.to }
-good-added Ack b good so_far = record { items = so_far.items; to = so_far.to }
+    record { items = so_far.items; plain = so_far.plain; to = good-raised b.to c n parts.0 parts.1 so_far.to }
+good-added Ack b good so_far = record { items = so_far.items; plain = so_far.plain; to = so_far.to }
 
 more_than_none : (n m : ℕ) → n ≡ m + 1 → not (n == 0) ≡ true
 more_than_none n m e = grind (arith, nat_tests, e)
@@ -145,10 +161,14 @@ has_word-added (Reach c n) b =
     or_left (not (length b.items == 0) || not (length (map.entries (raised b.to c n)) == 0)) b.ack_wanted (or_right (not (length b.items == 0)) _ some)
 has_word-added Ack b = or_right (not (length b.items == 0) || not (length (map.entries b.to) == 0)) true refl
 
-good-read_words : (b : batch.Batch) (words : List (List ℕ)) → IsGoodSoFar b → has_word b ≡ true → AllOf (λ whole. are_words whole ≡ true) (read_words b words)
-good-read_words b [] so_far some = λ i. some i && so_far.items i && so_far.to i
+-- the words are within the limits, and each event is plain
+abbrev pub AreGoodWords : batch.Batch → Type 0
+AreGoodWords whole = (are_words whole ≡ true) × All IsPlainItem whole.items
+
+good-read_words : (b : batch.Batch) (words : List (List ℕ)) → IsGoodSoFar b → has_word b ≡ true → AllOf AreGoodWords (read_words b words)
+good-read_words b [] so_far some = (λ i. some i && so_far.items i && so_far.to i, so_far.plain)
 good-read_words b (word ∷ words) so_far some =
-    all_of-then IsGoodWord (λ whole. are_words whole ≡ true) (λ w. read_words (added w b) words) (batch_word word) (good-word_of (parts 58 word))
+    all_of-then IsGoodWord AreGoodWords (λ w. read_words (added w b) words) (batch_word word) (good-word_of (parts 58 word))
     (λ w good. good-read_words (added w b) words (good-added w b good so_far) (has_word-added w b))
 
 none-entries : (entries : List (List ℕ × ℕ)) → length entries ≡ 0 → list_all is_reach entries ≡ true
@@ -156,10 +176,10 @@ none-entries [] e = refl
 none-entries (entry ∷ entries) e = absurd (omega arith)
 
 good-empty : IsGoodSoFar empty_batch
-good-empty = record { items = refl; to = none-entries (map.entries empty_batch.to) (sym (map.len-entries empty_batch.to) ∙ map.len-empty (slice_cmp nat_cmp) ℕ) }
+good-empty = record { items = refl; plain = All-nil IsPlainItem; to = none-entries (map.entries empty_batch.to) (sym (map.len-entries empty_batch.to) ∙ map.len-empty (slice_cmp nat_cmp) ℕ) }
 
 -- the words of a batch, of which there is one or more
-pub good-batch_words : (word : List ℕ) (words : List (List ℕ)) → AllOf (λ whole. are_words whole ≡ true) (read_words empty_batch (word ∷ words))
+pub good-batch_words : (word : List ℕ) (words : List (List ℕ)) → AllOf AreGoodWords (read_words empty_batch (word ∷ words))
 good-batch_words word words =
-    all_of-then IsGoodWord (λ whole. are_words whole ≡ true) (λ w. read_words (added w empty_batch) words) (batch_word word) (good-word_of (parts 58 word))
+    all_of-then IsGoodWord AreGoodWords (λ w. read_words (added w empty_batch) words) (batch_word word) (good-word_of (parts 58 word))
     (λ w good. good-read_words (added w empty_batch) words (good-added w empty_batch good good-empty) (has_word-added w empty_batch))

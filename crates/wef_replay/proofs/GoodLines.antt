@@ -2,6 +2,7 @@
 use Rattle.std.proofs.Common.{◌≡◌, ℕ, ◌+◌, Bool, true, false, ◌&&◌, List, [], ◌∷◌, length, refl, arith}
 use Rattle.std.specs.Prelude.{◌==◌, Option, Some, None, codes, is_some, not}
 use Rattle.std.specs.List.{list_all}
+use Rattle.std.specs.Option.{option_and_then, option_map}
 use Rattle.std.specs.Str.{is_utf8}
 use Rattle.std.proofs.lemmas.Bool.{and_from, and_parts}
 use Rattle.std.proofs.lemmas.Bool.Decides.{nat_tests}
@@ -12,19 +13,23 @@ use Rattle.wef_event.specs.Unnumbered.{numbered}
 use Rattle.wef_event.specs.declared.unnumbered.PlainEvent.{PlainEvent}
 use Rattle.wef_query.specs.Queries.{all_events_of}
 use Rattle.wef_replay.specs.BatchWords.{empty_batch, greatest, read_words}
-use Rattle.wef_replay.specs.Good.{are_all, asks_for_all, fits_always, is_channel, is_line, is_no_collector, is_source, is_subscription}
-use Rattle.wef_replay.specs.Grammar.{all_of, ask_line, back_line, batch_line, deliver_line, does_nothing, end_line, event_if_xml, event_words, fitting_event, if_fits, line_of_words, lost_line, meaning, poll_line, print_line, show_line, source_line, source_line_of, subscribe_line, subscribe_numbers, write_line}
+use Rattle.wef_replay.specs.Good.{are_all, asks_for_all, fits_always, is_channel, is_end, is_line, is_no_collector, is_source, is_subscription}
+use Rattle.wef_replay.specs.Grammar.{all_of, ask_line, back_line, batch_line, calm_line, crash_line, deliver_line, does_nothing, end_line, event_if_xml, event_words, fail_line, failure_line_of, fitting_event, if_fits, line_of_words, lost_line, meaning, poll_line, print_line, show_line, source_line, source_line_of, stop_line, subscribe_line, subscribe_numbers, write_line}
+use Rattle.wef_replay.specs.PlainEvents.{HasPlainEvents}
 use Rattle.wef_replay.specs.Reading.{with_first}
-use Rattle.wef_replay.specs.Values.{channel_word, channel_words, number_word, sending_source_word, source_word, subscription_word}
+use Rattle.wef_replay.specs.Values.{after_word, channel_word, channel_words, end_word, number_word, sending_source_word, source_word, subscription_word}
+use Rattle.wef_replay.specs.declared.lines.EndName.{EndName}
+use Rattle.wef_replay.specs.declared.lines.EndName.TheVariants as end
 use Rattle.wef_replay.specs.declared.lines.Line.{Line}
-use Rattle.wef_replay.specs.declared.lines.Line.TheVariants.{Subscribe, End, Batch, Source, Write, Ask, Poll, Deliver, Back, Lost, Print}
+use Rattle.wef_replay.specs.declared.lines.Line.TheVariants.{Subscribe, End, Batch, Source, Write, Ask, Poll, Deliver, Back, Lost, Print, Crash, Fail, Stop}
 use Rattle.wef_replay.proofs.Gifts.{AllOf, all_of-if, all_of-map, all_of-tested, all_of-then}
 use Rattle.wef_replay.proofs.GoodBatches.{good-batch_words}
 use Rattle.wef_replay.proofs.GoodNames.{decoded_is_text, good-channel, good-sending_source, good-source, good-subscription}
 use Rattle.wef_replay.proofs.GoodNumbers.{count_from_between, good-number}
 
+-- the line's values are of their kinds, and its events are plain
 abbrev pub IsGoodLine : Line → Type 0
-IsGoodLine line = is_line line ≡ true
+IsGoodLine line = (is_line line ≡ true) × HasPlainEvents line
 
 -- ---- subscriptions
 
@@ -62,7 +67,7 @@ good-subscribe_numbers u items bytes beat channel channels is_u =
     all_of-then _ IsGoodLine _ (number_word 8192 4194304 bytes) (good-number 8192 4194304 bytes) (λ b is_b.
     all_of-then _ IsGoodLine _ (number_word 1 86400000 beat) (good-number 1 86400000 beat) (λ h is_h.
     all_of-map _ IsGoodLine (λ cs. Subscribe u i b h (all_of cs)) (channel_words (channel ∷ channels)) (good-some_channels channel channels)
-    (λ cs are. λ j. is_u j && (is_i j && is_b j && is_h j) && are j))))
+    (λ cs are. (λ j. is_u j && (is_i j && is_b j && is_h j) && are j, tt)))))
 
 good-subscribe_line : (words : List (List ℕ)) → AllOf IsGoodLine (subscribe_line words)
 good-subscribe_line [] = tt
@@ -77,7 +82,7 @@ good-subscribe_line (sub ∷ items ∷ bytes ∷ beat ∷ kind ∷ channel ∷ c
 
 good-end_line : (words : List (List ℕ)) → AllOf IsGoodLine (end_line words)
 good-end_line [] = tt
-good-end_line (sub ∷ []) = all_of-map _ IsGoodLine (λ u. End u) (subscription_word sub) (good-subscription sub) (λ u h. h)
+good-end_line (sub ∷ []) = all_of-map _ IsGoodLine (λ u. End u) (subscription_word sub) (good-subscription sub) (λ u h. (h, tt))
 good-end_line (a ∷ b ∷ more) = tt
 
 good-batch_line : (words : List (List ℕ)) → AllOf IsGoodLine (batch_line words)
@@ -89,7 +94,7 @@ good-batch_line (sub ∷ source ∷ word ∷ words) =
     all_of-then _ IsGoodLine _ (sending_source_word source) (good-sending_source source) (λ s is_s.
     all_of-map _ IsGoodLine (λ b. Batch u s b) (read_words empty_batch (word ∷ words)) (good-batch_words word words) (λ b is_b.
     let parts = and_parts (is_source s) (is_no_collector s) is_s in
-    λ i. is_u i && parts.0 i && parts.1 i && is_b i)))
+    (λ i. is_u i && parts.0 i && parts.1 i && is_b.0 i, is_b.1))))
 
 -- ---- sources
 
@@ -98,7 +103,7 @@ good-source_line [] = tt
 good-source_line (a ∷ []) = tt
 good-source_line (source ∷ capacity ∷ []) =
     all_of-then _ IsGoodLine _ (sending_source_word source) (good-sending_source source) (λ s is_s.
-    all_of-map _ IsGoodLine (λ n. Source s n) (number_word 1 1000000 capacity) (good-number 1 1000000 capacity) (λ n is_n. λ i. is_s i && is_n i))
+    all_of-map _ IsGoodLine (λ n. Source s n) (number_word 1 1000000 capacity) (good-number 1 1000000 capacity) (λ n is_n. (λ i. is_s i && is_n i, tt)))
 good-source_line (a ∷ b ∷ c ∷ more) = tt
 
 good-if_fits : (event : PlainEvent) → is_channel event.channel ≡ true → AllOf (λ event. fits_always event ≡ true) (if_fits event)
@@ -124,12 +129,12 @@ good-write_line (a ∷ b ∷ c ∷ []) = tt
 good-write_line (a ∷ b ∷ c ∷ d ∷ []) = tt
 good-write_line (source ∷ channel ∷ id ∷ level ∷ word ∷ []) =
     all_of-then _ IsGoodLine _ (source_word source) (good-source source) (λ s is_s.
-    all_of-map _ IsGoodLine (λ event. Write s event) (event_words channel id level word) (good-event_words channel id level word) (λ event fits. λ i. is_s i && fits i))
+    all_of-map _ IsGoodLine (λ event. Write s event) (event_words channel id level word) (good-event_words channel id level word) (λ event fits. (λ i. is_s i && fits i, tt)))
 good-write_line (a ∷ b ∷ c ∷ d ∷ e ∷ f ∷ more) = tt
 
 good-ask_line : (words : List (List ℕ)) → AllOf IsGoodLine (ask_line words)
 good-ask_line [] = tt
-good-ask_line (source ∷ []) = all_of-map _ IsGoodLine (λ s. Ask s) (source_word source) (good-source source) (λ s h. h)
+good-ask_line (source ∷ []) = all_of-map _ IsGoodLine (λ s. Ask s) (source_word source) (good-source source) (λ s h. (h, tt))
 good-ask_line (a ∷ b ∷ more) = tt
 
 good-poll_line : (words : List (List ℕ)) → AllOf IsGoodLine (poll_line words)
@@ -137,7 +142,7 @@ good-poll_line [] = tt
 good-poll_line (a ∷ []) = tt
 good-poll_line (source ∷ sub ∷ []) =
     all_of-then _ IsGoodLine _ (source_word source) (good-source source) (λ s is_s.
-    all_of-map _ IsGoodLine (λ u. Poll s u) (subscription_word sub) (good-subscription sub) (λ u is_u. λ i. is_s i && is_u i))
+    all_of-map _ IsGoodLine (λ u. Poll s u) (subscription_word sub) (good-subscription sub) (λ u is_u. (λ i. is_s i && is_u i, tt)))
 good-poll_line (a ∷ b ∷ c ∷ more) = tt
 
 good-lost_line : (words : List (List ℕ)) → AllOf IsGoodLine (lost_line words)
@@ -145,23 +150,23 @@ good-lost_line [] = tt
 good-lost_line (a ∷ []) = tt
 good-lost_line (source ∷ sub ∷ []) =
     all_of-then _ IsGoodLine _ (source_word source) (good-source source) (λ s is_s.
-    all_of-map _ IsGoodLine (λ u. Lost s u) (subscription_word sub) (good-subscription sub) (λ u is_u. λ i. is_s i && is_u i))
+    all_of-map _ IsGoodLine (λ u. Lost s u) (subscription_word sub) (good-subscription sub) (λ u is_u. (λ i. is_s i && is_u i, tt)))
 good-lost_line (a ∷ b ∷ c ∷ more) = tt
 
 good-deliver_line : (words : List (List ℕ)) → AllOf IsGoodLine (deliver_line words)
 good-deliver_line [] = tt
-good-deliver_line (number ∷ []) = all_of-map _ IsGoodLine (λ n. Deliver n) (number_word 0 greatest number) (good-number 0 greatest number) count_from_between
+good-deliver_line (number ∷ []) = all_of-map _ IsGoodLine (λ n. Deliver n) (number_word 0 greatest number) (good-number 0 greatest number) (λ n h. (count_from_between n h, tt))
 good-deliver_line (a ∷ b ∷ more) = tt
 
 good-back_line : (words : List (List ℕ)) → AllOf IsGoodLine (back_line words)
 good-back_line [] = tt
-good-back_line (number ∷ []) = all_of-map _ IsGoodLine (λ n. Back n) (number_word 0 greatest number) (good-number 0 greatest number) count_from_between
+good-back_line (number ∷ []) = all_of-map _ IsGoodLine (λ n. Back n) (number_word 0 greatest number) (good-number 0 greatest number) (λ n h. (count_from_between n h, tt))
 good-back_line (a ∷ b ∷ more) = tt
 
 -- ---- what is printed
 
 good-show_line : (words : List (List ℕ)) → AllOf IsGoodLine (show_line words)
-good-show_line [] = refl
+good-show_line [] = (refl, tt)
 good-show_line (word ∷ words) = tt
 
 good-print_line : (words : List (List ℕ)) → AllOf IsGoodLine (print_line words)
@@ -171,10 +176,56 @@ good-print_line (a ∷ b ∷ []) = tt
 good-print_line (sub ∷ source ∷ channel ∷ []) =
     all_of-then _ IsGoodLine _ (subscription_word sub) (good-subscription sub) (λ u is_u.
     all_of-then _ IsGoodLine _ (source_word source) (good-source source) (λ s is_s.
-    all_of-map _ IsGoodLine (λ c. Print u s c) (channel_word channel) (good-channel channel) (λ c is_c. λ i. is_u i && is_s i && is_c i)))
+    all_of-map _ IsGoodLine (λ c. Print u s c) (channel_word channel) (good-channel channel) (λ c is_c. (λ i. is_u i && is_s i && is_c i, tt))))
 good-print_line (a ∷ b ∷ c ∷ d ∷ more) = tt
 
+-- ---- failures
+
+good-end_word : (word : List ℕ) → AllOf (λ e. is_end e ≡ true) (end_word word)
+good-end_word word =
+    all_of-if (λ e. is_end e ≡ true) (same word (codes "collector")) (Some end.Collector) _ refl
+    (all_of-map _ (λ e. is_end e ≡ true) (λ s. end.Source s) (sending_source_word word) (good-sending_source word) (λ s h. h))
+
+-- a line of an end and of `before` or `after`
+good-armed : (line : EndName → Bool → Line) → ((e : EndName) (after : Bool) → is_end e ≡ true → IsGoodLine (line e after)) → (end when : List ℕ)
+    → AllOf IsGoodLine (option_and_then (λ e. option_map (λ after. line e after) (after_word when)) (end_word end))
+good-armed line good end when =
+    all_of-then _ IsGoodLine _ (end_word end) (good-end_word end) (λ e is_e.
+    all_of-map (λ _. Unit {0}) IsGoodLine (λ after. line e after) (after_word when) (any (after_word when)) (λ after _. good e after is_e))
+  where
+    any : (given : Option Bool) → AllOf (λ _. Unit {0}) given
+    any None = tt
+    any (Some after) = tt
+
+good-crash_line : (words : List (List ℕ)) → AllOf IsGoodLine (crash_line words)
+good-crash_line [] = tt
+good-crash_line (end ∷ []) = all_of-map _ IsGoodLine (λ e. Crash e) (end_word end) (good-end_word end) (λ e h. (h, tt))
+good-crash_line (a ∷ b ∷ more) = tt
+
+good-fail_line : (words : List (List ℕ)) → AllOf IsGoodLine (fail_line words)
+good-fail_line [] = tt
+good-fail_line (a ∷ []) = tt
+good-fail_line (end ∷ when ∷ []) = good-armed (λ e after. Fail e after) (λ e after h. (h, tt)) end when
+good-fail_line (a ∷ b ∷ c ∷ more) = tt
+
+good-stop_line : (words : List (List ℕ)) → AllOf IsGoodLine (stop_line words)
+good-stop_line [] = tt
+good-stop_line (a ∷ []) = tt
+good-stop_line (end ∷ when ∷ []) = good-armed (λ e after. Stop e after) (λ e after h. (h, tt)) end when
+good-stop_line (a ∷ b ∷ c ∷ more) = tt
+
+good-calm_line : (words : List (List ℕ)) → AllOf IsGoodLine (calm_line words)
+good-calm_line [] = (refl, tt)
+good-calm_line (word ∷ words) = tt
+
 -- ---- any line
+
+good-failure_line_of : (kind : List ℕ) (words : List (List ℕ)) → AllOf IsGoodLine (failure_line_of kind words)
+good-failure_line_of kind words =
+    all_of-if IsGoodLine (same kind (codes "crash")) _ _ (good-crash_line words)
+    (all_of-if IsGoodLine (same kind (codes "fail")) _ _ (good-fail_line words)
+    (all_of-if IsGoodLine (same kind (codes "stop")) _ _ (good-stop_line words)
+    (all_of-if IsGoodLine (same kind (codes "calm")) _ None (good-calm_line words) tt)))
 
 good-source_line_of : (kind : List ℕ) (words : List (List ℕ)) → AllOf IsGoodLine (source_line_of kind words)
 good-source_line_of kind words =
@@ -184,7 +235,7 @@ good-source_line_of kind words =
     (all_of-if IsGoodLine (same kind (codes "poll")) _ _ (good-poll_line words)
     (all_of-if IsGoodLine (same kind (codes "lost")) _ _ (good-lost_line words)
     (all_of-if IsGoodLine (same kind (codes "deliver")) _ _ (good-deliver_line words)
-    (all_of-if IsGoodLine (same kind (codes "back")) _ None (good-back_line words) tt))))))
+    (all_of-if IsGoodLine (same kind (codes "back")) _ _ (good-back_line words) (good-failure_line_of kind words)))))))
 
 good-line_of_words : (words : List (List ℕ)) → AllOf IsGoodLine (line_of_words words)
 good-line_of_words [] = tt

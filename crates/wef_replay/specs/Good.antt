@@ -2,11 +2,13 @@
 --     subscribe    items from 1 to 10,000, bytes from 8,192 to 4,194,304, the beat from 1 to 86,400,000, and one channel or more, all
 --                  events of each, in one group
 --     batch        of a source that isn't named `collector` and wasn't declared, with one word or more; the numbers of events and of
---                  dropped records are from 1 to 2^63 - 1, counts and how far the batch reads a channel up to that
+--                  dropped records are from 1 to 2^63 - 1, counts and how far the batch reads a channel up to that; the texts of
+--                  events may be any here (`PlainEvents` says what they are in the lines that a schedule gives)
 --     source       of a capacity from 1 to 1,000,000, not named `collector`, not declared yet and not named by a batch yet
 --     write        of a declared source, and the event's text fits with the greatest number
 --     ask, poll, lost    of a declared source
 --     deliver, back      of a number up to 2^63 - 1
+--     crash, fail, stop    of the collector, or of a declared source that isn't named `collector`
 -- The other lines may always stand. All names are such as their readers give.
 use Rattle.std.specs.Prelude.{◌≡◌, ℕ, ◌==◌, nat_le, Bool, true, false, not, ◌&&◌, ◌||◌, is_some, List, [], ◌∷◌, length, codes, Option, Some, None}
 use Rattle.std.specs.FinMap as map
@@ -19,8 +21,10 @@ use Rattle.wef_batch.specs.declared.items.Item.TheVariants as item
 use Rattle.wef_event.specs.Unnumbered.{numbered}
 use Rattle.wef_event.specs.declared.unnumbered.PlainEvent.{PlainEvent}
 use Rattle.wef_query.specs.declared.QueryItem.{QueryItem}
+use Rattle.wef_replay.specs.declared.lines.EndName.{EndName}
+use Rattle.wef_replay.specs.declared.lines.EndName.TheVariants as end
 use Rattle.wef_replay.specs.declared.lines.Line.{Line}
-use Rattle.wef_replay.specs.declared.lines.Line.TheVariants.{Subscribe, End, Batch, Source, Write, Ask, Poll, Deliver, Back, Lost, Show, Print}
+use Rattle.wef_replay.specs.declared.lines.Line.TheVariants.{Subscribe, End, Batch, Source, Write, Ask, Poll, Deliver, Back, Lost, Show, Print, Crash, Fail, Stop, Calm}
 
 abbrev pub is_between : ℕ → ℕ → ℕ → Bool
 is_between least greatest number = nat_le least number && nat_le number greatest
@@ -79,6 +83,11 @@ are_words b = has_word b && list_all is_item b.items && list_all is_reach (map.e
 abbrev pub is_no_collector : List ℕ → Bool
 is_no_collector s = not (same s (codes "collector"))
 
+-- the collector, or a source
+abbrev pub is_end : EndName → Bool
+is_end end.Collector = true
+is_end (end.Source s) = is_source s && is_no_collector s
+
 -- an event whose text fits with every number of a record
 abbrev pub fits_always : PlainEvent → Bool
 fits_always event = is_channel event.channel && is_some (numbered event 9223372036854775807)
@@ -97,6 +106,10 @@ is_line (Back number) = is_count number
 is_line (Lost s u) = is_source s && is_subscription u
 is_line Show = true
 is_line (Print u s c) = is_subscription u && is_source s && is_channel c
+is_line (Crash e) = is_end e
+is_line (Fail e after) = is_end e
+is_line (Stop e after) = is_end e
+is_line Calm = true
 
 -- The names of sources that lines gave: those that `source` lines declared, and those that `batch` lines named.
 pub record Names : Type 0 where
@@ -117,6 +130,11 @@ noted _ names = names
 abbrev pub is_among : List (List ℕ) → List ℕ → Bool
 is_among names s = list_any (same s) names
 
+-- whether an end is the collector, or a source that was declared
+abbrev pub has_end : Names → EndName → Bool
+has_end names end.Collector = true
+has_end names (end.Source s) = is_among names.declared s
+
 -- whether a line may follow lines that gave these names
 abbrev pub allows : Names → Line → Bool
 allows names (Batch u s b) = not (is_among names.declared s)
@@ -125,6 +143,9 @@ allows names (Write s event) = is_among names.declared s
 allows names (Ask s) = is_among names.declared s
 allows names (Poll s u) = is_among names.declared s
 allows names (Lost s u) = is_among names.declared s
+allows names (Crash e) = has_end names e
+allows names (Fail e after) = has_end names e
+allows names (Stop e after) = has_end names e
 allows names _ = true
 
 -- whether a line is good after lines that gave these names

@@ -11,6 +11,10 @@
 --     lost SOURCE SUB
 --     show
 --     print SUB SOURCE CHANNEL
+--     crash END                                        END is the word `collector`, not percent-decoded, or a SOURCE that isn't named `collector`
+--     fail END before          fail END after
+--     stop END before          stop END after
+--     calm
 -- An empty line and one that begins with `#` do nothing. A line that isn't UTF-8 is never good.
 use Rattle.std.specs.Prelude.{◌≡◌, refl, ℕ, ◌==◌, Bool, true, false, is_some, List, [], ◌∷◌, Option, Some, None, if◌then◌else◌, codes}
 use Rattle.std.specs.Option.{option_and_then, option_map}
@@ -23,9 +27,9 @@ use Rattle.wef_event.specs.declared.unnumbered.PlainEvent.{PlainEvent}
 use Rattle.wef_query.specs.declared.QueryList.{QueryList}
 use Rattle.wef_query.specs.Queries.{all_events_of}
 use Rattle.wef_replay.specs.BatchWords.{read_words, empty_batch, greatest}
-use Rattle.wef_replay.specs.Values.{subscription_word, source_word, channel_word, sending_source_word, number_word, channel_words}
+use Rattle.wef_replay.specs.Values.{subscription_word, source_word, channel_word, sending_source_word, end_word, after_word, number_word, channel_words}
 use Rattle.wef_replay.specs.declared.lines.Line.{Line}
-use Rattle.wef_replay.specs.declared.lines.Line.TheVariants.{Subscribe, End, Batch, Source, Write, Ask, Poll, Deliver, Back, Lost, Show, Print}
+use Rattle.wef_replay.specs.declared.lines.Line.TheVariants.{Subscribe, End, Batch, Source, Write, Ask, Poll, Deliver, Back, Lost, Show, Print, Crash, Fail, Stop, Calm}
 
 -- the query list of `all` and channels
 abbrev pub all_of : List (List ℕ) → QueryList
@@ -106,7 +110,31 @@ print_line (sub ∷ source ∷ channel ∷ []) =
     option_and_then (λ u. option_and_then (λ s. option_map (λ c. Print u s c) (channel_word channel)) (source_word source)) (subscription_word sub)
 print_line _ = None
 
--- a line of a source or a message, by its kind and its other words
+abbrev pub crash_line : List (List ℕ) → Option Line
+crash_line (end ∷ []) = option_map (λ e. Crash e) (end_word end)
+crash_line _ = None
+
+abbrev pub fail_line : List (List ℕ) → Option Line
+fail_line (end ∷ when ∷ []) = option_and_then (λ e. option_map (λ after. Fail e after) (after_word when)) (end_word end)
+fail_line _ = None
+
+abbrev pub stop_line : List (List ℕ) → Option Line
+stop_line (end ∷ when ∷ []) = option_and_then (λ e. option_map (λ after. Stop e after) (after_word when)) (end_word end)
+stop_line _ = None
+
+abbrev pub calm_line : List (List ℕ) → Option Line
+calm_line [] = Some Calm
+calm_line (word ∷ words) = None
+
+-- a line of a failure, by its kind and its other words
+abbrev pub failure_line_of : List ℕ → List (List ℕ) → Option Line
+failure_line_of kind words =
+    if same kind (codes "crash") then crash_line words
+    else (if same kind (codes "fail") then fail_line words
+    else (if same kind (codes "stop") then stop_line words
+    else (if same kind (codes "calm") then calm_line words else None)))
+
+-- a line of a source, a message or a failure, by its kind and its other words
 abbrev pub source_line_of : List ℕ → List (List ℕ) → Option Line
 source_line_of kind words =
     if same kind (codes "source") then source_line words
@@ -115,7 +143,7 @@ source_line_of kind words =
     else (if same kind (codes "poll") then poll_line words
     else (if same kind (codes "lost") then lost_line words
     else (if same kind (codes "deliver") then deliver_line words
-    else (if same kind (codes "back") then back_line words else None))))))
+    else (if same kind (codes "back") then back_line words else failure_line_of kind words))))))
 
 -- the line that words make, by their first
 abbrev pub line_of_words : List (List ℕ) → Option Line

@@ -1,10 +1,12 @@
 -- Words as values: names and texts are percent-decoded, numbers are digits without a leading zero.
-use Rattle.std.specs.Prelude.{ℕ, nat_le, List, [], ◌∷◌, Option, Some, None, if◌then◌else◌, codes}
-use Rattle.std.specs.Option.{option_and_then}
+use Rattle.std.specs.Prelude.{ℕ, nat_le, Bool, true, false, List, [], ◌∷◌, Option, Some, None, if◌then◌else◌, codes}
+use Rattle.std.specs.Option.{option_and_then, option_map}
 use Rattle.wef_base.specs.Names.{channel_name, source_name, subscription_name, same}
 use Rattle.wef_base.specs.Numbers.{plain_number}
 use Rattle.wef_base.specs.Words.{decoded}
 use Rattle.wef_replay.specs.Reading.{with_first}
+use Rattle.wef_replay.specs.declared.lines.EndName.{EndName}
+use Rattle.wef_replay.specs.declared.lines.EndName.TheVariants as end
 
 abbrev pub subscription_word : List ℕ → Option (List ℕ)
 subscription_word word = option_and_then subscription_name (decoded word)
@@ -21,6 +23,14 @@ unless_collector name = if same name (codes "collector") then None else Some nam
 
 abbrev pub sending_source_word : List ℕ → Option (List ℕ)
 sending_source_word word = option_and_then unless_collector (source_word word)
+
+-- an end: the word `collector` as it stands, or the name of a source
+abbrev pub end_word : List ℕ → Option EndName
+end_word word = if same word (codes "collector") then Some end.Collector else option_map (λ s. end.Source s) (sending_source_word word)
+
+-- whether it is after a commit that the commit fails: `before` or `after`
+abbrev pub after_word : List ℕ → Option Bool
+after_word word = if same word (codes "before") then Some false else (if same word (codes "after") then Some true else None)
 
 abbrev pub at_least : ℕ → ℕ → Option ℕ
 at_least least n = if nat_le least n then Some n else None

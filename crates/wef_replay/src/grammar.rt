@@ -1,14 +1,14 @@
 //! The lines of a schedule, read word by word.
 
 ghost use Rattle.std.specs.Prelude.{◌≡◌};
-ghost use Rattle.wef_replay.specs.Grammar.{ask_line, back_line, batch_line, deliver_line, does_nothing, end_line, event_words, fitting_event, line_of_words, lost_line, meaning, poll_line, print_line, show_line, source_line, source_line_of, subscribe_line, subscribe_numbers, write_line};
+ghost use Rattle.wef_replay.specs.Grammar.{ask_line, back_line, batch_line, calm_line, crash_line, deliver_line, does_nothing, end_line, event_words, fail_line, failure_line_of, fitting_event, line_of_words, lost_line, meaning, poll_line, print_line, show_line, source_line, source_line_of, stop_line, subscribe_line, subscribe_numbers, write_line};
 ghost use Rattle.wef_replay.specs.Reading.{Gives};
 
 use crate::batches::batch_of;
 use crate::lines::Line;
 use crate::values::{
-    LineFault, channel_of, channels_of, is_word, number_of, sending_source_of, source_of,
-    subscription_of, text_of,
+    LineFault, after_of, channel_of, channels_of, end_of, is_word, number_of, sending_source_of,
+    source_of, subscription_of, text_of,
 };
 use std::alloc::Global;
 use wef_base::numbers::MAX;
@@ -45,7 +45,7 @@ fn line_of(alloc: Global, words: &[Bytes]) -> Result<Line, LineFault>
 {
     match words {
         [kind, words @ ..] if is_word(kind, "subscribe") => subscribe_of(alloc, words),
-        [kind, words @ ..] if is_word(kind, "end") => end_of(alloc, words),
+        [kind, words @ ..] if is_word(kind, "end") => ended_of(alloc, words),
         [kind, words @ ..] if is_word(kind, "batch") => batch_line_of(alloc, words),
         [kind, words @ ..] if is_word(kind, "show") => show_of(words),
         [kind, words @ ..] if is_word(kind, "print") => print_of(alloc, words),
@@ -54,7 +54,7 @@ fn line_of(alloc: Global, words: &[Bytes]) -> Result<Line, LineFault>
     }
 }
 
-/// A line of a source or a message.
+/// A line of a source, a message or a failure.
 fn source_line_of(alloc: Global, kind: &Bytes, words: &[Bytes]) -> Result<Line, LineFault>
     ensures { Gives result (source_line_of kind.now words.now) }
 {
@@ -78,6 +78,25 @@ fn source_line_of(alloc: Global, kind: &Bytes, words: &[Bytes]) -> Result<Line, 
     }
     if is_word(kind, "back") {
         return back_of(words);
+    }
+    failure_line_of(alloc, kind, words)
+}
+
+/// A line of a failure.
+fn failure_line_of(alloc: Global, kind: &Bytes, words: &[Bytes]) -> Result<Line, LineFault>
+    ensures { Gives result (failure_line_of kind.now words.now) }
+{
+    if is_word(kind, "crash") {
+        return crash_of(alloc, words);
+    }
+    if is_word(kind, "fail") {
+        return fail_of(alloc, words);
+    }
+    if is_word(kind, "stop") {
+        return stop_of(alloc, words);
+    }
+    if is_word(kind, "calm") {
+        return calm_of(words);
     }
     Err(LineFault::NotUnderstood)
 }
@@ -118,7 +137,7 @@ fn subscribe_numbers_of(
     })
 }
 
-fn end_of(alloc: Global, words: &[Bytes]) -> Result<Line, LineFault>
+fn ended_of(alloc: Global, words: &[Bytes]) -> Result<Line, LineFault>
     ensures { Gives result (end_line words.now) }
 {
     match words {
@@ -296,6 +315,53 @@ fn print_of(alloc: Global, words: &[Bytes]) -> Result<Line, LineFault>
                 channel,
             })
         }
+        _ => Err(LineFault::NotUnderstood),
+    }
+}
+
+fn crash_of(alloc: Global, words: &[Bytes]) -> Result<Line, LineFault>
+    ensures { Gives result (crash_line words.now) }
+{
+    match words {
+        [end] => {
+            let end = end_of(alloc, end)?;
+            Ok(Line::Crash { end })
+        }
+        _ => Err(LineFault::NotUnderstood),
+    }
+}
+
+fn fail_of(alloc: Global, words: &[Bytes]) -> Result<Line, LineFault>
+    ensures { Gives result (fail_line words.now) }
+{
+    match words {
+        [end, when] => {
+            let end = end_of(alloc, end)?;
+            let after = after_of(when)?;
+            Ok(Line::Fail { end, after })
+        }
+        _ => Err(LineFault::NotUnderstood),
+    }
+}
+
+fn stop_of(alloc: Global, words: &[Bytes]) -> Result<Line, LineFault>
+    ensures { Gives result (stop_line words.now) }
+{
+    match words {
+        [end, when] => {
+            let end = end_of(alloc, end)?;
+            let after = after_of(when)?;
+            Ok(Line::Stop { end, after })
+        }
+        _ => Err(LineFault::NotUnderstood),
+    }
+}
+
+fn calm_of(words: &[Bytes]) -> Result<Line, LineFault>
+    ensures { Gives result (calm_line words.now) }
+{
+    match words {
+        [] => Ok(Line::Calm),
         _ => Err(LineFault::NotUnderstood),
     }
 }

@@ -3,9 +3,9 @@
 ghost use Rattle.std.specs.Prelude.{◌≡◌, ◌&&◌};
 ghost use Rattle.std.specs.FinMap as map;
 ghost use Rattle.std.specs.List.{list_all};
-ghost use Rattle.wef_replay.specs.Good.{are_all, are_limits, are_words, asks_for_all, fits_always, has_word, is_between, is_channel, is_count, is_item, is_line, is_no_collector, is_number, is_reach, is_source, is_subscription};
+ghost use Rattle.wef_replay.specs.Good.{are_all, are_limits, are_words, asks_for_all, fits_always, has_word, is_between, is_channel, is_count, is_end, is_item, is_line, is_no_collector, is_number, is_reach, is_source, is_subscription};
 
-use crate::lines::Line;
+use crate::lines::{EndName, Line};
 use std::collections::BTreeMap;
 use wef_base::numbers::MAX;
 use wef_base::{ChannelName, SourceName, SubId};
@@ -49,6 +49,10 @@ pub fn is_line(line: &Line) -> bool
             source,
             channel,
         } => is_subscription(sub) && is_source(source) && is_channel(channel),
+        Line::Crash { end } => is_end(end),
+        Line::Fail { end, .. } => is_end(end),
+        Line::Stop { end, .. } => is_end(end),
+        Line::Calm => true,
     }
 }
 
@@ -115,6 +119,16 @@ fn is_no_collector(source: &SourceName) -> bool
     ensures { result ≡ is_no_collector source.now }
 {
     source.as_text().as_str() != "collector"
+}
+
+/// Whether it is the collector, or a source that isn't.
+fn is_end(end: &EndName) -> bool
+    ensures { result ≡ is_end end.now }
+{
+    match end {
+        EndName::Collector => true,
+        EndName::Source(source) => is_source(source) && is_no_collector(source),
+    }
 }
 
 /// Whether the event fits with every number that a log may give it.

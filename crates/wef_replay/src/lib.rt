@@ -11,7 +11,7 @@ mod schedule;
 mod values;
 
 pub use judging_lines::is_line;
-pub use lines::Line;
+pub use lines::{EndName, Line};
 pub use schedule::{SCHEDULE_LIMIT, ScheduleFault, read_schedule};
 
 #[cfg(test)]

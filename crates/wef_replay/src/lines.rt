@@ -5,6 +5,16 @@ use wef_batch::Batch;
 use wef_event::PlainEvent;
 use wef_query::QueryList;
 
+/// One of the two kinds of ends.
+#[derive(Debug, Drop)]
+pub enum EndName {
+    /// The one collector.
+    Collector,
+
+    /// A source's end.
+    Source(SourceName),
+}
+
 /// What one line of a schedule does. An empty line and a comment do nothing, and are no line here.
 #[derive(Debug, Drop)]
 pub enum Line {
@@ -77,4 +87,24 @@ pub enum Line {
         source: SourceName,
         channel: ChannelName,
     },
+
+    /// Closes an end, which loses what it remembers.
+    Crash {
+        end: EndName,
+    },
+
+    /// Lets the next commit of an end fail, with its changes kept (`after`) or not kept.
+    Fail {
+        end: EndName,
+        after: bool,
+    },
+
+    /// Lets an end be stopped in its next commit, with its changes kept (`after`) or not kept.
+    Stop {
+        end: EndName,
+        after: bool,
+    },
+
+    /// Takes back what `Fail` and `Stop` lines armed.
+    Calm,
 }

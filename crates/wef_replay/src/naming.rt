@@ -1,10 +1,10 @@
 //! The sources that the lines of a schedule named so far.
 
 ghost use Rattle.std.specs.Prelude.{◌≡◌, OnOk};
-ghost use Rattle.wef_replay.specs.Good.{allows, is_among, no_names, noted};
+ghost use Rattle.wef_replay.specs.Good.{allows, has_end, is_among, no_names, noted};
 ghost use Rattle.wef_replay.specs.Alike.{AreAlike};
 
-use crate::lines::Line;
+use crate::lines::{EndName, Line};
 use std::alloc::{AllocError, Global};
 use std::collections::BTreeSet;
 use std::marker::Model;
@@ -54,6 +54,9 @@ impl NamedSources {
             Line::Ask { source } => self.has_declared(source),
             Line::Poll { source, .. } => self.has_declared(source),
             Line::Lost { source, .. } => self.has_declared(source),
+            Line::Crash { end } => self.has_end(end),
+            Line::Fail { end, .. } => self.has_end(end),
+            Line::Stop { end, .. } => self.has_end(end),
             _ => true,
         }
     }
@@ -72,6 +75,16 @@ impl NamedSources {
             _ => {}
         }
         Ok(())
+    }
+
+    /// Whether it is the collector, or a source that was declared.
+    fn has_end(&self, end: &EndName) -> bool
+        ensures { result ≡ has_end self.now end.now }
+    {
+        match end {
+            EndName::Collector => true,
+            EndName::Source(source) => self.has_declared(source),
+        }
     }
 
     fn has_declared(&self, source: &SourceName) -> bool

@@ -1,7 +1,9 @@
 //! A whole schedule.
 
+ghost use Rattle.std.specs.List.{All};
 ghost use Rattle.std.specs.Prelude.{◌≡◌, IfOk};
 ghost use Rattle.wef_replay.specs.Good.{AreGood, no_names};
+ghost use Rattle.wef_replay.specs.PlainEvents.{HasPlainEvents};
 ghost use Rattle.wef_replay.specs.Reading.{Gives};
 ghost use Rattle.wef_replay.specs.Schedule.{ReadsSchedule, meaning_after, schedule_of};
 
@@ -47,6 +49,7 @@ impl From<AllocError> for ScheduleFault {
 pub fn read_schedule(alloc: Global, bytes: &[u8]) -> Result<List<Line>, ScheduleFault>
     ensures lines { ReadsSchedule result (schedule_of bytes.now) }
     ensures good { IfOk result (AreGood no_names) }
+    ensures plain { IfOk result (All HasPlainEvents) }
 {
     read_lines(alloc, bytes)
 }

@@ -24,6 +24,11 @@ fn lines_of_sources_are_read(rt: HostRuntime) {
         ("deliver 0\nback 9223372036854775807\n", 2),
         ("batch base pc2 ack\nsource pc1 1\nbatch base pc2 ack\n", 3),
         ("print base collector application\n", 1),
+        ("crash collector\n", 1),
+        ("calm\n", 1),
+        ("fail collector before\nstop collector after\n", 2),
+        ("source pc1 1\nstop pc1 after\n", 2),
+        ("source pc1 1\ncrash PC%31\nfail pc1 after\ncalm\n", 4),
     ];
     for (text, want) in cases {
         let lines = read_schedule(alloc, text.as_bytes()).expect(&rt, "a good schedule");
@@ -60,6 +65,23 @@ fn the_first_bad_line_is_told(rt: HostRuntime) {
         ("deliver 9223372036854775808\n", 1),
         ("deliver 1 seen\n", 1),
         ("back 01\n", 1),
+        ("crash\n", 1),
+        ("crash Collector\n", 1),
+        ("crash %63ollector\n", 1),
+        ("crash pc1\n", 1),
+        ("crash pc1\nsource pc1 1\n", 1),
+        ("source pc1 1\ncrash pc2\n", 2),
+        ("batch base pc1 ack\ncrash pc1\n", 2),
+        ("crash collector before\n", 1),
+        ("fail collector\n", 1),
+        ("fail collector later\n", 1),
+        ("fail collector Before\n", 1),
+        ("fail collector before after\n", 1),
+        ("source pc1 1\nfail pc2 before\n", 2),
+        ("stop Collector after\n", 1),
+        ("source pc1 1\nstop pc1 %61fter\n", 2),
+        ("calm collector\n", 1),
+        ("calm \n", 1),
     ];
     for (text, want) in cases {
         let read = read_schedule(alloc, text.as_bytes());

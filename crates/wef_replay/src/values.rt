@@ -4,8 +4,9 @@ ghost use Rattle.std.specs.Prelude.{◌≡◌, ◌<◌, ◌≤◌, IfOk};
 ghost use Rattle.wef_base.specs.Names.{same};
 ghost use Rattle.wef_base.specs.Words.{decoded};
 ghost use Rattle.wef_replay.specs.Reading.{Gives};
-ghost use Rattle.wef_replay.specs.Values.{subscription_word, source_word, channel_word, sending_source_word, number_word, channel_words};
+ghost use Rattle.wef_replay.specs.Values.{subscription_word, source_word, channel_word, sending_source_word, end_word, after_word, number_word, channel_words};
 
+use crate::lines::EndName;
 use std::alloc::{AllocError, Global};
 use wef_base::numbers::read_plain_number;
 use wef_base::words::decode;
@@ -103,6 +104,29 @@ pub fn sending_source_of(alloc: Global, word: &Bytes) -> Result<SourceName, Line
         return Err(LineFault::NotUnderstood);
     }
     Ok(source)
+}
+
+/// The end that a word names: `collector` as it stands, or a source.
+pub fn end_of(alloc: Global, word: &Bytes) -> Result<EndName, LineFault>
+    ensures { Gives result (end_word word.now) }
+{
+    if is_word(word, "collector") {
+        return Ok(EndName::Collector);
+    }
+    Ok(EndName::Source(sending_source_of(alloc, word)?))
+}
+
+/// Whether a commit is to fail with its changes kept: `after`, or `before` where they aren't.
+pub fn after_of(word: &Bytes) -> Result<bool, LineFault>
+    ensures { Gives result (after_word word.now) }
+{
+    if is_word(word, "before") {
+        return Ok(false);
+    }
+    if is_word(word, "after") {
+        return Ok(true);
+    }
+    Err(LineFault::NotUnderstood)
 }
 
 /// The number of a word, from `least` to `greatest`.

@@ -143,8 +143,8 @@ built_well_formed rows all capacity session of =
 -- Where windows are read rightly, what is built from them fits.
 pub built_fit : WindowsRead → BuiltBatchesFit
 unfolding built
-built_fit read rows all capacity boot session b some window within up =
-    let of = building rows all capacity boot session (read rows all capacity boot window) within in
+built_fit read rows all capacity boot session b some begun window within up =
+    let of = building rows all capacity boot session (read rows all capacity boot begun window) within in
     record {
       well_formed = built_well_formed rows all capacity session of;
       no_loose = built_not_loose rows all capacity session of;

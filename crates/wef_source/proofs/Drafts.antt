@@ -1,5 +1,5 @@
 -- A draft to which candidates were offered has those that fit, and the first that doesn't.
-use Rattle.std.proofs.Common.{◌≡◌, ℕ, ◌-◌, Bool, true, false, cond, List, [], ◌∷◌, ◌++◌, refl, ap, sym, ◌∙◌, append_assoc, append-nil, Some, None}
+use Rattle.std.proofs.Common.{◌≡◌, ℕ, ◌-◌, Bool, true, false, cond, List, [], ◌∷◌, ◌++◌, refl, ap, sym, ◌∙◌, append_assoc, append-nil, Some, None, if◌then◌else◌}
 use Rattle.std.specs.Prelude.{Option, is_some}
 use Rattle.std.specs.FinMap as map
 use Rattle.std.specs.List.{filter_map}
@@ -11,8 +11,8 @@ use Rattle.wef_batch.specs.declared.items.Item.{Item}
 use Rattle.wef_bookmark.specs.Order.{Marks}
 use Rattle.wef_event.specs.declared.records.Event.{Event}
 use Rattle.wef_keeper.specs.Rows.{Rows}
-use Rattle.wef_source.specs.Building.{built, built_items, built_to, candidates, candidates_in, channel_candidates, first_number, fitting, has_room, is_of, left_items, left_over, reaches, room_of, session_channels, with_reaches}
-use Rattle.wef_source.specs.Drafting.{empty_draft, offered, taken, taken_all}
+use Rattle.wef_source.specs.Building.{built, built_items, built_to, candidates, candidates_in, channel_candidates, first_number, fitting, has_room, is_of, left_items, left_over, reaches, room_of, session_channels, with_reach, with_reaches}
+use Rattle.wef_source.specs.Drafting.{empty_draft, offered, stop_at, taken, taken_all}
 use Rattle.wef_source.specs.declared.drafting.Draft.{Draft}
 use Rattle.wef_source.specs.declared.sessions.Session.{Session}
 use Rattle.wef_source_log.specs.Windows.{last_of}
@@ -92,6 +92,21 @@ channel_taken rows session d next c behind all made parts =
     ap (λ x. taken_all x (candidates_in rows session behind)) made
     ∙ sym (taken_all-append d (channel_candidates rows session c) (candidates_in rows session behind))
     ∙ ap (taken_all d) (sym (flat_map-cons (channel_candidates rows session) c behind) ∙ ap (candidates_in rows session) (sym parts))
+
+-- a channel that isn't of the item left is read to its last record
+pub reach_read : (rows : Rows) (positions to next : Marks) (c : List ℕ) (last : ℕ) (left : Option Item) (behind all : List (List ℕ)) → stop_at c left ≡ None → last ≡ last_of rows c
+    → next ≡ with_reach positions to (c, last) → all ≡ c ∷ behind → with_reaches positions next (reaches rows behind (option_to_list left)) ≡ with_reaches positions to (reaches rows all (option_to_list left))
+reach_read rows positions to next c last left behind all none read reached parts =
+    ap (λ (b : Marks). with_reaches positions b (reaches rows behind (option_to_list left))) (reached ∙ ap (λ n. with_reach positions to (c, n)) read)
+    ∙ ap (with_reaches positions to) (sym (goes left none) ∙ ap (λ cs. reaches rows cs (option_to_list left)) (sym parts))
+  where
+    by : (i : Item) (t : Bool) (stop : ℕ) (found : List (List ℕ × ℕ)) → (if t then Some stop else None) ≡ None → cond t ((c, stop) ∷ []) found ≡ found
+    by i true stop found e = cc
+    by i false stop found e = refl
+
+    goes : (left : Option Item) → stop_at c left ≡ None → reaches rows (c ∷ behind) (option_to_list left) ≡ (c, last_of rows c) ∷ reaches rows behind (option_to_list left)
+    goes None e = refl
+    goes (Some i) e = by i (is_of c i) (first_number i - 1) ((c, last_of rows c) ∷ reaches rows behind (i ∷ [])) e
 
 -- the batch that a draft and what channels are read make
 pub built_by : (rows : Rows) (session : Session) (d : Draft) (to : Marks) → d ≡ taken_all (empty_draft session.max_items (room_of session.max_bytes)) (candidates rows session)

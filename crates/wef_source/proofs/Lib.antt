@@ -8,8 +8,10 @@ pub mod Drafts
 pub mod Fitting
 pub mod InOrder
 pub mod Items
+pub mod Logged
 pub mod Placements
 pub mod Places
 pub mod Polling
 pub mod Reaches
 pub mod Sendable
+pub mod Told

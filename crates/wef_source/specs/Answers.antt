@@ -1,18 +1,16 @@
 -- What the calls of a source answer, by what it holds as the call begins.
-use Rattle.std.specs.Prelude.{◌≡◌, ℕ, ◌+◌, true, false, List, [], length, is_some, Option, Some, None}
+use Rattle.std.specs.Prelude.{◌≡◌, ℕ, ◌+◌, Bool, true, false, List, [], length, is_some, Option, Some, None, Result, Ok, Err}
+use Rattle.wef_bookmark.specs.Order.{Marks}
 use Rattle.wef_envelope.specs.Ids.{ids_agree}
 use Rattle.wef_envelope.specs.declared.MessageId.{MessageId}
-use Rattle.wef_event.specs.declared.unnumbered.PlainEvent.{PlainEvent}
 use Rattle.wef_eventing.specs.declared.bodies.Offer.{Offer}
-use Rattle.wef_source_log.specs.Answers as answers
-use Rattle.wef_source_log.specs.Answers.{next_text}
-use Rattle.wef_source_log.specs.Windows.{last_of}
+use Rattle.wef_keeper.specs.Rows.{Rows}
 use Rattle.wef_source_log.specs.declared.faults.LogFault as the_log_fault
 use Rattle.wef_source_log.specs.declared.faults.LogFault.TheVariants as log_faults
-use Rattle.wef_source.specs.Machine.{End, acknowledged_in, adopted, asked, delivery_of, is_idle, is_spent, lost_in, next_id, refused_in, sent, with_written}
-use Rattle.wef_source.specs.Sessions.{session_of, waiting}
+use Rattle.wef_source.specs.Machine.{End, acknowledged_in, adopted, asked, delivery_of, is_idle, is_spent, lost_in, next_id, refused_in, sent}
+use Rattle.wef_source.specs.Sessions.{is_named, sending, session_of, waiting, with_changed}
 use Rattle.wef_source.specs.declared.faults.SourceFault.{SourceFault}
-use Rattle.wef_source.specs.declared.faults.SourceFault.TheVariants.{NoMemory, Full, TooLong, NotAsked, UnknownSubscription, Spent}
+use Rattle.wef_source.specs.declared.faults.SourceFault.TheVariants.{NoMemory, Failed, Full, TooLong, NotAsked, UnknownSubscription, Spent}
 use Rattle.wef_source.specs.declared.messages.Moved as moved
 use Rattle.wef_source.specs.declared.messages.Moved.TheVariants as moves
 use Rattle.wef_source.specs.declared.messages.Poll as poll
@@ -26,19 +24,63 @@ abbrev pub source_fault : the_log_fault.LogFault → SourceFault
 source_fault log_faults.NoMemory = NoMemory
 source_fault log_faults.Full = Full
 source_fault log_faults.TooLong = TooLong
+source_fault log_faults.Failed = Failed
 
--- What was written is the next record of its channel.
-abbrev pub Writes : End → End → PlainEvent → ℕ → Type 0
-Writes end end' event n =
-    (answers.is_full end.rows event.channel ≡ false) × (n ≡ last_of end.rows event.channel + 1)
-    × (end' ≡ with_written end event.channel (next_text end.rows event))
+-- a refusal of a source's log, by what the source answers; the log gives no other
+abbrev pub logged_fault : SourceFault → the_log_fault.LogFault
+logged_fault NoMemory = log_faults.NoMemory
+logged_fault Failed = log_faults.Failed
+logged_fault Full = log_faults.Full
+logged_fault TooLong = log_faults.TooLong
+logged_fault NotAsked = log_faults.Failed
+logged_fault UnknownSubscription = log_faults.Failed
+logged_fault Spent = log_faults.Failed
 
--- A write is refused as the log refuses it.
-abbrev pub RefusesWrite : SourceFault → End → PlainEvent → Type 0
-RefusesWrite NoMemory end event = Unit {0}
-RefusesWrite Full end event = answers.RefusesWrite log_faults.Full end.rows event
-RefusesWrite TooLong end event = answers.RefusesWrite log_faults.TooLong end.rows event
-RefusesWrite _ end event = ⊥
+-- the log's answer, by the source's
+abbrev pub logged : {T : Type 0} → Result T SourceFault → Result T the_log_fault.LogFault
+logged (Ok answer) = Ok answer
+logged (Err fault) = Err (logged_fault fault)
+
+-- the log's refusals
+abbrev pub RefusesLog : SourceFault → Type 0
+RefusesLog NoMemory = Unit {0}
+RefusesLog Failed = Unit {0}
+RefusesLog Full = Unit {0}
+RefusesLog TooLong = Unit {0}
+RefusesLog NotAsked = ⊥
+RefusesLog UnknownSubscription = ⊥
+RefusesLog Spent = ⊥
+
+-- a start's refusals
+abbrev pub RefusesStart : SourceFault → Type 0
+RefusesStart NoMemory = Unit {0}
+RefusesStart Failed = Unit {0}
+RefusesStart Full = Unit {0}
+RefusesStart TooLong = ⊥
+RefusesStart NotAsked = ⊥
+RefusesStart UnknownSubscription = ⊥
+RefusesStart Spent = ⊥
+
+-- a call that only reads the log is refused for want of memory, or where the store failed
+abbrev pub RefusesRead : SourceFault → Type 0
+RefusesRead NoMemory = Unit {0}
+RefusesRead Failed = Unit {0}
+RefusesRead Full = ⊥
+RefusesRead TooLong = ⊥
+RefusesRead NotAsked = ⊥
+RefusesRead UnknownSubscription = ⊥
+RefusesRead Spent = ⊥
+
+-- whether a call failed in the store
+abbrev pub fails : {T : Type 0} → Result T SourceFault → Bool
+fails (Ok answer) = false
+fails (Err NoMemory) = false
+fails (Err Failed) = true
+fails (Err Full) = false
+fails (Err TooLong) = false
+fails (Err NotAsked) = false
+fails (Err UnknownSubscription) = false
+fails (Err Spent) = false
 
 -- An ask draws the next id.
 abbrev pub Asks : End → End → MessageId → Type 0
@@ -60,19 +102,20 @@ RefusesAdopt NoMemory end relates = Unit {0}
 RefusesAdopt NotAsked end relates = ids_agree end.ask relates.value ≡ false
 RefusesAdopt _ end relates = ⊥
 
--- A session sends what is built for it; it says Nothing exactly where a reply is outstanding or there is no item.
-abbrev pub PollsSession : End → End → Session → ℕ → poll.Poll → Type 0
-PollsSession end end' session now polls.Nothing = (is_idle end.rows session ≡ true) × (end' ≡ end)
-PollsSession end end' session now (polls.Send delivery) =
-    (is_idle end.rows session ≡ false) × (is_spent end ≡ false) × (delivery ≡ delivery_of end session) × (end' ≡ sent end session now)
+-- A session sends what is built for it from the rows; it says Nothing exactly where a reply is outstanding or there is
+-- no item.
+abbrev pub PollsSession : Rows → End → End → Session → ℕ → poll.Poll → Type 0
+PollsSession rows end end' session now polls.Nothing = (is_idle rows session ≡ true) × (end' ≡ end)
+PollsSession rows end end' session now (polls.Send delivery) =
+    (is_idle rows session ≡ false) × (is_spent end ≡ false) × (delivery ≡ delivery_of rows end session) × (end' ≡ sent rows end session now)
 
-abbrev pub PollsIn : End → End → Option Session → ℕ → poll.Poll → Type 0
-PollsIn end end' None now answer = ⊥
-PollsIn end end' (Some session) now answer = PollsSession end end' session now answer
+abbrev pub PollsIn : Rows → End → End → Option Session → ℕ → poll.Poll → Type 0
+PollsIn rows end end' None now answer = ⊥
+PollsIn rows end end' (Some session) now answer = PollsSession rows end end' session now answer
 
 -- A poll asks the session of the name.
-abbrev pub Polls : End → End → List ℕ → ℕ → poll.Poll → Type 0
-Polls end end' u now answer = PollsIn end end' (session_of end.sessions u) now answer
+abbrev pub Polls : Rows → End → End → List ℕ → ℕ → poll.Poll → Type 0
+Polls rows end end' u now answer = PollsIn rows end end' (session_of end.sessions u) now answer
 
 -- a fact of a session that is there
 abbrev pub WhereThere : Option Session → (Session → Type 0) → Type 0
@@ -80,12 +123,35 @@ WhereThere None P = ⊥
 WhereThere (Some session) P = P session
 
 -- `UnknownSubscription` comes exactly where no session has the name, `Spent` exactly where the session has something to
--- send and no id is left.
-abbrev pub RefusesPoll : SourceFault → End → List ℕ → Type 0
-RefusesPoll NoMemory end u = Unit {0}
-RefusesPoll UnknownSubscription end u = session_of end.sessions u ≡ None
-RefusesPoll Spent end u = WhereThere (session_of end.sessions u) (λ session. is_idle end.rows session ≡ false) × (is_spent end ≡ true)
-RefusesPoll _ end u = ⊥
+-- send and no id is left. `Failed` has its cause in the store.
+abbrev pub RefusesPoll : SourceFault → Rows → End → List ℕ → Type 0
+RefusesPoll NoMemory rows end u = Unit {0}
+RefusesPoll Failed rows end u = Unit {0}
+RefusesPoll UnknownSubscription rows end u = session_of end.sessions u ≡ None
+RefusesPoll Spent rows end u = WhereThere (session_of end.sessions u) (λ session. is_idle rows session ≡ false) × (is_spent end ≡ true)
+RefusesPoll _ rows end u = ⊥
+
+-- a source whose session of a name sent a delivery of the next id that reads so far
+abbrev pub sent_to : End → List ℕ → Marks → ℕ → End
+sent_to end u to now = record end {
+  drawn = end.drawn + 1;
+  sessions = with_changed (is_named u) (sending (record { id = next_id end; to = to }) now) end.sessions;
+}
+
+-- What a poll does to what is remembered, also where the rows aren't told: what it sends has the next id, and its
+-- session awaits the answer.
+abbrev pub Sends : End → End → List ℕ → ℕ → poll.Poll → Type 0
+Sends end end' u now polls.Nothing = end' ≡ end
+Sends end end' u now (polls.Send delivery) =
+    (is_spent end ≡ false) × (delivery.id ≡ record { value = Some (next_id end); text = [] }) × (end' ≡ sent_to end u delivery.batch.to now)
+
+-- a poll's refusals, also where the rows aren't told
+abbrev pub MayRefusePoll : SourceFault → End → List ℕ → Type 0
+MayRefusePoll NoMemory end u = is_some (session_of end.sessions u) ≡ true
+MayRefusePoll Failed end u = is_some (session_of end.sessions u) ≡ true
+MayRefusePoll UnknownSubscription end u = session_of end.sessions u ≡ None
+MayRefusePoll Spent end u = (is_some (session_of end.sessions u) ≡ true) × (is_spent end ≡ true)
+MayRefusePoll _ end u = ⊥
 
 -- the session that waits for the answer to an id, where the id has a value
 abbrev pub waiting_for : End → Option ℕ → Option Session

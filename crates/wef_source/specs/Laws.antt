@@ -19,7 +19,7 @@ AreWithin positions all = (c : List ℕ) → number_at positions c ≤ length (h
 -- at the positions: also above one to which later batches have moved it meanwhile.
 abbrev pub BuiltBatchesFit : Type 0
 BuiltBatchesFit = (rows : Rows) (all : Histories) (capacity boot : ℕ) (session : Session) (b : Marks) →
-    0 < capacity → IsWindow rows all capacity boot → AreWithin session.positions all → IsAtMost session.positions b →
+    0 < capacity → 0 < boot → IsWindow rows all capacity boot → AreWithin session.positions all → IsAtMost session.positions b →
     Fits session.query session.max_bytes all capacity b (built rows session)
 
 -- A batch has the candidates from the first on, at most as many as the session allows, and they cost at most the room.

@@ -4,23 +4,22 @@ use Rattle.wef_eventing.specs.declared.bodies.Offer.{Offer}
 use Rattle.wef_envelope.specs.declared.FaultName.{FaultName}
 use Rattle.wef_envelope.specs.declared.FaultName.TheVariants.{DestinationUnreachable}
 use Rattle.wef_keeper.specs.Rows.{Rows}
-use Rattle.wef_source_log.specs.Windows.{boot_of, started, written}
 use Rattle.wef_source.specs.Building.{built}
 use Rattle.wef_source.specs.Sessions.{acknowledged, is_named, sending, settled, waits_for, with_changed, with_offers, without}
 use Rattle.wef_source.specs.declared.messages.Delivery.{Delivery}
 use Rattle.wef_source.specs.declared.sessions.Session.{Session}
 
--- A source: the rows of its log, how many ids it drew since it was started, the id of the last ask that wasn't
--- answered, and its sessions.
+-- What a source remembers while it runs: its start number, how many ids it drew since that start, the id of the last
+-- ask that wasn't answered, and its sessions. The rows of its log outlive it.
 pub record End : Type 0 where
-  pub rows : Rows
+  pub boot : ℕ
   pub drawn : ℕ
   pub ask : Option ℕ
   pub sessions : List Session
 
 -- a source that was just started
 abbrev pub start_of : ℕ → End
-start_of capacity = record { rows = started capacity; drawn = 0; ask = None; sessions = [] }
+start_of boot = record { boot = boot; drawn = 0; ask = None; sessions = [] }
 
 -- the greatest number of ids that are drawn after one start
 abbrev pub most_drawn : ℕ
@@ -32,11 +31,7 @@ is_spent end = nat_le most_drawn end.drawn
 
 -- the id that a source draws next: its start number, and the count of the ids drawn since
 abbrev pub next_id : End → ℕ
-next_id end = boot_of end.rows * 18446744073709551616 + (end.drawn + 1)
-
--- a source with one record more
-abbrev pub with_written : End → List ℕ → List ℕ → End
-with_written end c text = record end { rows = written end.rows c text }
+next_id end = end.boot * 18446744073709551616 + (end.drawn + 1)
 
 -- a source that asked for its subscriptions
 abbrev pub asked : End → End
@@ -51,19 +46,19 @@ abbrev pub is_idle : Rows → Session → Bool
 is_idle rows session = if is_some session.outstanding then true else length (built rows session).items == 0
 
 -- the delivery that a session sends next
-abbrev pub delivery_of : End → Session → Delivery
-delivery_of end session = record {
+abbrev pub delivery_of : Rows → End → Session → Delivery
+delivery_of rows end session = record {
   id = record { value = Some (next_id end); text = [] };
   notify_to = session.notify_to;
   identifier = session.identifier;
-  batch = built end.rows session;
+  batch = built rows session;
 }
 
 -- a source whose session sent its delivery at a moment
-abbrev pub sent : End → Session → ℕ → End
-sent end session now = record end {
+abbrev pub sent : Rows → End → Session → ℕ → End
+sent rows end session now = record end {
   drawn = end.drawn + 1;
-  sessions = with_changed (is_named session.name) (sending (record { id = next_id end; to = (built end.rows session).to }) now) end.sessions;
+  sessions = with_changed (is_named session.name) (sending (record { id = next_id end; to = (built rows session).to }) now) end.sessions;
 }
 
 -- a source whose delivery of an id was acknowledged

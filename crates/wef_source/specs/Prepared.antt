@@ -1,25 +1,46 @@
 -- What a session's poll prepares before anything changes: the delivery, and what its answer will be awaited by.
-use Rattle.std.specs.Prelude.{◌≡◌, true, false, Option, Some, None}
+use Rattle.std.specs.Prelude.{◌≡◌, [], true, false, Option, Some, None}
+use Rattle.wef_keeper.specs.Rows.{Rows}
 use Rattle.wef_source.specs.Building.{built}
 use Rattle.wef_source.specs.Machine.{End, delivery_of, is_idle, is_spent, next_id}
+use Rattle.wef_source.specs.Serving.{HasAll}
 use Rattle.wef_source.specs.declared.faults.SourceFault.{SourceFault}
-use Rattle.wef_source.specs.declared.faults.SourceFault.TheVariants.{NoMemory, Spent}
+use Rattle.wef_source.specs.declared.faults.SourceFault.TheVariants.{NoMemory, Failed, Spent}
 use Rattle.wef_source.specs.declared.messages.Delivery.{Delivery}
 use Rattle.wef_source.specs.declared.sessions.Outstanding.{Outstanding}
 use Rattle.wef_source.specs.declared.sessions.Session.{Session}
 
 -- what waits for the answer to the delivery that a session sends next
-abbrev pub outstanding_of : End → Session → Outstanding
-outstanding_of end session = record { id = next_id end; to = (built end.rows session).to }
+abbrev pub outstanding_of : Rows → End → Session → Outstanding
+outstanding_of rows end session = record { id = next_id end; to = (built rows session).to }
 
 -- a session sends its next delivery, or is idle
-abbrev pub Prepares : End → Session → Option (Delivery × Outstanding) → Type 0
-Prepares end session None = is_idle end.rows session ≡ true
-Prepares end session (Some prepared) =
-    (is_idle end.rows session ≡ false) × (is_spent end ≡ false) × (prepared.0 ≡ delivery_of end session) × (prepared.1 ≡ outstanding_of end session)
+abbrev pub Prepares : Rows → End → Session → Option (Delivery × Outstanding) → Type 0
+Prepares rows end session None = is_idle rows session ≡ true
+Prepares rows end session (Some prepared) =
+    (is_idle rows session ≡ false) × (is_spent end ≡ false) × (prepared.0 ≡ delivery_of rows end session) × (prepared.1 ≡ outstanding_of rows end session)
 
--- it is refused for want of memory, or where the session has something to send and no id is left
-abbrev pub RefusesToPrepare : End → Session → SourceFault → Type 0
-RefusesToPrepare end session NoMemory = Unit {0}
-RefusesToPrepare end session Spent = (is_idle end.rows session ≡ false) × (is_spent end ≡ true)
-RefusesToPrepare end session _ = ⊥
+-- a delivery of the next id, and what waits for its answer
+abbrev pub Draws : End → Session → Delivery → Outstanding → Type 0
+Draws end session delivery outstanding =
+    (is_spent end ≡ false) × (delivery.id ≡ record { value = Some (next_id end); text = [] })
+    × (outstanding ≡ record { id = next_id end; to = delivery.batch.to }) × HasAll session.positions outstanding.to
+
+-- what is prepared draws the next id, also where the rows aren't told
+abbrev pub MayDraw : End → Session → Option (Delivery × Outstanding) → Type 0
+MayDraw end session None = Unit {0}
+MayDraw end session (Some prepared) = Draws end session prepared.0 prepared.1
+
+-- it is refused for want of memory, where the store failed, or where the session has something to send and no id is left
+abbrev pub RefusesToPrepare : Rows → End → Session → SourceFault → Type 0
+RefusesToPrepare rows end session NoMemory = Unit {0}
+RefusesToPrepare rows end session Failed = Unit {0}
+RefusesToPrepare rows end session Spent = (is_idle rows session ≡ false) × (is_spent end ≡ true)
+RefusesToPrepare rows end session _ = ⊥
+
+-- its refusals, also where the rows aren't told
+abbrev pub MayRefuseToPrepare : End → SourceFault → Type 0
+MayRefuseToPrepare end NoMemory = Unit {0}
+MayRefuseToPrepare end Failed = Unit {0}
+MayRefuseToPrepare end Spent = is_spent end ≡ true
+MayRefuseToPrepare end _ = ⊥

@@ -1,11 +1,14 @@
 //! The batch that a session sends.
 
-ghost use Rattle.std.specs.Prelude.{◌≡◌, IfOk, IfErr, OnOk};
+ghost use Rattle.std.specs.Prelude.{◌≡◌, IfOk, IfErr, IfSome, OnOk};
 ghost use Rattle.std.specs.FinMap as map;
 ghost use Rattle.std.specs.Option.{option_to_list};
-ghost use Rattle.wef_source.specs.Answers.{WantsMemory};
+ghost use Rattle.wef_keeper.specs.Access as access;
+ghost use Rattle.wef_source_log.specs.Forms.{AreFormed};
+ghost use Rattle.wef_source.specs.Answers.{RefusesRead, WantsMemory, fails};
 ghost use Rattle.wef_source.specs.Building as spec;
 ghost use Rattle.wef_source.specs.Drafting as drafting;
+ghost use Rattle.wef_source.specs.Serving.{HasAll, HasEach, IsCovered};
 
 use crate::drafting::{Draft, room_of};
 use crate::faults::SourceFault;
@@ -14,14 +17,23 @@ use std::alloc::Global;
 use wef_base::ChannelName;
 use wef_batch::{Batch, Item};
 use wef_bookmark::Bookmark;
+use wef_keeper::Keeper;
 use wef_query::channels;
 use wef_source_log::Log;
 
 /// The batch that a session sends next. It has no item where there is nothing to send. The log is
 /// read page by page, and no further than the batch goes.
-pub fn built(alloc: Global, log: &Log, session: &Session) -> Result<Batch, SourceFault>
-    ensures ok { IfOk result (λ batch. batch ≡ spec.built log.now session.now) }
-    ensures refusal { IfErr result WantsMemory }
+pub fn built<K: Keeper>(
+    alloc: Global,
+    log: &mut Log<K>,
+    session: &Session,
+) -> Result<Batch, SourceFault>
+    requires covered { IsCovered session.now }
+    requires ready { access.IsReady (K.store log.old.keeper) }
+    ensures ok { IfSome (K.store log.new.keeper).rows (λ rows. IfOk result (λ batch. batch ≡ spec.built rows session.now)) }
+    ensures covered { IfOk result (λ batch. HasAll session.now.positions batch.to) }
+    ensures refusal { IfErr result RefusesRead }
+    ensures reads { access.Reads AreFormed (fails result) (K.store log.old.keeper) (K.store log.new.keeper) }
 {
     let channels = channels(alloc, &session.query)?;
     let draft = drafted(alloc, log, session, channels.as_slice())?;
@@ -34,15 +46,17 @@ pub fn built(alloc: Global, log: &Log, session: &Session) -> Result<Batch, Sourc
 }
 
 /// What is to be said of channels, one after the other, while it fits.
-fn drafted(
+fn drafted<K: Keeper>(
     alloc: Global,
-    log: &Log,
+    log: &mut Log<K>,
     session: &Session,
     channels: &[ChannelName],
 ) -> Result<Draft, SourceFault>
-    ensures ok { IfOk result (λ draft. draft
-        ≡ drafting.taken_all (drafting.empty_draft session.now.max_items (spec.room_of session.now.max_bytes)) (spec.candidates_in log.now session.now channels.now)) }
-    ensures refusal { IfErr result WantsMemory }
+    requires { access.IsReady (K.store log.old.keeper) }
+    ensures ok { IfSome (K.store log.new.keeper).rows (λ rows. IfOk result (λ draft. draft
+        ≡ drafting.taken_all (drafting.empty_draft session.now.max_items (spec.room_of session.now.max_bytes)) (spec.candidates_in rows session.now channels.now))) }
+    ensures refusal { IfErr result RefusesRead }
+    ensures reads { access.Reads AreFormed (fails result) (K.store log.old.keeper) (K.store log.new.keeper) }
 {
     let mut draft = Draft::new(alloc, session.max_items, room_of(session));
     for channel in channels {
@@ -52,15 +66,19 @@ fn drafted(
 }
 
 /// How far channels are read above a session's positions, where an item is left.
-fn reached(
+fn reached<K: Keeper>(
     alloc: Global,
-    log: &Log,
+    log: &mut Log<K>,
     session: &Session,
     channels: &[ChannelName],
     left: &Option<Item>,
 ) -> Result<Bookmark, SourceFault>
-    ensures ok { IfOk result (λ to. to ≡ spec.with_reaches session.now.positions map.empty (spec.reaches log.now channels.now (option_to_list left.now))) }
-    ensures refusal { IfErr result WantsMemory }
+    requires covered { HasEach session.now.positions channels.now }
+    requires ready { access.IsReady (K.store log.old.keeper) }
+    ensures ok { IfSome (K.store log.new.keeper).rows (λ rows. IfOk result (λ to. to ≡ spec.with_reaches session.now.positions map.empty (spec.reaches rows channels.now (option_to_list left.now)))) }
+    ensures covered { IfOk result (HasAll session.now.positions) }
+    ensures refusal { IfErr result RefusesRead }
+    ensures reads { access.Reads AreFormed (fails result) (K.store log.old.keeper) (K.store log.new.keeper) }
 {
     let mut to = Bookmark::new(alloc);
     for channel in channels {
@@ -68,7 +86,8 @@ fn reached(
             raise_above(&mut to, &session.positions, channel, number)?;
             return Ok(to);
         }
-        raise_above(&mut to, &session.positions, channel, log.last(channel)?)?;
+        let last = log.last_ready(channel)?;
+        raise_above(&mut to, &session.positions, channel, last)?;
     }
     Ok(to)
 }

@@ -1,8 +1,10 @@
 //! Drafts of batches: candidates are offered one after the other, and taken while they fit.
 
-ghost use Rattle.std.specs.Prelude.{◌≡◌, ◌∷◌, [], is_some, IfErr, OnOk};
+ghost use Rattle.std.specs.Prelude.{◌≡◌, ◌∷◌, [], is_some, IfErr, IfSome, OnOk};
 ghost use Rattle.std.specs.List.{filter_map};
-ghost use Rattle.wef_source.specs.Answers.{WantsMemory};
+ghost use Rattle.wef_keeper.specs.Access as access;
+ghost use Rattle.wef_source_log.specs.Forms.{AreFormed};
+ghost use Rattle.wef_source.specs.Answers.{RefusesRead, fails};
 ghost use Rattle.wef_source.specs.Building as building;
 ghost use Rattle.wef_source.specs.Drafting as spec;
 ghost use Rattle.wef_source_log.specs.Windows as windows;
@@ -14,6 +16,7 @@ use std::alloc::{AllocError, Global};
 use wef_base::{ChannelName, List};
 use wef_batch::{Item, cost};
 use wef_event::Event;
+use wef_keeper::Keeper;
 use wef_query::{QueryList, selected};
 use wef_source_log::Log;
 
@@ -72,14 +75,16 @@ impl Draft {
 
     /// Takes what is to be said of a channel above a position, while it fits. The log is read page by
     /// page, and no further than what is taken goes.
-    pub fn take_channel(
+    pub fn take_channel<K: Keeper>(
         &mut self,
-        log: &Log,
+        log: &mut Log<K>,
         session: &Session,
         channel: &ChannelName,
     ) -> Result<(), SourceFault>
-        ensures ok { OnOk result (self.new ≡ spec.taken_all self.old (building.channel_candidates log.now session.now channel.now)) }
-        ensures refusal { IfErr result WantsMemory }
+        requires { access.IsReady (K.store log.old.keeper) }
+        ensures ok { IfSome (K.store log.new.keeper).rows (λ rows. OnOk result (self.new ≡ spec.taken_all self.old (building.channel_candidates rows session.now channel.now))) }
+        ensures refusal { IfErr result RefusesRead }
+        ensures reads { access.Reads AreFormed (fails result) (K.store log.old.keeper) (K.store log.new.keeper) }
     {
         let position = session.positions.at(channel);
         self.take_unread(log, channel, position)?;
@@ -87,16 +92,18 @@ impl Draft {
     }
 
     /// Takes the records that left the window unread, as one range.
-    fn take_unread(
+    fn take_unread<K: Keeper>(
         &mut self,
-        log: &Log,
+        log: &mut Log<K>,
         channel: &ChannelName,
         position: u64,
     ) -> Result<(), SourceFault>
-        ensures ok { OnOk result (self.new ≡ spec.taken_all self.old (building.unread log.now channel.now position)) }
-        ensures refusal { IfErr result WantsMemory }
+        requires { access.IsReady (K.store log.old.keeper) }
+        ensures ok { IfSome (K.store log.new.keeper).rows (λ rows. OnOk result (self.new ≡ spec.taken_all self.old (building.unread rows channel.now position))) }
+        ensures refusal { IfErr result RefusesRead }
+        ensures reads { access.Reads AreFormed (fails result) (K.store log.old.keeper) (K.store log.new.keeper) }
     {
-        let first = log.first(channel)?;
+        let first = log.first_ready(channel)?;
         if first.saturating_sub(position) <= 1 {
             return Ok(());
         }
@@ -109,21 +116,23 @@ impl Draft {
     }
 
     /// Takes what a channel's records above a position give, page by page.
-    fn take_records(
+    fn take_records<K: Keeper>(
         &mut self,
-        log: &Log,
+        log: &mut Log<K>,
         query: &QueryList,
         room: u64,
         channel: &ChannelName,
         position: u64,
     ) -> Result<(), SourceFault>
-        ensures ok { OnOk result (self.new
-            ≡ spec.taken_all self.old (filter_map (building.item_of query.now room) (records_after log.now channel.now position))) }
-        ensures refusal { IfErr result WantsMemory }
+        requires { access.IsReady (K.store log.old.keeper) }
+        ensures ok { IfSome (K.store log.new.keeper).rows (λ rows. OnOk result (self.new
+            ≡ spec.taken_all self.old (filter_map (building.item_of query.now room) (records_after rows channel.now position)))) }
+        ensures refusal { IfErr result RefusesRead }
+        ensures reads { access.Reads AreFormed (fails result) (K.store log.old.keeper) (K.store log.new.keeper) }
     {
         let mut after = position;
         while !self.is_full() {
-            let page = log.page(channel, after, PAGE)?;
+            let page = log.page_ready(channel, after, PAGE)?;
             if page.is_empty() {
                 return Ok(());
             }

@@ -4,12 +4,17 @@ use std::alloc::AllocError;
 use thiserror::Error;
 use wef_source_log::LogFault;
 
-/// Why a source refuses a call. It is as before after each refusal.
+/// Why a source refuses a call. What it remembers is as before after each refusal.
 #[derive(Clone, Copy, Debug, PartialEq, Eq, Error)]
 pub enum SourceFault {
     #[error("no memory")]
     NoMemory,
-    #[error("the channel has all numbers")]
+    /// The store failed, or a row in it isn't of its form. After a write or a start the rows may
+    /// have its changes or not; the next call finds which.
+    #[error("the store failed")]
+    Failed,
+    /// A channel has all numbers, or the source was started as often as it can be.
+    #[error("no numbers are left")]
     Full,
     #[error("the event is too long")]
     TooLong,
@@ -41,6 +46,7 @@ impl From<LogFault> for SourceFault {
     fn from(fault: LogFault) -> SourceFault {
         match fault {
             LogFault::NoMemory => SourceFault::NoMemory,
+            LogFault::Failed => SourceFault::Failed,
             LogFault::Full => SourceFault::Full,
             LogFault::TooLong => SourceFault::TooLong,
         }

@@ -1,101 +1,107 @@
 //! The source end.
 
-ghost use Rattle.std.specs.Prelude.{◌≡◌, ◌≤◌, [], false, true, is_some, IfOk, IfErr, OnOk, OnErr};
-ghost use Rattle.wef_envelope.specs.Ids.{ids_agree};
+ghost use Rattle.std.specs.Prelude.{◌≡◌, ◌+◌, ◌≤◌, is_some, IfOk, IfErr, IfSome, OnOk, OnErr, MatchResult};
+ghost use Rattle.std.specs.declared.option.Option.TheVariants.{None, Some};
+ghost use Rattle.wef_keeper.specs.Access as access;
 ghost use Rattle.wef_query.specs.Order.{IsInOrder};
+ghost use Rattle.wef_source_log.specs.Answers as log_answers;
+ghost use Rattle.wef_source_log.specs.Calls as calls;
+ghost use Rattle.wef_source_log.specs.Forms.{AreFormed};
+ghost use Rattle.wef_source_log.specs.Windows as windows;
 ghost use Rattle.wef_source.specs.Answers as answers;
+ghost use Rattle.wef_source.specs.Answers.{fails, logged};
 ghost use Rattle.wef_source.specs.Machine as machine;
-ghost use Rattle.wef_source.specs.Prepared.{Prepares, RefusesToPrepare};
 ghost use Rattle.wef_source.specs.Sessions as the_sessions;
 
-use crate::adopting::sessions_of;
-use crate::building::built;
 use crate::faults::SourceFault;
-use crate::messages::{Delivery, Moved, Poll, Reply};
-use crate::serving::{move_waiting, place_of_name, refuse_waiting, send, settle_named};
-use crate::sessions::{Outstanding, Session, copied};
-use std::alloc::{AllocError, Global};
-use std::marker::Model;
-use wef_base::{List, SubId, Text};
-use wef_envelope::{FaultName, MessageId};
+use crate::memories::Memory;
+use crate::messages::{Moved, Poll, Reply};
+use std::alloc::Global;
+use wef_base::{List, SourceName, SubId};
+use wef_envelope::MessageId;
 use wef_event::PlainEvent;
 use wef_eventing::Offer;
-use wef_source_log::Log;
+use wef_keeper::{Keeper, MemKeeper};
+use wef_source_log::{Log, LogFault};
 
 /// Writes events into its log, asks a collector for subscriptions, and sends it the events that they
-/// ask for, batch by batch.
+/// ask for, batch by batch. The rows of its log outlive it; what it remembers doesn't.
 #[derive(Drop)]
-pub struct SourceEnd {
-    log: Log,
-    /// How many ids were drawn since the start.
-    drawn: u64,
-    /// The value of the id of the last ask that wasn't answered.
-    ask: Option<u128>,
-    /// In the order of their names.
-    sessions: Vec<Session>,
-    alloc: Global,
+pub struct SourceEnd<K> {
+    log: Log<K>,
+    name: SourceName,
+    memory: Memory,
 }
 
-impl Model for SourceEnd {
-    ghost use Rattle.std.specs.Prelude.{ℕ, List, Option, refl};
-    ghost use Rattle.std.specs.Coded.{code_by, coded_ℕ, coded_list, coded_option, coded×};
-    ghost use Rattle.std.specs.FinMap as map;
-    ghost use Rattle.wef_keeper.specs.Rows.{Rows};
-    ghost use Rattle.wef_keeper.specs.contracts.keys.Key as key;
-    ghost use Rattle.wef_keeper.specs.contracts.keys.Cell as cell;
-    ghost use Rattle.wef_source.specs.Machine.{End};
-    ghost use Rattle.wef_source.specs.Serving.{AreKept};
-    ghost use Rattle.wef_source.specs.contracts.sessions.Session as session;
-    ghost use Rattle.wef_source.specs.declared.sessions.Session.{Session};
-
-    ghost Value = { End };
-
-    ghost coded = { code_by (Rows × (ℕ × (Option ℕ × List Session)))
-        (coded× (map.code key.the_row.coded cell.the_row.coded) (coded× coded_ℕ (coded× (coded_option coded_ℕ) (coded_list session.the_row.coded))))
-        (λ e. (e.rows, (e.drawn, (e.ask, e.sessions)))) (λ p. record { rows = p.0; drawn = p.1.0; ask = p.1.1.0; sessions = p.1.1.1 }) (λ _. refl) };
-
-    ghost view = { λ e. record { rows = e.log; drawn = e.drawn; ask = e.ask; sessions = e.sessions.items } };
-
-    ghost invariant = { λ e. AreKept e.sessions.items };
-}
-
-impl SourceEnd {
-    /// A source whose log keeps so many records a channel, from 1 to 1,000,000, and in which nothing
-    /// was written.
-    pub fn start(alloc: Global, capacity: u64) -> Result<SourceEnd, SourceFault>
+impl<K: Keeper> SourceEnd<K> {
+    /// Starts the source of a name over its store, once more: as `Log::start`. A refused start hands
+    /// the store back.
+    pub fn start(
+        alloc: Global,
+        keeper: K,
+        name: SourceName,
+        capacity: u64,
+    ) -> Result<SourceEnd<K>, (K, SourceFault)>
         requires least { 1 ≤ capacity }
         requires greatest { capacity ≤ 1000000 }
-        ensures ok { IfOk result (λ end. end ≡ machine.start_of capacity) }
-        ensures refusal { IfErr result answers.WantsMemory }
+        ensures does { MatchResult result
+            (λ end. calls.Does (λ found. log_answers.start_effect found capacity) (λ found. windows.boot_of found + 1) (Ok end.memory.boot) (K.store keeper) (K.store end.log.keeper))
+            (λ refused. calls.Does (λ found. log_answers.start_effect found capacity) (λ found. windows.boot_of found + 1) (Err (answers.logged_fault refused.1)) (K.store keeper) (K.store refused.0)) }
+        ensures memory { IfOk result (λ end. end.memory ≡ machine.start_of end.log.boot) }
+        ensures name { IfOk result (λ end. end.name ≡ name) }
+        ensures refusal { IfErr result (λ refused. answers.RefusesStart refused.1) }
     {
-        Ok(SourceEnd {
-            log: Log::start(alloc, capacity)?,
-            drawn: 0,
-            ask: None,
-            sessions: Vec::new(alloc),
-            alloc,
-        })
+        match Log::start(alloc, keeper, capacity) {
+            Ok(log) => {
+                let memory = Memory::new(alloc, log.boot());
+                Ok(SourceEnd { log, name, memory })
+            }
+            Err((keeper, fault)) => Err((keeper, SourceFault::from(fault))),
+        }
+    }
+
+    /// The start number.
+    pub fn boot(&self) -> u64
+        ensures { result ≡ self.now.memory.boot }
+    {
+        self.memory.boot()
+    }
+
+    /// The source's name.
+    pub fn name(&self) -> &SourceName
+        ensures { result.now ≡ self.now.name }
+    {
+        &self.name
     }
 
     /// Writes an event as the next record of its channel, and answers its number.
     pub fn write(&mut self, event: &PlainEvent) -> Result<u64, SourceFault>
-        ensures ok { IfOk result (answers.Writes self.old self.new event.now) }
-        ensures refusal { IfErr result (λ fault. answers.RefusesWrite fault self.old event.now) }
-        ensures err { OnErr result (self.new ≡ self.old) }
+        ensures answer { access.From (K.store self.old.log.keeper) (K.store self.new.log.keeper) (λ found after. calls.Answers (logged result) (log_answers.write_effect found event.now) found after) }
+        ensures number { access.From (K.store self.old.log.keeper) (K.store self.new.log.keeper) (λ found after. IfOk result (λ n. n ≡ windows.last_of found event.now.channel + 1)) }
+        ensures window { access.From (K.store self.old.log.keeper) (K.store self.new.log.keeper) (λ found after. IfOk result (log_answers.ExtendsHistory found after event.now)) }
+        ensures images { calls.OnImages (logged result) (λ found. log_answers.write_effect found event.now) (K.store self.old.log.keeper) (K.store self.new.log.keeper) }
+        ensures planned { IfSome (K.store self.old.log.keeper).plan (λ planned. access.From (K.store self.old.log.keeper) (K.store self.new.log.keeper)
+            (λ found after. calls.ByPlan planned (logged result) (log_answers.write_effect found event.now) found after (K.store self.new.log.keeper))) }
+        ensures tries { calls.ByTries (logged result) (K.store self.old.log.keeper).tries (K.store self.new.log.keeper).tries }
+        ensures cause { access.HasCause AreFormed (fails result) (K.store self.old.log.keeper) (K.store self.new.log.keeper) }
+        ensures faults { (K.store self.old.log.keeper).faults ≤ (K.store self.new.log.keeper).faults }
+        ensures ready { OnOk result (access.IsReady (K.store self.new.log.keeper)) }
+        ensures listed { IfErr result answers.RefusesLog }
+        ensures memory { self.new.memory ≡ self.old.memory }
+        ensures name { self.new.name ≡ self.old.name }
     {
-        Ok(self.log.write(event)?)
+        handed(self.log.write(event))
     }
 
     /// Draws the id of an ask for subscriptions. An older ask isn't answered any more. It takes no memory.
     pub fn ask(&mut self) -> Result<MessageId, SourceFault>
-        ensures ok { IfOk result (answers.Asks self.old self.new) }
-        ensures refusal { IfErr result (λ fault. answers.RefusesAsk fault self.old) }
-        ensures err { OnErr result (self.new ≡ self.old) }
+        ensures ok { IfOk result (answers.Asks self.old.memory self.new.memory) }
+        ensures refusal { IfErr result (λ fault. answers.RefusesAsk fault self.old.memory) }
+        ensures err { OnErr result (self.new.memory ≡ self.old.memory) }
+        ensures log { self.new.log ≡ self.old.log }
+        ensures name { self.new.name ≡ self.old.name }
     {
-        let id = self.next_id()?;
-        self.drawn += 1;
-        self.ask = Some(id);
-        Ok(message_id(self.alloc, id))
+        self.memory.ask()
     }
 
     /// Takes the offers that answer the ask, at a moment: the sessions are theirs from now on, and begin where
@@ -107,161 +113,103 @@ impl SourceEnd {
         offers: &List<Offer>,
         now: u64,
     ) -> Result<u64, SourceFault>
-        ensures ok { IfOk result (answers.Adopts self.old self.new relates.now offers.now now) }
-        ensures refusal { IfErr result (λ fault. answers.RefusesAdopt fault self.old relates.now) }
-        ensures err { OnErr result (self.new ≡ self.old) }
+        ensures ok { IfOk result (answers.Adopts self.old.memory self.new.memory relates.now offers.now now) }
+        ensures refusal { IfErr result (λ fault. answers.RefusesAdopt fault self.old.memory relates.now) }
+        ensures err { OnErr result (self.new.memory ≡ self.old.memory) }
+        ensures log { self.new.log ≡ self.old.log }
+        ensures name { self.new.name ≡ self.old.name }
     {
-        if !agree(self.ask, relates.value) {
-            return Err(SourceFault::NotAsked);
-        }
-        let sessions = sessions_of(self.alloc, offers, now)?;
-        let count = sessions.len() as u64;
-        self.sessions = sessions;
-        self.ask = None;
-        Ok(count)
+        self.memory.adopt(relates, offers, now)
     }
 
     /// The names of the sessions' subscriptions, in the order of their bytes.
     pub fn sessions(&self) -> Result<List<SubId>, SourceFault>
-        ensures ok { IfOk result (λ names. names ≡ the_sessions.names_of self.now.sessions) }
+        ensures ok { IfOk result (λ names. names ≡ the_sessions.names_of self.now.memory.sessions) }
         ensures in_order { IfOk result IsInOrder }
         ensures refusal { IfErr result answers.WantsMemory }
     {
-        Ok(names_of(self.alloc, self.sessions.as_slice())?)
+        self.memory.sessions()
     }
 
     /// What a session has to send at a moment: a batch, unless the answer to one is outstanding or there is none.
     pub fn poll(&mut self, sub: &SubId, now: u64) -> Result<Poll, SourceFault>
-        ensures ok { IfOk result (answers.Polls self.old self.new sub.now now) }
-        ensures refusal { IfErr result (λ fault. answers.RefusesPoll fault self.old sub.now) }
-        ensures err { OnErr result (self.new ≡ self.old) }
+        ensures ok { IfSome (K.store self.new.log.keeper).rows (λ rows. IfOk result (answers.Polls rows self.old.memory self.new.memory sub.now now)) }
+        ensures refusal { IfSome (K.store self.new.log.keeper).rows (λ rows. IfErr result (λ fault. answers.RefusesPoll fault rows self.old.memory sub.now)) }
+        ensures sends { IfOk result (answers.Sends self.old.memory self.new.memory sub.now now) }
+        ensures listed { IfErr result (λ fault. answers.MayRefusePoll fault self.old.memory sub.now) }
+        ensures err { OnErr result (self.new.memory ≡ self.old.memory) }
+        ensures reads { access.OpensAndReads AreFormed (fails result) (K.store self.old.log.keeper) (K.store self.new.log.keeper) }
+        ensures name { self.new.name ≡ self.old.name }
     {
-        let Some(place) = place_of_name(self.sessions.as_slice(), sub) else {
-            return Err(SourceFault::UnknownSubscription);
-        };
-        let Some((delivery, outstanding)) = self.prepared(&self.sessions[place])? else {
-            return Ok(Poll::Nothing);
-        };
-        self.drawn += 1;
-        send(&mut self.sessions[place], outstanding, now);
-        Ok(Poll::Send(delivery))
+        self.memory.poll(&mut self.log, sub, now)
     }
 
     /// Takes the answer to a delivery. It takes no memory.
     pub fn on_reply(&mut self, relates: &MessageId, reply: &Reply) -> Result<Moved, SourceFault>
-        ensures ok { IfOk result (answers.Answers self.old self.new relates.now reply.now) }
-        ensures refusal { IfErr result (λ fault. answers.RefusesAnswer fault self.old relates.now) }
-        ensures err { OnErr result (self.new ≡ self.old) }
+        ensures ok { IfOk result (answers.Answers self.old.memory self.new.memory relates.now reply.now) }
+        ensures refusal { IfErr result (λ fault. answers.RefusesAnswer fault self.old.memory relates.now) }
+        ensures err { OnErr result (self.new.memory ≡ self.old.memory) }
+        ensures log { self.new.log ≡ self.old.log }
+        ensures name { self.new.name ≡ self.old.name }
     {
-        let Some(id) = relates.value else {
-            return Err(SourceFault::NotAsked);
-        };
-        match reply {
-            Reply::Ack => self.take_ack(id),
-            Reply::Fault(fault) => self.take_fault(id, fault),
-        }
+        self.memory.on_reply(relates, reply)
     }
 
     /// Gives up waiting for the answer to a session's delivery. It takes no memory.
     pub fn on_lost(&mut self, sub: &SubId) -> Result<(), SourceFault>
-        ensures ok { OnOk result (answers.Loses self.old self.new sub.now) }
-        ensures refusal { IfErr result (λ fault. answers.RefusesLost fault self.old sub.now) }
-        ensures err { OnErr result (self.new ≡ self.old) }
+        ensures ok { OnOk result (answers.Loses self.old.memory self.new.memory sub.now) }
+        ensures refusal { IfErr result (λ fault. answers.RefusesLost fault self.old.memory sub.now) }
+        ensures err { OnErr result (self.new.memory ≡ self.old.memory) }
+        ensures log { self.new.log ≡ self.old.log }
+        ensures name { self.new.name ≡ self.old.name }
     {
-        if !settle_named(&mut self.sessions, sub) {
-            return Err(SourceFault::UnknownSubscription);
-        }
-        Ok(())
+        self.memory.on_lost(sub)
     }
 
-    fn take_ack(&mut self, id: u128) -> Result<Moved, SourceFault>
-        ensures there { OnOk result (is_some (the_sessions.waiting self.old.sessions id) ≡ true) }
-        ensures ok { IfOk result (answers.AnswersId self.old self.new id Reply.Ack) }
-        ensures refusal { IfErr result (answers.RefusesId self.old id) }
-        ensures err { OnErr result (self.new ≡ self.old) }
+    /// The store, as it stands. What is remembered is lost.
+    pub fn into_keeper(self) -> K
+        ensures { result ≡ self.log.keeper }
     {
-        if !move_waiting(&mut self.sessions, id) {
-            return Err(SourceFault::NotAsked);
-        }
-        Ok(Moved::Moved)
-    }
-
-    fn take_fault(&mut self, id: u128, fault: &FaultName) -> Result<Moved, SourceFault>
-        ensures there { OnOk result (is_some (the_sessions.waiting self.old.sessions id) ≡ true) }
-        ensures ok { IfOk result (answers.AnswersId self.old self.new id (Reply.Fault fault.now)) }
-        ensures refusal { IfErr result (answers.RefusesId self.old id) }
-        ensures err { OnErr result (self.new ≡ self.old) }
-    {
-        if !refuse_waiting(&mut self.sessions, id, fault) {
-            return Err(SourceFault::NotAsked);
-        }
-        Ok(Moved::Refused)
-    }
-
-    /// What a session sends next, and what its answer will be awaited by. Nothing changes yet.
-    fn prepared(&self, session: &Session) -> Result<Option<(Delivery, Outstanding)>, SourceFault>
-        ensures ok { IfOk result (Prepares self.now session.now) }
-        ensures refusal { IfErr result (RefusesToPrepare self.now session.now) }
-    {
-        if session.outstanding.is_some() {
-            return Ok(None);
-        }
-        let batch = built(self.alloc, &self.log, session)?;
-        if batch.items.is_empty() {
-            return Ok(None);
-        }
-        let id = self.next_id()?;
-        let outstanding = Outstanding {
-            id,
-            to: batch.to.clone()?,
-        };
-        let delivery = Delivery {
-            id: message_id(self.alloc, id),
-            notify_to: session.notify_to.clone()?,
-            identifier: copied(&session.identifier)?,
-            batch,
-        };
-        Ok(Some((delivery, outstanding)))
-    }
-
-    /// The value of the next id. It isn't drawn yet.
-    fn next_id(&self) -> Result<u128, SourceFault>
-        ensures left { IfOk result (λ id. machine.is_spent self.now ≡ false) }
-        ensures id { IfOk result (λ id. id ≡ machine.next_id self.now) }
-        ensures spent { IfErr result (λ fault. answers.RefusesAsk fault self.now) }
-    {
-        if self.drawn == u64::MAX {
-            return Err(SourceFault::Spent);
-        }
-        Ok(MessageId::of(self.log.boot(), self.drawn + 1))
+        let SourceEnd {
+            log,
+            name: _,
+            memory: _,
+        } = self;
+        log.into_keeper()
     }
 }
 
-/// Whether two values of ids are there, and the same.
-fn agree(asked: Option<u128>, given: Option<u128>) -> bool
-    ensures { result ≡ ids_agree asked given }
-{
-    match (asked, given) {
-        (Some(asked), Some(given)) => asked == given,
-        _ => false,
+impl SourceEnd<MemKeeper> {
+    /// Arms the next commit of the store: it fails, and its changes are kept where `after` is true.
+    pub fn fail_next(&mut self, after: bool)
+        ensures log { self.new.log ≡ record self.old.log { keeper = record self.old.log.keeper { armed = Some after } } }
+        ensures memory { self.new.memory ≡ self.old.memory }
+        ensures name { self.new.name ≡ self.old.name }
+    {
+        self.log.fail_next(after);
+    }
+
+    /// Disarms the next commit of the store.
+    pub fn calm(&mut self)
+        ensures log { self.new.log ≡ record self.old.log { keeper = record self.old.log.keeper { armed = None } } }
+        ensures memory { self.new.memory ≡ self.old.memory }
+        ensures name { self.new.name ≡ self.old.name }
+    {
+        self.log.calm();
+    }
+
+    /// Whether the next commit of the store is armed.
+    pub fn is_armed(&self) -> bool
+        ensures { result ≡ is_some self.now.log.keeper.armed }
+    {
+        self.log.is_armed()
     }
 }
 
-fn message_id(alloc: Global, id: u128) -> MessageId
-    ensures { result ≡ record { value = Some id; text = [] } }
+/// A log's answer, as the source's.
+fn handed(answer: Result<u64, LogFault>) -> Result<u64, SourceFault>
+    ensures logged { logged result ≡ answer }
+    ensures listed { IfErr result answers.RefusesLog }
 {
-    MessageId {
-        value: Some(id),
-        text: Text::new(alloc),
-    }
-}
-
-fn names_of(alloc: Global, sessions: &[Session]) -> Result<List<SubId>, AllocError>
-    ensures { IfOk result (λ names. names ≡ the_sessions.names_of sessions.now) }
-{
-    let mut names = List::new(alloc);
-    for session in sessions {
-        names.push(session.name.clone()?)?;
-    }
-    Ok(names)
+    Ok(answer?)
 }

@@ -3,12 +3,13 @@
 use crate::{Delivery, Moved, Poll, Reply, SourceEnd, SourceFault};
 use std::alloc::{AllocError, Global};
 use std::process::Abort;
-use wef_base::{ChannelName, List, SubId, Text, ValueFault};
+use wef_base::{ChannelName, List, SourceName, SubId, Text, ValueFault};
 use wef_batch::{Batch, Item};
 use wef_bookmark::Bookmark;
 use wef_envelope::{FaultName, MessageId};
 use wef_event::{PlainEvent, is_xml_text};
 use wef_eventing::{Offer, Subscribe};
+use wef_keeper::MemKeeper;
 use wef_query::QueryList;
 
 /// The value of an id that no source draws.
@@ -40,15 +41,47 @@ fn letters(alloc: Global, count: u32) -> Result<Text, AllocError> {
     Ok(word)
 }
 
-/// Writes an event of so many letters, and answers its number.
-fn write(rt: &impl Abort, alloc: Global, source: &mut SourceEnd, name: &str, count: u32) -> u64 {
+/// Writes an event of so many letters.
+fn try_write(
+    rt: &impl Abort,
+    alloc: Global,
+    source: &mut SourceEnd<MemKeeper>,
+    name: &str,
+    count: u32,
+) -> Result<u64, SourceFault> {
     let word = letters(alloc, count).expect(rt, "memory");
     let event = event_of(alloc, name, word).expect(rt, "a name");
     let event = event.expect(rt, "XML characters");
-    source.write(&event).expect(rt, "a number")
+    source.write(&event)
 }
 
-fn write_many(rt: &impl Abort, alloc: Global, source: &mut SourceEnd, name: &str, count: u64) {
+/// Writes an event of so many letters, and answers its number.
+fn write(
+    rt: &impl Abort,
+    alloc: Global,
+    source: &mut SourceEnd<MemKeeper>,
+    name: &str,
+    count: u32,
+) -> u64 {
+    try_write(rt, alloc, source, name, count).expect(rt, "a number")
+}
+
+/// A source over a store, which keeps four records a channel.
+fn over(rt: &impl Abort, alloc: Global, keeper: MemKeeper) -> SourceEnd<MemKeeper> {
+    let name = Text::from_str(alloc, "s").expect(rt, "memory");
+    let name = SourceName::read(&name).expect(rt, "a name");
+    SourceEnd::start(alloc, keeper, name, 4)
+        .ok()
+        .expect(rt, "a source")
+}
+
+fn write_many(
+    rt: &impl Abort,
+    alloc: Global,
+    source: &mut SourceEnd<MemKeeper>,
+    name: &str,
+    count: u64,
+) {
     for number in 0..count {
         assert_eq!(rt; write(rt, alloc, source, name, 1), number + 1);
     }
@@ -80,7 +113,7 @@ fn subscription(alloc: Global) -> Result<SubId, ValueFault> {
 }
 
 /// Has a source serve the subscription, and answers its name.
-fn serve(rt: &impl Abort, alloc: Global, source: &mut SourceEnd, offer: Offer) -> SubId {
+fn serve(rt: &impl Abort, alloc: Global, source: &mut SourceEnd<MemKeeper>, offer: Offer) -> SubId {
     let id = source.ask().expect(rt, "an id");
     let mut offers = List::new(alloc);
     offers.push(offer).expect(rt, "memory");
@@ -90,8 +123,13 @@ fn serve(rt: &impl Abort, alloc: Global, source: &mut SourceEnd, offer: Offer) -
 }
 
 /// A source that keeps four records a channel, and serves the subscription.
-fn serving(rt: &impl Abort, alloc: Global, max_items: u32, max_bytes: u32) -> (SourceEnd, SubId) {
-    let mut source = SourceEnd::start(alloc, 4).expect(rt, "memory");
+fn serving(
+    rt: &impl Abort,
+    alloc: Global,
+    max_items: u32,
+    max_bytes: u32,
+) -> (SourceEnd<MemKeeper>, SubId) {
+    let mut source = over(rt, alloc, MemKeeper::new(alloc));
     let offer = offer_of(alloc, max_items, max_bytes).expect(rt, "an offer");
     let sub = serve(rt, alloc, &mut source, offer);
     (source, sub)
@@ -140,7 +178,7 @@ fn shown(alloc: Global, batch: &Batch) -> Result<Text, AllocError> {
 fn sends(
     rt: &impl Abort,
     alloc: Global,
-    source: &mut SourceEnd,
+    source: &mut SourceEnd<MemKeeper>,
     sub: &SubId,
     want: &str,
 ) -> Delivery {
@@ -160,12 +198,12 @@ fn sent(poll: Poll) -> Option<Delivery> {
     }
 }
 
-fn says_nothing(rt: &impl Abort, source: &mut SourceEnd, sub: &SubId) {
+fn says_nothing(rt: &impl Abort, source: &mut SourceEnd<MemKeeper>, sub: &SubId) {
     let poll = source.poll(sub, 2).expect(rt, "an answer");
     assert!(rt; matches!(&poll, Poll::Nothing));
 }
 
-fn is_acknowledged(rt: &impl Abort, source: &mut SourceEnd, delivery: &Delivery) {
+fn is_acknowledged(rt: &impl Abort, source: &mut SourceEnd<MemKeeper>, delivery: &Delivery) {
     assert_eq!(rt;
         source.on_reply(&delivery.id, &Reply::Ack),
         Ok(Moved::Moved)
@@ -263,4 +301,36 @@ fn an_answer_to_another_id_is_not_asked_for(rt: HostRuntime) {
         );
     }
     says_nothing(&rt, &mut source, &sub);
+}
+
+#[test]
+fn a_started_source_forgets_its_sessions_and_keeps_its_log(rt: HostRuntime) {
+    let alloc = rt.alloc();
+    let (mut source, sub) = serving(&rt, alloc, 20, 512_000);
+    assert_eq!(&rt; source.boot(), 1);
+    assert_eq!(&rt; source.name().as_text().as_str(), "s");
+    write_many(&rt, alloc, &mut source, "application", 2);
+    let mut source = over(&rt, alloc, source.into_keeper());
+    assert_eq!(&rt; source.boot(), 2);
+    assert!(&rt; matches!(source.poll(&sub, 1), Err(SourceFault::UnknownSubscription)));
+    let id = source.ask().expect(&rt, "an id");
+    assert_eq!(&rt; id.value, Some(MessageId::of(2, 1)));
+    assert_eq!(&rt; write(&rt, alloc, &mut source, "application", 1), 3);
+}
+
+#[test]
+fn what_a_failed_write_left_is_sent(rt: HostRuntime) {
+    let alloc = rt.alloc();
+    let (mut source, sub) = serving(&rt, alloc, 20, 512_000);
+    source.fail_next(false);
+    source.calm();
+    assert_eq!(&rt; write(&rt, alloc, &mut source, "application", 1), 1);
+    source.fail_next(true);
+    assert!(&rt; source.is_armed());
+    assert_eq!(&rt;
+        try_write(&rt, alloc, &mut source, "application", 1),
+        Err(SourceFault::Failed)
+    );
+    let want = "application 1; application 2; to application 2";
+    sends(&rt, alloc, &mut source, &sub, want);
 }

@@ -17,11 +17,13 @@ use Rattle.wef_keeper.specs.Laws.{get-applied}
 use Rattle.wef_keeper.specs.Rows.{Rows, applied, cell_of, found_after, key_cmp, key_of}
 use Rattle.wef_keeper.specs.declared.keys.Cell.{Cell}
 use Rattle.wef_keeper.specs.declared.keys.Change.{Change}
+use Rattle.wef_keeper.specs.declared.keys.Change.TheVariants.{Put}
 use Rattle.wef_keeper.specs.declared.keys.Key.{Key}
-use Rattle.wef_source_log.specs.Answers.{ExtendsHistory, Writes, next_text}
+use Rattle.wef_source_log.specs.Answers.{ExtendsHistory, next_text}
 use Rattle.wef_source_log.specs.Histories.{Histories, History, extended, history, text_at}
 use Rattle.wef_source_log.specs.Keys.{boot_key, capacity_key, last_key, record_key}
-use Rattle.wef_source_log.specs.Windows.{IsWindow, capacity_of, first_for, last_cell, last_of, number_cell, record_cell, start_changes, started, text_cell, write_changes, written}
+use Rattle.wef_source_log.specs.Laws.{NothingIsEmpty, StartsKeep}
+use Rattle.wef_source_log.specs.Windows.{IsWindow, boot_of, capacity_cell, capacity_changes, capacity_of, first_for, last_cell, last_of, number_cell, record_cell, start_changes, started, text_cell, write_changes, written}
 
 -- ---- keys
 
@@ -110,14 +112,6 @@ at_record rows capacity n c text d m =
     let kept = cond (hits_record c d n m i) (Some (text_cell text)) (finite.get rows (record_key d m)) in
     cond (nat_lt capacity n) (cond (hits_record c d (n - capacity) m i) None kept) kept)
 
--- a list of changes that is applied or not leaves a capacity of 1 or more, where the changes don't touch it
-pub keeps_some : {X E : Type 0} (r : Result X E) (rows rows' : Rows) (capacity n : ℕ) (c text : List ℕ) → OnOk r (rows' ≡ applied (write_changes capacity c n text) rows) → OnErr r (rows' ≡ rows)
-    → 1 ≤ capacity_of rows → 1 ≤ capacity_of rows'
-unfolding number_of
-keeps_some (Ok x) rows rows' capacity n c text is none some =
-    subst (λ (k : ℕ). 1 ≤ k) (sym (ap capacity_of is ∙ ap number_of (at_capacity rows capacity n c text))) some
-keeps_some (Err e) rows rows' capacity n c text none is some = subst (λ (k : ℕ). 1 ≤ k) (sym (ap capacity_of is)) some
-
 -- ---- histories with one record more
 
 length-push : (records : History) (text : List ℕ) → length (records ++ text ∷ []) ≡ length records + 1
@@ -165,16 +159,19 @@ history-extended all c text d =
 
 -- ---- what a window's rows give
 
-last_cell-number : (n : ℕ) → unwrap_or (option_map (λ (k : Cell). k.value) (last_cell n)) 0 ≡ n
+pub last_cell-number : (n : ℕ) → unwrap_or (option_map (λ (k : Cell). k.value) (last_cell n)) 0 ≡ n
 last_cell-number n =
     elim (n == 0) as (λ t. (n == 0) ≡ t → unwrap_or (option_map (λ (k : Cell). k.value) (if t then None else Some (number_cell n))) 0 ≡ n) [
       | true ↦ λ e. grind (arith, nat_tests, e)
       | false ↦ λ e. refl
     ] refl
 
-pub capacity_in : (rows : Rows) (all : Histories) (capacity boot : ℕ) → IsWindow rows all capacity boot → capacity_of rows ≡ capacity
+pub capacity_in : (rows : Rows) (all : Histories) (capacity boot : ℕ) → 0 < boot → IsWindow rows all capacity boot → capacity_of rows ≡ capacity
 unfolding number_of
-capacity_in rows all capacity boot window = ap number_of window.capacity_row
+capacity_in rows all capacity boot begun window = ap number_of (window.capacity_row ∙ ap (λ (t : Bool). if t then None else Some (number_cell capacity)) (begun_once boot begun))
+  where
+    begun_once : (boot : ℕ) → 0 < boot → (boot == 0) ≡ false
+    begun_once boot begun = grind (arith, nat_tests)
 
 pub last_in : (rows : Rows) (all : Histories) (capacity boot : ℕ) → IsWindow rows all capacity boot → (c : List ℕ) → last_of rows c ≡ length (history all c)
 unfolding number_of
@@ -271,25 +268,25 @@ next_window rows all capacity boot c text some window =
     }
 
 -- writing keeps the rows a window
-pub extends : (rows rows' : Rows) (event : PlainEvent) (n : ℕ) → Writes rows rows' event n → ExtendsHistory rows rows' event n
-extends rows rows' event n wrote all capacity boot some window =
+pub extends : (rows rows' : Rows) (event : PlainEvent) (n : ℕ) → n ≡ last_of rows event.channel + 1 → rows' ≡ written rows event.channel (next_text rows event)
+    → ExtendsHistory rows rows' event n
+extends rows rows' event n numbered wrote all capacity boot some begun window =
     let c = event.channel in
     let last = last_in rows all capacity boot window c in
     let text = numbered_text event n in
     let same : written rows c (next_text rows event) ≡ next_rows rows capacity all c text =
-    λ i. applied (write_changes (capacity_in rows all capacity boot window i) c (last i + 1) (numbered_text event (sym wrote.1 i))) rows in
-    let is : next_rows rows capacity all c text ≡ rows' = sym (wrote.2 ∙ same) in
-    (wrote.1 ∙ ap (λ (k : ℕ). k + 1) last, subst (λ (r : Rows). IsWindow r (extended all c text) capacity boot) is (next_window rows all capacity boot c text some window))
+    λ i. applied (write_changes (capacity_in rows all capacity boot begun window i) c (last i + 1) (numbered_text event (sym numbered i))) rows in
+    let is : next_rows rows capacity all c text ≡ rows' = sym (wrote ∙ same) in
+    (numbered ∙ ap (λ k. k + 1) last, subst (λ (r : Rows). IsWindow r (extended all c text) capacity boot) is (next_window rows all capacity boot c text some window))
 
--- ---- a log in which nothing was written
+-- ---- a start
 
-pub starts_empty : (capacity : ℕ) → IsWindow (started capacity) finite.empty capacity 1
-starts_empty capacity = record {
-  capacity_row = get-applied (start_changes capacity) finite.empty capacity_key;
-  boot_row = get-applied (start_changes capacity) finite.empty boot_key;
-  last_rows = λ c. get-applied (start_changes capacity) finite.empty (last_key c) ∙ finite.get-empty key_cmp (last_key c) ∙ ap (λ (records : History). last_cell (length records)) (sym (no_history c));
-  record_rows = λ c n. get-applied (start_changes capacity) finite.empty (record_key c n) ∙ finite.get-empty key_cmp (record_key c n) ∙ no_record capacity n
-      ∙ ap (λ (records : History). record_cell capacity records n) (sym (no_history c));
+pub nothing_is_empty : NothingIsEmpty
+nothing_is_empty capacity = record {
+  capacity_row = finite.get-empty key_cmp capacity_key;
+  boot_row = finite.get-empty key_cmp boot_key;
+  last_rows = λ c. finite.get-empty key_cmp (last_key c) ∙ ap (λ (records : History). last_cell (length records)) (sym (no_history c));
+  record_rows = λ c n. finite.get-empty key_cmp (record_key c n) ∙ no_record capacity n ∙ ap (λ (records : History). record_cell capacity records n) (sym (no_history c));
 }
   where
     no_history : (c : List ℕ) → history finite.empty c ≡ []
@@ -301,5 +298,47 @@ starts_empty capacity = record {
         let missing : option_map text_cell (text_at [] n) ≡ none = ap (option_map text_cell) (either_way (n == 0) (text_at [] 0)) in
         sym (ap (λ (cell : Option Cell). if nat_le (first_for capacity 0) n then cell else none) missing ∙ either_way (nat_le (first_for capacity 0) n) none)
 
-pub started_capacity : (capacity : ℕ) → capacity_of (started capacity) ≡ capacity
-started_capacity capacity = capacity_in (started capacity) finite.empty capacity 1 (starts_empty capacity)
+-- what a start leaves at a key, where a cell of the capacity stands or not
+start_at : (rows : Rows) (capacity : ℕ) (q : Key) (kept : Option Cell) → finite.get rows capacity_key ≡ kept
+    → finite.get (started rows capacity) q ≡ found_after (capacity_changes capacity kept ++ Put (record { key = boot_key; value = boot_of rows + 1; body = [] }) ∷ []) q (finite.get rows q)
+start_at rows capacity q kept e =
+    get-applied (start_changes rows capacity) rows q
+    ∙ ap (λ (cell : Option Cell). found_after (capacity_changes capacity cell ++ Put (record { key = boot_key; value = boot_of rows + 1; body = [] }) ∷ []) q (finite.get rows q)) e
+
+-- a start leaves other rows than those of the capacity and the start number
+start_apart : (rows : Rows) (capacity : ℕ) (q : Key) → hits capacity_key q ≡ false → hits boot_key q ≡ false → finite.get (started rows capacity) q ≡ finite.get rows q
+start_apart rows capacity q no_capacity no_boot = start_at rows capacity q (finite.get rows capacity_key) refl ∙ by_cell (finite.get rows capacity_key) (finite.get rows q)
+  where
+    by_cell : (kept cell : Option Cell) → found_after (capacity_changes capacity kept ++ Put (record { key = boot_key; value = boot_of rows + 1; body = [] }) ∷ []) q cell ≡ cell
+    by_cell None cell =
+        ap (λ (t : Bool). cond t (Some (number_cell (boot_of rows + 1))) (cond (hits capacity_key q) (Some (number_cell capacity)) cell)) no_boot
+        ∙ ap (λ (t : Bool). cond t (Some (number_cell capacity)) cell) no_capacity
+    by_cell (Some kept) cell = ap (λ (t : Bool). cond t (Some (number_cell (boot_of rows + 1))) cell) no_boot
+
+capacity_kept : (rows : Rows) (capacity : ℕ) (kept : Option Cell) → finite.get rows capacity_key ≡ kept → finite.get (started rows capacity) capacity_key ≡ Some (unwrap_or kept (number_cell capacity))
+capacity_kept rows capacity None e = start_at rows capacity capacity_key None e
+capacity_kept rows capacity (Some cell) e = start_at rows capacity capacity_key (Some cell) e ∙ e
+
+boot_kept : (rows : Rows) (capacity : ℕ) (kept : Option Cell) → finite.get rows capacity_key ≡ kept → finite.get (started rows capacity) boot_key ≡ Some (number_cell (boot_of rows + 1))
+boot_kept rows capacity None e = start_at rows capacity boot_key None e
+boot_kept rows capacity (Some cell) e = start_at rows capacity boot_key (Some cell) e
+
+capacity_next : (capacity boot : ℕ) → Some (unwrap_or (capacity_cell capacity boot) (number_cell capacity)) ≡ capacity_cell capacity (boot + 1)
+capacity_next capacity boot =
+    elim (boot == 0) as (λ t. Some (unwrap_or (if t then None else Some (number_cell capacity)) (number_cell capacity)) ≡ Some (number_cell capacity)) [ true ↦ refl | false ↦ refl ]
+    ∙ ap (λ (t : Bool). if t then None else Some (number_cell capacity)) (not_zero boot)
+  where
+    not_zero : (n : ℕ) → false ≡ (n + 1 == 0)
+    not_zero n = grind (arith, nat_tests)
+
+pub starts_keep : StartsKeep
+unfolding number_of
+starts_keep rows all capacity boot window =
+    let kept = finite.get rows capacity_key in
+    let number : boot_of rows ≡ boot = ap number_of window.boot_row ∙ last_cell-number boot in
+    record {
+      capacity_row = capacity_kept rows capacity kept refl ∙ ap (λ (cell : Option Cell). Some (unwrap_or cell (number_cell capacity))) window.capacity_row ∙ capacity_next capacity boot;
+      boot_row = boot_kept rows capacity kept refl ∙ ap (λ n. Some (number_cell (n + 1))) number ∙ last_cell-next boot;
+      last_rows = λ c. start_apart rows capacity (last_key c) refl refl ∙ window.last_rows c;
+      record_rows = λ c n. start_apart rows capacity (record_key c n) refl refl ∙ window.record_rows c n;
+    }

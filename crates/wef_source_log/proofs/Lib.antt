@@ -1,3 +1,9 @@
 pub mod Cells
+pub mod Committed
+pub mod Contents
+pub mod Forming
 pub mod Pages
-pub mod Reading
+pub mod ReadsOf
+pub mod Stands
+pub mod Stores
+pub mod Writes

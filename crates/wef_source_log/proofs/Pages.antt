@@ -5,6 +5,7 @@ use Rattle.std.proofs.lemmas.List.{take-map, map-append}
 use Rattle.std.proofs.lemmas.List.Elements.{All-head, All-tail, All-take, filter_passes}
 use Rattle.std.specs.Cmp.Lexicographic.{bytes_decides, pointwise}
 use Rattle.std.specs.List.{All}
+use Rattle.std.specs.Prelude.{Option, Some, None, IfSome}
 use Rattle.wef_keeper.specs.Rows.{Rows, rows_after}
 use Rattle.wef_keeper.specs.Sections.{is_under, last_key, rows_under}
 use Rattle.wef_keeper.specs.declared.keys.Depth.TheVariants.{Channel}
@@ -54,3 +55,10 @@ is_rest m rows c after start page begins is splits =
     ap (λ (k : Key). map (event_of_row c) (rows_under Channel k rows)) (sym begins) ∙ ap (map (event_of_row c)) splits
     ∙ map-append (event_of_row c) page (rows_under Channel (last_key start page) rows)
     ∙ ap (λ (k : Key). map (event_of_row c) page ++ map (event_of_row c) (rows_under Channel k rows)) last
+
+-- so of rows that are told
+pub is_told_rest : (m : ℕ) (told : Option Rows) (c : List ℕ) (after : ℕ) (start : Key) (page : List Row) → start ≡ record_key c after
+    → IfSome told (λ rows. page ≡ take m (rows_under Channel start rows)) → IfSome told (λ rows. rows_under Channel start rows ≡ page ++ rows_under Channel (last_key start page) rows)
+    → IfSome told (λ rows. records_after rows c after ≡ map (event_of_row c) page ++ records_after rows c (last_number after (map (event_of_row c) page)))
+is_told_rest m None c after start page begins is splits = tt
+is_told_rest m (Some rows) c after start page begins is splits = is_rest m rows c after start page begins is splits

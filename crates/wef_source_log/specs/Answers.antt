@@ -1,19 +1,41 @@
 -- What the calls of the log answer, by its rows as the call begins.
-use Rattle.std.specs.Prelude.{◌≡◌, ℕ, ◌+◌, ◌<◌, nat_le, Bool, true, false, List, None, length}
+use Rattle.std.specs.Prelude.{◌≡◌, ℕ, ◌+◌, ◌<◌, nat_le, Bool, List, is_none, length, Result, Ok, Err, if◌then◌else◌}
 use Rattle.wef_event.specs.declared.records.EventFault as event
 use Rattle.wef_event.specs.declared.records.EventFault.TheVariants as events
 use Rattle.wef_event.specs.declared.unnumbered.PlainEvent.{PlainEvent}
 use Rattle.wef_event.specs.Unnumbered.{numbered, numbered_text}
 use Rattle.wef_keeper.specs.Rows.{Rows}
+use Rattle.wef_keeper.specs.declared.access.StoreFault as store
+use Rattle.wef_keeper.specs.declared.access.StoreFault.TheVariants as stores
+use Rattle.wef_keeper.specs.declared.keys.Change.{Change}
 use Rattle.wef_source_log.specs.Histories.{Histories, history, extended}
-use Rattle.wef_source_log.specs.Windows.{IsWindow, last_of, written}
+use Rattle.wef_source_log.specs.Windows.{IsWindow, boot_of, capacity_of, last_of, start_changes, write_changes}
 use Rattle.wef_source_log.specs.declared.faults.LogFault.{LogFault}
-use Rattle.wef_source_log.specs.declared.faults.LogFault.TheVariants.{NoMemory, Full, TooLong}
+use Rattle.wef_source_log.specs.declared.faults.LogFault.TheVariants.{NoMemory, Failed, Full, TooLong}
 
 -- a fault of making an event, as the log's
 abbrev pub log_fault : event.EventFault → LogFault
 log_fault events.NoMemory = NoMemory
 log_fault events.TooLong = TooLong
+
+-- a fault of the store, as the log's
+abbrev pub kept_fault : store.StoreFault → LogFault
+kept_fault stores.NoMemory = NoMemory
+kept_fault stores.Failed = Failed
+
+-- a call that only reads is refused for want of memory, or where the store failed
+abbrev pub RefusesRead : LogFault → Type 0
+RefusesRead NoMemory = Unit {0}
+RefusesRead Failed = Unit {0}
+RefusesRead Full = ⊥
+RefusesRead TooLong = ⊥
+
+-- a start isn't refused as too long
+abbrev pub RefusesStart : LogFault → Type 0
+RefusesStart NoMemory = Unit {0}
+RefusesStart Failed = Unit {0}
+RefusesStart Full = Unit {0}
+RefusesStart TooLong = ⊥
 
 -- whether a channel has all numbers
 abbrev pub is_full : Rows → List ℕ → Bool
@@ -23,25 +45,28 @@ is_full rows c = nat_le 9223372036854775807 (last_of rows c)
 abbrev pub next_text : Rows → PlainEvent → List ℕ
 next_text rows event = numbered_text event (last_of rows event.channel + 1)
 
--- `Full` comes exactly where the channel's last number is the greatest, and then `TooLong` exactly where the numbered
--- event's text is too long.
-abbrev pub RefusesWrite : LogFault → Rows → PlainEvent → Type 0
-RefusesWrite NoMemory rows event = Unit {0}
-RefusesWrite Full rows event = is_full rows event.channel ≡ true
-RefusesWrite TooLong rows event = (is_full rows event.channel ≡ false) × (numbered event (last_of rows event.channel + 1) ≡ None)
+-- what a call does: the changes that it commits, or why it is refused
+abbrev pub Effect : Type 0
+Effect = Result (List Change) LogFault
 
--- want of memory, and nothing else
-abbrev pub WantsMemory : LogFault → Type 0
-WantsMemory NoMemory = Unit {0}
-WantsMemory _ = ⊥
+-- what a write does: `Full` comes exactly where the channel's last number is the greatest, and then `TooLong` exactly
+-- where the event has no text of the next number
+abbrev pub write_effect : Rows → PlainEvent → Effect
+write_effect rows event =
+    if is_full rows event.channel then Err Full
+    else (if is_none (numbered event (last_of rows event.channel + 1)) then Err TooLong
+    else Ok (write_changes (capacity_of rows) event.channel (last_of rows event.channel + 1) (next_text rows event)))
 
--- what was written is the next record: the rows are those with it, and its number is the next one
-abbrev pub Writes : Rows → Rows → PlainEvent → ℕ → Type 0
-Writes rows rows' event n =
-    (is_full rows event.channel ≡ false) × (n ≡ last_of rows event.channel + 1) × (rows' ≡ written rows event.channel (next_text rows event))
+-- whether the source was started as often as it can be
+abbrev pub is_boot_full : Rows → Bool
+is_boot_full rows = nat_le 9223372036854775807 (boot_of rows)
+
+-- what a start does: `Full` comes exactly where the start number is the greatest
+abbrev pub start_effect : Rows → ℕ → Effect
+start_effect rows capacity = if is_boot_full rows then Err Full else Ok (start_changes rows capacity)
 
 -- Where the rows are the window of histories, the number of what was written is the length of its channel's history
 -- plus one, and the rows are the window of the longer histories.
 abbrev pub ExtendsHistory : Rows → Rows → PlainEvent → ℕ → Type 0
-ExtendsHistory rows rows' event n = (all : Histories) (capacity boot : ℕ) → 0 < capacity → IsWindow rows all capacity boot →
+ExtendsHistory rows rows' event n = (all : Histories) (capacity boot : ℕ) → 0 < capacity → 0 < boot → IsWindow rows all capacity boot →
     (n ≡ length (history all event.channel) + 1) × IsWindow rows' (extended all event.channel (numbered_text event n)) capacity boot

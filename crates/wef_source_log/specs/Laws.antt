@@ -1,11 +1,13 @@
 -- Laws of windows: a log in which nothing was written has the window of no history, and what the rows of a window
 -- give is what its histories say.
-use Rattle.std.specs.Prelude.{◌≡◌, ℕ, ◌+◌, ◌-◌, max, List, [], ◌∷◌, drop, length}
+use Rattle.std.specs.Prelude.{◌≡◌, ℕ, ◌+◌, ◌-◌, ◌<◌, ◌≤◌, max, Some, List, [], ◌∷◌, drop, length}
 use Rattle.std.specs.FinMap as map
 use Rattle.wef_event.specs.declared.records.Event.{Event}
+use Rattle.wef_base.specs.Names.{channel_name}
 use Rattle.wef_keeper.specs.Rows.{Rows}
+use Rattle.wef_source_log.specs.Forms.{AreFormed}
 use Rattle.wef_source_log.specs.Histories.{History, Histories, history}
-use Rattle.wef_source_log.specs.Windows.{IsWindow, boot_of, capacity_of, first_for, first_of, last_of, records_after, started}
+use Rattle.wef_source_log.specs.Windows.{IsWindow, boot_of, capacity_of, first_for, first_of, last_of, records_after, started, written}
 
 -- records of a channel with these texts, numbered from `n` on
 abbrev pub numbered_from : List ℕ → ℕ → List (List ℕ) → List Event
@@ -26,10 +28,20 @@ pub record ReadsWindow (rows : Rows) (all : Histories) (capacity boot : ℕ) : T
   pub records_are : (c : List ℕ) (after : ℕ) →
       records_after rows c after ≡ records_from c (history all c) (max (first_for capacity (length (history all c))) (after + 1))
 
--- a log in which nothing was written
-abbrev pub StartIsEmpty : Type 0
-StartIsEmpty = (capacity : ℕ) → IsWindow (started capacity) map.empty capacity 1
+-- no rows are the window of no history, before the first start
+abbrev pub NothingIsEmpty : Type 0
+NothingIsEmpty = (capacity : ℕ) → IsWindow map.empty map.empty capacity 0
 
--- what a window's rows give
+-- a start keeps the window, and its start number is one greater
+abbrev pub StartsKeep : Type 0
+StartsKeep = (rows : Rows) (all : Histories) (capacity boot : ℕ) → IsWindow rows all capacity boot → IsWindow (started rows capacity) all capacity (boot + 1)
+
+-- what a window's rows give, from the first start on
 abbrev pub WindowsRead : Type 0
-WindowsRead = (rows : Rows) (all : Histories) (capacity boot : ℕ) → IsWindow rows all capacity boot → ReadsWindow rows all capacity boot
+WindowsRead = (rows : Rows) (all : Histories) (capacity boot : ℕ) → 0 < boot → IsWindow rows all capacity boot → ReadsWindow rows all capacity boot
+
+-- Rows of their form stay so: where there is none, over a start, and over a write.
+pub record FormsStay : Type 0 where
+  pub nothing : AreFormed map.empty
+  pub start : (rows : Rows) (capacity : ℕ) → AreFormed rows → boot_of rows < 9223372036854775807 → 1 ≤ capacity → capacity ≤ 1000000 → AreFormed (started rows capacity)
+  pub write : (rows : Rows) (c text : List ℕ) → AreFormed rows → last_of rows c < 9223372036854775807 → channel_name c ≡ Some c → AreFormed (written rows c text)

@@ -59,13 +59,19 @@ abbrev pub last_number : ℕ → List Event → ℕ
 last_number after [] = after
 last_number after (event ∷ events) = last_number event.number events
 
--- the rows of a log in which nothing was written
-abbrev pub start_changes : ℕ → List Change
-start_changes capacity =
-    Put (record { key = capacity_key; value = capacity; body = [] }) ∷ Put (record { key = boot_key; value = 1; body = [] }) ∷ []
+-- the capacity is kept by the first start alone
+abbrev pub capacity_changes : ℕ → Option Cell → List Change
+capacity_changes capacity None = Put (record { key = capacity_key; value = capacity; body = [] }) ∷ []
+capacity_changes capacity (Some kept) = []
 
-abbrev pub started : ℕ → Rows
-started capacity = applied (start_changes capacity) finite.empty
+-- what starting a source changes: its start number is one greater, and a capacity is kept where none was
+abbrev pub start_changes : Rows → ℕ → List Change
+start_changes rows capacity =
+    capacity_changes capacity (finite.get rows capacity_key) ++ Put (record { key = boot_key; value = boot_of rows + 1; body = [] }) ∷ []
+
+-- the rows of a source that was started once more
+abbrev pub started : Rows → ℕ → Rows
+started rows capacity = applied (start_changes rows capacity) rows
 
 -- what leaves the window once a number is the last
 abbrev pub leaving : ℕ → List ℕ → ℕ → List Change
@@ -89,10 +95,14 @@ abbrev pub record_cell : ℕ → History → ℕ → Option Cell
 record_cell capacity records n =
     if nat_le (first_for capacity (length records)) n then option_map text_cell (text_at records n) else None
 
--- The rows are the window of these histories: the capacity, the start number, and for each channel the last number
--- and the records from the window's first on.
+-- the cell of the capacity: none before the first start
+abbrev pub capacity_cell : ℕ → ℕ → Option Cell
+capacity_cell capacity boot = if boot == 0 then None else Some (number_cell capacity)
+
+-- The rows are the window of these histories: the start number, from the first start on the capacity, and for each
+-- channel the last number and the records from the window's first on. Before the first start the start number is 0.
 pub record IsWindow (rows : Rows) (all : Histories) (capacity boot : ℕ) : Type 0 where
-  pub capacity_row : finite.get rows capacity_key ≡ Some (number_cell capacity)
-  pub boot_row : finite.get rows boot_key ≡ Some (number_cell boot)
+  pub capacity_row : finite.get rows capacity_key ≡ capacity_cell capacity boot
+  pub boot_row : finite.get rows boot_key ≡ last_cell boot
   pub last_rows : (c : List ℕ) → finite.get rows (last_key c) ≡ last_cell (length (history all c))
   pub record_rows : (c : List ℕ) (n : ℕ) → finite.get rows (record_key c n) ≡ record_cell capacity (history all c) n

@@ -3,13 +3,19 @@
 use std::alloc::AllocError;
 use thiserror::Error;
 use wef_event::EventFault;
+use wef_keeper::access::StoreFault;
 
-/// Why the log refuses a call. It is as before after each refusal.
+/// Why the log refuses a call. Its rows are as before after each refusal but `Failed`.
 #[derive(Clone, Copy, Debug, PartialEq, Eq, Error)]
 pub enum LogFault {
     #[error("no memory")]
     NoMemory,
-    #[error("the channel has all numbers")]
+    /// The store failed, or a row in it isn't of its form. After a write or a start the rows may
+    /// have its changes or not; the next call finds which.
+    #[error("the store failed")]
+    Failed,
+    /// A channel has all numbers, or the source was started as often as it can be.
+    #[error("no numbers are left")]
     Full,
     #[error("the event is too long")]
     TooLong,
@@ -36,6 +42,20 @@ impl From<EventFault> for LogFault {
         match fault {
             EventFault::NoMemory => LogFault::NoMemory,
             EventFault::TooLong => LogFault::TooLong,
+        }
+    }
+}
+
+impl From<StoreFault> for LogFault {
+    ghost use Rattle.std.specs.Prelude.{◌≡◌};
+    ghost use Rattle.wef_source_log.specs.Answers.{kept_fault};
+
+    ghost from_gives = { λ fault e. e ≡ kept_fault fault };
+
+    fn from(fault: StoreFault) -> LogFault {
+        match fault {
+            StoreFault::NoMemory => LogFault::NoMemory,
+            StoreFault::Failed => LogFault::Failed,
         }
     }
 }

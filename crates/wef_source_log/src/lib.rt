@@ -2,10 +2,13 @@
 //! are kept.
 #![tactic(auto)]
 
+mod changing;
 pub mod faults;
+mod forms;
 pub mod keys;
 pub mod laws;
 pub mod logs;
+mod reading;
 #[cfg(test)]
 mod tests;
 

@@ -1,219 +1,203 @@
 //! The log.
 
-ghost use Rattle.std.specs.Prelude.{◌≡◌, ◌≤◌, ◌++◌, [], ◌∷◌, take, map, IfOk, IfErr, OnOk, OnErr};
-ghost use Rattle.wef_keeper.specs.Rows.{applied};
+ghost use Rattle.std.specs.Prelude.{◌≡◌, ◌+◌, ◌<◌, ◌≤◌, ◌++◌, take, false, is_some, IfOk, IfErr, IfSome, OnOk, MatchResult};
+ghost use Rattle.std.specs.List.{AllByRecursion};
+ghost use Rattle.std.specs.declared.option.Option.TheVariants.{None, Some};
+ghost use Rattle.wef_event.specs.declared.records.Event as the_event;
+ghost use Rattle.wef_keeper.specs.Access as access;
 ghost use Rattle.wef_source_log.specs.Answers as answers;
+ghost use Rattle.wef_source_log.specs.Calls as calls;
+ghost use Rattle.wef_source_log.specs.Calls.{fails};
+ghost use Rattle.wef_source_log.specs.Forms as forms;
 ghost use Rattle.wef_source_log.specs.Windows as windows;
 
+use crate::changing::{start_in, write_in};
 use crate::faults::LogFault;
-use crate::keys::{boot_key, capacity_key, last_key, record_key};
-use std::alloc::{AllocError, Global};
-use std::marker::Model;
-use wef_base::numbers::MAX;
-use wef_base::{ChannelName, List, Text};
+use crate::reading::{first_of, last_of, page_of};
+use std::alloc::Global;
+use wef_base::{ChannelName, List};
 use wef_event::{Event, PlainEvent};
-use wef_keeper::{Change, Depth, Key, Row, Rows};
+use wef_keeper::{Keeper, MemKeeper, access};
 
-/// A log that keeps the last records of each channel.
+/// A log that keeps the last records of each channel in a store.
 #[derive(Drop)]
-pub struct Log {
-    rows: Rows,
-    alloc: Global,
+pub struct Log<K> {
+    keeper: K,
+    boot: u64,
 }
 
-impl Model for Log {
-    ghost use Rattle.std.specs.FinMap as finite;
-    ghost use Rattle.wef_keeper.specs.Rows.{key_cmp};
-    ghost use Rattle.wef_keeper.specs.declared.keys.Cell.{Cell};
-    ghost use Rattle.wef_keeper.specs.contracts.keys.Key as key;
-    ghost use Rattle.wef_keeper.specs.contracts.keys.Cell as cell;
-
-    ghost Value = { finite.FinMap key_cmp Cell };
-
-    ghost coded = { finite.code key.the_row.coded cell.the_row.coded };
-
-    ghost view = { λ l. l.rows };
-
-    ghost use Rattle.std.specs.Prelude.{◌≤◌};
-    ghost use Rattle.wef_source_log.specs.Windows.{capacity_of};
-
-    ghost invariant = { λ l. 1 ≤ capacity_of l.rows };
-}
-
-impl Log {
-    /// A log in which nothing was written, of a capacity from 1 to 1,000,000 records a channel. Its
-    /// start number is 1.
-    pub fn start(alloc: Global, capacity: u64) -> Result<Log, LogFault>
+impl<K: Keeper> Log<K> {
+    /// Starts a source over its store: the start number is one greater from now on, and 1 at the
+    /// first start. The first start keeps the capacity, from 1 to 1,000,000 records a channel; later
+    /// ones leave it. Both stand in one commit. A refused start hands the store back.
+    pub fn start(alloc: Global, keeper: K, capacity: u64) -> Result<Log<K>, (K, LogFault)>
         requires least { 1 ≤ capacity }
         requires greatest { capacity ≤ 1000000 }
-        ensures ok { IfOk result (λ log. log ≡ windows.started capacity) }
-        ensures refusal { IfErr result answers.WantsMemory }
+        ensures does { MatchResult result
+            (λ log. calls.Does (λ found. answers.start_effect found capacity) (λ found. windows.boot_of found + 1) (Ok log.boot) (K.store keeper) (K.store log.keeper))
+            (λ refused. calls.Does (λ found. answers.start_effect found capacity) (λ found. windows.boot_of found + 1) (Err refused.1) (K.store keeper) (K.store refused.0)) }
+        ensures refusal { IfErr result (λ refused. answers.RefusesStart refused.1) }
     {
-        let mut changes = List::new(alloc);
-        push_number(&mut changes, capacity_key(alloc), capacity)?;
-        push_number(&mut changes, boot_key(alloc), 1)?;
-        let mut rows = Rows::new(alloc);
-        rows.apply(changes)?;
-        Ok(Log { rows, alloc })
+        let mut keeper = keeper;
+        match start_in(alloc, &mut keeper, capacity) {
+            Ok(boot) => Ok(Log { keeper, boot }),
+            Err(fault) => Err((keeper, fault)),
+        }
     }
 
     /// The start number. It takes no memory.
     pub fn boot(&self) -> u64
-        ensures { result ≡ windows.boot_of self.now }
+        ensures { result ≡ self.now.boot }
     {
-        number_at(&self.rows, &boot_key(self.alloc))
-    }
-
-    /// How many records of a channel are kept. It takes no memory.
-    pub fn capacity(&self) -> u64
-        ensures value { result ≡ windows.capacity_of self.now }
-        ensures some { 1 ≤ result }
-    {
-        number_at(&self.rows, &capacity_key(self.alloc))
+        self.boot
     }
 
     /// Writes an event as the next record of its channel, and answers its number. Where the window
-    /// is full, its first record leaves it.
+    /// is full, its first record leaves it. All of it stands in one commit.
     pub fn write(&mut self, event: &PlainEvent) -> Result<u64, LogFault>
-        ensures ok { IfOk result (answers.Writes self.old self.new event.now) }
-        ensures window { IfOk result (answers.ExtendsHistory self.old self.new event.now) }
-        ensures refusal { IfErr result (λ fault. answers.RefusesWrite fault self.old event.now) }
-        ensures err { OnErr result (self.new ≡ self.old) }
+        ensures answer { access.From (K.store self.old.keeper) (K.store self.new.keeper) (λ found after. calls.Answers result (answers.write_effect found event.now) found after) }
+        ensures number { access.From (K.store self.old.keeper) (K.store self.new.keeper) (λ found after. IfOk result (λ n. n ≡ windows.last_of found event.now.channel + 1)) }
+        ensures window { access.From (K.store self.old.keeper) (K.store self.new.keeper) (λ found after. IfOk result (answers.ExtendsHistory found after event.now)) }
+        ensures images { calls.OnImages result (λ found. answers.write_effect found event.now) (K.store self.old.keeper) (K.store self.new.keeper) }
+        ensures planned { IfSome (K.store self.old.keeper).plan (λ planned. access.From (K.store self.old.keeper) (K.store self.new.keeper)
+            (λ found after. calls.ByPlan planned result (answers.write_effect found event.now) found after (K.store self.new.keeper))) }
+        ensures tries { calls.ByTries result (K.store self.old.keeper).tries (K.store self.new.keeper).tries }
+        ensures cause { access.HasCause forms.AreFormed (fails result) (K.store self.old.keeper) (K.store self.new.keeper) }
+        ensures faults { (K.store self.old.keeper).faults ≤ (K.store self.new.keeper).faults }
+        ensures ready { OnOk result (access.IsReady (K.store self.new.keeper)) }
+        ensures boot { self.new.boot ≡ self.old.boot }
     {
-        self.write_next(event)
-    }
-
-    fn write_next(&mut self, event: &PlainEvent) -> Result<u64, LogFault>
-        ensures ok { IfOk result (answers.Writes self.old self.new event.now) }
-        ensures refusal { IfErr result (λ fault. answers.RefusesWrite fault self.old event.now) }
-        ensures err { OnErr result (self.new ≡ self.old) }
-    {
-        let last = self.last(&event.channel)?;
-        if last >= MAX {
-            return Err(LogFault::Full);
-        }
-        let record = event.numbered(last + 1)?;
-        self.keep(record)?;
-        Ok(last + 1)
+        write_in(&mut self.keeper, event)
     }
 
     /// The first number of a channel's window: 1 where nothing was written.
-    pub fn first(&self, channel: &ChannelName) -> Result<u64, LogFault>
-        ensures ok { IfOk result (λ number. number ≡ windows.first_of self.now channel.now) }
-        ensures refusal { IfErr result answers.WantsMemory }
+    pub fn first(&mut self, channel: &ChannelName) -> Result<u64, LogFault>
+        ensures ok { IfSome (K.store self.new.keeper).rows (λ rows. IfOk result (λ number. number ≡ windows.first_of rows channel.now)) }
+        ensures refusal { IfErr result answers.RefusesRead }
+        ensures reads { access.OpensAndReads forms.AreFormed (fails result) (K.store self.old.keeper) (K.store self.new.keeper) }
+        ensures ready { OnOk result (access.IsReady (K.store self.new.keeper)) }
+        ensures boot { self.new.boot ≡ self.old.boot }
     {
-        Ok(first_for(self.capacity(), self.last(channel)?))
+        self.open()?;
+        self.first_ready(channel)
     }
 
     /// The last number of a channel: 0 where nothing was written.
-    pub fn last(&self, channel: &ChannelName) -> Result<u64, LogFault>
-        ensures ok { IfOk result (λ number. number ≡ windows.last_of self.now channel.now) }
-        ensures refusal { IfErr result answers.WantsMemory }
+    pub fn last(&mut self, channel: &ChannelName) -> Result<u64, LogFault>
+        ensures ok { IfSome (K.store self.new.keeper).rows (λ rows. IfOk result (λ number. number ≡ windows.last_of rows channel.now)) }
+        ensures refusal { IfErr result answers.RefusesRead }
+        ensures reads { access.OpensAndReads forms.AreFormed (fails result) (K.store self.old.keeper) (K.store self.new.keeper) }
+        ensures ready { OnOk result (access.IsReady (K.store self.new.keeper)) }
+        ensures boot { self.new.boot ≡ self.old.boot }
     {
-        let key = last_key(channel)?;
-        Ok(number_at(&self.rows, &key))
+        self.open()?;
+        self.last_ready(channel)
     }
 
     /// The first `max` records of a channel's window above a number, by number. The rest are those
     /// above the page's last number.
-    pub fn page(&self, channel: &ChannelName, after: u64, max: u32) -> Result<List<Event>, LogFault>
+    pub fn page(
+        &mut self,
+        channel: &ChannelName,
+        after: u64,
+        max: u32,
+    ) -> Result<List<Event>, LogFault>
         requires { 1 ≤ max }
-        ensures page { IfOk result (λ page. page ≡ take max (windows.records_after self.now channel.now after)) }
-        ensures rest { IfOk result (λ page. windows.records_after self.now channel.now after
-            ≡ page ++ windows.records_after self.now channel.now (windows.last_number after page)) }
-        ensures refusal { IfErr result answers.WantsMemory }
+        ensures page { IfSome (K.store self.new.keeper).rows (λ rows. IfOk result (λ page. page ≡ take max (windows.records_after rows channel.now after))) }
+        ensures rest { IfSome (K.store self.new.keeper).rows (λ rows. IfOk result (λ page. windows.records_after rows channel.now after
+            ≡ page ++ windows.records_after rows channel.now (windows.last_number after page))) }
+        ensures above { IfOk result (AllByRecursion (λ (event : the_event.Event). after < event.number)) }
+        ensures refusal { IfErr result answers.RefusesRead }
+        ensures reads { access.OpensAndReads forms.AreFormed (fails result) (K.store self.old.keeper) (K.store self.new.keeper) }
+        ensures ready { OnOk result (access.IsReady (K.store self.new.keeper)) }
+        ensures boot { self.new.boot ≡ self.old.boot }
     {
-        let start = record_key(channel, after)?;
-        let page = self.rows.section_page(&start, Depth::Channel, max)?;
-        Ok(events_of(channel, page)?)
+        self.open()?;
+        self.page_ready(channel, after, max)
     }
 
-    /// Keeps a record as the last of its channel.
-    fn keep(&mut self, record: Event) -> Result<(), AllocError>
-        ensures ok { OnOk result (self.new ≡ applied (windows.write_changes (windows.capacity_of self.old) record.channel record.number record.text) self.old) }
-        ensures err { OnErr result (self.new ≡ self.old) }
+    /// Opens the store where there is doubt.
+    pub fn open(&mut self) -> Result<(), LogFault>
+        ensures ready { OnOk result (access.IsReady (K.store self.new.keeper)) }
+        ensures found { fails result ≡ false → access.Finds (K.store self.old.keeper) (K.store self.new.keeper) }
+        ensures refusal { IfErr result answers.RefusesRead }
+        ensures opened { access.OpensAndReads access.AnyRows (fails result) (K.store self.old.keeper) (K.store self.new.keeper) }
+        ensures boot { self.new.boot ≡ self.old.boot }
     {
-        let changes = changes_of(self.capacity(), record)?;
-        self.rows.apply(changes)
+        access::open(&mut self.keeper)?;
+        Ok(())
+    }
+
+    /// As `first`, in a store that is ready.
+    pub fn first_ready(&mut self, channel: &ChannelName) -> Result<u64, LogFault>
+        requires { access.IsReady (K.store self.old.keeper) }
+        ensures ok { IfSome (K.store self.new.keeper).rows (λ rows. IfOk result (λ number. number ≡ windows.first_of rows channel.now)) }
+        ensures refusal { IfErr result answers.RefusesRead }
+        ensures reads { access.Reads forms.AreFormed (fails result) (K.store self.old.keeper) (K.store self.new.keeper) }
+        ensures boot { self.new.boot ≡ self.old.boot }
+    {
+        first_of(&mut self.keeper, channel)
+    }
+
+    /// As `last`, in a store that is ready.
+    pub fn last_ready(&mut self, channel: &ChannelName) -> Result<u64, LogFault>
+        requires { access.IsReady (K.store self.old.keeper) }
+        ensures ok { IfSome (K.store self.new.keeper).rows (λ rows. IfOk result (λ number. number ≡ windows.last_of rows channel.now)) }
+        ensures refusal { IfErr result answers.RefusesRead }
+        ensures reads { access.Reads forms.AreFormed (fails result) (K.store self.old.keeper) (K.store self.new.keeper) }
+        ensures boot { self.new.boot ≡ self.old.boot }
+    {
+        last_of(&mut self.keeper, channel)
+    }
+
+    /// As `page`, in a store that is ready.
+    pub fn page_ready(
+        &mut self,
+        channel: &ChannelName,
+        after: u64,
+        max: u32,
+    ) -> Result<List<Event>, LogFault>
+        requires max { 1 ≤ max }
+        requires ready { access.IsReady (K.store self.old.keeper) }
+        ensures page { IfSome (K.store self.new.keeper).rows (λ rows. IfOk result (λ page. page ≡ take max (windows.records_after rows channel.now after))) }
+        ensures rest { IfSome (K.store self.new.keeper).rows (λ rows. IfOk result (λ page. windows.records_after rows channel.now after
+            ≡ page ++ windows.records_after rows channel.now (windows.last_number after page))) }
+        ensures above { IfOk result (AllByRecursion (λ (event : the_event.Event). after < event.number)) }
+        ensures refusal { IfErr result answers.RefusesRead }
+        ensures reads { access.Reads forms.AreFormed (fails result) (K.store self.old.keeper) (K.store self.new.keeper) }
+        ensures boot { self.new.boot ≡ self.old.boot }
+    {
+        page_of(&mut self.keeper, channel, after, max)
+    }
+
+    /// The store, as it stands.
+    pub fn into_keeper(self) -> K
+        ensures { result ≡ self.keeper }
+    {
+        let Log { keeper, boot: _ } = self;
+        keeper
     }
 }
 
-fn number_at(rows: &Rows, key: &Key) -> u64
-    ensures { result ≡ windows.number_at rows.now key.now }
-{
-    match rows.get(key) {
-        Some(cell) => cell.value,
-        None => 0,
+impl Log<MemKeeper> {
+    /// Arms the next commit of the store: it fails, and its changes are kept where `after` is true.
+    pub fn fail_next(&mut self, after: bool)
+        ensures { self.new ≡ record self.old { keeper = record self.old.keeper { armed = Some after } } }
+    {
+        self.keeper.fail_next(after);
     }
-}
 
-/// What a record changes as the last of its channel.
-fn changes_of(capacity: u64, record: Event) -> Result<List<Change>, AllocError>
-    ensures { IfOk result (λ changes. changes ≡ windows.write_changes capacity record.channel record.number record.text) }
-{
-    let Event {
-        channel,
-        number,
-        text,
-    } = record;
-    let mut changes = List::new(channel.as_text().alloc());
-    changes.push(Change::Put(Row {
-        key: record_key(&channel, number)?,
-        value: 0,
-        body: text,
-    }))?;
-    push_number(&mut changes, last_key(&channel)?, number)?;
-    push_leaving(&mut changes, capacity, &channel, number)?;
-    Ok(changes)
-}
-
-fn push_number(changes: &mut List<Change>, key: Key, number: u64) -> Result<(), AllocError>
-    ensures { OnOk result (changes.new ≡ changes.old ++ Change.Put (record { key = key; value = number; body = [] }) ∷ []) }
-{
-    let body = Text::new(key.channel.alloc());
-    changes.push(Change::Put(Row {
-        key,
-        value: number,
-        body,
-    }))
-}
-
-/// Deletes the record that leaves a channel's window once a number is the last.
-fn push_leaving(
-    changes: &mut List<Change>,
-    capacity: u64,
-    channel: &ChannelName,
-    number: u64,
-) -> Result<(), AllocError>
-    ensures { OnOk result (changes.new ≡ changes.old ++ windows.leaving capacity channel.now number) }
-{
-    if capacity < number {
-        changes.push(Change::Delete(record_key(channel, number - capacity)?))?;
+    /// Disarms the next commit of the store.
+    pub fn calm(&mut self)
+        ensures { self.new ≡ record self.old { keeper = record self.old.keeper { armed = None } } }
+    {
+        self.keeper.calm();
     }
-    Ok(())
-}
 
-/// The first number of the window whose last number is this one.
-fn first_for(capacity: u64, last: u64) -> u64
-    requires { 1 ≤ capacity }
-    ensures { result ≡ windows.first_for capacity last }
-{
-    if last < capacity {
-        return 1;
+    /// Whether the next commit of the store is armed.
+    pub fn is_armed(&self) -> bool
+        ensures { result ≡ is_some self.now.keeper.armed }
+    {
+        self.keeper.is_armed()
     }
-    last - capacity + 1
-}
-
-fn events_of(channel: &ChannelName, rows: List<Row>) -> Result<List<Event>, AllocError>
-    ensures { IfOk result (λ events. events ≡ map (windows.event_of_row channel.now) rows) }
-{
-    let mut events = List::new(channel.as_text().alloc());
-    for row in rows.into_vec() {
-        events.push(Event {
-            channel: channel.clone()?,
-            number: row.key.number,
-            text: row.body,
-        })?;
-    }
-    Ok(events)
 }

@@ -3,8 +3,10 @@
 use crate::{Log, LogFault};
 use std::alloc::{AllocError, Global};
 use std::process::Abort;
-use wef_base::{ChannelName, Text, ValueFault};
+use wef_base::numbers::MAX;
+use wef_base::{ChannelName, List, Text, ValueFault};
 use wef_event::{Event, PlainEvent, is_xml_text};
+use wef_keeper::{Change, Keeper, KeeperFault, Key, MemKeeper, Row};
 
 fn channel(alloc: Global, name: &str) -> Result<ChannelName, ValueFault> {
     ChannelName::read(&Text::from_str(alloc, name)?)
@@ -23,15 +25,37 @@ fn event_of(alloc: Global, name: &str, word: Text) -> Result<Option<PlainEvent>,
     }))
 }
 
-/// Writes an event of a channel, and answers its number.
-fn write(rt: &impl Abort, alloc: Global, log: &mut Log, name: &str) -> u64 {
+/// A log over a store.
+fn over(rt: &impl Abort, alloc: Global, keeper: MemKeeper, capacity: u64) -> Log<MemKeeper> {
+    Log::start(alloc, keeper, capacity.clamp(1, 1_000_000))
+        .ok()
+        .expect(rt, "a log")
+}
+
+/// A log in which nothing was written.
+fn fresh(rt: &impl Abort, alloc: Global, capacity: u64) -> Log<MemKeeper> {
+    over(rt, alloc, MemKeeper::new(alloc), capacity)
+}
+
+/// Writes an event of a channel.
+fn try_write(
+    rt: &impl Abort,
+    alloc: Global,
+    log: &mut Log<MemKeeper>,
+    name: &str,
+) -> Result<u64, LogFault> {
     let word = Text::from_str(alloc, "word").expect(rt, "memory");
     let event = event_of(alloc, name, word).expect(rt, "a name");
     let event = event.expect(rt, "XML characters");
-    log.write(&event).expect(rt, "a number")
+    log.write(&event)
 }
 
-fn write_nine(rt: &impl Abort, alloc: Global, log: &mut Log) {
+/// Writes an event of a channel, and answers its number.
+fn write(rt: &impl Abort, alloc: Global, log: &mut Log<MemKeeper>, name: &str) -> u64 {
+    try_write(rt, alloc, log, name).expect(rt, "a number")
+}
+
+fn write_nine(rt: &impl Abort, alloc: Global, log: &mut Log<MemKeeper>) {
     for number in 1..10 {
         assert_eq!(rt; write(rt, alloc, log, "a"), number);
     }
@@ -47,7 +71,14 @@ fn numbers(alloc: Global, page: &[Event]) -> Result<Text, AllocError> {
 }
 
 /// Compares the numbers of a page's records.
-fn is_page(rt: &impl Abort, log: &Log, name: &ChannelName, after: u64, max: u32, want: &str) {
+fn is_page(
+    rt: &impl Abort,
+    log: &mut Log<MemKeeper>,
+    name: &ChannelName,
+    after: u64,
+    max: u32,
+    want: &str,
+) {
     if max > 0 {
         let page = log.page(name, after, max).expect(rt, "memory");
         let text = numbers(name.as_text().alloc(), page.as_slice()).expect(rt, "memory");
@@ -56,7 +87,7 @@ fn is_page(rt: &impl Abort, log: &Log, name: &ChannelName, after: u64, max: u32,
 }
 
 /// Compares the ends of a channel's window.
-fn has_ends(rt: &impl Abort, log: &Log, name: &ChannelName, first: u64, last: u64) {
+fn has_ends(rt: &impl Abort, log: &mut Log<MemKeeper>, name: &ChannelName, first: u64, last: u64) {
     assert_eq!(rt; log.first(name).expect(rt, "memory"), first);
     assert_eq!(rt; log.last(name).expect(rt, "memory"), last);
 }
@@ -65,37 +96,36 @@ fn has_ends(rt: &impl Abort, log: &Log, name: &ChannelName, first: u64, last: u6
 fn a_window_of_four_has_the_last_four(rt: HostRuntime) {
     let alloc = rt.alloc();
     let name = channel(alloc, "a").expect(&rt, "a name");
-    let mut log = Log::start(alloc, 4).expect(&rt, "memory");
+    let mut log = fresh(&rt, alloc, 4);
     write_nine(&rt, alloc, &mut log);
-    has_ends(&rt, &log, &name, 6, 9);
-    is_page(&rt, &log, &name, 0, 100, "6 7 8 9 ");
-    is_page(&rt, &log, &name, 7, 1, "8 ");
-    is_page(&rt, &log, &name, 9, 100, "");
+    has_ends(&rt, &mut log, &name, 6, 9);
+    is_page(&rt, &mut log, &name, 0, 100, "6 7 8 9 ");
+    is_page(&rt, &mut log, &name, 7, 1, "8 ");
+    is_page(&rt, &mut log, &name, 9, 100, "");
     assert_eq!(&rt; log.boot(), 1);
-    assert_eq!(&rt; log.capacity(), 4);
 }
 
 #[test]
 fn a_window_of_one_has_the_last(rt: HostRuntime) {
     let alloc = rt.alloc();
     let name = channel(alloc, "a").expect(&rt, "a name");
-    let mut log = Log::start(alloc, 1).expect(&rt, "memory");
+    let mut log = fresh(&rt, alloc, 1);
     write_nine(&rt, alloc, &mut log);
-    has_ends(&rt, &log, &name, 9, 9);
-    is_page(&rt, &log, &name, 0, 100, "9 ");
+    has_ends(&rt, &mut log, &name, 9, 9);
+    is_page(&rt, &mut log, &name, 0, 100, "9 ");
 }
 
 #[test]
 fn channels_are_apart(rt: HostRuntime) {
     let alloc = rt.alloc();
     let other = channel(alloc, "b").expect(&rt, "a name");
-    let mut log = Log::start(alloc, 2).expect(&rt, "memory");
+    let mut log = fresh(&rt, alloc, 2);
     write_nine(&rt, alloc, &mut log);
-    has_ends(&rt, &log, &other, 1, 0);
-    is_page(&rt, &log, &other, 0, 100, "");
+    has_ends(&rt, &mut log, &other, 1, 0);
+    is_page(&rt, &mut log, &other, 0, 100, "");
     assert_eq!(&rt; write(&rt, alloc, &mut log, "b"), 1);
-    has_ends(&rt, &log, &other, 1, 1);
-    is_page(&rt, &log, &other, 0, 100, "1 ");
+    has_ends(&rt, &mut log, &other, 1, 1);
+    is_page(&rt, &mut log, &other, 0, 100, "1 ");
 }
 
 /// A word of letters, so many.
@@ -117,10 +147,88 @@ fn long_event(rt: &impl Abort, alloc: Global, count: u32) -> PlainEvent {
 #[test]
 fn an_event_of_more_than_a_mebibyte_is_not_kept(rt: HostRuntime) {
     let alloc = rt.alloc();
-    let mut log = Log::start(alloc, 4).expect(&rt, "memory");
+    let mut log = fresh(&rt, alloc, 4);
     // What stands round the word has 228 bytes.
     let event = long_event(&rt, alloc, 1_048_349);
     assert!(&rt; matches!(log.write(&event), Err(LogFault::TooLong)));
     let event = long_event(&rt, alloc, 1_048_348);
     assert!(&rt; matches!(log.write(&event), Ok(1)));
+}
+
+#[test]
+fn a_started_log_goes_on(rt: HostRuntime) {
+    let alloc = rt.alloc();
+    let name = channel(alloc, "a").expect(&rt, "a name");
+    let mut log = fresh(&rt, alloc, 1);
+    assert_eq!(&rt; log.boot(), 1);
+    assert_eq!(&rt; write(&rt, alloc, &mut log, "a"), 1);
+    let mut log = over(&rt, alloc, log.into_keeper(), 4);
+    assert_eq!(&rt; log.boot(), 2);
+    assert_eq!(&rt; write(&rt, alloc, &mut log, "a"), 2);
+    has_ends(&rt, &mut log, &name, 2, 2);
+}
+
+/// A store with one row, which has a number.
+fn holding(
+    alloc: Global,
+    kind: u8,
+    channel: &str,
+    value: u64,
+    body: &str,
+) -> Result<MemKeeper, KeeperFault> {
+    let mut changes = List::new(alloc);
+    changes.push(Change::Put(Row {
+        key: Key {
+            kind,
+            sub: Text::new(alloc),
+            source: Text::new(alloc),
+            channel: Text::from_str(alloc, channel)?,
+            number: 0,
+        },
+        value,
+        body: Text::from_str(alloc, body)?,
+    }))?;
+    let mut keeper = MemKeeper::new(alloc);
+    keeper.commit(&changes)?;
+    Ok(keeper)
+}
+
+#[test]
+fn a_start_number_has_an_end(rt: HostRuntime) {
+    let alloc = rt.alloc();
+    for (value, want) in [(MAX, Some(LogFault::Full)), (MAX - 1, None)] {
+        let keeper = holding(alloc, 12, "", value, "").expect(&rt, "memory");
+        let fault = Log::start(alloc, keeper, 4).err().map(|refused| refused.1);
+        assert_eq!(&rt; fault, want);
+    }
+}
+
+#[test]
+fn a_channel_has_an_end(rt: HostRuntime) {
+    let alloc = rt.alloc();
+    for (value, body, want) in [
+        (MAX, "", Err(LogFault::Full)),
+        (MAX - 1, "", Ok(MAX)),
+        (7, "spoilt", Err(LogFault::Failed)),
+    ] {
+        let keeper = holding(alloc, 10, "a", value, body).expect(&rt, "memory");
+        let mut log = over(&rt, alloc, keeper, 4);
+        assert_eq!(&rt; try_write(&rt, alloc, &mut log, "a"), want);
+    }
+}
+
+#[test]
+fn the_next_call_finds_what_a_failed_write_left(rt: HostRuntime) {
+    let alloc = rt.alloc();
+    let mut log = fresh(&rt, alloc, 4);
+    assert_eq!(&rt; write(&rt, alloc, &mut log, "a"), 1);
+    for (stands, next) in [(true, 3), (false, 4)] {
+        log.fail_next(stands);
+        assert!(&rt; log.is_armed());
+        assert_eq!(&rt; try_write(&rt, alloc, &mut log, "a"), Err(LogFault::Failed));
+        assert_eq!(&rt; write(&rt, alloc, &mut log, "a"), next);
+    }
+    log.fail_next(true);
+    log.calm();
+    assert_eq!(&rt; write(&rt, alloc, &mut log, "a"), 5);
 }

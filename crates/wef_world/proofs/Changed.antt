@@ -3,9 +3,9 @@ use Rattle.std.proofs.Common.{◌≡◌, ℕ, List, ap, sym, ◌∙◌, Some, No
 use Rattle.std.specs.FinMap.{get, insert, remove}
 use Rattle.wef_source.specs.Machine.{End}
 use Rattle.wef_world.specs.Slots.{changed_at, changed_slot, slot_with}
-use Rattle.wef_world.specs.States.{Slots, opened}
+use Rattle.wef_machine.specs.States.{Slots, opened}
 use Rattle.wef_world.specs.declared.slots.Slot.{Slot}
-use Rattle.wef_world.proofs.NameMaps.{put_back, remove_absent}
+use Rattle.wef_machine.proofs.NameMaps.{put_back, remove_absent}
 
 -- nothing changes where none has the name
 pub none_changed : (sources : Slots) (s : List ℕ) (change : End → End) → get sources s ≡ None → remove sources s ≡ changed_at sources s change

@@ -8,15 +8,15 @@ use Rattle.wef_source.specs.Machine.{lost_in}
 use Rattle.wef_source.specs.Sessions.{session_of}
 use Rattle.wef_source.specs.declared.sessions.Session.{Session}
 use Rattle.wef_world.specs.Slots.{AsksAs, PollsAs, PollsIn, WritesTo, slot_with}
-use Rattle.wef_world.specs.Sources.{ask_at, ask_step, at_source, lost_step, poll_at, poll_step, write_at, write_step}
-use Rattle.wef_world.specs.States.{Slots, State, opened, slot_of, with_end, with_message, with_slot}
-use Rattle.wef_world.specs.declared.messages.Message.TheVariants.{Ask, Events}
-use Rattle.wef_world.specs.declared.slots.Polled.{Polled}
-use Rattle.wef_world.specs.declared.slots.Polled.TheVariants as polled
-use Rattle.wef_world.specs.declared.slots.Slot.{Slot}
-use Rattle.wef_world.specs.declared.slots.Written.{Written}
-use Rattle.wef_world.specs.declared.slots.Written.TheVariants as written
-use Rattle.wef_world.proofs.NameMaps.{put_back, remove_absent}
+use Rattle.wef_machine.specs.Sources.{ask_at, ask_step, at_source, lost_step, poll_at, poll_step, write_at, write_step}
+use Rattle.wef_machine.specs.States.{Slots, State, opened, slot_of, with_end, with_message, with_slot}
+use Rattle.wef_machine.specs.declared.messages.Message.TheVariants.{Ask, Events}
+use Rattle.wef_machine.specs.declared.slots.Polled.{Polled}
+use Rattle.wef_machine.specs.declared.slots.Polled.TheVariants as polled
+use Rattle.wef_machine.specs.declared.slots.Slot.{Slot}
+use Rattle.wef_machine.specs.declared.slots.Written.{Written}
+use Rattle.wef_machine.specs.declared.slots.Written.TheVariants as written
+use Rattle.wef_machine.proofs.NameMaps.{put_back, remove_absent}
 
 -- a world with other sources
 abbrev pub with_sources : State → Slots → State

@@ -7,7 +7,7 @@ use Rattle.wef_source.specs.declared.faults.SourceFault.{SourceFault}
 use Rattle.wef_source.specs.declared.faults.SourceFault.TheVariants.{UnknownSubscription}
 use Rattle.wef_source.specs.declared.sessions.Session.{Session}
 use Rattle.wef_world.specs.Slots.{slot_with}
-use Rattle.wef_world.specs.States.{opened}
+use Rattle.wef_machine.specs.States.{opened}
 use Rattle.wef_world.specs.declared.slots.Slot.{Slot}
 
 -- the end that a source has once it runs

@@ -1,32 +1,47 @@
 //! Deliveries of messages.
 
-ghost use Rattle.std.specs.Prelude.{◌≡◌, ◌-◌, ◌==◌, slice_get, if◌then◌else◌, IfOk, OnOk};
+ghost use Rattle.std.specs.Prelude.{◌≡◌, ◌-◌, ◌==◌, true, slice_get, if◌then◌else◌, IfOk, OnOk};
 ghost use Rattle.std.specs.FinMap as map;
 ghost use Rattle.std.specs.Option.{option_copied};
 ghost use Rattle.wef_batch.specs.declared.items.Batch.{Batch};
+ghost use Rattle.wef_collector.specs.Forms.{AreFormed};
 ghost use Rattle.wef_collector.specs.Offers.{offers};
 ghost use Rattle.wef_collector.specs.Standing.{standing};
-ghost use Rattle.wef_world.specs.Deliveries as steps;
-ghost use Rattle.wef_world.specs.Printed.{answered_line};
-ghost use Rattle.wef_world.specs.Slots.{after_reply, changed_at, waits_in};
-ghost use Rattle.wef_world.specs.declared.messages.Message.TheVariants.{Offers};
-ghost use Rattle.wef_world.specs.States as states;
+ghost use Rattle.wef_machine.specs.Collecting as collecting;
+ghost use Rattle.wef_machine.specs.Deliveries as steps;
+ghost use Rattle.wef_machine.specs.Kept.{IsKept};
+ghost use Rattle.wef_machine.specs.Printed.{answered_line};
+ghost use Rattle.wef_machine.specs.States as states;
+ghost use Rattle.wef_machine.specs.declared.messages.Message.TheVariants.{Offers};
+ghost use Rattle.wef_world.specs.Outcomes as outcomes;
+ghost use Rattle.wef_world.specs.Slots as slots;
 
+use crate::arms::Arms;
+use crate::collector_side::{Called, CollectorSide};
 use crate::ends::{Ends, MOMENT};
 use crate::faults::WorldFault;
-use crate::messages::Message;
-use crate::printing::{adopted_word, answered_line, fault_answer, no_message_line, took_line};
-use crate::sources::Sources;
+use crate::printing::{adopted_word, answered_line, fate_word, fault_answer, no_message_line, took_line};
+use crate::sources::{Sources, open_source};
 use std::alloc::{AllocError, Global};
 use wef_base::{List, SourceName, SubId, Text};
 use wef_batch::Batch;
-use wef_collector::{Collector, CollectorFault};
+use wef_collector::CollectorFault;
 use wef_envelope::{FaultName, MessageId};
 use wef_eventing::{Offer, source_in, subscription_in};
+use wef_machine::{Fate, Message};
 use wef_source::{Delivery, Reply};
 
 /// Where sources find the collector.
 const HOST: &str = "collector:5985";
+
+/// What became of a batch that was given to the collector.
+#[derive(Debug, Drop)]
+pub enum Outcome {
+    /// It came to its commit, which went so.
+    Committed(Fate),
+    /// It isn't kept, for this fault.
+    Refused(FaultName),
+}
 
 impl Ends {
     /// The number of the message that so many messages, counted round, came behind. 0 where none was
@@ -44,6 +59,7 @@ impl Ends {
 
     /// Delivers the message of a number.
     pub(crate) fn deliver(&mut self, number: u64) -> Result<Text, WorldFault>
+        requires kept { IsKept self.old }
         ensures state { OnOk result (self.new ≡ steps.deliver_step self.old number) }
         ensures printed { IfOk result (λ text. text ≡ steps.deliver_printed self.old number) }
     {
@@ -53,13 +69,21 @@ impl Ends {
         };
         match message {
             Message::Ask { source, id } => {
-                let answer = answer_to_ask(alloc, &self.collector, source, id)?;
+                let fate = self.collector.open(alloc)?;
+                if fate != Fate::Done {
+                    return Ok(took_line(alloc, number, fate_word(fate))?);
+                }
+                let answer = answer_to_ask(alloc, &mut self.collector, source, id)?;
                 self.reply(number, "offers", answer)
             }
             Message::Events { source, delivery } => {
-                let refusal = take_delivery(&mut self.collector, delivery)?;
-                let word = answer_word(alloc, &refusal, delivery)?;
-                match answer_to_delivery(source, delivery, refusal)? {
+                let fate = self.collector.open(alloc)?;
+                if fate != Fate::Done {
+                    return Ok(took_line(alloc, number, fate_word(fate))?);
+                }
+                let outcome = take_delivery(&mut self.collector, delivery)?;
+                let word = outcome_word(alloc, &outcome, &delivery.batch)?;
+                match answer_to_delivery(source, delivery, outcome)? {
                     Some(answer) => self.reply(number, word.as_str(), answer),
                     None => Ok(took_line(alloc, number, word.as_str())?),
                 }
@@ -69,12 +93,12 @@ impl Ends {
                 relates,
                 offers,
             } => {
-                let word = give_offers(alloc, &mut self.sources, source, relates, offers)?;
+                let word = give_offers(alloc, &mut self.sources, &mut self.arms, source, relates, offers)?;
                 Ok(took_line(alloc, number, word.as_str())?)
             }
             Message::Ack { source, relates } => {
-                let waits = give_reply(alloc, &mut self.sources, source, relates, &Reply::Ack)?;
-                Ok(took_line(alloc, number, if waits { "moved" } else { "not-asked" })?)
+                let word = give_reply(alloc, &mut self.sources, &mut self.arms, source, relates, &Reply::Ack)?;
+                Ok(took_line(alloc, number, word.as_str())?)
             }
             Message::Fault {
                 source,
@@ -82,8 +106,8 @@ impl Ends {
                 name,
             } => {
                 let reply = Reply::Fault(name.clone()?);
-                let waits = give_reply(alloc, &mut self.sources, source, relates, &reply)?;
-                Ok(took_line(alloc, number, if waits { "refused" } else { "not-asked" })?)
+                let word = give_reply(alloc, &mut self.sources, &mut self.arms, source, relates, &reply)?;
+                Ok(took_line(alloc, number, word.as_str())?)
             }
         }
     }
@@ -111,11 +135,14 @@ fn message_at(messages: &[Message], number: u64) -> Option<&Message>
 /// The collector's answer to an ask.
 fn answer_to_ask(
     alloc: Global,
-    collector: &Collector,
+    collector: &mut CollectorSide,
     source: &SourceName,
     id: &MessageId,
 ) -> Result<Message, WorldFault>
-    ensures { IfOk result (λ answer. answer ≡ Offers source.now id.now (offers collector.now source.now states.host)) }
+    requires runs { collector.old.runs ≡ true }
+    requires formed { AreFormed collector.old.rows }
+    ensures stays { collector.new ≡ collector.old }
+    ensures answer { IfOk result (λ answer. answer ≡ Offers source.now id.now (offers collector.old.rows source.now states.host)) }
 {
     let host = Text::from_str(alloc, HOST)?;
     match collector.offers(source, &host) {
@@ -128,16 +155,18 @@ fn answer_to_ask(
     }
 }
 
-/// Lets the collector take a delivery. Answers the fault where it doesn't keep the batch.
+/// Lets a running collector take a delivery.
 fn take_delivery(
-    collector: &mut Collector,
+    collector: &mut CollectorSide,
     delivery: &Delivery,
-) -> Result<Option<FaultName>, WorldFault>
-    ensures rows { OnOk result (collector.new ≡ steps.rows_after collector.old delivery.now) }
-    ensures refusal { IfOk result (λ fault. fault ≡ steps.refusal_at collector.old delivery.now) }
+) -> Result<Outcome, WorldFault>
+    requires runs { collector.old.runs ≡ true }
+    requires formed { AreFormed collector.old.rows }
+    ensures collector { OnOk result (collector.new ≡ collecting.after_call collector.old (steps.delivery_effect collector.old.rows delivery.now)) }
+    ensures outcome { IfOk result (outcomes.OutcomeAs collector.old (steps.delivery_effect collector.old.rows delivery.now)) }
 {
     let Some(sub) = subscription_in(&delivery.notify_to)? else {
-        return Ok(Some(FaultName::DestinationUnreachable));
+        return Ok(Outcome::Refused(FaultName::DestinationUnreachable));
     };
     match source_in(&delivery.notify_to)? {
         Some(source) => take_batch(collector, &sub, &source, &delivery.batch),
@@ -145,112 +174,149 @@ fn take_delivery(
     }
 }
 
-/// Lets the collector take a batch of a source for a subscription.
-fn take_batch(
-    collector: &mut Collector,
+/// Lets a running collector take a batch of a source for a subscription.
+pub(crate) fn take_batch(
+    collector: &mut CollectorSide,
     sub: &SubId,
     source: &SourceName,
     batch: &Batch,
-) -> Result<Option<FaultName>, WorldFault>
-    ensures rows { OnOk result (collector.new ≡ steps.rows_with collector.old sub.now (standing collector.old sub.now) (Some source.now) batch.now) }
-    ensures refusal { IfOk result (λ fault. fault ≡ steps.refusal_of (standing collector.old sub.now) (Some source.now) batch.now) }
+) -> Result<Outcome, WorldFault>
+    requires runs { collector.old.runs ≡ true }
+    requires formed { AreFormed collector.old.rows }
+    ensures collector { OnOk result (collector.new ≡ collecting.after_call collector.old (steps.batch_effect collector.old.rows sub.now source.now batch.now)) }
+    ensures outcome { IfOk result (outcomes.OutcomeAs collector.old (steps.batch_effect collector.old.rows sub.now source.now batch.now)) }
 {
-    match collector.take(sub, source, batch, MOMENT) {
-        Ok(()) => Ok(None),
-        Err(CollectorFault::NoSubscription | CollectorFault::Ended) => {
-            Ok(Some(FaultName::DestinationUnreachable))
+    match collector.take(sub, source, batch, MOMENT)? {
+        Called::Committed(fate) => Ok(Outcome::Committed(fate)),
+        Called::Refused(CollectorFault::NotWellFormed) => {
+            Ok(Outcome::Refused(FaultName::InvalidMessage))
         }
-        Err(CollectorFault::NotWellFormed) => Ok(Some(FaultName::InvalidMessage)),
-        Err(_) => Err(WorldFault::NoMemory),
+        Called::Refused(_) => Ok(Outcome::Refused(FaultName::DestinationUnreachable)),
     }
 }
 
 /// Why a batch of no source isn't kept.
-fn refuse_source(collector: &Collector, sub: &SubId) -> Result<Option<FaultName>, WorldFault>
-    ensures { IfOk result (λ fault. (batch : Batch) → fault ≡ steps.refusal_of (standing collector.now sub.now) None batch) }
+fn refuse_source(collector: &mut CollectorSide, sub: &SubId) -> Result<Outcome, WorldFault>
+    requires runs { collector.old.runs ≡ true }
+    requires formed { AreFormed collector.old.rows }
+    ensures stays { collector.new ≡ collector.old }
+    ensures outcome { IfOk result (outcomes.RefusesAs (steps.sourceless (standing collector.old.rows sub.now))) }
 {
     match collector.state(sub) {
-        Ok(_) => Ok(Some(FaultName::InvalidMessage)),
-        Err(CollectorFault::NoSubscription | CollectorFault::Ended) => {
-            Ok(Some(FaultName::DestinationUnreachable))
-        }
-        Err(_) => Err(WorldFault::NoMemory),
+        Ok(_) => Ok(Outcome::Refused(FaultName::InvalidMessage)),
+        Err(CollectorFault::NoMemory) => Err(WorldFault::NoMemory),
+        Err(_) => Ok(Outcome::Refused(FaultName::DestinationUnreachable)),
     }
 }
 
-/// The word for what the collector made of a delivery.
-fn answer_word(
+/// The word for what the collector made of a batch.
+pub(crate) fn outcome_word(
     alloc: Global,
-    refusal: &Option<FaultName>,
-    delivery: &Delivery,
+    outcome: &Outcome,
+    batch: &Batch,
 ) -> Result<Text, AllocError>
-    ensures { IfOk result (λ word. word ≡ steps.answer_word refusal.now delivery.now) }
+    ensures { IfOk result (λ word. word ≡ outcomes.outcome_word outcome.now batch.now) }
 {
-    match refusal {
-        Some(fault) => fault_answer(alloc, fault),
-        None if delivery.batch.ack_wanted => Text::from_str(alloc, "ack"),
-        None => Text::from_str(alloc, "quiet"),
+    match outcome {
+        Outcome::Refused(fault) => fault_answer(alloc, fault),
+        Outcome::Committed(Fate::Done) if batch.ack_wanted => Text::from_str(alloc, "ack"),
+        Outcome::Committed(Fate::Done) => Text::from_str(alloc, "quiet"),
+        Outcome::Committed(Fate::Failed) => fault_answer(alloc, &FaultName::InternalError),
+        Outcome::Committed(Fate::Stopped) => Text::from_str(alloc, "stopped"),
     }
 }
 
-/// The collector's answer to a delivery, where it wants one.
+/// The collector's answer to a delivery, where there is one.
 fn answer_to_delivery(
     source: &SourceName,
     delivery: &Delivery,
-    refusal: Option<FaultName>,
+    outcome: Outcome,
 ) -> Result<Option<Message>, AllocError>
-    ensures { IfOk result (λ answer. answer ≡ steps.answer_with refusal source.now delivery.now) }
+    ensures { IfOk result (λ answer. answer ≡ outcomes.answer_of source.now delivery.now outcome) }
 {
     let source = source.clone()?;
     let relates = delivery.id.clone()?;
-    match refusal {
-        Some(name) => Ok(Some(Message::Fault {
-            source,
-            relates,
-            name,
-        })),
-        None if delivery.batch.ack_wanted => Ok(Some(Message::Ack { source, relates })),
-        None => Ok(None),
-    }
+    let name = match outcome {
+        Outcome::Refused(name) => name,
+        Outcome::Committed(Fate::Failed) => FaultName::InternalError,
+        Outcome::Committed(Fate::Done) if delivery.batch.ack_wanted => {
+            return Ok(Some(Message::Ack { source, relates }));
+        }
+        Outcome::Committed(_) => return Ok(None),
+    };
+    Ok(Some(Message::Fault {
+        source,
+        relates,
+        name,
+    }))
 }
 
-/// Gives offers to a source. Answers the word for what it did.
+/// Gives offers to a source. Answers the word for what became of them.
 fn give_offers(
     alloc: Global,
     sources: &mut Sources,
+    arms: &mut Arms,
     source: &SourceName,
     relates: &MessageId,
     offers: &List<Offer>,
 ) -> Result<Text, WorldFault>
-    ensures sources { OnOk result (sources.new ≡ changed_at sources.old source.now (λ end. steps.after_offers end relates.now offers.now)) }
-    ensures word { IfOk result (λ word. word ≡ steps.word_at (map.get sources.old source.now) (λ end. steps.offers_word end relates.now offers.now)) }
+    requires { slots.IsFormedAt (map.get sources.old source.now) }
+    ensures sources { OnOk result (sources.new ≡ slots.sources_changed sources.old arms.old source.now (λ end. steps.after_offers end relates.now offers.now)) }
+    ensures arms { OnOk result (arms.new ≡ slots.arms_opened sources.old arms.old source.now) }
+    ensures word { IfOk result (λ word. word ≡ slots.word_at sources.old arms.old source.now (λ end. steps.offers_word end relates.now offers.now)) }
 {
-    let Some(mut slot) = sources.take(source) else {
-        return Ok(Text::from_str(alloc, "not-asked")?);
-    };
-    let adopted = slot.adopt(alloc, relates, offers)?;
-    sources.put(source, slot)?;
-    match adopted {
-        Some(number) => Ok(adopted_word(alloc, number)?),
+    match open_source(sources, arms, alloc, source)? {
+        Some(Fate::Done) => {
+            let Some(mut slot) = sources.take(source) else {
+                unreachable!()
+            };
+            let adopted = slot.adopt(relates, offers)?;
+            sources.put(source, slot)?;
+            match adopted {
+                Some(number) => Ok(adopted_word(alloc, number)?),
+                None => Ok(Text::from_str(alloc, "not-asked")?),
+            }
+        }
+        Some(fate) => Ok(Text::from_str(alloc, fate_word(fate))?),
         None => Ok(Text::from_str(alloc, "not-asked")?),
     }
 }
 
-/// Gives a source the answer to a delivery. Answers whether a session waits for it.
+/// Gives a source the answer to a delivery. Answers the word for what became of it.
 fn give_reply(
     alloc: Global,
     sources: &mut Sources,
+    arms: &mut Arms,
     source: &SourceName,
     relates: &MessageId,
     reply: &Reply,
-) -> Result<bool, WorldFault>
-    ensures sources { OnOk result (sources.new ≡ changed_at sources.old source.now (λ end. after_reply end relates.now reply.now)) }
-    ensures waits { IfOk result (λ waits. waits ≡ waits_in (map.get sources.old source.now) relates.now) }
+) -> Result<Text, WorldFault>
+    requires { slots.IsFormedAt (map.get sources.old source.now) }
+    ensures sources { OnOk result (sources.new ≡ slots.sources_changed sources.old arms.old source.now (λ end. slots.after_reply end relates.now reply.now)) }
+    ensures arms { OnOk result (arms.new ≡ slots.arms_opened sources.old arms.old source.now) }
+    ensures word { IfOk result (λ word. word ≡ slots.word_at sources.old arms.old source.now (λ end. slots.reply_word end relates.now reply.now)) }
 {
-    let Some(mut slot) = sources.take(source) else {
-        return Ok(false);
-    };
-    let waits = slot.hear(alloc, relates, reply)?;
-    sources.put(source, slot)?;
-    Ok(waits)
+    match open_source(sources, arms, alloc, source)? {
+        Some(Fate::Done) => {
+            let Some(mut slot) = sources.take(source) else {
+                unreachable!()
+            };
+            let waits = slot.hear(relates, reply);
+            sources.put(source, slot)?;
+            Ok(Text::from_str(alloc, heard_word(waits, reply))?)
+        }
+        Some(fate) => Ok(Text::from_str(alloc, fate_word(fate))?),
+        None => Ok(Text::from_str(alloc, "not-asked")?),
+    }
+}
+
+/// The word for an answer that a session waited for, or that none did.
+fn heard_word(waits: bool, reply: &Reply) -> &'static str
+    ensures { result.now ≡ slots.heard_word waits reply.now }
+{
+    match reply {
+        Reply::Ack if waits => "moved",
+        Reply::Fault(_) if waits => "refused",
+        _ => "not-asked",
+    }
 }

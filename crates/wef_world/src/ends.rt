@@ -1,16 +1,19 @@
 //! The ends that a schedule moves.
 
-ghost use Rattle.std.specs.Prelude.{◌≡◌, true, IfOk, OnOk};
-ghost use Rattle.wef_collector.specs.Report.{report};
-ghost use Rattle.wef_collector.specs.Standing.{standing};
-ghost use Rattle.wef_world.specs.Printed as texts;
-ghost use Rattle.wef_replay.specs.Good.{allows, is_among};
-ghost use Rattle.wef_world.specs.States as states;
-ghost use Rattle.wef_world.specs.Steps as steps;
+ghost use Rattle.std.specs.Prelude.{◌≡◌, true, [], codes, IfOk, OnOk};
+ghost use Rattle.wef_machine.specs.Collecting as collecting;
+ghost use Rattle.wef_machine.specs.Kept.{IsKept};
+ghost use Rattle.wef_machine.specs.Printed as texts;
+ghost use Rattle.wef_machine.specs.States as states;
+ghost use Rattle.wef_machine.specs.Steps as steps;
+ghost use Rattle.wef_collector.specs.Forms.{AreFormed};
+ghost use Rattle.wef_replay.specs.Good.{allows, has_end, is_among};
 
+use crate::arms::Arms;
+use crate::collector_side::{Called, CollectorSide};
+use crate::deliveries::{outcome_word, take_batch};
 use crate::faults::WorldFault;
-use crate::messages::Message;
-use crate::printing::{batch_line, fault_answer, held_text, name_line};
+use crate::printing::{batch_line, fate_line, fate_word, held_text, name_line};
 use crate::slots::Capacity;
 use crate::sources::Sources;
 use std::alloc::{AllocError, Global};
@@ -18,23 +21,28 @@ use std::collections::BTreeSet;
 use std::marker::Model;
 use wef_base::{ChannelName, List, SourceName, SubId, Text};
 use wef_batch::Batch;
-use wef_collector::{Collector, CollectorFault};
-use wef_envelope::FaultName;
+use wef_collector::CollectorFault;
 use wef_eventing::{SubKind, Subscription};
+use wef_machine::{Armed, Fate, Message};
 use wef_query::QueryList;
-use wef_replay::{Line, is_line};
+use wef_replay::{EndName, Line, is_line};
 
 /// The moment of every line.
 pub(crate) const MOMENT: u64 = 0;
 
+/// The collector's name in what is printed.
+pub(crate) const COLLECTOR: &str = "collector";
+
 /// A collector and sources, at the moment 0, and all messages that they ever sent each other.
 #[derive(Drop)]
 pub struct Ends {
-    pub(crate) collector: Collector,
+    pub(crate) collector: CollectorSide,
     /// The sources that `batch` lines named.
     pub(crate) foreign: BTreeSet<SourceName>,
     /// The sources that `source` lines declared.
     pub(crate) sources: Sources,
+    /// What is armed in the sources' stores.
+    pub(crate) arms: Arms,
     /// A message's number is its place, counted from 1.
     pub(crate) messages: List<Message>,
     pub(crate) alloc: Global,
@@ -44,23 +52,22 @@ impl Model for Ends {
     ghost use Rattle.std.specs.Prelude.{ℕ, List, refl};
     ghost use Rattle.std.specs.Coded.{code_by, coded_ℕ, coded_list, coded×};
     ghost use Rattle.std.specs.FinMap as map;
-    ghost use Rattle.wef_keeper.specs.Rows.{Rows};
-    ghost use Rattle.wef_keeper.specs.contracts.keys.Key as key;
-    ghost use Rattle.wef_keeper.specs.contracts.keys.Cell as cell;
-    ghost use Rattle.wef_world.specs.States.{State, Slots};
-    ghost use Rattle.wef_world.specs.contracts.messages.Message as message;
+    ghost use Rattle.wef_machine.specs.States.{Arms, Collector, Slots, State};
+    ghost use Rattle.wef_machine.specs.contracts.arming.Armed as armed;
+    ghost use Rattle.wef_machine.specs.contracts.messages.Message as message;
+    ghost use Rattle.wef_machine.specs.declared.messages.Message.{Message};
+    ghost use Rattle.wef_world.specs.contracts.collector_side.CollectorSide as collector;
     ghost use Rattle.wef_world.specs.contracts.slots.Slot as slot;
-    ghost use Rattle.wef_world.specs.declared.messages.Message.{Message};
 
     ghost Value = { State };
 
-    ghost coded = { code_by ((Rows × List (List ℕ)) × (Slots × List Message))
-        (coded× (coded× (map.code key.the_row.coded cell.the_row.coded) (coded_list (coded_list coded_ℕ)))
-        (coded× (map.code (coded_list coded_ℕ) slot.the_row.coded) (coded_list message.the_row.coded)))
-        (λ s. ((s.rows, s.foreign), (s.sources, s.messages)))
-        (λ p. record { rows = p.0.0; foreign = p.0.1; sources = p.1.0; messages = p.1.1 }) (λ _. refl) };
+    ghost coded = { code_by ((Collector × List (List ℕ)) × (Slots × (Arms × List Message)))
+        (coded× (coded× collector.the_row.coded (coded_list (coded_list coded_ℕ)))
+        (coded× (map.code (coded_list coded_ℕ) slot.the_row.coded) (coded× (map.code (coded_list coded_ℕ) armed.the_row.coded) (coded_list message.the_row.coded))))
+        (λ s. ((s.collector, s.foreign), (s.sources, (s.arms, s.messages))))
+        (λ p. record { collector = p.0.0; foreign = p.0.1; sources = p.1.0; arms = p.1.1.0; messages = p.1.1.1 }) (λ _. refl) };
 
-    ghost view = { λ w. record { rows = w.collector; foreign = w.foreign.keys; sources = w.sources; messages = w.messages } };
+    ghost view = { λ w. record { collector = w.collector; foreign = w.foreign.keys; sources = w.sources; arms = w.arms; messages = w.messages } };
 }
 
 impl Ends {
@@ -69,9 +76,10 @@ impl Ends {
         ensures { result ≡ states.start }
     {
         Ends {
-            collector: Collector::start(alloc),
+            collector: CollectorSide::new(alloc),
             foreign: BTreeSet::new(alloc),
             sources: Sources::new(alloc),
+            arms: Arms::new(alloc),
             messages: List::new(alloc),
             alloc,
         }
@@ -95,7 +103,19 @@ impl Ends {
             Line::Ask { source } => self.has_declared(source),
             Line::Poll { source, .. } => self.has_declared(source),
             Line::Lost { source, .. } => self.has_declared(source),
+            Line::Crash { end } => self.has_end(end),
+            Line::Fail { end, .. } => self.has_end(end),
+            Line::Stop { end, .. } => self.has_end(end),
             _ => true,
+        }
+    }
+
+    fn has_end(&self, end: &EndName) -> bool
+        ensures { result ≡ has_end (states.names_of self.now) end.now }
+    {
+        match end {
+            EndName::Collector => true,
+            EndName::Source(source) => self.has_declared(source),
         }
     }
 
@@ -113,7 +133,8 @@ impl Ends {
 
     /// Does one line that the ends admit, and gives what it prints.
     pub fn run_line(&mut self, line: &Line) -> Result<Text, WorldFault>
-        requires { steps.admits self.old line.now ≡ true }
+        requires admitted { steps.admits self.old line.now ≡ true }
+        requires kept { IsKept self.old }
         ensures state { OnOk result (self.new ≡ steps.step line.now self.old) }
         ensures printed { IfOk result (λ text. text ≡ steps.printed_by line.now self.old) }
     {
@@ -134,6 +155,22 @@ impl Ends {
             Line::Deliver { number } => self.deliver(*number),
             Line::Back { number } => self.deliver(self.number_back(*number)),
             Line::Lost { source, sub } => self.lose(source, sub),
+            Line::Crash { end } => self.crash(end),
+            Line::Fail { end, after } => self.arm(
+                end,
+                Armed {
+                    after: *after,
+                    stops: false,
+                },
+            ),
+            Line::Stop { end, after } => self.arm(
+                end,
+                Armed {
+                    after: *after,
+                    stops: true,
+                },
+            ),
+            Line::Calm => self.calm(),
             Line::Show => self.show(),
             Line::Print {
                 sub,
@@ -151,8 +188,9 @@ impl Ends {
         beat: u64,
         query: &QueryList,
     ) -> Result<Text, WorldFault>
-        ensures state { OnOk result (self.new ≡ states.with_rows self.old (steps.subscribed self.old.rows (steps.subscription_of sub.now items bytes beat query.now))) }
-        ensures printed { IfOk result (λ text. text ≡ steps.subscribe_text self.old.rows sub.now) }
+        requires formed { AreFormed self.old.collector.rows }
+        ensures state { OnOk result (self.new ≡ collecting.at_collector self.old (steps.subscribe_at (steps.subscription_of sub.now items bytes beat query.now))) }
+        ensures printed { IfOk result (λ text. text ≡ collecting.print_at_collector self.old steps.closed_line (steps.subscribe_text (steps.subscription_of sub.now items bytes beat query.now))) }
     {
         let subscription = Subscription {
             name: sub.clone()?,
@@ -165,33 +203,69 @@ impl Ends {
             sources: List::new(self.alloc),
             version: 1,
         };
-        match self.collector.add(&subscription) {
-            Ok(()) => Ok(name_line("added", sub.as_text())?),
-            Err(CollectorFault::Exists) => Ok(name_line("exists", sub.as_text())?),
-            Err(CollectorFault::TooMany) => Ok(Text::from_str(self.alloc, "full\n")?),
-            Err(_) => Err(WorldFault::NoMemory),
+        match self.collector.open(self.alloc)? {
+            Fate::Done => self.add(&subscription),
+            fate => Ok(fate_line(self.alloc, fate, COLLECTOR)?),
+        }
+    }
+
+    fn add(&mut self, subscription: &Subscription) -> Result<Text, WorldFault>
+        requires runs { self.old.collector.runs ≡ true }
+        requires formed { AreFormed self.old.collector.rows }
+        ensures state { OnOk result (self.new ≡ steps.subscribe_at subscription.now self.old) }
+        ensures printed { IfOk result (λ text. text ≡ steps.subscribe_text subscription.now self.old) }
+    {
+        let name = subscription.name.as_text();
+        match self.collector.add(subscription)? {
+            Called::Committed(Fate::Done) => Ok(name_line("added", name)?),
+            Called::Committed(fate) => Ok(fate_line(self.alloc, fate, COLLECTOR)?),
+            Called::Refused(CollectorFault::Exists) => Ok(name_line("exists", name)?),
+            Called::Refused(_) => Ok(Text::from_str(self.alloc, "full\n")?),
         }
     }
 
     fn end(&mut self, sub: &SubId) -> Result<Text, WorldFault>
-        ensures state { OnOk result (self.new ≡ states.with_rows self.old (steps.ended self.old.rows sub.now (standing self.old.rows sub.now))) }
-        ensures printed { IfOk result (λ text. text ≡ steps.end_text sub.now (standing self.old.rows sub.now)) }
+        requires formed { AreFormed self.old.collector.rows }
+        ensures state { OnOk result (self.new ≡ collecting.at_collector self.old (steps.end_at sub.now)) }
+        ensures printed { IfOk result (λ text. text ≡ collecting.print_at_collector self.old steps.closed_line (steps.end_text sub.now)) }
     {
-        match self.collector.end(sub) {
-            Ok(()) => Ok(name_line("ended", sub.as_text())?),
-            Err(CollectorFault::NoSubscription) => Ok(name_line("unknown", sub.as_text())?),
-            Err(CollectorFault::Ended) => Ok(name_line("already", sub.as_text())?),
-            Err(_) => Err(WorldFault::NoMemory),
+        match self.collector.open(self.alloc)? {
+            Fate::Done => self.finish(sub),
+            fate => Ok(fate_line(self.alloc, fate, COLLECTOR)?),
+        }
+    }
+
+    fn finish(&mut self, sub: &SubId) -> Result<Text, WorldFault>
+        requires runs { self.old.collector.runs ≡ true }
+        requires formed { AreFormed self.old.collector.rows }
+        ensures state { OnOk result (self.new ≡ steps.end_at sub.now self.old) }
+        ensures printed { IfOk result (λ text. text ≡ steps.end_text sub.now self.old) }
+    {
+        match self.collector.end(sub)? {
+            Called::Committed(Fate::Done) => Ok(name_line("ended", sub.as_text())?),
+            Called::Committed(fate) => Ok(fate_line(self.alloc, fate, COLLECTOR)?),
+            Called::Refused(CollectorFault::NoSubscription) => {
+                Ok(name_line("unknown", sub.as_text())?)
+            }
+            Called::Refused(_) => Ok(name_line("already", sub.as_text())?),
         }
     }
 
     fn take(&mut self, sub: &SubId, source: &SourceName, batch: &Batch) -> Result<Text, WorldFault>
-        ensures state { OnOk result (self.new ≡ states.with_rows (states.with_foreign self.old source.now) (steps.delivered self.old.rows sub.now source.now batch.now (standing self.old.rows sub.now))) }
-        ensures printed { IfOk result (λ text. text ≡ texts.batch_text sub.now source.now (steps.answer batch.now (standing self.old.rows sub.now))) }
+        requires formed { AreFormed self.old.collector.rows }
+        ensures state { OnOk result (self.new ≡ collecting.at_collector (states.with_foreign self.old source.now) (steps.batch_at sub.now source.now batch.now)) }
+        ensures printed { IfOk result (λ text. text
+            ≡ collecting.print_at_collector (states.with_foreign self.old source.now) (steps.closed_batch sub.now source.now) (steps.batch_line sub.now source.now batch.now)) }
     {
         self.note_foreign(source)?;
-        let answer = self.answer(sub, source, batch)?;
-        Ok(batch_line(sub, source, &answer)?)
+        match self.collector.open(self.alloc)? {
+            Fate::Done => {
+                let outcome = take_batch(&mut self.collector, sub, source, batch)?;
+                let word = outcome_word(self.alloc, &outcome, batch)?;
+                Ok(batch_line(sub, source, word.as_str())?)
+            }
+            fate => Ok(batch_line(sub, source, fate_word(fate))?),
+        }
     }
 
     /// Keeps the name of a foreign source, unless it is there.
@@ -202,49 +276,78 @@ impl Ends {
         Ok(())
     }
 
-    fn answer(
-        &mut self,
-        sub: &SubId,
-        source: &SourceName,
-        batch: &Batch,
-    ) -> Result<Text, WorldFault>
-        ensures state { OnOk result (self.new ≡ states.with_rows self.old (steps.delivered self.old.rows sub.now source.now batch.now (standing self.old.rows sub.now))) }
-        ensures answer { IfOk result (λ text. text ≡ steps.answer batch.now (standing self.old.rows sub.now)) }
+    fn show(&mut self) -> Result<Text, WorldFault>
+        requires formed { AreFormed self.old.collector.rows }
+        ensures state { OnOk result (self.new ≡ collecting.at_collector self.old steps.unchanged) }
+        ensures printed { IfOk result (λ text. text ≡ collecting.print_at_collector self.old steps.closed_line steps.show_text) }
     {
-        match self.collector.take(sub, source, batch, MOMENT) {
-            Ok(()) if batch.ack_wanted => Ok(Text::from_str(self.alloc, "ack")?),
-            Ok(()) => Ok(Text::from_str(self.alloc, "quiet")?),
-            Err(CollectorFault::NoSubscription | CollectorFault::Ended) => {
-                Ok(fault_answer(self.alloc, &FaultName::DestinationUnreachable)?)
-            }
-            Err(CollectorFault::NotWellFormed) => {
-                Ok(fault_answer(self.alloc, &FaultName::InvalidMessage)?)
-            }
-            Err(_) => Err(WorldFault::NoMemory),
-        }
-    }
-
-    fn show(&self) -> Result<Text, WorldFault>
-        ensures { IfOk result (λ text. text ≡ report self.now.rows) }
-    {
-        match self.collector.report() {
-            Ok(text) => Ok(text),
-            Err(_) => Err(WorldFault::NoMemory),
+        match self.collector.open(self.alloc)? {
+            Fate::Done => match self.collector.report() {
+                Ok(text) => Ok(text),
+                Err(_) => Err(WorldFault::NoMemory),
+            },
+            fate => Ok(fate_line(self.alloc, fate, COLLECTOR)?),
         }
     }
 
     fn print(
-        &self,
+        &mut self,
         sub: &SubId,
         source: &SourceName,
         channel: &ChannelName,
     ) -> Result<Text, WorldFault>
-        ensures { IfOk result (λ text. text ≡ steps.print_text self.now.rows sub.now source.now channel.now (standing self.now.rows sub.now)) }
+        requires formed { AreFormed self.old.collector.rows }
+        ensures state { OnOk result (self.new ≡ collecting.at_collector self.old steps.unchanged) }
+        ensures printed { IfOk result (λ text. text ≡ collecting.print_at_collector self.old steps.closed_line (steps.print_text sub.now source.now channel.now)) }
     {
-        match held_text(self.alloc, &self.collector, sub, source, channel) {
-            Ok(text) => Ok(text),
-            Err(CollectorFault::NoSubscription) => Ok(name_line("unknown", sub.as_text())?),
-            Err(_) => Err(WorldFault::NoMemory),
+        match self.collector.open(self.alloc)? {
+            Fate::Done => {
+                match held_text(self.alloc, &mut self.collector, sub, source, channel) {
+                    Ok(text) => Ok(text),
+                    Err(CollectorFault::NoSubscription) => {
+                        Ok(name_line("unknown", sub.as_text())?)
+                    }
+                    Err(_) => Err(WorldFault::NoMemory),
+                }
+            }
+            fate => Ok(fate_line(self.alloc, fate, COLLECTOR)?),
         }
+    }
+
+    fn crash(&mut self, end: &EndName) -> Result<Text, WorldFault>
+        ensures state { OnOk result (self.new ≡ steps.crash_step self.old end.now) }
+        ensures printed { IfOk result (λ text. text ≡ texts.name_line (codes "crashed") (steps.end_name end.now)) }
+    {
+        match end {
+            EndName::Collector => {
+                self.collector.crash();
+                let name = Text::from_str(self.alloc, COLLECTOR)?;
+                Ok(name_line("crashed", &name)?)
+            }
+            EndName::Source(source) => {
+                self.crash_source(source)?;
+                Ok(name_line("crashed", source.as_text())?)
+            }
+        }
+    }
+
+    fn arm(&mut self, end: &EndName, armed: Armed) -> Result<Text, WorldFault>
+        ensures state { OnOk result (self.new ≡ steps.arm_step self.old end.now armed) }
+        ensures printed { IfOk result (λ text. text ≡ []) }
+    {
+        match end {
+            EndName::Collector => self.collector.arm(Some(armed)),
+            EndName::Source(source) => self.arms.set(source, Some(armed))?,
+        }
+        Ok(Text::new(self.alloc))
+    }
+
+    fn calm(&mut self) -> Result<Text, WorldFault>
+        ensures state { self.new ≡ steps.calm_step self.old }
+        ensures printed { IfOk result (λ text. text ≡ []) }
+    {
+        self.collector.arm(None);
+        self.arms = Arms::new(self.alloc);
+        Ok(Text::new(self.alloc))
     }
 }

@@ -1,11 +1,11 @@
 //! All that a source ever wrote.
 
-ghost use Rattle.std.specs.Prelude.{◌≡◌, [], ◌∷◌, IfOk, OnOk};
+ghost use Rattle.std.specs.Prelude.{◌≡◌, [], ◌∷◌, length, IfOk, OnOk};
 ghost use Rattle.std.specs.BTreeMap.{IsOrdered};
 ghost use Rattle.std.specs.Cmp.Lexicographic.{slice_cmp};
 ghost use Rattle.std.specs.FinMap as map;
 ghost use Rattle.std.specs.Ordering.{nat_cmp};
-ghost use Rattle.wef_source_log.specs.Histories.{extended};
+ghost use Rattle.wef_source_log.specs.Histories.{extended, history};
 
 use std::alloc::{AllocError, Global};
 use std::collections::BTreeMap;
@@ -45,6 +45,16 @@ impl Histories {
         Histories {
             alloc,
             records: BTreeMap::new(alloc),
+        }
+    }
+
+    /// How many records a channel's history has. It takes no memory.
+    pub fn count(&self, channel: &ChannelName) -> u64
+        ensures { result ≡ length (history self.now channel.now) }
+    {
+        match self.records.get(channel) {
+            Some(texts) => texts.len() as u64,
+            None => 0,
         }
     }
 

@@ -5,19 +5,23 @@ ghost use Rattle.std.specs.List.{flat_map};
 ghost use Rattle.wef_collector.specs.Answers as answers;
 ghost use Rattle.wef_collector.specs.Held.{held_after, last_number};
 ghost use Rattle.wef_collector.specs.Standing.{standing};
-ghost use Rattle.wef_world.specs.Printed as spec;
+ghost use Rattle.wef_collector.specs.Forms.{AreFormed};
+ghost use Rattle.wef_machine.specs.Printed as spec;
+ghost use Rattle.wef_world.specs.CollectorPlaces as places;
 
+use crate::collector_side::CollectorSide;
 use std::alloc::{AllocError, Global};
 use wef_base::{ChannelName, SourceName, SubId, Text};
-use wef_collector::{Collector, CollectorFault};
+use wef_collector::CollectorFault;
 use wef_envelope::FaultName;
 use wef_event::Event;
+use wef_machine::Fate;
 
 /// How many events are read at once.
 const PAGE: u32 = 256;
 
 /// A word and a name.
-#[tactic(auto, unfolding(crate::specs::Printed::name_line))]
+#[tactic(auto, unfolding(wef_machine::specs::Printed::name_line))]
 pub fn name_line(word: &str, name: &Text) -> Result<Text, AllocError>
     ensures { IfOk result (λ text. text ≡ spec.name_line word.now name.now) }
 {
@@ -30,8 +34,8 @@ pub fn name_line(word: &str, name: &Text) -> Result<Text, AllocError>
 }
 
 /// The answer to a batch.
-#[tactic(auto, unfolding(crate::specs::Printed::batch_text))]
-pub fn batch_line(sub: &SubId, source: &SourceName, answer: &Text) -> Result<Text, AllocError>
+#[tactic(auto, unfolding(wef_machine::specs::Printed::batch_text))]
+pub fn batch_line(sub: &SubId, source: &SourceName, answer: &str) -> Result<Text, AllocError>
     ensures { IfOk result (λ text. text ≡ spec.batch_text sub.now source.now answer.now) }
 {
     let mut text = Text::new(sub.as_text().alloc());
@@ -40,13 +44,32 @@ pub fn batch_line(sub: &SubId, source: &SourceName, answer: &Text) -> Result<Tex
     text.push_str(" ")?;
     text.push_printed(source.as_text())?;
     text.push_str(" ")?;
-    text.push_str(answer.as_str())?;
+    text.push_str(answer)?;
     text.push_str("\n")?;
     Ok(text)
 }
 
+/// Why an end did nothing: it was stopped in a commit, or the commit failed.
+pub fn fate_word(fate: Fate) -> &'static str
+    ensures { result.now ≡ spec.fate_word fate }
+{
+    match fate {
+        Fate::Done => "",
+        Fate::Failed => "failed",
+        Fate::Stopped => "stopped",
+    }
+}
+
+/// What became of an end that isn't done.
+pub fn fate_line(alloc: Global, fate: Fate, name: &str) -> Result<Text, AllocError>
+    ensures { IfOk result (λ text. text ≡ spec.fate_line fate name.now) }
+{
+    let name = Text::from_str(alloc, name)?;
+    name_line(fate_word(fate), &name)
+}
+
 /// A fault as the answer to a batch.
-#[tactic(auto, unfolding(crate::specs::Printed::fault_answer))]
+#[tactic(auto, unfolding(wef_machine::specs::Printed::fault_answer))]
 pub fn fault_answer(alloc: Global, name: &FaultName) -> Result<Text, AllocError>
     ensures { IfOk result (λ text. text ≡ spec.fault_answer name.now) }
 {
@@ -56,7 +79,7 @@ pub fn fault_answer(alloc: Global, name: &FaultName) -> Result<Text, AllocError>
 }
 
 /// A word and the names of a source and a subscription.
-#[tactic(auto, unfolding(crate::specs::Printed::pair_line))]
+#[tactic(auto, unfolding(wef_machine::specs::Printed::pair_line))]
 pub fn pair_line(word: &str, first: &Text, second: &Text) -> Result<Text, AllocError>
     ensures { IfOk result (λ text. text ≡ spec.pair_line word.now first.now second.now) }
 {
@@ -71,7 +94,7 @@ pub fn pair_line(word: &str, first: &Text, second: &Text) -> Result<Text, AllocE
 }
 
 /// A record that was written.
-#[tactic(auto, unfolding(crate::specs::Printed::wrote_line))]
+#[tactic(auto, unfolding(wef_machine::specs::Printed::wrote_line))]
 pub fn wrote_line(
     source: &SourceName,
     channel: &ChannelName,
@@ -91,7 +114,7 @@ pub fn wrote_line(
 }
 
 /// An ask that was sent.
-#[tactic(auto, unfolding(crate::specs::Printed::sent_ask_line))]
+#[tactic(auto, unfolding(wef_machine::specs::Printed::sent_ask_line))]
 pub fn sent_ask_line(number: u64, source: &SourceName) -> Result<Text, AllocError>
     ensures { IfOk result (λ text. text ≡ spec.sent_ask_line number source.now) }
 {
@@ -105,7 +128,7 @@ pub fn sent_ask_line(number: u64, source: &SourceName) -> Result<Text, AllocErro
 }
 
 /// A batch that was sent.
-#[tactic(auto, unfolding(crate::specs::Printed::sent_events_line))]
+#[tactic(auto, unfolding(wef_machine::specs::Printed::sent_events_line))]
 pub fn sent_events_line(number: u64, source: &SourceName, sub: &SubId) -> Result<Text, AllocError>
     ensures { IfOk result (λ text. text ≡ spec.sent_events_line number source.now sub.now) }
 {
@@ -121,7 +144,7 @@ pub fn sent_events_line(number: u64, source: &SourceName, sub: &SubId) -> Result
 }
 
 /// A message that was taken, and the word for what became of it.
-#[tactic(auto, unfolding(crate::specs::Printed::took_line))]
+#[tactic(auto, unfolding(wef_machine::specs::Printed::took_line))]
 pub fn took_line(alloc: Global, number: u64, word: &str) -> Result<Text, AllocError>
     ensures { IfOk result (λ text. text ≡ spec.took_line number word.now) }
 {
@@ -135,7 +158,7 @@ pub fn took_line(alloc: Global, number: u64, word: &str) -> Result<Text, AllocEr
 }
 
 /// A message that was taken and answered.
-#[tactic(auto, unfolding(crate::specs::Printed::answered_line))]
+#[tactic(auto, unfolding(wef_machine::specs::Printed::answered_line))]
 pub fn answered_line(
     alloc: Global,
     number: u64,
@@ -156,7 +179,7 @@ pub fn answered_line(
 }
 
 /// A number that no message has.
-#[tactic(auto, unfolding(crate::specs::Printed::no_message_line))]
+#[tactic(auto, unfolding(wef_machine::specs::Printed::no_message_line))]
 pub fn no_message_line(alloc: Global, number: u64) -> Result<Text, AllocError>
     ensures { IfOk result (λ text. text ≡ spec.no_message_line number) }
 {
@@ -168,7 +191,7 @@ pub fn no_message_line(alloc: Global, number: u64) -> Result<Text, AllocError>
 }
 
 /// How many sessions a source has by the offers that it took.
-#[tactic(auto, unfolding(crate::specs::Printed::adopted_word))]
+#[tactic(auto, unfolding(wef_machine::specs::Printed::adopted_word))]
 pub fn adopted_word(alloc: Global, number: u64) -> Result<Text, AllocError>
     ensures { IfOk result (λ text. text ≡ spec.adopted_word number) }
 {
@@ -179,7 +202,7 @@ pub fn adopted_word(alloc: Global, number: u64) -> Result<Text, AllocError>
 }
 
 /// Appends an event.
-#[tactic(auto, unfolding(crate::specs::Printed::event_line))]
+#[tactic(auto, unfolding(wef_machine::specs::Printed::event_line))]
 pub fn push_event(text: &mut Text, event: &Event) -> Result<(), AllocError>
     ensures { OnOk result (text.new ≡ text.old ++ spec.event_line event.now) }
 {
@@ -193,17 +216,20 @@ pub fn push_event(text: &mut Text, event: &Event) -> Result<(), AllocError>
 
 /// The events that are held of a source's channel, one a line, and at last `end`, read page by
 /// page.
-#[tactic(auto, unfolding(crate::specs::Printed::events_text))]
+#[tactic(auto, unfolding(wef_machine::specs::Printed::events_text))]
 pub fn held_text(
     alloc: Global,
-    collector: &Collector,
+    collector: &mut CollectorSide,
     sub: &SubId,
     source: &SourceName,
     channel: &ChannelName,
 ) -> Result<Text, CollectorFault>
-    ensures known { OnOk result (answers.is_known (standing collector.now sub.now) ≡ true) }
-    ensures text { IfOk result (λ text. text ≡ spec.events_text (held_after collector.now sub.now source.now channel.now 0)) }
-    ensures refusal { IfErr result (λ fault. answers.RefusesUnknown fault (standing collector.now sub.now)) }
+    requires runs { collector.old.runs ≡ true }
+    requires formed { AreFormed collector.old.rows }
+    ensures stays { collector.new ≡ collector.old }
+    ensures known { OnOk result (answers.is_known (standing collector.old.rows sub.now) ≡ true) }
+    ensures text { IfOk result (λ text. text ≡ spec.events_text (held_after collector.old.rows sub.now source.now channel.now 0)) }
+    ensures refusal { IfErr result (λ fault. places.RefusesPage fault (standing collector.old.rows sub.now)) }
 {
     let mut text = Text::new(alloc);
     let mut after = 0;

@@ -2,9 +2,8 @@
 
 ghost use Rattle.std.specs.Prelude.{◌≡◌, IfOk};
 ghost use Rattle.wef_replay.specs.Good.{AreGood, no_names};
-ghost use Rattle.wef_world.specs.Admitting.{GoodLinesAreAdmitted};
-ghost use Rattle.wef_world.specs.Laws.{AreSafe};
-ghost use Rattle.wef_world.specs.Steps.{trail};
+ghost use Rattle.wef_machine.specs.Laws.{AreKept, AreSafe};
+ghost use Rattle.wef_machine.specs.Steps.{trail};
 
 use crate::faults::WorldFault;
 use crate::world::World;
@@ -13,11 +12,12 @@ use wef_base::{Bytes, List};
 use wef_replay::Line;
 
 /// Does lines, one after the other, from a world in which nothing has happened, and gathers what they
-/// print. Each line is let go once it is done. Each state on the way is safe.
-#[tactic(auto, unfolding(crate::specs::Steps::trail))]
+/// print. Each line is let go once it is done. Each state on the way is kept, and so it is safe.
+#[tactic(auto, unfolding(wef_machine::specs::Steps::trail))]
 pub fn run_lines(alloc: Global, lines: List<Line>) -> Result<Bytes, WorldFault>
     requires { AreGood no_names lines }
     ensures text { IfOk result (λ text. text ≡ trail lines) }
+    ensures kept { AreKept lines }
     ensures safe { AreSafe lines }
 {
     let mut world = World::new(alloc);
@@ -27,8 +27,3 @@ pub fn run_lines(alloc: Global, lines: List<Line>) -> Result<Bytes, WorldFault>
     }
     Ok(out)
 }
-
-/// The world admits each line of a schedule whose lines are good.
-pub fn good_lines_are_admitted()
-    ensures { GoodLinesAreAdmitted }
-{}

@@ -1,19 +1,23 @@
 //! A declared source.
 
-ghost use Rattle.std.specs.Prelude.{◌≡◌, ◌≤◌, IfOk};
+ghost use Rattle.std.specs.Prelude.{◌≡◌, ◌≤◌, ◌<◌, true, is_some, IfOk, OnOk};
 ghost use Rattle.wef_event.specs.Unnumbered.{numbered};
-ghost use Rattle.wef_source.specs.Machine.{start_of};
+ghost use Rattle.wef_machine.specs.Arming as arming;
+ghost use Rattle.std.specs.declared.option.Option.TheVariants.{Some};
 
+use crate::arming::{plan_of, settle_source};
 use crate::ends::MOMENT;
 use crate::faults::WorldFault;
 use crate::histories::Histories;
+use crate::source_place::SourcePlace;
 use std::alloc::Global;
 use std::marker::Model;
-use wef_base::{List, SubId};
+use wef_base::{List, SourceName, SubId};
 use wef_envelope::MessageId;
 use wef_event::{Event, PlainEvent};
 use wef_eventing::Offer;
-use wef_source::{Delivery, Poll, Reply, SourceEnd, SourceFault};
+use wef_machine::{Armed, Fate};
+use wef_source::{Delivery, Poll, Reply, SourceFault};
 
 /// How many records of a channel a log keeps: from 1 to 1,000,000.
 #[derive(Drop)]
@@ -52,12 +56,37 @@ impl Capacity {
 }
 
 /// A source as the world holds it: how many records of a channel its log keeps, all that it ever
-/// wrote, and its end from the first line on that uses it.
+/// wrote, and its end, running or not.
 #[derive(Drop)]
 pub struct Slot {
-    pub capacity: Capacity,
-    pub histories: Histories,
-    pub end: Option<SourceEnd>,
+    capacity: Capacity,
+    histories: Histories,
+    place: SourcePlace,
+}
+
+impl Model for Slot {
+    ghost use Rattle.std.specs.Prelude.{ℕ, List, Option, refl};
+    ghost use Rattle.std.specs.Cmp.Lexicographic.{slice_cmp};
+    ghost use Rattle.std.specs.Coded.{code_by, coded_ℕ, coded_list, coded_option, coded×};
+    ghost use Rattle.std.specs.FinMap as map;
+    ghost use Rattle.std.specs.Ordering.{nat_cmp};
+    ghost use Rattle.wef_keeper.specs.Rows.{Rows};
+    ghost use Rattle.wef_keeper.specs.contracts.keys.Key as key;
+    ghost use Rattle.wef_keeper.specs.contracts.keys.Cell as cell;
+    ghost use Rattle.wef_machine.specs.States.{Slot};
+    ghost use Rattle.wef_source.specs.Machine.{End};
+    ghost use Rattle.wef_source.specs.contracts.source.Memory as memory;
+    ghost use Rattle.wef_source_log.specs.Histories.{Histories};
+
+    ghost Value = { Slot };
+
+    ghost coded = { code_by (ℕ × (Histories × (Rows × Option End)))
+        (coded× coded_ℕ (coded× (map.code (coded_list coded_ℕ) (coded_list (coded_list coded_ℕ)))
+        (coded× (map.code key.the_row.coded cell.the_row.coded) (coded_option memory.the_row.coded))))
+        (λ s. (s.capacity, (s.histories, (s.rows, s.end))))
+        (λ p. record { capacity = p.0; histories = p.1.0; rows = p.1.1.0; end = p.1.1.1 }) (λ _. refl) };
+
+    ghost view = { λ s. record { capacity = s.capacity; histories = s.histories; rows = s.place.rows; end = s.place.end } };
 }
 
 /// What a write did.
@@ -69,6 +98,8 @@ pub enum Written {
     Full,
     /// The event's text is too long.
     TooLong,
+    /// The commit wasn't done.
+    Broken(Fate),
 }
 
 /// What a poll found.
@@ -84,81 +115,113 @@ pub enum Polled {
 }
 
 impl Slot {
-    ghost use Rattle.std.specs.Prelude.{◌≡◌, ◌≤◌, length, is_some, IfOk, IfSome, OnOk};
+    ghost use Rattle.std.specs.Prelude.{◌≡◌, ◌≤◌, true, length, is_some, IfOk, IfSome, OnOk};
     ghost use Rattle.wef_envelope.specs.Ids.{ids_agree};
+    ghost use Rattle.wef_machine.specs.Sources as sources;
     ghost use Rattle.wef_source.specs.Answers.{waiting_for};
-    ghost use Rattle.wef_source.specs.Machine.{adopted, lost_in};
+    ghost use Rattle.wef_source.specs.Machine.{adopted};
     ghost use Rattle.wef_source.specs.Sessions.{session_of};
-    ghost use Rattle.wef_world.specs.Deliveries.{after_offers};
+    ghost use Rattle.wef_source_log.specs.Forms.{AreFormed};
     ghost use Rattle.wef_world.specs.Slots as slots;
-    ghost use Rattle.wef_world.specs.Sources.{declared_slot};
-    ghost use Rattle.wef_world.specs.States.{moment, opened};
+    ghost use Rattle.wef_machine.specs.States.{moment};
 
     /// A source that was just declared.
     pub fn new(alloc: Global, capacity: Capacity) -> Slot
-        ensures { result ≡ declared_slot capacity }
+        ensures { result ≡ sources.declared_slot capacity }
     {
         Slot {
             capacity,
             histories: Histories::new(alloc),
-            end: None,
+            place: SourcePlace::new(alloc),
         }
     }
 
-    /// Lets the end run, if it doesn't yet.
-    pub fn open(&mut self, alloc: Global) -> Result<(), WorldFault>
-        ensures { OnOk result (self.new ≡ slots.slot_with self.old (opened self.old)) }
+    /// Lets the end run, if it doesn't yet, and answers how that went.
+    pub fn open(
+        &mut self,
+        alloc: Global,
+        name: &SourceName,
+        armed: &mut Option<Armed>,
+    ) -> Result<Fate, WorldFault>
+        requires formed { AreFormed self.old.rows }
+        ensures slot { OnOk result (self.new ≡ sources.slot_opened armed.old self.old) }
+        ensures armed { OnOk result (armed.new ≡ sources.armed_opened armed.old self.old) }
+        ensures fate { IfOk result (λ fate. fate ≡ sources.slot_opening armed.old self.old) }
     {
-        if self.end.is_some() {
-            return Ok(());
+        if self.place.runs() {
+            return Ok(Fate::Done);
         }
-        self.end = Some(start(alloc, self.capacity.records())?);
-        Ok(())
-    }
-
-    /// Writes an event into the log, and appends it to the history.
-    pub fn write(&mut self, alloc: Global, event: &PlainEvent) -> Result<Written, WorldFault>
-        ensures { IfOk result (λ written. slots.WritesTo self.old self.new event.now written) }
-    {
-        self.open(alloc)?;
-        let Some(end) = &mut self.end else {
-            unreachable!()
-        };
-        match end.write(event) {
-            Ok(number) => {
-                let record = record_of(event, number)?;
-                self.histories.append(&record.channel, &record.text)?;
-                Ok(Written::Record(number))
-            }
-            Err(SourceFault::Full) => Ok(Written::Full),
-            Err(SourceFault::TooLong) => Ok(Written::TooLong),
+        self.place.arrange(plan_of(*armed));
+        match self.place.start(alloc, name, self.capacity.records()) {
+            Ok(()) => Ok(settle_source(&mut self.place, armed, false)),
+            Err(SourceFault::Failed) => Ok(settle_source(&mut self.place, armed, true)),
+            Err(SourceFault::Full) => Ok(Fate::Failed),
             Err(_) => Err(WorldFault::NoMemory),
         }
     }
 
-    /// Draws the id of an ask. None where no id is left.
-    pub fn ask(&mut self, alloc: Global) -> Result<Option<MessageId>, WorldFault>
-        ensures { IfOk result (λ id. slots.AsksAs self.old self.new id) }
+    /// Writes an event into the log of a running source, and appends it to the history where the
+    /// store keeps it.
+    pub fn write(
+        &mut self,
+        armed: &mut Option<Armed>,
+        event: &PlainEvent,
+    ) -> Result<Written, WorldFault>
+        requires runs { is_some self.old.end ≡ true }
+        requires formed { AreFormed self.old.rows }
+        requires window { slots.HasWindow self.old }
+        ensures slot { OnOk result (slots.WritesSlot armed.old self.old self.new event.now) }
+        ensures armed { OnOk result (armed.new ≡ slots.armed_written armed.old self.old event.now) }
+        ensures written { IfOk result (slots.WritesAs armed.old self.old event.now) }
     {
-        self.open(alloc)?;
-        let Some(end) = &mut self.end else {
-            unreachable!()
-        };
-        match end.ask() {
-            Ok(id) => Ok(Some(id)),
-            Err(_) => Ok(None),
+        let next = self.histories.count(&event.channel) + 1;
+        self.place.arrange(plan_of(*armed));
+        match self.place.write(event) {
+            Ok(number) => {
+                self.record(event, number)?;
+                let _done = settle_source(&mut self.place, armed, false);
+                Ok(Written::Record(number))
+            }
+            Err(SourceFault::Full) => Ok(Written::Full),
+            Err(SourceFault::TooLong) => Ok(Written::TooLong),
+            Err(SourceFault::Failed) => {
+                if is_kept(*armed) {
+                    self.record(event, next)?;
+                }
+                Ok(Written::Broken(settle_source(&mut self.place, armed, true)))
+            }
+            Err(_) => Err(WorldFault::NoMemory),
         }
     }
 
-    /// What a session has to send.
-    pub fn poll(&mut self, alloc: Global, sub: &SubId) -> Result<Polled, WorldFault>
+    /// Appends an event to its channel's history, as the record of a number.
+    fn record(&mut self, event: &PlainEvent, number: u64) -> Result<(), WorldFault>
+        requires { number ≤ 9223372036854775807 }
+        ensures { OnOk result (self.new ≡ slots.recorded self.old event.now number) }
+    {
+        let record = record_of(event, number)?;
+        self.histories.append(&record.channel, &record.text)?;
+        Ok(())
+    }
+
+    /// Draws the id of an ask of a running source. None where no id is left.
+    pub fn ask(&mut self) -> Option<MessageId>
+        requires runs { is_some self.old.end ≡ true }
+        ensures { slots.AsksAs self.old self.new result }
+    {
+        match self.place.ask() {
+            Ok(id) => Some(id),
+            Err(_) => None,
+        }
+    }
+
+    /// What a session of a running source has to send.
+    pub fn poll(&mut self, sub: &SubId) -> Result<Polled, WorldFault>
+        requires runs { is_some self.old.end ≡ true }
+        requires formed { AreFormed self.old.rows }
         ensures { IfOk result (λ polled. slots.PollsAs self.old self.new sub.now polled) }
     {
-        self.open(alloc)?;
-        let Some(end) = &mut self.end else {
-            unreachable!()
-        };
-        match end.poll(sub, MOMENT) {
+        match self.place.poll(sub, MOMENT) {
             Ok(Poll::Send(delivery)) => Ok(Polled::Sent(delivery)),
             Ok(Poll::Nothing) => Ok(Polled::Nothing),
             Err(SourceFault::UnknownSubscription) => Ok(Polled::Unknown),
@@ -167,73 +230,55 @@ impl Slot {
         }
     }
 
-    /// Gives up waiting for the answer to a session's delivery. Answers whether the session is there.
-    pub fn lose(&mut self, alloc: Global, sub: &SubId) -> Result<bool, WorldFault>
-        ensures there { IfOk result (λ there. there ≡ is_some (session_of (opened self.old).sessions sub.now)) }
-        ensures slot { OnOk result (self.new ≡ slots.slot_with self.old (lost_in (opened self.old) sub.now)) }
+    /// Gives up waiting for the answer to a delivery of a running source's session. Answers whether
+    /// the session is there.
+    pub fn lose(&mut self, sub: &SubId) -> bool
+        requires runs { is_some self.old.end ≡ true }
+        ensures { slots.LosesAs self.old self.new sub.now result }
     {
-        self.open(alloc)?;
-        let Some(end) = &mut self.end else {
-            unreachable!()
-        };
-        match end.on_lost(sub) {
-            Ok(()) => Ok(true),
-            Err(_) => Ok(false),
-        }
+        self.place.on_lost(sub).is_ok()
     }
 
-    /// Takes offers. Answers how many sessions there are, or nothing where the source didn't ask.
+    /// Gives a running source offers. Answers how many sessions there are, or nothing where the
+    /// source didn't ask.
     pub fn adopt(
         &mut self,
-        alloc: Global,
         relates: &MessageId,
         offers: &List<Offer>,
     ) -> Result<Option<u64>, WorldFault>
-        ensures asked { IfOk result (λ n. is_some n ≡ ids_agree (opened self.old).ask relates.now.value) }
-        ensures number { IfOk result (λ n. IfSome n (λ n. n ≡ length (adopted (opened self.old) offers.now moment).sessions)) }
-        ensures slot { OnOk result (self.new ≡ slots.slot_with self.old (after_offers (opened self.old) relates.now offers.now)) }
+        requires runs { is_some self.old.end ≡ true }
+        ensures { IfOk result (λ number. slots.AdoptsAs self.old self.new relates.now offers.now number) }
     {
-        self.open(alloc)?;
-        let Some(end) = &mut self.end else {
-            unreachable!()
-        };
-        match end.adopt(relates, offers, MOMENT) {
+        match self.place.adopt(relates, offers, MOMENT) {
             Ok(number) => Ok(Some(number)),
             Err(SourceFault::NotAsked) => Ok(None),
             Err(_) => Err(WorldFault::NoMemory),
         }
     }
 
-    /// Takes the answer to a delivery. Answers whether a session waits for it.
-    pub fn hear(
-        &mut self,
-        alloc: Global,
-        relates: &MessageId,
-        reply: &Reply,
-    ) -> Result<bool, WorldFault>
-        ensures waits { IfOk result (λ waits. waits ≡ is_some (waiting_for (opened self.old) relates.now.value)) }
-        ensures slot { OnOk result (self.new ≡ slots.slot_with self.old (slots.after_reply (opened self.old) relates.now reply.now)) }
+    /// Gives a running source the answer to a delivery. Answers whether a session waits for it.
+    pub fn hear(&mut self, relates: &MessageId, reply: &Reply) -> bool
+        requires runs { is_some self.old.end ≡ true }
+        ensures { slots.HearsAs self.old self.new relates.now reply.now result }
     {
-        self.open(alloc)?;
-        let Some(end) = &mut self.end else {
-            unreachable!()
-        };
-        match end.on_reply(relates, reply) {
-            Ok(_) => Ok(true),
-            Err(_) => Ok(false),
-        }
+        self.place.on_reply(relates, reply).is_ok()
+    }
+
+    /// Stops the source at once: its store alone is left.
+    pub fn crash(&mut self)
+        ensures { self.new ≡ sources.crashed_slot self.old }
+    {
+        self.place.crash();
     }
 }
 
-/// An end that begins to run.
-fn start(alloc: Global, capacity: u64) -> Result<SourceEnd, WorldFault>
-    requires least { 1 ≤ capacity }
-    requires greatest { capacity ≤ 1000000 }
-    ensures { IfOk result (λ end. end ≡ start_of capacity) }
+/// Whether the changes of the next commit are kept.
+fn is_kept(armed: Option<Armed>) -> bool
+    ensures { result ≡ arming.is_kept armed }
 {
-    match SourceEnd::start(alloc, capacity) {
-        Ok(end) => Ok(end),
-        Err(_) => Err(WorldFault::NoMemory),
+    match armed {
+        Some(armed) => armed.after,
+        None => true,
     }
 }
 

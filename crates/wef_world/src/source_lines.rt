@@ -1,17 +1,21 @@
 //! The lines of sources.
 
 ghost use Rattle.std.specs.Prelude.{◌≡◌, [], IfOk, OnOk};
-ghost use Rattle.wef_world.specs.Sources as steps;
-ghost use Rattle.wef_world.specs.States as states;
+ghost use Rattle.std.specs.FinMap as map;
+ghost use Rattle.wef_machine.specs.Kept.{IsKept};
+ghost use Rattle.wef_machine.specs.Sources as steps;
+ghost use Rattle.wef_machine.specs.States as states;
+ghost use Rattle.wef_world.specs.Slots as slots;
 
 use crate::ends::Ends;
 use crate::faults::WorldFault;
-use crate::messages::Message;
-use crate::printing::{name_line, pair_line, sent_ask_line, sent_events_line, wrote_line};
+use crate::printing::{fate_line, name_line, pair_line, sent_ask_line, sent_events_line, wrote_line};
 use crate::slots::{Capacity, Polled, Slot, Written};
+use crate::sources::open_source;
 use std::alloc::AllocError;
 use wef_base::{SourceName, SubId, Text};
 use wef_event::PlainEvent;
+use wef_machine::{Fate, Message};
 
 impl Ends {
     /// Declares a source.
@@ -33,32 +37,66 @@ impl Ends {
         source: &SourceName,
         event: &PlainEvent,
     ) -> Result<Text, WorldFault>
+        requires kept { IsKept self.old }
         ensures state { OnOk result (self.new ≡ steps.write_step self.old source.now event.now) }
         ensures printed { IfOk result (λ text. text ≡ steps.write_printed self.old source.now event.now) }
     {
+        match open_source(&mut self.sources, &mut self.arms, self.alloc, source)? {
+            Some(Fate::Done) => self.write_running(source, event),
+            Some(fate) => Ok(fate_line(self.alloc, fate, source.as_text().as_str())?),
+            None => Ok(Text::new(self.alloc)),
+        }
+    }
+
+    /// Lets a running source write an event.
+    fn write_running(
+        &mut self,
+        source: &SourceName,
+        event: &PlainEvent,
+    ) -> Result<Text, WorldFault>
+        requires ready { slots.IsReady (map.get self.old.sources source.now) }
+        ensures state { OnOk result (slots.AtRunning (map.get self.old.sources source.now) (λ slot end. self.new ≡ steps.write_at source.now event.now self.old slot end)) }
+        ensures printed { IfOk result (λ text. slots.AtRunning (map.get self.old.sources source.now) (λ slot end. text ≡ steps.write_text source.now event.now self.old slot end)) }
+    {
         let Some(mut slot) = self.sources.take(source) else {
-            return Ok(Text::new(self.alloc));
+            unreachable!()
         };
-        let written = slot.write(self.alloc, event)?;
+        let mut armed = self.arms.get(source);
+        let written = slot.write(&mut armed, event)?;
         self.sources.put(source, slot)?;
+        self.arms.set(source, armed)?;
+        let name = source.as_text();
         match written {
             Written::Record(number) => Ok(wrote_line(source, &event.channel, number)?),
-            Written::Full => Ok(pair_line("full", source.as_text(), event.channel.as_text())?),
-            Written::TooLong => {
-                Ok(pair_line("toolong", source.as_text(), event.channel.as_text())?)
-            }
+            Written::Full => Ok(pair_line("full", name, event.channel.as_text())?),
+            Written::TooLong => Ok(pair_line("toolong", name, event.channel.as_text())?),
+            Written::Broken(fate) => Ok(fate_line(self.alloc, fate, name.as_str())?),
         }
     }
 
     /// Lets a source ask for its subscriptions.
     pub(crate) fn ask(&mut self, source: &SourceName) -> Result<Text, WorldFault>
+        requires kept { IsKept self.old }
         ensures state { OnOk result (self.new ≡ steps.ask_step self.old source.now) }
         ensures printed { IfOk result (λ text. text ≡ steps.ask_printed self.old source.now) }
     {
+        match open_source(&mut self.sources, &mut self.arms, self.alloc, source)? {
+            Some(Fate::Done) => self.ask_running(source),
+            Some(fate) => Ok(fate_line(self.alloc, fate, source.as_text().as_str())?),
+            None => Ok(Text::new(self.alloc)),
+        }
+    }
+
+    /// Lets a running source ask.
+    fn ask_running(&mut self, source: &SourceName) -> Result<Text, WorldFault>
+        requires ready { slots.IsReady (map.get self.old.sources source.now) }
+        ensures state { OnOk result (slots.AtRunning (map.get self.old.sources source.now) (λ slot end. self.new ≡ steps.ask_at source.now self.old slot end)) }
+        ensures printed { IfOk result (λ text. slots.AtRunning (map.get self.old.sources source.now) (λ slot end. text ≡ steps.ask_text source.now self.old slot end)) }
+    {
         let Some(mut slot) = self.sources.take(source) else {
-            return Ok(Text::new(self.alloc));
+            unreachable!()
         };
-        let asked = slot.ask(self.alloc)?;
+        let asked = slot.ask();
         self.sources.put(source, slot)?;
         let Some(id) = asked else {
             return Ok(name_line("spent", source.as_text())?);
@@ -72,13 +110,27 @@ impl Ends {
 
     /// Lets a source send what its session of a subscription has to send.
     pub(crate) fn poll(&mut self, source: &SourceName, sub: &SubId) -> Result<Text, WorldFault>
+        requires kept { IsKept self.old }
         ensures state { OnOk result (self.new ≡ steps.poll_step self.old source.now sub.now) }
         ensures printed { IfOk result (λ text. text ≡ steps.poll_printed self.old source.now sub.now) }
     {
+        match open_source(&mut self.sources, &mut self.arms, self.alloc, source)? {
+            Some(Fate::Done) => self.poll_running(source, sub),
+            Some(fate) => Ok(fate_line(self.alloc, fate, source.as_text().as_str())?),
+            None => Ok(Text::new(self.alloc)),
+        }
+    }
+
+    /// Lets a running source send.
+    fn poll_running(&mut self, source: &SourceName, sub: &SubId) -> Result<Text, WorldFault>
+        requires ready { slots.IsReady (map.get self.old.sources source.now) }
+        ensures state { OnOk result (slots.AtRunning (map.get self.old.sources source.now) (λ slot end. self.new ≡ steps.poll_at source.now sub.now self.old slot end)) }
+        ensures printed { IfOk result (λ text. slots.AtRunning (map.get self.old.sources source.now) (λ slot end. text ≡ steps.poll_text source.now sub.now self.old slot end)) }
+    {
         let Some(mut slot) = self.sources.take(source) else {
-            return Ok(Text::new(self.alloc));
+            unreachable!()
         };
-        let polled = slot.poll(self.alloc, sub)?;
+        let polled = slot.poll(sub)?;
         self.sources.put(source, slot)?;
         match polled {
             Polled::Unknown => Ok(pair_line("unknown", source.as_text(), sub.as_text())?),
@@ -96,18 +148,44 @@ impl Ends {
 
     /// Lets a source give up waiting for the answer to a session's delivery.
     pub(crate) fn lose(&mut self, source: &SourceName, sub: &SubId) -> Result<Text, WorldFault>
+        requires kept { IsKept self.old }
         ensures state { OnOk result (self.new ≡ steps.lost_step self.old source.now sub.now) }
         ensures printed { IfOk result (λ text. text ≡ steps.lost_printed self.old source.now sub.now) }
     {
+        match open_source(&mut self.sources, &mut self.arms, self.alloc, source)? {
+            Some(Fate::Done) => self.lose_running(source, sub),
+            Some(fate) => Ok(fate_line(self.alloc, fate, source.as_text().as_str())?),
+            None => Ok(Text::new(self.alloc)),
+        }
+    }
+
+    /// Lets a running source give up waiting.
+    fn lose_running(&mut self, source: &SourceName, sub: &SubId) -> Result<Text, WorldFault>
+        requires ready { slots.IsReady (map.get self.old.sources source.now) }
+        ensures state { OnOk result (slots.AtRunning (map.get self.old.sources source.now) (λ slot end. self.new ≡ steps.lost_at source.now sub.now self.old slot end)) }
+        ensures printed { IfOk result (λ text. slots.AtRunning (map.get self.old.sources source.now) (λ slot end. text ≡ steps.lost_text source.now sub.now self.old slot end)) }
+    {
         let Some(mut slot) = self.sources.take(source) else {
-            return Ok(Text::new(self.alloc));
+            unreachable!()
         };
-        let is_there = slot.lose(self.alloc, sub)?;
+        let is_there = slot.lose(sub);
         self.sources.put(source, slot)?;
         if is_there {
             return Ok(Text::new(self.alloc));
         }
         Ok(pair_line("unknown", source.as_text(), sub.as_text())?)
+    }
+
+    /// Stops a source at once.
+    pub(crate) fn crash_source(&mut self, source: &SourceName) -> Result<(), WorldFault>
+        ensures { OnOk result (self.new ≡ steps.crash_slot self.old source.now (states.slot_of self.old source.now)) }
+    {
+        let Some(mut slot) = self.sources.take(source) else {
+            return Ok(());
+        };
+        slot.crash();
+        self.sources.put(source, slot)?;
+        Ok(())
     }
 
     /// Sends a message, and answers its number.

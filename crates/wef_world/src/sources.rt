@@ -2,12 +2,16 @@
 
 ghost use Rattle.std.specs.Prelude.{◌≡◌, is_some, IfOk, OnOk};
 ghost use Rattle.std.specs.FinMap as map;
+ghost use Rattle.wef_world.specs.Slots as slots;
 
+use crate::arms::Arms;
+use crate::faults::WorldFault;
 use crate::slots::Slot;
 use std::alloc::{AllocError, Global};
 use std::collections::BTreeMap;
 use std::marker::Model;
 use wef_base::SourceName;
+use wef_machine::Fate;
 
 /// Sources by their names.
 #[derive(Drop)]
@@ -22,7 +26,7 @@ impl Model for Sources {
     ghost use Rattle.std.specs.Cmp.Lexicographic.{slice_cmp};
     ghost use Rattle.std.specs.BTreeMap.{IsOrdered};
     ghost use Rattle.wef_world.specs.contracts.slots.Slot as slot;
-    ghost use Rattle.wef_world.specs.declared.slots.Slot.{Slot};
+    ghost use Rattle.wef_machine.specs.States.{Slot};
 
     ghost Value = { map.FinMap (slice_cmp nat_cmp) Slot };
 
@@ -65,4 +69,27 @@ impl Sources {
     {
         self.slots.remove(name)
     }
+}
+
+/// Lets a declared source run, if it doesn't yet, and answers how that went. None where no source has
+/// the name.
+pub(crate) fn open_source(
+    sources: &mut Sources,
+    arms: &mut Arms,
+    alloc: Global,
+    name: &SourceName,
+) -> Result<Option<Fate>, WorldFault>
+    requires { slots.IsFormedAt (map.get sources.old name.now) }
+    ensures sources { OnOk result (sources.new ≡ slots.sources_opened sources.old arms.old name.now) }
+    ensures arms { OnOk result (arms.new ≡ slots.arms_opened sources.old arms.old name.now) }
+    ensures fate { IfOk result (λ fate. fate ≡ slots.opening_in sources.old arms.old name.now) }
+{
+    let Some(mut slot) = sources.take(name) else {
+        return Ok(None);
+    };
+    let mut armed = arms.get(name);
+    let fate = slot.open(alloc, name, &mut armed)?;
+    sources.put(name, slot)?;
+    arms.set(name, armed)?;
+    Ok(Some(fate))
 }

@@ -1,8 +1,8 @@
 //! A world: the ends that a schedule moves, in a state that is kept.
 
 ghost use Rattle.std.specs.Prelude.{◌≡◌, ◌++◌, true, OnOk, OnErr};
-ghost use Rattle.wef_world.specs.States as states;
-ghost use Rattle.wef_world.specs.Steps as steps;
+ghost use Rattle.wef_machine.specs.States as states;
+ghost use Rattle.wef_machine.specs.Steps as steps;
 
 use crate::ends::Ends;
 use crate::faults::WorldFault;
@@ -21,8 +21,8 @@ pub struct World {
 }
 
 impl Model for World {
-    ghost use Rattle.wef_world.specs.Kept.{IsKept};
-    ghost use Rattle.wef_world.specs.States.{State, held};
+    ghost use Rattle.wef_machine.specs.Kept.{IsKept};
+    ghost use Rattle.wef_machine.specs.States.{State, held};
     ghost use Rattle.wef_world.specs.contracts.ends.Ends as the_ends;
 
     ghost Value = { State };

@@ -313,6 +313,46 @@ fn names_of_sources_and_channels(rt: HostRuntime) -> Result<(), Fail> {
 }
 
 #[test]
+fn lines_of_crashes_and_failures(rt: HostRuntime) -> Result<(), Fail> {
+    are_bad(
+        &rt,
+        rt.alloc(),
+        &[
+            "crash",
+            "crash ",
+            "crash  collector",
+            "crash Collector",
+            "crash COLLECTOR",
+            "crash %63ollector",
+            "crash collector%20",
+            "crash collector\r",
+            "crash collector before",
+            "crash pc1",
+            "crash %01",
+            "Crash collector",
+            "fail collector",
+            "fail collector ",
+            "fail collector later",
+            "fail collector Before",
+            "fail collector %61fter",
+            "fail collector before after",
+            "fail collector before\r",
+            "fail Collector before",
+            "fail before collector",
+            "fail pc1 before",
+            "stop collector",
+            "stop collector later",
+            "stop %63ollector after",
+            "stop pc1 after",
+            "calm ",
+            "calm collector",
+            "calms",
+            "Calm",
+        ],
+    )
+}
+
+#[test]
 fn lines_that_are_not_utf_8(rt: HostRuntime) -> Result<(), Fail> {
     let alloc = rt.alloc();
     is_bad(&rt, alloc, 0, b"\xff".as_slice())?;

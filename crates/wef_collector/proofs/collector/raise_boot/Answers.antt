@@ -1,4 +1,4 @@
-use Rattle.std.proofs.Common.{rules, ◌≡◌, subst, sym}
+use Rattle.std.proofs.Common.{rules, ◌≡◌, refl, subst, sym}
 use Rattle.std.specs.Prelude.{Result, Err}
 use Rattle.wef_keeper.specs.Rows.{Rows}
 use Rattle.wef_collector.specs.Calls.{Effect, IsCall, boot_effect}
@@ -26,7 +26,7 @@ returns-in_err-changes-clause-call g c =
     let effect : Rows → Effect = boot_effect in
     let fault = c.in_err-changes.field-0.0 in
     let answer : c.from_residual-in_err-changes.result ≡ Err fault = search rules in
-    let call = refused effect fault before mid now c.in_ok-open.ensures.found c.in_ok-open.ensures.opened c.in_err-changes.ensures.reads c.in_err-changes.ensures.effect in
+    let call = refused effect fault before mid now (c.in_ok-open.ensures.found refl) c.in_ok-open.ensures.opened c.in_err-changes.ensures.reads c.in_err-changes.ensures.effect in
     subst (λ (result : Result (Unit {0}) CollectorFault). IsCall effect result before now) (sym answer) call
 
 pub returns-in_err-commit-clause-call : goal.returns-in_err-commit-clause-call
@@ -39,7 +39,7 @@ returns-in_err-commit-clause-call g c =
     let fault = c.in_err-commit.field-0.0 in
     let answer : c.from_residual-in_err-commit.result ≡ Err (collector_fault fault) = search rules in
     let commit = c.in_err-commit.ensures in
-    let call = not_committed effect fault c.in_ok-changes.changes before opened mid now (g.met.K.Keeper.few_images c.args.keeper.now) c.in_ok-open.ensures.found c.in_ok-open.ensures.opened
+    let call = not_committed effect fault c.in_ok-changes.changes before opened mid now (g.met.K.Keeper.few_images c.args.keeper.now) (c.in_ok-open.ensures.found refl) c.in_ok-open.ensures.opened
     c.in_ok-changes.ensures.reads c.in_ok-changes.ensures.effect commit.leaves commit.planned commit.faults in
     subst (λ (result : Result (Unit {0}) CollectorFault). IsCall effect result before now) (sym answer) call
 
@@ -50,5 +50,5 @@ returns-clause-call g c =
     let mid = g.K.Keeper.store c.boot_changes.new.keeper in
     let now = g.K.Keeper.store c.commit.new.keeper in
     let commit = c.in_ok-commit.ensures in
-    committed (boot_effect) c.in_ok-changes.changes before opened mid now c.in_ok-open.ensures.found c.in_ok-open.ensures.opened
+    committed (boot_effect) c.in_ok-changes.changes before opened mid now (c.in_ok-open.ensures.found refl) c.in_ok-open.ensures.opened
     c.in_ok-changes.ensures.reads c.in_ok-changes.ensures.effect commit.leaves commit.planned commit.faults

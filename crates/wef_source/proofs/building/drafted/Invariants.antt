@@ -1,9 +1,12 @@
-use Rattle.std.proofs.Common.{◌≡◌, drop}
+use Rattle.std.proofs.Common.{◌≡◌, drop, IfSome}
+use Rattle.wef_keeper.specs.Access.{HasRead}
 use Rattle.wef_source.specs.Building.{candidates_in, room_of}
 use Rattle.wef_source.specs.Drafting.{empty_draft, taken_all}
 use Rattle.wef_source.proofs.building.drafted.Given as goal
 
 abbrev pub invariant-loop-channel : goal.invariant-loop-channel
-invariant-loop-channel l =
-    taken_all l.draft (candidates_in l.log l.session (drop l.channel-index l.channels))
-    ≡ taken_all (empty_draft l.session.max_items (room_of l.session.max_bytes)) (candidates_in l.log l.session l.channels)
+invariant-loop-channel g l = record {
+  read : HasRead (g.K.Keeper.store l.fn.log.keeper) (g.K.Keeper.store l.log.keeper);
+  rest : IfSome (g.K.Keeper.store l.log.keeper).rows (λ rows. taken_all l.draft (candidates_in rows l.session (drop l.channel-index l.channels))
+      ≡ taken_all (empty_draft l.session.max_items (room_of l.session.max_bytes)) (candidates_in rows l.session l.channels));
+}

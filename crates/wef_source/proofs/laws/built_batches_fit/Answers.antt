@@ -1,4 +1,4 @@
-use Rattle.wef_source_log.proofs.Reading.{windows_read}
+use Rattle.wef_source_log.proofs.Contents.{windows_read}
 use Rattle.wef_source.proofs.Built.{built_fit}
 use Rattle.wef_source.proofs.laws.built_batches_fit.Goals as goal
 

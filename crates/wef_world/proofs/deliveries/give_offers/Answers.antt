@@ -1,8 +1,8 @@
 use Rattle.std.proofs.Common.{ap, sym, ◌∙◌}
 use Rattle.std.specs.FinMap as map
 use Rattle.wef_source.specs.Machine.{End}
-use Rattle.wef_world.specs.Deliveries.{after_offers}
-use Rattle.wef_world.specs.States.{Slots}
+use Rattle.wef_machine.specs.Deliveries.{after_offers}
+use Rattle.wef_machine.specs.States.{Slots}
 use Rattle.wef_world.proofs.Changed.{none_changed, one_changed}
 use Rattle.wef_world.proofs.deliveries.give_offers.Goals as goal
 

@@ -2,7 +2,7 @@ use Rattle.std.proofs.Common.{ap, sym, ◌∙◌}
 use Rattle.std.specs.FinMap as map
 use Rattle.wef_source.specs.Machine.{End}
 use Rattle.wef_world.specs.Slots.{after_reply}
-use Rattle.wef_world.specs.States.{Slots}
+use Rattle.wef_machine.specs.States.{Slots}
 use Rattle.wef_world.proofs.Changed.{none_changed, one_changed}
 use Rattle.wef_world.proofs.deliveries.give_reply.Goals as goal
 

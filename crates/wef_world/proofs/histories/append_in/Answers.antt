@@ -1,7 +1,7 @@
 use Rattle.std.proofs.Common.{[], ◌∷◌, ◌++◌, List, ℕ, subst, sym, ap, ◌∙◌, refl, Some, None, IsSome}
 use Rattle.std.specs.FinMap as map
 use Rattle.wef_source_log.specs.Histories.{extended}
-use Rattle.wef_world.proofs.NameMaps.{extended_given, given_at}
+use Rattle.wef_machine.proofs.NameMaps.{extended_given, given_at}
 use Rattle.wef_world.proofs.histories.append_in.Goals as goal
 
 pub returns-in-Some-clause-ok : goal.returns-in-Some-clause-ok

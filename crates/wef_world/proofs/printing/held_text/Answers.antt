@@ -4,7 +4,7 @@ use Rattle.std.specs.Prelude.{codes}
 use Rattle.wef_event.specs.declared.records.Event.{Event}
 use Rattle.wef_collector.specs.Held.{held_after}
 use Rattle.wef_collector.proofs.Pages.{last_page}
-use Rattle.wef_world.specs.Printed.{event_line, events_text}
+use Rattle.wef_machine.specs.Printed.{event_line, events_text}
 use Rattle.wef_world.proofs.printing.held_text.Goals as goal
 
 pub returns-then-is_last-clause-text : goal.returns-then-is_last-clause-text

@@ -1,6 +1,6 @@
 use Rattle.std.proofs.Common.{◌≡◌, ◌++◌, drop}
 use Rattle.std.specs.List.{flat_map}
-use Rattle.wef_world.specs.Printed.{event_line}
+use Rattle.wef_machine.specs.Printed.{event_line}
 use Rattle.wef_world.proofs.printing.push_events.Given as goal
 
 abbrev pub invariant-loop-event : goal.invariant-loop-event

@@ -1,9 +1,9 @@
 use Rattle.std.proofs.Common.{◌≡◌, List, ◌++◌, subst, sym, ◌∙◌}
 use Rattle.wef_replay.specs.declared.lines.Line.{Line}
-use Rattle.wef_world.specs.States.{State}
-use Rattle.wef_world.specs.Steps.{AreAdmitted, trail, trail_from}
-use Rattle.wef_world.proofs.Admitted.{good_lines}
-use Rattle.wef_world.proofs.Steps.{schedules_are_safe}
+use Rattle.wef_machine.specs.States.{State}
+use Rattle.wef_machine.specs.Steps.{AreAdmitted, trail, trail_from}
+use Rattle.wef_machine.proofs.Admitted.{good_lines}
+use Rattle.wef_machine.proofs.Steps.{schedules_are_kept, schedules_are_safe}
 use Rattle.wef_world.proofs.runs.run_lines.Goals as goal
 
 pub loop-line-init : goal.loop-line-init
@@ -16,8 +16,14 @@ loop-line-init c =
           subst IsFit (λ i. (sym c.new-world.ensures i, sym lines i)) (good_lines c.args.lines c.requires);
     }
 
+pub returns-in_err-apply-clause-kept : goal.returns-in_err-apply-clause-kept
+returns-in_err-apply-clause-kept c = schedules_are_kept c.args.lines (good_lines c.args.lines c.requires)
+
 pub returns-in_err-apply-clause-safe : goal.returns-in_err-apply-clause-safe
 returns-in_err-apply-clause-safe c = schedules_are_safe c.args.lines (good_lines c.args.lines c.requires)
+
+pub returns-clause-kept : goal.returns-clause-kept
+returns-clause-kept c = schedules_are_kept c.args.lines (good_lines c.args.lines c.requires)
 
 pub returns-clause-safe : goal.returns-clause-safe
 returns-clause-safe c = schedules_are_safe c.args.lines (good_lines c.args.lines c.requires)

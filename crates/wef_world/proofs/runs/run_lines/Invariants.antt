@@ -1,5 +1,5 @@
 use Rattle.std.proofs.Common.{◌≡◌, ◌++◌}
-use Rattle.wef_world.specs.Steps.{AreAdmitted, trail, trail_from}
+use Rattle.wef_machine.specs.Steps.{AreAdmitted, trail, trail_from}
 use Rattle.wef_world.proofs.runs.run_lines.Given as goal
 
 abbrev pub invariant-loop-line : goal.invariant-loop-line

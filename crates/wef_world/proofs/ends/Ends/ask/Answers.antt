@@ -1,9 +1,9 @@
 use Rattle.std.proofs.Common.{ap, ◌∙◌, subst, Some, None}
 use Rattle.wef_world.proofs.Lines.{asked_as, no_source, put_is}
-use Rattle.wef_world.specs.Sources.{ask_at, ask_step}
-use Rattle.wef_world.specs.States.{State, opened, with_message}
+use Rattle.wef_machine.specs.Sources.{ask_at, ask_step}
+use Rattle.wef_machine.specs.States.{State, opened, with_message}
 use Rattle.wef_world.specs.Slots.{AsksAs}
-use Rattle.wef_world.specs.declared.messages.Message.TheVariants.{Ask}
+use Rattle.wef_machine.specs.declared.messages.Message.TheVariants.{Ask}
 use Rattle.wef_world.proofs.ends.Ends.ask.Goals as goal
 
 pub returns-in_default-clause-state : goal.returns-in_default-clause-state

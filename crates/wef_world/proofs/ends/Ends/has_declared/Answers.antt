@@ -1,5 +1,5 @@
 use Rattle.std.proofs.Common.{sym, ◌∙◌}
-use Rattle.wef_world.proofs.Declared.{among_declared}
+use Rattle.wef_machine.proofs.Declared.{among_declared}
 use Rattle.wef_world.proofs.ends.Ends.has_declared.Goals as goal
 
 pub returns : goal.returns

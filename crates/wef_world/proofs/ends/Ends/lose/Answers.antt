@@ -1,7 +1,7 @@
 use Rattle.std.proofs.Common.{ap, ◌∙◌}
 use Rattle.wef_world.proofs.Lines.{lost, no_source, put_is}
-use Rattle.wef_world.specs.Sources.{lost_step}
-use Rattle.wef_world.specs.States.{State, opened, with_end}
+use Rattle.wef_machine.specs.Sources.{lost_step}
+use Rattle.wef_machine.specs.States.{State, opened, with_end}
 use Rattle.wef_source.specs.Machine.{lost_in}
 use Rattle.wef_world.proofs.ends.Ends.lose.Goals as goal
 

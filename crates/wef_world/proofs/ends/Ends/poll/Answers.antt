@@ -1,10 +1,10 @@
 use Rattle.std.proofs.Common.{ap, ◌∙◌, subst}
 use Rattle.wef_world.proofs.Lines.{no_source, polled_as, put_is}
-use Rattle.wef_world.specs.Sources.{poll_at, poll_step}
-use Rattle.wef_world.specs.States.{State, opened, with_message}
+use Rattle.wef_machine.specs.Sources.{poll_at, poll_step}
+use Rattle.wef_machine.specs.States.{State, opened, with_message}
 use Rattle.wef_source.specs.Sessions.{session_of}
 use Rattle.wef_world.specs.Slots.{PollsAs}
-use Rattle.wef_world.specs.declared.messages.Message.TheVariants.{Events}
+use Rattle.wef_machine.specs.declared.messages.Message.TheVariants.{Events}
 use Rattle.wef_world.specs.declared.slots.Polled.TheVariants as polled
 use Rattle.wef_world.proofs.ends.Ends.poll.Goals as goal
 

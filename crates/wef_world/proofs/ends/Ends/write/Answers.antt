@@ -1,7 +1,7 @@
 use Rattle.std.proofs.Common.{ap, ◌∙◌}
 use Rattle.wef_world.proofs.Lines.{no_source, on_ok, put_is, wrote}
-use Rattle.wef_world.specs.Sources.{write_at, write_step}
-use Rattle.wef_world.specs.States.{State, opened}
+use Rattle.wef_machine.specs.Sources.{write_at, write_step}
+use Rattle.wef_machine.specs.States.{State, opened}
 use Rattle.wef_world.proofs.ends.Ends.write.Goals as goal
 
 pub returns-in_default-clause-state : goal.returns-in_default-clause-state

@@ -1,5 +1,5 @@
 use Rattle.std.proofs.Common.{rules}
-use Rattle.wef_world.proofs.NameMaps.{get_given}
+use Rattle.wef_machine.proofs.NameMaps.{get_given}
 use Rattle.wef_world.proofs.sources.Sources.has.Goals as goal
 
 pub returns : goal.returns

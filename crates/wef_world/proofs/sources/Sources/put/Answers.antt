@@ -1,7 +1,7 @@
 use Rattle.std.proofs.Common.{List, ℕ, ap, ◌∙◌}
 use Rattle.std.specs.FinMap as map
-use Rattle.wef_world.proofs.NameMaps.{one_given}
-use Rattle.wef_world.specs.States.{Slots}
+use Rattle.wef_machine.proofs.NameMaps.{one_given}
+use Rattle.wef_machine.specs.States.{Slots}
 use Rattle.wef_world.proofs.sources.Sources.put.Goals as goal
 
 pub returns : goal.returns

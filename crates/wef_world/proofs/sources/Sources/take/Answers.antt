@@ -1,7 +1,7 @@
 use Rattle.std.proofs.Common.{ap, ◌∙◌}
 use Rattle.std.specs.FinMap as map
-use Rattle.wef_world.proofs.NameMaps.{get_given, none_given}
-use Rattle.wef_world.specs.States.{Slots}
+use Rattle.wef_machine.proofs.NameMaps.{get_given, none_given}
+use Rattle.wef_machine.specs.States.{Slots}
 use Rattle.wef_world.proofs.sources.Sources.take.Goals as goal
 
 pub returns-clause-slot : goal.returns-clause-slot

@@ -1,8 +1,8 @@
 use Rattle.std.proofs.Common.{◌≡◌, true, subst, sym}
-use Rattle.wef_world.specs.Kept.{IsKept}
-use Rattle.wef_world.specs.States.{held}
-use Rattle.wef_world.specs.Steps.{admits}
-use Rattle.wef_world.proofs.Steps.{start_is_kept, steps_keep}
+use Rattle.wef_machine.specs.Kept.{IsKept}
+use Rattle.wef_machine.specs.States.{held}
+use Rattle.wef_machine.specs.Steps.{admits}
+use Rattle.wef_machine.proofs.Steps.{start_is_kept, steps_keep}
 use Rattle.wef_world.proofs.world.World.apply.Goals as goal
 
 -- a world that lost its ends is as new

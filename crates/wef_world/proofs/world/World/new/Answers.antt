@@ -1,6 +1,6 @@
 use Rattle.std.proofs.Common.{subst, sym}
-use Rattle.wef_world.specs.Kept.{IsKept}
-use Rattle.wef_world.proofs.Steps.{start_is_kept}
+use Rattle.wef_machine.specs.Kept.{IsKept}
+use Rattle.wef_machine.proofs.Steps.{start_is_kept}
 use Rattle.wef_world.proofs.world.World.new.Goals as goal
 
 pub invariant_of-result : goal.invariant_of-result

@@ -1,0 +1,21 @@
+-- The names of the declared sources are those at which their map has one.
+use Rattle.std.proofs.Common.{◌≡◌, ℕ, Bool, true, false, ◌||◌, cond, List, [], ◌∷◌, refl, ap, sym, ◌∙◌, Some}
+use Rattle.std.specs.Prelude.{Option, is_some, map}
+use Rattle.std.specs.Cmp.Lexicographic.{slice_cmp, texts_ties}
+use Rattle.std.specs.FinMap as finite
+use Rattle.std.specs.Ordering.{eq_by_cmp, nat_cmp}
+use Rattle.wef_replay.specs.Good.{is_among}
+use Rattle.wef_machine.specs.States.{Slot, Slots}
+
+-- a value stands at a name where the first entry has it, or one of the rest
+pub first_or_rest : {X : Type 0} (b : Bool) (x : X) (rest : Option X) → (b || is_some rest) ≡ is_some (cond b (Some x) rest)
+first_or_rest true x rest = refl
+first_or_rest false x rest = refl
+
+among_keys : (es : List (List ℕ × Slot)) (s : List ℕ) → is_among (map (λ (entry : List ℕ × Slot). entry.0) es) s ≡ is_some (finite.find (slice_cmp nat_cmp) s es)
+among_keys [] s = refl
+among_keys (e ∷ es) s =
+    (λ i. texts_ties s e.0 i || among_keys es s i) ∙ first_or_rest (eq_by_cmp (slice_cmp nat_cmp) s e.0) e.1 (finite.find (slice_cmp nat_cmp) s es)
+
+pub among_declared : (sources : Slots) (s : List ℕ) → is_among (map (λ (entry : List ℕ × Slot). entry.0) (finite.entries sources)) s ≡ is_some (finite.get sources s)
+among_declared sources s = among_keys (finite.entries sources) s ∙ ap is_some (sym (finite.get-entries sources s))

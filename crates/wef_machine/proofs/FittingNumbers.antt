@@ -1,0 +1,83 @@
+-- The numbers of a batch that fits a source's histories are no greater than these are long.
+use Rattle.std.proofs.Common.{◌≡◌, ℕ, ◌≤◌, Bool, true, false, ◌&&◌, cond, List, [], ◌∷◌, length, nat_le, refl, ap, sym, ◌∙◌, subst, arith}
+use Rattle.std.proofs.lemmas.Bool.{and_parts}
+use Rattle.std.proofs.lemmas.Bool.Decides.{nat_tests}
+use Rattle.std.proofs.lemmas.Option.{none-some}
+use Rattle.std.specs.Prelude.{Option, Some, None}
+use Rattle.std.specs.FinMap as map
+use Rattle.std.specs.List.{AllByRecursion, list_all}
+use Rattle.wef_base.specs.Names.{same}
+use Rattle.wef_batch.proofs.Reached.{items_are_reached}
+use Rattle.wef_batch.specs.Reach.{last_in, loose_sum, reach, reach_of, span_in}
+use Rattle.wef_batch.specs.WellFormed.{ends_by, is_in, is_in_order, is_listed}
+use Rattle.wef_batch.specs.declared.items.Batch.{Batch}
+use Rattle.wef_batch.specs.declared.items.Item.{Item}
+use Rattle.wef_batch.specs.declared.items.Item.TheVariants.{Event, Dropped, Loose}
+use Rattle.wef_bookmark.specs.Order.{Marks, number_at}
+use Rattle.wef_collector.proofs.Hits.{same_self}
+use Rattle.wef_query.specs.Selected.{channels_of}
+use Rattle.wef_query.specs.declared.QueryList.{QueryList}
+use Rattle.wef_source.specs.Fits.{Fits, FitsChannel}
+use Rattle.wef_source_log.specs.Histories.{Histories, History, history}
+use Rattle.wef_collector.specs.FormsStay.{HasNumber, HasNumbers}
+
+at_most : (m n : ℕ) → nat_le m n ≡ true → m ≤ n
+at_most m n e = grind (arith, nat_tests, e)
+
+by_reach : (query : QueryList) (max_bytes : ℕ) (c : List ℕ) (records : History) (capacity b : ℕ) (items : List Item) (reached : Option ℕ) (first last : ℕ) →
+    FitsChannel query max_bytes c records capacity b items reached → ends_by reached (Some (first, last)) ≡ true → length records ≤ 9223372036854775807 → last ≤ 9223372036854775807
+by_reach query max_bytes c records capacity b items None first last fits ends long = absurd cc
+by_reach query max_bytes c records capacity b items (Some t) first last fits ends long = omega (arith, at_most last t ends, fits.within)
+
+own_span : (c d : List ℕ) (span : ℕ × ℕ) → c ≡ d → ◌≡◌ {A = Option (ℕ × ℕ)} (cond (same c d) (Some span) None) (Some span)
+own_span c d span e = ap (λ (t : Bool). cond t (Some span) None) (subst (λ (x : List ℕ). same c x ≡ true) e (same_self c))
+
+-- what is known of an item of a batch: it is listed, and it ends where its channel is reached
+record IsInBatch (channels : List (List ℕ)) (batch : Batch) (item : Item) : Type 0 where
+  listed : is_listed channels item ≡ true
+  ends : (c : List ℕ) → is_in channels c ≡ true → ends_by (reach c batch) (span_in c item) ≡ true
+
+pub fitting_numbers : (query : QueryList) (max_bytes : ℕ) (all : Histories) (capacity : ℕ) (b : Marks) (batch : Batch) → Fits query max_bytes all capacity b batch →
+    ((c : List ℕ) → length (history all c) ≤ 9223372036854775807) → HasNumbers batch
+fitting_numbers query max_bytes all capacity b batch fits lengths = record {
+  items = each batch.items listed (λ c here. items_are_reached channels batch c fits.well_formed here);
+  to = λ c n e. by_channel c n e (is_in channels c) refl;
+}
+  where
+    channels : List (List ℕ)
+    channels = channels_of query.items
+
+    listed : list_all (is_listed (channels_of query.items)) batch.items ≡ true
+    listed = (and_parts (list_all (is_listed channels) batch.items) (list_all (is_in_order batch) channels)
+        (and_parts (list_all (is_listed channels) batch.items && list_all (is_in_order batch) channels) (nat_le (loose_sum batch.items) 9223372036854775807) fits.well_formed).0).0
+
+    ends_in : (c : List ℕ) (first last : ℕ) → is_in (channels_of query.items) c ≡ true → ends_by (reach c batch) (Some (first, last)) ≡ true → last ≤ 9223372036854775807
+    ends_in c first last here ends =
+        by_reach query max_bytes c (history all c) capacity (number_at b c) batch.items (reach c batch) first last (fits.channels c here) ends (lengths c)
+
+    number : (item : Item) → IsInBatch (channels_of query.items) batch item → HasNumber item
+    number (Event event) is =
+        ends_in event.channel event.number event.number is.listed
+        (subst (λ (o : Option (ℕ × ℕ)). ends_by (reach event.channel batch) o ≡ true) (own_span event.channel event.channel (event.number, event.number) refl) (is.ends event.channel is.listed))
+    number (Dropped channel first last) is =
+        ends_in channel first last is.listed
+        (subst (λ (o : Option (ℕ × ℕ)). ends_by (reach channel batch) o ≡ true) (own_span channel channel (first, last) refl) (is.ends channel is.listed))
+    number (Loose count) is = tt
+
+    each : (items : List Item) → list_all (is_listed (channels_of query.items)) items ≡ true →
+        ((c : List ℕ) → is_in (channels_of query.items) c ≡ true → list_all (λ item. ends_by (reach c batch) (span_in c item)) items ≡ true) → AllByRecursion HasNumber items
+    each [] are ends = tt
+    each (item ∷ items) are ends =
+        let parts = and_parts (is_listed channels item) (list_all (is_listed channels) items) are in (
+          number item (record {
+            listed = parts.0;
+            ends = λ c here. (and_parts (ends_by (reach c batch) (span_in c item)) (list_all (λ other. ends_by (reach c batch) (span_in c other)) items) (ends c here)).0;
+          }),
+          each items parts.1 (λ c here. (and_parts (ends_by (reach c batch) (span_in c item)) (list_all (λ other. ends_by (reach c batch) (span_in c other)) items) (ends c here)).1),
+        )
+
+    by_channel : (c : List ℕ) (n : ℕ) → map.get batch.to c ≡ Some n → (reads : Bool) → is_in (channels_of query.items) c ≡ reads → n ≤ 9223372036854775807
+    by_channel c n e true here =
+        let fit = subst (FitsChannel query max_bytes c (history all c) capacity (number_at b c) batch.items) (ap (λ (o : Option ℕ). reach_of o (last_in c batch.items)) e) (fits.channels c here) in
+        omega (arith, fit.within, lengths c)
+    by_channel c n e false here = absurd (none-some n (sym (fits.others c here) ∙ e))

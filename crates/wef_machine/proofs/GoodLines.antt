@@ -1,0 +1,151 @@
+-- What a good line says: its subscription reads back from the words that keep it, and its numbers are such as records have.
+use Rattle.std.proofs.Common.{◌≡◌, ℕ, ◌<◌, ◌≤◌, ◌==◌, Bool, true, false, not, ◌&&◌, cond, List, [], ◌∷◌, length, map, nat_le, refl, ap, sym, ◌∙◌, subst, arith}
+use Rattle.std.proofs.lemmas.Bool.{and_parts}
+use Rattle.std.proofs.lemmas.Bool.Decides.{nat_tests}
+use Rattle.std.proofs.lemmas.List.Elements.{All-nil, All-cons}
+use Rattle.std.proofs.lemmas.Option.{none-some, same_Some}
+use Rattle.std.proofs.lemmas.Str.{IsUtf8-from_is_utf8}
+use Rattle.std.specs.Prelude.{Option, Some, None, is_some}
+use Rattle.std.specs.Cmp.Lexicographic.{slice_cmp}
+use Rattle.std.specs.FinMap as finite
+use Rattle.std.specs.List.{All, AllByRecursion, list_all}
+use Rattle.std.specs.Ordering.{eq_by_cmp, nat_cmp}
+use Rattle.std.specs.Str.{is_utf8}
+use Rattle.wef_base.specs.Names.{channel_name}
+use Rattle.wef_batch.specs.declared.items.Batch.{Batch}
+use Rattle.wef_batch.specs.declared.items.Item.{Item}
+use Rattle.wef_batch.specs.declared.items.Item.TheVariants as item
+use Rattle.wef_collector.proofs.Hits.{one_name}
+use Rattle.wef_event.specs.Unnumbered.{numbered}
+use Rattle.wef_event.specs.declared.unnumbered.PlainEvent.{PlainEvent}
+use Rattle.wef_eventing.proofs.Back.{reads_back}
+use Rattle.wef_eventing.specs.Kept.{HasKeptName, kept_words, read_kept}
+use Rattle.wef_eventing.specs.Subscriptions.{AreLimits}
+use Rattle.wef_query.specs.Queries.{all_events_of}
+use Rattle.wef_query.specs.declared.QueryItem.{QueryItem}
+use Rattle.wef_query.specs.declared.QueryList.{QueryList}
+use Rattle.wef_replay.specs.Good.{are_all, are_limits, are_words, asks_for_all, fits_always, has_word, is_between, is_channel, is_count, is_item, is_line, is_no_collector, is_number, is_one, is_reach, is_source, is_subscription}
+use Rattle.wef_replay.specs.declared.lines.Line.TheVariants as lines
+use Rattle.wef_machine.specs.Steps.{subscription_of}
+use Rattle.wef_collector.specs.FormsStay.{HasNumber, HasNumbers}
+
+-- ---- names and numbers
+
+at_most : (m n : ℕ) → nat_le m n ≡ true → m ≤ n
+at_most m n e = grind (arith, nat_tests, e)
+
+between : (least greatest n : ℕ) → is_between least greatest n ≡ true → (least ≤ n) × (n ≤ greatest)
+between least greatest n e = let parts = and_parts (nat_le least n) (nat_le n greatest) e in (at_most least n parts.0, at_most n greatest parts.1)
+
+one_given : (name : List ℕ) (o : Option (List ℕ)) → is_one name o ≡ true → o ≡ Some name
+one_given name None e = cc
+one_given name (Some given) e = ap Some (sym (one_name name given e))
+
+kept_channel : (c : List ℕ) → is_channel c ≡ true → channel_name c ≡ Some c
+kept_channel c e = one_given c (channel_name c) (and_parts (is_utf8 c) (is_one c (channel_name c)) e).1
+
+-- ---- a subscription
+
+zero_is : (n : ℕ) → n == 0 ≡ true → n ≡ 0
+zero_is n e = grind (arith, nat_tests, e)
+
+not_true : (b : Bool) → not b ≡ true → b ≡ false
+not_true true e = sym e
+not_true false e = refl
+
+item_is : (q : QueryItem) → asks_for_all q ≡ true → q ≡ record { group = 0; suppress = false; channel = q.channel }
+item_is q e =
+    let parts = and_parts (q.group == 0 && not q.suppress) (is_channel q.channel) e in
+    let front = and_parts (q.group == 0) (not q.suppress) parts.0 in
+    let group = zero_is q.group front.0 in
+    let keeps = not_true q.suppress front.1 in
+    λ i. record { group = group i; suppress = keeps i; channel = q.channel }
+
+items_are : (qs : List QueryItem) → list_all asks_for_all qs ≡ true → qs ≡ all_events_of (map (λ (q : QueryItem). q.channel) qs)
+items_are [] e = refl
+items_are (q ∷ qs) e =
+    let parts = and_parts (asks_for_all q) (list_all asks_for_all qs) e in
+    let own = item_is q parts.0 in
+    let rest = items_are qs parts.1 in
+    λ i. own i ∷ rest i
+
+names_are : (qs : List QueryItem) → list_all asks_for_all qs ≡ true → All HasKeptName qs
+names_are [] e = All-nil HasKeptName
+names_are (q ∷ qs) e =
+    let parts = and_parts (asks_for_all q) (list_all asks_for_all qs) e in
+    let channel = (and_parts (q.group == 0 && not q.suppress) (is_channel q.channel) parts.0).1 in
+    All-cons HasKeptName q qs
+    (record {
+      utf8 = IsUtf8-from_is_utf8 q.channel (and_parts (is_utf8 q.channel) (is_one q.channel (channel_name q.channel)) channel).0;
+      reads_back = kept_channel q.channel channel;
+    })
+    (names_are qs parts.1)
+
+some_named : (qs : List QueryItem) → length qs == 0 ≡ false → 0 < length (map (λ (q : QueryItem). q.channel) qs)
+some_named [] e = absurd cc
+some_named (q ∷ qs) e = omega arith
+
+limits_are : (items bytes beat : ℕ) → are_limits items bytes beat ≡ true → AreLimits items bytes beat
+limits_are items bytes beat e =
+    let outer = and_parts (is_between 1 10000 items && is_between 8192 4194304 bytes) (is_between 1 86400000 beat) e in
+    let inner = and_parts (is_between 1 10000 items) (is_between 8192 4194304 bytes) outer.0 in
+    (between 1 10000 items inner.0, between 8192 4194304 bytes inner.1, between 1 86400000 beat outer.1)
+
+-- the subscription of a good line reads back from the words that keep it
+pub all_events : (u : List ℕ) (items bytes beat : ℕ) (query : QueryList) → is_line (lines.Subscribe u items bytes beat query) ≡ true →
+    read_kept u (kept_words (subscription_of u items bytes beat query)) ≡ Some (subscription_of u items bytes beat query)
+all_events u items bytes beat query e =
+    let outer = and_parts (is_subscription u && are_limits items bytes beat) (are_all query.items) e in
+    let limits = (and_parts (is_subscription u) (are_limits items bytes beat) outer.0).1 in
+    let queries = and_parts (not (length query.items == 0)) (list_all asks_for_all query.items) outer.1 in
+    let form = items_are query.items queries.1 in
+    reads_back (subscription_of u items bytes beat query) (names_are query.items queries.1) (record {
+      form = ap (λ (qs : List QueryItem). subscription_of u items bytes beat (record { items = qs })) form;
+      some_channel = some_named query.items (not_true (length query.items == 0) queries.0);
+      limits = limits_are items bytes beat limits;
+    })
+
+-- ---- a batch
+
+pub names_source : (u s : List ℕ) (b : Batch) → is_line (lines.Batch u s b) ≡ true → is_source s ≡ true
+names_source u s b e =
+    let outer = and_parts (is_subscription u && is_source s && is_no_collector s) (are_words b) e in
+    let inner = and_parts (is_subscription u && is_source s) (is_no_collector s) outer.0 in
+    (and_parts (is_subscription u) (is_source s) inner.0).1
+
+number : (i : Item) → is_item i ≡ true → HasNumber i
+number (item.Event event) e = (between 1 9223372036854775807 event.number (and_parts (is_channel event.channel) (is_number event.number) e).1).1
+number (item.Dropped channel first last) e = (between 1 9223372036854775807 last (and_parts (is_channel channel && is_number first) (is_number last) e).1).1
+number (item.Loose count) e = tt
+
+numbers : (items : List Item) → list_all is_item items ≡ true → AllByRecursion HasNumber items
+numbers [] e = tt
+numbers (i ∷ items) e = let parts = and_parts (is_item i) (list_all is_item items) e in (number i parts.0, numbers items parts.1)
+
+reached : (es : List (List ℕ × ℕ)) → list_all is_reach es ≡ true → (c : List ℕ) (n : ℕ) → finite.find (slice_cmp nat_cmp) c es ≡ Some n → n ≤ 9223372036854775807
+reached [] e c n found = absurd (none-some n found)
+reached (x ∷ es) e c n found = by_test (reached es (and_parts (is_reach x) (list_all is_reach es) e).1 c n) (eq_by_cmp (slice_cmp nat_cmp) c x.0) found
+  where
+    parts : (is_reach x ≡ true) × (list_all is_reach es ≡ true)
+    parts = and_parts (is_reach x) (list_all is_reach es) e
+
+    by_test : (finite.find (slice_cmp nat_cmp) c es ≡ Some n → n ≤ 9223372036854775807) → (t : Bool) → cond t (Some x.1) (finite.find (slice_cmp nat_cmp) c es) ≡ Some n → n ≤ 9223372036854775807
+    by_test behind true is = subst (λ (m : ℕ). m ≤ 9223372036854775807) (same_Some x.1 n is) (at_most x.1 9223372036854775807 (and_parts (is_channel x.0) (is_count x.1) (parts).0).1)
+    by_test behind false is = behind is
+
+pub has_numbers : (u s : List ℕ) (b : Batch) → is_line (lines.Batch u s b) ≡ true → HasNumbers b
+has_numbers u s b e =
+    let words = (and_parts (is_subscription u && is_source s && is_no_collector s) (are_words b) e).1 in
+    let outer = and_parts (has_word b && list_all is_item b.items) (list_all is_reach (finite.entries b.to)) words in
+    let inner = and_parts (has_word b) (list_all is_item b.items) outer.0 in
+    record {
+      items = numbers b.items inner.1;
+      to = λ c n found. reached (finite.entries b.to) outer.1 c n (sym (finite.get-entries b.to c) ∙ found);
+    }
+
+-- ---- a write
+
+pub names_channel : (s : List ℕ) (event : PlainEvent) → is_line (lines.Write s event) ≡ true → channel_name event.channel ≡ Some event.channel
+names_channel s event e =
+    let fits = (and_parts (is_source s) (fits_always event) e).1 in
+    kept_channel event.channel (and_parts (is_channel event.channel) (is_some (numbered event 9223372036854775807)) fits).0

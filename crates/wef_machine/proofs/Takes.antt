@@ -1,0 +1,367 @@
+-- What is kept of a pair after a batch, after a subscription begins or ends, and once more is written.
+use Rattle.std.proofs.Common.{◌≡◌, ◌≢◌, ℕ, ◌≤◌, ◌==◌, Bool, true, false, ◌&&◌, ◌||◌, cond, List, [], ◌++◌, length, map, refl, ap, sym, ◌∙◌, subst, Option, Some, None, nat_lt, arith, inl, inr, ◌⊎◌, length-append}
+use Rattle.std.specs.FinMap as finite
+use Rattle.std.specs.Option.{option_map}
+use Rattle.std.specs.Prelude.{max, unwrap_or}
+use Rattle.wef_base.specs.Names.{same}
+use Rattle.wef_batch.specs.Reach.{loose_sum, reach}
+use Rattle.wef_batch.specs.declared.items.Batch.{Batch}
+use Rattle.wef_batch.specs.WellFormed.{is_in, is_well_formed}
+use Rattle.wef_bookmark.specs.Order.{number_at}
+use Rattle.wef_collector.specs.Answers.{added_rows, channels_read, ended_rows}
+use Rattle.wef_collector.specs.Bookmarks.{bookmark_at}
+use Rattle.wef_collector.specs.Held.{event_of_row, held_after, loose_rows}
+use Rattle.wef_collector.specs.Keys.{bookmark_key, boot_key, held_key, loose_key, mark_key, subscription_key}
+use Rattle.wef_collector.specs.Laws.{moved}
+use Rattle.wef_collector.specs.Standing.{kept_body, standing, standing_by, standing_of}
+use Rattle.wef_collector.specs.Taken.{reach_changes, taken}
+use Rattle.wef_collector.specs.declared.standings.Standing.{Standing}
+use Rattle.wef_collector.specs.declared.standings.Standing.TheVariants.{Ended, Live}
+use Rattle.wef_collector.proofs.Hits.{hits, hits_self, not_both, one_key, one_name, refuted}
+use Rattle.wef_collector.proofs.Live.{put_lives}
+use Rattle.wef_collector.proofs.Moving.{bookmark_by_taking}
+use Rattle.wef_collector.proofs.Taking.{held_by_taking}
+use Rattle.std.specs.List.{All}
+use Rattle.wef_eventing.proofs.Back.{reads_back}
+use Rattle.wef_eventing.specs.Kept.{HasKeptName, kept_words, read_kept}
+use Rattle.wef_eventing.specs.Subscriptions.{IsAllEvents}
+use Rattle.wef_eventing.specs.declared.subscriptions.Subscription.{Subscription}
+use Rattle.wef_keeper.specs.Rows.{Rows, found_after, key_cmp_total}
+use Rattle.wef_keeper.specs.declared.keys.Cell.{Cell}
+use Rattle.wef_keeper.specs.declared.keys.Key.{Key}
+use Rattle.wef_query.specs.declared.QueryList.{QueryList}
+use Rattle.wef_source.specs.Building.{room_of}
+use Rattle.wef_source.specs.Fits.{FitsChannel, FitsUpTo, event_at, ranges_in}
+use Rattle.wef_source.specs.Wanted.{AreRising, EndBy, IsLost, Range, in_ranges, is_too_large}
+use Rattle.wef_source_log.specs.Histories.{History, history}
+use Rattle.wef_machine.specs.Laws.{FittingBatchesAreSafe}
+use Rattle.wef_machine.specs.Safe.{IsPairSafe, IsUntouched, marks_of, range_of_row, wanted_events}
+use Rattle.wef_machine.proofs.Fitted.{held_after_is, held_are, held_step, held_were, in_joined, text_in}
+use Rattle.wef_machine.proofs.InOrder.{in_order, ranges_reached}
+use Rattle.wef_machine.proofs.Marked.{marks_after, reach_loose}
+use Rattle.wef_machine.proofs.Numbered.{same_section}
+use Rattle.wef_machine.proofs.Ranges.{clip, clip_ends, clip_rises, ends-append, ends_later, ranges_rise, rising-append}
+use Rattle.wef_machine.proofs.Spared.{IsMissed, and_no, missed_apart, missed_channel, spared, touched, unreached}
+use Rattle.wef_machine.proofs.WantedEvents.{events_alike, nothing_wanted, selected_longer, wanted_longer}
+
+-- Of a source's channel the same is kept for a subscription in some rows as in others.
+pub record SameViews (after before : Rows) (u s c : List ℕ) : Type 0 where
+  pub bookmark : bookmark_at after u s c ≡ bookmark_at before u s c
+  pub held : held_after after u s c 0 ≡ held_after before u s c 0
+  pub marks : marks_of after u s c ≡ marks_of before u s c
+  pub loose : loose_rows after u s c ≡ loose_rows before u s c
+
+-- what is safe by its bookmark and its marks
+safe_with : (rows : Rows) (u s c : List ℕ) (about : Subscription) (records : History) (capacity : ℕ) (b : ℕ) (ranges : List Range) →
+    bookmark_at rows u s c ≡ b → marks_of rows u s c ≡ ranges → b ≤ length records → held_after rows u s c 0 ≡ wanted_events about.query c records b ranges →
+    AreRising 0 ranges → EndBy b ranges → ((n : ℕ) → in_ranges ranges n ≡ true → IsLost about.query about.max_bytes c records capacity n) → loose_rows rows u s c ≡ [] →
+    IsPairSafe rows u s c about records capacity
+safe_with rows u s c about records capacity b ranges bookmark marks within held rising below lost loose = record {
+  within = subst (λ (x : ℕ). x ≤ length records) (sym bookmark) within;
+  held = held ∙ (λ i. wanted_events about.query c records (sym bookmark i) (sym marks i));
+  rising = subst (AreRising 0) (sym marks) rising;
+  below = subst (λ (x : ℕ × List Range). EndBy x.0 x.1) (λ i. (sym bookmark i, sym marks i)) below;
+  lost = λ n inside. lost n (ap (λ (rs : List Range). in_ranges rs n) (sym marks) ∙ inside);
+  no_loose = loose;
+}
+
+-- where the same is kept, as much is safe
+pub safe_alike : (after before : Rows) (u s c : List ℕ) (about : Subscription) (records : History) (capacity : ℕ) →
+    SameViews after before u s c → IsPairSafe before u s c about records capacity → IsPairSafe after u s c about records capacity
+safe_alike after before u s c about records capacity same safe =
+    safe_with after u s c about records capacity (bookmark_at before u s c) (marks_of before u s c) same.bookmark same.marks
+    safe.within (same.held ∙ safe.held) safe.rising safe.below safe.lost (same.loose ∙ safe.no_loose)
+
+-- and as much is untouched
+pub untouched_alike : (after before : Rows) (u s c : List ℕ) → SameViews after before u s c → IsUntouched before u s c → IsUntouched after u s c
+untouched_alike after before u s c same none = record {
+  bookmark = same.bookmark ∙ none.bookmark;
+  held = same.held ∙ none.held;
+  marks = same.marks ∙ none.marks;
+  loose = same.loose ∙ none.loose;
+}
+
+-- Keys of a pair at which the same stands.
+record SameKeys (after before : Rows) (u s c : List ℕ) : Type 0 where
+  bookmark : finite.get after (bookmark_key u s c) ≡ finite.get before (bookmark_key u s c)
+  held : (n : ℕ) → finite.get after (held_key u s c n) ≡ finite.get before (held_key u s c n)
+  marks : (n : ℕ) → finite.get after (mark_key u s c n) ≡ finite.get before (mark_key u s c n)
+  loose : (n : ℕ) → finite.get after (loose_key u s c n) ≡ finite.get before (loose_key u s c n)
+
+number_of : Option Cell → ℕ
+number_of cell = unwrap_or (option_map (λ (k : Cell). k.value) cell) 0
+
+same_views : (after before : Rows) (u s c : List ℕ) → SameKeys after before u s c → SameViews after before u s c
+unfolding number_of
+same_views after before u s c same = record {
+  bookmark = ap number_of same.bookmark;
+  held = ap (map (event_of_row c)) (same_section 3 u s c 0 after before same.held);
+  marks = ap (map range_of_row) (same_section 4 u s c 0 after before same.marks);
+  loose = same_section 5 u s c 0 after before same.loose;
+}
+
+-- whether a batch of a subscription and a source may change what is kept of a channel
+abbrev pub is_served : List ℕ → List ℕ → List (List ℕ) → List ℕ → List ℕ → List ℕ → Bool
+is_served u s channels v r c = same u v && (same s r && is_in channels c)
+
+-- ---- a batch
+
+-- no channel of the query is the one that isn't served
+not_served : (u s : List ℕ) (channels : List (List ℕ)) (v r c d : List ℕ) → is_in channels d ≡ true → is_served u s channels v r c ≡ false → (same u v && (same s r && same d c)) ≡ false
+not_served u s channels v r c d here apart =
+    elim (same d c) as (λ t. same d c ≡ t → (same u v && (same s r && t)) ≡ false) [
+      | true ↦ λ is. ap (λ (t : Bool). same u v && (same s r && t)) (sym here ∙ ap (is_in channels) (one_name d c is)) ∙ apart
+      | false ↦ λ is. nowhere (same u v) (same s r)
+    ] refl
+  where
+    nowhere : (a b : Bool) → (a && (b && false)) ≡ false
+    nowhere true true = refl
+    nowhere true false = refl
+    nowhere false b = refl
+
+-- a batch leaves what is kept of every other subscription, source and channel
+pub taking_spares : (rows : Rows) (u s : List ℕ) (channels : List (List ℕ)) (batch : Batch) (now : ℕ) (v r c : List ℕ) →
+    is_served u s channels v r c ≡ false → SameViews (taken rows u s channels batch now) rows v r c
+taking_spares rows u s channels batch now v r c apart =
+    let missed : (q : Key) → q.sub ≡ v → q.source ≡ r → q.channel ≡ c → (d : List ℕ) → is_in channels d ≡ true → IsMissed u s d q =
+    λ q sub source channel d here. missed_apart u s d q (ap (λ (k : List ℕ × List ℕ × List ℕ). same u k.0 && (same s k.1 && same d k.2)) (λ i. (sub i, source i, channel i)) ∙ not_served u s channels v r c d here apart) in
+    same_views (taken rows u s channels batch now) rows v r c (record {
+      bookmark = spared rows u s channels batch now (bookmark_key v r c) (missed (bookmark_key v r c) refl refl refl) refl;
+      held = λ n. spared rows u s channels batch now (held_key v r c n) (missed (held_key v r c n) refl refl refl) refl;
+      marks = λ n. spared rows u s channels batch now (mark_key v r c n) (missed (mark_key v r c n) refl refl refl) refl;
+      loose = λ n. spared rows u s channels batch now (loose_key v r c n) (missed (loose_key v r c n) refl refl refl) refl;
+    })
+
+other_name : (a b : List ℕ) → (a ≢ b) → same a b ≡ false
+other_name a b other = refuted (same a b) (λ is. other (one_name a b is))
+
+-- of another subscription
+pub taking_spares_sub : (rows : Rows) (u s : List ℕ) (channels : List (List ℕ)) (batch : Batch) (now : ℕ) (v r c : List ℕ) →
+    (u ≢ v) → SameViews (taken rows u s channels batch now) rows v r c
+taking_spares_sub rows u s channels batch now v r c other =
+    taking_spares rows u s channels batch now v r c (ap (λ (t : Bool). t && (same s r && is_in channels c)) (other_name u v other))
+
+-- of another source
+pub taking_spares_source : (rows : Rows) (u s : List ℕ) (channels : List (List ℕ)) (batch : Batch) (now : ℕ) (v r c : List ℕ) →
+    (s ≢ r) → SameViews (taken rows u s channels batch now) rows v r c
+taking_spares_source rows u s channels batch now v r c other =
+    taking_spares rows u s channels batch now v r c (ap (λ (t : Bool). same u v && (t && is_in channels c)) (other_name s r other) ∙ and_no (same u v))
+
+-- of another channel
+pub taking_spares_channel : (rows : Rows) (u s : List ℕ) (channels : List (List ℕ)) (batch : Batch) (now : ℕ) (v r c : List ℕ) →
+    is_in channels c ≡ false → SameViews (taken rows u s channels batch now) rows v r c
+taking_spares_channel rows u s channels batch now v r c other =
+    taking_spares rows u s channels batch now v r c
+    (ap (λ (t : Bool). same u v && (same s r && t)) other ∙ ap (λ (t : Bool). same u v && t) (and_no (same s r)) ∙ and_no (same u v))
+
+-- and every subscription
+pub standing_by_taking : (rows : Rows) (u s : List ℕ) (channels : List (List ℕ)) (batch : Batch) (now : ℕ) (v : List ℕ) →
+    standing (taken rows u s channels batch now) v ≡ standing rows v
+standing_by_taking rows u s channels batch now v =
+    ap (standing_of v) (spared rows u s channels batch now (subscription_key v)
+    (λ d here. record { bookmark = refl; held = λ n. refl; marks = λ n. refl; loose = λ n. refl }) refl)
+
+-- a channel that the query lacks stays untouched
+pub untouched_by_taking : (rows : Rows) (u s : List ℕ) (channels : List (List ℕ)) (batch : Batch) (now : ℕ) (c : List ℕ) →
+    is_in channels c ≡ false → IsUntouched rows u s c → IsUntouched (taken rows u s channels batch now) u s c
+untouched_by_taking rows u s channels batch now c other none =
+    untouched_alike (taken rows u s channels batch now) rows u s c (taking_spares_channel rows u s channels batch now u s c other) none
+
+-- ---- a subscription that begins or ends
+
+-- a row of a subscription is none of a pair
+putting_spares : (rows : Rows) (v : List ℕ) (cell : Cell) (u s c : List ℕ) → SameViews (finite.insert rows (subscription_key v) cell) rows u s c
+putting_spares rows v cell u s c = same_views (finite.insert rows (subscription_key v) cell) rows u s c (record {
+  bookmark = finite.get-insert key_cmp_total rows (subscription_key v) cell (bookmark_key u s c);
+  held = λ n. finite.get-insert key_cmp_total rows (subscription_key v) cell (held_key u s c n);
+  marks = λ n. finite.get-insert key_cmp_total rows (subscription_key v) cell (mark_key u s c n);
+  loose = λ n. finite.get-insert key_cmp_total rows (subscription_key v) cell (loose_key u s c n);
+})
+
+-- a boot number says nothing of a pair
+pub booting_spares : (rows : Rows) (cell : Cell) (u s c : List ℕ) → SameViews (finite.insert rows boot_key cell) rows u s c
+booting_spares rows cell u s c = same_views (finite.insert rows boot_key cell) rows u s c (record {
+  bookmark = finite.get-insert key_cmp_total rows boot_key cell (bookmark_key u s c);
+  held = λ n. finite.get-insert key_cmp_total rows boot_key cell (held_key u s c n);
+  marks = λ n. finite.get-insert key_cmp_total rows boot_key cell (mark_key u s c n);
+  loose = λ n. finite.get-insert key_cmp_total rows boot_key cell (loose_key u s c n);
+})
+
+-- nor of a subscription
+pub standing_by_booting : (rows : Rows) (cell : Cell) (v : List ℕ) → standing (finite.insert rows boot_key cell) v ≡ standing rows v
+standing_by_booting rows cell v = ap (standing_of v) (finite.get-insert key_cmp_total rows boot_key cell (subscription_key v))
+
+-- what stands for a subscription once its row is put
+put_own : (rows : Rows) (v : List ℕ) (cell : Cell) → standing (finite.insert rows (subscription_key v) cell) v ≡ standing_of v (Some cell)
+put_own rows v cell =
+    ap (standing_of v) (finite.get-insert key_cmp_total rows (subscription_key v) cell (subscription_key v)
+    ∙ ap (λ (t : Bool). cond t (Some cell) (finite.get rows (subscription_key v))) (hits_self (subscription_key v)))
+
+-- and for others
+put_others : (rows : Rows) (v w : List ℕ) (cell : Cell) → (v ≢ w) → standing (finite.insert rows (subscription_key v) cell) w ≡ standing rows w
+put_others rows v w cell other =
+    let missed : hits (subscription_key w) (subscription_key v) ≡ false =
+    refuted _ (λ hit. other (sym (ap (λ (k : Key). k.sub) (one_key (subscription_key w) (subscription_key v) hit)))) in
+    ap (standing_of w) (finite.get-insert key_cmp_total rows (subscription_key v) cell (subscription_key w)
+    ∙ ap (λ (t : Bool). cond t (Some cell) (finite.get rows (subscription_key w))) missed)
+
+-- a new subscription changes nothing that is kept of a pair
+pub adding_spares : (rows : Rows) (about : Subscription) (u s c : List ℕ) → SameViews (added_rows rows about) rows u s c
+adding_spares rows about u s c = putting_spares rows about.name (record { value = 0; body = kept_words about }) u s c
+
+-- nor does one that ends
+pub ending_spares : (rows : Rows) (v u s c : List ℕ) → SameViews (ended_rows rows v) rows u s c
+ending_spares rows v u s c = putting_spares rows v (record { value = 1; body = kept_body (finite.get rows (subscription_key v)) }) u s c
+
+-- what stands for a new subscription: what its words read as
+pub standing_read : (rows : Rows) (about : Subscription) → standing (added_rows rows about) about.name ≡ standing_by 0 (read_kept about.name (kept_words about))
+standing_read rows about = put_own rows about.name (record { value = 0; body = kept_words about })
+
+-- one whose words read back is live
+pub standing_by_adding : (rows : Rows) (about : Subscription) → read_kept about.name (kept_words about) ≡ Some about →
+    standing (added_rows rows about) about.name ≡ Live about
+standing_by_adding rows about reads = put_lives rows about (kept_words about) reads
+
+-- a subscription to all events reads back
+pub live_by_adding : (rows : Rows) (about : Subscription) → All HasKeptName about.query.items → IsAllEvents about →
+    standing (added_rows rows about) about.name ≡ Live about
+live_by_adding rows about named one = standing_by_adding rows about (reads_back about named one)
+
+-- the others are as before
+pub others_by_adding : (rows : Rows) (about : Subscription) (v : List ℕ) → (about.name ≢ v) → standing (added_rows rows about) v ≡ standing rows v
+others_by_adding rows about v other = put_others rows about.name v (record { value = 0; body = kept_words about }) other
+
+ended_from : (value : ℕ) (kept : Option Subscription) (about : Subscription) → standing_by value kept ≡ Live about → standing_by 1 kept ≡ Ended about
+ended_from value None about live = cc
+ended_from value (Some given) about live =
+    elim (value == 0) as (λ t. cond t (Live given) (Ended given) ≡ Live about → ◌≡◌ {A = Standing} (Ended given) (Ended about)) [
+      | true ↦ λ is. cc
+      | false ↦ λ is. cc
+    ] live
+
+ended_by : (u : List ℕ) (cell : Option Cell) (about : Subscription) → standing_of u cell ≡ Live about → standing_of u (Some (record { value = 1; body = kept_body cell })) ≡ Ended about
+ended_by u None about live = cc
+ended_by u (Some cell) about live = ended_from cell.value (read_kept u cell.body) about live
+
+-- a live subscription that ends has ended
+pub standing_by_ending : (rows : Rows) (u : List ℕ) (about : Subscription) → standing rows u ≡ Live about → standing (ended_rows rows u) u ≡ Ended about
+standing_by_ending rows u about live =
+    put_own rows u (record { value = 1; body = kept_body (finite.get rows (subscription_key u)) }) ∙ ended_by u (finite.get rows (subscription_key u)) about live
+
+-- the others are as before
+pub others_by_ending : (rows : Rows) (u v : List ℕ) → (u ≢ v) → standing (ended_rows rows u) v ≡ standing rows v
+others_by_ending rows u v other = put_others rows u v (record { value = 1; body = kept_body (finite.get rows (subscription_key u)) }) other
+
+-- ---- histories that grow, and pairs of which nothing is kept
+
+-- what is lost stays lost
+pub lost_longer : (query : QueryList) (max_bytes : ℕ) (c : List ℕ) (records more : History) (capacity n : ℕ) → IsLost query max_bytes c records capacity n →
+    IsLost query max_bytes c (records ++ more) capacity n
+lost_longer query max_bytes c records more capacity n lost =
+    let within : n ≤ length records = lost.1 in (
+      lost.0,
+      omega (arith, length-append {A = List ℕ}),
+      elim lost.2 [
+        | inl gone ↦ inl (omega (arith, length-append {A = List ℕ}))
+        | inr large ↦ inr (ap (is_too_large query (room_of max_bytes) c n) (selected_longer query c records more n within) ∙ large)
+      ],
+    )
+
+-- what is safe stays so when more is written
+pub safe_longer : (rows : Rows) (u s c : List ℕ) (about : Subscription) (records records' more : History) (capacity : ℕ) → records' ≡ records ++ more →
+    IsPairSafe rows u s c about records capacity → IsPairSafe rows u s c about records' capacity
+safe_longer rows u s c about records records' more capacity longer safe =
+    subst (λ (all : History). IsPairSafe rows u s c about all capacity) (sym longer)
+    (record {
+      within = let within = safe.within in omega (arith, length-append {A = List ℕ});
+      held = safe.held ∙ events_alike about.query c records (records ++ more) (bookmark_at rows u s c) (bookmark_at rows u s c) (marks_of rows u s c) (marks_of rows u s c)
+          (λ n. sym (wanted_longer about.query c records more (bookmark_at rows u s c) (marks_of rows u s c) safe.within n));
+      rising = safe.rising;
+      below = safe.below;
+      lost = λ n inside. lost_longer about.query about.max_bytes c records more capacity n (safe.lost n inside);
+      no_loose = safe.no_loose;
+    })
+
+-- nothing kept is safe, whatever the query and the history
+pub safe_untouched : (rows : Rows) (u s c : List ℕ) (about : Subscription) (records : History) (capacity : ℕ) →
+    IsUntouched rows u s c → IsPairSafe rows u s c about records capacity
+safe_untouched rows u s c about records capacity none =
+    safe_with rows u s c about records capacity 0 [] none.bookmark none.marks (omega arith) (none.held ∙ sym (nothing_wanted about.query c records)) tt tt
+    (λ n inside. absurd (not_both inside refl)) none.loose
+
+-- ---- a batch that fits
+
+-- one that doesn't reach a channel leaves it as it is
+unreached_views : (rows : Rows) (u s : List ℕ) (channels : List (List ℕ)) (batch : Batch) (now : ℕ) (c : List ℕ) → is_in channels c ≡ true → reach c batch ≡ None →
+    SameViews (taken rows u s channels batch now) rows u s c
+unreached_views rows u s channels batch now c listed none = same_views (taken rows u s channels batch now) rows u s c (record {
+  bookmark = unreached rows u s channels batch now c (bookmark_key u s c) listed none (missed_channel u s c (bookmark_key u s c) refl) refl;
+  held = λ n. unreached rows u s channels batch now c (held_key u s c n) listed none (missed_channel u s c (held_key u s c n) refl) refl;
+  marks = λ n. unreached rows u s channels batch now c (mark_key u s c n) listed none (missed_channel u s c (mark_key u s c n) refl) refl;
+  loose = λ n. unreached rows u s channels batch now c (loose_key u s c n) listed none (missed_channel u s c (loose_key u s c n) refl) refl;
+})
+
+-- a listed channel's bookmark after a batch
+pub bookmark_moved : (rows : Rows) (u s : List ℕ) (channels : List (List ℕ)) (batch : Batch) (now : ℕ) (c : List ℕ) → is_in channels c ≡ true →
+    bookmark_at (taken rows u s channels batch now) u s c ≡ moved (bookmark_at rows u s c) (reach c batch)
+bookmark_moved rows u s channels batch now c listed =
+    bookmark_by_taking rows u s channels batch now c ∙ ap (λ (t : Bool). cond t (moved (bookmark_at rows u s c) (reach c batch)) (bookmark_at rows u s c)) listed
+
+-- ---- a batch that fits, where it reaches the channel
+
+-- one of two tests
+or_either : (a b : Bool) → (a || b) ≡ true → (a ≡ true) ⊎ (b ≡ true)
+or_either true b e = inl refl
+or_either false b e = inr e
+
+and_second : (a b : Bool) → (a && b) ≡ true → b ≡ true
+and_second true b e = e
+and_second false b e = cc
+
+reached_safe : (rows : Rows) (u s c : List ℕ) (about : Subscription) (records : History) (capacity b : ℕ) (batch : Batch) (now t : ℕ) → is_in (channels_read about) c ≡ true →
+    IsPairSafe rows u s c about records capacity → is_well_formed (channels_read about) batch ≡ true → loose_sum batch.items ≡ 0 → b ≤ bookmark_at rows u s c → reach c batch ≡ Some t →
+    FitsUpTo about.query about.max_bytes c records capacity b batch.items t → IsPairSafe (taken rows u s (channels_read about) batch now) u s c about records capacity
+reached_safe rows u s c about records capacity b batch now t listed safe formed none le reached fits =
+    let channels = channels_read about in
+    let after = taken rows u s channels batch now in
+    let kept = bookmark_at rows u s c in
+    let marks = marks_of rows u s c in
+    let dropped = ranges_in c batch.items in
+    let rises = in_order channels batch c formed listed in
+    let above : AreRising kept (clip kept dropped) = clip_rises kept 0 kept dropped (omega arith) (ranges_rise c None batch.items rises) in
+    let ends : EndBy t (clip kept dropped) = clip_ends kept t dropped (ranges_reached channels batch c t formed listed reached) in
+    let size : kept ≤ length records = safe.within in
+    let reaches : t ≤ length records = fits.within in
+    safe_with after u s c about records capacity (max kept t) (marks ++ clip kept dropped)
+    (bookmark_moved rows u s channels batch now c listed ∙ ap (moved kept) reached)
+    (marks_after rows u s channels batch now c t listed reached safe.rising safe.below above)
+    (omega arith)
+    (held_are about.query c records (max kept t) (marks ++ clip kept dropped) after u s
+    (λ n. ap (λ (cell : Option Cell). text_in (cond (nat_lt 0 n) cell None))
+    (held_by_taking rows u s channels batch now c n listed ∙ held_after_is c kept n None batch.items (finite.get rows (held_key u s c n)) rises)
+    ∙ held_step about.query c records kept t marks dropped n (event_at c n batch.items) (finite.get rows (held_key u s c n)) safe.below
+    (λ h. fits.exact n (omega arith)) (held_were about.query c records kept marks rows u s safe.held n)))
+    (rising-append 0 kept marks (clip kept dropped) (omega arith) safe.rising safe.below above)
+    (ends-append (max kept t) marks (clip kept dropped) (ends_later kept (max kept t) marks (omega arith) safe.below) (ends_later t (max kept t) (clip kept dropped) (omega arith) ends))
+    (λ n inside. elim (or_either (in_ranges marks n) (nat_lt kept n && in_ranges dropped n) (sym (in_joined kept marks dropped n) ∙ inside)) [
+      | inl old ↦ safe.lost n old
+      | inr new ↦ fits.lost n (and_second (nat_lt kept n) (in_ranges dropped n) new)
+    ])
+    (same_section 5 u s c 0 after rows
+    (λ n. touched rows u s channels batch now c (loose_key u s c n) (λ cell. cell) listed (missed_channel u s c (loose_key u s c n) refl) refl
+    (λ cell. ap (λ r. found_after (reach_changes u s c kept batch r) (loose_key u s c n) cell) reached ∙ reach_loose u s c kept t n batch cell none) (λ x. refl))
+    ∙ safe.no_loose)
+
+by_reach : (rows : Rows) (u s c : List ℕ) (about : Subscription) (records : History) (capacity b : ℕ) (batch : Batch) (now : ℕ) (reached : Option ℕ) → is_in (channels_read about) c ≡ true →
+    IsPairSafe rows u s c about records capacity → is_well_formed (channels_read about) batch ≡ true → loose_sum batch.items ≡ 0 → b ≤ bookmark_at rows u s c → reach c batch ≡ reached →
+    FitsChannel about.query about.max_bytes c records capacity b batch.items reached → IsPairSafe (taken rows u s (channels_read about) batch now) u s c about records capacity
+by_reach rows u s c about records capacity b batch now None listed safe formed none le reached fits =
+    safe_alike (taken rows u s (channels_read about) batch now) rows u s c about records capacity (unreached_views rows u s (channels_read about) batch now c listed reached) safe
+by_reach rows u s c about records capacity b batch now (Some t) listed safe formed none le reached fits =
+    reached_safe rows u s c about records capacity b batch now t listed safe formed none le reached fits
+
+pub fitting_batches_are_safe : FittingBatchesAreSafe
+fitting_batches_are_safe rows u s c about all capacity b batch now listed safe fits le = (
+  by_reach rows u s c about (history all c) capacity (number_at b c) batch now (reach c batch) listed safe fits.well_formed fits.no_loose le refl (fits.channels c listed),
+  bookmark_moved rows u s (channels_read about) batch now c listed,
+)

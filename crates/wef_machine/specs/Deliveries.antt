@@ -1,0 +1,201 @@
+-- Deliveries: what the end that a message is for makes of it, what it answers, and what is printed. Any message may be
+-- delivered at any time, and again.
+use Rattle.std.specs.Prelude.{ℕ, ◌-◌, ◌%◌, ◌==◌, List, length, slice_get, is_some, Option, Some, None, Result, Ok, Err, codes, if◌then◌else◌}
+use Rattle.wef_batch.specs.declared.items.Batch.{Batch}
+use Rattle.wef_batch.specs.WellFormed.{is_well_formed}
+use Rattle.wef_collector.specs.Answers.{channels_read}
+use Rattle.wef_collector.specs.Offers.{offers}
+use Rattle.wef_collector.specs.Standing.{standing}
+use Rattle.wef_collector.specs.Taken.{batch_changes}
+use Rattle.wef_collector.specs.declared.standings.Standing as state_of
+use Rattle.wef_collector.specs.declared.standings.Standing.TheVariants as is
+use Rattle.wef_envelope.specs.Ids.{ids_agree}
+use Rattle.wef_envelope.specs.declared.FaultName.{FaultName}
+use Rattle.wef_envelope.specs.declared.FaultName.TheVariants.{InvalidMessage, DestinationUnreachable, InternalError}
+use Rattle.wef_envelope.specs.declared.MessageId.{MessageId}
+use Rattle.wef_eventing.specs.Addresses.{source_in, subscription_in}
+use Rattle.wef_eventing.specs.declared.bodies.Offer.{Offer}
+use Rattle.wef_keeper.specs.Rows.{Rows}
+use Rattle.wef_keeper.specs.declared.keys.Change.{Change}
+use Rattle.wef_source.specs.Answers.{waiting_for}
+use Rattle.wef_source.specs.Machine.{End, acknowledged_in, adopted, refused_in}
+use Rattle.wef_source.specs.declared.messages.Delivery.{Delivery}
+use Rattle.wef_machine.specs.Arming.{fate}
+use Rattle.wef_machine.specs.Collecting.{at_collector, with_call, print_at_collector}
+use Rattle.wef_machine.specs.Printed.{adopted_word, answered_line, fate_word, fault_answer, no_message_line, took_line}
+use Rattle.wef_machine.specs.Sources.{at_source, print_at_slot}
+use Rattle.wef_machine.specs.States.{Slot, State, host, moment, next_number, slot_of, with_end, with_message}
+use Rattle.wef_machine.specs.declared.arming.Fate.{Fate}
+use Rattle.wef_machine.specs.declared.arming.Fate.TheVariants.{Done, Failed, Stopped}
+use Rattle.wef_machine.specs.declared.messages.Message.{Message}
+use Rattle.wef_machine.specs.declared.messages.Message.TheVariants as sent
+
+-- what a batch for a subscription and of a source does: the changes that are committed, or the fault that answers it
+abbrev pub BatchEffect : Type 0
+BatchEffect = Result (List Change) FaultName
+
+-- Nobody subscribed by the name, or it has ended; or the batch isn't well-formed.
+abbrev pub batch_effect_by : Rows → List ℕ → List ℕ → Batch → state_of.Standing → BatchEffect
+batch_effect_by rows u s batch is.Unknown = Err DestinationUnreachable
+batch_effect_by rows u s batch (is.Ended old) = Err DestinationUnreachable
+batch_effect_by rows u s batch (is.Live about) =
+    if is_well_formed (channels_read about) batch then Ok (batch_changes rows u s (channels_read about) batch moment) else Err InvalidMessage
+
+abbrev pub batch_effect : Rows → List ℕ → List ℕ → Batch → BatchEffect
+batch_effect rows u s batch = batch_effect_by rows u s batch (standing rows u)
+
+-- the fault that answers a batch of a source whose address leads to none
+abbrev pub sourceless : state_of.Standing → FaultName
+sourceless is.Unknown = DestinationUnreachable
+sourceless (is.Ended old) = DestinationUnreachable
+sourceless (is.Live about) = InvalidMessage
+
+-- what a delivery to an address does: it may lead to no subscription, or to no source
+abbrev pub effect_at : Rows → Option (List ℕ) → Option (List ℕ) → Batch → BatchEffect
+effect_at rows None s batch = Err DestinationUnreachable
+effect_at rows (Some u) None batch = Err (sourceless (standing rows u))
+effect_at rows (Some u) (Some s) batch = batch_effect rows u s batch
+
+abbrev pub delivery_effect : Rows → Delivery → BatchEffect
+delivery_effect rows delivery = effect_at rows (subscription_in delivery.notify_to) (source_in delivery.notify_to) delivery.batch
+
+-- the collector's answer to a batch that it commits, where it is committed: none where none is asked for
+abbrev pub answer_done : List ℕ → Delivery → Option Message
+answer_done s delivery = if delivery.batch.ack_wanted then Some (sent.Ack s delivery.id) else None
+
+-- its answer by how the commit went: nobody answers where the collector was stopped in it
+abbrev pub answer_by : Fate → List ℕ → Delivery → Option Message
+answer_by Done s delivery = answer_done s delivery
+answer_by Failed s delivery = Some (sent.Fault s delivery.id InternalError)
+answer_by Stopped s delivery = None
+
+-- its answer to a delivery
+abbrev pub answer_with : State → BatchEffect → List ℕ → Delivery → Option Message
+answer_with state (Ok changes) s delivery = answer_by (fate state.collector.armed changes) s delivery
+answer_with state (Err fault) s delivery = Some (sent.Fault s delivery.id fault)
+
+-- the word for a batch that is committed
+abbrev pub batch_word : Batch → Fate → List ℕ
+batch_word batch Done = if batch.ack_wanted then codes "ack" else codes "quiet"
+batch_word batch Failed = fault_answer InternalError
+batch_word batch Stopped = codes "stopped"
+
+-- the word for what became of a batch
+abbrev pub answer_word : State → BatchEffect → Batch → List ℕ
+answer_word state (Ok changes) batch = batch_word batch (fate state.collector.armed changes)
+answer_word state (Err fault) batch = fault_answer fault
+
+-- the world with an answer, where there is one
+abbrev pub with_answer : State → Option Message → State
+with_answer state None = state
+with_answer state (Some message) = with_message state message
+
+-- what is printed of message k, by the word for it and the number of the answer, where there is one
+abbrev pub took_text : ℕ → List ℕ → Option Message → ℕ → List ℕ
+took_text k word None j = took_line k word
+took_text k word (Some answer) j = answered_line k word j
+
+-- an open collector takes a delivery of a source with this effect
+abbrev pub events_by : State → BatchEffect → List ℕ → Delivery → State
+events_by state effect s delivery = with_answer (with_call state effect) (answer_with state effect s delivery)
+
+abbrev pub events_at : List ℕ → Delivery → State → State
+events_at s delivery state = events_by state (delivery_effect state.collector.rows delivery) s delivery
+
+abbrev pub events_text_by : State → BatchEffect → ℕ → List ℕ → Delivery → List ℕ
+events_text_by state effect k s delivery =
+    took_text k (answer_word state effect delivery.batch) (answer_with state effect s delivery) (next_number state)
+
+abbrev pub events_text : ℕ → List ℕ → Delivery → State → List ℕ
+events_text k s delivery state = events_text_by state (delivery_effect state.collector.rows delivery) k s delivery
+
+-- an open collector takes an ask of a source
+abbrev pub offers_at : List ℕ → MessageId → State → State
+offers_at s id state = with_message state (sent.Offers s id (offers state.collector.rows s host))
+
+abbrev pub offers_text : ℕ → State → List ℕ
+offers_text k state = answered_line k (codes "offers") (next_number state)
+
+-- what is printed of message k where its end can't be opened
+abbrev pub closed_text : ℕ → Fate → List ℕ
+closed_text k fate = took_line k (fate_word fate)
+
+-- a source takes offers
+abbrev pub after_offers : End → MessageId → List Offer → End
+after_offers end relates given = if ids_agree end.ask relates.value then adopted end given moment else end
+
+abbrev pub offers_word : End → MessageId → List Offer → List ℕ
+offers_word end relates given =
+    if ids_agree end.ask relates.value then adopted_word (length (adopted end given moment).sessions) else codes "not-asked"
+
+-- a source takes an acknowledgement of an id
+abbrev pub acknowledged_by : End → Option ℕ → End
+acknowledged_by end None = end
+acknowledged_by end (Some id) = acknowledged_in end id
+
+abbrev pub after_ack : End → MessageId → End
+after_ack end relates = if is_some (waiting_for end relates.value) then acknowledged_by end relates.value else end
+
+abbrev pub ack_word : End → MessageId → List ℕ
+ack_word end relates = if is_some (waiting_for end relates.value) then codes "moved" else codes "not-asked"
+
+-- a source takes a fault
+abbrev pub refused_by : End → Option ℕ → FaultName → End
+refused_by end None fault = end
+refused_by end (Some id) fault = refused_in end id fault
+
+abbrev pub after_fault : End → MessageId → FaultName → End
+after_fault end relates fault = if is_some (waiting_for end relates.value) then refused_by end relates.value fault else end
+
+abbrev pub fault_word : End → MessageId → List ℕ
+fault_word end relates = if is_some (waiting_for end relates.value) then codes "refused" else codes "not-asked"
+
+-- a source takes a message
+abbrev pub end_at : List ℕ → (End → End) → State → Slot → End → State
+end_at s change state slot end = with_end state s slot (change end)
+
+abbrev pub word_text : ℕ → (End → List ℕ) → State → Slot → End → List ℕ
+word_text k word state slot end = took_line k (word end)
+
+-- what is printed of message k for a source; one that isn't declared asked for nothing
+abbrev pub source_text : State → ℕ → List ℕ → (End → List ℕ) → Option Slot → List ℕ
+source_text state k s word None = took_line k (codes "not-asked")
+source_text state k s word (Some slot) = print_at_slot state s (Some slot) (closed_text k) (word_text k word)
+
+-- the world after the delivery of a message
+abbrev pub taken_by : State → Message → State
+taken_by state (sent.Ask s id) = at_collector state (offers_at s id)
+taken_by state (sent.Offers s relates given) = at_source state s (end_at s (λ end. after_offers end relates given))
+taken_by state (sent.Events s delivery) = at_collector state (events_at s delivery)
+taken_by state (sent.Ack s relates) = at_source state s (end_at s (λ end. after_ack end relates))
+taken_by state (sent.Fault s relates fault) = at_source state s (end_at s (λ end. after_fault end relates fault))
+
+-- what is printed of it, by its number
+abbrev pub taken_text : State → ℕ → Message → List ℕ
+taken_text state k (sent.Ask s id) = print_at_collector state (closed_text k) (offers_text k)
+taken_text state k (sent.Offers s relates given) = source_text state k s (λ end. offers_word end relates given) (slot_of state s)
+taken_text state k (sent.Events s delivery) = print_at_collector state (closed_text k) (events_text k s delivery)
+taken_text state k (sent.Ack s relates) = source_text state k s (λ end. ack_word end relates) (slot_of state s)
+taken_text state k (sent.Fault s relates fault) = source_text state k s (λ end. fault_word end relates) (slot_of state s)
+
+-- the message of a number
+abbrev pub message_at : State → ℕ → Option Message
+message_at state k = if k == 0 then None else slice_get state.messages (k - 1)
+
+abbrev pub deliver_message : State → Option Message → State
+deliver_message state None = state
+deliver_message state (Some message) = taken_by state message
+
+abbrev pub deliver_text : State → ℕ → Option Message → List ℕ
+deliver_text state k None = no_message_line k
+deliver_text state k (Some message) = taken_text state k message
+
+abbrev pub deliver_step : State → ℕ → State
+deliver_step state k = deliver_message state (message_at state k)
+
+abbrev pub deliver_printed : State → ℕ → List ℕ
+deliver_printed state k = deliver_text state k (message_at state k)
+
+-- the number of the message that `back N` delivers: 0 where none was sent
+abbrev pub number_back : State → ℕ → ℕ
+number_back state n = if length state.messages == 0 then 0 else length state.messages - n % length state.messages

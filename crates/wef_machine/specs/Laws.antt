@@ -1,0 +1,68 @@
+-- What a schedule promises beside its steps.
+use Rattle.std.specs.List.{AllByRecursion}
+use Rattle.std.specs.Prelude.{◌≡◌, ◌≤◌, List, ℕ, true, None, codes}
+use Rattle.wef_batch.specs.declared.items.Batch.{Batch}
+use Rattle.wef_batch.specs.Reach.{reach}
+use Rattle.wef_batch.specs.WellFormed.{is_in, is_well_formed}
+use Rattle.wef_bookmark.specs.Order.{Marks, number_at}
+use Rattle.wef_collector.specs.Answers.{channels_read}
+use Rattle.wef_collector.specs.Bookmarks.{bookmark_at}
+use Rattle.wef_collector.specs.Laws.{moved}
+use Rattle.wef_collector.specs.Taken.{taken}
+use Rattle.wef_collector.specs.Standing.{standing}
+use Rattle.wef_collector.specs.declared.standings.Standing.TheVariants.{Live}
+use Rattle.wef_eventing.specs.declared.subscriptions.Subscription.{Subscription}
+use Rattle.wef_keeper.specs.Rows.{Rows}
+use Rattle.wef_source.specs.Fits.{Fits}
+use Rattle.wef_source_log.specs.Histories.{Histories, history}
+use Rattle.wef_replay.specs.declared.lines.Line.{Line}
+use Rattle.wef_machine.specs.Kept.{IsKept}
+use Rattle.wef_machine.specs.Safe.{IsPairSafe, IsSafe}
+use Rattle.wef_machine.specs.States.{State, start}
+use Rattle.wef_machine.specs.Steps.{AreAdmitted, admits, states, step}
+use Rattle.wef_machine.specs.Deliveries.{answer_word, batch_effect}
+
+-- A well-formed batch for a live subscription that asks for an acknowledgement gets it, unless its commit fails as it is
+-- armed to.
+abbrev pub AcknowledgementIsGiven : Type 0
+AcknowledgementIsGiven = (state : State) (u s : List ℕ) (about : Subscription) (batch : Batch) →
+    standing state.collector.rows u ≡ Live about → is_well_formed (channels_read about) batch ≡ true → batch.ack_wanted ≡ true → state.collector.armed ≡ None →
+    answer_word state (batch_effect state.collector.rows u s batch) batch ≡ codes "ack"
+
+-- What is kept of a pair stays safe when a batch is taken that fits the source's histories above some bookmark, though
+-- the kept one may be further by now. The kept bookmark is then the greater of the old one and the batch's reach.
+abbrev pub FittingBatchesAreSafe : Type 0
+FittingBatchesAreSafe = (rows : Rows) (u s c : List ℕ) (about : Subscription) (all : Histories) (capacity : ℕ) (b : Marks) (batch : Batch) (now : ℕ) →
+    is_in (channels_read about) c ≡ true →
+    IsPairSafe rows u s c about (history all c) capacity →
+    Fits about.query about.max_bytes all capacity b batch → number_at b c ≤ bookmark_at rows u s c →
+    IsPairSafe (taken rows u s (channels_read about) batch now) u s c about (history all c) capacity
+    × (bookmark_at (taken rows u s (channels_read about) batch now) u s c ≡ moved (bookmark_at rows u s c) (reach c batch))
+
+-- In a world in which nothing has happened all is kept.
+abbrev pub StartIsKept : Type 0
+StartIsKept = IsKept start
+
+-- The step of a line that the world admits keeps all.
+abbrev pub StepsKeep : Type 0
+StepsKeep = (state : State) (line : Line) → IsKept state → admits state line ≡ true → IsKept (step line state)
+
+-- Where all is kept, what is kept is safe.
+abbrev pub KeptIsSafe : Type 0
+KeptIsSafe = (state : State) → IsKept state → IsSafe state
+
+-- each state of a run of lines is kept
+abbrev pub AreKept : List Line → Type 0
+AreKept lines = AllByRecursion IsKept (states lines)
+
+-- each state of a run of lines is safe
+abbrev pub AreSafe : List Line → Type 0
+AreSafe lines = AllByRecursion IsSafe (states lines)
+
+-- In every state of a good schedule all is kept.
+abbrev pub SchedulesAreKept : Type 0
+SchedulesAreKept = (lines : List Line) → AreAdmitted start lines → AreKept lines
+
+-- In every state of a good schedule what is kept is safe.
+abbrev pub SchedulesAreSafe : Type 0
+SchedulesAreSafe = (lines : List Line) → AreAdmitted start lines → AreSafe lines

@@ -1,0 +1,11 @@
+pub mod Admitting
+pub mod Arming
+pub mod Collecting
+pub mod Deliveries
+pub mod Kept
+pub mod Laws
+pub mod Printed
+pub mod Safe
+pub mod Sources
+pub mod States
+pub mod Steps

@@ -1,0 +1,35 @@
+//! What a schedule promises beside its steps, as contracts.
+
+ghost use Rattle.wef_machine.specs.Admitting.{GoodLinesAreAdmitted};
+ghost use Rattle.wef_machine.specs.Laws.{AcknowledgementIsGiven, FittingBatchesAreSafe, KeptIsSafe, SchedulesAreKept, SchedulesAreSafe, StartIsKept, StepsKeep};
+
+/// A well-formed batch for a live subscription that asks for an acknowledgement gets it.
+pub fn acknowledgement()
+    ensures { AcknowledgementIsGiven }
+{}
+
+/// A batch that fits what a source wrote keeps safe what is kept of it.
+pub fn fitting_batches()
+    ensures { FittingBatchesAreSafe }
+{}
+
+/// What a world keeps from its start on, step by step, whatever it is delivered and in which order.
+pub fn steps_keep()
+    ensures start { StartIsKept }
+    ensures steps { StepsKeep }
+    ensures safe { KeptIsSafe }
+{}
+
+/// Whatever a good schedule does, what the collector holds of each declared source is, up to the
+/// bookmark, just what the subscription selects of all that the source wrote, each record once and in
+/// order, but for records that are marked as dropped; and only records that were overwritten or are
+/// too large are marked. Every batch that was acknowledged lies within that bookmark.
+pub fn law_safe()
+    ensures kept { SchedulesAreKept }
+    ensures safe { SchedulesAreSafe }
+{}
+
+/// The world admits each line of a schedule whose lines are good.
+pub fn good_lines_are_admitted()
+    ensures { GoodLinesAreAdmitted }
+{}

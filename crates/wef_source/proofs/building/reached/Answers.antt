@@ -1,0 +1,68 @@
+use Rattle.std.proofs.Common.{◌≡◌, true, suc, ◌+◌, ◌∷◌, ◌<◌, ◌∙◌, add-one, ap, arith, drop, drop-cons, length, refl, subst, sym, None}
+use Rattle.std.specs.Prelude.{is_some}
+use Rattle.std.specs.FinMap as map
+use Rattle.std.specs.Option.{option_to_list}
+use Rattle.wef_bookmark.specs.Order.{Marks}
+use Rattle.wef_keeper.specs.Rows.{Rows}
+use Rattle.wef_source.specs.Building.{reaches, with_reach, with_reaches}
+use Rattle.wef_source.specs.Drafting.{stop_at}
+use Rattle.wef_source.specs.Serving.{HasAll}
+use Rattle.wef_source_log.specs.Windows.{last_of}
+use Rattle.wef_source.proofs.Covering.{has_nothing}
+use Rattle.wef_source.proofs.Drafts.{reach_read}
+use Rattle.wef_source.proofs.Polling.{item_in, reach_there}
+use Rattle.wef_source.proofs.Told.{any_told, read_itself, read_twice, told_since}
+use Rattle.wef_source.proofs.building.reached.Goals as goal
+
+pub loop-channel-init : goal.loop-channel-init
+loop-channel-init g c =
+    let store = g.K.Keeper.store c.args.log.now.keeper in
+    let positions = c.args.session.now.positions in
+    let channels = c.args.channels.now in
+    let left = option_to_list c.args.left.now in
+    record {
+      read = read_itself store c.requires.ready;
+      covered = subst (HasAll positions) (sym c.new-to.ensures) (has_nothing positions);
+      rest = any_told (λ (rows : Rows). with_reaches positions c.new-to.result (reaches rows channels left) ≡ with_reaches positions map.empty (reaches rows channels left)) store.rows
+          (λ rows. ap (λ (to : Marks). with_reaches positions to (reaches rows channels left)) c.new-to.ensures);
+    }
+
+pub returns-in-Some-clause-covered : goal.returns-in-Some-clause-covered
+returns-in-Some-clause-covered g c =
+    let all = c.args.channels.now in
+    let index = c.loop-channel.channel-index in
+    let channel = c.channel-item.result in
+    let positions = c.args.session.now.positions in
+    let within : index < length all = omega arith in
+    let parts : drop index all ≡ channel ∷ drop (suc index) all = drop-cons all index channel within ∙ ap (λ x. x ∷ drop (suc index) all) (sym c.channel-item.is) in
+    let there = c.requires.covered channel (item_in all (drop (suc index) all) index channel parts) in
+    subst (HasAll positions) (sym c.in_ok-raise_above.ensures.ok) (reach_there positions positions c.loop-channel.to (channel, c.in-Some.number) there c.loop-channel.invariant.covered)
+
+pub loop-channel-preserved : goal.loop-channel-preserved
+loop-channel-preserved g c =
+    let all = c.args.channels.now in
+    let index = c.loop-channel.channel-index in
+    let channel = c.channel-item.result in
+    let positions = c.args.session.now.positions in
+    let within : index < length all = omega arith in
+    let behind = drop (index + 1) all in
+    let parts : drop index all ≡ channel ∷ behind = rw (add-one) (drop-cons all index channel within ∙ ap (λ x. x ∷ drop (suc index) all) (sym c.channel-item.is)) in
+    let there = c.requires.covered channel (item_in all behind index channel parts) in
+    let left = c.args.left.now in
+    let none : stop_at channel left ≡ None = cc in
+    let to = c.loop-channel.to in
+    let next = c.raise_above-in-loop-channel.new.to in
+    let start = g.K.Keeper.store c.args.log.now.keeper in
+    let mid = g.K.Keeper.store c.loop-channel.log.keeper in
+    let now = g.K.Keeper.store c.last_ready.new.self.keeper in
+    record {
+      read = read_twice start mid now c.loop-channel.invariant.read c.in_ok-last.ensures.reads.0;
+      covered = subst (HasAll positions) (sym c.in_ok-raise_above-2.ensures.ok) (reach_there positions positions c.loop-channel.to (channel, c.in_ok-last.last) there c.loop-channel.invariant.covered);
+      rest = told_since
+          (λ (rows : Rows). with_reaches positions to (reaches rows (drop index all) (option_to_list left)) ≡ with_reaches positions map.empty (reaches rows all (option_to_list left)))
+          (λ (rows : Rows). c.in_ok-last.last ≡ last_of rows channel)
+          (λ (rows : Rows). with_reaches positions next (reaches rows behind (option_to_list left)) ≡ with_reaches positions map.empty (reaches rows all (option_to_list left)))
+          mid.rows now.rows c.in_ok-last.ensures.reads.0.1
+          (λ rows before read. reach_read rows positions to next channel c.in_ok-last.last left behind (drop index all) none read c.in_ok-raise_above-2.ensures.ok parts ∙ before)
+          c.loop-channel.invariant.rest c.in_ok-last.ensures.ok;
+    }

@@ -1,0 +1,110 @@
+use Rattle.std.proofs.Common.{◌≡◌, ◌+◌, ◌<◌, ◌∙◌, ap, arith, refl, sym, subst, set, true, IfSome, Some, None}
+use Rattle.std.specs.Prelude.{is_some}
+use Rattle.std.specs.List.{position}
+use Rattle.std.specs.Cmp.Lexicographic.{same_text}
+use Rattle.std.proofs.lemmas.Result.{err_from_is_err_and}
+use Rattle.wef_keeper.specs.Rows.{Rows}
+use Rattle.wef_source_log.specs.Forms.{AreFormed}
+use Rattle.wef_source.specs.Answers.{Polls, RefusesPoll}
+use Rattle.wef_source.specs.Machine.{End, is_spent, most_drawn}
+use Rattle.wef_source.specs.Prepared.{MayDraw, Prepares, RefusesToPrepare}
+use Rattle.wef_source.specs.Serving.{HasAll}
+use Rattle.wef_source.specs.Sessions.{is_named, sending, session_of}
+use Rattle.wef_source.specs.declared.messages.Poll.TheVariants.{Nothing, Send}
+use Rattle.wef_source.specs.declared.sessions.Session.{Session}
+use Rattle.wef_source.proofs.Cases.{le_fails}
+use Rattle.wef_source.proofs.Covering.{read_covered}
+use Rattle.wef_source.proofs.Places.{changed_at, first_at, first_nowhere, passes_at, same_session, within_at}
+use Rattle.wef_source.proofs.Polling.{may_refuse, polls_nothing, polls_send, refuses_poll, sends_next, sent_kept}
+use Rattle.wef_source.proofs.Told.{any_told, if_told, opens_itself}
+use Rattle.wef_source.proofs.memories.Memory.poll.Goals as goal
+
+pub returns-in_default-clause-refusal : goal.returns-in_default-clause-refusal
+returns-in_default-clause-refusal g c =
+    let u = c.args.sub.now in
+    let none : position (is_named u) c.self.inside.sessions.items ≡ None = cc in
+    any_told (λ (rows : Rows). session_of c.args.self.now.sessions u ≡ None) (g.K.Keeper.store c.args.log.now.keeper).rows
+    (λ rows. ap (λ (e : End). session_of e.sessions u) (sym c.self.view_is) ∙ first_nowhere (is_named u) c.self.inside.sessions.items none)
+
+pub returns-in_default-clause-listed : goal.returns-in_default-clause-listed
+returns-in_default-clause-listed g c =
+    let u = c.args.sub.now in
+    let none : position (is_named u) c.self.inside.sessions.items ≡ None = cc in
+    ap (λ (e : End). session_of e.sessions u) (sym c.self.view_is) ∙ first_nowhere (is_named u) c.self.inside.sessions.items none
+
+pub returns-in_default-clause-reads : goal.returns-in_default-clause-reads
+returns-in_default-clause-reads g c = opens_itself AreFormed (g.K.Keeper.store c.args.log.now.keeper)
+
+pub prepared-requires : goal.prepared-requires
+prepared-requires g c =
+    let at : position (is_named c.args.sub.now) c.self.inside.sessions.items ≡ Some c.in-Some.place = cc in
+    read_covered c.self.inside.sessions.items c.in-Some.place c.index.result.now c.self.invariant.covered (within_at (is_named c.args.sub.now) c.self.inside.sessions.items c.in-Some.place at) c.index.ensures
+
+pub returns-in_err-delivery-clause-refusal : goal.returns-in_err-delivery-clause-refusal
+returns-in_err-delivery-clause-refusal g c =
+    let u = c.args.sub.now in
+    let at : position (is_named u) c.self.inside.sessions.items ≡ Some c.in-Some.place = cc in
+    let found = ap (λ (e : End). session_of e.sessions u) (sym c.self.view_is) ∙ first_at (is_named u) c.self.inside.sessions.items c.in-Some.place c.index.result.now at c.index.ensures in
+    let p = err_from_is_err_and c.from_residual.result c.from_residual.ensures.1 in
+    let fault = c.in_err-delivery.field-0.0 in
+    rw (p.1, p.2) (if_told (λ (rows : Rows). RefusesToPrepare rows c.args.self.now c.index.result.now fault) (λ (rows : Rows). RefusesPoll fault rows c.args.self.now u) (g.K.Keeper.store c.prepared.new.log.keeper).rows
+    (λ rows h. refuses_poll rows c.args.self.now u c.index.result.now fault found h) c.in_err-delivery.ensures.refusal)
+
+pub returns-in_err-delivery-clause-listed : goal.returns-in_err-delivery-clause-listed
+returns-in_err-delivery-clause-listed g c =
+    let u = c.args.sub.now in
+    let at : position (is_named u) c.self.inside.sessions.items ≡ Some c.in-Some.place = cc in
+    let found = ap (λ (e : End). session_of e.sessions u) (sym c.self.view_is) ∙ first_at (is_named u) c.self.inside.sessions.items c.in-Some.place c.index.result.now at c.index.ensures in
+    let p = err_from_is_err_and c.from_residual.result c.from_residual.ensures.1 in
+    rw (p.1, p.2) (may_refuse c.args.self.now u c.in_err-delivery.field-0.0 (ap is_some found) c.in_err-delivery.ensures.listed)
+
+pub returns-in_default-2-clause-ok : goal.returns-in_default-2-clause-ok
+returns-in_default-2-clause-ok g c =
+    let u = c.args.sub.now in
+    let at : position (is_named u) c.self.inside.sessions.items ≡ Some c.in-Some.place = cc in
+    let found = ap (λ (e : End). session_of e.sessions u) (sym c.self.view_is) ∙ first_at (is_named u) c.self.inside.sessions.items c.in-Some.place c.index.result.now at c.index.ensures in
+    if_told (λ (rows : Rows). Prepares rows c.args.self.now c.index.result.now c.in_ok-delivery.field-0) (λ (rows : Rows). Polls rows c.args.self.now c.args.self.now u c.args.now Nothing) (g.K.Keeper.store c.prepared.new.log.keeper).rows
+    (λ rows h. polls_nothing rows c.args.self.now u c.args.now c.index.result.now found (subst (Prepares rows c.args.self.now c.index.result.now) c.in_default-2.is h)) c.in_ok-delivery.ensures.ok
+
+pub invariant_of-self : goal.invariant_of-self
+invariant_of-self g c =
+    let at : position (is_named c.args.sub.now) c.self.inside.sessions.items ≡ Some c.in-Some.place = cc in
+    let draws = subst (MayDraw c.args.self.now c.index.result.now) c.in-Some-2.is c.in_ok-delivery.ensures.draws in
+    let one = same_session (is_named c.args.sub.now) c.self.inside.sessions.items c.in-Some.place c.index.result.now c.index_mut.result.now at c.index.ensures c.index_mut.ensures.value in
+    let changed = changed_at (is_named c.args.sub.now) (sending c.in-Some-2.outstanding c.args.now) c.self.inside.sessions.items c.in-Some.place c.index_mut.result.now c.send.new.session at c.index_mut.ensures.value c.send.ensures in
+    sent_kept c.args.sub.now c.args.now c.self.inside.sessions.items c.in-Some.place c.index_mut.result.now c.send.new.session c.in-Some-2.outstanding
+    c.self.invariant (within_at (is_named c.args.sub.now) c.self.inside.sessions.items c.in-Some.place at) c.index_mut.ensures.value
+    (subst (λ (s : Session). HasAll s.positions c.in-Some-2.outstanding.to) one draws.3) c.send.ensures changed
+
+pub overflow_add-self : goal.overflow_add-self
+overflow_add-self g c =
+    let draws = subst (MayDraw c.args.self.now c.index.result.now) c.in-Some-2.is c.in_ok-delivery.ensures.draws in
+    let below : c.self.inside.drawn < most_drawn = le_fails most_drawn c.self.inside.drawn (ap is_spent c.self.view_is ∙ draws.0) in
+    omega arith
+
+pub returns-clause-sends : goal.returns-clause-sends
+returns-clause-sends g c =
+    let u = c.args.sub.now in
+    let at : position (is_named u) c.self.inside.sessions.items ≡ Some c.in-Some.place = cc in
+    let before : End = record { boot = c.self.inside.boot; drawn = c.self.inside.drawn; ask = c.self.inside.ask; sessions = c.self.inside.sessions.items } in
+    let draws = subst (MayDraw c.args.self.now c.index.result.now) c.in-Some-2.is c.in_ok-delivery.ensures.draws in
+    let changed = changed_at (is_named u) (sending c.in-Some-2.outstanding c.args.now) c.self.inside.sessions.items c.in-Some.place c.index_mut.result.now c.send.new.session at c.index_mut.ensures.value c.send.ensures in
+    sends_next before c.args.self.now u c.args.now c.index.result.now c.in-Some-2.delivery c.in-Some-2.outstanding (set c.self.inside.sessions.items c.in-Some.place c.send.new.session) c.self.view_is draws changed
+
+pub returns-clause-ok : goal.returns-clause-ok
+returns-clause-ok g c =
+    let u = c.args.sub.now in
+    let end = c.args.self.now in
+    let s = c.index.result.now in
+    let delivery = c.in-Some-2.delivery in
+    let outstanding = c.in-Some-2.outstanding in
+    let at : position (is_named u) c.self.inside.sessions.items ≡ Some c.in-Some.place = cc in
+    let found = ap (λ (e : End). session_of e.sessions u) (sym c.self.view_is) ∙ first_at (is_named u) c.self.inside.sessions.items c.in-Some.place s at c.index.ensures in
+    let before : End = record { boot = c.self.inside.boot; drawn = c.self.inside.drawn; ask = c.self.inside.ask; sessions = c.self.inside.sessions.items } in
+    let ss = set c.self.inside.sessions.items c.in-Some.place c.send.new.session in
+    let changed = changed_at (is_named u) (sending outstanding c.args.now) c.self.inside.sessions.items c.in-Some.place c.index_mut.result.now c.send.new.session at c.index_mut.ensures.value c.send.ensures in
+    let name = same_text s.name u (sym (passes_at (is_named u) c.self.inside.sessions.items c.in-Some.place s at c.index.ensures)) in
+    if_told (λ (rows : Rows). Prepares rows end s c.in_ok-delivery.field-0) (λ (rows : Rows). Polls rows end (record before { drawn = before.drawn + 1; sessions = ss }) u c.args.now (Send delivery))
+    (g.K.Keeper.store c.prepared.new.log.keeper).rows
+    (λ rows h. polls_send rows before end u c.args.now s delivery outstanding ss c.self.view_is found name (subst (Prepares rows end s) c.in-Some-2.is h) changed)
+    c.in_ok-delivery.ensures.ok

@@ -1,0 +1,298 @@
+//! What a source remembers while it runs. It is lost where the source ends.
+
+ghost use Rattle.std.specs.Prelude.{◌≡◌, [], false, true, is_some, IfOk, IfErr, IfSome, OnOk, OnErr};
+ghost use Rattle.wef_envelope.specs.Ids.{ids_agree};
+ghost use Rattle.wef_keeper.specs.Access as access;
+ghost use Rattle.wef_query.specs.Order.{IsInOrder};
+ghost use Rattle.wef_source_log.specs.Forms.{AreFormed};
+ghost use Rattle.wef_source.specs.Answers as answers;
+ghost use Rattle.wef_source.specs.Answers.{fails};
+ghost use Rattle.wef_source.specs.Machine as machine;
+ghost use Rattle.wef_source.specs.Prepared.{MayDraw, MayRefuseToPrepare, Prepares, RefusesToPrepare};
+ghost use Rattle.wef_source.specs.Serving.{IsCovered};
+ghost use Rattle.wef_source.specs.Sessions as the_sessions;
+
+use crate::adopting::sessions_of;
+use crate::building::built;
+use crate::faults::SourceFault;
+use crate::messages::{Delivery, Moved, Poll, Reply};
+use crate::serving::{move_waiting, place_of_name, refuse_waiting, send, settle_named};
+use crate::sessions::{Outstanding, Session, copied};
+use std::alloc::{AllocError, Global};
+use std::marker::Model;
+use wef_base::{List, SubId, Text};
+use wef_envelope::{FaultName, MessageId};
+use wef_eventing::Offer;
+use wef_keeper::Keeper;
+use wef_source_log::Log;
+
+/// What a source remembers: the ids that it drew, its ask, and its sessions.
+#[derive(Drop)]
+pub struct Memory {
+    /// The start number, with which its ids begin.
+    boot: u64,
+    /// How many ids were drawn since the start.
+    drawn: u64,
+    /// The value of the id of the last ask that wasn't answered.
+    ask: Option<u128>,
+    /// In the order of their names.
+    sessions: Vec<Session>,
+    alloc: Global,
+}
+
+impl Model for Memory {
+    ghost use Rattle.std.specs.Prelude.{ℕ, List, Option, refl};
+    ghost use Rattle.std.specs.Coded.{code_by, coded_ℕ, coded_list, coded_option, coded×};
+    ghost use Rattle.wef_source.specs.Machine.{End};
+    ghost use Rattle.wef_source.specs.Serving.{AreKept};
+    ghost use Rattle.wef_source.specs.contracts.sessions.Session as session;
+    ghost use Rattle.wef_source.specs.declared.sessions.Session.{Session};
+
+    ghost Value = { End };
+
+    ghost coded = { code_by (ℕ × (ℕ × (Option ℕ × List Session)))
+        (coded× coded_ℕ (coded× coded_ℕ (coded× (coded_option coded_ℕ) (coded_list session.the_row.coded))))
+        (λ e. (e.boot, (e.drawn, (e.ask, e.sessions)))) (λ p. record { boot = p.0; drawn = p.1.0; ask = p.1.1.0; sessions = p.1.1.1 }) (λ _. refl) };
+
+    ghost view = { λ m. record { boot = m.boot; drawn = m.drawn; ask = m.ask; sessions = m.sessions.items } };
+
+    ghost invariant = { λ m. AreKept m.sessions.items };
+}
+
+impl Memory {
+    /// What a source remembers that was just started. It takes no memory.
+    pub fn new(alloc: Global, boot: u64) -> Memory
+        ensures { result ≡ machine.start_of boot }
+    {
+        Memory {
+            boot,
+            drawn: 0,
+            ask: None,
+            sessions: Vec::new(alloc),
+            alloc,
+        }
+    }
+
+    /// The start number.
+    pub fn boot(&self) -> u64
+        ensures { result ≡ self.now.boot }
+    {
+        self.boot
+    }
+
+    /// Draws the id of an ask for subscriptions. An older ask isn't answered any more. It takes no memory.
+    pub fn ask(&mut self) -> Result<MessageId, SourceFault>
+        ensures ok { IfOk result (answers.Asks self.old self.new) }
+        ensures refusal { IfErr result (λ fault. answers.RefusesAsk fault self.old) }
+        ensures err { OnErr result (self.new ≡ self.old) }
+    {
+        let id = self.next_id()?;
+        self.drawn += 1;
+        self.ask = Some(id);
+        Ok(message_id(self.alloc, id))
+    }
+
+    /// Takes the offers that answer the ask, at a moment: the sessions are theirs from now on, and begin where
+    /// the offers say. Of two offers of one name the later stands; one whose address leads to no subscription
+    /// is passed over. Answers how many sessions there are.
+    pub fn adopt(
+        &mut self,
+        relates: &MessageId,
+        offers: &List<Offer>,
+        now: u64,
+    ) -> Result<u64, SourceFault>
+        ensures ok { IfOk result (answers.Adopts self.old self.new relates.now offers.now now) }
+        ensures refusal { IfErr result (λ fault. answers.RefusesAdopt fault self.old relates.now) }
+        ensures err { OnErr result (self.new ≡ self.old) }
+    {
+        if !agree(self.ask, relates.value) {
+            return Err(SourceFault::NotAsked);
+        }
+        let sessions = sessions_of(self.alloc, offers, now)?;
+        let count = sessions.len() as u64;
+        self.sessions = sessions;
+        self.ask = None;
+        Ok(count)
+    }
+
+    /// The names of the sessions' subscriptions, in the order of their bytes.
+    pub fn sessions(&self) -> Result<List<SubId>, SourceFault>
+        ensures ok { IfOk result (λ names. names ≡ the_sessions.names_of self.now.sessions) }
+        ensures in_order { IfOk result IsInOrder }
+        ensures refusal { IfErr result answers.WantsMemory }
+    {
+        Ok(names_of(self.alloc, self.sessions.as_slice())?)
+    }
+
+    /// What a session has to send at a moment: a batch, unless the answer to one is outstanding or there is none.
+    /// The log is read only where no answer is outstanding.
+    pub fn poll<K: Keeper>(
+        &mut self,
+        log: &mut Log<K>,
+        sub: &SubId,
+        now: u64,
+    ) -> Result<Poll, SourceFault>
+        ensures ok { IfSome (K.store log.new.keeper).rows (λ rows. IfOk result (answers.Polls rows self.old self.new sub.now now)) }
+        ensures refusal { IfSome (K.store log.new.keeper).rows (λ rows. IfErr result (λ fault. answers.RefusesPoll fault rows self.old sub.now)) }
+        ensures sends { IfOk result (answers.Sends self.old self.new sub.now now) }
+        ensures listed { IfErr result (λ fault. answers.MayRefusePoll fault self.old sub.now) }
+        ensures err { OnErr result (self.new ≡ self.old) }
+        ensures reads { access.OpensAndReads AreFormed (fails result) (K.store log.old.keeper) (K.store log.new.keeper) }
+    {
+        let Some(place) = place_of_name(self.sessions.as_slice(), sub) else {
+            return Err(SourceFault::UnknownSubscription);
+        };
+        let Some((delivery, outstanding)) = self.prepared(log, &self.sessions[place])? else {
+            return Ok(Poll::Nothing);
+        };
+        self.drawn += 1;
+        send(&mut self.sessions[place], outstanding, now);
+        Ok(Poll::Send(delivery))
+    }
+
+    /// Takes the answer to a delivery. It takes no memory.
+    pub fn on_reply(&mut self, relates: &MessageId, reply: &Reply) -> Result<Moved, SourceFault>
+        ensures ok { IfOk result (answers.Answers self.old self.new relates.now reply.now) }
+        ensures refusal { IfErr result (λ fault. answers.RefusesAnswer fault self.old relates.now) }
+        ensures err { OnErr result (self.new ≡ self.old) }
+    {
+        let Some(id) = relates.value else {
+            return Err(SourceFault::NotAsked);
+        };
+        match reply {
+            Reply::Ack => self.take_ack(id),
+            Reply::Fault(fault) => self.take_fault(id, fault),
+        }
+    }
+
+    /// Gives up waiting for the answer to a session's delivery. It takes no memory.
+    pub fn on_lost(&mut self, sub: &SubId) -> Result<(), SourceFault>
+        ensures ok { OnOk result (answers.Loses self.old self.new sub.now) }
+        ensures refusal { IfErr result (λ fault. answers.RefusesLost fault self.old sub.now) }
+        ensures err { OnErr result (self.new ≡ self.old) }
+    {
+        if !settle_named(&mut self.sessions, sub) {
+            return Err(SourceFault::UnknownSubscription);
+        }
+        Ok(())
+    }
+
+    fn take_ack(&mut self, id: u128) -> Result<Moved, SourceFault>
+        ensures there { OnOk result (is_some (the_sessions.waiting self.old.sessions id) ≡ true) }
+        ensures ok { IfOk result (answers.AnswersId self.old self.new id Reply.Ack) }
+        ensures refusal { IfErr result (answers.RefusesId self.old id) }
+        ensures err { OnErr result (self.new ≡ self.old) }
+    {
+        if !move_waiting(&mut self.sessions, id) {
+            return Err(SourceFault::NotAsked);
+        }
+        Ok(Moved::Moved)
+    }
+
+    fn take_fault(&mut self, id: u128, fault: &FaultName) -> Result<Moved, SourceFault>
+        ensures there { OnOk result (is_some (the_sessions.waiting self.old.sessions id) ≡ true) }
+        ensures ok { IfOk result (answers.AnswersId self.old self.new id (Reply.Fault fault.now)) }
+        ensures refusal { IfErr result (answers.RefusesId self.old id) }
+        ensures err { OnErr result (self.new ≡ self.old) }
+    {
+        if !refuse_waiting(&mut self.sessions, id, fault) {
+            return Err(SourceFault::NotAsked);
+        }
+        Ok(Moved::Refused)
+    }
+
+    /// What a session sends next, and what its answer will be awaited by. Nothing that is remembered
+    /// changes yet.
+    fn prepared<K: Keeper>(
+        &self,
+        log: &mut Log<K>,
+        session: &Session,
+    ) -> Result<Option<(Delivery, Outstanding)>, SourceFault>
+        requires { IsCovered session.now }
+        ensures ok { IfSome (K.store log.new.keeper).rows (λ rows. IfOk result (Prepares rows self.now session.now)) }
+        ensures refusal { IfSome (K.store log.new.keeper).rows (λ rows. IfErr result (RefusesToPrepare rows self.now session.now)) }
+        ensures draws { IfOk result (MayDraw self.now session.now) }
+        ensures listed { IfErr result (MayRefuseToPrepare self.now) }
+        ensures reads { access.OpensAndReads AreFormed (fails result) (K.store log.old.keeper) (K.store log.new.keeper) }
+    {
+        if session.outstanding.is_some() {
+            return Ok(None);
+        }
+        log.open()?;
+        self.prepared_ready(log, session)
+    }
+
+    /// What a session sends next that waits for no answer, from a log whose store is ready.
+    fn prepared_ready<K: Keeper>(
+        &self,
+        log: &mut Log<K>,
+        session: &Session,
+    ) -> Result<Option<(Delivery, Outstanding)>, SourceFault>
+        requires covered { IsCovered session.now }
+        requires idle { is_some session.now.outstanding ≡ false }
+        requires ready { access.IsReady (K.store log.old.keeper) }
+        ensures ok { IfSome (K.store log.new.keeper).rows (λ rows. IfOk result (Prepares rows self.now session.now)) }
+        ensures refusal { IfSome (K.store log.new.keeper).rows (λ rows. IfErr result (RefusesToPrepare rows self.now session.now)) }
+        ensures draws { IfOk result (MayDraw self.now session.now) }
+        ensures listed { IfErr result (MayRefuseToPrepare self.now) }
+        ensures reads { access.Reads AreFormed (fails result) (K.store log.old.keeper) (K.store log.new.keeper) }
+    {
+        let batch = built(self.alloc, log, session)?;
+        if batch.items.is_empty() {
+            return Ok(None);
+        }
+        let id = self.next_id()?;
+        let outstanding = Outstanding {
+            id,
+            to: batch.to.clone()?,
+        };
+        let delivery = Delivery {
+            id: message_id(self.alloc, id),
+            notify_to: session.notify_to.clone()?,
+            identifier: copied(&session.identifier)?,
+            batch,
+        };
+        Ok(Some((delivery, outstanding)))
+    }
+
+    /// The value of the next id. It isn't drawn yet.
+    fn next_id(&self) -> Result<u128, SourceFault>
+        ensures left { IfOk result (λ id. machine.is_spent self.now ≡ false) }
+        ensures id { IfOk result (λ id. id ≡ machine.next_id self.now) }
+        ensures spent { IfErr result (λ fault. answers.RefusesAsk fault self.now) }
+    {
+        if self.drawn == u64::MAX {
+            return Err(SourceFault::Spent);
+        }
+        Ok(MessageId::of(self.boot, self.drawn + 1))
+    }
+}
+
+/// Whether two values of ids are there, and the same.
+fn agree(asked: Option<u128>, given: Option<u128>) -> bool
+    ensures { result ≡ ids_agree asked given }
+{
+    match (asked, given) {
+        (Some(asked), Some(given)) => asked == given,
+        _ => false,
+    }
+}
+
+fn message_id(alloc: Global, id: u128) -> MessageId
+    ensures { result ≡ record { value = Some id; text = [] } }
+{
+    MessageId {
+        value: Some(id),
+        text: Text::new(alloc),
+    }
+}
+
+fn names_of(alloc: Global, sessions: &[Session]) -> Result<List<SubId>, AllocError>
+    ensures { IfOk result (λ names. names ≡ the_sessions.names_of sessions.now) }
+{
+    let mut names = List::new(alloc);
+    for session in sessions {
+        names.push(session.name.clone()?)?;
+    }
+    Ok(names)
+}

@@ -1,0 +1,219 @@
+-- Rows of their form: each that is read is, and what is written leaves them so.
+use Rattle.std.proofs.Common.{◌≡◌, ℕ, ◌+◌, ◌-◌, ◌<◌, ◌≤◌, ◌==◌, nat_le, nat_lt, nat_eq, Bool, true, false, cond, ◌&&◌, List, [], ◌∷◌, ◌++◌, take, length, refl, ap, sym, ◌∙◌, subst, arith, if◌then◌else◌}
+use Rattle.std.proofs.lemmas.Bool.{and_parts}
+use Rattle.std.proofs.lemmas.Bool.Decides.{nat_tests}
+use Rattle.std.proofs.lemmas.List.Elements.{All-head, All-tail, All-take, All-weaker}
+use Rattle.std.specs.Cmp.Lexicographic.{nat_list_eq_equiv}
+use Rattle.std.specs.FinMap as finite
+use Rattle.std.specs.List.{All, list_all}
+use Rattle.std.specs.Option.{option_map}
+use Rattle.std.specs.Prelude.{Option, Some, None, IfSome}
+use Rattle.wef_keeper.specs.Keeping.{row_at}
+use Rattle.wef_base.specs.Names.{channel_name}
+use Rattle.wef_keeper.specs.Laws.{get-changed}
+use Rattle.wef_keeper.specs.Rows.{Rows, applied, cell_of, cell_of_row, changed, key_cmp, key_cmp_exact, key_of, row_of}
+use Rattle.wef_keeper.specs.Sections.{rows_under}
+use Rattle.wef_keeper.specs.declared.keys.Cell.{Cell}
+use Rattle.wef_keeper.specs.declared.keys.Change.{Change}
+use Rattle.wef_keeper.specs.declared.keys.Change.TheVariants.{Delete, Put}
+use Rattle.wef_keeper.specs.declared.keys.Depth.{Depth}
+use Rattle.wef_keeper.specs.declared.keys.Key.{Key}
+use Rattle.wef_keeper.specs.declared.keys.Row.{Row}
+use Rattle.wef_source_log.specs.Forms.{AreFormed, has_number, is_bare, is_boot, is_capacity, is_channel, is_formed, is_last, is_nameless, is_read, is_record, is_whole}
+use Rattle.wef_source_log.specs.Keys.{boot_key, capacity_key, last_key, record_key}
+use Rattle.wef_source_log.specs.Laws.{FormsStay}
+use Rattle.wef_source_log.specs.Windows.{boot_of, capacity_changes, capacity_of, last_of, leaving, start_changes, started, write_changes, written}
+use Rattle.wef_source_log.proofs.Cells.{hits, tie}
+use Rattle.wef_source_log.proofs.Stands.{Stands, rows_stand}
+
+IsFormed : Row → Type 0
+IsFormed row = is_formed row ≡ true
+
+-- a row that stands is of its form
+pub formed_where : (rows : Rows) (row : Row) → AreFormed rows → Stands rows row → is_formed row ≡ true
+unfolding AreFormed
+formed_where rows row formed stands =
+    let holds = formed row.key in
+    subst (λ (found : Option Cell). IfSome found (λ cell. is_formed (row_of (row.key, cell)) ≡ true)) stands holds
+
+-- the row of a key
+pub formed_at : (rows : Rows) (key : Key) (row : Row) → AreFormed rows → Some row ≡ row_at key rows → is_formed row ≡ true
+unfolding AreFormed
+formed_at rows key row formed is = by (finite.get rows key) is (formed key)
+  where
+    by : (found : Option Cell) → Some row ≡ option_map (λ cell. row_of (key, cell)) found → IfSome found (λ cell. is_formed (row_of (key, cell)) ≡ true) → is_formed row ≡ true
+    by None is holds = cc
+    by (Some cell) is holds =
+        let same : row ≡ row_of (key, cell) = cc in
+        ap is_formed same ∙ holds
+
+all_pass : (rows : List Row) → All IsFormed rows → list_all is_formed rows ≡ true
+unfolding IsFormed
+all_pass [] all = refl
+all_pass (row ∷ rows) all = λ i. All-head IsFormed row rows all i && all_pass rows (All-tail IsFormed row rows all) i
+
+section_formed : (depth : Depth) (after : Key) (rows : Rows) → AreFormed rows → All IsFormed (rows_under depth after rows)
+unfolding IsFormed
+section_formed depth after rows formed =
+    All-weaker (Stands rows) IsFormed (λ row stands. formed_where rows row formed stands) (rows_under depth after rows) (rows_stand depth after rows)
+
+-- and those of a page
+pub formed_front : (n : ℕ) (depth : Depth) (after : Key) (rows : Rows) (page : List Row) → AreFormed rows → page ≡ take n (rows_under depth after rows) → list_all is_formed page ≡ true
+formed_front n depth after rows page formed is =
+    ap (list_all is_formed) is ∙ all_pass (take n (rows_under depth after rows)) (All-take IsFormed n (rows_under depth after rows) (section_formed depth after rows formed))
+
+-- so rows of which an ill-formed one was read aren't all of their form
+pub no_row : (told : Option Rows) (key : Key) (row : Row) → is_formed row ≡ false → IfSome told (λ rows. Some row ≡ row_at key rows) → IfSome told (λ rows. AreFormed rows → ⊥)
+no_row None key row ill is = tt
+no_row (Some rows) key row ill is = λ formed. let well = formed_at rows key row formed is in cc
+
+pub no_whole : (told : Option Rows) (key : Key) (found : Option Row) → is_whole found ≡ false → IfSome told (λ rows. found ≡ row_at key rows) → IfSome told (λ rows. AreFormed rows → ⊥)
+no_whole told key None ill is = let bad : ⊥ = cc in absurd bad
+no_whole told key (Some row) ill is = no_row told key row ill is
+
+pub no_page : (told : Option Rows) (n : ℕ) (depth : Depth) (after : Key) (page : List Row) → list_all is_formed page ≡ false → IfSome told (λ rows. page ≡ take n (rows_under depth after rows)) → IfSome told (λ rows. AreFormed rows → ⊥)
+no_page None n depth after page ill is = tt
+no_page (Some rows) n depth after page ill is = λ formed. let well = formed_front n depth after rows page formed is in cc
+
+-- ---- a number that stands
+
+-- what the kind of a row decides
+by_kind : (P : Type 0) (nine ten eleven twelve a b c d : Bool) → cond nine a (cond ten b (cond eleven c (cond twelve d true))) ≡ true
+    → (nine ≡ true → P) → (b ≡ true → P) → (c ≡ true → P) → (d ≡ true → P) → (nine ≡ false → ten ≡ false → eleven ≡ false → twelve ≡ false → P) → P
+by_kind P true ten eleven twelve a b c d e one two three four none = one refl
+by_kind P false true eleven twelve a b c d e one two three four none = two e
+by_kind P false false true twelve a b c d e one two three four none = three e
+by_kind P false false false true a b c d e one two three four none = four e
+by_kind P false false false false a b c d e one two three four none = none refl refl refl refl
+
+within : (n m : ℕ) → nat_le n m ≡ true → n ≤ m
+within n m e = grind (arith, nat_tests, e)
+
+last_within : (row : Row) → is_last row ≡ true → row.value ≤ 9223372036854775807
+last_within row e =
+    let outer = and_parts (is_nameless row.key && row.key.number == 0 && nat_le row.value 9223372036854775807 && length row.body == 0) (is_channel row.key.channel) e in
+    let inner = and_parts (is_nameless row.key && row.key.number == 0 && nat_le row.value 9223372036854775807) (length row.body == 0) outer.0 in
+    let value = and_parts (is_nameless row.key && row.key.number == 0) (nat_le row.value 9223372036854775807) inner.0 in
+    within row.value 9223372036854775807 value.1
+
+capacity_within : (row : Row) → is_capacity row ≡ true → row.value ≤ 9223372036854775807
+capacity_within row e =
+    let parts = and_parts (is_bare row && nat_le 1 row.value) (nat_le row.value 1000000) e in
+    below row.value (within row.value 1000000 parts.1)
+  where
+    below : (n : ℕ) → n ≤ 1000000 → n ≤ 9223372036854775807
+    below n h = omega arith
+
+boot_within : (row : Row) → is_boot row ≡ true → row.value ≤ 9223372036854775807
+boot_within row e = within row.value 9223372036854775807 (and_parts (is_bare row) (nat_le row.value 9223372036854775807) e).1
+
+no_nine : (kind : ℕ) → (kind == 9) ≡ true → has_number kind ≡ true → ⊥
+no_nine kind e h = grind (arith, nat_tests, e, h)
+
+no_other : (kind : ℕ) → (kind == 10) ≡ false → (kind == 11) ≡ false → (kind == 12) ≡ false → has_number kind ≡ true → ⊥
+no_other kind ten eleven twelve h = grind (arith, nat_tests, ten, eleven, twelve, h)
+
+pub number_within : (row : Row) → is_formed row ≡ true → has_number row.key.kind ≡ true → row.value ≤ 9223372036854775807
+unfolding is_formed
+number_within row formed number =
+    let kind = row.key.kind in
+    by_kind (row.value ≤ 9223372036854775807) (kind == 9) (kind == 10) (kind == 11) (kind == 12) (is_record row) (is_last row) (is_capacity row) (is_boot row) formed
+    (λ nine. absurd (no_nine kind nine number)) (last_within row) (capacity_within row) (boot_within row) (λ nine ten eleven twelve. absurd (no_other kind ten eleven twelve number))
+
+-- so where a greater one was read, the rows aren't all of their form
+pub no_number : (told : Option Rows) (key : Key) (row : Row) → is_formed row ≡ true → has_number key.kind ≡ true → 9223372036854775807 < row.value → IfSome told (λ rows. Some row ≡ row_at key rows)
+    → IfSome told (λ rows. AreFormed rows → ⊥)
+no_number None key row well number above is = tt
+no_number (Some rows) key row well number above is = λ formed.
+    let same = kind_of (finite.get rows key) is in
+    over row.value (number_within row well (ap has_number same ∙ number)) above
+  where
+    over : (n : ℕ) → n ≤ 9223372036854775807 → 9223372036854775807 < n → ⊥
+    over n h k = omega arith
+
+    kind_of : (found : Option Cell) → Some row ≡ option_map (λ cell. row_of (key, cell)) found → row.key.kind ≡ key.kind
+    kind_of None e = cc
+    kind_of (Some cell) e = let same : row ≡ row_of (key, cell) = cc in ap (λ (r : Row). r.key.kind) same
+
+-- ---- changes of rows of their form
+
+abbrev IsSound : Change → Type 0
+IsSound (Put row) = is_formed row ≡ true
+IsSound (Delete key) = Unit {0}
+
+abbrev AreSound : List Change → Type 0
+AreSound [] = Unit {0}
+AreSound (change ∷ changes) = IsSound change × AreSound changes
+
+hit : (k q : Key) → hits k q ≡ true → k ≡ q
+hit k q e = key_cmp_exact k q (tie (key_cmp k q) e)
+
+at_change : (change : Change) (q : Key) → IsSound change → key_of change ≡ q → IfSome (cell_of change) (λ cell. is_formed (row_of (q, cell)) ≡ true)
+at_change (Put row) q sound e = subst (λ (k : Key). is_formed (row_of (k, cell_of_row row)) ≡ true) e sound
+at_change (Delete key) q sound e = tt
+
+formed_changed : (change : Change) (rows : Rows) → IsSound change → AreFormed rows → AreFormed (changed change rows)
+unfolding AreFormed
+formed_changed change rows sound formed q =
+    subst (λ (found : Option Cell). IfSome found (λ cell. is_formed (row_of (q, cell)) ≡ true)) (sym (get-changed change rows q))
+    (elim (hits (key_of change) q) as (λ t. hits (key_of change) q ≡ t → IfSome (cond t (cell_of change) (finite.get rows q)) (λ cell. is_formed (row_of (q, cell)) ≡ true)) [
+      | true ↦ λ e. at_change change q sound (hit (key_of change) q e)
+      | false ↦ λ e. formed q
+    ] refl)
+
+formed_applied : (changes : List Change) (rows : Rows) → AreSound changes → AreFormed rows → AreFormed (applied changes rows)
+formed_applied [] rows sound formed = formed
+formed_applied (change ∷ changes) rows sound formed = formed_applied changes (changed change rows) sound.1 (formed_changed change rows sound.0 formed)
+
+below_test : (n m : ℕ) → n ≤ m → nat_le n m ≡ true
+below_test n m h = grind (arith, nat_tests)
+
+kept_name : (c : List ℕ) → channel_name c ≡ Some c → is_channel c ≡ true
+kept_name c e = ap (λ (read : Option (List ℕ)). is_read read c) e ∙ nat_list_eq_equiv.refl c
+
+record_sound : (c text : List ℕ) (n : ℕ) → 1 ≤ n → n ≤ 9223372036854775807 → channel_name c ≡ Some c → IsSound (Put (record { key = record_key c n; value = 0; body = text }))
+unfolding is_formed
+record_sound c text n some within name = λ i. true && below_test 1 n some i && below_test n 9223372036854775807 within i && true && kept_name c name i
+
+last_sound : (c : List ℕ) (n : ℕ) → n ≤ 9223372036854775807 → channel_name c ≡ Some c → IsSound (Put (record { key = last_key c; value = n; body = [] }))
+unfolding is_formed
+last_sound c n within name = λ i. true && true && below_test n 9223372036854775807 within i && true && kept_name c name i
+
+capacity_sound : (n : ℕ) → 1 ≤ n → n ≤ 1000000 → IsSound (Put (record { key = capacity_key; value = n; body = [] }))
+unfolding is_formed
+capacity_sound n some within = λ i. true && below_test 1 n some i && below_test n 1000000 within i
+
+boot_sound : (n : ℕ) → n ≤ 9223372036854775807 → IsSound (Put (record { key = boot_key; value = n; body = [] }))
+unfolding is_formed
+boot_sound n within = λ i. true && below_test n 9223372036854775807 within i
+
+start_sound : (capacity n : ℕ) (kept : Option Cell) → 1 ≤ capacity → capacity ≤ 1000000 → n ≤ 9223372036854775807 → AreSound (capacity_changes capacity kept ++ Put (record { key = boot_key; value = n; body = [] }) ∷ [])
+start_sound capacity n None some most within = (capacity_sound capacity some most, (boot_sound n within, tt))
+start_sound capacity n (Some cell) some most within = (boot_sound n within, tt)
+
+leaving_sound : (full : Bool) (key : Key) → AreSound (if full then Delete key ∷ [] else [])
+leaving_sound true key = (tt, tt)
+leaving_sound false key = tt
+
+write_sound : (capacity n : ℕ) (c text : List ℕ) → 1 ≤ n → n ≤ 9223372036854775807 → channel_name c ≡ Some c → AreSound (write_changes capacity c n text)
+write_sound capacity n c text some within name = (record_sound c text n some within name, (last_sound c n within name, leaving_sound (nat_lt capacity n) (record_key c (n - capacity))))
+
+next_within : (n : ℕ) → n < 9223372036854775807 → n + 1 ≤ 9223372036854775807
+next_within n h = omega arith
+
+next_some : (n : ℕ) → 1 ≤ n + 1
+next_some n = omega arith
+
+nothing_formed : AreFormed finite.empty
+unfolding AreFormed
+nothing_formed key = subst (λ (found : Option Cell). IfSome found (λ cell. is_formed (row_of (key, cell)) ≡ true)) (sym (finite.get-empty key_cmp key)) tt
+
+pub forms_stay : FormsStay
+forms_stay = record {
+  nothing = nothing_formed;
+  start = λ rows capacity formed left some most.
+      formed_applied (start_changes rows capacity) rows (start_sound capacity (boot_of rows + 1) (finite.get rows capacity_key) some most (next_within (boot_of rows) left)) formed;
+  write = λ rows c text formed left name.
+      formed_applied (write_changes (capacity_of rows) c (last_of rows c + 1) text) rows
+      (write_sound (capacity_of rows) (last_of rows c + 1) c text (next_some (last_of rows c)) (next_within (last_of rows c) left) name) formed;
+}

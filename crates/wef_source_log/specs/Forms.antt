@@ -1,0 +1,62 @@
+-- The forms of a log's rows. A row of another form was spoilt in its store, and a call that reads it fails.
+use Rattle.std.specs.Prelude.{◌≡◌, ℕ, ◌==◌, nat_le, Bool, true, false, ◌&&◌, List, length, Option, Some, None, IfSome, if◌then◌else◌}
+use Rattle.std.specs.FinMap as finite
+use Rattle.wef_base.specs.Names.{channel_name, same}
+use Rattle.wef_keeper.specs.Rows.{Rows, row_of}
+use Rattle.wef_keeper.specs.declared.keys.Key.{Key}
+use Rattle.wef_keeper.specs.declared.keys.Row.{Row}
+
+-- whether a text is the name that was read from it
+abbrev pub is_read : Option (List ℕ) → List ℕ → Bool
+is_read None text = false
+is_read (Some name) text = same name text
+
+-- whether a text is a channel's name as it is kept: it reads back as itself
+abbrev pub is_channel : List ℕ → Bool
+is_channel text = is_read (channel_name text) text
+
+-- whether a key names no subscription and no source
+abbrev pub is_nameless : Key → Bool
+is_nameless key = length key.sub == 0 && length key.source == 0
+
+-- a record: its number is from 1 to 2^63 - 1
+abbrev pub is_record : Row → Bool
+is_record row = is_nameless row.key && nat_le 1 row.key.number && nat_le row.key.number 9223372036854775807 && row.value == 0 && is_channel row.key.channel
+
+-- the last number of a channel
+abbrev pub is_last : Row → Bool
+is_last row = is_nameless row.key && row.key.number == 0 && nat_le row.value 9223372036854775807 && length row.body == 0 && is_channel row.key.channel
+
+-- whether a row has a number alone
+abbrev pub is_bare : Row → Bool
+is_bare row = is_nameless row.key && length row.key.channel == 0 && row.key.number == 0 && length row.body == 0
+
+-- the capacity
+abbrev pub is_capacity : Row → Bool
+is_capacity row = is_bare row && nat_le 1 row.value && nat_le row.value 1000000
+
+-- the start number
+abbrev pub is_boot : Row → Bool
+is_boot row = is_bare row && nat_le row.value 9223372036854775807
+
+-- whether a row is of its form; a row of another kind isn't the log's
+unfoldable pub is_formed : Row → Bool
+is_formed row =
+    if row.key.kind == 9 then is_record row
+    else (if row.key.kind == 10 then is_last row
+    else (if row.key.kind == 11 then is_capacity row
+    else (if row.key.kind == 12 then is_boot row
+    else true)))
+
+-- each row that stands is of its form
+unfoldable pub AreFormed : Rows → Type 0
+AreFormed rows = (key : Key) → IfSome (finite.get rows key) (λ cell. is_formed (row_of (key, cell)) ≡ true)
+
+-- whether a row, where there is one, is of its form
+abbrev pub is_whole : Option Row → Bool
+is_whole None = true
+is_whole (Some row) = is_formed row
+
+-- whether rows of a kind have a number
+abbrev pub has_number : ℕ → Bool
+has_number kind = nat_le 10 kind && nat_le kind 12

@@ -1,0 +1,168 @@
+//! How the log's rows are read in a store that is ready. Each row that is read is tested.
+
+ghost use Rattle.std.specs.Prelude.{◌≡◌, ◌<◌, ◌≤◌, ◌++◌, true, take, map, IfOk, IfErr, IfSome};
+ghost use Rattle.std.specs.List.{AllByRecursion};
+ghost use Rattle.wef_event.specs.declared.records.Event as the_event;
+ghost use Rattle.wef_keeper.specs.Access as access;
+ghost use Rattle.wef_keeper.specs.Keeping.{row_at};
+ghost use Rattle.wef_keeper.specs.Sections.{last_key, rows_under};
+ghost use Rattle.wef_source_log.specs.Answers as answers;
+ghost use Rattle.wef_source_log.specs.Calls.{fails};
+ghost use Rattle.wef_source_log.specs.Forms as forms;
+ghost use Rattle.wef_source_log.specs.Windows as windows;
+
+use crate::faults::LogFault;
+use crate::forms::{are_formed, is_formed};
+use crate::keys::{capacity_key, last_key, record_key};
+use std::alloc::AllocError;
+use wef_base::numbers::MAX;
+use wef_base::{ChannelName, List};
+use wef_event::Event;
+use wef_keeper::{Depth, Keeper, Key, Row, access};
+
+/// The row of a key, or none where there is none. `Failed` where it isn't of its form.
+pub fn formed_row<K: Keeper>(keeper: &mut K, key: &Key) -> Result<Option<Row>, LogFault>
+    requires { access.IsReady (K.store keeper.old) }
+    ensures row { IfSome (K.store keeper.new).rows (λ rows. IfOk result (λ row. row ≡ row_at key.now rows)) }
+    ensures formed { IfOk result (λ found. IfSome found (λ row. forms.is_formed row ≡ true)) }
+    ensures refusal { IfErr result answers.RefusesRead }
+    ensures reads { access.Reads forms.AreFormed (fails result) (K.store keeper.old) (K.store keeper.new) }
+{
+    let found = access::row(keeper, key)?;
+    if !is_whole(&found)? {
+        return Err(LogFault::Failed);
+    }
+    Ok(found)
+}
+
+/// Whether a row, where there is one, is of its form.
+fn is_whole(found: &Option<Row>) -> Result<bool, AllocError>
+    ensures { IfOk result (λ whole. whole ≡ forms.is_whole found.now) }
+{
+    match found {
+        Some(row) => is_formed(row),
+        None => Ok(true),
+    }
+}
+
+/// The first `max` rows of a section behind a key. `Failed` where one isn't of its form.
+pub fn formed_page<K: Keeper>(
+    keeper: &mut K,
+    after: &Key,
+    depth: Depth,
+    max: u32,
+) -> Result<List<Row>, LogFault>
+    requires max { 1 ≤ max }
+    requires ready { access.IsReady (K.store keeper.old) }
+    ensures page { IfSome (K.store keeper.new).rows (λ rows. IfOk result (λ page. page ≡ take max (rows_under depth after.now rows))) }
+    ensures rest { IfSome (K.store keeper.new).rows (λ rows. IfOk result (λ page. rows_under depth after.now rows ≡ page ++ rows_under depth (last_key after.now page) rows)) }
+    ensures behind { IfOk result (AllByRecursion (access.IsBehind depth after.now)) }
+    ensures refusal { IfErr result answers.RefusesRead }
+    ensures reads { access.Reads forms.AreFormed (fails result) (K.store keeper.old) (K.store keeper.new) }
+{
+    let page = access::section_page(keeper, after, depth, max)?;
+    if !are_formed(page.as_slice())? {
+        return Err(LogFault::Failed);
+    }
+    Ok(page)
+}
+
+/// The number that stands at a key: 0 where none does.
+pub fn number_at<K: Keeper>(keeper: &mut K, key: &Key) -> Result<u64, LogFault>
+    requires number { forms.has_number key.now.kind ≡ true }
+    requires ready { access.IsReady (K.store keeper.old) }
+    ensures number { IfSome (K.store keeper.new).rows (λ rows. IfOk result (λ number. number ≡ windows.number_at rows key.now)) }
+    ensures within { IfOk result (λ number. number ≤ 9223372036854775807) }
+    ensures refusal { IfErr result answers.RefusesRead }
+    ensures reads { access.Reads forms.AreFormed (fails result) (K.store keeper.old) (K.store keeper.new) }
+{
+    let Some(row) = formed_row(keeper, key)? else {
+        return Ok(0);
+    };
+    if row.value > MAX {
+        return Err(LogFault::Failed);
+    }
+    Ok(row.value)
+}
+
+/// The last number of a channel: 0 where nothing was written.
+pub fn last_of<K: Keeper>(keeper: &mut K, channel: &ChannelName) -> Result<u64, LogFault>
+    requires { access.IsReady (K.store keeper.old) }
+    ensures number { IfSome (K.store keeper.new).rows (λ rows. IfOk result (λ number. number ≡ windows.last_of rows channel.now)) }
+    ensures within { IfOk result (λ number. number ≤ 9223372036854775807) }
+    ensures refusal { IfErr result answers.RefusesRead }
+    ensures reads { access.Reads forms.AreFormed (fails result) (K.store keeper.old) (K.store keeper.new) }
+{
+    let key = last_key(channel)?;
+    number_at(keeper, &key)
+}
+
+/// How many records of a channel are kept.
+pub fn capacity_of<K: Keeper>(keeper: &mut K, channel: &ChannelName) -> Result<u64, LogFault>
+    requires { access.IsReady (K.store keeper.old) }
+    ensures number { IfSome (K.store keeper.new).rows (λ rows. IfOk result (λ number. number ≡ windows.capacity_of rows)) }
+    ensures within { IfOk result (λ number. number ≤ 9223372036854775807) }
+    ensures refusal { IfErr result answers.RefusesRead }
+    ensures reads { access.Reads forms.AreFormed (fails result) (K.store keeper.old) (K.store keeper.new) }
+{
+    let key = capacity_key(channel.as_text().alloc());
+    number_at(keeper, &key)
+}
+
+/// The first number of a channel's window: 1 where nothing was written.
+pub fn first_of<K: Keeper>(keeper: &mut K, channel: &ChannelName) -> Result<u64, LogFault>
+    requires { access.IsReady (K.store keeper.old) }
+    ensures number { IfSome (K.store keeper.new).rows (λ rows. IfOk result (λ number. number ≡ windows.first_of rows channel.now)) }
+    ensures refusal { IfErr result answers.RefusesRead }
+    ensures reads { access.Reads forms.AreFormed (fails result) (K.store keeper.old) (K.store keeper.new) }
+{
+    let capacity = capacity_of(keeper, channel)?;
+    let last = last_of(keeper, channel)?;
+    Ok(first_for(capacity, last))
+}
+
+/// The first number of the window whose last number is this one.
+fn first_for(capacity: u64, last: u64) -> u64
+    requires { last ≤ 9223372036854775807 }
+    ensures { result ≡ windows.first_for capacity last }
+{
+    if last < capacity {
+        return 1;
+    }
+    last - capacity + 1
+}
+
+/// The first `max` records of a channel above a number, by number.
+pub fn page_of<K: Keeper>(
+    keeper: &mut K,
+    channel: &ChannelName,
+    after: u64,
+    max: u32,
+) -> Result<List<Event>, LogFault>
+    requires max { 1 ≤ max }
+    requires ready { access.IsReady (K.store keeper.old) }
+    ensures page { IfSome (K.store keeper.new).rows (λ rows. IfOk result (λ page. page ≡ take max (windows.records_after rows channel.now after))) }
+    ensures rest { IfSome (K.store keeper.new).rows (λ rows. IfOk result (λ page. windows.records_after rows channel.now after
+        ≡ page ++ windows.records_after rows channel.now (windows.last_number after page))) }
+    ensures above { IfOk result (AllByRecursion (λ (event : the_event.Event). after < event.number)) }
+    ensures refusal { IfErr result answers.RefusesRead }
+    ensures reads { access.Reads forms.AreFormed (fails result) (K.store keeper.old) (K.store keeper.new) }
+{
+    let start = record_key(channel, after)?;
+    let page = formed_page(keeper, &start, Depth::Channel, max)?;
+    Ok(events_of(channel, page)?)
+}
+
+fn events_of(channel: &ChannelName, rows: List<Row>) -> Result<List<Event>, AllocError>
+    ensures { IfOk result (λ events. events ≡ map (windows.event_of_row channel.now) rows) }
+{
+    let mut events = List::new(channel.as_text().alloc());
+    for row in rows.into_vec() {
+        events.push(Event {
+            channel: channel.clone()?,
+            number: row.key.number,
+            text: row.body,
+        })?;
+    }
+    Ok(events)
+}

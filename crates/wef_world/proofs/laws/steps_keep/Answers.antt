@@ -1,5 +1,0 @@
-use Rattle.wef_world.proofs.Steps.{kept_is_safe, start_is_kept, steps_keep}
-use Rattle.wef_world.proofs.laws.steps_keep.Goals as goal
-
-pub returns : goal.returns
-returns c = record { start = start_is_kept; steps = steps_keep; safe = kept_is_safe }

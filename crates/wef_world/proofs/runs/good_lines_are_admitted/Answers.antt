@@ -1,5 +1,0 @@
-use Rattle.wef_world.proofs.Admitted.{good_lines}
-use Rattle.wef_world.proofs.runs.good_lines_are_admitted.Goals as goal
-
-pub returns : goal.returns
-returns c = good_lines
