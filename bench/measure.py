@@ -11,7 +11,7 @@ TURNS = 5
 
 
 # Each kind of schedule, by what it counts, its numbers of sources, and whether its memory is bounded.
-KINDS = (("events", (1, 50), True), ("lines", (10,), False))
+KINDS = (("events", (1, 50), True), ("lines", (10,), False), ("crashes", (10,), False))
 
 
 def schedule(what, size, sources, folder):

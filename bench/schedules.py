@@ -3,6 +3,7 @@
 
     bench/schedules.py events SIZE SOURCES > FILE     batches of foreign sources
     bench/schedules.py lines SIZE SOURCES > FILE      writes, polls and deliveries of declared sources
+    bench/schedules.py crashes SIZE SOURCES > FILE    the same, with a crash or a failure in every tenth line
 """
 import sys
 
@@ -35,7 +36,28 @@ def exchanges(lines, sources):
     yield "show"
 
 
-KINDS = {"events": batches, "lines": exchanges}
+# What goes wrong at a source while it writes, and at the collector after a source's turn.
+SOURCE_TROUBLES = ("fail {} before", "fail {} after", "crash {}", "fail {} after")
+COLLECTOR_TROUBLES = ("crash {}", "fail {} before", "crash {}", "stop {} after")
+
+
+def crashes(lines, sources):
+    """Turns of twenty lines: a source asks, writes, and sends twice, and something goes wrong in each tenth line."""
+    yield "subscribe base 20 512000 900000 all application"
+    yield from (f"source s{source} 1000" for source in range(sources))
+    for turn in range((lines - sources) // 20):
+        name = f"s{turn % sources}"
+        trouble = turn // sources
+        write = f"write {name} application 1 4 a"
+        send = (f"poll {name} base", "back 0", "back 0")
+        yield from (f"ask {name}", "back 0", "back 0", *[write] * 6)
+        yield SOURCE_TROUBLES[trouble % 4].format(name)
+        yield from (*[write] * 3, *send, *send)
+        yield COLLECTOR_TROUBLES[trouble % 4].format("collector")
+    yield "show"
+
+
+KINDS = {"events": batches, "lines": exchanges, "crashes": crashes}
 
 kind, size, sources = KINDS[sys.argv[1]], int(sys.argv[2]), int(sys.argv[3])
 sys.stdout.writelines(f"{line}\n" for line in kind(size, sources))
