@@ -10,15 +10,19 @@ MOST_FACTOR, MOST_BYTES = 13.0, 2048
 TURNS = 5
 
 
-# Each kind of schedule, by what it counts, its numbers of sources, and whether its memory is bounded.
-KINDS = (("events", (1, 50), True), ("lines", (10,), False), ("crashes", (10,), False))
+# Each kind of schedule: its name, what it counts, its numbers of sources, and whether its memory is bounded.
+KINDS = (
+    ("events", "events", (1, 50), True),
+    ("lines", "lines", (10,), False),
+    ("crashes", "lines with crashes", (10,), False),
+)
 
 
-def schedule(what, size, sources, folder):
-    path = os.path.join(folder, f"{what}-{size}-{sources}")
+def schedule(kind, size, sources, folder):
+    path = os.path.join(folder, f"{kind}-{size}-{sources}")
     script = os.path.join(os.path.dirname(os.path.abspath(__file__)), "schedules.py")
     with open(path, "wb") as file:
-        subprocess.run([sys.executable, script, what, str(size), str(sources)], stdout=file, check=True)
+        subprocess.run([sys.executable, script, kind, str(size), str(sources)], stdout=file, check=True)
     return path
 
 
@@ -32,12 +36,12 @@ def run(program, path):
     return usage.ru_utime + usage.ru_stime, usage.ru_maxrss * 1024
 
 
-def meets(program, what, sources, bounded, folder):
+def meets(program, kind, what, sources, bounded, folder):
     """Measures one kind of schedule with so many sources. Answers whether it meets its bounds."""
     times = {}
     good = True
     for size in (SMALL, GREAT):
-        path = schedule(what, size, sources, folder)
+        path = schedule(kind, size, sources, folder)
         runs = [run(program, path) for _ in range(TURNS)]
         times[size] = min(seconds for seconds, _ in runs)
         memory = max(peak for _, peak in runs) / size
@@ -52,8 +56,8 @@ def main():
     program = sys.argv[1]
     with tempfile.TemporaryDirectory() as folder:
         good = [
-            meets(program, what, sources, bounded, folder)
-            for what, counts, bounded in KINDS
+            meets(program, kind, what, sources, bounded, folder)
+            for kind, what, counts, bounded in KINDS
             for sources in counts
         ]
     if not all(good):
