@@ -1,16 +1,18 @@
 -- Why a batch is acknowledged.
-use Rattle.std.proofs.Common.{◌≡◌, ◌∙◌, ap, refl, List, [], ◌∷◌, Bool, cond, Option, None}
+use Rattle.std.proofs.Common.{◌≡◌, ◌∙◌, ap, refl, List, [], ◌∷◌, Bool, cond, Option, None, Some}
 use Rattle.std.specs.Prelude.{Ok, Err, codes}
 use Rattle.wef_envelope.specs.declared.FaultName.TheVariants.{InvalidMessage}
 use Rattle.wef_collector.specs.Answers.{channels_read}
 use Rattle.wef_collector.specs.Taken.{batch_changes}
 use Rattle.wef_keeper.specs.declared.keys.Change.{Change}
 use Rattle.wef_machine.specs.Arming.{fate}
-use Rattle.wef_machine.specs.Deliveries.{BatchEffect, answer_word, batch_effect_by, batch_word}
-use Rattle.wef_machine.specs.Laws.{AcknowledgementIsGiven}
+use Rattle.wef_machine.specs.Deliveries.{BatchEffect, answer_by, answer_with, answer_word, batch_effect_by, batch_word, effect_at}
+use Rattle.wef_machine.specs.Laws.{AcknowledgementIsGiven, DeliveriesAreAcknowledged}
 use Rattle.wef_machine.specs.States.{moment}
 use Rattle.wef_machine.specs.declared.arming.Armed.{Armed}
+use Rattle.wef_machine.specs.declared.arming.Fate.{Fate}
 use Rattle.wef_machine.specs.declared.arming.Fate.TheVariants.{Done}
+use Rattle.wef_machine.specs.declared.messages.Message.TheVariants.{Ack}
 
 unarmed : (armed : Option Armed) (changes : List Change) → armed ≡ None → fate armed changes ≡ Done
 unarmed armed [] e = refl
@@ -23,3 +25,12 @@ acknowledged state u s about batch live good wanted calm =
     ∙ ap (λ (t : Bool). answer_word state (cond t effect (Err InvalidMessage)) batch) good
     ∙ ap (batch_word batch) (unarmed state.collector.armed (batch_changes state.collector.rows u s (channels_read about) batch moment) calm)
     ∙ ap (λ (t : Bool). cond t (codes "ack") (codes "quiet")) wanted
+
+pub answered : DeliveriesAreAcknowledged
+answered state u s r about delivery path source live good wanted calm =
+    let effect : BatchEffect = Ok (batch_changes state.collector.rows u r (channels_read about) delivery.batch moment) in
+    (λ i. answer_with state (effect_at state.collector.rows (path i) (source i) delivery.batch) s delivery)
+    ∙ ap (λ found. answer_with state (batch_effect_by state.collector.rows u r delivery.batch found) s delivery) live
+    ∙ ap (λ (t : Bool). answer_with state (cond t effect (Err InvalidMessage)) s delivery) good
+    ∙ ap (λ (f : Fate). answer_by f s delivery) (unarmed state.collector.armed (batch_changes state.collector.rows u r (channels_read about) delivery.batch moment) calm)
+    ∙ ap (λ (t : Bool). cond t (Some (Ack s delivery.id)) None) wanted

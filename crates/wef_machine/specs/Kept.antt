@@ -189,7 +189,7 @@ pub record IsRowKey (key : Key) : Type 0 where
   pub bookmark : key.kind ≡ 2 → key.number ≡ 0
 
 -- What is kept of a world, by the rows that stand in the collector's store, the names of foreign sources, the declared
--- sources, and all messages that were ever sent. Who runs, and what is armed, says nothing of it.
+-- sources, and all messages that were ever sent. Whether the collector runs, and what is armed, says nothing of it.
 pub record IsWorldKept (rows : Rows) (foreign : List (List ℕ)) (slots : Slots) (all : List Message) : Type 0 where
   -- of every source that no `batch` line named, what is kept is safe; nothing is kept of what isn't there
   pub pairs : (u s c : List ℕ) → is_among foreign s ≡ false → IsPairKept rows u s c (subscription_at rows u) (finite.get slots s)

@@ -1,6 +1,6 @@
 -- What a schedule promises beside its steps.
 use Rattle.std.specs.List.{AllByRecursion}
-use Rattle.std.specs.Prelude.{◌≡◌, ◌≤◌, List, ℕ, true, None, codes}
+use Rattle.std.specs.Prelude.{◌≡◌, ◌≤◌, List, ℕ, true, None, Some, codes}
 use Rattle.wef_batch.specs.declared.items.Batch.{Batch}
 use Rattle.wef_batch.specs.Reach.{reach}
 use Rattle.wef_batch.specs.WellFormed.{is_in, is_well_formed}
@@ -11,23 +11,33 @@ use Rattle.wef_collector.specs.Laws.{moved}
 use Rattle.wef_collector.specs.Taken.{taken}
 use Rattle.wef_collector.specs.Standing.{standing}
 use Rattle.wef_collector.specs.declared.standings.Standing.TheVariants.{Live}
+use Rattle.wef_eventing.specs.Addresses.{source_in, subscription_in}
 use Rattle.wef_eventing.specs.declared.subscriptions.Subscription.{Subscription}
 use Rattle.wef_keeper.specs.Rows.{Rows}
 use Rattle.wef_source.specs.Fits.{Fits}
+use Rattle.wef_source.specs.declared.messages.Delivery.{Delivery}
 use Rattle.wef_source_log.specs.Histories.{Histories, history}
 use Rattle.wef_replay.specs.declared.lines.Line.{Line}
 use Rattle.wef_machine.specs.Kept.{IsKept}
 use Rattle.wef_machine.specs.Safe.{IsPairSafe, IsSafe}
 use Rattle.wef_machine.specs.States.{State, start}
 use Rattle.wef_machine.specs.Steps.{AreAdmitted, admits, states, step}
-use Rattle.wef_machine.specs.Deliveries.{answer_word, batch_effect}
+use Rattle.wef_machine.specs.Deliveries.{answer_with, answer_word, batch_effect, delivery_effect}
+use Rattle.wef_machine.specs.declared.messages.Message.TheVariants.{Ack}
 
--- A well-formed batch for a live subscription that asks for an acknowledgement gets it, unless its commit fails as it is
--- armed to.
+-- A well-formed batch for a live subscription that asks for an acknowledgement is acknowledged, unless its commit fails as
+-- it is armed to: the word for it says so.
 abbrev pub AcknowledgementIsGiven : Type 0
 AcknowledgementIsGiven = (state : State) (u s : List ℕ) (about : Subscription) (batch : Batch) →
     standing state.collector.rows u ≡ Live about → is_well_formed (channels_read about) batch ≡ true → batch.ack_wanted ≡ true → state.collector.armed ≡ None →
     answer_word state (batch_effect state.collector.rows u s batch) batch ≡ codes "ack"
+
+-- So is a delivery of a source, on a path that leads to the subscription and to a source: an acknowledgement is sent.
+abbrev pub DeliveriesAreAcknowledged : Type 0
+DeliveriesAreAcknowledged = (state : State) (u s r : List ℕ) (about : Subscription) (delivery : Delivery) →
+    subscription_in delivery.notify_to ≡ Some u → source_in delivery.notify_to ≡ Some r → standing state.collector.rows u ≡ Live about →
+    is_well_formed (channels_read about) delivery.batch ≡ true → delivery.batch.ack_wanted ≡ true → state.collector.armed ≡ None →
+    answer_with state (delivery_effect state.collector.rows delivery) s delivery ≡ Some (Ack s delivery.id)
 
 -- What is kept of a pair stays safe when a batch is taken that fits the source's histories above some bookmark, though
 -- the kept one may be further by now. The kept bookmark is then the greater of the old one and the batch's reach.

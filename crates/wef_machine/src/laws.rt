@@ -1,11 +1,13 @@
 //! What a schedule promises beside its steps, as contracts.
 
 ghost use Rattle.wef_machine.specs.Admitting.{GoodLinesAreAdmitted};
-ghost use Rattle.wef_machine.specs.Laws.{AcknowledgementIsGiven, FittingBatchesAreSafe, KeptIsSafe, SchedulesAreKept, SchedulesAreSafe, StartIsKept, StepsKeep};
+ghost use Rattle.wef_machine.specs.Laws.{AcknowledgementIsGiven, DeliveriesAreAcknowledged, FittingBatchesAreSafe, KeptIsSafe, SchedulesAreKept, SchedulesAreSafe, StartIsKept, StepsKeep};
 
-/// A well-formed batch for a live subscription that asks for an acknowledgement gets it.
+/// A well-formed batch for a live subscription that asks for an acknowledgement gets it, unless its
+/// commit is arranged to fail.
 pub fn acknowledgement()
-    ensures { AcknowledgementIsGiven }
+    ensures batch { AcknowledgementIsGiven }
+    ensures delivery { DeliveriesAreAcknowledged }
 {}
 
 /// A batch that fits what a source wrote keeps safe what is kept of it.
@@ -23,7 +25,7 @@ pub fn steps_keep()
 /// Whatever a good schedule does, what the collector holds of each declared source is, up to the
 /// bookmark, just what the subscription selects of all that the source wrote, each record once and in
 /// order, but for records that are marked as dropped; and only records that were overwritten or are
-/// too large are marked. Every batch that was acknowledged lies within that bookmark.
+/// too large are marked (`safe`). Every batch that was acknowledged lies within that bookmark (`kept`).
 pub fn law_safe()
     ensures kept { SchedulesAreKept }
     ensures safe { SchedulesAreSafe }

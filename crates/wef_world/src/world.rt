@@ -61,6 +61,7 @@ impl World {
         requires { steps.admits self.old line.now ≡ true }
         ensures state { OnOk result (self.new ≡ steps.step line.now self.old) }
         ensures printed { OnOk result (out.new ≡ out.old ++ steps.printed_by line.now self.old) }
+        ensures lost { OnErr result (self.new ≡ states.start) }
         ensures err { OnErr result (out.new ≡ out.old) }
     {
         let Some(mut ends) = self.ends.take() else {
