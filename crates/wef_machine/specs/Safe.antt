@@ -68,7 +68,7 @@ pub record IsUntouched (rows : Rows) (u s c : List ℕ) : Type 0 where
   pub marks : marks_of rows u s c ≡ []
   pub loose : loose_rows rows u s c ≡ []
 
--- Of every subscription that is there, live or ended, also when it has ended, every declared source and every channel of the
+-- Of every subscription that is there, live or ended, of every declared source and every channel of the
 -- subscription, what is kept is safe; of other channels of a declared source nothing is kept.
 pub record IsSafe (state : State) : Type 0 where
   pub pairs : (u s c : List ℕ) (about : Subscription) (slot : Slot) → subscription_at state.collector.rows u ≡ Some about → slot_of state s ≡ Some slot →
