@@ -9,6 +9,7 @@ use std::alloc::{AllocError, Global};
 use wef_base::List;
 use wef_keeper::{Change, Keeper, KeeperFault, Key, Row, Rows};
 
+/// Rows, and the calls at which their keeper fails.
 #[derive(Drop)]
 pub struct FailingKeeper {
     rows: Rows,
@@ -25,6 +26,7 @@ pub struct FailingKeeper {
 }
 
 impl FailingKeeper {
+    /// A keeper without a row, of which nothing was asked yet.
     pub fn new(alloc: Global, fails_at: [u64; 2], keeps: bool) -> FailingKeeper {
         FailingKeeper {
             rows: Rows::new(alloc),
