@@ -7,6 +7,7 @@ pub mod Given
 pub mod GoodLines
 pub mod Growing
 pub mod InOrder
+pub mod Lasting
 pub mod Lower
 pub mod LowerFacts
 pub mod Marked

@@ -19,7 +19,7 @@ use Rattle.wef_source.specs.declared.messages.Delivery.{Delivery}
 use Rattle.wef_source_log.specs.Histories.{Histories, history}
 use Rattle.wef_replay.specs.declared.lines.Line.{Line}
 use Rattle.wef_machine.specs.Kept.{IsKept}
-use Rattle.wef_machine.specs.Safe.{IsPairSafe, IsSafe}
+use Rattle.wef_machine.specs.Safe.{IsPairSafe, IsSafe, subscription_at}
 use Rattle.wef_machine.specs.States.{State, start}
 use Rattle.wef_machine.specs.Steps.{AreAdmitted, admits, states, step}
 use Rattle.wef_machine.specs.Deliveries.{answer_with, answer_word, batch_effect, delivery_effect}
@@ -76,3 +76,12 @@ SchedulesAreKept = (lines : List Line) → AreAdmitted start lines → AreKept l
 -- In every state of a good schedule what is kept is safe.
 abbrev pub SchedulesAreSafe : Type 0
 SchedulesAreSafe = (lines : List Line) → AreAdmitted start lines → AreSafe lines
+
+-- No subscription is forgotten, whatever a line does: it stays, live or ended.
+abbrev pub SubscriptionsStay : Type 0
+SubscriptionsStay = (state : State) (line : Line) (u : List ℕ) (about : Subscription) →
+    subscription_at state.collector.rows u ≡ Some about → subscription_at (step line state).collector.rows u ≡ Some about
+
+-- No bookmark falls, whatever a line does.
+abbrev pub BookmarksNeverFall : Type 0
+BookmarksNeverFall = (state : State) (line : Line) (u s c : List ℕ) → bookmark_at state.collector.rows u s c ≤ bookmark_at (step line state).collector.rows u s c

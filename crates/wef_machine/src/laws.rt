@@ -1,7 +1,7 @@
 //! What a schedule promises beside its steps, as contracts.
 
 ghost use Rattle.wef_machine.specs.Admitting.{GoodLinesAreAdmitted};
-ghost use Rattle.wef_machine.specs.Laws.{AcknowledgementIsGiven, DeliveriesAreAcknowledged, FittingBatchesAreSafe, KeptIsSafe, SchedulesAreKept, SchedulesAreSafe, StartIsKept, StepsKeep};
+ghost use Rattle.wef_machine.specs.Laws.{AcknowledgementIsGiven, BookmarksNeverFall, DeliveriesAreAcknowledged, FittingBatchesAreSafe, KeptIsSafe, SchedulesAreKept, SchedulesAreSafe, StartIsKept, StepsKeep, SubscriptionsStay};
 
 /// A well-formed batch for a live subscription that asks for an acknowledgement gets it, unless its
 /// commit is arranged to fail.
@@ -29,6 +29,12 @@ pub fn steps_keep()
 pub fn law_safe()
     ensures kept { SchedulesAreKept }
     ensures safe { SchedulesAreSafe }
+{}
+
+/// Whatever a line does, each subscription that was added stays, and no bookmark falls.
+pub fn nothing_is_forgotten()
+    ensures subscriptions { SubscriptionsStay }
+    ensures bookmarks { BookmarksNeverFall }
 {}
 
 /// The world admits each line of a schedule whose lines are good.
