@@ -1,6 +1,7 @@
-//! Offers, by example, and a store that fails at each of its calls.
+//! Offers, by example, start numbers, and a store that fails at each of its calls.
 
 use crate::failing::FailingKeeper;
+use crate::keys::boot_key;
 use crate::{Collector, CollectorFault};
 use std::alloc::Global;
 use std::test::Fail;
@@ -9,7 +10,7 @@ use wef_batch::{Batch, Item};
 use wef_bookmark::Bookmark;
 use wef_event::Event;
 use wef_eventing::Subscription;
-use wef_keeper::MemKeeper;
+use wef_keeper::{Change, Keeper, MemKeeper, Row};
 
 fn channel(alloc: Global) -> Result<ChannelName, Fail> {
     Ok(ChannelName::read(&Text::from_str(alloc, "security")?)?)
@@ -41,6 +42,35 @@ fn batch_to(alloc: Global, number: u64) -> Result<Batch, Fail> {
         to,
         ack_wanted: true,
     })
+}
+
+/// The store of a collector that was started so often.
+fn started(alloc: Global, boot: u64) -> Result<MemKeeper, Fail> {
+    let mut changes = List::new(alloc);
+    changes.push(Change::Put(Row {
+        key: boot_key(alloc),
+        value: boot,
+        body: Text::new(alloc),
+    }))?;
+    let mut keeper = MemKeeper::new(alloc);
+    keeper.commit(&changes)?;
+    Ok(keeper)
+}
+
+#[test]
+fn a_start_number_has_an_end(rt: HostRuntime) -> Result<(), Fail> {
+    let alloc = rt.alloc();
+    for (boot, want) in [
+        (9_223_372_036_854_775_806, None),
+        (9_223_372_036_854_775_807, Some(CollectorFault::Full)),
+    ] {
+        let keeper = started(alloc, boot)?;
+        let fault = Collector::start(alloc, keeper)
+            .err()
+            .map(|refused| refused.1);
+        assert_eq!(&rt; fault, want);
+    }
+    Ok(())
 }
 
 fn in_memory(alloc: Global) -> Result<Collector<MemKeeper>, CollectorFault> {

@@ -194,6 +194,17 @@ fn holding(
 }
 
 #[test]
+fn each_start_has_the_next_number(rt: HostRuntime) {
+    let alloc = rt.alloc();
+    let mut keeper = MemKeeper::new(alloc);
+    for boot in 1..11u64 {
+        let log = over(&rt, alloc, keeper, 4);
+        assert_eq!(&rt; log.boot(), boot);
+        keeper = log.into_keeper();
+    }
+}
+
+#[test]
 fn a_start_number_has_an_end(rt: HostRuntime) {
     let alloc = rt.alloc();
     for (value, want) in [(MAX, Some(LogFault::Full)), (MAX - 1, None)] {
