@@ -1,11 +1,12 @@
 //! Reads of the store's rows, each tested for its form.
 
-ghost use Rattle.std.specs.Prelude.{◌≡◌, ◌≤◌, ◌++◌, take, IfOk, IfSome};
+ghost use Rattle.std.specs.Prelude.{◌≡◌, ◌≤◌, ◌++◌, true, take, IfOk, IfSome};
 ghost use Rattle.std.specs.FinMap as map;
-ghost use Rattle.std.specs.List.{AllByRecursion};
+ghost use Rattle.std.specs.List.{AllByRecursion, list_all};
 ghost use Rattle.wef_keeper.specs.Access as access;
 ghost use Rattle.wef_keeper.specs.Keeping.{row_at};
 ghost use Rattle.wef_keeper.specs.Sections.{last_key, rows_under};
+ghost use Rattle.wef_collector.specs.Forms as forms;
 ghost use Rattle.wef_collector.specs.Forms.{AreFormed};
 
 use crate::forms::{are_formed, is_formed};
@@ -32,6 +33,7 @@ pub fn formed_cell<K: Keeper>(keeper: &mut K, key: &Key) -> Result<Option<Cell>,
 pub fn formed_row<K: Keeper>(keeper: &mut K, key: &Key) -> Result<Option<Row>, StoreFault>
     requires { access.IsReady (K.store keeper.old) }
     ensures row { IfSome (K.store keeper.new).rows (λ rows. IfOk result (λ row. row ≡ row_at key.now rows)) }
+    ensures formed { IfOk result (λ found. IfSome found (λ row. forms.is_formed row ≡ true)) }
     ensures reads { access.Reads AreFormed (access.fails result) (K.store keeper.old) (K.store keeper.new) }
 {
     let Some(row) = row(keeper, key)? else {
@@ -56,6 +58,7 @@ pub fn formed_page<K: Keeper>(
     ensures page { IfSome (K.store keeper.new).rows (λ rows. IfOk result (λ page. page ≡ take max (rows_under depth after.now rows))) }
     ensures rest { IfSome (K.store keeper.new).rows (λ rows. IfOk result (λ page. rows_under depth after.now rows ≡ page ++ rows_under depth (last_key after.now page) rows)) }
     ensures behind { IfOk result (AllByRecursion (access.IsBehind depth after.now)) }
+    ensures formed { IfOk result (λ page. list_all forms.is_formed page ≡ true) }
     ensures reads { access.Reads AreFormed (access.fails result) (K.store keeper.old) (K.store keeper.new) }
 {
     let page = section_page(keeper, after, depth, max)?;
@@ -73,6 +76,7 @@ pub fn formed_section<K: Keeper>(
 ) -> Result<List<Row>, StoreFault>
     requires { access.IsReady (K.store keeper.old) }
     ensures section { IfSome (K.store keeper.new).rows (λ rows. IfOk result (λ section. section ≡ rows_under depth after.now rows)) }
+    ensures formed { IfOk result (λ section. list_all forms.is_formed section ≡ true) }
     ensures reads { access.Reads AreFormed (access.fails result) (K.store keeper.old) (K.store keeper.new) }
 {
     let section = section(keeper, after, depth)?;
