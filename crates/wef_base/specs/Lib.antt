@@ -1,4 +1,5 @@
 pub mod formers
+pub mod Characters
 pub mod Counts
 pub mod Names
 pub mod Numbers

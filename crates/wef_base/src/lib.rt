@@ -2,6 +2,7 @@
 #![tactic(auto)]
 
 pub mod bytes;
+pub mod characters;
 pub mod list;
 pub mod memory;
 pub mod names;
@@ -10,9 +11,11 @@ pub mod ports;
 pub mod printed;
 pub mod standard;
 pub mod text;
+pub mod tree;
 pub mod words;
 
 pub use bytes::Bytes;
+pub use characters::{is_xml_char, is_xml_text};
 pub use list::List;
 pub use memory::{MemSink, MemSource};
 pub use names::{ChannelName, SourceName, SubId, ValueFault};
@@ -20,3 +23,4 @@ pub use numbers::read_number;
 pub use ports::{IoFailed, Sink, Source};
 pub use standard::{StdErr, StdSink, StdSource};
 pub use text::Text;
+pub use tree::{Attribute, Charset, Element, Namespace, Node};

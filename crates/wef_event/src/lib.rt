@@ -7,7 +7,6 @@ pub mod plain;
 pub mod records;
 pub mod unnumbered;
 
-pub use characters::is_xml_text;
 pub use plain::plain_event;
 pub use records::{Event, EventFault};
 pub use unnumbered::PlainEvent;

@@ -1,7 +1,7 @@
 //! The event that a source makes of plain words.
 
 ghost use Rattle.std.specs.Prelude.{◌≡◌, ◌≤◌, ◌++◌, IsTrue, IfOk};
-ghost use Rattle.wef_event.specs.Characters.{is_xml_text};
+ghost use Rattle.wef_base.specs.Characters.{is_xml_text};
 ghost use Rattle.wef_event.specs.PlainEvent.{plain_text, plain_event, MakesEvent};
 
 use crate::characters::push_escaped;

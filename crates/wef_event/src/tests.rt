@@ -1,8 +1,8 @@
 //! Events by example: the texts are written out by hand.
 
-use crate::{Event, EventFault, PlainEvent, is_xml_text, plain_event};
+use crate::{Event, EventFault, PlainEvent, plain_event};
 use std::alloc::{AllocError, Global};
-use wef_base::{ChannelName, Text, ValueFault};
+use wef_base::{ChannelName, Text, ValueFault, is_xml_text};
 
 fn channel(alloc: Global, word: &str) -> Result<ChannelName, ValueFault> {
     ChannelName::read(&Text::from_str(alloc, word)?)

@@ -1,7 +1,7 @@
 //! Events of plain words that no log has numbered yet.
 
 ghost use Rattle.std.specs.Prelude.{◌≡◌, ◌≤◌, true, is_some, IfOk};
-ghost use Rattle.wef_event.specs.Characters.{is_xml_text};
+ghost use Rattle.wef_base.specs.Characters.{is_xml_text};
 
 use crate::lengths::{decimal_length, escaped_length};
 use crate::plain::{EVENT_LIMIT, plain_event};

@@ -2,7 +2,7 @@
 use Rattle.std.proofs.Common.{◌≡◌, Bool, true, false, cond, refl, ap, ◌∙◌}
 use Rattle.std.specs.Prelude.{Some, None, is_some}
 use Rattle.std.proofs.Math.Bool.{Bool-set}
-use Rattle.wef_event.specs.Characters.{is_xml_text}
+use Rattle.wef_base.specs.Characters.{is_xml_text}
 use Rattle.wef_event.specs.Unnumbered.{numbered}
 use Rattle.wef_event.specs.declared.unnumbered.PlainEvent.{PlainEvent}
 use Rattle.wef_replay.specs.BatchWords.{greatest}

@@ -1,7 +1,7 @@
 //! The words of a batch.
 
 ghost use Rattle.std.specs.Prelude.{◌≡◌, IsTrue, IfOk, OnOk};
-ghost use Rattle.wef_event.specs.Characters.{is_xml_text};
+ghost use Rattle.wef_base.specs.Characters.{is_xml_text};
 ghost use Rattle.wef_replay.specs.Reading.{Gives};
 ghost use Rattle.wef_replay.specs.BatchWords.{empty_batch, added, batch_word, colon_joined, data_word, event_word, dropped_word, long_word, loose_word, reach_word, word_of, read_words};
 
@@ -9,10 +9,10 @@ use crate::values::{LineFault, channel_of, is_word, number_of, text_of};
 use std::alloc::{AllocError, Global};
 use wef_base::numbers::MAX;
 use wef_base::words::split;
-use wef_base::{Bytes, ChannelName, List, Text};
+use wef_base::{Bytes, ChannelName, List, Text, is_xml_text};
 use wef_batch::{Batch, Item};
 use wef_bookmark::Bookmark;
-use wef_event::{is_xml_text, plain_event};
+use wef_event::plain_event;
 
 /// What one word of a batch says.
 #[derive(Debug, Drop)]

@@ -13,8 +13,8 @@ use crate::values::{
 use std::alloc::Global;
 use wef_base::numbers::MAX;
 use wef_base::words::{is_text, split};
-use wef_base::{Bytes, ChannelName, SubId, Text};
-use wef_event::{PlainEvent, is_xml_text};
+use wef_base::{Bytes, ChannelName, SubId, Text, is_xml_text};
+use wef_event::PlainEvent;
 use wef_query::QueryList;
 
 /// What a line does, if anything.

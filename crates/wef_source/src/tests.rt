@@ -3,11 +3,11 @@
 use crate::{Delivery, Moved, Poll, Reply, SourceEnd, SourceFault};
 use std::alloc::{AllocError, Global};
 use std::process::Abort;
-use wef_base::{ChannelName, List, SourceName, SubId, Text, ValueFault};
+use wef_base::{ChannelName, List, SourceName, SubId, Text, ValueFault, is_xml_text};
 use wef_batch::{Batch, Item};
 use wef_bookmark::Bookmark;
 use wef_envelope::{FaultName, MessageId};
-use wef_event::{PlainEvent, is_xml_text};
+use wef_event::PlainEvent;
 use wef_eventing::{Offer, Subscribe};
 use wef_keeper::MemKeeper;
 use wef_query::QueryList;

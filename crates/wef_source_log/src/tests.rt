@@ -4,8 +4,8 @@ use crate::{Log, LogFault};
 use std::alloc::{AllocError, Global};
 use std::process::Abort;
 use wef_base::numbers::MAX;
-use wef_base::{ChannelName, List, Text, ValueFault};
-use wef_event::{Event, PlainEvent, is_xml_text};
+use wef_base::{ChannelName, List, Text, ValueFault, is_xml_text};
+use wef_event::{Event, PlainEvent};
 use wef_keeper::{Change, Keeper, KeeperFault, Key, MemKeeper, Row};
 
 fn channel(alloc: Global, name: &str) -> Result<ChannelName, ValueFault> {

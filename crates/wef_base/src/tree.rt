@@ -1,0 +1,91 @@
+//! Trees of XML: elements with their namespaces, attributes and children.
+
+ghost use Rattle.std.specs.Prelude.{◌≡◌, IfOk};
+
+use crate::list::List;
+use crate::text::Text;
+use std::alloc::AllocError;
+use std::marker::Model;
+use std::rc::Rc;
+
+/// How characters stand in bytes.
+#[derive(Clone, Copy, Debug, PartialEq, Eq)]
+pub enum Charset {
+    /// UTF-8 (RFC 3629), with or without a byte order mark.
+    Utf8,
+    /// UTF-16 (RFC 2781), in the order that its byte order mark says, or little-endian.
+    Utf16,
+}
+
+/// An element, or text between two tags.
+#[cycle(tree)]
+#[derive(Debug, Drop)]
+pub enum Node {
+    Element(Element),
+    Chars(Text),
+}
+
+/// An element. Its prefix isn't kept: two elements are the same where their namespaces and local
+/// names are (Namespaces in XML 1.0, 2.1).
+#[cycle(tree)]
+#[derive(Debug, Drop)]
+pub struct Element {
+    /// The namespace, empty for none.
+    pub space: Namespace,
+    /// The local name.
+    pub name: Text,
+    /// The attributes in the order of the document, declarations of namespaces aside.
+    pub attributes: List<Attribute>,
+    pub children: List<Node>,
+}
+
+/// An attribute of an element.
+#[derive(Debug, Drop)]
+pub struct Attribute {
+    /// The namespace, empty for none.
+    pub space: Namespace,
+    /// The local name.
+    pub name: Text,
+    pub value: Text,
+}
+
+/// The name of a namespace, which contracts see as its bytes; empty for none. All copies of one
+/// share its text, so a tree is no larger than its document, however long a namespace is.
+#[derive(Debug, Drop)]
+pub struct Namespace {
+    shared: Rc<Text>,
+}
+
+impl Model for Namespace {
+    ghost use Rattle.std.specs.Prelude.{ℕ, List};
+
+    ghost Value = { List ℕ };
+
+    ghost view = { λ n. n.shared.value };
+}
+
+impl Namespace {
+    /// The namespace of this name.
+    pub fn new(name: Text) -> Result<Namespace, AllocError>
+        ensures { IfOk result (λ n. n ≡ name) }
+    {
+        let shared = Rc::new(name.alloc(), name)?;
+        Ok(Namespace { shared })
+    }
+
+    /// The name. It takes no memory.
+    pub fn as_text(&self) -> &Text
+        ensures { result.now ≡ self.now }
+    {
+        self.shared.as_ref()
+    }
+
+    /// The same namespace again, which shares the text.
+    pub fn clone(&self) -> Result<Namespace, AllocError>
+        ensures { IfOk result (λ copy. copy ≡ self.now) }
+    {
+        Ok(Namespace {
+            shared: self.shared.clone()?,
+        })
+    }
+}

@@ -1,0 +1,10 @@
+pub mod Building
+pub mod Decoding
+pub mod Fronts
+pub mod Names
+pub mod Pieces
+pub mod Reads
+pub mod References
+pub mod Scopes
+pub mod Spelling
+pub mod Tags
