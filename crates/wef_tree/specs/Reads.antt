@@ -1,6 +1,7 @@
 -- What a reader answers, against what a definition gives: what was read and what is left where there is that, a refusal
 -- exactly where there is none; want of memory is free.
-use Rattle.std.specs.Prelude.{◌≡◌, ℕ, Bor, List, Option, Some, None, Result}
+use Rattle.std.specs.Prelude.{◌≡◌, ℕ, List, Option, Some, None, Result}
+use Rattle.std.specs.Borrow.{Bor}
 use Rattle.std.specs.declared.result.Result.TheVariants.{Ok, Err}
 use Rattle.wef_tree.specs.declared.faults.Halt.{Halt}
 use Rattle.wef_tree.specs.declared.faults.Halt.TheVariants.{NoMemory, Bad}

@@ -1,7 +1,7 @@
 -- References (XML 1.0, rules CharRef and EntityRef): `&amp;` `&lt;` `&gt;` `&quot;` `&apos;`, and characters by their
 -- numbers. All readings begin behind the `&`.
 use Rattle.std.specs.Prelude.{ℕ, ◌+◌, ◌-◌, ◌*◌, ◌==◌, nat_le, Bool, true, false, List, [], ◌∷◌, Option, Some, None, codes, if◌then◌else◌}
-use Rattle.std.specs.Option.{option_map, option_and_then}
+use Rattle.std.specs.Option.{option_and_then}
 use Rattle.wef_base.specs.Characters.{is_within, is_xml_char}
 use Rattle.wef_tree.specs.Fronts.{strip, behind}
 

@@ -1,6 +1,6 @@
 -- What a document says. Its bytes decode to a text that is a list of pieces, each good in its place, which together give
 -- the root. Where they don't, the longest list of good pieces that begins the text says where the fault is.
-use Rattle.std.specs.Prelude.{◌≡◌, ℕ, ◌-◌, ◌≤◌, nat_lt, Bool, true, false, ◌&&◌, ◌||◌, not, is_some, List, [], ◌∷◌, length, Option, Some, None, Result, codes, if◌then◌else◌}
+use Rattle.std.specs.Prelude.{◌≡◌, ℕ, ◌-◌, nat_lt, Bool, true, false, ◌&&◌, ◌||◌, not, is_some, List, [], ◌∷◌, length, Option, Some, None, Result, codes, if◌then◌else◌}
 use Rattle.std.specs.declared.result.Result.TheVariants.{Ok, Err}
 use Rattle.wef_base.specs.declared.tree.Charset.{Charset}
 use Rattle.wef_base.specs.declared.tree.Element.{Element}
@@ -14,7 +14,7 @@ use Rattle.wef_tree.specs.declared.faults.FaultKind.TheVariants.{Xml, Deep, Refu
 use Rattle.wef_tree.specs.declared.faults.TreeFault.{TreeFault}
 use Rattle.wef_tree.specs.declared.faults.TreeFault.TheVariants.{NoMemory, BadCharset, BadXml, TooDeep, Refused}
 use Rattle.wef_tree.specs.declared.pieces.Piece.{Piece}
-use Rattle.wef_tree.specs.declared.pieces.Piece.TheVariants.{Declaration, Comment, Start, Empty, End, Section, Reference, Letter}
+use Rattle.wef_tree.specs.declared.pieces.Piece.TheVariants.{Start, Empty}
 
 -- Good pieces lead from a builder and a text to another builder and what is left of the text.
 abbrev pub Leads : Builder → List Piece → List ℕ → Builder → List ℕ → Type 0

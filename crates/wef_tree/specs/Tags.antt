@@ -4,7 +4,7 @@ use Rattle.std.specs.Prelude.{ℕ, zero, suc, ◌==◌, Bool, ◌||◌, List, []
 use Rattle.std.specs.Option.{option_map, option_and_then}
 use Rattle.wef_base.specs.Names.{is_space, without_start}
 use Rattle.wef_base.specs.Characters.{is_xml_char}
-use Rattle.wef_tree.specs.Fronts.{strip, behind}
+use Rattle.wef_tree.specs.Fronts.{strip}
 use Rattle.wef_tree.specs.Names.{name_at, with_front}
 use Rattle.wef_tree.specs.References.{reference_at}
 use Rattle.wef_tree.specs.declared.names.Name.{Name}
