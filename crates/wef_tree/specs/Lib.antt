@@ -1,6 +1,7 @@
 pub mod Building
 pub mod Decoding
 pub mod Fronts
+pub mod Laws
 pub mod Names
 pub mod Pieces
 pub mod Reads

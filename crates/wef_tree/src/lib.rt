@@ -3,6 +3,7 @@
 
 mod building;
 mod faults;
+pub mod laws;
 mod names;
 mod pieces;
 mod scopes;
