@@ -1,6 +1,7 @@
 pub mod Building
 pub mod Decoding
 pub mod Fronts
+pub mod Good
 pub mod Laws
 pub mod Names
 pub mod Pieces
