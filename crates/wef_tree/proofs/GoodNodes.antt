@@ -4,7 +4,7 @@ use Rattle.wef_base.specs.declared.tree.Attribute.{Attribute}
 use Rattle.wef_base.specs.declared.tree.Element.{Element}
 use Rattle.wef_base.specs.declared.tree.Node.{Node, Chars, Element', Row_of-Node, end_of-Node, more_of-Node, items-the_row-Node, items_shown-the_row-Node-0, out-Node, Node-F}
 use Rattle.wef_base.specs.declared.tree.Node.TheVariants.{Element as Child, outs-Chars, outs-Element', outs-Element}
-use Rattle.wef_tree.specs.Good.{IsGoodElement, IsGoodNode, IsGoodRow, AreGoodNodes, are_apart}
+use Rattle.wef_tree.specs.Good.{IsGoodElement, IsGoodNode, IsGoodRow, AreGoodNodes, are_apart, is_text}
 
 -- a row of good nodes, by its list
 of_row : {m : _} (row : Row_of-Node m) (room : ℕ) → AreGoodNodes (items-the_row-Node m row) room → IsGoodRow row room
@@ -30,3 +30,11 @@ good_child (Element' space name attributes shape row) e room same good =
     let opened = sym (outs-Element' space name attributes shape row) ∙ ap out-Node same ∙ outs-Element e in
     closed space name attributes shape row _ room (items_shown-the_row-Node-0 shape row)
         (let P : Element → Type 0 = λ x. IsGoodElement x room in subst P (ap (λ x. elim x [ Node-F.Element z ↦ z | Node-F.Chars t ↦ e ]) (sym opened)) good)
+
+-- an element is no text
+pub is_no_text : (e : Element) → is_text (Child e) ≡ false
+is_no_text e = by (Child e) refl
+  where
+    by : (n : Node) → n ≡ Child e → is_text n ≡ false
+    by (Chars text) same = let opened = sym (outs-Chars text) ∙ ap out-Node same ∙ outs-Element e in cc
+    by (Element' space name attributes shape row) same = refl
