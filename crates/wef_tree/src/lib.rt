@@ -2,12 +2,16 @@
 #![tactic(auto)]
 
 mod building;
+mod decoding;
 mod faults;
+mod line_ends;
 mod names;
 mod pieces;
+mod places;
 mod scopes;
 mod stack;
 mod tags;
+mod utf16;
 
 pub use faults::TreeFault;
 pub use wef_base::{Attribute, Charset, Element, Namespace, Node};
