@@ -31,7 +31,8 @@ pub fn without_mark(charset: Charset, bytes: &[u8]) -> &[u8]
     }
 }
 
-#[tactic(auto, using(std::proofs::lemmas::Str::chars_from_encodes))]
+/// The characters of bytes in UTF-8, a byte order mark aside.
+#[tactic(auto, using(crate::proofs::Utf8::is_decoded, crate::proofs::Utf8::stops))]
 fn decode_utf8(alloc: Global, bytes: &[u8]) -> Result<Vec<char>, TreeFault>
     ensures { Decodes Utf8 bytes.now result }
 {

@@ -3,6 +3,8 @@
 
 mod building;
 mod decoding;
+#[cfg(test)]
+mod decoding_tests;
 mod faults;
 mod line_ends;
 mod names;

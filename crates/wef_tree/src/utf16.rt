@@ -15,7 +15,8 @@ pub enum ByteOrder {
     LittleEndian,
 }
 
-/// The characters of bytes, a byte order mark aside.
+/// The characters of bytes, a byte order mark aside. A fault is at a unit that is out of its pair, or
+/// at a byte that is left over; behind the first unit of a pair it is at that unit.
 pub fn decode_utf16(alloc: Global, bytes: &[u8]) -> Result<Vec<char>, TreeFault>
     ensures { Decodes Utf16 bytes.now result }
 {
@@ -73,6 +74,7 @@ fn first_unit(order: ByteOrder, bytes: &[u8]) -> Option<(u16, &[u8])>
     }
 }
 
+/// The unit of two bytes.
 fn unit(order: ByteOrder, first: u8, second: u8) -> u16
     ensures { result ≡ unit order first second }
 {
@@ -82,12 +84,14 @@ fn unit(order: ByteOrder, first: u8, second: u8) -> u16
     }
 }
 
+/// Whether a unit is the first of a pair.
 fn is_high(unit: u16) -> bool
     ensures { result ≡ is_high unit }
 {
     (0xD800..=0xDBFF).contains(&unit)
 }
 
+/// Whether a unit is the second of a pair.
 fn is_low(unit: u16) -> bool
     ensures { result ≡ is_low unit }
 {
