@@ -1,14 +1,13 @@
 -- Bytes that are UTF-8 give their characters, and others the place where they stop to be.
 use Rattle.std.proofs.Common.{◌≡◌, ℕ, ◌+◌, ◌-◌, true, false, List, length, Ok, Err, refl}
-use Rattle.std.specs.Str.{IsUtf8, is_utf8, encode_utf8_all}
+use Rattle.std.specs.Str.{IsUtf8, chars, is_utf8}
 use Rattle.std.specs.Str.Lossy.{utf8_valid_len}
-use Rattle.std.proofs.lemmas.Str.{IsUtf8-from_is_utf8, chars_from_encodes, is_utf8-from_IsUtf8}
+use Rattle.std.proofs.lemmas.Str.{IsUtf8-from_is_utf8, is_utf8-from_IsUtf8}
 use Rattle.wef_base.specs.declared.tree.Charset.TheVariants.{Utf8}
 use Rattle.wef_tree.specs.Decoding.{decoded, without_mark}
 
-pub is_decoded : (bytes rest characters : List ℕ) → rest ≡ without_mark Utf8 bytes → IsUtf8 rest → encode_utf8_all characters ≡ rest → decoded Utf8 bytes ≡ Ok characters
-is_decoded bytes rest characters behind good same =
-    rw (chars_from_encodes characters rest good same, behind, is_utf8-from_IsUtf8 (without_mark Utf8 bytes) (rw behind at good)) refl
+pub is_decoded : (bytes rest characters : List ℕ) → rest ≡ without_mark Utf8 bytes → IsUtf8 rest → characters ≡ chars rest → decoded Utf8 bytes ≡ Ok characters
+is_decoded bytes rest characters behind good same = rw (same, behind, is_utf8-from_IsUtf8 (without_mark Utf8 bytes) (rw behind at good)) refl
 
 pub stops : (bytes rest : List ℕ) (n : ℕ) → rest ≡ without_mark Utf8 bytes → ¬ (IsUtf8 rest) → n ≡ utf8_valid_len rest →
     decoded Utf8 bytes ≡ Err (length bytes - length rest + n)

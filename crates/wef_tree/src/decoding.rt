@@ -1,13 +1,14 @@
 //! Bytes as characters.
 
-ghost use Rattle.std.specs.Prelude.{◌≡◌};
+ghost use Rattle.std.specs.Prelude.{◌≡◌, IfOk};
+ghost use Rattle.std.specs.Str.{chars};
 ghost use Rattle.wef_base.specs.declared.tree.Charset.TheVariants.{Utf8};
 ghost use Rattle.wef_tree.specs.Decodes.{Decodes};
 ghost use Rattle.wef_tree.specs.Decoding.{without_mark};
 
 use crate::TreeFault;
 use crate::utf16::{behind_mark, decode_utf16};
-use std::alloc::Global;
+use std::alloc::{AllocError, Global};
 use wef_base::Charset;
 
 /// The characters of bytes, a byte order mark aside; or the place of the first sequence of bytes
@@ -45,10 +46,17 @@ fn decode_utf8(alloc: Global, bytes: &[u8]) -> Result<Vec<char>, TreeFault>
             });
         }
     };
-    match text.chars().collect(alloc) {
+    match characters(alloc, text) {
         Ok(characters) => Ok(characters),
         Err(_) => Err(TreeFault::NoMemory),
     }
+}
+
+#[tactic(auto, using(std::proofs::lemmas::Str::chars_from_encodes))]
+fn characters(alloc: Global, text: &str) -> Result<Vec<char>, AllocError>
+    ensures { IfOk result (λ characters. characters.items ≡ chars text.now) }
+{
+    text.chars().collect(alloc)
 }
 
 fn without_utf8_mark(bytes: &[u8]) -> &[u8]
