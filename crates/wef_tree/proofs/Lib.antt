@@ -1,6 +1,7 @@
-pub mod Readings
 pub mod GoodNodes
-pub mod Inversions
-pub mod GoodPieces
 pub mod GoodOpens
+pub mod GoodPieces
 pub mod GoodTrees
+pub mod Inversions
+pub mod Readings
+pub mod Utf8

@@ -8,6 +8,8 @@ use Rattle.std.specs.Str.Lossy.{utf8_valid_len}
 use Rattle.wef_base.specs.Characters.{is_within}
 use Rattle.wef_base.specs.declared.tree.Charset.{Charset}
 use Rattle.wef_base.specs.declared.tree.Charset.TheVariants.{Utf8, Utf16}
+use Rattle.wef_tree.specs.declared.utf16.ByteOrder.{ByteOrder}
+use Rattle.wef_tree.specs.declared.utf16.ByteOrder.TheVariants.{BigEndian, LittleEndian}
 use Rattle.wef_tree.specs.Fronts.{strip}
 
 -- What a byte order mark is in UTF-8, in UTF-16 little-endian and in UTF-16 big-endian.
@@ -26,8 +28,9 @@ without_front bytes (Some rest) = rest
 without_front bytes None = bytes
 
 -- a unit of two bytes
-abbrev pub unit : Bool → ℕ → ℕ → ℕ
-unit big first second = if big then first * 256 + second else second * 256 + first
+abbrev pub unit : ByteOrder → ℕ → ℕ → ℕ
+unit BigEndian first second = first * 256 + second
+unit LittleEndian first second = second * 256 + first
 
 -- the first and the second unit of a pair that stands for one character (RFC 2781, 2.1)
 abbrev pub is_high : ℕ → Bool
@@ -45,21 +48,25 @@ abbrev pub joined : List ℕ → ℕ → Result (List ℕ) ℕ → Result (List 
 joined front width (Ok cs) = Ok (front ++ cs)
 joined front width (Err at) = Err (width + at)
 
+-- the characters of bytes in UTF-8; or how many bytes stand before the first sequence that is no character
+abbrev pub decoded8 : List ℕ → Result (List ℕ) ℕ
+decoded8 bytes = if is_utf8 bytes then Ok (chars bytes) else Err (utf8_valid_len bytes)
+
 -- The characters of bytes in UTF-16, where a first unit of a pair may wait for its second; or how many bytes there are,
 -- from the unit that waits on, before the first unit that is out of its pair, or before a byte that is left over.
-abbrev pub decoded16 : Bool → Option ℕ → List ℕ → Result (List ℕ) ℕ
-decoded16 big None [] = Ok []
-decoded16 big (Some high) [] = Err 0
-decoded16 big waits (a ∷ []) = Err 0
-decoded16 big None (a ∷ b ∷ rest) =
-    if is_high (unit big a b) then decoded16 big (Some (unit big a b)) rest
-    else (if is_low (unit big a b) then Err 0 else joined (unit big a b ∷ []) 2 (decoded16 big None rest))
-decoded16 big (Some high) (a ∷ b ∷ rest) =
-    if is_low (unit big a b) then joined (pair_of high (unit big a b) ∷ []) 4 (decoded16 big None rest) else Err 0
+abbrev pub decoded16 : ByteOrder → Option ℕ → List ℕ → Result (List ℕ) ℕ
+decoded16 order None [] = Ok []
+decoded16 order (Some high) [] = Err 0
+decoded16 order waits (a ∷ []) = Err 0
+decoded16 order None (a ∷ b ∷ rest) =
+    if is_high (unit order a b) then decoded16 order (Some (unit order a b)) rest
+    else (if is_low (unit order a b) then Err 0 else joined (unit order a b ∷ []) 2 (decoded16 order None rest))
+decoded16 order (Some high) (a ∷ b ∷ rest) =
+    if is_low (unit order a b) then joined (pair_of high (unit order a b) ∷ []) 4 (decoded16 order None rest) else Err 0
 
--- whether a mark says that units are big-endian; without one they are little-endian
-abbrev pub is_big : List ℕ → Bool
-is_big bytes = is_some (strip big_mark bytes)
+-- the order of the bytes of a unit, as a mark says it; without one the lesser byte comes first
+abbrev pub order_of : List ℕ → ByteOrder
+order_of bytes = if is_some (strip big_mark bytes) then BigEndian else LittleEndian
 
 -- bytes without the mark that they begin with
 abbrev pub without_mark : Charset → List ℕ → List ℕ
@@ -70,10 +77,14 @@ without_mark Utf16 bytes = without_front bytes (option_or (strip big_mark bytes)
 abbrev pub mark_length : Charset → List ℕ → ℕ
 mark_length charset bytes = length bytes - length (without_mark charset bytes)
 
+-- the characters of bytes behind their mark
+abbrev pub decoded_behind_mark : Charset → List ℕ → Result (List ℕ) ℕ
+decoded_behind_mark Utf8 bytes = decoded8 (without_mark Utf8 bytes)
+decoded_behind_mark Utf16 bytes = decoded16 (order_of bytes) None (without_mark Utf16 bytes)
+
 -- the characters of bytes, a byte order mark aside; or the place of the first sequence of bytes that is no character
 abbrev pub decoded : Charset → List ℕ → Result (List ℕ) ℕ
-decoded Utf8 bytes = if is_utf8 bytes then Ok (chars (without_mark Utf8 bytes)) else Err (utf8_valid_len bytes)
-decoded Utf16 bytes = joined [] (mark_length Utf16 bytes) (decoded16 (is_big bytes) None (without_mark Utf16 bytes))
+decoded charset bytes = joined [] (mark_length charset bytes) (decoded_behind_mark charset bytes)
 
 -- Characters with each CR LF, and each CR alone, as one LF (XML 1.0, 2.11). `after`: a CR came before.
 abbrev pub line_ends : Bool → List ℕ → List ℕ

@@ -1,4 +1,5 @@
 pub mod Building
+pub mod Decodes
 pub mod Decoding
 pub mod Fronts
 pub mod Good

@@ -2,13 +2,19 @@
 #![tactic(auto)]
 
 mod building;
+mod decoding;
+#[cfg(test)]
+mod decoding_tests;
 mod faults;
 pub mod laws;
+mod line_ends;
 mod names;
 mod pieces;
+mod places;
 mod scopes;
 mod stack;
 mod tags;
+mod utf16;
 
 pub use faults::TreeFault;
 pub use wef_base::{Attribute, Charset, Element, Namespace, Node};
