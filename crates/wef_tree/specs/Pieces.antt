@@ -1,6 +1,6 @@
 -- The pieces that a document is a list of. Which piece stands at the front of a text depends on the text alone; whether
 -- it is good in its place is said where elements are put together.
-use Rattle.std.specs.Prelude.{ℕ, ◌==◌, Bool, false, ◌&&◌, ◌||◌, not, is_some, List, [], ◌∷◌, ◌++◌, encode_utf8, Option, Some, None, codes, if◌then◌else◌}
+use Rattle.std.specs.Prelude.{ℕ, ◌==◌, Bool, false, ◌&&◌, ◌||◌, not, is_some, List, [], ◌∷◌, encode_utf8, Option, Some, None, codes, if◌then◌else◌}
 use Rattle.std.specs.Option.{option_map, option_and_then}
 use Rattle.wef_base.specs.Names.{without_start}
 use Rattle.wef_base.specs.Characters.{is_xml_char}

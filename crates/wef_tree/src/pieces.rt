@@ -11,9 +11,9 @@ use crate::headings::declaration_tail;
 use crate::names::Name;
 use crate::references::reference_at;
 use crate::sections::{comment_tail, section_tail};
-use crate::tags::{end_tag_at, tag_at, Tag};
+use crate::tags::{Tag, end_tag_at, tag_at};
 use std::alloc::Global;
-use wef_base::{is_xml_char, Text};
+use wef_base::{Text, is_xml_char};
 
 /// A piece of a document.
 #[derive(Debug, Drop)]

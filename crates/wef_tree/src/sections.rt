@@ -8,7 +8,7 @@ ghost use Rattle.wef_tree.specs.Reads.{Reads};
 use crate::faults::Halt;
 use crate::fronts::strip;
 use std::alloc::Global;
-use wef_base::{is_xml_char, Text};
+use wef_base::{Text, is_xml_char};
 
 /// What is left behind a comment, whose text begins behind `<!--`.
 pub fn comment_tail(text: &[char]) -> Option<&[char]>
@@ -31,19 +31,20 @@ pub fn comment_tail(text: &[char]) -> Option<&[char]>
 }
 
 /// The text of a CDATA section, which begins behind `<![CDATA[`, and what is left.
+#[tactic(auto, using(crate::proofs::Turns::with_front_twice))]
 pub fn section_tail(alloc: Global, text: &[char]) -> Result<(Text, &[char]), Halt>
     ensures { Reads result (section_tail text.now) }
 {
     let mut section = Text::new(alloc);
     let mut rest = text;
-    while let [character, more @ ..] = rest {
+    while let Some((&character, more)) = rest.split_first() {
         if let Some(behind) = strip(b"]]>", rest) {
             return Ok((section, behind));
         }
-        if !is_xml_char(*character) {
+        if !is_xml_char(character) {
             return Err(Halt::Bad);
         }
-        section.push(*character)?;
+        section.push(character)?;
         rest = more;
     }
     Err(Halt::Bad)

@@ -7,7 +7,7 @@ ghost use Rattle.wef_tree.specs.Tags.{behind_equals, end_tag_at, ends_tag, given
 
 use crate::faults::Halt;
 use crate::fronts::strip;
-use crate::names::{name_at, Name};
+use crate::names::{Name, name_at};
 use crate::values::quoted_at;
 use std::alloc::Global;
 use wef_base::names::{is_xml_space, trim_start};

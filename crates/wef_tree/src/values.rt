@@ -8,7 +8,7 @@ ghost use Rattle.wef_tree.specs.Tags.{as_space, quoted_at, value_in, value_turn}
 use crate::faults::Halt;
 use crate::references::reference_at;
 use std::alloc::Global;
-use wef_base::{is_xml_char, Text};
+use wef_base::{Text, is_xml_char};
 
 /// The quoted value that a text begins with, and what is left.
 pub fn quoted_at(alloc: Global, text: &[char]) -> Result<(Text, &[char]), Halt>
