@@ -1,6 +1,6 @@
 //! Names as they are spelt.
 
-ghost use Rattle.std.specs.Prelude.{◌≡◌, ◌++◌, IfOk};
+ghost use Rattle.std.specs.Prelude.{◌≡◌, IfOk};
 ghost use Rattle.wef_tree.specs.Names.{name_after, name_at, name_tail, plain_name_at, with_front};
 ghost use Rattle.wef_tree.specs.Reads.{Reads};
 
@@ -25,6 +25,7 @@ pub fn name_at(alloc: Global, text: &[char]) -> Result<(Name, &[char]), Halt>
     name_after(alloc, first, rest)
 }
 
+/// The name whose first part was read.
 fn name_after(alloc: Global, first: Text, text: &[char]) -> Result<(Name, &[char]), Halt>
     ensures { Reads result (name_after first text.now) }
 {
@@ -47,6 +48,7 @@ fn name_after(alloc: Global, first: Text, text: &[char]) -> Result<(Name, &[char
     }
 }
 
+/// The name without `:` that a text begins with, and what is left.
 fn plain_name_at(alloc: Global, text: &[char]) -> Result<(Text, &[char]), Halt>
     ensures { Reads result (plain_name_at text.now) }
 {

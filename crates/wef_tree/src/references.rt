@@ -1,6 +1,6 @@
 //! References to characters.
 
-ghost use Rattle.std.specs.Prelude.{◌≡◌, ◌≤◌, IfSome};
+ghost use Rattle.std.specs.Prelude.{◌≡◌};
 ghost use Rattle.std.specs.Option.{option_map};
 ghost use Rattle.wef_tree.specs.References.{base_of, digit, number_at, number_tail, numbered, one_more, reference_at};
 
@@ -33,6 +33,7 @@ pub fn reference_at(text: &[char]) -> Option<(char, &[char])>
     numbered(false, strip(b"#", text)?)
 }
 
+/// The character of a number, whose text begins with its first digit.
 fn numbered(hex: bool, text: &[char]) -> Option<(char, &[char])>
     ensures { option_map (λ read. (read.0, read.1.now)) result ≡ numbered hex text.now }
 {
@@ -70,6 +71,7 @@ fn number_tail(hex: bool, begun: u32, text: &[char]) -> Option<(u32, &[char])>
     None
 }
 
+/// A number with one more digit, none past the last character of Unicode.
 fn one_more(hex: bool, number: u32, digit: u32) -> Option<u32>
     ensures { result ≡ one_more hex number digit }
 {

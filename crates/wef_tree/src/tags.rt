@@ -3,7 +3,7 @@
 ghost use Rattle.std.specs.Prelude.{◌≡◌, length};
 ghost use Rattle.std.specs.Option.{option_copied};
 ghost use Rattle.wef_tree.specs.Reads.{Reads};
-ghost use Rattle.wef_tree.specs.Tags.{behind_equals, end_tag_at, ends_tag, given_at, givens_in, spaced_turn, tag_at, tag_turn, with_value};
+ghost use Rattle.wef_tree.specs.Tags.{behind_equals, end_tag_at, ends_tag, given_at, givens_in, spaced_turn, tag_at, tag_turn};
 
 use crate::faults::Halt;
 use crate::fronts::strip;
@@ -42,10 +42,8 @@ pub fn end_tag_at(alloc: Global, text: &[char]) -> Result<(Name, &[char]), Halt>
     ensures { Reads result (end_tag_at text.now) }
 {
     let (name, rest) = name_at(alloc, text)?;
-    match strip(b">", trim_start(rest)) {
-        Some(rest) => Ok((name, rest)),
-        None => Err(Halt::Bad),
-    }
+    let rest = strip(b">", trim_start(rest)).ok_or(Halt::Bad)?;
+    Ok((name, rest))
 }
 
 fn givens_in(alloc: Global, text: &[char]) -> Result<(List<Given>, &[char]), Halt>
@@ -77,6 +75,7 @@ fn tag_turn(alloc: Global, text: &[char]) -> Result<(Option<Given>, &[char]), Ha
     }
 }
 
+/// The same behind the spaces.
 fn spaced_turn(alloc: Global, text: &[char]) -> Result<(Option<Given>, &[char]), Halt>
     ensures { Reads result (spaced_turn text.now) }
 {
@@ -96,13 +95,12 @@ fn ends_tag(character: char) -> bool
     matches!(character, '>' | '/')
 }
 
+/// The attribute that a text begins with, and what is left.
 fn given_at(alloc: Global, text: &[char]) -> Result<(Given, &[char]), Halt>
     ensures { Reads result (given_at text.now) }
 {
     let (name, rest) = name_at(alloc, text)?;
-    let Some(rest) = behind_equals(rest) else {
-        return Err(Halt::Bad);
-    };
+    let rest = behind_equals(rest).ok_or(Halt::Bad)?;
     let (value, rest) = quoted_at(alloc, rest)?;
     Ok((Given { name, value }, rest))
 }

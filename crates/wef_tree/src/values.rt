@@ -59,6 +59,7 @@ fn value_turn(quote: char, text: &[char]) -> Option<(Option<char>, &[char])>
     }
 }
 
+/// A character that stands in a value itself.
 fn as_space(character: char) -> char
     ensures { result ≡ as_space character }
 {
