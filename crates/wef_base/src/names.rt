@@ -261,7 +261,8 @@ pub fn trim(characters: &[char]) -> &[char]
     trim_end(trim_start(characters))
 }
 
-fn trim_start(characters: &[char]) -> &[char]
+/// Characters without the spaces that they begin with.
+pub fn trim_start(characters: &[char]) -> &[char]
     ensures { result.now ≡ without_start characters.now }
 {
     let mut rest = characters;

@@ -4,4 +4,6 @@ pub mod GoodPieces
 pub mod GoodTrees
 pub mod Inversions
 pub mod Readings
+pub mod Shorter
+pub mod Turns
 pub mod Utf8

@@ -1,6 +1,6 @@
 -- The pieces that a document is a list of. Which piece stands at the front of a text depends on the text alone; whether
 -- it is good in its place is said where elements are put together.
-use Rattle.std.specs.Prelude.{ℕ, ◌==◌, Bool, false, ◌&&◌, ◌||◌, not, is_some, List, [], ◌∷◌, ◌++◌, encode_utf8, Option, Some, None, codes, if◌then◌else◌}
+use Rattle.std.specs.Prelude.{ℕ, ◌==◌, Bool, false, ◌&&◌, ◌||◌, not, is_some, List, [], ◌∷◌, encode_utf8, Option, Some, None, codes, if◌then◌else◌}
 use Rattle.std.specs.Option.{option_map, option_and_then}
 use Rattle.wef_base.specs.Names.{without_start}
 use Rattle.wef_base.specs.Characters.{is_xml_char}
@@ -25,10 +25,15 @@ section_tail (c ∷ cs) =
     behind (strip (codes "]]>") (c ∷ cs)) (λ rest. Some ([], rest))
     (if is_xml_char c then option_map (with_front (encode_utf8 c)) (section_tail cs) else None)
 
+-- what is left behind one character
+abbrev pub behind_character : ℕ → List ℕ → Option (List ℕ)
+behind_character wanted [] = None
+behind_character wanted (c ∷ cs) = if c == wanted then Some cs else None
+
 -- what is left behind a word in quotes of either kind
 abbrev pub behind_quoted : List ℕ → List ℕ → Option (List ℕ)
-behind_quoted word text =
-    behind (strip (34 ∷ (word ++ 34 ∷ [])) text) (λ rest. Some rest) (strip (39 ∷ (word ++ 39 ∷ [])) text)
+behind_quoted word [] = None
+behind_quoted word (c ∷ cs) = if c == 34 || c == 39 then option_and_then (behind_character c) (strip word cs) else None
 
 -- what is left behind the next quote of this kind
 abbrev pub behind_quote : ℕ → List ℕ → Option (List ℕ)

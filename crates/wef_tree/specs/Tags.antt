@@ -1,6 +1,6 @@
 -- Attributes and tags (XML 1.0, rules AttValue, STag, EmptyElemTag and ETag). A value is quoted by `"` or `'`, holds no
 -- `<`, and may hold references; a TAB or LF that stands there itself becomes a space.
-use Rattle.std.specs.Prelude.{ℕ, zero, suc, ◌==◌, Bool, ◌||◌, List, [], ◌∷◌, length, encode_utf8, Option, Some, None, codes, if◌then◌else◌}
+use Rattle.std.specs.Prelude.{ℕ, zero, suc, ◌==◌, Bool, ◌||◌, List, [], ◌∷◌, ◌++◌, length, encode_utf8, Option, Some, None, codes, if◌then◌else◌}
 use Rattle.std.specs.Option.{option_map, option_and_then}
 use Rattle.wef_base.specs.Names.{is_space, without_start}
 use Rattle.wef_base.specs.Characters.{is_xml_char}
@@ -64,10 +64,14 @@ abbrev pub tag_turn : List ℕ → Option (Option Given × List ℕ)
 tag_turn [] = None
 tag_turn (c ∷ cs) = if is_space c then spaced_turn (without_start cs) else (if ends_tag c then Some (None, c ∷ cs) else None)
 
+-- the attributes that were read with others before them
+abbrev pub with_attributes : List Given → List Given × List ℕ → List Given × List ℕ
+with_attributes front read = (front ++ read.0, read.1)
+
 -- what a step leads to: the attributes end, or go on behind the next one
 abbrev pub givens_on : (List ℕ → Option (List Given × List ℕ)) → Option Given × List ℕ → Option (List Given × List ℕ)
 givens_on go (None, rest) = Some ([], rest)
-givens_on go (Some given, rest) = option_map (λ more. (given ∷ more.0, more.1)) (go rest)
+givens_on go (Some given, rest) = option_map (with_attributes (given ∷ [])) (go rest)
 
 -- the attributes up to the tag's end, in so many steps, and what is left
 abbrev pub givens_in : ℕ → List ℕ → Option (List Given × List ℕ)

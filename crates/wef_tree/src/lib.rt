@@ -11,10 +11,18 @@ mod line_ends;
 mod names;
 mod pieces;
 mod places;
+mod fronts;
+mod headings;
+mod letters;
+mod names;
+mod pieces;
+mod references;
 mod scopes;
+mod sections;
 mod stack;
 mod tags;
 mod utf16;
+mod values;
 
 pub use faults::TreeFault;
 pub use wef_base::{Attribute, Charset, Element, Namespace, Node};
