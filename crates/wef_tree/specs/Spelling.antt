@@ -1,7 +1,8 @@
 -- What a document says. Its bytes decode to a text that is a list of pieces, each good in its place, which together give
 -- the root. Where they don't, the longest list of good pieces that begins the text says where the fault is.
-use Rattle.std.specs.Prelude.{◌≡◌, ℕ, ◌-◌, nat_lt, Bool, true, false, ◌&&◌, ◌||◌, not, is_some, List, [], ◌∷◌, length, Option, Some, None, Result, codes, if◌then◌else◌}
+use Rattle.std.specs.Prelude.{◌≡◌, ℕ, ◌-◌, nat_le, Bool, true, false, ◌&&◌, ◌||◌, is_some, List, [], ◌∷◌, length, Option, Some, None, Result, codes, if◌then◌else◌}
 use Rattle.std.specs.declared.result.Result.TheVariants.{Ok, Err}
+use Rattle.std.specs.Borrow.{Bor}
 use Rattle.wef_base.specs.declared.tree.Charset.{Charset}
 use Rattle.wef_base.specs.declared.tree.Element.{Element}
 use Rattle.wef_tree.specs.Building.{greatest_depth, nothing, taken}
@@ -11,6 +12,8 @@ use Rattle.wef_tree.specs.Pieces.{piece_at}
 use Rattle.wef_tree.specs.declared.building.Builder.{Builder}
 use Rattle.wef_tree.specs.declared.faults.FaultKind.{FaultKind}
 use Rattle.wef_tree.specs.declared.faults.FaultKind.TheVariants.{Xml, Deep, Refused as Forbidden}
+use Rattle.wef_tree.specs.declared.faults.Stop.{Stop}
+use Rattle.wef_tree.specs.declared.faults.Stop.TheVariants.{NoMemory as OutOfMemory, Fault}
 use Rattle.wef_tree.specs.declared.faults.TreeFault.{TreeFault}
 use Rattle.wef_tree.specs.declared.faults.TreeFault.TheVariants.{NoMemory, BadCharset, BadXml, TooDeep, Refused}
 use Rattle.wef_tree.specs.declared.pieces.Piece.{Piece}
@@ -49,10 +52,13 @@ is_whole_tag None = false
 
 -- The kind of a fault, by what stands there: a document type or a processing instruction, also a declaration that isn't
 -- good or isn't first; a tag where the greatest number of elements is open; or something else.
-abbrev pub kind_of : Builder → List ℕ → FaultKind
-kind_of b rest =
+abbrev pub kind_by : List ℕ → Bool → ℕ → FaultKind
+kind_by rest is_tag depth =
     if is_some (strip (codes "<!DOCTYPE") rest) || is_some (strip (codes "<?") rest) then Forbidden
-    else (if is_whole_tag (piece_at rest) && not (nat_lt (length b.around) greatest_depth) then Deep else Xml)
+    else (if is_tag && nat_le greatest_depth depth then Deep else Xml)
+
+abbrev pub kind_of : Builder → List ℕ → FaultKind
+kind_of b rest = kind_by rest (is_whole_tag (piece_at rest)) (length b.around)
 
 -- The longest list of good pieces leaves this of the text, and gives no root.
 pub record Stops (text : List ℕ) (kind : FaultKind) (rest : List ℕ) : Type 0 where
@@ -78,3 +84,21 @@ ReadsTree charset bytes (Err (BadCharset at)) = decoded charset bytes ≡ Err at
 ReadsTree charset bytes (Err (BadXml at)) = StopsAt charset bytes Xml at
 ReadsTree charset bytes (Err (TooDeep at)) = StopsAt charset bytes Deep at
 ReadsTree charset bytes (Err (Refused at)) = StopsAt charset bytes Forbidden at
+
+-- What the first piece of a text leads to: it was read and is good, or no piece is, and what that fault would be.
+abbrev pub Steps : Builder → Builder → List ℕ → Result (Bor (List ℕ)) Stop → Type 0
+Steps before after text (Ok behind) = (p : Piece) × (piece_at text ≡ Some (p, behind.now)) × (taken before p ≡ Some after)
+Steps before after text (Err OutOfMemory) = Unit {0}
+Steps before after text (Err (Fault kind left)) = IsStuck before text × (kind ≡ kind_of before text) × (left ≡ length text)
+
+-- What reading a text answers.
+abbrev pub ReadsText : List ℕ → Result Element Stop → Type 0
+ReadsText text (Ok root) = TextSpells text root
+ReadsText text (Err OutOfMemory) = Unit {0}
+ReadsText text (Err (Fault kind left)) = (rest : List ℕ) × Stops text kind rest × (left ≡ length rest)
+
+-- the fault of this kind at a place
+abbrev pub fault_at : FaultKind → ℕ → TreeFault
+fault_at Xml at = BadXml at
+fault_at Deep at = TooDeep at
+fault_at Forbidden at = Refused at

@@ -49,3 +49,22 @@ impl From<AllocError> for Halt {
         Halt::NoMemory
     }
 }
+
+/// Why reading a text stopped.
+#[derive(Clone, Copy, Debug)]
+pub enum Stop {
+    NoMemory,
+    /// What is wrong, and how many characters are left from there on.
+    Fault { kind: FaultKind, left: usize },
+}
+
+impl From<AllocError> for TreeFault {
+    ghost use Rattle.std.specs.Prelude.{◌≡◌};
+    ghost use Rattle.wef_tree.specs.declared.faults.TreeFault.TheVariants.{NoMemory};
+
+    ghost from_gives = { λ _ e. e ≡ NoMemory };
+
+    fn from(_error: AllocError) -> TreeFault {
+        TreeFault::NoMemory
+    }
+}

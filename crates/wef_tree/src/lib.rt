@@ -6,16 +6,15 @@ mod decoding;
 #[cfg(test)]
 mod decoding_tests;
 mod faults;
+mod fronts;
+mod headings;
 pub mod laws;
+mod letters;
 mod line_ends;
 mod names;
 mod pieces;
 mod places;
-mod fronts;
-mod headings;
-mod letters;
-mod names;
-mod pieces;
+mod reading;
 mod references;
 mod scopes;
 mod sections;
@@ -25,4 +24,5 @@ mod utf16;
 mod values;
 
 pub use faults::TreeFault;
+pub use reading::read_tree;
 pub use wef_base::{Attribute, Charset, Element, Namespace, Node};
