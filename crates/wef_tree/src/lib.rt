@@ -6,6 +6,7 @@ mod faults;
 mod names;
 mod pieces;
 mod scopes;
+mod spaces;
 mod stack;
 mod tags;
 
