@@ -1,6 +1,7 @@
 //! XML trees: reading documents exactly.
 #![tactic(auto)]
 
+mod attributes;
 mod building;
 mod faults;
 mod names;
