@@ -48,7 +48,7 @@ has_room b = nat_lt (length b.around) greatest_depth && not (is_some b.root)
 abbrev pub opened_with : List Open → Tag → Declared → Option Open
 opened_with around tag own =
     option_and_then (λ space. option_map (λ attributes. record { name = tag.name; space = space; attributes = attributes; declared = own; children = [] })
-        (attributes_by own around [] tag.given))
+    (attributes_by own around [] tag.given))
     (in_scope own around tag.name.prefix)
 
 abbrev pub opened : Builder → Tag → Option Open

@@ -1,5 +1,6 @@
 pub mod Building
 pub mod Decoding
+pub mod ExpandedNames
 pub mod Fronts
 pub mod Names
 pub mod Pieces
