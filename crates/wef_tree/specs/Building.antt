@@ -27,14 +27,18 @@ nothing = record { begun = false; around = []; text = []; root = None }
 abbrev pub is_outside : Builder → Bool
 is_outside b = length b.around == 0
 
--- children with the text that stands behind them, where there is any
-abbrev pub with_text : List Node → List ℕ → List Node
-with_text children text = if length text == 0 then children else children ++ Chars text ∷ []
+-- the open elements with one more child of the innermost
+abbrev pub with_child : Node → List Open → List Open
+with_child child [] = []
+with_child child (o ∷ os) = record o { children = o.children ++ child ∷ [] } ∷ os
 
--- the open elements with the text that waited as the last child of the innermost
-abbrev pub flushed : List ℕ → List Open → List Open
-flushed text [] = []
-flushed text (o ∷ os) = record o { children = with_text o.children text } ∷ os
+-- the open elements with a text as the last child of the innermost, where there is any text
+abbrev pub with_text : List ℕ → List Open → List Open
+with_text text around = if length text == 0 then around else with_child (Chars text) around
+
+-- once a tag has come, the characters that waited are text
+abbrev pub flushed : Builder → Builder
+flushed b = record b { begun = true; around = with_text b.text b.around; text = [] }
 
 -- whether one more element may begin
 abbrev pub has_room : Builder → Bool
@@ -44,7 +48,7 @@ has_room b = nat_lt (length b.around) greatest_depth && not (is_some b.root)
 abbrev pub opened_with : List Open → Tag → Declared → Option Open
 opened_with around tag own =
     option_and_then (λ space. option_map (λ attributes. record { name = tag.name; space = space; attributes = attributes; declared = own; children = [] })
-        (attributes_by own around [] tag.given))
+    (attributes_by own around [] tag.given))
     (in_scope own around tag.name.prefix)
 
 abbrev pub opened : Builder → Tag → Option Open
@@ -55,27 +59,25 @@ abbrev pub element_of : Open → Element
 element_of o = record { space = o.space; name = o.name.local; attributes = o.attributes; children = o.children }
 
 -- an element that has ended, as the last child of the innermost open one, or as the root
-abbrev pub placed : Element → List Open → Option Element → Builder
-placed e [] root = record { begun = true; around = []; text = []; root = Some e }
-placed e (o ∷ os) root = record { begun = true; around = record o { children = o.children ++ Child e ∷ [] } ∷ os; text = []; root = root }
+abbrev pub placed : Element → Builder → Builder
+placed e b = if is_outside b then record b { root = Some e } else record b { around = with_child (Child e) b.around }
 
 -- an element that begins, inside those that are open
 abbrev pub entered : Builder → Open → Builder
-entered b o = record { begun = true; around = o ∷ flushed b.text b.around; text = []; root = b.root }
+entered b o = record (flushed b) { around = o ∷ (flushed b).around }
 
 -- an element that begins and ends at once
 abbrev pub passed : Builder → Open → Builder
-passed b o = placed (element_of o) (flushed b.text b.around) b.root
+passed b o = placed (element_of o) (flushed b)
 
 -- two names, letter for letter
 abbrev pub same_name : Name → Name → Bool
 same_name x y = same x.prefix y.prefix && same x.local y.local
 
--- the innermost element ends, where its name is this one
-abbrev pub ended : Name → List ℕ → List Open → Option Element → Option Builder
-ended name text [] root = None
-ended name text (o ∷ os) root =
-    if same_name name o.name then Some (placed (element_of (record o { children = with_text o.children text })) os root) else None
+-- the innermost of these open elements ends, where its name is this one
+abbrev pub ended : Name → Builder → List Open → Option Builder
+ended name b [] = None
+ended name b (o ∷ os) = if same_name name o.name then Some (placed (element_of o) (record b { around = os })) else None
 
 -- more text of the innermost element
 abbrev pub with_more : Builder → List ℕ → Option Builder
@@ -91,7 +93,7 @@ taken b Declaration = if b.begun then None else Some (record b { begun = true })
 taken b Comment = Some (record b { begun = true })
 taken b (Start tag) = option_map (entered b) (opened b tag)
 taken b (Empty tag) = option_map (passed b) (opened b tag)
-taken b (End name) = ended name b.text b.around b.root
+taken b (End name) = ended name (flushed b) (flushed b).around
 taken b (Section text) = with_more b text
 taken b (Reference c) = with_more b (encode_utf8 c)
 taken b (Letter c) = with_letter b c

@@ -1,6 +1,7 @@
 pub mod Building
 pub mod Decodes
 pub mod Decoding
+pub mod ExpandedNames
 pub mod Fronts
 pub mod Good
 pub mod Laws

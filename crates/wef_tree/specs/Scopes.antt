@@ -20,6 +20,10 @@ Declared = map.FinMap (slice_cmp nat_cmp) (List ℕ)
 unfoldable pub xml_space : List ℕ
 xml_space = codes "http://www.w3.org/XML/1998/namespace"
 
+-- whether a namespace is that of the prefix `xml`
+unfoldable pub is_xml_space : List ℕ → Bool
+is_xml_space space = same space xml_space
+
 unfoldable pub is_xml : List ℕ → Bool
 is_xml word = same word (codes "xml")
 
@@ -39,8 +43,8 @@ declares name =
 -- prefix never as no namespace
 abbrev pub may_declare : List ℕ → List ℕ → Bool
 may_declare prefix space =
-    if is_xml prefix then same space xml_space
-    else not (is_xmlns prefix) && not (same space xml_space) && (is_empty prefix || not (is_empty space))
+    if is_xml prefix then is_xml_space space
+    else not (is_xmlns prefix) && not (is_xml_space space) && (is_empty prefix || not (is_empty space))
 
 -- the declarations of a tag with one more, which must be good and the first of its prefix
 abbrev pub with_declaration : Declared → List ℕ → List ℕ → Option Declared

@@ -1,6 +1,7 @@
 //! XML trees: reading documents exactly.
 #![tactic(auto)]
 
+mod attributes;
 mod building;
 mod decoding;
 #[cfg(test)]
@@ -18,6 +19,7 @@ mod reading;
 mod references;
 mod scopes;
 mod sections;
+mod spaces;
 mod stack;
 mod tags;
 mod utf16;

@@ -1,5 +1,10 @@
 //! Namespaces in scope.
 
+ghost use Rattle.std.specs.Prelude.{◌≡◌, ◌==◌, Option, IfOk};
+ghost use Rattle.std.specs.Option.{option_copied};
+ghost use Rattle.std.specs.FinMap as map;
+
+use std::alloc::{AllocError, Global};
 use std::collections::BTreeMap;
 use std::marker::Model;
 use wef_base::{Namespace, Text};
@@ -26,4 +31,34 @@ impl Model for Declarations {
     ghost view = { λ d. map.from_entries d.spaces.entries };
 
     ghost invariant = { λ d. IsOrdered (slice_cmp nat_cmp) d.spaces };
+}
+
+impl Declarations {
+    /// No declaration. It takes no memory.
+    pub fn new(alloc: Global) -> Declarations
+        ensures { result ≡ map.empty }
+    {
+        Declarations {
+            spaces: BTreeMap::new(alloc),
+        }
+    }
+
+    /// The namespace that a prefix is declared as.
+    pub fn get(&self, prefix: &Text) -> Option<&Namespace>
+        ensures { option_copied result ≡ map.get self.now prefix.now }
+    {
+        self.spaces.get(prefix)
+    }
+
+    /// Declares a prefix, and gives the namespace that it was declared as before.
+    pub fn insert(
+        &mut self,
+        prefix: Text,
+        space: Namespace,
+    ) -> Result<Option<Namespace>, AllocError>
+        ensures before { IfOk result (λ before. before ≡ map.get self.old prefix) }
+        ensures after { IfOk result (λ _. self.new ≡ map.insert self.old prefix space) }
+    {
+        Ok(self.spaces.insert(prefix, space)?)
+    }
 }

@@ -1,0 +1,144 @@
+//! The attributes of a tag.
+
+ghost use Rattle.std.specs.Prelude.{◌≡◌, ℕ, [], List, true, not, IfOk, OnOk, if◌then◌else◌};
+ghost use Rattle.std.specs.BTreeSet.{contains};
+ghost use Rattle.std.specs.Ordering.{eq_by_cmp};
+ghost use Rattle.std.specs.List.{list_any};
+ghost use Rattle.wef_tree.specs.ExpandedNames.{HasNamesOf, name_cmp};
+ghost use Rattle.wef_tree.specs.Reads.{Gives, Takes};
+ghost use Rattle.wef_tree.specs.Scopes.{attribute_one, attributes_by, declares, is_attribute, with_attribute};
+
+use crate::faults::Halt;
+use crate::names::Name;
+use crate::scopes::Declarations;
+use crate::spaces::{attribute_space, declared_prefix};
+use crate::stack::Stack;
+use crate::tags::Given;
+use std::alloc::{AllocError, Global};
+use std::collections::BTreeSet;
+use wef_base::{Attribute, List, Namespace, Text};
+
+/// Up to this many attributes, each is compared with all before it.
+const FEW: usize = 8;
+
+/// The attributes of a tag with these declarations, inside these elements; declarations aside. No
+/// two may have one namespace and local name.
+pub fn attributes_by(
+    alloc: Global,
+    own: &Declarations,
+    around: &Stack,
+    given: List<Given>,
+) -> Result<List<Attribute>, Halt>
+    ensures { Gives result (attributes_by own.now around.now [] given) }
+{
+    if given.len() > FEW {
+        return many_attributes(alloc, own, around, given);
+    }
+    few_attributes(alloc, own, around, given)
+}
+
+fn few_attributes(
+    alloc: Global,
+    own: &Declarations,
+    around: &Stack,
+    given: List<Given>,
+) -> Result<List<Attribute>, Halt>
+    ensures { Gives result (attributes_by own.now around.now [] given) }
+{
+    let mut attributes = List::new(alloc);
+    for one in given.into_vec() {
+        if declared_prefix(&one.name).is_none() {
+            let space = attribute_space(alloc, own, around, &one.name.prefix)?;
+            add_one_of_few(&mut attributes, one, space)?;
+        }
+    }
+    Ok(attributes)
+}
+
+fn add_one_of_few(
+    attributes: &mut List<Attribute>,
+    given: Given,
+    space: Namespace,
+) -> Result<(), Halt>
+    ensures { Takes result (with_attribute attributes.old given space) attributes.new }
+{
+    if has_attribute(attributes.as_slice(), &space, &given.name.local) {
+        return Err(Halt::Bad);
+    }
+    attributes.push(attribute(given, space))?;
+    Ok(())
+}
+
+fn many_attributes(
+    alloc: Global,
+    own: &Declarations,
+    around: &Stack,
+    given: List<Given>,
+) -> Result<List<Attribute>, Halt>
+    ensures { Gives result (attributes_by own.now around.now [] given) }
+{
+    let mut attributes = List::new(alloc);
+    let mut names = BTreeSet::new(alloc);
+    for one in given.into_vec() {
+        if declared_prefix(&one.name).is_none() {
+            let space = attribute_space(alloc, own, around, &one.name.prefix)?;
+            add_one_of_many(&mut attributes, &mut names, one, space)?;
+        }
+    }
+    Ok(attributes)
+}
+
+fn add_one_of_many(
+    attributes: &mut List<Attribute>,
+    names: &mut BTreeSet<(Text, Namespace)>,
+    given: Given,
+    space: Namespace,
+) -> Result<(), Halt>
+    requires { HasNamesOf names.old attributes.old }
+    ensures takes { Takes result (with_attribute attributes.old given space) attributes.new }
+    ensures names { OnOk result (HasNamesOf names.new attributes.new) }
+{
+    if !add_name(names, &space, &given.name.local)? {
+        return Err(Halt::Bad);
+    }
+    attributes.push(attribute(given, space))?;
+    Ok(())
+}
+
+/// Adds an expanded name to others, and says whether it is a new one.
+fn add_name(
+    names: &mut BTreeSet<(Text, Namespace)>,
+    space: &Namespace,
+    name: &Text,
+) -> Result<bool, AllocError>
+    ensures is_new { IfOk result (λ is_new. is_new ≡ not (contains name_cmp names.old (name.now, space.now))) }
+    ensures added { OnOk result ((q : List ℕ × List ℕ) → contains name_cmp names.new q ≡ (if eq_by_cmp name_cmp (name.now, space.now) q then true else contains name_cmp names.old q)) }
+{
+    Ok(names.insert((name.clone()?, space.clone()?))?)
+}
+
+fn attribute(given: Given, space: Namespace) -> Attribute
+    ensures { result ≡ record { space = space; name = given.name.local; value = given.value } }
+{
+    let Given { name, value } = given;
+    let Name { prefix: _, local } = name;
+    Attribute {
+        space,
+        name: local,
+        value,
+    }
+}
+
+fn has_attribute(attributes: &[Attribute], space: &Namespace, name: &Text) -> bool
+    ensures { result ≡ list_any (is_attribute space.now name.now) attributes.now }
+{
+    attributes
+        .iter()
+        .any(|attribute| is_attribute(attribute, space, name))
+}
+
+fn is_attribute(attribute: &Attribute, space: &Namespace, name: &Text) -> bool
+    ensures { result ≡ is_attribute space.now name.now attribute.now }
+{
+    *name == attribute.name && *space == attribute.space
+}
