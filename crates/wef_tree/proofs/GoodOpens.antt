@@ -1,8 +1,8 @@
 -- What is open holds good parts: names, namespaces, attributes that differ, children that are good and apart.
-use Rattle.std.proofs.Common.{◌≡◌, ℕ, zero, suc, ◌+◌, Bool, true, false, ◌&&◌, ◌||◌, cond, List, [], ◌∷◌, ◌++◌, length, refl, ap, sym, ◌∙◌, subst, ◌⊎◌, inl, inr, ⊎_elim, append_assoc, append-nil, arith}
-use Rattle.std.specs.Prelude.{Option, Some, None, is_some, not, encode_utf8, encode_utf8_all, codes, if◌then◌else◌}
-use Rattle.std.specs.List.{list_all, list_any}
-use Rattle.std.specs.Option.{option_map, option_or, option_and_then}
+use Rattle.std.proofs.Common.{◌≡◌, ℕ, suc, Bool, true, false, ◌&&◌, ◌||◌, cond, List, [], ◌∷◌, ◌++◌, refl, ap, sym, ◌∙◌, subst, append_assoc, append-nil}
+use Rattle.std.specs.Prelude.{Option, Some, None, is_some, not, codes}
+use Rattle.std.specs.List.{list_any}
+use Rattle.std.specs.Option.{option_or, option_and_then}
 use Rattle.std.specs.Ordering.{eq_by_cmp, is_eq, nat_cmp}
 use Rattle.std.specs.Cmp.Lexicographic.{slice_cmp, nat_list_cmp_total, texts_ties}
 use Rattle.std.specs.declared.cmp.Ordering.{Ordering}
@@ -10,21 +10,19 @@ use Rattle.std.specs.declared.cmp.Ordering.TheVariants.{Less, Equal, Greater}
 use Rattle.std.specs.FinMap as map
 use lib.Utf8.{encode}
 use Rattle.std.proofs.lemmas.Map.Lookups.{exact_bytes}
-use Rattle.wef_base.specs.Characters.{is_xml_char}
 use Rattle.wef_base.specs.Names.{same}
 use Rattle.wef_base.specs.declared.tree.Attribute.{Attribute}
 use Rattle.wef_base.specs.declared.tree.Element.{Element}
-use Rattle.wef_base.specs.declared.tree.Node.{Node, Chars, Element'}
+use Rattle.wef_base.specs.declared.tree.Node.{Node, Chars}
 use Rattle.wef_base.specs.declared.tree.Node.TheVariants.{Element as Child}
-use Rattle.wef_tree.specs.Building.{element_of, flushed, with_text}
-use Rattle.wef_tree.specs.Good.{IsXmlText, IsLocalName, IsGoodAttribute, AreGoodAttributes, differ_behind, are_different, IsGoodHead, is_text, are_apart, IsGoodText, IsGoodNode, AreGoodNodes, IsGoodElement}
-use Rattle.wef_tree.specs.Scopes.{Declared, attribute_one, attribute_space, attributes_by, declare_one, declared_by, declared_outside, declares, in_scope, is_attribute, is_empty, is_xml, is_xmlns, may_declare, undeclared, with_attribute, with_declaration, xml_space}
+use Rattle.wef_tree.specs.Good.{IsXmlText, IsGoodAttribute, AreGoodAttributes, differ_behind, are_different, is_text, are_apart, IsGoodText, IsGoodNode, AreGoodNodes, IsGoodElement}
+use Rattle.wef_tree.specs.Scopes.{Declared, attribute_one, attribute_space, attributes_by, declare_one, declared_by, declared_outside, declares, in_scope, is_attribute, is_empty, is_xml, is_xml_space, is_xmlns, may_declare, undeclared, with_attribute, with_declaration, xml_space}
 use Rattle.wef_tree.specs.declared.names.Name.{Name}
 use Rattle.wef_tree.specs.declared.stack.Open.{Open}
 use Rattle.wef_tree.specs.declared.tags.Given.{Given}
 use Rattle.wef_tree.proofs.GoodNodes.{good_child, is_no_text}
 use Rattle.wef_tree.proofs.GoodPieces.{AreGoodGivens, IsGoodGiven, IsGoodName, no_text}
-use Rattle.wef_tree.proofs.Inversions.{and_then_some, cond_is, if_some, map_some, none_some, some_is, unless_some}
+use Rattle.wef_tree.proofs.Inversions.{and_then_some, if_some, none_some, some_is, unless_some}
 
 -- declarations
 
@@ -84,6 +82,7 @@ xml_is_some = refl
 
 -- a namespace that may be declared isn't empty, but for the default one
 may_stand : (prefix space : List ℕ) → may_declare prefix space ≡ true → (is_empty prefix || not (is_empty space)) ≡ true
+unfolding is_xml_space
 may_stand prefix space = by (is_xml prefix)
   where
     by : (b : Bool) → cond b (same space xml_space) (not (is_xmlns prefix) && not (same space xml_space) && (is_empty prefix || not (is_empty space))) ≡ true →
@@ -250,17 +249,11 @@ pub record AreGoodChildren (ns : List Node) (room : ℕ) : Type 0 where
   pub apart : are_apart false ns ≡ true
   pub good : AreGoodNodes ns room
 
-pub with_good_text : (ns : List Node) (text : List ℕ) (room : ℕ) → AreGoodChildren ns room → ends_with_text false ns ≡ false → IsXmlText text → AreGoodChildren (with_text ns text) room
-with_good_text ns text room good fresh is = by (is_empty text) refl
-  where
-    shut : (x y : Bool) → x ≡ false → (x && y) ≡ false
-    shut x y e = ap (λ b. b && y) e
-    by : (b : Bool) → is_empty text ≡ b → AreGoodChildren (cond b ns (ns ++ Chars text ∷ [])) room
-    by true empty = good
-    by false some = record {
-        apart = apart_more false ns (Chars text) good.apart (shut (ends_with_text false ns) true fresh);
-        good = good_more ns (Chars text) room good.good (record { allowed = is; some = some });
-      }
+pub with_good_text : (ns : List Node) (text : List ℕ) (room : ℕ) → AreGoodChildren ns room → ends_with_text false ns ≡ false → IsGoodText text → AreGoodChildren (ns ++ Chars text ∷ []) room
+with_good_text ns text room good fresh is = record {
+    apart = apart_more false ns (Chars text) good.apart (ap (λ b. b && true) fresh);
+    good = good_more ns (Chars text) room good.good is;
+  }
 
 pub with_good_child : (ns : List Node) (e : Element) (room : ℕ) → AreGoodChildren ns room → IsGoodElement e room → AreGoodChildren (ns ++ Child e ∷ []) room
 with_good_child ns e room good is = record {

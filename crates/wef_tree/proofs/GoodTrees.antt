@@ -1,6 +1,6 @@
 -- What a document says is a good tree: each good piece keeps a builder good.
-use Rattle.std.proofs.Common.{◌≡◌, ℕ, zero, suc, ◌+◌, Bool, true, false, ◌&&◌, cond, List, [], ◌∷◌, ◌++◌, length, refl, ap, sym, ◌∙◌, subst, append_assoc, append-nil, arith}
-use Rattle.std.specs.Prelude.{Option, Some, None, is_some, not, nat_lt, encode_utf8, encode_utf8_all, if◌then◌else◌}
+use Rattle.std.proofs.Common.{◌≡◌, ℕ, zero, suc, ◌+◌, ◌==◌, Bool, true, false, ◌&&◌, cond, List, [], ◌∷◌, ◌++◌, length, refl, ap, sym, ◌∙◌, subst, append_assoc, append-nil, arith}
+use Rattle.std.specs.Prelude.{Option, Some, None, nat_lt, encode_utf8, encode_utf8_all}
 use Rattle.std.specs.List.{list_all}
 use Rattle.std.specs.Option.{option_map, option_and_then}
 use Rattle.std.specs.FinMap as map
@@ -10,22 +10,21 @@ use Rattle.wef_base.specs.Names.{is_space}
 use Rattle.wef_base.specs.declared.tree.Attribute.{Attribute}
 use Rattle.wef_base.specs.declared.tree.Charset.{Charset}
 use Rattle.wef_base.specs.declared.tree.Element.{Element}
-use Rattle.wef_base.specs.declared.tree.Node.{Node}
+use Rattle.wef_base.specs.declared.tree.Node.{Node, Chars}
 use Rattle.wef_base.specs.declared.tree.Node.TheVariants.{Element as Child}
-use Rattle.wef_tree.specs.Building.{element_of, ended, entered, flushed, has_room, is_outside, nothing, opened, opened_with, passed, placed, same_name, taken, with_letter, with_more, with_text}
-use Rattle.wef_tree.specs.Good.{IsXmlText, IsGoodHead, IsGoodElement, IsGoodTree, are_apart, AreGoodNodes}
-use Rattle.wef_tree.specs.Pieces.{piece_at}
-use Rattle.wef_tree.specs.Scopes.{Declared, attributes_by, declared_by, in_scope}
-use Rattle.wef_tree.specs.Spelling.{Leads, Reaches, Spells}
+use Rattle.wef_tree.specs.Building.{element_of, ended, entered, flushed, has_room, is_outside, nothing, opened, opened_with, passed, placed, same_name, taken, with_child, with_letter, with_more, with_text}
+use Rattle.wef_tree.specs.Good.{IsXmlText, IsGoodElement, IsGoodTree}
+use Rattle.wef_tree.specs.Scopes.{Declared, attributes_by, declared_by, in_scope, is_empty}
+use Rattle.wef_tree.specs.Spelling.{Leads, Spells}
 use Rattle.wef_tree.specs.declared.building.Builder.{Builder}
 use Rattle.wef_tree.specs.declared.names.Name.{Name}
 use Rattle.wef_tree.specs.declared.pieces.Piece.{Piece}
 use Rattle.wef_tree.specs.declared.pieces.Piece.TheVariants.{Declaration, Comment, Start, Empty, End, Section, Reference, Letter}
 use Rattle.wef_tree.specs.declared.stack.Open.{Open}
 use Rattle.wef_tree.specs.declared.tags.Tag.{Tag}
-use Rattle.wef_tree.proofs.GoodOpens.{AreGood, AreGoodChildren, AreGoodOpens, AreGoodSpaces, IsGoodOpen, all_declared, ends_with_child, ends_with_text, good_attributes, good_in_scope, none_declared, with_good_child, with_good_text}
+use Rattle.wef_tree.proofs.GoodOpens.{AreGoodChildren, AreGoodOpens, IsGoodOpen, all_declared, ends_with_child, ends_with_text, good_attributes, good_in_scope, none_declared, with_good_child, with_good_text}
 use Rattle.wef_tree.proofs.GoodPieces.{IsGoodPiece, IsGoodTag, no_text, piece_is, text_behind}
-use Rattle.wef_tree.proofs.Inversions.{and_then_some, cond_is, if_some, map_some, none_some, some_is, unless_some}
+use Rattle.wef_tree.proofs.Inversions.{and_then_some, if_some, map_some, none_some, some_is, unless_some}
 
 -- the innermost element doesn't end with a text, which waits in the builder
 abbrev IsFresh : List Open → Type 0
@@ -71,43 +70,65 @@ text_join one more first second = record {
     all_append [] ds e f = f
     all_append (c ∷ cs) ds e f = both _ _ (front _ _ e) (all_append cs ds (last _ _ e) f)
 
--- text goes into the innermost element
-flushed_good : (text : List ℕ) (os : List Open) (room : ℕ) → AreGoodOpens os room → IsFresh os → IsXmlText text → AreGoodOpens (flushed text os) room
-flushed_good text [] room good fresh is = tt
-flushed_good text (o ∷ os) room good fresh is =
-    let o_good = good.0 in
-    let children = with_good_text o.children text room (record { apart = o_good.apart; good = o_good.children }) fresh is in
+-- one more child of the innermost element
+child_good : (n : Node) (o : Open) (os : List Open) (room : ℕ) → AreGoodOpens (o ∷ os) room → AreGoodChildren (o.children ++ n ∷ []) room → AreGoodOpens (with_child n (o ∷ os)) room
+child_good n o os room good children =
+    let is = good.0 in
     (record {
-        named = o_good.named; in_space = o_good.in_space; attributed = o_good.attributed; different = o_good.different; spaces = o_good.spaces;
+        named = is.named; in_space = is.in_space; attributed = is.attributed; different = is.different; spaces = is.spaces;
         apart = children.apart; children = children.good }, good.1)
 
-flushed_length : (text : List ℕ) (os : List Open) → length (flushed text os) ≡ length os
-flushed_length text [] = refl
-flushed_length text (o ∷ os) = refl
+children_of : (o : Open) (room : ℕ) → IsGoodOpen o room → AreGoodChildren o.children room
+children_of o room good = record { apart = good.apart; good = good.children }
+
+-- the text that waited goes into the innermost element
+text_good : (text : List ℕ) (os : List Open) (room : ℕ) → AreGoodOpens os room → IsFresh os → IsXmlText text → AreGoodOpens (with_text text os) room
+text_good text os room good fresh is = by (is_empty text) refl
+  where
+    some : (os : List Open) → AreGoodOpens os room → IsFresh os → is_empty text ≡ false → AreGoodOpens (with_child (Chars text) os) room
+    some [] good fresh e = tt
+    some (o ∷ os) good fresh e =
+        child_good (Chars text) o os room good (with_good_text o.children text room (children_of o room good.0) fresh (record { allowed = is; some = e }))
+    by : (b : Bool) → is_empty text ≡ b → AreGoodOpens (cond b os (with_child (Chars text) os)) room
+    by true e = good
+    by false e = some os good fresh e
+
+text_length : (text : List ℕ) (os : List Open) → length (with_text text os) ≡ length os
+text_length text os = by (is_empty text)
+  where
+    child : (os : List Open) → length (with_child (Chars text) os) ≡ length os
+    child [] = refl
+    child (o ∷ os) = refl
+    by : (b : Bool) → length (cond b os (with_child (Chars text) os)) ≡ length os
+    by true = refl
+    by false = child os
 
 -- what ends is a good element, one deeper than what it may hold
-ended_good : (o : Open) (text : List ℕ) (room : ℕ) → IsGoodOpen o room → ends_with_text false o.children ≡ false → IsXmlText text →
-    IsGoodElement (element_of (record o { children = with_text o.children text })) (suc room)
-ended_good o text room good fresh is =
-    let children = with_good_text o.children text room (record { apart = good.apart; good = good.children }) fresh is in
-    (record { named = good.named.local; in_space = good.in_space; attributed = good.attributed; different = good.different }, children.apart, children.good)
+element_good : (o : Open) (room : ℕ) → IsGoodOpen o room → IsGoodElement (element_of o) (suc room)
+element_good o room good =
+    (record { named = good.named.local; in_space = good.in_space; attributed = good.attributed; different = good.different }, good.apart, good.children)
 
-placed_good : (e : Element) (os : List Open) (root : Option Element) (room : ℕ) → room + length os ≡ 64 → AreGoodOpens os room → IsGoodRoot root → IsGoodElement e room →
-    IsGoodBuilder (placed e os root)
-placed_good e [] root room deep good is element =
+placed_good :
+    (e : Element) (b : Builder) (os : List Open) (room : ℕ) → room + length os ≡ 64 → AreGoodOpens os room → IsXmlText b.text → IsGoodRoot b.root → IsGoodElement e room →
+    IsGoodBuilder (placed e (record b { around = os }))
+placed_good e b [] room deep good pending root element =
     let P : ℕ → Type 0 = λ n. IsGoodElement e n in
     let all : room ≡ 64 = omega arith in
-    record { room = room; deep = deep; opens = tt; fresh = tt; pending = no_text; root = subst P all element }
-placed_good e (o ∷ os) root room deep good is element =
-    let o_good = good.0 in
-    let children = with_good_child o.children e room (record { apart = o_good.apart; good = o_good.children }) element in
-    record {
-      room = room; deep = deep;
-      opens = (record {
-        named = o_good.named; in_space = o_good.in_space; attributed = o_good.attributed; different = o_good.different; spaces = o_good.spaces;
-        apart = children.apart; children = children.good }, good.1);
-      fresh = ends_with_child o.children e; pending = no_text; root = is;
-    }
+    record { room = room; deep = deep; opens = tt; fresh = tt; pending = pending; root = subst P all element }
+placed_good e b (o ∷ os) room deep good pending root element =
+    let inside : Builder = record b { around = with_child (Child e) (o ∷ os) } in
+    let outside : Builder = record b { around = o ∷ os; root = Some e } in
+    let some : (length (o ∷ os) == 0) ≡ false = grind (arith, nat_tests) in
+    let is : IsGoodBuilder inside = record {
+        room = room;
+        deep = deep;
+        opens = child_good (Child e) o os room good (with_good_child o.children e room (children_of o room good.0) element);
+        fresh = ends_with_child o.children e;
+        pending = pending;
+        root = root;
+      } in
+    let P : Bool → Type 0 = λ b. IsGoodBuilder (cond b outside inside) in
+    subst P (sym some) is
 
 abbrev open_as : Tag → Declared → List ℕ → List Attribute → Open
 open_as tag own space attributes = record { name = tag.name; space = space; attributes = attributes; declared = own; children = [] }
@@ -159,40 +180,48 @@ letter_good b c d good is = by (is_outside b)
     by true e = subst IsGoodBuilder (some_is (record b { begun = true }) c (if_some (is_space d) (Some (record b { begun = true })) c e).1) (begun_good b good)
     by false e = more_good b c (encode_utf8 d) good (one_character d is) e
 
+-- a builder whose text has gone into the innermost element
+record IsFlat (b : Builder) (room : ℕ) : Type 0 where
+  deep : room + length (flushed b).around ≡ 64
+  opens : AreGoodOpens (flushed b).around room
+
+flat : (b : Builder) (good : IsGoodBuilder b) → IsFlat b good.room
+flat b good = record {
+    deep = (let e = text_length b.text b.around in let d = good.deep in omega arith);
+    opens = text_good b.text b.around good.room good.opens good.fresh good.pending;
+  }
+
 entered_good : (b : Builder) (o : Open) → IsGoodBuilder b → IsOpened b.around o → IsGoodBuilder (entered b o)
-entered_good b o good opens = by good.room good.deep good.opens
+entered_good b o good opens = by good.room (flat b good) good.deep
   where
-    by : (room : ℕ) → room + length b.around ≡ 64 → AreGoodOpens b.around room → IsGoodBuilder (entered b o)
-    by zero deep around = let fits = opens.fits in absurd (grind (arith, nat_tests))
-    by (suc room) deep around = record {
+    by : (room : ℕ) → IsFlat b room → room + length b.around ≡ 64 → IsGoodBuilder (entered b o)
+    by zero is deep = let fits = opens.fits in absurd (grind (arith, nat_tests))
+    by (suc room) is deep = record {
         room = room;
-        deep = (let flat = flushed_length b.text b.around in omega arith);
-        opens = (opens.good room, flushed_good b.text b.around (suc room) around good.fresh good.pending);
+        deep = (let d = is.deep in omega arith);
+        opens = (opens.good room, is.opens);
         fresh = ap (ends_with_text false) opens.childless;
         pending = no_text;
         root = good.root;
       }
 
 passed_good : (b : Builder) (o : Open) → IsGoodBuilder b → IsOpened b.around o → IsGoodBuilder (passed b o)
-passed_good b o good opens = by good.room good.deep good.opens
+passed_good b o good opens = by good.room (flat b good) good.deep
   where
-    by : (room : ℕ) → room + length b.around ≡ 64 → AreGoodOpens b.around room → IsGoodBuilder (passed b o)
-    by zero deep around = let fits = opens.fits in absurd (grind (arith, nat_tests))
-    by (suc room) deep around =
-        let is = opens.good room in
-        placed_good (element_of o) (flushed b.text b.around) b.root (suc room) (let flat = flushed_length b.text b.around in omega arith)
-            (flushed_good b.text b.around (suc room) around good.fresh good.pending) good.root
-            (record { named = is.named.local; in_space = is.in_space; attributed = is.attributed; different = is.different }, is.apart, is.children)
+    by : (room : ℕ) → IsFlat b room → room + length b.around ≡ 64 → IsGoodBuilder (passed b o)
+    by zero is deep = let fits = opens.fits in absurd (grind (arith, nat_tests))
+    by (suc room) is deep =
+        placed_good (element_of o) (flushed b) (flushed b).around (suc room) is.deep is.opens no_text good.root (element_good o room (opens.good room))
 
 end_good :
-    (name : Name) (text : List ℕ) (os : List Open) (root : Option Element) (c : Builder) (room : ℕ) → room + length os ≡ 64 → AreGoodOpens os room → IsFresh os →
-    IsXmlText text → IsGoodRoot root → ended name text os root ≡ Some c → IsGoodBuilder c
-end_good name text [] root c room deep good fresh is root_good e = absurd (none_some c e)
-end_good name text (o ∷ os) root c room deep good fresh is root_good e =
-    let element = element_of (record o { children = with_text o.children text }) in
-    let found = if_some (same_name name o.name) (Some (placed element os root)) c e in
-    subst IsGoodBuilder (some_is (placed element os root) c found.1)
-        (placed_good element os root (suc room) (omega arith) good.1 root_good (ended_good o text room good.0 fresh is))
+    (name : Name) (b : Builder) (os : List Open) (c : Builder) (room : ℕ) → room + length os ≡ 64 → AreGoodOpens os room → IsXmlText b.text → IsGoodRoot b.root →
+    ended name b os ≡ Some c → IsGoodBuilder c
+end_good name b [] c room deep good pending root e = absurd (none_some c e)
+end_good name b (o ∷ os) c room deep good pending root e =
+    let next = placed (element_of o) (record b { around = os }) in
+    let found = if_some (same_name name o.name) (Some next) c e in
+    subst IsGoodBuilder (some_is next c found.1)
+        (placed_good (element_of o) b os (suc room) (omega arith) good.1 pending root (element_good o room good.0))
 
 taken_good : (b c : Builder) (p : Piece) → IsGoodBuilder b → IsGoodPiece p → taken b p ≡ Some c → IsGoodBuilder c
 unfolding taken
@@ -206,7 +235,8 @@ taken_good b c (Start tag) good is e =
 taken_good b c (Empty tag) good is e =
     let found = map_some (passed b) (opened b tag) c e in
     subst IsGoodBuilder found.2 (passed_good b found.0 good (opened_good b tag found.0 good.room is good.opens found.1))
-taken_good b c (End name) good is e = end_good name b.text b.around b.root c good.room good.deep good.opens good.fresh good.pending good.root e
+taken_good b c (End name) good is e =
+    let plain = flat b good in end_good name (flushed b) (flushed b).around c good.room plain.deep plain.opens no_text good.root e
 taken_good b c (Section text) good is e = more_good b c text good is e
 taken_good b c (Reference d) good is e = more_good b c (encode_utf8 d) good (one_character d is) e
 taken_good b c (Letter d) good is e = letter_good b c d good is e

@@ -10,3 +10,4 @@ pub mod Shorter
 pub mod Stacks
 pub mod Turns
 pub mod Utf8
+pub mod Walks

@@ -1,5 +1,5 @@
 -- Of two readings of one text one goes on where the other ends; so what is read is the only thing to read.
-use Rattle.std.proofs.Common.{◌≡◌, ℕ, ◌-◌, length, false, List, [], ◌∷◌, refl, ap, sym, ◌∙◌, subst}
+use Rattle.std.proofs.Common.{◌≡◌, ℕ, ◌-◌, length, false, List, [], ◌∷◌, ap, sym, ◌∙◌, subst}
 use Rattle.std.specs.Prelude.{Option, Some, None, Result}
 use Rattle.std.specs.declared.result.Result.TheVariants.{Ok, Err}
 use Rattle.wef_base.specs.declared.tree.Charset.{Charset}
@@ -8,9 +8,8 @@ use Rattle.wef_tree.specs.Building.{nothing, taken}
 use Rattle.wef_tree.specs.Decoding.{decoded, line_ends, place}
 use Rattle.wef_tree.specs.Laws.{HasOneRoot, HasNoFault, IsDecoded, HasOneFault, GoesOnToTheFault}
 use Rattle.wef_tree.specs.Pieces.{piece_at}
-use Rattle.wef_tree.specs.Spelling.{Leads, Reaches, Spells, IsStuck, Stops, StopsAt, kind_of}
+use Rattle.wef_tree.specs.Spelling.{Leads, Reaches, IsStuck, kind_of}
 use Rattle.wef_tree.specs.declared.building.Builder.{Builder}
-use Rattle.wef_tree.specs.declared.faults.FaultKind.{FaultKind}
 use Rattle.wef_tree.specs.declared.pieces.Piece.{Piece}
 
 none_some : {A : Type 0} (x : A) → None ≡ Some x → ⊥

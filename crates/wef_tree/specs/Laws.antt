@@ -1,5 +1,5 @@
 -- Laws of reading: a document has one root or one fault, and never both.
-use Rattle.std.specs.Prelude.{◌≡◌, ℕ, ◌≤◌, List, length, Result}
+use Rattle.std.specs.Prelude.{◌≡◌, ℕ, List}
 use Rattle.std.specs.declared.result.Result.TheVariants.{Err}
 use Rattle.wef_base.specs.declared.tree.Charset.{Charset}
 use Rattle.wef_base.specs.declared.tree.Element.{Element}

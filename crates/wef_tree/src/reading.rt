@@ -30,13 +30,15 @@ pub fn read_tree(alloc: Global, bytes: &[u8], charset: Charset) -> Result<Elemen
 fn read_document(alloc: Global, bytes: &[u8], charset: Charset) -> Result<Element, TreeFault>
     ensures { ReadsTree charset bytes.now result }
 {
-    let characters = decode(alloc, charset, bytes)?;
-    let text = join_line_ends(alloc, characters.as_slice())?;
-    match read_text(alloc, text.as_slice()) {
+    let decoded = decode(alloc, charset, bytes)?;
+    let characters = decoded.as_slice();
+    let joined = join_line_ends(alloc, characters)?;
+    let text = joined.as_slice();
+    match read_text(alloc, text) {
         Ok(root) => Ok(root),
         Err(Stop::NoMemory) => Err(TreeFault::NoMemory),
         Err(Stop::Fault { kind, left }) => {
-            let at = place(charset, bytes, characters.as_slice(), text.len() - left);
+            let at = place(charset, bytes, characters, text.len() - left);
             Err(fault_at(kind, at))
         }
     }
@@ -61,7 +63,8 @@ fn read_text(alloc: Global, text: &[char]) -> Result<Element, Stop>
     while !rest.is_empty() {
         rest = step(alloc, &mut builder, rest)?;
     }
-    match builder.root {
+    let Builder { root, .. } = builder;
+    match root {
         Some(root) => Ok(root),
         None => Err(Stop::Fault {
             kind: FaultKind::Xml,
