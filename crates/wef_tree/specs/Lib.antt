@@ -1,4 +1,5 @@
 pub mod Building
+pub mod Canonical
 pub mod Decodes
 pub mod Decoding
 pub mod ExpandedNames
@@ -7,6 +8,7 @@ pub mod Good
 pub mod Laws
 pub mod Names
 pub mod Pieces
+pub mod Prefixes
 pub mod Reads
 pub mod References
 pub mod Scopes

@@ -2,6 +2,7 @@
 #![tactic(auto)]
 
 mod attributes;
+mod bindings;
 mod building;
 mod decoding;
 #[cfg(test)]
