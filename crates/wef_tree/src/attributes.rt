@@ -18,7 +18,7 @@ use std::alloc::{AllocError, Global};
 use std::collections::BTreeSet;
 use wef_base::{Attribute, List, Namespace, Text};
 
-/// Up to this many attributes, each is compared with all before it.
+/// Up to this many attributes, comparing each with all before it is faster than a set of names.
 const FEW: usize = 8;
 
 /// The attributes of a tag with these declarations, inside these elements; declarations aside. No
@@ -37,6 +37,7 @@ pub fn attributes_by(
     few_attributes(alloc, own, around, given)
 }
 
+/// Compares each attribute with all before it.
 fn few_attributes(
     alloc: Global,
     own: &Declarations,
@@ -69,6 +70,7 @@ fn add_one_of_few(
     Ok(())
 }
 
+/// Keeps the names of those so far in a set, so that it asks about each name log N times.
 fn many_attributes(
     alloc: Global,
     own: &Declarations,

@@ -202,6 +202,7 @@ impl Builder {
     }
 }
 
+/// What an open element is once it ends.
 fn element_of(element: Open) -> Element
     ensures { result ≡ element_of element }
 {

@@ -14,6 +14,9 @@ use crate::tags::Given;
 use std::alloc::{AllocError, Global};
 use wef_base::{Namespace, Text};
 
+/// The namespace of the prefix `xml`, which nobody has to declare.
+const XML_SPACE: &str = "http://www.w3.org/XML/1998/namespace";
+
 /// The declarations that a tag's attributes make. The others are passed over.
 pub fn declared_by(alloc: Global, given: &[Given]) -> Result<Declarations, Halt>
     ensures { Gives result (declared_by map.empty given.now) }
@@ -25,6 +28,7 @@ pub fn declared_by(alloc: Global, given: &[Given]) -> Result<Declarations, Halt>
     Ok(own)
 }
 
+/// Adds what an attribute declares, if it is a declaration.
 fn declare_one(own: &mut Declarations, given: &Given) -> Result<(), Halt>
     ensures { Takes result (declare_one own.old given.now (declares given.now.name)) own.new }
 {
@@ -34,6 +38,7 @@ fn declare_one(own: &mut Declarations, given: &Given) -> Result<(), Halt>
     declare(own, prefix, &given.value)
 }
 
+/// Declares a prefix, unless that isn't good, or not the first declaration of the prefix in the tag.
 fn declare(own: &mut Declarations, prefix: &Text, space: &Text) -> Result<(), Halt>
     ensures { Takes result (with_declaration own.old prefix.now space.now) own.new }
 {
@@ -62,6 +67,7 @@ pub fn declared_prefix(name: &Name) -> Option<&Text>
     None
 }
 
+/// Whether a prefix may stand for a namespace.
 fn may_declare(prefix: &Text, space: &Text) -> bool
     ensures { result ≡ may_declare prefix.now space.now }
 {
@@ -110,6 +116,7 @@ pub fn attribute_space(
     in_scope(alloc, own, around, prefix)
 }
 
+/// What stands for no namespace.
 fn no_space(alloc: Global) -> Result<Namespace, AllocError>
     ensures { IfOk result (λ n. n ≡ []) }
 {
@@ -120,14 +127,14 @@ fn no_space(alloc: Global) -> Result<Namespace, AllocError>
 fn xml_space(alloc: Global) -> Result<Namespace, AllocError>
     ensures { IfOk result (λ n. n ≡ xml_space) }
 {
-    Namespace::new(Text::from_str(alloc, "http://www.w3.org/XML/1998/namespace")?)
+    Namespace::new(Text::from_str(alloc, XML_SPACE)?)
 }
 
 #[tactic(auto, unfolding(crate::specs::Scopes::xml_space, crate::specs::Scopes::is_xml_space))]
 fn is_xml_space(space: &Text) -> bool
     ensures { result ≡ is_xml_space space.now }
 {
-    space.as_str() == "http://www.w3.org/XML/1998/namespace"
+    space.as_str() == XML_SPACE
 }
 
 #[tactic(auto, unfolding(crate::specs::Scopes::is_xml))]
