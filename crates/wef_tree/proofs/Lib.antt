@@ -7,6 +7,7 @@ pub mod Inversions
 pub mod Maps
 pub mod Readings
 pub mod Shorter
+pub mod Spelled
 pub mod Stacks
 pub mod Turns
 pub mod Utf8
