@@ -35,7 +35,7 @@ use wef_keeper::{Keeper, MemKeeper};
 /// Keeps subscriptions, and for each subscription and source the events that were delivered,
 /// together with a bookmark: how far the source was served in each channel.
 ///
-/// All of it stands in a store of rows. Each call opens the store where there is doubt, reads, and
+/// All of it stands in a store of rows. Each call opens the store, reads, and
 /// makes at most one commit.
 #[derive(Drop)]
 pub struct Collector<K> {

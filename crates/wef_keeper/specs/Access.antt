@@ -1,4 +1,4 @@
--- How an end uses its store: it opens the store where there is doubt, reads, and makes at most one commit.
+-- How an end uses its store: it opens the store, reads, and makes at most one commit.
 use Rattle.std.specs.Prelude.{◌≡◌, ℕ, ◌≤◌, Bool, true, false, ◌⊎◌, is_none, List, [], ◌∷◌, Option, Some, None, Result, Ok, Err, IfSome, if◌then◌else◌}
 use Rattle.std.specs.List.{AllByRecursion}
 use Rattle.wef_base.specs.Counts.{Rose}
@@ -70,7 +70,7 @@ HasOpened before now =
     Narrows before now × (now.tries ≡ before.tries) × (now.plan ≡ before.plan) × (before.faults ≤ now.faults) × CountsNone before now
     × (before.opened ≡ true → now.opened ≡ true) × (before.doubt ≡ false → now.doubt ≡ false)
 
--- a call that opens the store where there is doubt, and then only reads
+-- a call that opens the store, and then only reads
 abbrev pub OpensAndReads : (Rows → Type 0) → Bool → Store → Store → Type 0
 OpensAndReads AreFormed failed before now = HasOpened before now × HasCause AreFormed failed before now × IsSure AreFormed failed before now
 

@@ -1,7 +1,8 @@
-//! How the ends use a keeper: it is opened where there is doubt, read, and given whole lists of changes.
+//! How the ends use a keeper: it is opened, read, and given whole lists of changes.
 
 ghost use Rattle.std.specs.Prelude.{◌≡◌, ◌≤◌, ◌++◌, true, false, take, Option, IfOk, IfSome, OnOk, OnErr};
 ghost use Rattle.std.specs.List.{AllByRecursion};
+ghost use Rattle.wef_base.specs.Counts.{Rose};
 ghost use Rattle.wef_keeper.specs.Access as access;
 ghost use Rattle.wef_keeper.specs.Keeping.{row_at};
 ghost use Rattle.wef_keeper.specs.Sections.{last_key, rows_under};
@@ -50,12 +51,14 @@ impl From<KeeperFault> for StoreFault {
     }
 }
 
-/// Makes a keeper ready: opened, and out of doubt with one of its images.
+/// Makes a keeper ready: opened, and out of doubt with one of its images. Each call asks the keeper
+/// to open again, whether there is doubt or not.
 #[tactic(auto, using(crate::proofs::Openings::narrows_kept))]
 pub fn open<K: Keeper>(keeper: &mut K) -> Result<(), StoreFault>
     ensures ready { OnOk result (access.IsReady (K.store keeper.new)) }
     ensures found { access.fails result ≡ false → access.Finds (K.store keeper.old) (K.store keeper.new) }
     ensures opened { access.OpensAndReads access.AnyRows (access.fails result) (K.store keeper.old) (K.store keeper.new) }
+    ensures fault { access.fails result ≡ true → Rose (K.store keeper.old).faults (K.store keeper.new).faults }
     ensures refused { access.IsRefused result (K.store keeper.old).doubt }
 {
     keeper.reopen()?;
@@ -67,6 +70,7 @@ pub fn row<K: Keeper>(keeper: &mut K, key: &Key) -> Result<Option<Row>, StoreFau
     requires { access.IsReady (K.store keeper.old) }
     ensures row { IfSome (K.store keeper.new).rows (λ rows. IfOk result (λ row. row ≡ row_at key.now rows)) }
     ensures reads { access.Reads access.AnyRows (access.fails result) (K.store keeper.old) (K.store keeper.new) }
+    ensures fault { access.fails result ≡ true → Rose (K.store keeper.old).faults (K.store keeper.new).faults }
 {
     Ok(keeper.get(key)?)
 }
@@ -85,6 +89,7 @@ pub fn section_page<K: Keeper>(
     ensures rest { IfSome (K.store keeper.new).rows (λ rows. IfOk result (λ page. rows_under depth after.now rows ≡ page ++ rows_under depth (last_key after.now page) rows)) }
     ensures behind { IfOk result (AllByRecursion (access.IsBehind depth after.now)) }
     ensures reads { access.Reads access.AnyRows (access.fails result) (K.store keeper.old) (K.store keeper.new) }
+    ensures fault { access.fails result ≡ true → Rose (K.store keeper.old).faults (K.store keeper.new).faults }
 {
     let page = keeper.page(after, max)?;
     Ok(front(after, depth, page)?)
@@ -116,6 +121,7 @@ pub fn section<K: Keeper>(
     requires { access.IsReady (K.store keeper.old) }
     ensures section { IfSome (K.store keeper.new).rows (λ rows. IfOk result (λ section. section ≡ rows_under depth after.now rows)) }
     ensures reads { access.Reads access.AnyRows (access.fails result) (K.store keeper.old) (K.store keeper.new) }
+    ensures fault { access.fails result ≡ true → Rose (K.store keeper.old).faults (K.store keeper.new).faults }
 {
     let mut section = List::new(after.sub.alloc());
     let mut last = after.clone()?;

@@ -50,6 +50,7 @@ impl Rows {
         }
     }
 
+    /// The allocator that the rows are kept in.
     pub(crate) fn alloc(&self) -> Global {
         self.alloc
     }

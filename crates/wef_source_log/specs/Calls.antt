@@ -1,4 +1,4 @@
--- What the calls of a log do to its store. A call that changes the rows opens the store where there is doubt, reads, and
+-- What the calls of a log do to its store. A call that changes the rows opens the store, reads, and
 -- makes at most one commit.
 use Rattle.std.specs.Prelude.{◌≡◌, ℕ, ◌≤◌, Bool, true, false, ◌⊎◌, Option, Some, None, Result, Ok, Err, IfSome, IfOk, OnOk}
 use Rattle.std.specs.List.{AllByRecursion}

@@ -26,7 +26,7 @@ pub struct Prepared {
     pub number: u64,
 }
 
-/// Opens the store where there is doubt, and starts the source.
+/// Opens the store, and starts the source.
 pub fn start_in<K: Keeper>(alloc: Global, keeper: &mut K, capacity: u64) -> Result<u64, LogFault>
     ensures does { Does (λ found. answers.start_effect found capacity) (λ found. windows.boot_of found + 1) result (K.store keeper.old) (K.store keeper.new) }
     ensures refusal { IfErr result answers.RefusesStart }
@@ -87,7 +87,7 @@ fn start_changes(
     Ok(changes)
 }
 
-/// Opens the store where there is doubt, and writes an event.
+/// Opens the store, and writes an event.
 pub fn write_in<K: Keeper>(keeper: &mut K, event: &PlainEvent) -> Result<u64, LogFault>
     ensures { Does (λ found. answers.write_effect found event.now) (λ found. windows.last_of found event.now.channel + 1) result (K.store keeper.old) (K.store keeper.new) }
 {

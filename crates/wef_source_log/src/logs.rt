@@ -116,7 +116,7 @@ impl<K: Keeper> Log<K> {
         self.page_ready(channel, after, max)
     }
 
-    /// Opens the store where there is doubt.
+    /// Opens the store.
     pub fn open(&mut self) -> Result<(), LogFault>
         ensures ready { OnOk result (access.IsReady (K.store self.new.keeper)) }
         ensures found { fails result ≡ false → access.Finds (K.store self.old.keeper) (K.store self.new.keeper) }
