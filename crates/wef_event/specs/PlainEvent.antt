@@ -2,7 +2,7 @@
 use Rattle.std.specs.Prelude.{◌≡◌, ℕ, nat_lt, List, ◌++◌, length, codes, Option, Some, None, Result, if◌then◌else◌}
 use Rattle.std.specs.declared.result.Result.TheVariants.{Ok, Err}
 use Rattle.std.specs.Fmt.{decimal}
-pub use Rattle.wef_event.specs.Characters.{escape, escaped, is_xml_char, is_xml_text}
+pub use Rattle.wef_event.specs.Characters.{escape, escaped}
 use Rattle.wef_event.specs.declared.records.Event.{Event}
 use Rattle.wef_event.specs.declared.records.EventFault.{EventFault}
 use Rattle.wef_event.specs.declared.records.EventFault.TheVariants.{NoMemory, TooLong}
