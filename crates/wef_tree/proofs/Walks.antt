@@ -7,6 +7,7 @@ use Rattle.wef_base.specs.declared.tree.Element.{Element}
 use Rattle.wef_tree.specs.Building.{nothing, taken}
 use Rattle.wef_tree.specs.Decoding.{decoded, line_ends, place}
 use Rattle.wef_tree.specs.Good.{IsGoodTree}
+use Rattle.wef_tree.specs.Laws.{IsLongest}
 use Rattle.wef_tree.specs.Pieces.{piece_at}
 use Rattle.wef_tree.specs.Spelling.{Leads, Reaches, ReadsText, ReadsTree, Stops, StopsAt, fault_at, kind_of, IsStuck}
 use Rattle.wef_tree.specs.declared.building.Builder.{Builder}
@@ -17,7 +18,7 @@ use Rattle.wef_tree.specs.declared.faults.Stop.TheVariants.{Fault}
 use Rattle.wef_tree.specs.declared.faults.TreeFault.{TreeFault}
 use Rattle.wef_tree.specs.declared.pieces.Piece.{Piece}
 use Rattle.wef_tree.proofs.GoodTrees.{spells_good}
-use Rattle.wef_tree.proofs.Readings.{end_is_stuck}
+use Rattle.wef_tree.proofs.Readings.{end_is_stuck, goes_on_to_the_fault}
 use Rattle.wef_tree.proofs.Shorter.{piece_shorter}
 
 -- one good piece more
@@ -98,3 +99,8 @@ answers charset bytes characters text stop decodes is reads kind left at stop_is
         characters = characters; decodes = decodes; rest = found.0; stops = subst Q is found.1;
         at_is = at_is ∙ (λ i. place charset bytes characters (length (is i) - found.2 i));
       })
+
+pub is_longest : IsLongest
+is_longest text rest left kind b stops reaches =
+    let more = goes_on_to_the_fault text rest left kind b stops reaches in
+    leads_shorter more.0 b left stops.there rest more.1

@@ -1,5 +1,5 @@
 -- Laws of reading: a document has one root or one fault, and never both.
-use Rattle.std.specs.Prelude.{◌≡◌, ℕ, List}
+use Rattle.std.specs.Prelude.{◌≡◌, ℕ, ◌≤◌, List, length}
 use Rattle.std.specs.declared.result.Result.TheVariants.{Err}
 use Rattle.wef_base.specs.declared.tree.Charset.{Charset}
 use Rattle.wef_base.specs.declared.tree.Element.{Element}
@@ -31,3 +31,7 @@ abbrev pub GoesOnToTheFault : Type 0
 GoesOnToTheFault =
     (text rest left : List ℕ) (kind : FaultKind) (b : Builder) (stops : Stops text kind rest) →
     Reaches text b left → (more : List Piece) × Leads b more left stops.there rest
+
+-- No list of good pieces that begins the text is longer than the one that leads to the fault.
+abbrev pub IsLongest : Type 0
+IsLongest = (text rest left : List ℕ) (kind : FaultKind) (b : Builder) → Stops text kind rest → Reaches text b left → length rest ≤ length left

@@ -1,6 +1,6 @@
 //! Laws of reading, each the contract of a function that does nothing.
 
-ghost use Rattle.wef_tree.specs.Laws.{GoesOnToTheFault, HasNoFault, HasOneFault, HasOneRoot, IsDecoded};
+ghost use Rattle.wef_tree.specs.Laws.{GoesOnToTheFault, HasNoFault, HasOneFault, HasOneRoot, IsDecoded, IsLongest};
 
 /// What bytes spell is one root, or they have one fault: never two of these.
 pub fn reading_is_one()
@@ -8,4 +8,11 @@ pub fn reading_is_one()
     ensures no_fault { HasNoFault }
     ensures charset { IsDecoded }
     ensures fault { HasOneFault }
+{}
+
+/// The fault is where the longest list of good pieces ends: each other one that begins the text is
+/// a beginning of it.
+pub fn faults_are_at_the_longest()
+    ensures goes_on { GoesOnToTheFault }
+    ensures longest { IsLongest }
 {}
