@@ -17,6 +17,8 @@ mod names;
 mod pieces;
 mod places;
 mod reading;
+#[cfg(test)]
+mod reading_tests;
 mod references;
 mod scopes;
 mod sections;
