@@ -10,6 +10,7 @@ pub mod Readings
 pub mod Shorter
 pub mod Spelled
 pub mod Stacks
+pub mod StartsAgain
 pub mod TextsAgain
 pub mod Turns
 pub mod Utf8

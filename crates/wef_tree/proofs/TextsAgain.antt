@@ -7,11 +7,11 @@ use Rattle.std.specs.Str.{all_scalars, chars}
 use Rattle.std.proofs.Math.Utf8.{scalar}
 use Rattle.std.proofs.lemmas.Bool.{and_from, and_parts, eqb-true}
 use Rattle.std.proofs.lemmas.Bool.Decides.{nat_tests}
-use Rattle.std.proofs.lemmas.Str.{chars-encodes, encodes-append}
+use Rattle.std.proofs.lemmas.Str.{chars-encodes}
 use Rattle.wef_base.specs.Characters.{is_xml_char}
 use Rattle.wef_base.specs.Names.{is_space}
 use Rattle.wef_tree.specs.Building.{is_outside, taken}
-use Rattle.wef_tree.specs.Canonical.{text_char, text_of, value_char, value_of}
+use Rattle.wef_tree.specs.Canonical.{text_char, value_char, value_of}
 use Rattle.wef_tree.specs.Fronts.{strip}
 use Rattle.wef_tree.specs.Good.{IsLocalName, IsXmlText}
 use Rattle.wef_tree.specs.Names.{is_name_char, is_name_start, with_front}
@@ -163,21 +163,21 @@ record ReadsOne (more : List ℕ) (c : ℕ) (front : List ℕ) : Type 0 where
 reference_one : (more : List ℕ) (c : ℕ) (front : List ℕ) → piece_at (front ++ more) ≡ Some (Reference c, more) → ReadsOne more c front
 unfolding taken
 reference_one more c front e = record {
-    piece = Reference c;
-    reads = e;
-    takes = λ b inside begun. λ i. cond (inside i) None (Some (record b { begun = sym begun i; text = b.text ++ encode_utf8 c }));
-  }
+  piece = Reference c;
+  reads = e;
+  takes = λ b inside begun. λ i. cond (inside i) None (Some (record b { begun = sym begun i; text = b.text ++ encode_utf8 c }));
+}
 
 letter_one : (more : List ℕ) (c : ℕ) → (c == 60) ≡ false → (c == 38) ≡ false → is_xml_char c ≡ true → strip (93 ∷ 62 ∷ []) more ≡ None → ReadsOne more c (c ∷ [])
 unfolding taken piece_at
 letter_one more c no_lt no_amp allowed none = record {
-    piece = Letter c;
-    reads =
-        (let ends = only_if (93 == c) (strip (93 ∷ 62 ∷ []) more) none in
-        λ i. cond (no_lt i) (markup_at more) (cond (no_amp i) (option_map (λ read. (Reference read.0, read.1)) (reference_at more)) (cond (allowed i && not (is_some (ends i))) (Some (Letter c, more)) None)));
-    takes = λ b inside begun. λ i.
-        cond (inside i) (if is_space c then Some (record b { begun = true }) else None) (cond (inside i) None (Some (record b { begun = sym begun i; text = b.text ++ encode_utf8 c })));
-  }
+  piece = Letter c;
+  reads =
+      (let ends = only_if (93 == c) (strip (93 ∷ 62 ∷ []) more) none in
+      λ i. cond (no_lt i) (markup_at more) (cond (no_amp i) (option_map (λ read. (Reference read.0, read.1)) (reference_at more)) (cond (allowed i && not (is_some (ends i))) (Some (Letter c, more)) None)));
+  takes = λ b inside begun. λ i.
+      cond (inside i) (if is_space c then Some (record b { begun = true }) else None) (cond (inside i) None (Some (record b { begun = sym begun i; text = b.text ++ encode_utf8 c })));
+}
 
 one_again : (c : ℕ) (more : List ℕ) → is_xml_char c ≡ true → strip (93 ∷ 62 ∷ []) more ≡ None → ReadsOne more c (text_char c)
 unfolding piece_at reference_at
