@@ -26,12 +26,14 @@ use Rattle.wef_tree.proofs.TextsAgain.{name_chars, value_again}
 
 -- names
 
+-- the characters of a name, in front of one that is none
 name_tail_again : (cs : List ℕ) (x : ℕ) (rest : List ℕ) → list_all is_name_char cs ≡ true → is_name_char x ≡ false → name_tail (cs ++ x ∷ rest) ≡ (encode_utf8_all cs, x ∷ rest)
 name_tail_again [] x rest names no_name = λ i. cond (no_name i) (with_front (encode_utf8 x) (name_tail rest)) ([], x ∷ rest)
 name_tail_again (c ∷ cs) x rest names no_name =
     let parts = and_parts (is_name_char c) (list_all is_name_char cs) names in
     λ i. cond (parts.0 i) (with_front (encode_utf8 c) (name_tail_again cs x rest parts.1 no_name i)) ([], c ∷ (cs ++ x ∷ rest))
 
+-- a name without `:`
 plain_name_again : (name : List ℕ) (x : ℕ) (rest : List ℕ) → IsLocalName name → is_name_char x ≡ false → plain_name_at (chars name ++ x ∷ rest) ≡ Some (name, x ∷ rest)
 plain_name_again name x rest good no_name =
     ap (λ cs. plain_name_at (cs ++ x ∷ rest)) (name_chars name good)
@@ -46,6 +48,7 @@ IsGoodPrefix (Some prefix) = IsLocalName prefix
 abbrev named : Option (List ℕ) → List ℕ → Name
 named prefix local = record { prefix = unwrap_or prefix []; local = local }
 
+-- a name with its prefix
 name_again :
     (prefix : Option (List ℕ)) (local : List ℕ) (x : ℕ) (rest : List ℕ) → IsGoodPrefix prefix → IsLocalName local → is_name_char x ≡ false → (x == 58) ≡ false →
     name_at (name_of prefix local ++ x ∷ rest) ≡ Some (named prefix local, x ∷ rest)
@@ -109,6 +112,7 @@ given_of prefix local value = record { name = named prefix local; value = value 
 assigned_is : (value rest : List ℕ) → assigned value ++ rest ≡ 61 ∷ 34 ∷ (value_of value ++ 34 ∷ rest)
 assigned_is value rest = ap (λ t. 61 ∷ 34 ∷ t) (append_assoc (value_of value) (34 ∷ []) rest)
 
+-- an attribute without the space before it
 given_again :
     (prefix : Option (List ℕ)) (local value rest : List ℕ) → IsGoodPrefix prefix → IsLocalName local → IsXmlText value →
     given_at ((name_of prefix local ++ assigned value) ++ rest) ≡ Some (given_of prefix local value, rest)
@@ -123,6 +127,7 @@ record IsWritten (text : List ℕ) (given : Given) : Type 0 where
   is : text ≡ 32 ∷ inner
   reads : (rest : List ℕ) → tag_turn (text ++ rest) ≡ Some (Some given, rest)
 
+-- an attribute with the space before it
 written : (prefix : Option (List ℕ)) (local value : List ℕ) → IsGoodPrefix prefix → IsLocalName local → IsXmlText value → IsWritten (32 ∷ (name_of prefix local ++ assigned value)) (given_of prefix local value)
 written prefix local value good_prefix good good_value = record {
   inner = name_of prefix local ++ assigned value;
@@ -140,11 +145,13 @@ abbrev AreWritten : List ℕ → List Given → Type 0
 AreWritten text [] = text ≡ []
 AreWritten text (g ∷ gs) = (front : List ℕ) × (more : List ℕ) × (text ≡ front ++ more) × IsWritten front g × AreWritten more gs
 
+-- attributes behind others
 both_written : (text other : List ℕ) (gs hs : List Given) → AreWritten text gs → AreWritten other hs → AreWritten (text ++ other) (gs ++ hs)
 both_written text other [] hs w v = subst (λ (t : List ℕ). AreWritten (t ++ other) hs) (sym w) v
 both_written text other (g ∷ gs) hs w v =
     (w.0, w.1 ++ other, ap (λ t. t ++ other) w.2 ∙ append_assoc w.0 w.1 other, w.3, both_written w.1 other gs hs w.4 v)
 
+-- each attribute takes at least a character
 written_long : (text : List ℕ) (gs : List Given) → AreWritten text gs → length gs ≤ length text
 written_long text [] w = omega arith
 written_long text (g ∷ gs) w =
@@ -177,15 +184,18 @@ written_ends (g ∷ gs) text rest w = record {
   no_colon = refl;
 }
 
+-- a name in front of attributes or of the end of the tag
 name_before : (prefix : Option (List ℕ)) (local text : List ℕ) → IsGoodPrefix prefix → IsLocalName local → Ends text → name_at (name_of prefix local ++ text) ≡ Some (named prefix local, text)
 name_before prefix local text good_prefix good e =
     subst (λ (t : List ℕ). name_at (name_of prefix local ++ t) ≡ Some (named prefix local, t)) (sym e.is) (name_again prefix local e.first e.more good_prefix good e.no_name e.no_colon)
 
 -- tags
 
+-- the steps that a reader makes are enough
 steps_enough : (text rest : List ℕ) (gs : List Given) → AreWritten text gs → length gs < length (text ++ 62 ∷ rest)
 steps_enough text rest gs w = omega (arith, written_long text gs w, length-append text (62 ∷ rest))
 
+-- the name and the attributes of a tag
 tag_again :
     (prefix : Option (List ℕ)) (local text rest : List ℕ) (gs : List Given) → IsGoodPrefix prefix → IsLocalName local → AreWritten text gs →
     tag_at (name_of prefix local ++ (text ++ 62 ∷ rest)) ≡ Some (record { name = named prefix local; given = gs }, 62 ∷ rest)
@@ -205,6 +215,7 @@ markup_again text b =
     (option_and_then closed_tag (tag_at (b.first ∷ b.more)))))))
     ∙ ap (λ t. option_and_then closed_tag (tag_at t)) (sym b.is)
 
+-- a start tag, by its parts
 start_piece :
     (prefix : Option (List ℕ)) (local text rest : List ℕ) (gs : List Given) → IsGoodPrefix prefix → IsLocalName local → AreWritten text gs →
     piece_at (60 ∷ (name_of prefix local ++ (text ++ 62 ∷ rest))) ≡ Some (Start (record { name = named prefix local; given = gs }), rest)
@@ -215,13 +226,16 @@ start_piece prefix local text rest gs good_prefix good w =
 
 -- the attributes of a start tag
 
+-- a prefix is a name, where each that it may be is one
 good_prefix_is : (o : Option (List ℕ)) → ((prefix : List ℕ) → o ≡ Some prefix → IsLocalName prefix) → IsGoodPrefix o
 good_prefix_is None good = tt
 good_prefix_is (Some prefix) good = good prefix refl
 
+-- the characters of `xmlns` are its bytes
 xmlns_chars : chars (codes "xmlns") ≡ codes "xmlns"
 xmlns_chars = ap chars (plain_is (codes "xmlns") refl) ∙ chars-encodes (codes "xmlns") refl
 
+-- the declaration of the default namespace
 default_written : (scope : Scope) (space : List ℕ) → IsXmlText space → AreWritten (default_of scope space) (default_given scope space)
 default_written scope space good = by (is_some (element_prefix scope.soap space) || same scope.default space)
   where
@@ -232,6 +246,7 @@ default_written scope space good = by (is_some (element_prefix scope.soap space)
     by true = refl
     by false = (codes " xmlns" ++ assigned space, [], sym (append-nil (codes " xmlns" ++ assigned space)), one, refl)
 
+-- the declaration of a prefix
 declaration_written : (b : Binding) → IsGoodBinding b → IsWritten (declaration_of b) (declaration_given b)
 declaration_written b good =
     subst (λ (t : List ℕ). IsWritten (32 ∷ ((t ++ 58 ∷ chars b.prefix) ++ assigned b.space)) (declaration_given b)) xmlns_chars
@@ -241,6 +256,7 @@ declarations_written : (bs : List Binding) → AreGoodBindings bs → AreWritten
 declarations_written [] good = refl
 declarations_written (b ∷ bs) good = (declaration_of b, flat_map declaration_of bs, refl, declaration_written b good.0, declarations_written bs good.1)
 
+-- an attribute
 attribute_written : (bound : List Binding) (a : Attribute) → AreGoodBindings bound → IsGoodAttribute a → IsWritten (attribute_of bound a) (attribute_given bound a)
 attribute_written bound a good_bound good =
     written (attribute_prefix bound a.space) a.name a.value (good_prefix_is (attribute_prefix bound a.space) (λ prefix. attribute_prefix_good bound a.space prefix good_bound)) good.name good.value
@@ -252,6 +268,7 @@ attributes_written bound [] good_bound good = refl
 attributes_written bound (a ∷ more) good_bound good =
     (attribute_of bound a, flat_map (attribute_of bound) more, refl, attribute_written bound a good_bound good.0, attributes_written bound more good_bound good.1)
 
+-- the parts of a start tag, with the attributes together
 regroup : (name d f n a rest : List ℕ) → (((((name ++ d) ++ f) ++ n) ++ a) ++ 62 ∷ []) ++ rest ≡ name ++ ((((d ++ f) ++ n) ++ a) ++ 62 ∷ rest)
 regroup name d f n a rest = simp append_assoc
 
@@ -260,21 +277,21 @@ start_again first scope space name attributes rest head good_first good_bound =
     let new = new_bindings scope.bound attributes in
     let bound = (inside scope space attributes).bound in
     let prefix = element_prefix scope.soap space in
-    let d = default_of scope space in
-    let f = flat_map declaration_of first in
-    let n = flat_map declaration_of new in
-    let a = flat_map (attribute_of bound) attributes in
-    let ds = default_given scope space in
-    let fs = map declaration_given first in
-    let ns = map declaration_given new in
-    let as_given = map (attribute_given bound) attributes in
+    let default_text = default_of scope space in
+    let first_text = flat_map declaration_of first in
+    let new_text = flat_map declaration_of new in
+    let attribute_text = flat_map (attribute_of bound) attributes in
+    let default_givens = default_given scope space in
+    let first_givens = map declaration_given first in
+    let new_givens = map declaration_given new in
+    let attribute_givens = map (attribute_given bound) attributes in
     let good_new = new_are_good scope.bound attributes head.attributed in
     let good_all = bound_by_good scope.bound new good_bound good_new in
-    let all = both_written ((d ++ f) ++ n) a ((ds ++ fs) ++ ns) as_given
-    (both_written (d ++ f) n (ds ++ fs) ns (both_written d f ds fs (default_written scope space head.in_space) (declarations_written first good_first)) (declarations_written new good_new))
+    let all = both_written ((default_text ++ first_text) ++ new_text) attribute_text ((default_givens ++ first_givens) ++ new_givens) attribute_givens
+    (both_written (default_text ++ first_text) new_text (default_givens ++ first_givens) new_givens (both_written default_text first_text default_givens first_givens (default_written scope space head.in_space) (declarations_written first good_first)) (declarations_written new good_new))
     (attributes_written bound attributes good_all head.attributed) in
-    ap (λ t. piece_at (60 ∷ t)) (regroup (name_of prefix name) d f n a rest)
-    ∙ start_piece prefix name (((d ++ f) ++ n) ++ a) rest (((ds ++ fs) ++ ns) ++ as_given) (good_prefix_is prefix (λ p. element_prefix_good scope.soap space p)) head.named all
+    ap (λ t. piece_at (60 ∷ t)) (regroup (name_of prefix name) default_text first_text new_text attribute_text rest)
+    ∙ start_piece prefix name (((default_text ++ first_text) ++ new_text) ++ attribute_text) rest (((default_givens ++ first_givens) ++ new_givens) ++ attribute_givens) (good_prefix_is prefix (λ p. element_prefix_good scope.soap space p)) head.named all
 
 -- end tags
 
@@ -284,6 +301,7 @@ ended_piece read = (End read.0, read.1)
 abbrev ended_name : Name × List ℕ → Option (Name × List ℕ)
 ended_name name = option_map (λ (rest : List ℕ). (name.0, rest)) (strip (codes ">") (without_start name.1))
 
+-- an end tag, by its parts
 end_piece : (prefix : Option (List ℕ)) (local rest : List ℕ) → IsGoodPrefix prefix → IsLocalName local → piece_at (60 ∷ 47 ∷ (name_of prefix local ++ 62 ∷ rest)) ≡ Some (End (named prefix local), rest)
 unfolding piece_at
 end_piece prefix local rest good_prefix good =

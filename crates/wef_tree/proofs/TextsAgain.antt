@@ -26,20 +26,22 @@ use Rattle.wef_tree.proofs.Spelled.{TextAgain}
 
 -- characters
 
-xml_is_scalar : (c : ℕ) → is_xml_char c ≡ true → scalar c ≡ true
+-- a character of XML is one that UTF-8 can spell, and those of names are characters of XML
+pub xml_is_scalar : (c : ℕ) → is_xml_char c ≡ true → scalar c ≡ true
 xml_is_scalar c h = grind (arith, nat_tests)
 
-start_is_xml : (c : ℕ) → is_name_start c ≡ true → is_xml_char c ≡ true
+pub start_is_xml : (c : ℕ) → is_name_start c ≡ true → is_xml_char c ≡ true
 start_is_xml c h = grind (arith, nat_tests)
 
-name_is_xml : (c : ℕ) → is_name_char c ≡ true → is_xml_char c ≡ true
+pub name_is_xml : (c : ℕ) → is_name_char c ≡ true → is_xml_char c ≡ true
 name_is_xml c h = grind (arith, nat_tests)
 
+-- what all of some characters are, where each that is one is the other
 all_by : (p q : ℕ → Bool) → ((c : ℕ) → p c ≡ true → q c ≡ true) → (cs : List ℕ) → list_all p cs ≡ true → list_all q cs ≡ true
 all_by p q so [] h = refl
 all_by p q so (c ∷ cs) h = let parts = and_parts (p c) (list_all p cs) h in and_from _ _ (so c parts.0) (all_by p q so cs parts.1)
 
-scalars_are : (cs : List ℕ) → list_all is_xml_char cs ≡ true → all_scalars cs ≡ true
+pub scalars_are : (cs : List ℕ) → list_all is_xml_char cs ≡ true → all_scalars cs ≡ true
 scalars_are [] h = refl
 scalars_are (c ∷ cs) h = let parts = and_parts (is_xml_char c) (list_all is_xml_char cs) h in and_from _ _ (xml_is_scalar c parts.0) (scalars_are cs parts.1)
 
@@ -61,6 +63,7 @@ by_case P false x y so otherwise = otherwise refl
 at_test : (P : ℕ → Type 0) (n c : ℕ) → P n → (c == n) ≡ true → P c
 at_test P n c p e = subst P (sym (eqb-true c n e)) p
 
+-- a test of two numbers, the other way round
 other_way : (n c : ℕ) → (c == n) ≡ false → (n == c) ≡ false
 other_way n c e = grind (arith, nat_tests)
 
@@ -84,10 +87,12 @@ by_form P c amp lt gt tab lf cr plain =
 abbrev ValueOne : List ℕ → ℕ → List ℕ → Type 0
 ValueOne rest c front = value_turn 34 (front ++ rest) ≡ Some (Some c, rest)
 
+-- a character that no reference stands for, in a value
 plain_value : (c : ℕ) (rest : List ℕ) → (c == 34) ≡ false → (c == 38) ≡ false → (c == 60) ≡ false → (c == 9) ≡ false → (c == 10) ≡ false → is_xml_char c ≡ true → ValueOne rest c (c ∷ [])
 plain_value c rest no_quote no_amp no_lt no_tab no_lf allowed =
     λ i. cond (no_quote i) (Some (None, rest)) (cond (no_amp i) (option_map (λ read. (Some read.0, read.1)) (reference_at rest)) (cond (no_lt i) None (cond (allowed i) (Some (Some (cond (no_tab i || no_lf i) 32 c), rest)) None)))
 
+-- each character, as it stands in a value
 value_one : (c : ℕ) (rest : List ℕ) → is_xml_char c ≡ true → ValueOne rest c (value_char c)
 unfolding reference_at
 value_one c rest allowed =
@@ -105,6 +110,7 @@ value_in_again (c ∷ cs) (suc n) rest allowed h =
     ∙ ap (option_and_then (value_on (value_in n 34))) (value_one c (flat_map value_char cs ++ 34 ∷ rest) parts.0)
     ∙ ap (option_map (with_front (encode_utf8 c))) (value_in_again cs n rest parts.1 shorter)
 
+-- each takes at least a character of text, so the steps are enough
 value_char_long : (c : ℕ) → 0 < length (value_char c)
 value_char_long c = by_case (λ front. 0 < length front) (c == 34) (codes "&quot;") (text_char c) (λ _. omega arith) (λ _.
     by_form (λ _ front. 0 < length front) c (omega arith) (omega arith) (omega arith) (omega arith) (omega arith) (omega arith) (λ _ _ _ _ _. omega arith))
@@ -128,6 +134,7 @@ value_again value rest good =
 abbrev texts : List ℕ → List ℕ → List ℕ
 texts cs rest = flat_map text_char cs ++ 60 ∷ rest
 
+-- the first character of a text, and what is behind it
 texts_cons : (c : ℕ) (cs rest : List ℕ) → texts (c ∷ cs) rest ≡ text_char c ++ texts cs rest
 texts_cons c cs rest = append_assoc (text_char c) (flat_map text_char cs) (60 ∷ rest)
 
@@ -160,6 +167,7 @@ record ReadsOne (more : List ℕ) (c : ℕ) (front : List ℕ) : Type 0 where
   reads : piece_at (front ++ more) ≡ Some (piece, more)
   takes : (b : Builder) → is_outside b ≡ false → b.begun ≡ true → taken b piece ≡ Some (record b { text = b.text ++ encode_utf8 c })
 
+-- a reference, and a character that stands for itself
 reference_one : (more : List ℕ) (c : ℕ) (front : List ℕ) → piece_at (front ++ more) ≡ Some (Reference c, more) → ReadsOne more c front
 unfolding taken
 reference_one more c front e = record {
@@ -179,6 +187,7 @@ letter_one more c no_lt no_amp allowed none = record {
       cond (inside i) (if is_space c then Some (record b { begun = true }) else None) (cond (inside i) None (Some (record b { begun = sym begun i; text = b.text ++ encode_utf8 c })));
 }
 
+-- each character, as it stands between two tags
 one_again : (c : ℕ) (more : List ℕ) → is_xml_char c ≡ true → strip (93 ∷ 62 ∷ []) more ≡ None → ReadsOne more c (text_char c)
 unfolding piece_at reference_at
 one_again c more allowed none =
