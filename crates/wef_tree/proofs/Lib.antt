@@ -2,6 +2,7 @@ pub mod Expanded
 pub mod GoodNodes
 pub mod GoodOpens
 pub mod GoodPieces
+pub mod GoodPrefixes
 pub mod GoodTrees
 pub mod Inversions
 pub mod Maps
@@ -9,6 +10,8 @@ pub mod Readings
 pub mod Shorter
 pub mod Spelled
 pub mod Stacks
+pub mod StartsAgain
+pub mod TextsAgain
 pub mod Turns
 pub mod Utf8
 pub mod Walks
