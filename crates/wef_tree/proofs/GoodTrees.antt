@@ -170,10 +170,10 @@ opened_good b tag o room is good e =
         attributed = differ.good;
         different = differ.differ;
         spaces = spaces;
-        apart = refl;
+        apart = refl {a = true};
         children = tt;
       };
-      childless = refl;
+      childless = refl {a = []};
       fits = front_true _ _ found.0;
     })
   where
