@@ -1,3 +1,4 @@
+pub mod BoundPrefixes
 pub mod Expanded
 pub mod GoodNodes
 pub mod GoodOpens
@@ -5,6 +6,7 @@ pub mod GoodPieces
 pub mod GoodTrees
 pub mod Inversions
 pub mod Maps
+pub mod NewPrefixes
 pub mod Readings
 pub mod Shorter
 pub mod Spelled
