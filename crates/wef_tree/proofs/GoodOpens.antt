@@ -64,7 +64,7 @@ last_true true c e = e
 last_true false true e = refl
 last_true false false e = e
 
-or_right : (b c : Bool) → c ≡ true → (b || c) ≡ true
+pub or_right : (b c : Bool) → c ≡ true → (b || c) ≡ true
 or_right true c e = refl
 or_right false c e = e
 
