@@ -6,6 +6,7 @@ pub mod GoodPieces
 pub mod GoodTrees
 pub mod Inversions
 pub mod Maps
+pub mod NewBindings
 pub mod NewPrefixes
 pub mod Readings
 pub mod Shorter

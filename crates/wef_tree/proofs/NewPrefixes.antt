@@ -18,7 +18,7 @@ use Rattle.wef_tree.proofs.Inversions.{none_some, some_is}
 use Rattle.wef_tree.proofs.Spelled.{bound_at}
 
 -- the numbers below this have decimals of their own
-pub limit : ℕ
+unfoldable pub limit : ℕ
 limit = 10 ^ 64
 
 number_of : List ℕ → ℕ
@@ -121,7 +121,7 @@ number_free taken (s ∷ ss) n m less h =
     ∙ number_free taken ss (suc free) m (omega arith) (omega arith)
 
 -- new bindings have prefixes of their own
-new_distinct : (taken spaces : List (List ℕ)) (n : ℕ) → n + steps (length taken) spaces < limit → AreDistinct (bindings_from taken n spaces)
+pub new_distinct : (taken spaces : List (List ℕ)) (n : ℕ) → n + steps (length taken) spaces < limit → AreDistinct (bindings_from taken n spaces)
 new_distinct taken [] n h = tt
 new_distinct taken (s ∷ ss) n h =
     let free = next_free (length taken) taken n in
@@ -130,7 +130,7 @@ new_distinct taken (s ∷ ss) n h =
     (number_free taken ss (suc free) free (omega arith) (omega arith), new_distinct taken ss (suc free) (omega arith))
 
 -- they leave the taken prefixes
-taken_free :
+pub taken_free :
     (taken spaces : List (List ℕ)) (n : ℕ) (p : List ℕ) → list_any (same p) taken ≡ true → n + steps (length taken) spaces < limit →
     bound_at (bindings_from taken n spaces) p ≡ None
 taken_free taken [] n p is h = refl
@@ -146,7 +146,7 @@ taken_free taken (s ∷ ss) n p is h =
     by false t more = more
 
 -- and those of one letter
-letter_free :
+pub letter_free :
     (taken spaces : List (List ℕ)) (n : ℕ) (p : List ℕ) → length p ≡ 1 → n + steps (length taken) spaces < limit →
     bound_at (bindings_from taken n spaces) p ≡ None
 letter_free taken [] n p is h = refl
@@ -162,6 +162,6 @@ letter_free taken (s ∷ ss) n p is h =
     by false t high more = more
 
 -- they are of the new namespaces
-spaces_bound : (taken spaces : List (List ℕ)) (n : ℕ) (s : List ℕ) → has_space (bindings_from taken n spaces) s ≡ list_any (same s) spaces
+pub spaces_bound : (taken spaces : List (List ℕ)) (n : ℕ) (s : List ℕ) → has_space (bindings_from taken n spaces) s ≡ list_any (same s) spaces
 spaces_bound taken [] n s = refl
 spaces_bound taken (x ∷ xs) n s = λ i. same_turned x s i || spaces_bound taken xs (suc (next_free (length taken) taken n)) s i
