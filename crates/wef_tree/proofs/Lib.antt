@@ -3,6 +3,7 @@ pub mod Expanded
 pub mod GoodNodes
 pub mod GoodOpens
 pub mod GoodPieces
+pub mod GoodPrefixes
 pub mod GoodTrees
 pub mod Inversions
 pub mod Maps
