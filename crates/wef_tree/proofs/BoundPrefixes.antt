@@ -1,11 +1,14 @@
 -- What prefixes stand for, as bindings come further in.
-use Rattle.std.proofs.Common.{◌≡◌, ℕ, Bool, true, false, ◌||◌, cond, List, [], ◌∷◌, ◌++◌, refl, ap, sym, ◌∙◌, subst, ◌⊎◌, inl, inr}
-use Rattle.std.specs.Prelude.{Option, Some, None}
+use Rattle.std.proofs.Common.{◌≡◌, ℕ, ◌≤◌, Bool, true, false, ◌||◌, cond, List, [], ◌∷◌, length, refl, ap, sym, ◌∙◌, subst, ◌⊎◌, inl, inr, arith}
+use Rattle.std.specs.Prelude.{Option, Some, None, encode_utf8_all}
 use Rattle.std.specs.List.{list_any}
-use Rattle.std.specs.Option.{option_or}
 use Rattle.std.specs.Cmp.Lexicographic.{nat_list_eq_equiv}
+use Rattle.std.proofs.lemmas.Bool.Decides.{nat_tests}
+use Rattle.std.proofs.lemmas.Str.{length-le-encodes}
 use Rattle.wef_base.specs.Names.{same}
+use Rattle.wef_tree.specs.Good.{IsLocalName}
 use Rattle.wef_tree.specs.Prefixes.{bound_by, prefix_of, unless_bound}
+use Rattle.wef_tree.specs.Scopes.{is_empty}
 use Rattle.wef_tree.specs.declared.bindings.Binding.{Binding}
 use Rattle.wef_tree.proofs.GoodOpens.{one_name}
 use Rattle.wef_tree.proofs.Inversions.{none_some, some_is}
@@ -130,11 +133,6 @@ unchanged (b ∷ bs) bound s p is free none =
     second true u f = absurd cc
     second false u f = f
 
--- good bindings further in than good ones are good
-pub further_good : (bs bound : List Binding) → AreGoodBindings bound → AreGoodBindings bs → AreGoodBindings (bound_by bound bs)
-further_good [] bound good more = good
-further_good (b ∷ bs) bound good more = further_good bs (b ∷ bound) (more.0, good) more.1
-
 -- the prefix of a namespace is that of a good binding
 pub prefix_good : (bound : List Binding) (s p : List ℕ) → AreGoodBindings bound → prefix_of bound s ≡ Some p → (b : Binding) × IsGoodBinding b × (b.prefix ≡ p)
 prefix_good [] s p good e = absurd (none_some p e)
@@ -154,3 +152,39 @@ bound_good (b ∷ bs) p s good e = by (same b.prefix p) refl e (bound_good bs p 
         (bound_at bs p ≡ Some s → (c : Binding) × IsGoodBinding c × (c.prefix ≡ p)) → (c : Binding) × IsGoodBinding c × (c.prefix ≡ p)
     by true t f more = (b, good.0, one_name b.prefix p t)
     by false t f more = more f
+
+-- whether each prefix is one letter
+abbrev pub AreLetters : List Binding → Type 0
+AreLetters [] = Unit {0}
+AreLetters (b ∷ bs) = (length b.prefix ≡ 1) × AreLetters bs
+
+pub prefix_letter : (bound : List Binding) (s p : List ℕ) → AreLetters bound → prefix_of bound s ≡ Some p → length p ≡ 1
+prefix_letter [] s p letters e = absurd (none_some p e)
+prefix_letter (b ∷ bs) s p letters e = by (same b.space s) e (prefix_letter bs s p letters.1)
+  where
+    by : (t : Bool) → cond t (Some b.prefix) (unless_bound b.prefix (prefix_of bs s)) ≡ Some p → (prefix_of bs s ≡ Some p → length p ≡ 1) → length p ≡ 1
+    by true f more = ap length (sym (some_is b.prefix p f)) ∙ letters.0
+    by false f more = more (left b.prefix p (prefix_of bs s) f).1
+
+pub bound_letter : (bs : List Binding) (p s : List ℕ) → AreLetters bs → bound_at bs p ≡ Some s → length p ≡ 1
+bound_letter [] p s letters e = absurd (none_some s e)
+bound_letter (b ∷ bs) p s letters e = by (same b.prefix p) refl e (bound_letter bs p s letters.1)
+  where
+    by : (t : Bool) → same b.prefix p ≡ t → cond t (Some b.space) (bound_at bs p) ≡ Some s → (bound_at bs p ≡ Some s → length p ≡ 1) → length p ≡ 1
+    by true t f more = ap length (sym (one_name b.prefix p t)) ∙ letters.0
+    by false t f more = more f
+
+-- a name is some text
+pub name_some : (name : List ℕ) → IsLocalName name → is_empty name ≡ false
+name_some name is =
+    let long : length (is.first ∷ is.more) ≤ length (encode_utf8_all (is.first ∷ is.more)) = length-le-encodes (is.first ∷ is.more) in
+    let e : length name ≡ length (encode_utf8_all (is.first ∷ is.more)) = ap length is.spelt in
+    grind (arith, nat_tests)
+
+-- no good binding is of the empty prefix
+pub none_empty : (bs : List Binding) (p : List ℕ) → AreGoodBindings bs → is_empty p ≡ true → bound_at bs p ≡ None
+none_empty bs p good empty = by (bound_at bs p) refl
+  where
+    by : (o : Option (List ℕ)) → bound_at bs p ≡ o → o ≡ None
+    by None e = refl
+    by (Some s) e = let b = bound_good bs p s good e in never (is_empty p) empty (ap is_empty (sym b.2) ∙ name_some b.0.prefix b.1.prefix)

@@ -1,4 +1,5 @@
 pub mod BoundPrefixes
+pub mod DeclaredAgain
 pub mod Expanded
 pub mod GoodNodes
 pub mod GoodOpens
@@ -9,6 +10,7 @@ pub mod Inversions
 pub mod Maps
 pub mod NewBindings
 pub mod NewPrefixes
+pub mod OpensAgain
 pub mod Readings
 pub mod Shorter
 pub mod Spelled
