@@ -1,12 +1,13 @@
 -- A written start tag opens its element again: its namespaces are those of the element and its attributes, and what is in
 -- force inside is the same to the writer and the reader.
-use Rattle.std.proofs.Common.{◌≡◌, ℕ, ◌^◌, ◌<◌, Bool, true, false, ◌&&◌, ◌||◌, cond, List, [], ◌∷◌, ◌++◌, length, map, refl, ap, sym, ◌∙◌, subst, ◌⊎◌, inl, inr, append_assoc, append-nil}
+use Rattle.std.proofs.Common.{◌≡◌, ℕ, ◌^◌, ◌<◌, Bool, true, false, ◌&&◌, ◌||◌, cond, List, [], ◌∷◌, ◌++◌, length, map, refl, ap, sym, ◌∙◌, subst, ◌⊎◌, inl, inr, append_assoc, append-nil, arith}
 use Rattle.std.specs.Prelude.{Option, Some, None, is_some, unwrap_or, not, codes}
 use Rattle.std.specs.List.{list_any}
 use Rattle.std.specs.Option.{option_or, option_map, option_and_then}
 use Rattle.std.specs.Ordering.{nat_cmp}
 use Rattle.std.specs.Cmp.Lexicographic.{slice_cmp}
 use Rattle.std.specs.FinMap as map
+use Rattle.std.proofs.lemmas.Bool.Decides.{nat_tests}
 use Rattle.wef_base.specs.Names.{same}
 use Rattle.wef_base.specs.declared.tree.Attribute.{Attribute}
 use Rattle.wef_tree.specs.Building.{has_room, opened, opened_with}
@@ -205,13 +206,199 @@ record AreFirst (first : List Binding) : Type 0 where
   distinct : AreDistinct first
   letters : AreLetters first
 
-nine_first : AreFirst nine
-nine_first = record { good = nine_are_good; distinct = nine_distinct; letters = nine_letters }
-  where
-    nine_distinct : AreDistinct nine
-    unfolding nine
-    nine_distinct = (refl, refl, refl, refl, refl, refl, refl, refl, refl, tt)
+nine_distinct : AreDistinct nine
+unfolding nine
+nine_distinct = (refl, (refl, (refl, (refl, (refl, (refl, (refl, (refl, (refl, tt)))))))))
 
 nine_letters : AreLetters nine
 unfolding nine
-nine_letters = ?
+nine_letters = (refl, (refl, (refl, (refl, (refl, (refl, (refl, (refl, (refl, tt)))))))))
+
+are_first : (first : List Binding) (scope : Scope) (around : List Open) → (first ≡ []) ⊎ ((first ≡ nine) × (around ≡ []) × (scope.soap ≡ true)) → AreFirst first
+are_first first scope around (inl e) = subst AreFirst (sym e) (record { good = tt; distinct = tt; letters = tt })
+are_first first scope around (inr e) = subst AreFirst (sym e.0) (record { good = nine_are_good; distinct = nine_distinct; letters = nine_letters })
+
+-- one letter is no new prefix
+not_both : (first bs : List Binding) (scope : Scope) (attributes : List Attribute) (q s : List ℕ) → AreFirst first → AreNew scope.bound attributes bs → bound_at bs q ≡ Some s → bound_at first q ≡ None
+not_both first bs scope attributes q s is new e = by (bound_at first q) refl
+  where
+    by : (o : Option (List ℕ)) → bound_at first q ≡ o → o ≡ None
+    by None f = refl
+    by (Some r) f = absurd (none_some s (sym (new.letters q (bound_letter first q r is.letters f)) ∙ e))
+
+-- a prefix that is bound isn't empty
+bound_some : (bs : List Binding) (q s : List ℕ) → AreGoodBindings bs → bound_at bs q ≡ Some s → is_empty q ≡ false
+bound_some bs q s good e = let b = bound_good bs q s good e in ap is_empty (sym b.2) ∙ name_some b.0.prefix b.1.prefix
+
+-- what a tag declares in all, at each prefix
+record DeclaresAll (first bs : List Binding) (base : Declared) : Type 0 where
+  all : Declared
+  declared : (rest : List Given) → declared_by base (map declaration_given first ++ (map declaration_given bs ++ rest)) ≡ declared_by all rest
+  at : (q : List ℕ) → map.get all q ≡ option_or (bound_at bs q) (option_or (bound_at first q) (map.get base q))
+
+all_declared :
+    (first bs : List Binding) (base : Declared) → AreFirst first → AreGoodBindings bs → AreDistinct bs →
+    ((p : List ℕ) → is_empty p ≡ false → map.get base p ≡ None) → ((q s : List ℕ) → bound_at bs q ≡ Some s → bound_at first q ≡ None) →
+    DeclaresAll first bs base
+all_declared first bs base is good distinct alone apart = of (these_declared first base is.good is.distinct (λ q s e. alone q (bound_some first q s is.good e)))
+  where
+    of : DeclaresThese base first → DeclaresAll first bs base
+    of one = more (these_declared bs one.all good distinct (λ q s e. one.at q ∙ (λ i. option_or (apart q s e i) (alone q (bound_some bs q s good e) i))))
+      where
+        more : DeclaresThese one.all bs → DeclaresAll first bs base
+        more two = record {
+            all = two.all;
+            declared = λ rest. one.declared (map declaration_given bs ++ rest) ∙ two.declared rest;
+            at = λ q. two.at q ∙ ap (option_or (bound_at bs q)) (one.at q);
+          }
+
+-- a prefix from outside that is still in force inside
+still_in_force :
+    (first bs : List Binding) (own base : Declared) (around : List Open) (p s : List ℕ) → map.get own p ≡ option_or (bound_at bs p) (option_or (bound_at first p) (map.get base p)) →
+    map.get base p ≡ None → bound_at bs p ≡ None → option_or (bound_at first p) (declared_outside around p) ≡ Some s →
+    option_or (map.get own p) (declared_outside around p) ≡ Some s
+still_in_force first bs own base around p s at alone free outer =
+    ap (λ o. option_or o (declared_outside around p)) (at ∙ (λ i. option_or (free i) (option_or (bound_at first p) (alone i))) ∙ or_none (bound_at first p)) ∙ outer
+
+newly_in_force :
+    (first bs : List Binding) (own base : Declared) (around : List Open) (p s : List ℕ) → map.get own p ≡ option_or (bound_at bs p) (option_or (bound_at first p) (map.get base p)) →
+    bound_at bs p ≡ Some s → option_or (map.get own p) (declared_outside around p) ≡ Some s
+newly_in_force first bs own base around p s at is =
+    ap (λ o. option_or o (declared_outside around p)) (at ∙ ap (λ o. option_or o (option_or (bound_at first p) (map.get base p))) is)
+
+-- the default namespace inside
+default_in_force :
+    (around : List Open) (scope : Scope) (space : List ℕ) → option_or (declared_outside around []) (Some []) ≡ Some scope.default →
+    option_or (map.get (defaults (is_some (element_prefix scope.soap space) || same scope.default space) space) []) (option_or (declared_outside around []) (Some []))
+    ≡ Some (cond (is_some (element_prefix scope.soap space)) scope.default space)
+default_in_force around scope space outer = by (is_some (element_prefix scope.soap space)) (same scope.default space) refl
+  where
+    kept : (s : List ℕ) → scope.default ≡ s → option_or (map.get (defaults true space) []) (option_or (declared_outside around []) (Some [])) ≡ Some s
+    kept s e = ap (λ o. option_or o (option_or (declared_outside around []) (Some []))) (map.get-empty (slice_cmp nat_cmp) []) ∙ outer ∙ ap Some e
+    by : (t u : Bool) → same scope.default space ≡ u →
+        option_or (map.get (defaults (t || u) space) []) (option_or (declared_outside around []) (Some [])) ≡ Some (cond t scope.default space)
+    by true u e = kept scope.default refl
+    by false true e = kept space (one_name scope.default space e)
+    by false false e = ap (λ o. option_or o (option_or (declared_outside around []) (Some []))) (get_more map.empty [] space [])
+
+-- a namespace that has a prefix gets no other
+none_new :
+    (scope : Scope) (attributes : List Attribute) (bs : List Binding) (s p : List ℕ) → AreNew scope.bound attributes bs → prefix_of scope.bound s ≡ Some p → has_space bs s ≡ false
+none_new scope attributes bs s p new e = by (has_space bs s) refl
+  where
+    by : (t : Bool) → has_space bs s ≡ t → t ≡ false
+    by true is = never (not (is_some (prefix_of scope.bound s))) (last_true (not (is_empty s) && not (is_xml_space s)) (not (is_some (prefix_of scope.bound s))) (new.needed s is)) (ap (λ o. not (is_some o)) e)
+    by false is = refl
+
+-- what an element declares makes all that the writer has in force inside
+in_force :
+    (first : List Binding) (scope : Scope) (around : List Open) (space name : List ℕ) (attributes : List Attribute)
+    (own : DeclaresAll first (new_bindings scope.bound attributes) (defaults (is_some (element_prefix scope.soap space) || same scope.default space) space)) →
+    AreFirst first → IsGoodHead space name attributes → Agrees first scope around → AreNew scope.bound attributes (new_bindings scope.bound attributes) →
+    AreGoodBindings (new_bindings scope.bound attributes) →
+    IsInForce own.all around (inside scope space attributes)
+in_force first scope around space name attributes own is head agrees new good = record {
+    default = ap (λ o. option_or o (option_or (declared_outside around []) (Some []))) none ∙ default_in_force around scope space agrees.default;
+    default_is = text (is_some (element_prefix scope.soap space));
+    bindings = inner;
+    bound = λ s p e. stands s p e (inside_bound bs scope.bound s p new.distinct e);
+    nine_bound = λ soap s p e.
+        unchanged bs scope.bound s p (agrees.nine_bound soap s p e) (new.letters p (prefix_letter nine s p nine_letters e))
+            (none_new scope attributes bs s p new (agrees.nine_bound soap s p e));
+  }
+  where
+    bs : List Binding
+    bs = new_bindings scope.bound attributes
+    base : Declared
+    base = defaults (is_some (element_prefix scope.soap space) || same scope.default space) space
+    inner : AreGoodBindings (bound_by scope.bound bs)
+    inner = bound_by_good scope.bound bs agrees.bindings good
+    none : map.get own.all [] ≡ map.get base []
+    none = own.at [] ∙ (λ i. option_or (none_empty bs [] good refl i) (option_or (none_empty first [] is.good refl i) (map.get base [])))
+    text : (t : Bool) → IsXmlText (cond t scope.default space)
+    text true = agrees.default_is
+    text false = head.in_space
+    stands : (s p : List ℕ) → prefix_of (bound_by scope.bound bs) s ≡ Some p → (bound_at bs p ≡ Some s) ⊎ ((bound_at bs p ≡ None) × (prefix_of scope.bound s ≡ Some p)) →
+        option_or (map.get own.all p) (declared_outside around p) ≡ Some s
+    stands s p e (inl here) = newly_in_force first bs own.all base around p s (own.at p) here
+    stands s p e (inr outer) =
+        let b = prefix_good (bound_by scope.bound bs) s p inner e in
+        let some : is_empty p ≡ false = ap is_empty (sym b.2) ∙ name_some b.0.prefix b.1.prefix in
+        still_in_force first bs own.all base around p s (own.at p)
+            (default_alone (is_some (element_prefix scope.soap space) || same scope.default space) space p some) outer.0 (agrees.bound s p outer.1)
+
+-- the element that a written tag opens
+abbrev element_again : Declared → Scope → List ℕ → List ℕ → List Attribute → Open
+element_again own scope space name attributes = record { name = spelled_name scope space name; space = space; attributes = attributes; declared = own; children = [] }
+
+opens_it :
+    (b : Builder) (first : List Binding) (scope : Scope) (space name : List ℕ) (attributes : List Attribute) (own : Declared) → has_room b ≡ true →
+    declared_by map.empty (spelled first scope space name attributes).given ≡ Some own →
+    in_scope own b.around (spelled_name scope space name).prefix ≡ Some space →
+    attributes_by own b.around [] (spelled first scope space name attributes).given ≡ Some attributes →
+    opened b (spelled first scope space name attributes) ≡ Some (element_again own scope space name attributes)
+opens_it b first scope space name attributes own room declared in_space attributed =
+    ap (λ t. cond t (option_and_then (opened_with b.around (spelled first scope space name attributes)) (declared_by map.empty (spelled first scope space name attributes).given)) None) room
+    ∙ ap (option_and_then (opened_with b.around (spelled first scope space name attributes))) declared
+    ∙ ap (option_and_then (λ s. option_map (λ more. record { name = spelled_name scope space name; space = s; attributes = more; declared = own; children = [] })
+        (attributes_by own b.around [] (spelled first scope space name attributes).given))) in_space
+    ∙ ap (option_map (element_again own scope space name)) attributed
+
+-- the attributes of a written tag, one kind after the other
+given_is :
+    (first : List Binding) (scope : Scope) (space name : List ℕ) (attributes : List Attribute) →
+    (spelled first scope space name attributes).given
+    ≡ default_given scope space ++ (map declaration_given first ++ (map declaration_given (new_bindings scope.bound attributes) ++ map (attribute_given (inside scope space attributes).bound) attributes))
+given_is first scope space name attributes =
+    let kept = map (attribute_given (inside scope space attributes).bound) attributes in
+    let new_given = map declaration_given (new_bindings scope.bound attributes) in
+    append_assoc (default_given scope space ++ map declaration_given first) new_given kept
+    ∙ append_assoc (default_given scope space) (map declaration_given first) (new_given ++ kept)
+
+opened_so :
+    (b : Builder) (first : List Binding) (scope : Scope) (space name : List ℕ) (attributes : List Attribute)
+    (own : DeclaresAll first (new_bindings scope.bound attributes) (defaults (is_some (element_prefix scope.soap space) || same scope.default space) space)) →
+    AreFirst first → IsGoodHead space name attributes → has_room b ≡ true → Agrees first scope b.around → AreNew scope.bound attributes (new_bindings scope.bound attributes) →
+    IsInForce own.all b.around (inside scope space attributes) →
+    Opens b first scope space name attributes
+opened_so b first scope space name attributes own is head room agrees new force = record {
+    element = element_again own.all scope space name attributes;
+    opens = opens_it b first scope space name attributes own.all room
+        (ap (declared_by map.empty) (given_is first scope space name attributes) ∙ declared) (own_space own.all b.around scope space name attributes force)
+        (ap (attributes_by own.all b.around []) (given_is first scope space name attributes) ∙ attributed);
+    named = refl;
+    in_space = refl;
+    attributed = refl;
+    childless = refl;
+    agrees = λ os alike. agrees_inside (element_again own.all scope space name attributes) b.around os (inside scope space attributes) force alike;
+  }
+  where
+    inner : List Binding
+    inner = (inside scope space attributes).bound
+    kept : List Given
+    kept = map (attribute_given inner) attributes
+    new_given : List Given
+    new_given = map declaration_given (new_bindings scope.bound attributes)
+    read : AreRead own.all b.around inner attributes
+    read =
+        all_read own.all b.around (inside scope space attributes) attributes force head.attributed
+            (λ a one some other. has_prefix scope.bound attributes (new_bindings scope.bound attributes) a new one some other)
+    declared : declared_by map.empty (default_given scope space ++ (map declaration_given first ++ (new_given ++ kept))) ≡ Some own.all
+    declared =
+        default_declared scope space (map declaration_given first ++ (new_given ++ kept)) ∙ own.declared kept ∙ none_declared own.all b.around inner attributes read
+    attributed : attributes_by own.all b.around [] (default_given scope space ++ (map declaration_given first ++ (new_given ++ kept))) ≡ Some attributes
+    attributed =
+        default_passed own.all b.around scope space (map declaration_given first ++ (new_given ++ kept))
+        ∙ bindings_passed own.all b.around first (new_given ++ kept) ∙ bindings_passed own.all b.around (new_bindings scope.bound attributes) kept
+        ∙ attributes_again own.all b.around inner attributes [] read head.different
+
+-- a written start tag opens its element again
+pub opened_again : OpenedAgain
+opened_again b first scope space name attributes head few room agrees root =
+    let is = are_first first scope b.around root in
+    let bs = new_bindings scope.bound attributes in
+    let new = new_are scope.bound attributes few in
+    let good = new_are_good scope.bound attributes head.attributed in
+    let own = all_declared first bs (defaults (is_some (element_prefix scope.soap space) || same scope.default space) space) is good new.distinct
+        (default_alone (is_some (element_prefix scope.soap space) || same scope.default space) space) (λ q s e. not_both first bs scope attributes q s is new e) in
+    opened_so b first scope space name attributes own is head room agrees new (in_force first scope b.around space name attributes own is head agrees new good)
