@@ -83,11 +83,13 @@ inside_bound (b ∷ bs) bound s p distinct e = of (inside_bound bs (b ∷ bound)
     further : bound_at bs p ≡ Some s → (t : Bool) → same b.prefix p ≡ t → bound_at (b ∷ bs) p ≡ Some s
     further is true t = absurd (none_some s (sym distinct.0 ∙ ap (bound_at bs) (one_name b.prefix p t) ∙ is))
     further is false t = at_other b bs p t ∙ is
+
     here : bound_at bs p ≡ None → (t : Bool) → same b.space s ≡ t → cond t (Some b.prefix) (unless_bound b.prefix (prefix_of bound s)) ≡ Some p →
         (bound_at (b ∷ bs) p ≡ Some s) ⊎ ((bound_at (b ∷ bs) p ≡ None) × (prefix_of bound s ≡ Some p))
     here none true t f =
         inl (at_same b bs p (ap (λ x. same x p) (some_is b.prefix p f) ∙ same_self p) ∙ ap Some (one_name b.space s t))
     here none false t f = let rest = left b.prefix p (prefix_of bound s) f in inr (at_other b bs p rest.0 ∙ none, rest.1)
+
     of : (bound_at bs p ≡ Some s) ⊎ ((bound_at bs p ≡ None) × (prefix_of (b ∷ bound) s ≡ Some p)) →
         (bound_at (b ∷ bs) p ≡ Some s) ⊎ ((bound_at (b ∷ bs) p ≡ None) × (prefix_of bound s ≡ Some p))
     of (inl is) = inl (further is (same b.prefix p) refl)
@@ -124,11 +126,12 @@ pub unchanged :
 unchanged [] bound s p is free none = is
 unchanged (b ∷ bs) bound s p is free none =
     unchanged bs (b ∷ bound) s p (of_other b bound s p (first (same b.space s) (has_space bs s) none) (not_first b bs p free) is)
-        (not_behind b bs p free) (second (same b.space s) (has_space bs s) none)
+    (not_behind b bs p free) (second (same b.space s) (has_space bs s) none)
   where
     first : (t u : Bool) → (t || u) ≡ false → t ≡ false
     first true u f = f
     first false u f = refl
+
     second : (t u : Bool) → (t || u) ≡ false → u ≡ false
     second true u f = absurd cc
     second false u f = f

@@ -1,18 +1,18 @@
 -- The declarations of a written tag are read again: each is good, the first of its prefix, and stands for what its binding
 -- says.
 use Rattle.std.proofs.Common.{◌≡◌, ℕ, Bool, true, false, ◌&&◌, ◌||◌, cond, List, [], ◌∷◌, ◌++◌, map, refl, ap, sym, ◌∙◌}
-use Rattle.std.specs.Prelude.{Option, Some, None, is_some, not, codes}
+use Rattle.std.specs.Prelude.{Some, None, is_some, not, codes}
 use Rattle.std.specs.Option.{option_or, option_and_then}
 use Rattle.std.specs.Ordering.{nat_cmp}
 use Rattle.std.specs.Cmp.Lexicographic.{nat_list_cmp_total, slice_cmp, texts_ties}
 use Rattle.std.specs.FinMap as map
 use Rattle.wef_base.specs.Names.{same}
 use Rattle.wef_tree.specs.Prefixes.{Scope, element_prefix, nine, prefix_of}
-use Rattle.wef_tree.specs.Scopes.{Declared, declare_one, declared_by, is_empty, is_xml, is_xml_space, is_xmlns, may_declare, with_declaration}
+use Rattle.wef_tree.specs.Scopes.{Declared, declared_by, is_empty, is_xml, is_xml_space, is_xmlns, may_declare, with_declaration}
 use Rattle.wef_tree.specs.declared.bindings.Binding.{Binding}
 use Rattle.wef_tree.specs.declared.tags.Given.{Given}
-use Rattle.wef_tree.proofs.BoundPrefixes.{AreDistinct, at_other, never, same_self, same_turned}
-use Rattle.wef_tree.proofs.GoodOpens.{and_true, one_name, or_right}
+use Rattle.wef_tree.proofs.BoundPrefixes.{AreDistinct, at_other, same_self, same_turned}
+use Rattle.wef_tree.proofs.GoodOpens.{one_name, or_right}
 use Rattle.wef_tree.proofs.Inversions.{none_some}
 use Rattle.wef_tree.proofs.Spelled.{AreGoodBindings, IsGoodBinding, bound_at, declaration_given, default_given}
 
@@ -52,21 +52,25 @@ these_declared (b ∷ bs) own good distinct apart = with (these_declared bs (map
   where
     free : map.get own b.prefix ≡ None
     free = apart b.prefix b.space (ap (λ t. cond t (Some b.space) (bound_at bs b.prefix)) (same_self b.prefix))
+
     apart_behind : (q s : List ℕ) → bound_at bs q ≡ Some s → (t : Bool) → same b.prefix q ≡ t → cond t (Some b.space) (map.get own q) ≡ None
     apart_behind q s is true e = absurd (none_some s (sym distinct.0 ∙ ap (bound_at bs) (one_name b.prefix q e) ∙ is))
     apart_behind q s is false e = apart q s (at_other b bs q e ∙ is)
+
     further : (q s : List ℕ) → bound_at bs q ≡ Some s → map.get (map.insert own b.prefix b.space) q ≡ None
     further q s is = get_more own b.prefix b.space q ∙ apart_behind q s is (same b.prefix q) refl
+
     here : (q : List ℕ) (t : Bool) → same b.prefix q ≡ t →
         option_or (bound_at bs q) (cond t (Some b.space) (map.get own q)) ≡ option_or (cond t (Some b.space) (bound_at bs q)) (map.get own q)
     here q true e = ap (λ o. option_or o (Some b.space)) (ap (bound_at bs) (sym (one_name b.prefix q e)) ∙ distinct.0)
     here q false e = refl
+
     with : DeclaresThese (map.insert own b.prefix b.space) bs → DeclaresThese own (b ∷ bs)
     with more = record {
-        all = more.all;
-        declared = λ rest. binding_step own b (map declaration_given bs ++ rest) good.0 free ∙ more.declared rest;
-        at = λ q. more.at q ∙ ap (option_or (bound_at bs q)) (get_more own b.prefix b.space q) ∙ here q (same b.prefix q) refl;
-      }
+      all = more.all;
+      declared = λ rest. binding_step own b (map declaration_given bs ++ rest) good.0 free ∙ more.declared rest;
+      at = λ q. more.at q ∙ ap (option_or (bound_at bs q)) (get_more own b.prefix b.space q) ∙ here q (same b.prefix q) refl;
+    }
 
 -- the default namespace that a tag declares, if it does
 abbrev pub defaults : Bool → List ℕ → Declared

@@ -15,6 +15,7 @@ pub mod Readings
 pub mod Shorter
 pub mod Spelled
 pub mod Stacks
+pub mod StartLengths
 pub mod Turns
 pub mod Utf8
 pub mod Walks

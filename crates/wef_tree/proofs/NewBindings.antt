@@ -7,10 +7,10 @@ use Rattle.std.specs.Option.{option_to_list}
 use Rattle.std.proofs.lemmas.List.Folds.{list_any-append}
 use Rattle.wef_base.specs.Names.{same}
 use Rattle.wef_base.specs.declared.tree.Attribute.{Attribute}
-use Rattle.wef_tree.specs.Prefixes.{bindings_from, bound_by, needs_prefix, new_bindings, new_spaces, outer_prefixes, prefix_of, with_space}
+use Rattle.wef_tree.specs.Prefixes.{bound_by, needs_prefix, new_bindings, new_spaces, outer_prefixes, prefix_of, with_space}
 use Rattle.wef_tree.specs.Scopes.{is_empty, is_xml_space}
 use Rattle.wef_tree.specs.declared.bindings.Binding.{Binding}
-use Rattle.wef_tree.proofs.BoundPrefixes.{AreDistinct, has_space, never, newly, same_self, still}
+use Rattle.wef_tree.proofs.BoundPrefixes.{AreDistinct, has_space, newly, same_self, still}
 use Rattle.wef_tree.proofs.GoodOpens.{one_name, or_right}
 use Rattle.wef_tree.proofs.NewPrefixes.{letter_free, limit, new_distinct, spaces_bound, steps, taken_free}
 use Rattle.wef_tree.proofs.Spelled.{bound_at}
@@ -61,7 +61,7 @@ spaces_there :
 spaces_there bound [] spaces a is needs = absurd is
 spaces_there bound (b ∷ more) spaces a (inl is) needs =
     let there : list_any (same a.space) (with_space bound spaces b.space) ≡ true =
-        subst (λ (x : Attribute). list_any (same a.space) (with_space bound spaces x.space) ≡ true) is (with_there bound spaces a.space needs) in
+    subst (λ (x : Attribute). list_any (same a.space) (with_space bound spaces x.space) ≡ true) is (with_there bound spaces a.space needs) in
     spaces_kept bound more (with_space bound spaces b.space) a.space there
 spaces_there bound (b ∷ more) spaces a (inr is) needs = spaces_there bound more (with_space bound spaces b.space) a is needs
 
@@ -79,6 +79,7 @@ with_needed bound spaces x all s = by (needs_prefix bound x) (not (list_any (sam
         of : (t : Bool) → same s x ≡ t → (t || false) ≡ true → needs_prefix bound s ≡ true
         of true e f = ap (needs_prefix bound) (one_name s x e) ∙ needs
         of false e f = absurd cc
+
     by : (t u : Bool) → needs_prefix bound x ≡ t → list_any (same s) (cond (t && u) (spaces ++ x ∷ []) spaces) ≡ true → needs_prefix bound s ≡ true
     by true true needs is =
         last needs (in_either (list_any (same s) spaces) (list_any (same s) (x ∷ [])) (sym (list_any-append (same s) spaces (x ∷ [])) ∙ is))

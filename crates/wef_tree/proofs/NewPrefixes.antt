@@ -1,6 +1,6 @@
 -- The numbers of new prefixes rise, and pass over those that are taken.
-use Rattle.std.proofs.Common.{◌≡◌, ℕ, zero, suc, ◌+◌, ◌-◌, ◌*◌, ◌^◌, ◌≤◌, ◌<◌, Bool, true, false, ◌||◌, cond, List, [], ◌∷◌, ◌++◌, length, map, drop, refl, ap, sym, ◌∙◌, subst, arith}
-use Rattle.std.specs.Prelude.{Option, Some, None}
+use Rattle.std.proofs.Common.{◌≡◌, ℕ, zero, suc, ◌+◌, ◌-◌, ◌^◌, ◌≤◌, ◌<◌, Bool, true, false, ◌||◌, cond, List, [], ◌∷◌, length, map, drop, refl, ap, sym, ◌∙◌, subst, arith}
+use Rattle.std.specs.Prelude.{Some, None}
 use Rattle.std.specs.Fmt.{decimal}
 use Rattle.std.specs.List.{list_any}
 use Rattle.std.specs.Str.Parse.{digits_value}
@@ -11,10 +11,8 @@ use Rattle.std.proofs.lemmas.Map.Steps.{le-length_from_below}
 use Rattle.std.proofs.lemmas.List.{length-map}
 use Rattle.wef_base.specs.Names.{same}
 use Rattle.wef_tree.specs.Prefixes.{bindings_from, next_free, numbered_prefix}
-use Rattle.wef_tree.specs.declared.bindings.Binding.{Binding}
-use Rattle.wef_tree.proofs.BoundPrefixes.{AreDistinct, has_space, never, same_self, same_turned}
+use Rattle.wef_tree.proofs.BoundPrefixes.{AreDistinct, has_space, never, same_turned}
 use Rattle.wef_tree.proofs.GoodOpens.{one_name, or_right}
-use Rattle.wef_tree.proofs.Inversions.{none_some, some_is}
 use Rattle.wef_tree.proofs.Spelled.{bound_at}
 
 -- the numbers below this have decimals of their own
@@ -69,6 +67,7 @@ all_taken (suc k) taken n q e h = by (list_any (same (numbered_prefix n)) taken)
         list_any (same (numbered_prefix (n + r))) taken ≡ true
     further is more zero l = let e : n ≡ n + 0 = omega arith in subst (λ (m : ℕ). list_any (same (numbered_prefix m)) taken ≡ true) e is
     further is more (suc r) l = let e : suc n + r ≡ n + suc r = omega arith in subst (λ (m : ℕ). list_any (same (numbered_prefix m)) taken ≡ true) e (more r (omega arith))
+
     by : (t : Bool) → list_any (same (numbered_prefix n)) taken ≡ t → list_any (same (numbered_prefix (cond t (next_free k taken (suc n)) n))) taken ≡ true →
         ((r : ℕ) → list_any (same (numbered_prefix (next_free k taken (suc n)))) taken ≡ true → r ≤ k → list_any (same (numbered_prefix (suc n + r))) taken ≡ true) →
         list_any (same (numbered_prefix (n + q))) taken ≡ true
@@ -99,8 +98,8 @@ not_taken taken n h = by (list_any (same (numbered_prefix (next_free (length tak
     by : (t : Bool) → list_any (same (numbered_prefix (next_free (length taken) taken n))) taken ≡ t → t ≡ false
     by true e =
         let all : suc (length taken) ≤ length (map (λ p. number_of p - n) taken) =
-            le-length_from_below (map (λ p. number_of p - n) taken) (suc (length taken))
-                (λ q less. taken_number taken n q (omega arith) (all_taken (length taken) taken n q e (omega arith))) in
+        le-length_from_below (map (λ p. number_of p - n) taken) (suc (length taken))
+        (λ q less. taken_number taken n q (omega arith) (all_taken (length taken) taken n q e (omega arith))) in
         absurd (omega (arith, length-map taken (λ p. number_of p - n)))
     by false e = refl
 
@@ -142,7 +141,7 @@ taken_free taken (s ∷ ss) n p is h =
         cond t (Some s) (bound_at (bindings_from taken (suc (next_free (length taken) taken n)) ss) p) ≡ None
     by true t more =
         never (list_any (same p) taken) is
-            (ap (λ q. list_any (same q) taken) (sym (one_name (numbered_prefix (next_free (length taken) taken n)) p t)) ∙ not_taken taken n (omega arith))
+        (ap (λ q. list_any (same q) taken) (sym (one_name (numbered_prefix (next_free (length taken) taken n)) p t)) ∙ not_taken taken n (omega arith))
     by false t more = more
 
 -- and those of one letter

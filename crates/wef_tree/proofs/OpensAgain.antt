@@ -1,6 +1,6 @@
 -- A written start tag opens its element again: its namespaces are those of the element and its attributes, and what is in
 -- force inside is the same to the writer and the reader.
-use Rattle.std.proofs.Common.{◌≡◌, ℕ, ◌^◌, ◌<◌, Bool, true, false, ◌&&◌, ◌||◌, cond, List, [], ◌∷◌, ◌++◌, length, map, refl, ap, sym, ◌∙◌, subst, ◌⊎◌, inl, inr, append_assoc, append-nil, arith}
+use Rattle.std.proofs.Common.{◌≡◌, ℕ, Bool, true, false, ◌&&◌, ◌||◌, cond, List, [], ◌∷◌, ◌++◌, map, refl, ap, sym, ◌∙◌, subst, ◌⊎◌, inl, inr, append_assoc, append-nil, arith}
 use Rattle.std.specs.Prelude.{Option, Some, None, is_some, unwrap_or, not, codes}
 use Rattle.std.specs.List.{list_any}
 use Rattle.std.specs.Option.{option_or, option_map, option_and_then}
@@ -12,11 +12,10 @@ use Rattle.wef_base.specs.Names.{same}
 use Rattle.wef_base.specs.declared.tree.Attribute.{Attribute}
 use Rattle.wef_tree.specs.Building.{has_room, opened, opened_with}
 use Rattle.wef_tree.specs.Good.{IsGoodAttribute, AreGoodAttributes, IsGoodHead, IsXmlText, differ_behind}
-use Rattle.wef_tree.specs.Prefixes.{Scope, attribute_prefix, bound_by, element_prefix, inside, needs_prefix, new_bindings, nine, prefix_of}
+use Rattle.wef_tree.specs.Prefixes.{Scope, attribute_prefix, bound_by, element_prefix, inside, new_bindings, nine, prefix_of}
 use Rattle.wef_tree.specs.Scopes.{Declared, attribute_one, attribute_space, attributes_by, declare_one, declared_by, declared_outside, declares, in_scope, is_attribute, is_empty, is_xml, is_xml_space, is_xmlns, undeclared, with_attribute, xml_space}
 use Rattle.wef_tree.specs.declared.bindings.Binding.{Binding}
 use Rattle.wef_tree.specs.declared.building.Builder.{Builder}
-use Rattle.wef_tree.specs.declared.names.Name.{Name}
 use Rattle.wef_tree.specs.declared.stack.Open.{Open}
 use Rattle.wef_tree.specs.declared.tags.Given.{Given}
 use Rattle.wef_tree.proofs.BoundPrefixes.{AreDistinct, AreLetters, bound_good, bound_letter, has_space, inside_bound, name_some, never, none_empty, prefix_good, prefix_letter, unchanged}
@@ -58,14 +57,14 @@ agrees_inside :
     (o : Open) (around os : List Open) (scope : Scope) → IsInForce o.declared around scope → ((prefix : List ℕ) → declared_outside os prefix ≡ declared_outside around prefix) →
     Agrees [] scope (o ∷ os)
 agrees_inside o around os scope force alike = record {
-    default =
-        ap (λ x. option_or (option_or (map.get o.declared []) x) (Some [])) (alike [])
-        ∙ or_assoc (map.get o.declared []) (declared_outside around []) (Some []) ∙ force.default;
-    default_is = force.default_is;
-    bindings = force.bindings;
-    bound = λ s p e. ap (option_or (map.get o.declared p)) (alike p) ∙ force.bound s p e;
-    nine_bound = force.nine_bound;
-  }
+  default =
+      ap (λ x. option_or (option_or (map.get o.declared []) x) (Some [])) (alike [])
+      ∙ or_assoc (map.get o.declared []) (declared_outside around []) (Some []) ∙ force.default;
+  default_is = force.default_is;
+  bindings = force.bindings;
+  bound = λ s p e. ap (option_or (map.get o.declared p)) (alike p) ∙ force.bound s p e;
+  nine_bound = force.nine_bound;
+}
 
 -- what a prefix of the element's stands for
 stands_for : (own : Declared) (around : List Open) (p s : List ℕ) → is_xml p ≡ false → option_or (map.get own p) (declared_outside around p) ≡ Some s → in_scope own around p ≡ Some s
@@ -91,12 +90,15 @@ own_space own around scope space name attributes force = by (element_prefix scop
     bound p e =
         let b = prefix_good (inside scope space attributes).bound space p force.bindings e in
         stands_for own around p space (ap is_xml (sym b.2) ∙ b.1.no_xml) (force.bound space p e)
+
     plain : (p : List ℕ) (soap : Bool) → scope.soap ≡ soap → cond soap (prefix_of nine space) None ≡ Some p → in_scope own around p ≡ Some space
     plain p true is e = bound p (force.nine_bound is space p e)
     plain p false is e = absurd (none_some p e)
+
     some : (p : List ℕ) (xml : Bool) → is_xml_space space ≡ xml → cond xml (Some (codes "xml")) (cond scope.soap (prefix_of nine space) None) ≡ Some p → in_scope own around p ≡ Some space
     some p true is e = ap (in_scope own around) (sym (some_is (codes "xml") p e)) ∙ xml_stands own around space is
     some p false is e = plain p scope.soap refl e
+
     by : (o : Option (List ℕ)) → element_prefix scope.soap space ≡ o →
         option_or (map.get own []) (option_or (declared_outside around []) (Some [])) ≡ Some (cond (is_some o) scope.default space) → in_scope own around (unwrap_or o []) ≡ Some space
     by None e default = none_stands own around space default
@@ -118,9 +120,10 @@ read_bound :
     (own : Declared) (around : List Open) (a : Attribute) (b : Binding) → IsGoodBinding b →
     option_or (map.get own b.prefix) (declared_outside around b.prefix) ≡ Some a.space → IsReadUnder own around a b.prefix
 read_bound own around a b good e =
-    let some : is_empty b.prefix ≡ false = name_some b.prefix good.prefix in
-    ((λ i. cond (some i) (cond (is_xmlns a.name) (Some []) None) (cond (good.no_xmlns i) (Some a.name) None)),
-        ap (λ t. cond t (Some []) (in_scope own around b.prefix)) some ∙ stands_for own around b.prefix a.space good.no_xml e)
+    let some : is_empty b.prefix ≡ false = name_some b.prefix good.prefix in (
+      (λ i. cond (some i) (cond (is_xmlns a.name) (Some []) None) (cond (good.no_xmlns i) (Some a.name) None)),
+      ap (λ t. cond t (Some []) (in_scope own around b.prefix)) some ∙ stands_for own around b.prefix a.space good.no_xml e,
+    )
 
 read_again :
     (own : Declared) (around : List Open) (scope : Scope) (a : Attribute) → IsInForce own around scope → IsGoodAttribute a →
@@ -134,9 +137,11 @@ read_again own around scope a force good known = by (is_empty a.space) refl
         let P : List ℕ → Type 0 = λ p. IsReadUnder own around a p in
         let at : prefix_of scope.bound a.space ≡ Some b.0.prefix = found.1 ∙ ap Some (sym b.2) in
         subst P (sym (ap (λ (o : Option (List ℕ)). unwrap_or o []) at)) (read_bound own around a b.0 b.1 (force.bound a.space b.0.prefix at))
+
     other : is_empty a.space ≡ false → (t : Bool) → is_xml_space a.space ≡ t → IsReadUnder own around a (unwrap_or (cond t (Some (codes "xml")) (prefix_of scope.bound a.space)) [])
     other some true e = read_xml own around a e
     other some false e = bound (known some e)
+
     by : (t : Bool) → is_empty a.space ≡ t →
         IsReadUnder own around a (unwrap_or (cond t None (cond (is_xml_space a.space) (Some (codes "xml")) (prefix_of scope.bound a.space))) [])
     by true e = read_plain own around a good e
@@ -172,16 +177,18 @@ attributes_again own around bound (a ∷ more) before read differ =
   where
     next : List Attribute → Option (List Attribute)
     next so_far = attributes_by own around so_far (map (attribute_given bound) more)
+
     fresh : list_any (is_attribute a.space a.name) before ≡ false
     fresh = of (list_any (is_attribute a.space a.name) before) (front_true _ _ differ)
       where
         of : (t : Bool) → not t ≡ true → t ≡ false
         of true e = absurd cc
         of false e = refl
+
     one : attribute_one own around before (attribute_given bound a) ≡ Some (before ++ a ∷ [])
     one =
         ap (λ o. cond (is_some o) (Some before) (option_and_then (with_attribute before (attribute_given bound a))
-            (attribute_space own around (attribute_given bound a).name.prefix))) read.0.0
+        (attribute_space own around (attribute_given bound a).name.prefix))) read.0.0
         ∙ ap (option_and_then (with_attribute before (attribute_given bound a))) read.0.1
         ∙ ap (λ t. cond t None (Some (before ++ a ∷ []))) fresh
 
@@ -247,10 +254,10 @@ all_declared first bs base is good distinct alone apart = of (these_declared fir
       where
         more : DeclaresThese one.all bs → DeclaresAll first bs base
         more two = record {
-            all = two.all;
-            declared = λ rest. one.declared (map declaration_given bs ++ rest) ∙ two.declared rest;
-            at = λ q. two.at q ∙ ap (option_or (bound_at bs q)) (one.at q);
-          }
+          all = two.all;
+          declared = λ rest. one.declared (map declaration_given bs ++ rest) ∙ two.declared rest;
+          at = λ q. two.at q ∙ ap (option_or (bound_at bs q)) (one.at q);
+        }
 
 -- a prefix from outside that is still in force inside
 still_in_force :
@@ -275,6 +282,7 @@ default_in_force around scope space outer = by (is_some (element_prefix scope.so
   where
     kept : (s : List ℕ) → scope.default ≡ s → option_or (map.get (defaults true space) []) (option_or (declared_outside around []) (Some [])) ≡ Some s
     kept s e = ap (λ o. option_or o (option_or (declared_outside around []) (Some []))) (map.get-empty (slice_cmp nat_cmp) []) ∙ outer ∙ ap Some e
+
     by : (t u : Bool) → same scope.default space ≡ u →
         option_or (map.get (defaults (t || u) space) []) (option_or (declared_outside around []) (Some [])) ≡ Some (cond t scope.default space)
     by true u e = kept scope.default refl
@@ -298,26 +306,31 @@ in_force :
     AreGoodBindings (new_bindings scope.bound attributes) →
     IsInForce own.all around (inside scope space attributes)
 in_force first scope around space name attributes own is head agrees new good = record {
-    default = ap (λ o. option_or o (option_or (declared_outside around []) (Some []))) none ∙ default_in_force around scope space agrees.default;
-    default_is = text (is_some (element_prefix scope.soap space));
-    bindings = inner;
-    bound = λ s p e. stands s p e (inside_bound bs scope.bound s p new.distinct e);
-    nine_bound = λ soap s p e.
-        unchanged bs scope.bound s p (agrees.nine_bound soap s p e) (new.letters p (prefix_letter nine s p nine_letters e))
-            (none_new scope attributes bs s p new (agrees.nine_bound soap s p e));
-  }
+  default = ap (λ o. option_or o (option_or (declared_outside around []) (Some []))) none ∙ default_in_force around scope space agrees.default;
+  default_is = text (is_some (element_prefix scope.soap space));
+  bindings = inner;
+  bound = λ s p e. stands s p e (inside_bound bs scope.bound s p new.distinct e);
+  nine_bound = λ soap s p e.
+      unchanged bs scope.bound s p (agrees.nine_bound soap s p e) (new.letters p (prefix_letter nine s p nine_letters e))
+      (none_new scope attributes bs s p new (agrees.nine_bound soap s p e));
+}
   where
     bs : List Binding
     bs = new_bindings scope.bound attributes
+
     base : Declared
     base = defaults (is_some (element_prefix scope.soap space) || same scope.default space) space
+
     inner : AreGoodBindings (bound_by scope.bound bs)
     inner = bound_by_good scope.bound bs agrees.bindings good
+
     none : map.get own.all [] ≡ map.get base []
     none = own.at [] ∙ (λ i. option_or (none_empty bs [] good refl i) (option_or (none_empty first [] is.good refl i) (map.get base [])))
+
     text : (t : Bool) → IsXmlText (cond t scope.default space)
     text true = agrees.default_is
     text false = head.in_space
+
     stands : (s p : List ℕ) → prefix_of (bound_by scope.bound bs) s ≡ Some p → (bound_at bs p ≡ Some s) ⊎ ((bound_at bs p ≡ None) × (prefix_of scope.bound s ≡ Some p)) →
         option_or (map.get own.all p) (declared_outside around p) ≡ Some s
     stands s p e (inl here) = newly_in_force first bs own.all base around p s (own.at p) here
@@ -325,7 +338,7 @@ in_force first scope around space name attributes own is head agrees new good = 
         let b = prefix_good (bound_by scope.bound bs) s p inner e in
         let some : is_empty p ≡ false = ap is_empty (sym b.2) ∙ name_some b.0.prefix b.1.prefix in
         still_in_force first bs own.all base around p s (own.at p)
-            (default_alone (is_some (element_prefix scope.soap space) || same scope.default space) space p some) outer.0 (agrees.bound s p outer.1)
+        (default_alone (is_some (element_prefix scope.soap space) || same scope.default space) space p some) outer.0 (agrees.bound s p outer.1)
 
 -- the element that a written tag opens
 abbrev element_again : Declared → Scope → List ℕ → List ℕ → List Attribute → Open
@@ -341,7 +354,7 @@ opens_it b first scope space name attributes own room declared in_space attribut
     ap (λ t. cond t (option_and_then (opened_with b.around (spelled first scope space name attributes)) (declared_by map.empty (spelled first scope space name attributes).given)) None) room
     ∙ ap (option_and_then (opened_with b.around (spelled first scope space name attributes))) declared
     ∙ ap (option_and_then (λ s. option_map (λ more. record { name = spelled_name scope space name; space = s; attributes = more; declared = own; children = [] })
-        (attributes_by own b.around [] (spelled first scope space name attributes).given))) in_space
+    (attributes_by own b.around [] (spelled first scope space name attributes).given))) in_space
     ∙ ap (option_map (element_again own scope space name)) attributed
 
 -- the attributes of a written tag, one kind after the other
@@ -362,30 +375,35 @@ opened_so :
     IsInForce own.all b.around (inside scope space attributes) →
     Opens b first scope space name attributes
 opened_so b first scope space name attributes own is head room agrees new force = record {
-    element = element_again own.all scope space name attributes;
-    opens = opens_it b first scope space name attributes own.all room
-        (ap (declared_by map.empty) (given_is first scope space name attributes) ∙ declared) (own_space own.all b.around scope space name attributes force)
-        (ap (attributes_by own.all b.around []) (given_is first scope space name attributes) ∙ attributed);
-    named = refl;
-    in_space = refl;
-    attributed = refl;
-    childless = refl;
-    agrees = λ os alike. agrees_inside (element_again own.all scope space name attributes) b.around os (inside scope space attributes) force alike;
-  }
+  element = element_again own.all scope space name attributes;
+  opens = opens_it b first scope space name attributes own.all room
+      (ap (declared_by map.empty) (given_is first scope space name attributes) ∙ declared) (own_space own.all b.around scope space name attributes force)
+      (ap (attributes_by own.all b.around []) (given_is first scope space name attributes) ∙ attributed);
+  named = refl;
+  in_space = refl;
+  attributed = refl;
+  childless = refl;
+  agrees = λ os alike. agrees_inside (element_again own.all scope space name attributes) b.around os (inside scope space attributes) force alike;
+}
   where
     inner : List Binding
     inner = (inside scope space attributes).bound
+
     kept : List Given
     kept = map (attribute_given inner) attributes
+
     new_given : List Given
     new_given = map declaration_given (new_bindings scope.bound attributes)
+
     read : AreRead own.all b.around inner attributes
     read =
         all_read own.all b.around (inside scope space attributes) attributes force head.attributed
-            (λ a one some other. has_prefix scope.bound attributes (new_bindings scope.bound attributes) a new one some other)
+        (λ a one some other. has_prefix scope.bound attributes (new_bindings scope.bound attributes) a new one some other)
+
     declared : declared_by map.empty (default_given scope space ++ (map declaration_given first ++ (new_given ++ kept))) ≡ Some own.all
     declared =
         default_declared scope space (map declaration_given first ++ (new_given ++ kept)) ∙ own.declared kept ∙ none_declared own.all b.around inner attributes read
+
     attributed : attributes_by own.all b.around [] (default_given scope space ++ (map declaration_given first ++ (new_given ++ kept))) ≡ Some attributes
     attributed =
         default_passed own.all b.around scope space (map declaration_given first ++ (new_given ++ kept))
@@ -400,5 +418,5 @@ opened_again b first scope space name attributes head few room agrees root =
     let new = new_are scope.bound attributes few in
     let good = new_are_good scope.bound attributes head.attributed in
     let own = all_declared first bs (defaults (is_some (element_prefix scope.soap space) || same scope.default space) space) is good new.distinct
-        (default_alone (is_some (element_prefix scope.soap space) || same scope.default space) space) (λ q s e. not_both first bs scope attributes q s is new e) in
+    (default_alone (is_some (element_prefix scope.soap space) || same scope.default space) space) (λ q s e. not_both first bs scope attributes q s is new e) in
     opened_so b first scope space name attributes own is head room agrees new (in_force first scope b.around space name attributes own is head agrees new good)
