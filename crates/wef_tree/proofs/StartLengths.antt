@@ -1,10 +1,9 @@
 -- A start tag is at least as long as it has attributes.
-use Rattle.std.proofs.Common.{◌≡◌, ℕ, ◌+◌, ◌≤◌, List, [], ◌∷◌, ◌++◌, length, arith, length-append}
-use Rattle.std.specs.Prelude.{codes}
+use Rattle.std.proofs.Common.{ℕ, ◌≤◌, List, [], ◌∷◌, ◌++◌, length, arith, length-append}
 use Rattle.std.specs.List.{flat_map}
 use Rattle.wef_base.specs.declared.tree.Attribute.{Attribute}
-use Rattle.wef_tree.specs.Canonical.{assigned, attribute_of, declaration_of, default_of, name_of, start_of}
-use Rattle.wef_tree.specs.Prefixes.{Scope, attribute_prefix, element_prefix, inside, new_bindings}
+use Rattle.wef_tree.specs.Canonical.{attribute_of, declaration_of, default_of, name_of, start_of}
+use Rattle.wef_tree.specs.Prefixes.{Scope, element_prefix, inside, new_bindings}
 use Rattle.wef_tree.specs.declared.bindings.Binding.{Binding}
 
 attribute_some : (bound : List Binding) (a : Attribute) → 1 ≤ length (attribute_of bound a)
