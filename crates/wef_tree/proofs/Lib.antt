@@ -1,3 +1,5 @@
+pub mod BoundPrefixes
+pub mod DeclaredAgain
 pub mod Expanded
 pub mod GoodNodes
 pub mod GoodOpens
@@ -6,10 +8,14 @@ pub mod GoodPrefixes
 pub mod GoodTrees
 pub mod Inversions
 pub mod Maps
+pub mod NewBindings
+pub mod NewPrefixes
+pub mod OpensAgain
 pub mod Readings
 pub mod Shorter
 pub mod Spelled
 pub mod Stacks
+pub mod StartLengths
 pub mod StartsAgain
 pub mod TextsAgain
 pub mod Turns
