@@ -1,6 +1,6 @@
 -- The prefixes that a writer uses are names without `:`, and their namespaces may be declared.
 use Rattle.std.proofs.Common.{◌≡◌, ℕ, zero, suc, ◌/◌, ◌%◌, ◌<◌, ◌==◌, Bool, true, false, ◌&&◌, not, is_some, if◌then◌else◌, nat_lt, List, [], ◌∷◌, ◌++◌, length, codes, encode_utf8_all, Option, Some, None, refl, ap, sym, subst, ◌∙◌, ⊎_elim, arith}
-use Rattle.std.specs.Fmt.{decimal, digit_glyph, digits, digits_onto}
+use Rattle.std.specs.Fmt.{digit_glyph, digits_onto}
 use Rattle.std.specs.List.{list_all, list_any}
 use Rattle.std.proofs.lemmas.Bool.{and_from, and_parts}
 use Rattle.std.proofs.lemmas.Bool.Decides.{nat_tests}
@@ -10,7 +10,7 @@ use Rattle.wef_base.specs.Names.{same}
 use Rattle.wef_base.specs.declared.tree.Attribute.{Attribute}
 use Rattle.wef_tree.specs.Good.{AreGoodAttributes, IsLocalName, IsXmlText}
 use Rattle.wef_tree.specs.Names.{is_name_char, is_name_start}
-use Rattle.wef_tree.specs.Prefixes.{attribute_prefix, bindings_from, bound_by, element_prefix, needs_prefix, new_bindings, new_spaces, next_free, nine, numbered_prefix, outer_prefixes, prefix_of, soap_space, unless_bound, with_space}
+use Rattle.wef_tree.specs.Prefixes.{attribute_prefix, bindings_from, bound_by, element_prefix, in_digits, needs_prefix, new_bindings, new_spaces, next_free, nine, numbered_prefix, outer_prefixes, prefix_of, soap_space, unless_bound, with_space}
 use Rattle.wef_tree.specs.Scopes.{is_empty, is_xml, is_xml_space, is_xmlns, xml_space}
 use Rattle.wef_tree.specs.declared.bindings.Binding.{Binding}
 use Rattle.wef_tree.proofs.Inversions.{cond_is, none_some, some_is, unless_some}
@@ -160,9 +160,9 @@ digits_are (suc steps) n behind h =
     by false done here further = further
 
 -- all digits of a number
-decimal_is : (n : ℕ) → list_all is_plain_digit (decimal n) ≡ true
-unfolding digits
-decimal_is n = digits_are 64 n [] refl
+digits_of_number : (n : ℕ) → list_all is_plain_digit (in_digits n) ≡ true
+unfolding in_digits
+digits_of_number n = digits_are (suc n) n [] refl
 
 -- what holds of all by two tests holds by each
 halves : {A : Type 0} (p q : A → Bool) (xs : List A) → list_all (λ x. p x && q x) xs ≡ true → (list_all p xs ≡ true) × (list_all q xs ≡ true)
@@ -177,8 +177,8 @@ halves p q (x ∷ xs) h =
 pub numbered_is_name : (n : ℕ) → IsLocalName (numbered_prefix n)
 unfolding is_plain_digit
 numbered_is_name n =
-    let both = halves is_plain is_name_char (decimal n) (decimal_is n) in
-    plain_name_is 112 (decimal n) both.0 refl both.1
+    let both = halves is_plain is_name_char (in_digits n) (digits_of_number n) in
+    plain_name_is 112 (in_digits n) both.0 refl both.1
 
 -- a namespace that a prefix may be declared for
 record IsGoodSpace (space : List ℕ) : Type 0 where

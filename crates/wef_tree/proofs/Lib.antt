@@ -1,5 +1,6 @@
 pub mod BoundPrefixes
 pub mod DeclaredAgain
+pub mod Digits
 pub mod Expanded
 pub mod GoodNodes
 pub mod GoodOpens
@@ -15,7 +16,6 @@ pub mod Readings
 pub mod Shorter
 pub mod Spelled
 pub mod Stacks
-pub mod StartLengths
 pub mod StartsAgain
 pub mod TextsAgain
 pub mod Turns

@@ -12,7 +12,7 @@ use Rattle.wef_tree.specs.Scopes.{is_empty, is_xml_space}
 use Rattle.wef_tree.specs.declared.bindings.Binding.{Binding}
 use Rattle.wef_tree.proofs.BoundPrefixes.{AreDistinct, has_space, newly, same_self, still}
 use Rattle.wef_tree.proofs.GoodOpens.{one_name, or_right}
-use Rattle.wef_tree.proofs.NewPrefixes.{letter_free, limit, new_distinct, spaces_bound, steps, taken_free}
+use Rattle.wef_tree.proofs.NewPrefixes.{letter_free, new_distinct, spaces_bound, taken_free}
 use Rattle.wef_tree.proofs.Spelled.{bound_at}
 
 -- one of some attributes
@@ -90,27 +90,7 @@ spaces_needed : (bound : List Binding) (attributes : List Attribute) (spaces : L
 spaces_needed bound [] spaces all = all
 spaces_needed bound (a ∷ more) spaces all = spaces_needed bound more (with_space bound spaces a.space) (with_needed bound spaces a.space all)
 
--- no more than attributes
-with_few : (bound : List Binding) (spaces : List (List ℕ)) (x : List ℕ) → length (with_space bound spaces x) ≤ suc (length spaces)
-with_few bound spaces x = by (needs_prefix bound x && not (list_any (same x) spaces))
-  where
-    by : (t : Bool) → length (cond t (spaces ++ x ∷ []) spaces) ≤ suc (length spaces)
-    by true = omega (arith, length-append spaces (x ∷ []))
-    by false = omega arith
-
-spaces_few : (bound : List Binding) (attributes : List Attribute) (spaces : List (List ℕ)) → length (new_spaces bound spaces attributes) ≤ length spaces + length attributes
-spaces_few bound [] spaces = omega arith
-spaces_few bound (a ∷ more) spaces = omega (arith, spaces_few bound more (with_space bound spaces a.space), with_few bound spaces a.space)
-
 -- prefixes that are taken
-
-outer_few : (bound : List Binding) (attributes : List Attribute) → length (outer_prefixes bound attributes) ≤ length attributes
-outer_few bound [] = omega arith
-outer_few bound (a ∷ more) = by (prefix_of bound a.space) (outer_few bound more)
-  where
-    by : (o : Option (List ℕ)) → length (outer_prefixes bound more) ≤ length more → length (option_to_list o ++ outer_prefixes bound more) ≤ suc (length more)
-    by None h = omega arith
-    by (Some p) h = omega arith
 
 outer_there :
     (bound : List Binding) (attributes : List Attribute) (a : Attribute) (p : List ℕ) → IsOneOf a attributes → prefix_of bound a.space ≡ Some p →
@@ -126,17 +106,6 @@ outer_there bound (b ∷ more) a p (inr is) e =
 
 -- new bindings
 
-steps_few : (k : ℕ) (spaces : List (List ℕ)) → k < 2 ^ 64 → steps k spaces ≤ length spaces * 2 ^ 64
-steps_few k [] h = omega arith
-steps_few k (s ∷ ss) h = omega (arith, steps_few k ss h)
-
-numbers_fit : (bound : List Binding) (attributes : List Attribute) → length attributes < 2 ^ 64 → 1 + steps (length (outer_prefixes bound attributes)) (new_spaces bound [] attributes) < limit
-unfolding limit
-numbers_fit bound attributes h =
-    let few = outer_few bound attributes in
-    let more : length (new_spaces bound [] attributes) ≤ length attributes = omega (arith, spaces_few bound attributes []) in
-    omega (arith, few, more, steps_few (length (outer_prefixes bound attributes)) (new_spaces bound [] attributes) (omega arith))
-
 -- what an element's new bindings are
 pub record AreNew (bound : List Binding) (attributes : List Attribute) (bs : List Binding) : Type 0 where
   pub distinct : AreDistinct bs
@@ -145,15 +114,14 @@ pub record AreNew (bound : List Binding) (attributes : List Attribute) (bs : Lis
   pub all : (a : Attribute) → IsOneOf a attributes → needs_prefix bound a.space ≡ true → has_space bs a.space ≡ true
   pub needed : (s : List ℕ) → has_space bs s ≡ true → needs_prefix bound s ≡ true
 
-pub new_are : (bound : List Binding) (attributes : List Attribute) → length attributes < 2 ^ 64 → AreNew bound attributes (new_bindings bound attributes)
-new_are bound attributes h =
+pub new_are : (bound : List Binding) (attributes : List Attribute) → AreNew bound attributes (new_bindings bound attributes)
+new_are bound attributes =
     let taken = outer_prefixes bound attributes in
     let spaces = new_spaces bound [] attributes in
-    let fit = numbers_fit bound attributes h in
     record {
-      distinct = new_distinct taken spaces 1 fit;
-      letters = λ p is. letter_free taken spaces 1 p is fit;
-      outer = λ a p is e. taken_free taken spaces 1 p (outer_there bound attributes a p is e) fit;
+      distinct = new_distinct taken spaces 1;
+      letters = λ p is. letter_free taken spaces 1 p is;
+      outer = λ a p is e. taken_free taken spaces 1 p (outer_there bound attributes a p is e);
       all = λ a is needs. spaces_bound taken spaces 1 a.space ∙ spaces_there bound attributes [] a is needs;
       needed = λ s is. spaces_needed bound attributes [] (λ x e. absurd cc) s (sym (spaces_bound taken spaces 1 s) ∙ is);
     }

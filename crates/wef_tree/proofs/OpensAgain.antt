@@ -412,10 +412,10 @@ opened_so b first scope space name attributes own is head room agrees new force 
 
 -- a written start tag opens its element again
 pub opened_again : OpenedAgain
-opened_again b first scope space name attributes head few room agrees root =
+opened_again b first scope space name attributes head room agrees root =
     let is = are_first first scope b.around root in
     let bs = new_bindings scope.bound attributes in
-    let new = new_are scope.bound attributes few in
+    let new = new_are scope.bound attributes in
     let good = new_are_good scope.bound attributes head.attributed in
     let own = all_declared first bs (defaults (is_some (element_prefix scope.soap space) || same scope.default space) space) is good new.distinct
     (default_alone (is_some (element_prefix scope.soap space) || same scope.default space) space) (λ q s e. not_both first bs scope attributes q s is new e) in

@@ -103,5 +103,5 @@ pub record Opens (b : Builder) (first : List Binding) (scope : Scope) (space nam
 abbrev pub OpenedAgain : Type 0
 OpenedAgain =
     (b : Builder) (first : List Binding) (scope : Scope) (space name : List ℕ) (attributes : List Attribute) →
-    IsGoodHead space name attributes → length attributes < 2 ^ 64 → has_room b ≡ true → Agrees first scope b.around → (first ≡ []) ⊎ ((first ≡ nine) × (b.around ≡ []) × (scope.soap ≡ true)) →
+    IsGoodHead space name attributes → has_room b ≡ true → Agrees first scope b.around → (first ≡ []) ⊎ ((first ≡ nine) × (b.around ≡ []) × (scope.soap ≡ true)) →
     Opens b first scope space name attributes

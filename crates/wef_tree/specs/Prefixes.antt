@@ -2,8 +2,8 @@
 -- namespaces use; other elements have no prefix, and declare a default namespace where another is in force. An attribute
 -- whose namespace has no prefix in scope gets `p1`, `p2` and so on, anew on each element. The prefix `xml` is never
 -- declared.
-use Rattle.std.specs.Prelude.{ℕ, zero, suc, Bool, ◌&&◌, not, is_some, List, [], ◌∷◌, ◌++◌, length, Option, Some, None, codes, if◌then◌else◌}
-use Rattle.std.specs.Fmt.{decimal}
+use Rattle.std.specs.Prelude.{ℕ, zero, suc, Bool, false, ◌&&◌, not, is_some, List, [], ◌∷◌, ◌++◌, length, Option, Some, None, codes, if◌then◌else◌}
+use Rattle.std.specs.Fmt.{digits_onto}
 use Rattle.std.specs.List.{list_any}
 use Rattle.std.specs.Option.{option_to_list}
 use Rattle.wef_base.specs.Names.{same}
@@ -90,9 +90,13 @@ abbrev pub outer_prefixes : List Binding → List Attribute → List (List ℕ)
 outer_prefixes bound [] = []
 outer_prefixes bound (a ∷ more) = option_to_list (prefix_of bound a.space) ++ outer_prefixes bound more
 
+-- a number in decimal digits, however many
+unfoldable pub in_digits : ℕ → List ℕ
+in_digits n = digits_onto (suc n) 10 false n []
+
 -- p1, p2 and so on
 abbrev pub numbered_prefix : ℕ → List ℕ
-numbered_prefix n = 112 ∷ decimal n
+numbered_prefix n = 112 ∷ in_digits n
 
 -- the first number from n on whose prefix isn't taken, of so many more
 abbrev pub next_free : ℕ → List (List ℕ) → ℕ → ℕ
