@@ -1,3 +1,4 @@
+pub mod EncodedAgain
 pub mod Expanded
 pub mod GoodNodes
 pub mod GoodOpens

@@ -1,0 +1,122 @@
+-- Characters that are written in bytes are read again.
+use Rattle.std.proofs.Common.{◌≡◌, ℕ, ◌+◌, ◌-◌, ◌*◌, ◌/◌, ◌%◌, ◌<◌, ◌==◌, Bool, true, false, ◌&&◌, cond, nat_lt, List, [], ◌∷◌, ◌++◌, length, refl, ap, sym, ◌∙◌, subst, append_assoc, arith, encode_utf8_all}
+use Rattle.std.specs.Prelude.{Option, Some, None, Result}
+use Rattle.std.specs.declared.result.Result.TheVariants.{Ok, Err}
+use Rattle.std.specs.List.{flat_map}
+use Rattle.std.specs.Str.{all_scalars, chars, is_utf8}
+use Rattle.std.proofs.lemmas.Bool.{and_parts}
+use Rattle.std.proofs.lemmas.Bool.Decides.{nat_tests}
+use Rattle.std.proofs.lemmas.Nat.{div-add-mod'}
+use Rattle.std.proofs.lemmas.Str.{chars_from_encodes, is_utf8-from_IsUtf8}
+use lib.Utf8.{scalar, encode}
+use Rattle.wef_base.specs.declared.tree.Charset.{Charset}
+use Rattle.wef_base.specs.declared.tree.Charset.TheVariants.{Utf8, Utf16}
+use Rattle.wef_tree.specs.Canonical.{character_bytes, encoded, unit_bytes}
+use Rattle.wef_tree.specs.Decoding.{decoded, decoded8, decoded16, is_high, is_low, joined, line_ends, mark_length, pair_of, unit}
+use Rattle.wef_tree.specs.declared.utf16.ByteOrder.TheVariants.{LittleEndian}
+
+-- UTF-8
+
+-- the characters that bytes were written for
+chars_again : (cs : List ℕ) → all_scalars cs ≡ true → chars (encode_utf8_all cs) ≡ cs
+chars_again cs h = sym (chars_from_encodes cs (encode_utf8_all cs) (cs, (h, refl)) refl)
+
+decoded8_again : (cs : List ℕ) → all_scalars cs ≡ true → decoded8 (encode_utf8_all cs) ≡ Ok cs
+decoded8_again cs h =
+    let good = is_utf8-from_IsUtf8 (encode_utf8_all cs) (cs, (h, refl)) in
+    rw (good, chars_again cs h) refl
+
+written8 : (cs : List ℕ) → flat_map (character_bytes Utf8) cs ≡ encode_utf8_all cs
+written8 [] = refl
+written8 (c ∷ cs) = ap (λ t. encode c ++ t) (written8 cs)
+
+-- a text that begins with `<` has no byte order mark
+bytes8_again : (cs : List ℕ) → all_scalars (60 ∷ cs) ≡ true → decoded Utf8 (encode_utf8_all (60 ∷ cs)) ≡ Ok (60 ∷ cs)
+unfolding encode
+bytes8_again cs h = ap (λ r. joined [] (mark_length Utf8 (encode_utf8_all (60 ∷ cs))) r) (decoded8_again (60 ∷ cs) h)
+
+-- UTF-16
+
+unit_again : (u : ℕ) → unit LittleEndian (u % 256) (u / 256) ≡ u
+unit_again u = div-add-mod' u 256
+
+single_again :
+    (u : ℕ) (rest cs : List ℕ) → is_high u ≡ false → is_low u ≡ false → decoded16 LittleEndian None rest ≡ Ok cs →
+    decoded16 LittleEndian None (unit_bytes u ++ rest) ≡ Ok (u ∷ cs)
+single_again u rest cs high low further = rw (unit_again u, high, low, further) refl
+
+pair_again :
+    (u v : ℕ) (rest cs : List ℕ) → is_high u ≡ true → is_low v ≡ true → decoded16 LittleEndian None rest ≡ Ok cs →
+    decoded16 LittleEndian None ((unit_bytes u ++ unit_bytes v) ++ rest) ≡ Ok (pair_of u v ∷ cs)
+pair_again u v rest cs high low further = rw (unit_again u, high, unit_again v, low, further) refl
+
+no_high : (c : ℕ) → scalar c ≡ true → is_high c ≡ false
+no_high c h = grind (arith, nat_tests)
+
+no_low : (c : ℕ) → scalar c ≡ true → is_low c ≡ false
+no_low c h = grind (arith, nat_tests)
+
+above : (c : ℕ) → scalar c ≡ true → nat_lt c 0x10000 ≡ false → (0x10000 - 1 < c) × (c < 0x110000)
+above c h e = (grind (arith, nat_tests), grind (arith, nat_tests))
+
+first_is_high : (n : ℕ) → n < 0x100000 → is_high (0xD800 + n / 1024) ≡ true
+first_is_high n h =
+    let small : n / 1024 < 1024 = omega arith in
+    grind (arith, nat_tests)
+
+second_is_low : (n : ℕ) → is_low (0xDC00 + n % 1024) ≡ true
+second_is_low n =
+    let small : n % 1024 < 1024 = omega arith in
+    grind (arith, nat_tests)
+
+pair_is : (c : ℕ) → 0x10000 - 1 < c → pair_of (0xD800 + (c - 0x10000) / 1024) (0xDC00 + (c - 0x10000) % 1024) ≡ c
+pair_is c h =
+    let parts = div-add-mod' (c - 0x10000) 1024 in
+    omega arith
+
+character_again :
+    (c : ℕ) (rest cs : List ℕ) → scalar c ≡ true → decoded16 LittleEndian None rest ≡ Ok cs →
+    decoded16 LittleEndian None (character_bytes Utf16 c ++ rest) ≡ Ok (c ∷ cs)
+character_again c rest cs h further = by (nat_lt c 0x10000) refl
+  where
+    u : ℕ
+    u = 0xD800 + (c - 0x10000) / 1024
+    v : ℕ
+    v = 0xDC00 + (c - 0x10000) % 1024
+    by : (b : Bool) → nat_lt c 0x10000 ≡ b → decoded16 LittleEndian None (cond b (unit_bytes c) (unit_bytes (0xD800 + (c - 0x10000) / 1024) ++ unit_bytes (0xDC00 + (c - 0x10000) % 1024)) ++ rest) ≡ Ok (c ∷ cs)
+    by true e = single_again c rest cs (no_high c h) (no_low c h) further
+    by false e =
+        let range = above c h e in
+        pair_again (0xD800 + (c - 0x10000) / 1024) (0xDC00 + (c - 0x10000) % 1024) rest cs
+            (let top : c < 0x110000 = range.1 in first_is_high (c - 0x10000) (omega arith)) (second_is_low (c - 0x10000)) further
+        ∙ ap (λ x. Ok (x ∷ cs)) (pair_is c range.0)
+
+decoded16_again : (cs : List ℕ) → all_scalars cs ≡ true → decoded16 LittleEndian None (flat_map (character_bytes Utf16) cs) ≡ Ok cs
+decoded16_again [] h = refl
+decoded16_again (c ∷ cs) h =
+    let parts = and_parts (scalar c) (all_scalars cs) h in
+    character_again c (flat_map (character_bytes Utf16) cs) cs parts.0 (decoded16_again cs parts.1)
+
+-- what is written is decoded again
+pub encoded_again : (charset : Charset) (cs : List ℕ) → all_scalars (60 ∷ cs) ≡ true → decoded charset (encoded charset (60 ∷ cs)) ≡ Ok (60 ∷ cs)
+encoded_again Utf8 cs h = ap (λ bytes. decoded Utf8 bytes) (written8 (60 ∷ cs)) ∙ bytes8_again cs h
+encoded_again Utf16 cs h = ap (λ r. joined [] (mark_length Utf16 (encoded Utf16 (60 ∷ cs))) r) (decoded16_again (60 ∷ cs) h)
+
+-- line ends
+
+-- a character that is no CR
+abbrev pub has_no_cr : List ℕ → Bool
+has_no_cr [] = true
+has_no_cr (c ∷ cs) = cond (c == 13) false (has_no_cr cs)
+
+-- without a CR no line end is changed
+pub line_ends_kept : (cs : List ℕ) → has_no_cr cs ≡ true → line_ends false cs ≡ cs
+line_ends_kept [] h = refl
+line_ends_kept (c ∷ cs) h = by (c == 13) (c == 10) h (line_ends_kept cs)
+  where
+    by :
+        (cr lf : Bool) → cond cr false (has_no_cr cs) ≡ true → (has_no_cr cs ≡ true → line_ends false cs ≡ cs) →
+        cond cr (10 ∷ line_ends true cs) (cond (lf && false) (line_ends false cs) (c ∷ line_ends false cs)) ≡ c ∷ cs
+    by true lf e further = cc
+    by false true e further = ap (λ t. c ∷ t) (further e)
+    by false false e further = ap (λ t. c ∷ t) (further e)
