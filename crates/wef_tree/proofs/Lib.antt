@@ -10,6 +10,7 @@ pub mod Readings
 pub mod Shorter
 pub mod Spelled
 pub mod Stacks
+pub mod TreesAgain
 pub mod Turns
 pub mod Utf8
 pub mod Walks
