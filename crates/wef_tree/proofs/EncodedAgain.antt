@@ -18,7 +18,7 @@ use Rattle.wef_tree.specs.declared.utf16.ByteOrder.TheVariants.{LittleEndian}
 -- UTF-8
 
 -- the characters that bytes were written for
-chars_again : (cs : List ℕ) → all_scalars cs ≡ true → chars (encode_utf8_all cs) ≡ cs
+pub chars_again : (cs : List ℕ) → all_scalars cs ≡ true → chars (encode_utf8_all cs) ≡ cs
 chars_again cs h = sym (chars_from_encodes cs (encode_utf8_all cs) (cs, (h, refl)) refl)
 
 decoded8_again : (cs : List ℕ) → all_scalars cs ≡ true → decoded8 (encode_utf8_all cs) ≡ Ok cs

@@ -6,6 +6,7 @@ pub mod GoodPieces
 pub mod GoodTrees
 pub mod Inversions
 pub mod Maps
+pub mod PlainTexts
 pub mod Readings
 pub mod Shorter
 pub mod Spelled

@@ -188,7 +188,7 @@ start_taken b first scope space name attributes opens = ap (option_map (entered 
 -- around the root
 
 -- what holds of each namespace and its prefix
-abbrev AllHave : (List ℕ → List ℕ → Type 0) → List Binding → Type 0
+abbrev pub AllHave : (List ℕ → List ℕ → Type 0) → List Binding → Type 0
 AllHave P [] = Unit {0}
 AllHave P (b ∷ bs) = P b.space b.prefix × AllHave P bs
 
@@ -197,7 +197,7 @@ unless_is prefix None found e = e
 unless_is prefix (Some other) found e = (unless_some (same prefix other) (Some other) found e).1
 
 -- it holds of a prefix that is looked up
-prefix_has : (P : List ℕ → List ℕ → Type 0) (bs : List Binding) (space prefix : List ℕ) → AllHave P bs → prefix_of bs space ≡ Some prefix → P space prefix
+pub prefix_has : (P : List ℕ → List ℕ → Type 0) (bs : List Binding) (space prefix : List ℕ) → AllHave P bs → prefix_of bs space ≡ Some prefix → P space prefix
 prefix_has P [] space prefix all e = absurd (none_some prefix e)
 prefix_has P (b ∷ bs) space prefix all e = by (same b.space space) refl (prefix_has P bs space prefix all.1) e
   where
@@ -235,7 +235,7 @@ one_letter c space letter begins spelt allowed some no_xml_space no_xml no_xmlns
   }
 
 -- the nine may be declared
-nine_good : AreGoodBindings nine
+pub nine_good : AreGoodBindings nine
 unfolding nine soap_space encode xml_space is_xml_space is_xml is_xmlns
 nine_good =
     (one_letter _ _ refl refl refl refl refl refl refl refl, (one_letter _ _ refl refl refl refl refl refl refl refl,
