@@ -10,6 +10,7 @@ pub mod PlainTexts
 pub mod Readings
 pub mod Shorter
 pub mod Spelled
+pub mod SpellsAgain
 pub mod Stacks
 pub mod TreesAgain
 pub mod Turns

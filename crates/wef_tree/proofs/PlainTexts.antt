@@ -25,10 +25,10 @@ use Rattle.wef_tree.proofs.TreesAgain.{AllHave, nine_good, prefix_has}
 use Rattle.wef_tree.proofs.Spelled.{AreGoodBindings}
 
 -- a character that can be encoded, and is no CR
-abbrev is_plain : ℕ → Bool
+abbrev pub is_plain : ℕ → Bool
 is_plain c = scalar c && not (c == 13)
 
-abbrev ArePlain : List ℕ → Type 0
+abbrev pub ArePlain : List ℕ → Type 0
 ArePlain cs = list_all is_plain cs ≡ true
 
 plain_append : (xs ys : List ℕ) → ArePlain xs → ArePlain ys → ArePlain (xs ++ ys)
@@ -105,14 +105,14 @@ name_chars_plain (c ∷ cs) h =
     and_from (is_plain c) (list_all is_plain cs) (name_char_plain c parts.0) (name_chars_plain cs parts.1)
 
 -- what is plain can be encoded
-plain_scalars : (cs : List ℕ) → ArePlain cs → all_scalars cs ≡ true
+pub plain_scalars : (cs : List ℕ) → ArePlain cs → all_scalars cs ≡ true
 plain_scalars [] h = refl
 plain_scalars (c ∷ cs) h =
     let parts = and_parts (is_plain c) (list_all is_plain cs) h in
     and_from (scalar c) (all_scalars cs) (and_parts (scalar c) (not (c == 13)) parts.0).0 (plain_scalars cs parts.1)
 
 -- what is plain has no CR
-plain_has_no_cr : (cs : List ℕ) → ArePlain cs → has_no_cr cs ≡ true
+pub plain_has_no_cr : (cs : List ℕ) → ArePlain cs → has_no_cr cs ≡ true
 plain_has_no_cr [] h = refl
 plain_has_no_cr (c ∷ cs) h =
     let parts = and_parts (is_plain c) (list_all is_plain cs) h in
@@ -224,3 +224,146 @@ bindings_plain taken n (s ∷ ss) plain =
 new_bindings_plain : (bound : List Binding) (attributes : List Attribute) → AreGoodAttributes attributes → ArePlainBindings (new_bindings bound attributes)
 new_bindings_plain bound attributes good =
     bindings_plain (outer_prefixes bound attributes) 1 (new_spaces bound [] attributes) (new_spaces_plain bound [] attributes tt good)
+
+-- prefixes
+
+xml_plain : ArePlain (chars (codes "xml"))
+unfolding chars
+xml_plain = refl
+
+found_plain : (bs : List Binding) (space prefix : List ℕ) → ArePlainBindings bs → prefix_of bs space ≡ Some prefix → ArePlain (chars prefix)
+found_plain bs space prefix plain e = (prefix_has IsPlainBinding bs space prefix plain e).0
+
+one_plain : (xml prefix : List ℕ) → ArePlain (chars xml) → Some xml ≡ Some prefix → ArePlain (chars prefix)
+one_plain xml prefix plain e = let P : List ℕ → Type 0 = λ x. ArePlain (chars x) in subst P (some_is xml prefix e) plain
+
+element_prefix_plain : (soap : Bool) (space prefix : List ℕ) → element_prefix soap space ≡ Some prefix → ArePlain (chars prefix)
+element_prefix_plain soap space prefix e = by (is_xml_space space) soap e
+  where
+    by : (xml soap : Bool) → cond xml (Some (codes "xml")) (cond soap (prefix_of nine space) None) ≡ Some prefix → ArePlain (chars prefix)
+    by true soap e = one_plain (codes "xml") prefix xml_plain e
+    by false true e = found_plain nine space prefix (plain_bindings nine nine_good) e
+    by false false e = absurd (none_some prefix e)
+
+attribute_prefix_plain :
+    (bound : List Binding) (space prefix : List ℕ) → ArePlainBindings bound → attribute_prefix bound space ≡ Some prefix → ArePlain (chars prefix)
+attribute_prefix_plain bound space prefix plain e = by (is_empty space) (is_xml_space space) e
+  where
+    by : (none xml : Bool) → cond none None (cond xml (Some (codes "xml")) (prefix_of bound space)) ≡ Some prefix → ArePlain (chars prefix)
+    by true xml e = absurd (none_some prefix e)
+    by false true e = one_plain (codes "xml") prefix xml_plain e
+    by false false e = found_plain bound space prefix plain e
+
+name_plain : (given : Option (List ℕ)) (local : List ℕ) → ((prefix : List ℕ) → given ≡ Some prefix → ArePlain (chars prefix)) → ArePlain (chars local) → ArePlain (name_of given local)
+name_plain None local prefixes plain = plain
+name_plain (Some prefix) local prefixes plain = plain_append (chars prefix) (58 ∷ chars local) (prefixes prefix refl) plain
+
+-- tags
+
+assigned_plain : (value : List ℕ) → ArePlain (value_of value) → ArePlain (assigned value)
+assigned_plain value plain = plain_append (codes "=\"" ++ value_of value) (34 ∷ []) (plain_append (codes "=\"") (value_of value) refl plain) refl
+
+declaration_plain : (b : Binding) → IsPlainBinding b.space b.prefix → ArePlain (declaration_of b)
+declaration_plain b plain =
+    plain_append (codes " xmlns:" ++ chars b.prefix) (assigned b.space) (plain_append (codes " xmlns:") (chars b.prefix) refl plain.0) (assigned_plain b.space plain.1)
+
+declarations_plain : (bs : List Binding) → ArePlainBindings bs → ArePlain (flat_map declaration_of bs)
+declarations_plain [] plain = refl
+declarations_plain (b ∷ bs) plain =
+    plain_append (declaration_of b) (flat_map declaration_of bs) (declaration_plain b plain.0) (declarations_plain bs plain.1)
+
+default_plain : (scope : Scope) (space : List ℕ) → IsXmlText space → ArePlain (default_of scope space)
+default_plain scope space is = by (is_some (element_prefix scope.soap space) || same scope.default space)
+  where
+    by : (kept : Bool) → ArePlain (cond kept [] (codes " xmlns" ++ assigned space))
+    by true = refl
+    by false = plain_append (codes " xmlns") (assigned space) refl (assigned_plain space (value_plain space is))
+
+attribute_plain : (bound : List Binding) (a : Attribute) → ArePlainBindings bound → IsGoodAttribute a → ArePlain (attribute_of bound a)
+attribute_plain bound a plain good =
+    plain_append (32 ∷ name_of (attribute_prefix bound a.space) a.name) (assigned a.value)
+        (name_plain (attribute_prefix bound a.space) a.name (λ prefix e. attribute_prefix_plain bound a.space prefix plain e) (local_plain a.name good.name))
+        (assigned_plain a.value (value_plain a.value good.value))
+
+attributes_plain : (bound : List Binding) (attributes : List Attribute) → ArePlainBindings bound → AreGoodAttributes attributes → ArePlain (flat_map (attribute_of bound) attributes)
+attributes_plain bound [] plain good = refl
+attributes_plain bound (a ∷ more) plain good =
+    plain_append (attribute_of bound a) (flat_map (attribute_of bound) more) (attribute_plain bound a plain good.0) (attributes_plain bound more plain good.1)
+
+element_name_plain : (scope : Scope) (space name : List ℕ) → IsLocalName name → ArePlain (name_of (element_prefix scope.soap space) name)
+element_name_plain scope space name is =
+    name_plain (element_prefix scope.soap space) name (λ prefix e. element_prefix_plain scope.soap space prefix e) (local_plain name is)
+
+inside_plain :
+    (scope : Scope) (space : List ℕ) (attributes : List Attribute) → ArePlainBindings scope.bound → AreGoodAttributes attributes →
+    ArePlainBindings (inside scope space attributes).bound
+inside_plain scope space attributes plain good =
+    plain_bound_by scope.bound (new_bindings scope.bound attributes) plain (new_bindings_plain scope.bound attributes good)
+
+start_of_plain :
+    (first : List Binding) (scope : Scope) (space name : List ℕ) (attributes : List Attribute) → ArePlainBindings first → ArePlainBindings scope.bound →
+    IsGoodHead space name attributes → ArePlain (start_of first scope space name attributes)
+start_of_plain first scope space name attributes plain bound head =
+    let named : List ℕ = 60 ∷ name_of (element_prefix scope.soap space) name in
+    let default : List ℕ = default_of scope space in
+    let declared : List ℕ = flat_map declaration_of first in
+    let new : List ℕ = flat_map declaration_of (new_bindings scope.bound attributes) in
+    let given : List ℕ = flat_map (attribute_of (inside scope space attributes).bound) attributes in
+    plain_append (named ++ default ++ declared ++ new ++ given) (62 ∷ [])
+      (plain_append (named ++ default ++ declared ++ new) given
+        (plain_append (named ++ default ++ declared) new
+          (plain_append (named ++ default) declared
+            (plain_append named default (element_name_plain scope space name head.named) (default_plain scope space head.in_space))
+            (declarations_plain first plain))
+          (declarations_plain (new_bindings scope.bound attributes) (new_bindings_plain scope.bound attributes head.attributed)))
+        (attributes_plain (inside scope space attributes).bound attributes (inside_plain scope space attributes bound head.attributed) head.attributed))
+      refl
+
+end_of_plain : (scope : Scope) (space name : List ℕ) → IsLocalName name → ArePlain (end_of scope space name)
+end_of_plain scope space name is =
+    plain_append (codes "</" ++ name_of (element_prefix scope.soap space) name) (62 ∷ [])
+      (plain_append (codes "</") (name_of (element_prefix scope.soap space) name) refl (element_name_plain scope space name is)) refl
+
+-- trees
+
+element_plain :
+    (first : List Binding) (scope : Scope) (space name : List ℕ) (attributes : List Attribute) (body : List ℕ) → ArePlainBindings first → ArePlainBindings scope.bound →
+    IsGoodHead space name attributes → ArePlain body → ArePlain ((start_of first scope space name attributes ++ body) ++ end_of scope space name)
+element_plain first scope space name attributes body plain bound head inner =
+    plain_append (start_of first scope space name attributes ++ body) (end_of scope space name)
+      (plain_append (start_of first scope space name attributes) body (start_of_plain first scope space name attributes plain bound head) inner)
+      (end_of_plain scope space name head.named)
+
+mutual
+  -- a node, by its data
+  node_plain : (n : Node) (room : ℕ) (scope : Scope) → IsGoodNode n room → ArePlainBindings scope.bound → ArePlain (node_of n scope)
+  node_plain (Chars text) room scope good bound = text_plain text good.allowed
+  node_plain (Element' space name attributes shape row) zero scope good bound = absurd good
+  node_plain (Element' space name attributes shape row) (suc room) scope good bound =
+      element_plain [] scope space name attributes (row_of row (inside scope space attributes)) tt bound good.0
+        (row_plain row room (inside scope space attributes) good.2 (inside_plain scope space attributes bound good.0.attributed))
+
+  -- a row of nodes
+  row_plain : {m : _} (row : Row_of-Node m) (room : ℕ) (scope : Scope) → IsGoodRow row room → ArePlainBindings scope.bound → ArePlain (row_of row scope)
+  row_plain end_of-Node room scope good bound = refl
+  row_plain (more_of-Node n rest) room scope good bound =
+      plain_append (node_of n scope) (row_of rest scope) (node_plain n room scope good.0 bound) (row_plain rest room scope good.1 bound)
+
+nodes_plain : (ns : List Node) (room : ℕ) (scope : Scope) → AreGoodNodes ns room → ArePlainBindings scope.bound → ArePlain (flat_map (λ n. node_of n scope) ns)
+nodes_plain [] room scope good bound = refl
+nodes_plain (n ∷ ns) room scope good bound =
+    plain_append (node_of n scope) (flat_map (λ n. node_of n scope) ns) (node_plain n room scope good.0 bound) (nodes_plain ns room scope good.1 bound)
+
+first_plain : (soap : Bool) → ArePlainBindings (cond soap nine [])
+first_plain true = plain_bindings nine nine_good
+first_plain false = tt
+
+-- the text of a good tree
+pub canonical_plain : (root : Element) → IsGoodTree root → ArePlain (canonical root)
+canonical_plain root good =
+    let scope : Scope = outermost root.space in
+    let first : ArePlainBindings (root_bindings root.space) = first_plain (is_soap root.space) in
+    let bound : ArePlainBindings scope.bound = plain_bound_by [] (root_bindings root.space) tt first in
+    element_plain (root_bindings root.space) scope root.space root.name root.attributes
+      (flat_map (λ n. node_of n (inside scope root.space root.attributes)) root.children) first bound good.0
+      (nodes_plain root.children 63 (inside scope root.space root.attributes) good.2 (inside_plain scope root.space root.attributes bound good.0.attributed))

@@ -56,7 +56,7 @@ goes_one b c text rest p e f = (p ∷ [], (c, rest, e, f, (refl, refl)))
 abbrev BeginsTag : List ℕ → Type 0
 BeginsTag text = (rest : List ℕ) × (text ≡ 60 ∷ rest)
 
-abbrev behind_first : List ℕ → List ℕ
+abbrev pub behind_first : List ℕ → List ℕ
 behind_first [] = []
 behind_first (c ∷ cs) = cs
 

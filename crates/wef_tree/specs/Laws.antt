@@ -1,9 +1,11 @@
--- Laws of reading: a document has one root or one fault, and never both.
+-- Laws of reading: a document has one root or one fault, and never both; what is written for a tree is read as this tree.
 use Rattle.std.specs.Prelude.{◌≡◌, ℕ, List}
 use Rattle.std.specs.declared.result.Result.TheVariants.{Err}
 use Rattle.wef_base.specs.declared.tree.Charset.{Charset}
 use Rattle.wef_base.specs.declared.tree.Element.{Element}
+use Rattle.wef_tree.specs.Canonical.{canonical, encoded}
 use Rattle.wef_tree.specs.Decoding.{decoded}
+use Rattle.wef_tree.specs.Good.{IsGoodTree}
 use Rattle.wef_tree.specs.Spelling.{Leads, Reaches, Spells, Stops, StopsAt}
 use Rattle.wef_tree.specs.declared.building.Builder.{Builder}
 use Rattle.wef_tree.specs.declared.faults.FaultKind.{FaultKind}
@@ -31,3 +33,11 @@ abbrev pub GoesOnToTheFault : Type 0
 GoesOnToTheFault =
     (text rest left : List ℕ) (kind : FaultKind) (b : Builder) (stops : Stops text kind rest) →
     Reaches text b left → (more : List Piece) × Leads b more left stops.there rest
+
+-- What is written for a good tree is a document of this tree, in each charset.
+abbrev pub ReadsBack : Type 0
+ReadsBack = (charset : Charset) (root : Element) → IsGoodTree root → Spells charset (encoded charset (canonical root)) root
+
+-- Two good trees with one text are one.
+abbrev pub HasOneTree : Type 0
+HasOneTree = (one other : Element) → IsGoodTree one → IsGoodTree other → canonical one ≡ canonical other → one ≡ other
