@@ -1,9 +1,9 @@
 -- Characters that are written in bytes are read again.
-use Rattle.std.proofs.Common.{◌≡◌, ℕ, ◌+◌, ◌-◌, ◌*◌, ◌/◌, ◌%◌, ◌<◌, ◌==◌, Bool, true, false, ◌&&◌, cond, nat_lt, List, [], ◌∷◌, ◌++◌, length, refl, ap, sym, ◌∙◌, subst, append_assoc, arith, encode_utf8_all}
-use Rattle.std.specs.Prelude.{Option, Some, None, Result}
-use Rattle.std.specs.declared.result.Result.TheVariants.{Ok, Err}
+use Rattle.std.proofs.Common.{◌≡◌, ℕ, ◌+◌, ◌-◌, ◌/◌, ◌%◌, ◌<◌, ◌==◌, Bool, true, false, ◌&&◌, cond, nat_lt, List, [], ◌∷◌, ◌++◌, refl, ap, sym, ◌∙◌, arith, encode_utf8_all}
+use Rattle.std.specs.Prelude.{None}
+use Rattle.std.specs.declared.result.Result.TheVariants.{Ok}
 use Rattle.std.specs.List.{flat_map}
-use Rattle.std.specs.Str.{all_scalars, chars, is_utf8}
+use Rattle.std.specs.Str.{all_scalars, chars}
 use Rattle.std.proofs.lemmas.Bool.{and_parts}
 use Rattle.std.proofs.lemmas.Bool.Decides.{nat_tests}
 use Rattle.std.proofs.lemmas.Nat.{div-add-mod'}
@@ -81,14 +81,16 @@ character_again c rest cs h further = by (nat_lt c 0x10000) refl
   where
     u : ℕ
     u = 0xD800 + (c - 0x10000) / 1024
+
     v : ℕ
     v = 0xDC00 + (c - 0x10000) % 1024
+
     by : (b : Bool) → nat_lt c 0x10000 ≡ b → decoded16 LittleEndian None (cond b (unit_bytes c) (unit_bytes (0xD800 + (c - 0x10000) / 1024) ++ unit_bytes (0xDC00 + (c - 0x10000) % 1024)) ++ rest) ≡ Ok (c ∷ cs)
     by true e = single_again c rest cs (no_high c h) (no_low c h) further
     by false e =
         let range = above c h e in
         pair_again (0xD800 + (c - 0x10000) / 1024) (0xDC00 + (c - 0x10000) % 1024) rest cs
-            (let top : c < 0x110000 = range.1 in first_is_high (c - 0x10000) (omega arith)) (second_is_low (c - 0x10000)) further
+        (let top : c < 0x110000 = range.1 in first_is_high (c - 0x10000) (omega arith)) (second_is_low (c - 0x10000)) further
         ∙ ap (λ x. Ok (x ∷ cs)) (pair_is c range.0)
 
 decoded16_again : (cs : List ℕ) → all_scalars cs ≡ true → decoded16 LittleEndian None (flat_map (character_bytes Utf16) cs) ≡ Ok cs

@@ -1,20 +1,19 @@
 -- The text of a good tree has no CR, and its characters can be encoded.
-use Rattle.std.proofs.Common.{◌≡◌, ℕ, zero, suc, ◌+◌, ◌/◌, ◌%◌, ◌<◌, ◌==◌, Bool, true, false, ◌&&◌, ◌||◌, not, cond, ltb, nat_lt, List, [], ◌∷◌, ◌++◌, length, refl, ap, sym, ◌∙◌, subst, arith, encode_utf8_all}
+use Rattle.std.proofs.Common.{◌≡◌, ℕ, zero, suc, ◌/◌, ◌%◌, ◌<◌, ◌==◌, Bool, true, false, ◌&&◌, ◌||◌, not, cond, ltb, List, [], ◌∷◌, ◌++◌, length, refl, ap, sym, ◌∙◌, subst, arith, encode_utf8_all}
 use Rattle.std.specs.Prelude.{Option, Some, None, codes, is_some}
 use Rattle.std.specs.Fmt.{decimal, digit_glyph, digits, digits_onto}
 use Rattle.std.specs.List.{flat_map, list_all, list_any}
 use Rattle.std.specs.Str.{all_scalars, chars}
 use Rattle.std.proofs.lemmas.Bool.{and_from, and_parts}
 use Rattle.std.proofs.lemmas.Bool.Decides.{nat_tests}
-use Rattle.std.proofs.lemmas.Str.{chars_from_encodes}
 use lib.Utf8.{scalar, encode}
-use Rattle.wef_base.specs.Characters.{is_within, is_xml_char}
+use Rattle.wef_base.specs.Characters.{is_xml_char}
 use Rattle.wef_base.specs.Names.{same}
 use Rattle.wef_base.specs.declared.tree.Attribute.{Attribute}
 use Rattle.wef_base.specs.declared.tree.Element.{Element}
 use Rattle.wef_base.specs.declared.tree.Node.{Node, Chars, Element', Row_of-Node, end_of-Node, more_of-Node}
 use Rattle.wef_tree.specs.Canonical.{assigned, attribute_of, canonical, declaration_of, default_of, end_of, name_of, node_of, row_of, start_of, text_char, text_of, value_char, value_of}
-use Rattle.wef_tree.specs.Good.{AreGoodAttributes, AreGoodNodes, IsGoodAttribute, IsGoodElement, IsGoodHead, IsGoodNode, IsGoodRow, IsGoodTree, IsLocalName, IsXmlText}
+use Rattle.wef_tree.specs.Good.{AreGoodAttributes, AreGoodNodes, IsGoodAttribute, IsGoodHead, IsGoodNode, IsGoodRow, IsGoodTree, IsLocalName, IsXmlText}
 use Rattle.wef_tree.specs.Names.{is_name_char, is_name_start}
 use Rattle.wef_tree.specs.Prefixes.{Scope, attribute_prefix, bindings_from, bound_by, element_prefix, inside, is_soap, needs_prefix, new_bindings, new_spaces, next_free, nine, numbered_prefix, outer_prefixes, outermost, prefix_of, root_bindings, with_space}
 use Rattle.wef_tree.specs.Scopes.{is_empty, is_xml_space}
@@ -166,6 +165,7 @@ digits_small (suc k) n more h = by (n / 10 == 0) (digits_small k (n / 10) (digit
   where
     longer : list_all is_small (digit_glyph false (n % 10) ∷ more) ≡ true
     longer = and_from (is_small (digit_glyph false (n % 10))) (list_all is_small more) (digit_small n) h
+
     by :
         (last : Bool) → list_all is_small (digits_onto k 10 false (n / 10) (digit_glyph false (n % 10) ∷ more)) ≡ true →
         list_all is_small (cond last (digit_glyph false (n % 10) ∷ more) (digits_onto k 10 false (n / 10) (digit_glyph false (n % 10) ∷ more))) ≡ true
@@ -282,8 +282,8 @@ default_plain scope space is = by (is_some (element_prefix scope.soap space) || 
 attribute_plain : (bound : List Binding) (a : Attribute) → ArePlainBindings bound → IsGoodAttribute a → ArePlain (attribute_of bound a)
 attribute_plain bound a plain good =
     plain_append (32 ∷ name_of (attribute_prefix bound a.space) a.name) (assigned a.value)
-        (name_plain (attribute_prefix bound a.space) a.name (λ prefix e. attribute_prefix_plain bound a.space prefix plain e) (local_plain a.name good.name))
-        (assigned_plain a.value (value_plain a.value good.value))
+    (name_plain (attribute_prefix bound a.space) a.name (λ prefix e. attribute_prefix_plain bound a.space prefix plain e) (local_plain a.name good.name))
+    (assigned_plain a.value (value_plain a.value good.value))
 
 attributes_plain : (bound : List Binding) (attributes : List Attribute) → ArePlainBindings bound → AreGoodAttributes attributes → ArePlain (flat_map (attribute_of bound) attributes)
 attributes_plain bound [] plain good = refl
@@ -310,19 +310,19 @@ start_of_plain first scope space name attributes plain bound head =
     let new : List ℕ = flat_map declaration_of (new_bindings scope.bound attributes) in
     let given : List ℕ = flat_map (attribute_of (inside scope space attributes).bound) attributes in
     plain_append (named ++ default ++ declared ++ new ++ given) (62 ∷ [])
-      (plain_append (named ++ default ++ declared ++ new) given
-        (plain_append (named ++ default ++ declared) new
-          (plain_append (named ++ default) declared
-            (plain_append named default (element_name_plain scope space name head.named) (default_plain scope space head.in_space))
-            (declarations_plain first plain))
-          (declarations_plain (new_bindings scope.bound attributes) (new_bindings_plain scope.bound attributes head.attributed)))
-        (attributes_plain (inside scope space attributes).bound attributes (inside_plain scope space attributes bound head.attributed) head.attributed))
-      refl
+    (plain_append (named ++ default ++ declared ++ new) given
+    (plain_append (named ++ default ++ declared) new
+    (plain_append (named ++ default) declared
+    (plain_append named default (element_name_plain scope space name head.named) (default_plain scope space head.in_space))
+    (declarations_plain first plain))
+    (declarations_plain (new_bindings scope.bound attributes) (new_bindings_plain scope.bound attributes head.attributed)))
+    (attributes_plain (inside scope space attributes).bound attributes (inside_plain scope space attributes bound head.attributed) head.attributed))
+    refl
 
 end_of_plain : (scope : Scope) (space name : List ℕ) → IsLocalName name → ArePlain (end_of scope space name)
 end_of_plain scope space name is =
     plain_append (codes "</" ++ name_of (element_prefix scope.soap space) name) (62 ∷ [])
-      (plain_append (codes "</") (name_of (element_prefix scope.soap space) name) refl (element_name_plain scope space name is)) refl
+    (plain_append (codes "</") (name_of (element_prefix scope.soap space) name) refl (element_name_plain scope space name is)) refl
 
 -- trees
 
@@ -331,8 +331,8 @@ element_plain :
     IsGoodHead space name attributes → ArePlain body → ArePlain ((start_of first scope space name attributes ++ body) ++ end_of scope space name)
 element_plain first scope space name attributes body plain bound head inner =
     plain_append (start_of first scope space name attributes ++ body) (end_of scope space name)
-      (plain_append (start_of first scope space name attributes) body (start_of_plain first scope space name attributes plain bound head) inner)
-      (end_of_plain scope space name head.named)
+    (plain_append (start_of first scope space name attributes) body (start_of_plain first scope space name attributes plain bound head) inner)
+    (end_of_plain scope space name head.named)
 
 mutual
   -- a node, by its data
@@ -341,7 +341,7 @@ mutual
   node_plain (Element' space name attributes shape row) zero scope good bound = absurd good
   node_plain (Element' space name attributes shape row) (suc room) scope good bound =
       element_plain [] scope space name attributes (row_of row (inside scope space attributes)) tt bound good.0
-        (row_plain row room (inside scope space attributes) good.2 (inside_plain scope space attributes bound good.0.attributed))
+      (row_plain row room (inside scope space attributes) good.2 (inside_plain scope space attributes bound good.0.attributed))
 
   -- a row of nodes
   row_plain : {m : _} (row : Row_of-Node m) (room : ℕ) (scope : Scope) → IsGoodRow row room → ArePlainBindings scope.bound → ArePlain (row_of row scope)
@@ -365,5 +365,5 @@ canonical_plain root good =
     let first : ArePlainBindings (root_bindings root.space) = first_plain (is_soap root.space) in
     let bound : ArePlainBindings scope.bound = plain_bound_by [] (root_bindings root.space) tt first in
     element_plain (root_bindings root.space) scope root.space root.name root.attributes
-      (flat_map (λ n. node_of n (inside scope root.space root.attributes)) root.children) first bound good.0
-      (nodes_plain root.children 63 (inside scope root.space root.attributes) good.2 (inside_plain scope root.space root.attributes bound good.0.attributed))
+    (flat_map (λ n. node_of n (inside scope root.space root.attributes)) root.children) first bound good.0
+    (nodes_plain root.children 63 (inside scope root.space root.attributes) good.2 (inside_plain scope root.space root.attributes bound good.0.attributed))

@@ -1,12 +1,11 @@
 -- What is written for a good tree is a document of this tree.
-use Rattle.std.proofs.Common.{◌≡◌, ℕ, true, List, [], ◌∷◌, ◌++◌, refl, ap, sym, ◌∙◌, subst}
+use Rattle.std.proofs.Common.{◌≡◌, ℕ, List, ◌∷◌, refl, sym, subst}
 use Rattle.std.specs.declared.result.Result.TheVariants.{Ok}
 use Rattle.wef_base.specs.declared.tree.Charset.{Charset}
 use Rattle.wef_base.specs.declared.tree.Charset.TheVariants.{Utf8}
 use Rattle.wef_base.specs.declared.tree.Element.{Element}
 use Rattle.wef_tree.specs.Canonical.{canonical, encoded}
-use Rattle.wef_tree.specs.Decoding.{decoded, line_ends}
-use Rattle.wef_tree.specs.Good.{IsGoodTree}
+use Rattle.wef_tree.specs.Decoding.{decoded}
 use Rattle.wef_tree.specs.Laws.{HasOneTree, ReadsBack}
 use Rattle.wef_tree.specs.Spelling.{Spells, TextSpells}
 use Rattle.wef_tree.proofs.EncodedAgain.{encoded_again, line_ends_kept}
@@ -26,13 +25,14 @@ decodes charset text rest is plain =
     subst P (sym is) (λ h. encoded_again charset rest (plain_scalars (60 ∷ rest) h)) plain
 
 module _ (start_again : StartAgain) (end_again : EndAgain) (text_again : TextAgain) (opened_again : OpenedAgain) where
-
   pub spells_again : ReadsBack
   spells_again charset root good =
       let plain = canonical_plain root good in
-      let P : List ℕ → Type 0 = λ t. TextSpells t root in
-      (canonical root, decodes charset (canonical root) (behind_first (canonical root)) (begins root) plain,
-        subst P (sym (line_ends_kept (canonical root) (plain_has_no_cr (canonical root) plain))) (root_again start_again end_again text_again opened_again root good))
+      let P : List ℕ → Type 0 = λ t. TextSpells t root in (
+        canonical root,
+        decodes charset (canonical root) (behind_first (canonical root)) (begins root) plain,
+        subst P (sym (line_ends_kept (canonical root) (plain_has_no_cr (canonical root) plain))) (root_again start_again end_again text_again opened_again root good),
+      )
 
   pub has_one_tree : HasOneTree
   has_one_tree one other good better same =

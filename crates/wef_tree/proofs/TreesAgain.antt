@@ -1,6 +1,6 @@
 -- A tree that is written is read again.
 use Rattle.std.proofs.Common.{◌≡◌, ℕ, zero, suc, ◌+◌, ◌==◌, Bool, true, false, ◌&&◌, not, cond, List, [], ◌∷◌, ◌++◌, length, refl, ap, sym, ◌∙◌, subst, append_assoc, append-nil, arith, true≢false, ◌⊎◌, inl, inr}
-use Rattle.std.specs.Prelude.{Option, Some, None, nat_lt, encode_utf8_all, codes}
+use Rattle.std.specs.Prelude.{Option, Some, None, nat_lt, encode_utf8_all}
 use Rattle.std.specs.List.{flat_map, list_all}
 use Rattle.std.specs.Option.{option_map, option_or}
 use Rattle.std.specs.Cmp.Lexicographic.{nat_list_eq_equiv, same_text}
@@ -11,11 +11,11 @@ use Rattle.wef_base.specs.Characters.{is_xml_char}
 use Rattle.wef_base.specs.Names.{same}
 use Rattle.wef_base.specs.declared.tree.Attribute.{Attribute}
 use Rattle.wef_base.specs.declared.tree.Element.{Element}
-use Rattle.wef_base.specs.declared.tree.Node.{Node, Chars, Element', Row_of-Node, end_of-Node, more_of-Node, items-the_row-Node, items_shown-the_row-Node-0, out-Node, roll-Node, roll-out-Node, Node-F}
+use Rattle.wef_base.specs.declared.tree.Node.{Node, Chars, Element', Row_of-Node, end_of-Node, more_of-Node, items-the_row-Node, items_shown-the_row-Node-0, roll-Node, roll-out-Node, Node-F}
 use Rattle.wef_base.specs.declared.tree.Node.TheVariants.{Element as Child, outs-Element', outs-Element}
-use Rattle.wef_tree.specs.Building.{element_of, ended, entered, flushed, greatest_depth, has_room, is_outside, nothing, placed, same_name, taken, with_child, with_text}
-use Rattle.wef_tree.specs.Canonical.{canonical, element_text, end_of, node_of, row_of, start_of, text_of}
-use Rattle.wef_tree.specs.Good.{AreGoodNodes, IsGoodElement, IsGoodHead, IsGoodNode, IsGoodRow, IsGoodText, IsGoodTree, IsLocalName, IsXmlText, are_apart, is_text}
+use Rattle.wef_tree.specs.Building.{element_of, ended, entered, has_room, nothing, placed, same_name, taken, with_child, with_text}
+use Rattle.wef_tree.specs.Canonical.{canonical, end_of, node_of, row_of, start_of, text_of}
+use Rattle.wef_tree.specs.Good.{AreGoodNodes, IsGoodHead, IsGoodNode, IsGoodRow, IsGoodText, IsGoodTree, IsXmlText, are_apart, is_text}
 use Rattle.wef_tree.specs.Names.{is_name_start}
 use Rattle.wef_tree.specs.Pieces.{piece_at}
 use Rattle.wef_tree.specs.Prefixes.{Scope, bound_by, inside, is_soap, nine, outermost, prefix_of, root_bindings, soap_space, unless_bound}
@@ -87,6 +87,7 @@ length_with_text text os = by (length text == 0)
     child : (os : List Open) → length (with_child (Chars text) os) ≡ length os
     child [] = refl
     child (o ∷ os) = refl
+
     by : (b : Bool) → length (cond b os (with_child (Chars text) os)) ≡ length os
     by true = refl
     by false = child os
@@ -97,6 +98,7 @@ declared_with_text text os prefix = by (length text == 0)
     child : (os : List Open) → declared_outside (with_child (Chars text) os) prefix ≡ declared_outside os prefix
     child [] = refl
     child (o ∷ os) = refl
+
     by : (b : Bool) → declared_outside (cond b os (with_child (Chars text) os)) prefix ≡ declared_outside os prefix
     by true = refl
     by false = child os
@@ -104,7 +106,12 @@ declared_with_text text os prefix = by (length text == 0)
 -- what is in force doesn't depend on children
 agrees_with_kids : (scope : Scope) (o : Open) (os : List Open) (kids : List Node) → Agrees [] scope (o ∷ os) → Agrees [] scope (with_kids o kids ∷ os)
 agrees_with_kids scope o os kids agrees = record {
-    default = agrees.default; default_is = agrees.default_is; bindings = agrees.bindings; bound = agrees.bound; nine_bound = agrees.nine_bound }
+  default = agrees.default;
+  default_is = agrees.default_is;
+  bindings = agrees.bindings;
+  bound = agrees.bound;
+  nine_bound = agrees.nine_bound;
+}
 
 some_open : (o : Open) (os : List Open) → (length (o ∷ os) == 0) ≡ false
 some_open o os = grind (arith, nat_tests)
@@ -115,6 +122,7 @@ placed_inside e o os kids = ap (λ b. cond b outside within) (some_open (with_ki
   where
     outside : Builder
     outside = record { begun = true; around = with_kids o kids ∷ os; text = []; root = Some e }
+
     within : Builder
     within = inner (with_kids o (kids ++ Child e ∷ []) ∷ os) []
 
@@ -126,9 +134,9 @@ child_is space name attributes shape row =
     let e : Element = record { space = space; name = name; attributes = attributes; children = items-the_row-Node _ row } in
     sym (roll-out-Node (Child e))
     ∙ ap roll-Node
-        ( outs-Element e
-        ∙ (λ i. Node-F.Element (record { space = space; name = name; attributes = attributes; children = sym (items_shown-the_row-Node-0 shape row) i }))
-        ∙ sym (outs-Element' space name attributes shape row) )
+    (outs-Element e
+    ∙ (λ i. Node-F.Element (record { space = space; name = name; attributes = attributes; children = sym (items_shown-the_row-Node-0 shape row) i }))
+    ∙ sym (outs-Element' space name attributes shape row))
     ∙ roll-out-Node (Element' space name attributes shape row)
 
 -- Good pieces lead from a text to what is left of it, and add these nodes to the children of the innermost element. Some
@@ -226,23 +234,42 @@ one_letter :
     is_empty space ≡ false → is_xml_space space ≡ false → is_xml (c ∷ []) ≡ false → is_xmlns (c ∷ []) ≡ false →
     IsGoodBinding (record { prefix = c ∷ []; space = space })
 one_letter c space letter begins spelt allowed some no_xml_space no_xml no_xmlns = record {
-    prefix = record { first = c; more = []; spelt = letter; begins = begins; goes_on = refl };
-    space = record { characters = space; spelt = spelt; allowed = allowed };
-    some = some;
-    no_xml_space = no_xml_space;
-    no_xml = no_xml;
-    no_xmlns = no_xmlns;
-  }
+  prefix = record { first = c; more = []; spelt = letter; begins = begins; goes_on = refl };
+  space = record { characters = space; spelt = spelt; allowed = allowed };
+  some = some;
+  no_xml_space = no_xml_space;
+  no_xml = no_xml;
+  no_xmlns = no_xmlns;
+}
 
 -- the nine may be declared
 pub nine_good : AreGoodBindings nine
 unfolding nine soap_space encode xml_space is_xml_space is_xml is_xmlns
-nine_good =
-    (one_letter _ _ refl refl refl refl refl refl refl refl, (one_letter _ _ refl refl refl refl refl refl refl refl,
-    (one_letter _ _ refl refl refl refl refl refl refl refl, (one_letter _ _ refl refl refl refl refl refl refl refl,
-    (one_letter _ _ refl refl refl refl refl refl refl refl, (one_letter _ _ refl refl refl refl refl refl refl refl,
-    (one_letter _ _ refl refl refl refl refl refl refl refl, (one_letter _ _ refl refl refl refl refl refl refl refl,
-    (one_letter _ _ refl refl refl refl refl refl refl refl, tt)))))))))
+nine_good = (
+  one_letter _ _ refl refl refl refl refl refl refl refl,
+  (
+    one_letter _ _ refl refl refl refl refl refl refl refl,
+    (
+      one_letter _ _ refl refl refl refl refl refl refl refl,
+      (
+        one_letter _ _ refl refl refl refl refl refl refl refl,
+        (
+          one_letter _ _ refl refl refl refl refl refl refl refl,
+          (
+            one_letter _ _ refl refl refl refl refl refl refl refl,
+            (
+              one_letter _ _ refl refl refl refl refl refl refl refl,
+              (
+                one_letter _ _ refl refl refl refl refl refl refl refl,
+                (one_letter _ _ refl refl refl refl refl refl refl refl, tt),
+              ),
+            ),
+          ),
+        ),
+      ),
+    ),
+  ),
+)
 
 -- bindings behind others
 good_bound_by : (bound bs : List Binding) → AreGoodBindings bound → AreGoodBindings bs → AreGoodBindings (bound_by bound bs)
@@ -260,31 +287,30 @@ no_characters = record { characters = []; spelt = refl; allowed = refl }
 
 begins_with : (soap : Bool) → Begins soap
 begins_with true = record {
-    agrees = record {
-      default = refl;
-      default_is = no_characters;
-      bindings = good_bound_by [] nine tt nine_good;
-      bound = λ space prefix e. prefix_has (λ s p. option_or (bound_at nine p) None ≡ Some s) (bound_by [] nine) space prefix nine_stand e;
-      nine_bound = λ soap space prefix e. prefix_has (λ s p. prefix_of (bound_by [] nine) s ≡ Some p) nine space prefix nine_found e;
-    };
-    which = inr (refl, refl, refl);
-    good = nine_good;
-  }
+  agrees = record {
+    default = refl;
+    default_is = no_characters;
+    bindings = good_bound_by [] nine tt nine_good;
+    bound = λ space prefix e. prefix_has (λ s p. option_or (bound_at nine p) None ≡ Some s) (bound_by [] nine) space prefix nine_stand e;
+    nine_bound = λ soap space prefix e. prefix_has (λ s p. prefix_of (bound_by [] nine) s ≡ Some p) nine space prefix nine_found e;
+  };
+  which = inr (refl, refl, refl);
+  good = nine_good;
+}
 begins_with false = record {
-    agrees = record {
-      default = refl;
-      default_is = no_characters;
-      bindings = tt;
-      bound = λ space prefix e. absurd (none_some prefix e);
-      nine_bound = λ soap. absurd (true≢false (sym soap));
-    };
-    which = inl refl;
-    good = tt;
-  }
+  agrees = record {
+    default = refl;
+    default_is = no_characters;
+    bindings = tt;
+    bound = λ space prefix e. absurd (none_some prefix e);
+    nine_bound = λ soap. absurd (true≢false (sym soap));
+  };
+  which = inl refl;
+  good = tt;
+}
 
 -- What is to be known of one tag and one text.
 module _ (start_again : StartAgain) (end_again : EndAgain) (text_again : TextAgain) (opened_again : OpenedAgain) where
-
   -- an element, whose children are read again wherever they stand inside it
   element_again :
       (begun : Bool) (around : List Open) (before : List ℕ) (first : List Binding) (scope : Scope) (space name : List ℕ) (attributes : List Attribute)
@@ -292,10 +318,10 @@ module _ (start_again : StartAgain) (end_again : EndAgain) (text_again : TextAga
       IsGoodHead space name attributes → nat_lt (length around) 64 ≡ true → Agrees first scope around →
       (first ≡ []) ⊎ ((first ≡ nine) × (around ≡ []) × (scope.soap ≡ true)) → AreGoodBindings first →
       ((x : Open) (xs : List Open) (rest : List ℕ) → Agrees [] (inside scope space attributes) (x ∷ xs) → length xs ≡ length around → BeginsTag rest →
-        Filled x xs [] [] (body ++ rest) rest kids) →
+      Filled x xs [] [] (body ++ rest) rest kids) →
       Goes (record { begun = begun; around = around; text = before; root = None })
-        (start_of first scope space name attributes ++ (body ++ (end_of scope space name ++ tail)))
-        (placed (record { space = space; name = name; attributes = attributes; children = kids }) (inner (with_text before around) [])) tail
+      (start_of first scope space name attributes ++ (body ++ (end_of scope space name ++ tail)))
+      (placed (record { space = space; name = name; attributes = attributes; children = kids }) (inner (with_text before around) [])) tail
   element_again begun around before first scope space name attributes body kids tail head room agrees which good fill =
       let b : Builder = record { begun = begun; around = around; text = before; root = None } in
       let fits : has_room b ≡ true = ap (λ t. t && true) room in
@@ -307,16 +333,16 @@ module _ (start_again : StartAgain) (end_again : EndAgain) (text_again : TextAga
       let P : Open → Type 0 = λ o. Goes b (start_of first scope space name attributes ++ (body ++ ending)) (inner (o ∷ xs) []) (body ++ ending) in
       let Q : Element → Type 0 = λ e. Goes (inner (with_kids x filled.more ∷ xs) filled.waits) ending (placed e (inner xs [])) tail in
       let begins : P x =
-        goes_one b (inner (x ∷ xs) []) (start_of first scope space name attributes ++ (body ++ ending)) (body ++ ending) (Start (spelled first scope space name attributes))
-          (start_again first scope space name attributes (body ++ ending) head good agrees.bindings)
-          (start_taken b first scope space name attributes opens) in
+      goes_one b (inner (x ∷ xs) []) (start_of first scope space name attributes ++ (body ++ ending)) (body ++ ending) (Start (spelled first scope space name attributes))
+      (start_again first scope space name attributes (body ++ ending) head good agrees.bindings)
+      (start_taken b first scope space name attributes opens) in
       let ends : Q (element_of (with_kids x kids)) =
-        goes_one (inner (with_kids x filled.more ∷ xs) filled.waits) (placed (element_of (with_kids x kids)) (inner xs [])) ending tail (End (spelled_name scope space name))
-          (end_again scope space name tail head.named)
-          (end_taken x xs filled.more kids filled.waits (spelled_name scope space name) opens.named filled.fills) in
+      goes_one (inner (with_kids x filled.more ∷ xs) filled.waits) (placed (element_of (with_kids x kids)) (inner xs [])) ending tail (End (spelled_name scope space name))
+      (end_again scope space name tail head.named)
+      (end_taken x xs filled.more kids filled.waits (spelled_name scope space name) opens.named filled.fills) in
       goes_then _ _ _ _ _ _ (subst P (λ i. record x { children = opens.childless i }) begins)
-        (goes_then _ _ _ _ _ _ filled.goes
-          (subst Q (λ i. record { space = opens.in_space i; name = (opens.named i).local; attributes = opens.attributed i; children = kids }) ends))
+      (goes_then _ _ _ _ _ _ filled.goes
+      (subst Q (λ i. record { space = opens.in_space i; name = (opens.named i).local; attributes = opens.attributed i; children = kids }) ends))
 
   -- a text
   text_added :
@@ -339,7 +365,7 @@ module _ (start_again : StartAgain) (end_again : EndAgain) (text_again : TextAga
       (o : Open) (os : List Open) (kids : List Node) (before tail : List ℕ) (scope : Scope) (space name : List ℕ) (attributes : List Attribute) (shape : _) (row : Row_of-Node _) →
       IsGoodHead space name attributes → nat_lt (length (o ∷ os)) 64 ≡ true → Agrees [] scope (o ∷ os) →
       ((x : Open) (xs : List Open) (rest : List ℕ) → Agrees [] (inside scope space attributes) (x ∷ xs) → length xs ≡ length (o ∷ os) → BeginsTag rest →
-        Filled x xs [] [] (row_of row (inside scope space attributes) ++ rest) rest (items-the_row-Node _ row)) →
+      Filled x xs [] [] (row_of row (inside scope space attributes) ++ rest) rest (items-the_row-Node _ row)) →
       Added o os kids before (node_of (Element' space name attributes shape row) scope ++ tail) tail (Element' space name attributes shape row)
   element_added o os kids before tail scope space name attributes shape row head room agrees fill =
       let body : List ℕ = row_of row (inside scope space attributes) in
@@ -348,15 +374,15 @@ module _ (start_again : StartAgain) (end_again : EndAgain) (text_again : TextAga
       let e : Element = record { space = space; name = name; attributes = attributes; children = items-the_row-Node _ row } in
       let b : Builder = inner (with_kids o kids ∷ os) before in
       let whole : Goes b (starts ++ (body ++ (ending ++ tail))) (placed e (inner (with_text before (with_kids o kids ∷ os)) [])) tail =
-        element_again true (with_kids o kids ∷ os) before [] scope space name attributes body (items-the_row-Node _ row) tail head room
-          (agrees_with_kids scope o os kids agrees) (inl refl) tt fill in
+      element_again true (with_kids o kids ∷ os) before [] scope space name attributes body (items-the_row-Node _ row) tail head room
+      (agrees_with_kids scope o os kids agrees) (inl refl) tt fill in
       let P : List ℕ → Type 0 = λ t. Goes b t (inner (with_kids o (kids_with before kids ++ Child e ∷ []) ∷ os) []) tail in
       let Q : Builder → Type 0 = λ c. Goes b (starts ++ (body ++ (ending ++ tail))) c tail in
       record {
         more = kids_with before kids ++ Child e ∷ [];
         waits = [];
         goes = subst P (sym (append_assoc (starts ++ body) ending tail ∙ append_assoc starts body (ending ++ tail)))
-          (subst Q (ap (λ l. placed e (inner l [])) (flush_is before o os kids) ∙ placed_inside e o os (kids_with before kids)) whole);
+            (subst Q (ap (λ l. placed e (inner l [])) (flush_is before o os kids) ∙ placed_inside e o os (kids_with before kids)) whole);
         fills = ap (λ n. kids_with before kids ++ n ∷ []) (child_is space name attributes shape row);
         left = refl;
       }
@@ -394,8 +420,8 @@ module _ (start_again : StartAgain) (end_again : EndAgain) (text_again : TextAga
     node_again (Element' space name attributes shape row) zero scope o os kids before tail after good deep agrees waits apart tag = absurd good
     node_again (Element' space name attributes shape row) (suc room) scope o os kids before tail after good deep agrees waits apart tag =
         element_added o os kids before tail scope space name attributes shape row good.0 (room_left room (length (o ∷ os)) deep) agrees
-          (λ x xs rest further same begins. row_again row room (inside scope space attributes) x xs [] [] rest false good.2
-            (one_deeper room (length (o ∷ os)) (length xs) deep same) further refl good.1 begins)
+        (λ x xs rest further same begins. row_again row room (inside scope space attributes) x xs [] [] rest false good.2
+        (one_deeper room (length (o ∷ os)) (length xs) deep same) further refl good.1 begins)
 
     -- a row of nodes
     row_again :
@@ -407,10 +433,10 @@ module _ (start_again : StartAgain) (end_again : EndAgain) (text_again : TextAga
         let parts = and_parts (not (after && is_text n)) (are_apart (is_text n) (items-the_row-Node _ rest)) apart in
         let P : Bool → Type 0 = λ b. are_apart b (items-the_row-Node _ rest) ≡ true in
         let first : Added o os kids before (node_of n scope ++ (row_of rest scope ++ tail)) (row_of rest scope ++ tail) n =
-          node_again n room scope o os kids before (row_of rest scope ++ tail) after good.0 deep agrees waits (not_both (after && is_text n) parts.0)
-            (λ is. row_begins rest scope tail (subst P is parts.1) tag) in
+        node_again n room scope o os kids before (row_of rest scope ++ tail) after good.0 deep agrees waits (not_both (after && is_text n) parts.0)
+        (λ is. row_begins rest scope tail (subst P is parts.1) tag) in
         filled_on o os kids before (node_of n scope) (row_of rest scope) tail n (items-the_row-Node _ rest) first
-          (row_again rest room scope o os first.more first.waits tail (is_text n) good.1 deep agrees first.left parts.1 tag)
+        (row_again rest room scope o os first.more first.waits tail (is_text n) good.1 deep agrees first.left parts.1 tag)
 
   -- the same of the children of the root, which are known as a list
   nodes_begin : (ns : List Node) (scope : Scope) (tail : List ℕ) → are_apart true ns ≡ true → BeginsTag tail → BeginsTag (flat_map (λ n. node_of n scope) ns ++ tail)
@@ -429,10 +455,10 @@ module _ (start_again : StartAgain) (end_again : EndAgain) (text_again : TextAga
       let parts = and_parts (not (after && is_text n)) (are_apart (is_text n) ns) apart in
       let P : Bool → Type 0 = λ b. are_apart b ns ≡ true in
       let first : Added o os kids before (node_of n scope ++ (others ++ tail)) (others ++ tail) n =
-        node_again n room scope o os kids before (others ++ tail) after good.0 deep agrees waits (not_both (after && is_text n) parts.0)
-          (λ is. nodes_begin ns scope tail (subst P is parts.1) tag) in
+      node_again n room scope o os kids before (others ++ tail) after good.0 deep agrees waits (not_both (after && is_text n) parts.0)
+      (λ is. nodes_begin ns scope tail (subst P is parts.1) tag) in
       filled_on o os kids before (node_of n scope) others tail n ns first
-        (nodes_again ns room scope o os first.more first.waits tail (is_text n) good.1 deep agrees first.left parts.1 tag)
+      (nodes_again ns room scope o os first.more first.waits tail (is_text n) good.1 deep agrees first.left parts.1 tag)
 
   -- the root
   pub root_again : (root : Element) → IsGoodTree root → TextSpells (canonical root) root
@@ -446,7 +472,9 @@ module _ (start_again : StartAgain) (end_again : EndAgain) (text_again : TextAga
       let begin = begins_with (is_soap root.space) in
       let P : List ℕ → Type 0 = λ t. Goes nothing t (placed root (inner [] [])) [] in
       let whole : P (starts ++ (body ++ (ending ++ []))) =
-        element_again false [] [] first scope root.space root.name root.attributes body root.children [] good.0 refl begin.agrees begin.which begin.good
-          (λ x xs rest further same tag. nodes_again root.children 63 within x xs [] [] rest false good.2 (one_deeper 63 0 (length xs) refl same) further refl good.1 tag) in
-      (placed root (inner [] []),
-        subst P (sym (append_assoc starts body ending ∙ ap (λ t. starts ++ (body ++ t)) (sym (append-nil ending)))) whole, refl)
+      element_again false [] [] first scope root.space root.name root.attributes body root.children [] good.0 refl begin.agrees begin.which begin.good
+      (λ x xs rest further same tag. nodes_again root.children 63 within x xs [] [] rest false good.2 (one_deeper 63 0 (length xs) refl same) further refl good.1 tag) in (
+        placed root (inner [] []),
+        subst P (sym (append_assoc starts body ending ∙ ap (λ t. starts ++ (body ++ t)) (sym (append-nil ending)))) whole,
+        refl,
+      )
