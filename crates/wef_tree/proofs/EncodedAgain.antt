@@ -1,18 +1,19 @@
 -- Characters that are written in bytes are read again.
-use Rattle.std.proofs.Common.{◌≡◌, ℕ, ◌+◌, ◌-◌, ◌/◌, ◌%◌, ◌<◌, ◌==◌, Bool, true, false, ◌&&◌, cond, nat_lt, List, [], ◌∷◌, ◌++◌, refl, ap, sym, ◌∙◌, arith, encode_utf8_all}
-use Rattle.std.specs.Prelude.{None}
+use Rattle.std.proofs.Common.{◌≡◌, ℕ, ◌+◌, ◌-◌, ◌/◌, ◌%◌, ◌<◌, ◌==◌, Bool, true, false, ◌&&◌, cond, ltb, nat_lt, List, [], ◌∷◌, ◌++◌, refl, ap, sym, ◌∙◌, arith, true≢false, encode_utf8_all}
+use Rattle.std.specs.Prelude.{Some, None}
 use Rattle.std.specs.declared.result.Result.TheVariants.{Ok}
 use Rattle.std.specs.List.{flat_map}
 use Rattle.std.specs.Str.{all_scalars, chars}
-use Rattle.std.proofs.lemmas.Bool.{and_parts}
+use Rattle.std.proofs.lemmas.Bool.{and_parts, cond_both}
 use Rattle.std.proofs.lemmas.Bool.Decides.{nat_tests}
 use Rattle.std.proofs.lemmas.Nat.{div-add-mod'}
 use Rattle.std.proofs.lemmas.Str.{chars_from_encodes, is_utf8-from_IsUtf8}
-use lib.Utf8.{scalar, encode}
+use lib.Utf8.{scalar, encode, next}
 use Rattle.wef_base.specs.declared.tree.Charset.{Charset}
 use Rattle.wef_base.specs.declared.tree.Charset.TheVariants.{Utf8, Utf16}
 use Rattle.wef_tree.specs.Canonical.{character_bytes, encoded, unit_bytes}
-use Rattle.wef_tree.specs.Decoding.{decoded, decoded8, decoded16, is_high, is_low, joined, line_ends, mark_length, pair_of, unit}
+use Rattle.wef_tree.specs.Decoding.{decoded, decoded8, decoded16, is_high, is_low, joined, line_ends, mark_length, pair_of, unit, utf8_mark, without_front}
+use Rattle.wef_tree.specs.Fronts.{strip}
 use Rattle.wef_tree.specs.declared.utf16.ByteOrder.TheVariants.{LittleEndian}
 
 -- UTF-8
@@ -30,10 +31,69 @@ written8 : (cs : List ℕ) → flat_map (character_bytes Utf8) cs ≡ encode_utf
 written8 [] = refl
 written8 (c ∷ cs) = ap (λ t. encode c ++ t) (written8 cs)
 
--- a text that begins with `<` has no byte order mark
-bytes8_again : (cs : List ℕ) → all_scalars (60 ∷ cs) ≡ true → decoded Utf8 (encode_utf8_all (60 ∷ cs)) ≡ Ok (60 ∷ cs)
+equal : (a b : ℕ) → (a == b) ≡ true → a ≡ b
+equal a b e = grind (arith, nat_tests)
+
+below_mark : (c : ℕ) → ltb c 2048 ≡ true → (0xEF == 192 + c / 64) ≡ false
+below_mark c h =
+    let small : c < 2048 = grind (arith, nat_tests) in
+    let few : c / 64 < 32 = omega arith in
+    grind (arith, nat_tests)
+
+above_mark : (c : ℕ) → (0xEF == 240 + c / 262144) ≡ false
+above_mark c = grind (arith, nat_tests)
+
+-- whether characters begin with a byte order mark
+abbrev pub begins_with_mark : List ℕ → Bool
+begins_with_mark [] = false
+begins_with_mark (c ∷ cs) = c == 0xFEFF
+
+-- bytes that begin with no mark
+no_mark_1 : (a : ℕ) (rest : List ℕ) → (0xEF == a) ≡ false → strip utf8_mark (a ∷ rest) ≡ None
+no_mark_1 a rest e = ap (λ t. cond t (strip (0xBB ∷ 0xBF ∷ []) rest) None) e
+
+no_mark_3 : (a b c : ℕ) (rest : List ℕ) → (0xEF == a && 0xBB == b && 0xBF == c) ≡ false → strip utf8_mark (a ∷ b ∷ c ∷ rest) ≡ None
+no_mark_3 a b c rest e = by (0xEF == a) (0xBB == b) (0xBF == c) e
+  where
+    by : (x y z : Bool) → (x && y && z) ≡ false → cond x (cond y (cond z (Some rest) None) None) None ≡ None
+    by false y z e = refl
+    by true false z e = refl
+    by true true false e = refl
+    by true true true e = absurd (true≢false e)
+
+-- the three bytes of the mark are of U+FEFF alone
+mark_of : (c : ℕ) → (c == 0xFEFF) ≡ false → (0xEF == 224 + c / 4096 && 0xBB == next (c / 64) && 0xBF == next c) ≡ false
+mark_of c other = by (0xEF == 224 + c / 4096) (0xBB == next (c / 64)) (0xBF == next c) refl refl refl
+  where
+    is : 0xEF ≡ 224 + c / 4096 → 0xBB ≡ next (c / 64) → 0xBF ≡ next c → c ≡ 0xFEFF
+    is d e f = omega arith
+
+    by : (x y z : Bool) → (0xEF == 224 + c / 4096) ≡ x → (0xBB == next (c / 64)) ≡ y → (0xBF == next c) ≡ z → (x && y && z) ≡ false
+    by false y z d e f = refl
+    by true false z d e f = refl
+    by true true false d e f = refl
+    by true true true d e f = absurd (let same : c ≡ 0xFEFF = is (equal 0xEF (224 + c / 4096) d) (equal 0xBB (next (c / 64)) e) (equal 0xBF (next c) f) in grind (arith, nat_tests))
+
+character_no_mark : (c : ℕ) (rest : List ℕ) → (c == 0xFEFF) ≡ false → strip utf8_mark (encode c ++ rest) ≡ None
 unfolding encode
-bytes8_again cs h = ap (λ r. joined [] (mark_length Utf8 (encode_utf8_all (60 ∷ cs))) r) (decoded8_again (60 ∷ cs) h)
+character_no_mark c rest other =
+    let P : List ℕ → Type 0 = λ bs. strip utf8_mark (bs ++ rest) ≡ None in
+    cond_both (ltb c 128) _ _ P
+    (λ one. no_mark_1 c rest (grind (arith, nat_tests)))
+    (λ _. cond_both (ltb c 2048) _ _ P
+    (λ two. no_mark_1 (192 + c / 64) (next c ∷ rest) (below_mark c two))
+    (λ _. cond_both (ltb c 65536) _ _ P
+    (λ three. no_mark_3 (224 + c / 4096) (next (c / 64)) (next c) rest (mark_of c other))
+    (λ more. no_mark_1 (240 + c / 262144) (next (c / 4096) ∷ next (c / 64) ∷ next c ∷ rest) (above_mark c))))
+
+no_mark : (cs : List ℕ) → begins_with_mark cs ≡ false → strip utf8_mark (encode_utf8_all cs) ≡ None
+no_mark [] h = refl
+no_mark (c ∷ cs) h = character_no_mark c (encode_utf8_all cs) h
+
+bytes8_again : (cs : List ℕ) → all_scalars cs ≡ true → begins_with_mark cs ≡ false → decoded Utf8 (encode_utf8_all cs) ≡ Ok cs
+bytes8_again cs h other =
+    ap (λ o. joined [] (mark_length Utf8 (encode_utf8_all cs)) (decoded8 (without_front (encode_utf8_all cs) o))) (no_mark cs other)
+    ∙ ap (λ r. joined [] (mark_length Utf8 (encode_utf8_all cs)) r) (decoded8_again cs h)
 
 -- UTF-16
 
@@ -100,9 +160,10 @@ decoded16_again (c ∷ cs) h =
     character_again c (flat_map (character_bytes Utf16) cs) cs parts.0 (decoded16_again cs parts.1)
 
 -- what is written is decoded again
-pub encoded_again : (charset : Charset) (cs : List ℕ) → all_scalars (60 ∷ cs) ≡ true → decoded charset (encoded charset (60 ∷ cs)) ≡ Ok (60 ∷ cs)
-encoded_again Utf8 cs h = ap (λ bytes. decoded Utf8 bytes) (written8 (60 ∷ cs)) ∙ bytes8_again cs h
-encoded_again Utf16 cs h = ap (λ r. joined [] (mark_length Utf16 (encoded Utf16 (60 ∷ cs))) r) (decoded16_again (60 ∷ cs) h)
+pub encoded_again :
+    (charset : Charset) (cs : List ℕ) → all_scalars cs ≡ true → begins_with_mark cs ≡ false → decoded charset (encoded charset cs) ≡ Ok cs
+encoded_again Utf8 cs h other = ap (λ bytes. decoded Utf8 bytes) (written8 cs) ∙ bytes8_again cs h other
+encoded_again Utf16 cs h other = ap (λ r. joined [] (mark_length Utf16 (encoded Utf16 cs)) r) (decoded16_again cs h)
 
 -- line ends
 

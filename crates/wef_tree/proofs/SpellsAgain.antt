@@ -22,7 +22,7 @@ begins root = refl
 decodes : (charset : Charset) (text rest : List ℕ) → text ≡ 60 ∷ rest → ArePlain text → decoded charset (encoded charset text) ≡ Ok text
 decodes charset text rest is plain =
     let P : List ℕ → Type 0 = λ t. ArePlain t → decoded charset (encoded charset t) ≡ Ok t in
-    subst P (sym is) (λ h. encoded_again charset rest (plain_scalars (60 ∷ rest) h)) plain
+    subst P (sym is) (λ h. encoded_again charset (60 ∷ rest) (plain_scalars (60 ∷ rest) h) refl) plain
 
 module _ (start_again : StartAgain) (end_again : EndAgain) (text_again : TextAgain) (opened_again : OpenedAgain) where
   pub spells_again : ReadsBack
