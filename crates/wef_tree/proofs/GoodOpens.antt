@@ -36,7 +36,7 @@ AreGoodSpaces own = (prefix space : List ℕ) → map.get own prefix ≡ Some sp
 pub none_declared : AreGoodSpaces map.empty
 none_declared prefix space e = absurd (none_some space (sym (map.get-empty (slice_cmp nat_cmp) prefix) ∙ e))
 
-equal_if : (o : Ordering) → eq_by_cmp (λ (x y : Unit {0}). o) tt tt ≡ true → o ≡ Equal
+pub equal_if : (o : Ordering) → eq_by_cmp (λ (x y : Unit {0}). o) tt tt ≡ true → o ≡ Equal
 equal_if Less e = cc
 equal_if Equal e = refl
 equal_if Greater e = cc
@@ -51,20 +51,20 @@ one_more own prefix space good is q s e = by (eq_by_cmp (slice_cmp nat_cmp) q pr
         subst P (some_is space s found) (subst Q (sym (exact_bytes q prefix (equal_if (slice_cmp nat_cmp q prefix) equal))) is)
     by false equal found = good q s found
 
-front_true : (b c : Bool) → (b && c) ≡ true → b ≡ true
+pub front_true : (b c : Bool) → (b && c) ≡ true → b ≡ true
 front_true true c e = refl
 front_true false c e = e
 
-and_true : (b c : Bool) → b ≡ true → c ≡ true → (b && c) ≡ true
+pub and_true : (b c : Bool) → b ≡ true → c ≡ true → (b && c) ≡ true
 and_true true c e f = f
 and_true false c e f = e
 
-last_true : (b c : Bool) → (b && c) ≡ true → c ≡ true
+pub last_true : (b c : Bool) → (b && c) ≡ true → c ≡ true
 last_true true c e = e
 last_true false true e = refl
 last_true false false e = e
 
-or_right : (b c : Bool) → c ≡ true → (b || c) ≡ true
+pub or_right : (b c : Bool) → c ≡ true → (b || c) ≡ true
 or_right true c e = refl
 or_right false c e = e
 
@@ -73,7 +73,7 @@ tie Less e = cc
 tie Equal e = refl
 tie Greater e = cc
 
-one_name : (x y : List ℕ) → same x y ≡ true → x ≡ y
+pub one_name : (x y : List ℕ) → same x y ≡ true → x ≡ y
 one_name x y e = exact_bytes x y (tie (slice_cmp nat_cmp x y) (sym (texts_ties x y) ∙ e))
 
 xml_is_some : (is_empty xml_space) ≡ false

@@ -1,5 +1,5 @@
 -- The tag that a start tag of the canonical text is, and when what a writer has in force is what a reader has.
-use Rattle.std.proofs.Common.{◌≡◌, ℕ, true, false, ◌||◌, List, [], ◌∷◌, ◌++◌, map, ◌⊎◌}
+use Rattle.std.proofs.Common.{◌≡◌, ℕ, ◌^◌, ◌<◌, true, false, ◌||◌, List, [], ◌∷◌, ◌++◌, length, map, ◌⊎◌}
 use Rattle.std.specs.Prelude.{Option, Some, None, is_some, unwrap_or, codes, if◌then◌else◌}
 use Rattle.std.specs.Option.{option_or}
 use Rattle.wef_base.specs.Names.{same}
@@ -99,9 +99,9 @@ pub record Opens (b : Builder) (first : List Binding) (scope : Scope) (space nam
   pub childless : element.children ≡ []
   pub agrees : (around : List Open) → ((prefix : List ℕ) → declared_outside around prefix ≡ declared_outside b.around prefix) → Agrees [] (inside scope space attributes) (element ∷ around)
 
--- The first bindings are those of the root, or none.
+-- The first bindings are those of the root, or none. There are no more attributes than numbers that a prefix has.
 abbrev pub OpenedAgain : Type 0
 OpenedAgain =
     (b : Builder) (first : List Binding) (scope : Scope) (space name : List ℕ) (attributes : List Attribute) →
-    IsGoodHead space name attributes → has_room b ≡ true → Agrees first scope b.around → (first ≡ []) ⊎ ((first ≡ nine) × (b.around ≡ []) × (scope.soap ≡ true)) →
+    IsGoodHead space name attributes → length attributes < 2 ^ 64 → has_room b ≡ true → Agrees first scope b.around → (first ≡ []) ⊎ ((first ≡ nine) × (b.around ≡ []) × (scope.soap ≡ true)) →
     Opens b first scope space name attributes
