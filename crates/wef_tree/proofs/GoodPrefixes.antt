@@ -20,6 +20,7 @@ use Rattle.wef_tree.proofs.Spelled.{AreGoodBindings, IsGoodBinding}
 abbrev pub is_plain : ℕ → Bool
 is_plain c = nat_lt c 128
 
+-- what the test tells
 plain_one : (c : ℕ) → is_plain c ≡ true → c < 128
 plain_one c h = grind (arith, nat_tests)
 
@@ -36,6 +37,7 @@ plain_name_is c cs plain begins on = record { first = c; more = cs; spelt = plai
 pub plain_text_is : (cs : List ℕ) → list_all is_plain cs ≡ true → list_all is_xml_char cs ≡ true → IsXmlText cs
 plain_text_is cs plain allowed = record { characters = cs; spelt = plain_is cs plain; allowed = allowed }
 
+-- the two reserved prefixes
 pub xml_is_name : IsLocalName (codes "xml")
 xml_is_name = plain_name_is 120 (109 ∷ 108 ∷ []) refl refl refl
 
@@ -44,6 +46,7 @@ xmlns_is_name = plain_name_is 120 (109 ∷ 108 ∷ 110 ∷ 115 ∷ []) refl refl
 
 -- the nine prefixes
 
+-- a prefix of one letter, with its namespace
 one_letter :
     (c : ℕ) (space : List ℕ) → list_all is_plain (c ∷ []) ≡ true → is_name_start c ≡ true → is_xml (c ∷ []) ≡ false → is_xmlns (c ∷ []) ≡ false →
     list_all is_plain space ≡ true → list_all is_xml_char space ≡ true → is_empty space ≡ false → is_xml_space space ≡ false →
@@ -57,6 +60,7 @@ one_letter c space plain begins no_xml no_xmlns plain_space allowed some no_xml_
   no_xmlns = no_xmlns;
 }
 
+-- the nine prefixes may be declared
 pub nine_are_good : AreGoodBindings nine
 unfolding nine soap_space is_xml is_xmlns is_xml_space xml_space
 nine_are_good = (
@@ -87,14 +91,17 @@ nine_are_good = (
 
 -- what binds
 
+-- bindings further in than others
 pub bound_by_good : (bound bs : List Binding) → AreGoodBindings bound → AreGoodBindings bs → AreGoodBindings (bound_by bound bs)
 bound_by_good bound [] good more = good
 bound_by_good bound (b ∷ bs) good more = bound_by_good (b ∷ bound) bs (more.0, good) more.1
 
+-- a prefix that is found is one that was found further out
 unless_bound_is : (front : List ℕ) (o : Option (List ℕ)) (prefix : List ℕ) → unless_bound front o ≡ Some prefix → o ≡ Some prefix
 unless_bound_is front None prefix e = absurd (none_some prefix e)
 unless_bound_is front (Some found) prefix e = (unless_some (same front found) (Some found) prefix e).1
 
+-- a prefix in scope is a name, and so is that of an element or an attribute
 pub prefix_of_good : (bound : List Binding) (space prefix : List ℕ) → AreGoodBindings bound → prefix_of bound space ≡ Some prefix → IsLocalName prefix
 prefix_of_good [] space prefix good e = absurd (none_some prefix e)
 prefix_of_good (b ∷ bs) space prefix good e = ⊎_elim
@@ -122,6 +129,7 @@ attribute_prefix_good bound space prefix good e = ⊎_elim
 is_plain_digit : ℕ → Bool
 is_plain_digit c = is_plain c && is_name_char c
 
+-- each of the ten
 glyph_is : (d : ℕ) → d < 10 → is_plain_digit (digit_glyph false d) ≡ true
 unfolding is_plain_digit
 glyph_is zero h = refl
@@ -136,9 +144,11 @@ glyph_is (suc (suc (suc (suc (suc (suc (suc (suc zero)))))))) h = refl
 glyph_is (suc (suc (suc (suc (suc (suc (suc (suc (suc zero))))))))) h = refl
 glyph_is (suc (suc (suc (suc (suc (suc (suc (suc (suc (suc d)))))))))) h = absurd (omega arith)
 
+-- the last digit of a number
 digit_is : (n : ℕ) → is_plain_digit (digit_glyph false (n % 10)) ≡ true
 digit_is n = glyph_is (n % 10) (omega arith)
 
+-- the digits of a number, behind those so far
 digits_are : (steps n : ℕ) (behind : List ℕ) → list_all is_plain_digit behind ≡ true → list_all is_plain_digit (digits_onto steps 10 false n behind) ≡ true
 digits_are zero n behind h = h
 digits_are (suc steps) n behind h =
@@ -149,10 +159,12 @@ digits_are (suc steps) n behind h =
     by true done here further = here
     by false done here further = further
 
+-- all digits of a number
 decimal_is : (n : ℕ) → list_all is_plain_digit (decimal n) ≡ true
 unfolding digits
 decimal_is n = digits_are 64 n [] refl
 
+-- what holds of all by two tests holds by each
 halves : {A : Type 0} (p q : A → Bool) (xs : List A) → list_all (λ x. p x && q x) xs ≡ true → (list_all p xs ≡ true) × (list_all q xs ≡ true)
 halves p q [] h = (refl, refl)
 halves p q (x ∷ xs) h =
@@ -161,6 +173,7 @@ halves p q (x ∷ xs) h =
     let further = halves p q xs parts.1 in
     (and_from _ _ here.0 further.0, and_from _ _ here.1 further.1)
 
+-- `p` and a number is a name
 pub numbered_is_name : (n : ℕ) → IsLocalName (numbered_prefix n)
 unfolding is_plain_digit
 numbered_is_name n =
@@ -177,20 +190,24 @@ abbrev AreGoodSpaces : List (List ℕ) → Type 0
 AreGoodSpaces [] = Unit {0}
 AreGoodSpaces (s ∷ ss) = IsGoodSpace s × AreGoodSpaces ss
 
+-- namespaces with one more
 one_space_more : (spaces : List (List ℕ)) (space : List ℕ) → AreGoodSpaces spaces → IsGoodSpace space → AreGoodSpaces (spaces ++ space ∷ [])
 one_space_more [] space good more = (more, tt)
 one_space_more (s ∷ ss) space good more = (good.0, one_space_more ss space good.1 more)
 
+-- a test that must fail
 not_true : (b : Bool) → not b ≡ true → b ≡ false
 not_true true e = sym e
 not_true false e = refl
 
+-- an attribute needs a prefix only for a namespace that one may be declared for
 needs_good : (bound : List Binding) (space : List ℕ) → IsXmlText space → needs_prefix bound space ≡ true → IsGoodSpace space
 needs_good bound space text e =
     let parts = and_parts (not (is_empty space) && not (is_xml_space space)) (not (is_some (prefix_of bound space))) e in
     let front = and_parts (not (is_empty space)) (not (is_xml_space space)) parts.0 in
     record { text = text; some = not_true (is_empty space) front.0; no_xml_space = not_true (is_xml_space space) front.1 }
 
+-- some namespaces, with that of one more attribute
 with_space_good : (bound : List Binding) (spaces : List (List ℕ)) (space : List ℕ) → AreGoodSpaces spaces → IsXmlText space → AreGoodSpaces (with_space bound spaces space)
 with_space_good bound spaces space good text = by (needs_prefix bound space && not (list_any (same space) spaces)) refl
   where
@@ -198,11 +215,13 @@ with_space_good bound spaces space good text = by (needs_prefix bound space && n
     by true e = one_space_more spaces space good (needs_good bound space text (and_parts (needs_prefix bound space) (not (list_any (same space) spaces)) e).0)
     by false e = good
 
+-- the namespaces that the attributes need prefixes for
 new_spaces_good : (bound : List Binding) (spaces : List (List ℕ)) (attributes : List Attribute) → AreGoodSpaces spaces → AreGoodAttributes attributes → AreGoodSpaces (new_spaces bound spaces attributes)
 new_spaces_good bound spaces [] good attributed = good
 new_spaces_good bound spaces (a ∷ more) good attributed =
     new_spaces_good bound (with_space bound spaces a.space) more (with_space_good bound spaces a.space good attributed.0.space) attributed.1
 
+-- the binding of a numbered prefix
 numbered_good : (n : ℕ) (space : List ℕ) → IsGoodSpace space → IsGoodBinding (record { prefix = numbered_prefix n; space = space })
 unfolding is_xml is_xmlns
 numbered_good n space good = record {
@@ -214,11 +233,13 @@ numbered_good n space good = record {
   no_xmlns = refl;
 }
 
+-- the bindings of some namespaces
 bindings_good : (taken : List (List ℕ)) (n : ℕ) (spaces : List (List ℕ)) → AreGoodSpaces spaces → AreGoodBindings (bindings_from taken n spaces)
 bindings_good taken n [] good = tt
 bindings_good taken n (space ∷ spaces) good =
     (numbered_good (next_free (length taken) taken n) space good.0, bindings_good taken (suc (next_free (length taken) taken n)) spaces good.1)
 
+-- what an element declares for its attributes may be declared
 pub new_are_good : (bound : List Binding) (attributes : List Attribute) → AreGoodAttributes attributes → AreGoodBindings (new_bindings bound attributes)
 new_are_good bound attributes attributed =
     bindings_good (outer_prefixes bound attributes) 1 (new_spaces bound [] attributes) (new_spaces_good bound [] attributes tt attributed)

@@ -19,6 +19,8 @@ pub mod Spelled
 pub mod SpellsAgain
 pub mod Stacks
 pub mod StartLengths
+pub mod StartsAgain
+pub mod TextsAgain
 pub mod TreesAgain
 pub mod Turns
 pub mod Utf8
