@@ -1,5 +1,5 @@
 -- A tree that is written is read again.
-use Rattle.std.proofs.Common.{◌≡◌, ℕ, zero, suc, ◌+◌, ◌==◌, Bool, true, false, ◌&&◌, not, cond, List, [], ◌∷◌, ◌++◌, length, refl, ap, sym, ◌∙◌, subst, append_assoc, append-nil, arith, true≢false, ◌⊎◌, inl, inr}
+use Rattle.std.proofs.Common.{◌≡◌, ℕ, ◌^◌, ◌<◌, ◌≤◌, length-append, zero, suc, ◌+◌, ◌==◌, Bool, true, false, ◌&&◌, not, cond, List, [], ◌∷◌, ◌++◌, length, refl, ap, sym, ◌∙◌, subst, append_assoc, append-nil, arith, true≢false, ◌⊎◌, inl, inr}
 use Rattle.std.specs.Prelude.{Option, Some, None, nat_lt, encode_utf8_all}
 use Rattle.std.specs.List.{flat_map, list_all}
 use Rattle.std.specs.Option.{option_map, option_or}
@@ -28,7 +28,11 @@ use Rattle.wef_tree.specs.declared.pieces.Piece.{Piece}
 use Rattle.wef_tree.specs.declared.pieces.Piece.TheVariants.{Start, End}
 use Rattle.wef_tree.specs.declared.stack.Open.{Open}
 use Rattle.wef_tree.proofs.Inversions.{none_some, some_is, unless_some}
-use Rattle.wef_tree.proofs.Spelled.{Agrees, AreGoodBindings, EndAgain, IsGoodBinding, OpenedAgain, Opens, StartAgain, TextAgain, bound_at, spelled, spelled_name}
+use Rattle.wef_tree.proofs.OpensAgain.{opened_again}
+use Rattle.wef_tree.proofs.Spelled.{Agrees, AreGoodBindings, IsGoodBinding, Opens, bound_at, spelled, spelled_name}
+use Rattle.wef_tree.proofs.StartLengths.{start_long}
+use Rattle.wef_tree.proofs.StartsAgain.{end_again, start_again}
+use Rattle.wef_tree.proofs.TextsAgain.{text_again}
 
 -- pieces that lead on
 
@@ -309,172 +313,192 @@ begins_with false = record {
   good = tt;
 }
 
--- What is to be known of one tag and one text.
-module _ (start_again : StartAgain) (end_again : EndAgain) (text_again : TextAgain) (opened_again : OpenedAgain) where
-  -- an element, whose children are read again wherever they stand inside it
-  element_again :
-      (begun : Bool) (around : List Open) (before : List ℕ) (first : List Binding) (scope : Scope) (space name : List ℕ) (attributes : List Attribute)
-      (body : List ℕ) (kids : List Node) (tail : List ℕ) →
-      IsGoodHead space name attributes → nat_lt (length around) 64 ≡ true → Agrees first scope around →
-      (first ≡ []) ⊎ ((first ≡ nine) × (around ≡ []) × (scope.soap ≡ true)) → AreGoodBindings first →
-      ((x : Open) (xs : List Open) (rest : List ℕ) → Agrees [] (inside scope space attributes) (x ∷ xs) → length xs ≡ length around → BeginsTag rest →
-      Filled x xs [] [] (body ++ rest) rest kids) →
-      Goes (record { begun = begun; around = around; text = before; root = None })
-      (start_of first scope space name attributes ++ (body ++ (end_of scope space name ++ tail)))
-      (placed (record { space = space; name = name; attributes = attributes; children = kids }) (inner (with_text before around) [])) tail
-  element_again begun around before first scope space name attributes body kids tail head room agrees which good fill =
-      let b : Builder = record { begun = begun; around = around; text = before; root = None } in
-      let fits : has_room b ≡ true = ap (λ t. t && true) room in
-      let opens = opened_again b first scope space name attributes head fits agrees which in
-      let x : Open = opens.element in
-      let xs : List Open = with_text before around in
-      let ending : List ℕ = end_of scope space name ++ tail in
-      let filled = fill x xs ending (opens.agrees xs (declared_with_text before around)) (length_with_text before around) (behind_first ending, refl) in
-      let P : Open → Type 0 = λ o. Goes b (start_of first scope space name attributes ++ (body ++ ending)) (inner (o ∷ xs) []) (body ++ ending) in
-      let Q : Element → Type 0 = λ e. Goes (inner (with_kids x filled.more ∷ xs) filled.waits) ending (placed e (inner xs [])) tail in
-      let begins : P x =
-      goes_one b (inner (x ∷ xs) []) (start_of first scope space name attributes ++ (body ++ ending)) (body ++ ending) (Start (spelled first scope space name attributes))
-      (start_again first scope space name attributes (body ++ ending) head good agrees.bindings)
-      (start_taken b first scope space name attributes opens) in
-      let ends : Q (element_of (with_kids x kids)) =
-      goes_one (inner (with_kids x filled.more ∷ xs) filled.waits) (placed (element_of (with_kids x kids)) (inner xs [])) ending tail (End (spelled_name scope space name))
-      (end_again scope space name tail head.named)
-      (end_taken x xs filled.more kids filled.waits (spelled_name scope space name) opens.named filled.fills) in
-      goes_then _ _ _ _ _ _ (subst P (λ i. record x { children = opens.childless i }) begins)
-      (goes_then _ _ _ _ _ _ filled.goes
-      (subst Q (λ i. record { space = opens.in_space i; name = (opens.named i).local; attributes = opens.attributed i; children = kids }) ends))
+-- a text within a bound, by its parts
+three_short : (xs ys zs : List ℕ) (n most : ℕ) → n ≤ length xs → length ((xs ++ ys) ++ zs) < most → (n < most) × (length ys < most)
+three_short xs ys zs n most long short =
+    let whole = length-append (xs ++ ys) zs in
+    let front = length-append xs ys in
+    (omega arith, omega arith)
 
-  -- a text
-  text_added :
-      (o : Open) (os : List Open) (kids : List Node) (before text tail : List ℕ) → IsGoodText text → before ≡ [] → BeginsTag tail →
-      Added o os kids before (text_of text ++ tail) tail (Chars text)
-  text_added o os kids before text tail good none tag =
-      let b : Builder = inner (with_kids o kids ∷ os) [] in
-      let P : List ℕ → Type 0 = λ x. Added o os kids x (text_of text ++ tail) tail (Chars text) in
-      let Q : List ℕ → Type 0 = λ t. Goes b (text_of text ++ t) (inner (with_kids o kids ∷ os) text) t in
-      subst P (sym none) (record {
-        more = kids;
-        waits = text;
-        goes = subst Q (sym tag.1) (text_again b text tag.0 good.allowed (some_open (with_kids o kids) os) refl);
-        fills = ap (λ t. cond t kids (kids ++ Chars text ∷ [])) good.some;
-        left = good.some;
-      })
+two_short : (xs ys : List ℕ) (most : ℕ) → length (xs ++ ys) < most → (length xs < most) × (length ys < most)
+two_short xs ys most short = let whole = length-append xs ys in (omega arith, omega arith)
 
-  -- an element inside another
-  element_added :
-      (o : Open) (os : List Open) (kids : List Node) (before tail : List ℕ) (scope : Scope) (space name : List ℕ) (attributes : List Attribute) (shape : _) (row : Row_of-Node _) →
-      IsGoodHead space name attributes → nat_lt (length (o ∷ os)) 64 ≡ true → Agrees [] scope (o ∷ os) →
-      ((x : Open) (xs : List Open) (rest : List ℕ) → Agrees [] (inside scope space attributes) (x ∷ xs) → length xs ≡ length (o ∷ os) → BeginsTag rest →
-      Filled x xs [] [] (row_of row (inside scope space attributes) ++ rest) rest (items-the_row-Node _ row)) →
-      Added o os kids before (node_of (Element' space name attributes shape row) scope ++ tail) tail (Element' space name attributes shape row)
-  element_added o os kids before tail scope space name attributes shape row head room agrees fill =
-      let body : List ℕ = row_of row (inside scope space attributes) in
-      let starts : List ℕ = start_of [] scope space name attributes in
-      let ending : List ℕ = end_of scope space name in
-      let e : Element = record { space = space; name = name; attributes = attributes; children = items-the_row-Node _ row } in
-      let b : Builder = inner (with_kids o kids ∷ os) before in
-      let whole : Goes b (starts ++ (body ++ (ending ++ tail))) (placed e (inner (with_text before (with_kids o kids ∷ os)) [])) tail =
-      element_again true (with_kids o kids ∷ os) before [] scope space name attributes body (items-the_row-Node _ row) tail head room
-      (agrees_with_kids scope o os kids agrees) (inl refl) tt fill in
-      let P : List ℕ → Type 0 = λ t. Goes b t (inner (with_kids o (kids_with before kids ++ Child e ∷ []) ∷ os) []) tail in
-      let Q : Builder → Type 0 = λ c. Goes b (starts ++ (body ++ (ending ++ tail))) c tail in
-      record {
-        more = kids_with before kids ++ Child e ∷ [];
-        waits = [];
-        goes = subst P (sym (append_assoc (starts ++ body) ending tail ∙ append_assoc starts body (ending ++ tail)))
-            (subst Q (ap (λ l. placed e (inner l [])) (flush_is before o os kids) ∙ placed_inside e o os (kids_with before kids)) whole);
-        fills = ap (λ n. kids_with before kids ++ n ∷ []) (child_is space name attributes shape row);
-        left = refl;
-      }
+-- an element whose text has fewer characters than there are numbers of prefixes has fewer attributes too
+element_short :
+    (first : List Binding) (scope : Scope) (space name : List ℕ) (attributes : List Attribute) (body : List ℕ) →
+    length ((start_of first scope space name attributes ++ body) ++ end_of scope space name) < 2 ^ 64 → (length attributes < 2 ^ 64) × (length body < 2 ^ 64)
+element_short first scope space name attributes body short =
+    three_short (start_of first scope space name attributes) body (end_of scope space name) (length attributes) (2 ^ 64) (start_long first scope space name attributes) short
 
-  -- a row of children begins with a tag where no text may come first
-  row_begins :
-      {m : _} (row : Row_of-Node m) (scope : Scope) (tail : List ℕ) → are_apart true (items-the_row-Node m row) ≡ true → BeginsTag tail → BeginsTag (row_of row scope ++ tail)
-  row_begins end_of-Node scope tail apart tag = tag
-  row_begins (more_of-Node (Chars text) rest) scope tail apart tag = absurd (true≢false (sym apart))
-  row_begins (more_of-Node (Element' space name attributes shape row) rest) scope tail apart tag =
-      (behind_first ((node_of (Element' space name attributes shape row) scope ++ row_of rest scope) ++ tail), refl)
+-- an element, whose children are read again wherever they stand inside it
+element_again :
+    (begun : Bool) (around : List Open) (before : List ℕ) (first : List Binding) (scope : Scope) (space name : List ℕ) (attributes : List Attribute)
+    (body : List ℕ) (kids : List Node) (tail : List ℕ) →
+    IsGoodHead space name attributes → length attributes < 2 ^ 64 → nat_lt (length around) 64 ≡ true → Agrees first scope around →
+    (first ≡ []) ⊎ ((first ≡ nine) × (around ≡ []) × (scope.soap ≡ true)) → AreGoodBindings first →
+    ((x : Open) (xs : List Open) (rest : List ℕ) → Agrees [] (inside scope space attributes) (x ∷ xs) → length xs ≡ length around → BeginsTag rest →
+    Filled x xs [] [] (body ++ rest) rest kids) →
+    Goes (record { begun = begun; around = around; text = before; root = None })
+    (start_of first scope space name attributes ++ (body ++ (end_of scope space name ++ tail)))
+    (placed (record { space = space; name = name; attributes = attributes; children = kids }) (inner (with_text before around) [])) tail
+element_again begun around before first scope space name attributes body kids tail head few room agrees which good fill =
+    let b : Builder = record { begun = begun; around = around; text = before; root = None } in
+    let fits : has_room b ≡ true = ap (λ t. t && true) room in
+    let opens = opened_again b first scope space name attributes head few fits agrees which in
+    let x : Open = opens.element in
+    let xs : List Open = with_text before around in
+    let ending : List ℕ = end_of scope space name ++ tail in
+    let filled = fill x xs ending (opens.agrees xs (declared_with_text before around)) (length_with_text before around) (behind_first ending, refl) in
+    let P : Open → Type 0 = λ o. Goes b (start_of first scope space name attributes ++ (body ++ ending)) (inner (o ∷ xs) []) (body ++ ending) in
+    let Q : Element → Type 0 = λ e. Goes (inner (with_kids x filled.more ∷ xs) filled.waits) ending (placed e (inner xs [])) tail in
+    let begins : P x =
+    goes_one b (inner (x ∷ xs) []) (start_of first scope space name attributes ++ (body ++ ending)) (body ++ ending) (Start (spelled first scope space name attributes))
+    (start_again first scope space name attributes (body ++ ending) head good agrees.bindings)
+    (start_taken b first scope space name attributes opens) in
+    let ends : Q (element_of (with_kids x kids)) =
+    goes_one (inner (with_kids x filled.more ∷ xs) filled.waits) (placed (element_of (with_kids x kids)) (inner xs [])) ending tail (End (spelled_name scope space name))
+    (end_again scope space name tail head.named)
+    (end_taken x xs filled.more kids filled.waits (spelled_name scope space name) opens.named filled.fills) in
+    goes_then _ _ _ _ _ _ (subst P (λ i. record x { children = opens.childless i }) begins)
+    (goes_then _ _ _ _ _ _ filled.goes
+    (subst Q (λ i. record { space = opens.in_space i; name = (opens.named i).local; attributes = opens.attributed i; children = kids }) ends))
 
-  not_both : (b : Bool) → not b ≡ true → b ≡ false
-  not_both true e = absurd (true≢false (sym e))
-  not_both false e = refl
+-- a text
+text_added :
+    (o : Open) (os : List Open) (kids : List Node) (before text tail : List ℕ) → IsGoodText text → before ≡ [] → BeginsTag tail →
+    Added o os kids before (text_of text ++ tail) tail (Chars text)
+text_added o os kids before text tail good none tag =
+    let b : Builder = inner (with_kids o kids ∷ os) [] in
+    let P : List ℕ → Type 0 = λ x. Added o os kids x (text_of text ++ tail) tail (Chars text) in
+    let Q : List ℕ → Type 0 = λ t. Goes b (text_of text ++ t) (inner (with_kids o kids ∷ os) text) t in
+    subst P (sym none) (record {
+      more = kids;
+      waits = text;
+      goes = subst Q (sym tag.1) (text_again b text tag.0 good.allowed (some_open (with_kids o kids) os) refl);
+      fills = ap (λ t. cond t kids (kids ++ Chars text ∷ [])) good.some;
+      left = good.some;
+    })
 
-  waits_for : (after : Bool) (before : List ℕ) → is_empty before ≡ not after → (after && true) ≡ false → before ≡ []
-  waits_for true before e f = absurd (true≢false f)
-  waits_for false before e f = empty_is before e
+-- an element inside another
+element_added :
+    (o : Open) (os : List Open) (kids : List Node) (before tail : List ℕ) (scope : Scope) (space name : List ℕ) (attributes : List Attribute) (shape : _) (row : Row_of-Node _) →
+    IsGoodHead space name attributes → length attributes < 2 ^ 64 → nat_lt (length (o ∷ os)) 64 ≡ true → Agrees [] scope (o ∷ os) →
+    ((x : Open) (xs : List Open) (rest : List ℕ) → Agrees [] (inside scope space attributes) (x ∷ xs) → length xs ≡ length (o ∷ os) → BeginsTag rest →
+    Filled x xs [] [] (row_of row (inside scope space attributes) ++ rest) rest (items-the_row-Node _ row)) →
+    Added o os kids before (node_of (Element' space name attributes shape row) scope ++ tail) tail (Element' space name attributes shape row)
+element_added o os kids before tail scope space name attributes shape row head few room agrees fill =
+    let body : List ℕ = row_of row (inside scope space attributes) in
+    let starts : List ℕ = start_of [] scope space name attributes in
+    let ending : List ℕ = end_of scope space name in
+    let e : Element = record { space = space; name = name; attributes = attributes; children = items-the_row-Node _ row } in
+    let b : Builder = inner (with_kids o kids ∷ os) before in
+    let whole : Goes b (starts ++ (body ++ (ending ++ tail))) (placed e (inner (with_text before (with_kids o kids ∷ os)) [])) tail =
+    element_again true (with_kids o kids ∷ os) before [] scope space name attributes body (items-the_row-Node _ row) tail head few room
+    (agrees_with_kids scope o os kids agrees) (inl refl) tt fill in
+    let P : List ℕ → Type 0 = λ t. Goes b t (inner (with_kids o (kids_with before kids ++ Child e ∷ []) ∷ os) []) tail in
+    let Q : Builder → Type 0 = λ c. Goes b (starts ++ (body ++ (ending ++ tail))) c tail in
+    record {
+      more = kids_with before kids ++ Child e ∷ [];
+      waits = [];
+      goes = subst P (sym (append_assoc (starts ++ body) ending tail ∙ append_assoc starts body (ending ++ tail)))
+          (subst Q (ap (λ l. placed e (inner l [])) (flush_is before o os kids) ∙ placed_inside e o os (kids_with before kids)) whole);
+      fills = ap (λ n. kids_with before kids ++ n ∷ []) (child_is space name attributes shape row);
+      left = refl;
+    }
 
-  room_left : (room n : ℕ) → suc room + n ≡ 64 → nat_lt n 64 ≡ true
-  room_left room n e = grind (arith, nat_tests)
+-- a row of children begins with a tag where no text may come first
+row_begins :
+    {m : _} (row : Row_of-Node m) (scope : Scope) (tail : List ℕ) → are_apart true (items-the_row-Node m row) ≡ true → BeginsTag tail → BeginsTag (row_of row scope ++ tail)
+row_begins end_of-Node scope tail apart tag = tag
+row_begins (more_of-Node (Chars text) rest) scope tail apart tag = absurd (true≢false (sym apart))
+row_begins (more_of-Node (Element' space name attributes shape row) rest) scope tail apart tag =
+    (behind_first ((node_of (Element' space name attributes shape row) scope ++ row_of rest scope) ++ tail), refl)
 
-  one_deeper : (room n m : ℕ) → suc room + n ≡ 64 → m ≡ n → room + suc m ≡ 64
-  one_deeper room n m e f = omega arith
+not_both : (b : Bool) → not b ≡ true → b ≡ false
+not_both true e = absurd (true≢false (sym e))
+not_both false e = refl
 
-  mutual
-    -- a node, by its data; `after`: characters wait before it
-    node_again :
-        (n : Node) (room : ℕ) (scope : Scope) (o : Open) (os : List Open) (kids : List Node) (before tail : List ℕ) (after : Bool) →
-        IsGoodNode n room → room + length (o ∷ os) ≡ 64 → Agrees [] scope (o ∷ os) → is_empty before ≡ not after → (after && is_text n) ≡ false →
-        (is_text n ≡ true → BeginsTag tail) → Added o os kids before (node_of n scope ++ tail) tail n
-    node_again (Chars text) room scope o os kids before tail after good deep agrees waits apart tag =
-        text_added o os kids before text tail good (waits_for after before waits apart) (tag refl)
-    node_again (Element' space name attributes shape row) zero scope o os kids before tail after good deep agrees waits apart tag = absurd good
-    node_again (Element' space name attributes shape row) (suc room) scope o os kids before tail after good deep agrees waits apart tag =
-        element_added o os kids before tail scope space name attributes shape row good.0 (room_left room (length (o ∷ os)) deep) agrees
-        (λ x xs rest further same begins. row_again row room (inside scope space attributes) x xs [] [] rest false good.2
-        (one_deeper room (length (o ∷ os)) (length xs) deep same) further refl good.1 begins)
+waits_for : (after : Bool) (before : List ℕ) → is_empty before ≡ not after → (after && true) ≡ false → before ≡ []
+waits_for true before e f = absurd (true≢false f)
+waits_for false before e f = empty_is before e
 
-    -- a row of nodes
-    row_again :
-        {m : _} (row : Row_of-Node m) (room : ℕ) (scope : Scope) (o : Open) (os : List Open) (kids : List Node) (before tail : List ℕ) (after : Bool) →
-        IsGoodRow row room → room + length (o ∷ os) ≡ 64 → Agrees [] scope (o ∷ os) → is_empty before ≡ not after →
-        are_apart after (items-the_row-Node m row) ≡ true → BeginsTag tail → Filled o os kids before (row_of row scope ++ tail) tail (items-the_row-Node m row)
-    row_again end_of-Node room scope o os kids before tail after good deep agrees waits apart tag = none_filled o os kids before tail
-    row_again (more_of-Node n rest) room scope o os kids before tail after good deep agrees waits apart tag =
-        let parts = and_parts (not (after && is_text n)) (are_apart (is_text n) (items-the_row-Node _ rest)) apart in
-        let P : Bool → Type 0 = λ b. are_apart b (items-the_row-Node _ rest) ≡ true in
-        let first : Added o os kids before (node_of n scope ++ (row_of rest scope ++ tail)) (row_of rest scope ++ tail) n =
-        node_again n room scope o os kids before (row_of rest scope ++ tail) after good.0 deep agrees waits (not_both (after && is_text n) parts.0)
-        (λ is. row_begins rest scope tail (subst P is parts.1) tag) in
-        filled_on o os kids before (node_of n scope) (row_of rest scope) tail n (items-the_row-Node _ rest) first
-        (row_again rest room scope o os first.more first.waits tail (is_text n) good.1 deep agrees first.left parts.1 tag)
+room_left : (room n : ℕ) → suc room + n ≡ 64 → nat_lt n 64 ≡ true
+room_left room n e = grind (arith, nat_tests)
 
-  -- the same of the children of the root, which are known as a list
-  nodes_begin : (ns : List Node) (scope : Scope) (tail : List ℕ) → are_apart true ns ≡ true → BeginsTag tail → BeginsTag (flat_map (λ n. node_of n scope) ns ++ tail)
-  nodes_begin [] scope tail apart tag = tag
-  nodes_begin (Chars text ∷ ns) scope tail apart tag = absurd (true≢false (sym apart))
-  nodes_begin (Element' space name attributes shape row ∷ ns) scope tail apart tag =
-      (behind_first ((node_of (Element' space name attributes shape row) scope ++ flat_map (λ n. node_of n scope) ns) ++ tail), refl)
+one_deeper : (room n m : ℕ) → suc room + n ≡ 64 → m ≡ n → room + suc m ≡ 64
+one_deeper room n m e f = omega arith
 
-  nodes_again :
-      (ns : List Node) (room : ℕ) (scope : Scope) (o : Open) (os : List Open) (kids : List Node) (before tail : List ℕ) (after : Bool) →
-      AreGoodNodes ns room → room + length (o ∷ os) ≡ 64 → Agrees [] scope (o ∷ os) → is_empty before ≡ not after → are_apart after ns ≡ true → BeginsTag tail →
-      Filled o os kids before (flat_map (λ n. node_of n scope) ns ++ tail) tail ns
-  nodes_again [] room scope o os kids before tail after good deep agrees waits apart tag = none_filled o os kids before tail
-  nodes_again (n ∷ ns) room scope o os kids before tail after good deep agrees waits apart tag =
-      let others : List ℕ = flat_map (λ n. node_of n scope) ns in
-      let parts = and_parts (not (after && is_text n)) (are_apart (is_text n) ns) apart in
-      let P : Bool → Type 0 = λ b. are_apart b ns ≡ true in
-      let first : Added o os kids before (node_of n scope ++ (others ++ tail)) (others ++ tail) n =
-      node_again n room scope o os kids before (others ++ tail) after good.0 deep agrees waits (not_both (after && is_text n) parts.0)
-      (λ is. nodes_begin ns scope tail (subst P is parts.1) tag) in
-      filled_on o os kids before (node_of n scope) others tail n ns first
-      (nodes_again ns room scope o os first.more first.waits tail (is_text n) good.1 deep agrees first.left parts.1 tag)
+mutual
+  -- a node, by its data; `after`: characters wait before it
+  node_again :
+      (n : Node) (room : ℕ) (scope : Scope) (o : Open) (os : List Open) (kids : List Node) (before tail : List ℕ) (after : Bool) →
+      IsGoodNode n room → room + length (o ∷ os) ≡ 64 → Agrees [] scope (o ∷ os) → is_empty before ≡ not after → (after && is_text n) ≡ false →
+      (is_text n ≡ true → BeginsTag tail) → length (node_of n scope) < 2 ^ 64 → Added o os kids before (node_of n scope ++ tail) tail n
+  node_again (Chars text) room scope o os kids before tail after good deep agrees waits apart tag short =
+      text_added o os kids before text tail good (waits_for after before waits apart) (tag refl)
+  node_again (Element' space name attributes shape row) zero scope o os kids before tail after good deep agrees waits apart tag short = absurd good
+  node_again (Element' space name attributes shape row) (suc room) scope o os kids before tail after good deep agrees waits apart tag short =
+      element_added o os kids before tail scope space name attributes shape row good.0
+      (element_short [] scope space name attributes (row_of row (inside scope space attributes)) short).0 (room_left room (length (o ∷ os)) deep) agrees
+      (λ x xs rest further same begins. row_again row room (inside scope space attributes) x xs [] [] rest false good.2
+      (one_deeper room (length (o ∷ os)) (length xs) deep same) further refl good.1 begins
+      (element_short [] scope space name attributes (row_of row (inside scope space attributes)) short).1)
 
-  -- the root
-  pub root_again : (root : Element) → IsGoodTree root → TextSpells (canonical root) root
-  root_again root good =
-      let first : List Binding = root_bindings root.space in
-      let scope : Scope = outermost root.space in
-      let within : Scope = inside scope root.space root.attributes in
-      let body : List ℕ = flat_map (λ n. node_of n within) root.children in
-      let starts : List ℕ = start_of first scope root.space root.name root.attributes in
-      let ending : List ℕ = end_of scope root.space root.name in
-      let begin = begins_with (is_soap root.space) in
-      let P : List ℕ → Type 0 = λ t. Goes nothing t (placed root (inner [] [])) [] in
-      let whole : P (starts ++ (body ++ (ending ++ []))) =
-      element_again false [] [] first scope root.space root.name root.attributes body root.children [] good.0 refl begin.agrees begin.which begin.good
-      (λ x xs rest further same tag. nodes_again root.children 63 within x xs [] [] rest false good.2 (one_deeper 63 0 (length xs) refl same) further refl good.1 tag) in (
-        placed root (inner [] []),
-        subst P (sym (append_assoc starts body ending ∙ ap (λ t. starts ++ (body ++ t)) (sym (append-nil ending)))) whole,
-        refl,
-      )
+  -- a row of nodes
+  row_again :
+      {m : _} (row : Row_of-Node m) (room : ℕ) (scope : Scope) (o : Open) (os : List Open) (kids : List Node) (before tail : List ℕ) (after : Bool) →
+      IsGoodRow row room → room + length (o ∷ os) ≡ 64 → Agrees [] scope (o ∷ os) → is_empty before ≡ not after →
+      are_apart after (items-the_row-Node m row) ≡ true → BeginsTag tail → length (row_of row scope) < 2 ^ 64 → Filled o os kids before (row_of row scope ++ tail) tail (items-the_row-Node m row)
+  row_again end_of-Node room scope o os kids before tail after good deep agrees waits apart tag short = none_filled o os kids before tail
+  row_again (more_of-Node n rest) room scope o os kids before tail after good deep agrees waits apart tag short =
+      let lengths = two_short (node_of n scope) (row_of rest scope) (2 ^ 64) short in
+      let parts = and_parts (not (after && is_text n)) (are_apart (is_text n) (items-the_row-Node _ rest)) apart in
+      let P : Bool → Type 0 = λ b. are_apart b (items-the_row-Node _ rest) ≡ true in
+      let first : Added o os kids before (node_of n scope ++ (row_of rest scope ++ tail)) (row_of rest scope ++ tail) n =
+      node_again n room scope o os kids before (row_of rest scope ++ tail) after good.0 deep agrees waits (not_both (after && is_text n) parts.0)
+      (λ is. row_begins rest scope tail (subst P is parts.1) tag) lengths.0 in
+      filled_on o os kids before (node_of n scope) (row_of rest scope) tail n (items-the_row-Node _ rest) first
+      (row_again rest room scope o os first.more first.waits tail (is_text n) good.1 deep agrees first.left parts.1 tag lengths.1)
+
+-- the same of the children of the root, which are known as a list
+nodes_begin : (ns : List Node) (scope : Scope) (tail : List ℕ) → are_apart true ns ≡ true → BeginsTag tail → BeginsTag (flat_map (λ n. node_of n scope) ns ++ tail)
+nodes_begin [] scope tail apart tag = tag
+nodes_begin (Chars text ∷ ns) scope tail apart tag = absurd (true≢false (sym apart))
+nodes_begin (Element' space name attributes shape row ∷ ns) scope tail apart tag =
+    (behind_first ((node_of (Element' space name attributes shape row) scope ++ flat_map (λ n. node_of n scope) ns) ++ tail), refl)
+
+nodes_again :
+    (ns : List Node) (room : ℕ) (scope : Scope) (o : Open) (os : List Open) (kids : List Node) (before tail : List ℕ) (after : Bool) →
+    AreGoodNodes ns room → room + length (o ∷ os) ≡ 64 → Agrees [] scope (o ∷ os) → is_empty before ≡ not after → are_apart after ns ≡ true → BeginsTag tail → length (flat_map (λ n. node_of n scope) ns) < 2 ^ 64 →
+    Filled o os kids before (flat_map (λ n. node_of n scope) ns ++ tail) tail ns
+nodes_again [] room scope o os kids before tail after good deep agrees waits apart tag short = none_filled o os kids before tail
+nodes_again (n ∷ ns) room scope o os kids before tail after good deep agrees waits apart tag short =
+    let others : List ℕ = flat_map (λ n. node_of n scope) ns in
+    let lengths = two_short (node_of n scope) others (2 ^ 64) short in
+    let parts = and_parts (not (after && is_text n)) (are_apart (is_text n) ns) apart in
+    let P : Bool → Type 0 = λ b. are_apart b ns ≡ true in
+    let first : Added o os kids before (node_of n scope ++ (others ++ tail)) (others ++ tail) n =
+    node_again n room scope o os kids before (others ++ tail) after good.0 deep agrees waits (not_both (after && is_text n) parts.0)
+    (λ is. nodes_begin ns scope tail (subst P is parts.1) tag) lengths.0 in
+    filled_on o os kids before (node_of n scope) others tail n ns first
+    (nodes_again ns room scope o os first.more first.waits tail (is_text n) good.1 deep agrees first.left parts.1 tag lengths.1)
+
+-- the root
+pub root_again : (root : Element) → IsGoodTree root → length (canonical root) < 2 ^ 64 → TextSpells (canonical root) root
+root_again root good short =
+    let first : List Binding = root_bindings root.space in
+    let scope : Scope = outermost root.space in
+    let within : Scope = inside scope root.space root.attributes in
+    let body : List ℕ = flat_map (λ n. node_of n within) root.children in
+    let starts : List ℕ = start_of first scope root.space root.name root.attributes in
+    let ending : List ℕ = end_of scope root.space root.name in
+    let lengths = element_short first scope root.space root.name root.attributes body short in
+    let begin = begins_with (is_soap root.space) in
+    let P : List ℕ → Type 0 = λ t. Goes nothing t (placed root (inner [] [])) [] in
+    let whole : P (starts ++ (body ++ (ending ++ []))) =
+    element_again false [] [] first scope root.space root.name root.attributes body root.children [] good.0 lengths.0 refl begin.agrees begin.which begin.good
+    (λ x xs rest further same tag. nodes_again root.children 63 within x xs [] [] rest false good.2 (one_deeper 63 0 (length xs) refl same) further refl good.1 tag lengths.1) in (
+      placed root (inner [] []),
+      subst P (sym (append_assoc starts body ending ∙ ap (λ t. starts ++ (body ++ t)) (sym (append-nil ending)))) whole,
+      refl,
+    )

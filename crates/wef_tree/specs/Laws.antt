@@ -1,5 +1,5 @@
 -- Laws of reading: a document has one root or one fault, and never both; what is written for a tree is read as this tree.
-use Rattle.std.specs.Prelude.{◌≡◌, ℕ, List}
+use Rattle.std.specs.Prelude.{◌≡◌, ℕ, ◌^◌, ◌<◌, List, length}
 use Rattle.std.specs.declared.result.Result.TheVariants.{Err}
 use Rattle.wef_base.specs.declared.tree.Charset.{Charset}
 use Rattle.wef_base.specs.declared.tree.Element.{Element}
@@ -34,10 +34,12 @@ GoesOnToTheFault =
     (text rest left : List ℕ) (kind : FaultKind) (b : Builder) (stops : Stops text kind rest) →
     Reaches text b left → (more : List Piece) × Leads b more left stops.there rest
 
--- What is written for a good tree is a document of this tree, in each charset.
+-- What is written for a good tree is a document of this tree, in each charset. The bound is that of any document in memory;
+-- it keeps the numbers of new prefixes apart.
 abbrev pub ReadsBack : Type 0
-ReadsBack = (charset : Charset) (root : Element) → IsGoodTree root → Spells charset (encoded charset (canonical root)) root
+ReadsBack =
+    (charset : Charset) (root : Element) → IsGoodTree root → length (encoded charset (canonical root)) < 2 ^ 64 → Spells charset (encoded charset (canonical root)) root
 
 -- Two good trees with one text are one.
 abbrev pub HasOneTree : Type 0
-HasOneTree = (one other : Element) → IsGoodTree one → IsGoodTree other → canonical one ≡ canonical other → one ≡ other
+HasOneTree = (one other : Element) → IsGoodTree one → IsGoodTree other → length (canonical one) < 2 ^ 64 → canonical one ≡ canonical other → one ≡ other
