@@ -1,13 +1,13 @@
 -- Characters that are written in bytes are read again.
-use Rattle.std.proofs.Common.{◌≡◌, ℕ, ◌+◌, ◌-◌, ◌/◌, ◌%◌, ◌<◌, ◌==◌, Bool, true, false, ◌&&◌, cond, ltb, nat_lt, List, [], ◌∷◌, ◌++◌, refl, ap, sym, ◌∙◌, arith, true≢false, encode_utf8_all}
+use Rattle.std.proofs.Common.{◌≡◌, ℕ, ◌+◌, ◌-◌, ◌/◌, ◌%◌, ◌<◌, ◌==◌, Bool, true, false, ◌&&◌, cond, ltb, nat_lt, List, [], ◌∷◌, ◌++◌, refl, ap, ◌∙◌, arith, true≢false, encode_utf8_all}
 use Rattle.std.specs.Prelude.{Some, None}
 use Rattle.std.specs.declared.result.Result.TheVariants.{Ok}
 use Rattle.std.specs.List.{flat_map}
-use Rattle.std.specs.Str.{all_scalars, chars}
+use Rattle.std.specs.Str.{all_scalars}
 use Rattle.std.proofs.lemmas.Bool.{and_parts, cond_both}
 use Rattle.std.proofs.lemmas.Bool.Decides.{nat_tests}
 use Rattle.std.proofs.lemmas.Nat.{div-add-mod'}
-use Rattle.std.proofs.lemmas.Str.{chars_from_encodes, is_utf8-from_IsUtf8}
+use Rattle.std.proofs.lemmas.Str.{chars-encodes, is_utf8-from_IsUtf8}
 use lib.Utf8.{scalar, encode, next}
 use Rattle.wef_base.specs.declared.tree.Charset.{Charset}
 use Rattle.wef_base.specs.declared.tree.Charset.TheVariants.{Utf8, Utf16}
@@ -18,14 +18,10 @@ use Rattle.wef_tree.specs.declared.utf16.ByteOrder.TheVariants.{LittleEndian}
 
 -- UTF-8
 
--- the characters that bytes were written for
-pub chars_again : (cs : List ℕ) → all_scalars cs ≡ true → chars (encode_utf8_all cs) ≡ cs
-chars_again cs h = sym (chars_from_encodes cs (encode_utf8_all cs) (cs, (h, refl)) refl)
-
 decoded8_again : (cs : List ℕ) → all_scalars cs ≡ true → decoded8 (encode_utf8_all cs) ≡ Ok cs
 decoded8_again cs h =
     let good = is_utf8-from_IsUtf8 (encode_utf8_all cs) (cs, (h, refl)) in
-    rw (good, chars_again cs h) refl
+    rw (good, chars-encodes cs h) refl
 
 written8 : (cs : List ℕ) → flat_map (character_bytes Utf8) cs ≡ encode_utf8_all cs
 written8 [] = refl

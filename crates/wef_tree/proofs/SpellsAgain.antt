@@ -1,6 +1,5 @@
 -- What is written for a good tree is a document of this tree.
 use Rattle.std.proofs.Common.{◌≡◌, ℕ, ◌+◌, ◌-◌, ◌/◌, ◌%◌, ◌^◌, ◌<◌, ◌≤◌, Bool, true, false, cond, nat_lt, List, [], ◌∷◌, ◌++◌, length, length-append, arith, refl, sym, subst}
-use Rattle.std.specs.Prelude.{Some}
 use Rattle.std.specs.List.{flat_map}
 use Rattle.std.proofs.lemmas.Str.{len_utf8_bounds, length-encode}
 use Rattle.std.specs.declared.result.Result.TheVariants.{Ok}
@@ -51,9 +50,11 @@ text_short Utf16 cs = omega (arith, characters_short Utf16 cs)
 written_again : (charset : Charset) (root : Element) → IsGoodTree root → length (canonical root) < 2 ^ 64 → Spells charset (encoded charset (canonical root)) root
 written_again charset root good short =
     let plain = canonical_plain root good in
-    let P : List ℕ → Type 0 = λ t. TextSpells t root in
-    (canonical root, decodes charset (canonical root) (behind_first (canonical root)) (begins root) plain,
-      subst P (sym (line_ends_kept (canonical root) (plain_has_no_cr (canonical root) plain))) (root_again root good short))
+    let P : List ℕ → Type 0 = λ t. TextSpells t root in (
+      canonical root,
+      decodes charset (canonical root) (behind_first (canonical root)) (begins root) plain,
+      subst P (sym (line_ends_kept (canonical root) (plain_has_no_cr (canonical root) plain))) (root_again root good short),
+    )
 
 pub spells_again : ReadsBack
 spells_again charset root good short = written_again charset root good (let fewer = text_short charset (canonical root) in omega arith)

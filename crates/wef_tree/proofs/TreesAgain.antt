@@ -1,13 +1,11 @@
 -- A tree that is written is read again.
 use Rattle.std.proofs.Common.{◌≡◌, ℕ, ◌^◌, ◌<◌, ◌≤◌, length-append, zero, suc, ◌+◌, ◌==◌, Bool, true, false, ◌&&◌, not, cond, List, [], ◌∷◌, ◌++◌, length, refl, ap, sym, ◌∙◌, subst, append_assoc, append-nil, arith, true≢false, ◌⊎◌, inl, inr}
-use Rattle.std.specs.Prelude.{Option, Some, None, nat_lt, encode_utf8_all}
-use Rattle.std.specs.List.{flat_map, list_all}
+use Rattle.std.specs.Prelude.{Option, Some, None, nat_lt}
+use Rattle.std.specs.List.{flat_map}
 use Rattle.std.specs.Option.{option_map, option_or}
 use Rattle.std.specs.Cmp.Lexicographic.{nat_list_eq_equiv, same_text}
 use Rattle.std.proofs.lemmas.Bool.{and_parts}
 use Rattle.std.proofs.lemmas.Bool.Decides.{nat_tests}
-use lib.Utf8.{encode}
-use Rattle.wef_base.specs.Characters.{is_xml_char}
 use Rattle.wef_base.specs.Names.{same}
 use Rattle.wef_base.specs.declared.tree.Attribute.{Attribute}
 use Rattle.wef_base.specs.declared.tree.Element.{Element}
@@ -15,11 +13,10 @@ use Rattle.wef_base.specs.declared.tree.Node.{Node, Chars, Element', Row_of-Node
 use Rattle.wef_base.specs.declared.tree.Node.TheVariants.{Element as Child, outs-Element', outs-Element}
 use Rattle.wef_tree.specs.Building.{element_of, ended, entered, has_room, nothing, placed, same_name, taken, with_child, with_text}
 use Rattle.wef_tree.specs.Canonical.{canonical, end_of, node_of, row_of, start_of, text_of}
-use Rattle.wef_tree.specs.Good.{AreGoodNodes, IsGoodHead, IsGoodNode, IsGoodRow, IsGoodText, IsGoodTree, IsXmlText, are_apart, is_text}
-use Rattle.wef_tree.specs.Names.{is_name_start}
+use Rattle.wef_tree.specs.Good.{AreGoodNodes, IsGoodHead, IsGoodNode, IsGoodRow, IsGoodText, IsGoodTree, are_apart, is_text}
 use Rattle.wef_tree.specs.Pieces.{piece_at}
 use Rattle.wef_tree.specs.Prefixes.{Scope, bound_by, inside, is_soap, nine, outermost, prefix_of, root_bindings, soap_space, unless_bound}
-use Rattle.wef_tree.specs.Scopes.{declared_outside, is_empty, is_xml, is_xml_space, is_xmlns, xml_space}
+use Rattle.wef_tree.specs.Scopes.{declared_outside, is_empty}
 use Rattle.wef_tree.specs.Spelling.{Leads, TextSpells}
 use Rattle.wef_tree.specs.declared.bindings.Binding.{Binding}
 use Rattle.wef_tree.specs.declared.building.Builder.{Builder}
@@ -27,9 +24,11 @@ use Rattle.wef_tree.specs.declared.names.Name.{Name}
 use Rattle.wef_tree.specs.declared.pieces.Piece.{Piece}
 use Rattle.wef_tree.specs.declared.pieces.Piece.TheVariants.{Start, End}
 use Rattle.wef_tree.specs.declared.stack.Open.{Open}
+use Rattle.wef_tree.proofs.GoodPieces.{no_text}
+use Rattle.wef_tree.proofs.GoodPrefixes.{bound_by_good, nine_are_good}
 use Rattle.wef_tree.proofs.Inversions.{none_some, some_is, unless_some}
 use Rattle.wef_tree.proofs.OpensAgain.{opened_again}
-use Rattle.wef_tree.proofs.Spelled.{Agrees, AreGoodBindings, IsGoodBinding, Opens, bound_at, spelled, spelled_name}
+use Rattle.wef_tree.proofs.Spelled.{Agrees, AreGoodBindings, Opens, bound_at, spelled, spelled_name}
 use Rattle.wef_tree.proofs.StartLengths.{start_long}
 use Rattle.wef_tree.proofs.StartsAgain.{end_again, start_again}
 use Rattle.wef_tree.proofs.TextsAgain.{text_again}
@@ -200,7 +199,7 @@ start_taken b first scope space name attributes opens = ap (option_map (entered 
 -- around the root
 
 -- what holds of each namespace and its prefix
-abbrev pub AllHave : (List ℕ → List ℕ → Type 0) → List Binding → Type 0
+abbrev AllHave : (List ℕ → List ℕ → Type 0) → List Binding → Type 0
 AllHave P [] = Unit {0}
 AllHave P (b ∷ bs) = P b.space b.prefix × AllHave P bs
 
@@ -209,7 +208,7 @@ unless_is prefix None found e = e
 unless_is prefix (Some other) found e = (unless_some (same prefix other) (Some other) found e).1
 
 -- it holds of a prefix that is looked up
-pub prefix_has : (P : List ℕ → List ℕ → Type 0) (bs : List Binding) (space prefix : List ℕ) → AllHave P bs → prefix_of bs space ≡ Some prefix → P space prefix
+prefix_has : (P : List ℕ → List ℕ → Type 0) (bs : List Binding) (space prefix : List ℕ) → AllHave P bs → prefix_of bs space ≡ Some prefix → P space prefix
 prefix_has P [] space prefix all e = absurd (none_some prefix e)
 prefix_has P (b ∷ bs) space prefix all e = by (same b.space space) refl (prefix_has P bs space prefix all.1) e
   where
@@ -232,79 +231,28 @@ nine_found : AllHave (λ space prefix. prefix_of (bound_by [] nine) space ≡ So
 unfolding nine soap_space
 nine_found = (refl, (refl, (refl, (refl, (refl, (refl, (refl, (refl, (refl, tt)))))))))
 
--- a binding of a prefix of one letter, by what computes of it
-one_letter :
-    (c : ℕ) (space : List ℕ) → (c ∷ []) ≡ encode_utf8_all (c ∷ []) → is_name_start c ≡ true → space ≡ encode_utf8_all space → list_all is_xml_char space ≡ true →
-    is_empty space ≡ false → is_xml_space space ≡ false → is_xml (c ∷ []) ≡ false → is_xmlns (c ∷ []) ≡ false →
-    IsGoodBinding (record { prefix = c ∷ []; space = space })
-one_letter c space letter begins spelt allowed some no_xml_space no_xml no_xmlns = record {
-  prefix = record { first = c; more = []; spelt = letter; begins = begins; goes_on = refl };
-  space = record { characters = space; spelt = spelt; allowed = allowed };
-  some = some;
-  no_xml_space = no_xml_space;
-  no_xml = no_xml;
-  no_xmlns = no_xmlns;
-}
-
--- the nine may be declared
-pub nine_good : AreGoodBindings nine
-unfolding nine soap_space encode xml_space is_xml_space is_xml is_xmlns
-nine_good = (
-  one_letter _ _ refl refl refl refl refl refl refl refl,
-  (
-    one_letter _ _ refl refl refl refl refl refl refl refl,
-    (
-      one_letter _ _ refl refl refl refl refl refl refl refl,
-      (
-        one_letter _ _ refl refl refl refl refl refl refl refl,
-        (
-          one_letter _ _ refl refl refl refl refl refl refl refl,
-          (
-            one_letter _ _ refl refl refl refl refl refl refl refl,
-            (
-              one_letter _ _ refl refl refl refl refl refl refl refl,
-              (
-                one_letter _ _ refl refl refl refl refl refl refl refl,
-                (one_letter _ _ refl refl refl refl refl refl refl refl, tt),
-              ),
-            ),
-          ),
-        ),
-      ),
-    ),
-  ),
-)
-
--- bindings behind others
-good_bound_by : (bound bs : List Binding) → AreGoodBindings bound → AreGoodBindings bs → AreGoodBindings (bound_by bound bs)
-good_bound_by bound [] good more = good
-good_bound_by bound (b ∷ bs) good more = good_bound_by (b ∷ bound) bs (more.0, good) more.1
-
 -- what is in force around a root, by whether it is of the SOAP namespace
 record Begins (soap : Bool) : Type 0 where
   agrees : Agrees (cond soap nine []) (record { default = []; soap = soap; bound = bound_by [] (cond soap nine []) }) []
   which : (cond soap nine [] ≡ []) ⊎ ((cond soap nine [] ≡ nine) × (◌≡◌ {A = List Open} [] []) × (soap ≡ true))
   good : AreGoodBindings (cond soap nine [])
 
-no_characters : IsXmlText []
-no_characters = record { characters = []; spelt = refl; allowed = refl }
-
 begins_with : (soap : Bool) → Begins soap
 begins_with true = record {
   agrees = record {
     default = refl;
-    default_is = no_characters;
-    bindings = good_bound_by [] nine tt nine_good;
+    default_is = no_text;
+    bindings = bound_by_good [] nine tt nine_are_good;
     bound = λ space prefix e. prefix_has (λ s p. option_or (bound_at nine p) None ≡ Some s) (bound_by [] nine) space prefix nine_stand e;
     nine_bound = λ soap space prefix e. prefix_has (λ s p. prefix_of (bound_by [] nine) s ≡ Some p) nine space prefix nine_found e;
   };
   which = inr (refl, refl, refl);
-  good = nine_good;
+  good = nine_are_good;
 }
 begins_with false = record {
   agrees = record {
     default = refl;
-    default_is = no_characters;
+    default_is = no_text;
     bindings = tt;
     bound = λ space prefix e. absurd (none_some prefix e);
     nine_bound = λ soap. absurd (true≢false (sym soap));
