@@ -47,6 +47,7 @@ text_short : (charset : Charset) (cs : List ℕ) → length cs ≤ length (encod
 text_short Utf8 cs = omega (arith, characters_short Utf8 cs)
 text_short Utf16 cs = omega (arith, characters_short Utf16 cs)
 
+-- the same as the law, with the bound on the characters
 written_again : (charset : Charset) (root : Element) → IsGoodTree root → length (canonical root) < 2 ^ 64 → Spells charset (encoded charset (canonical root)) root
 written_again charset root good short =
     let plain = canonical_plain root good in
