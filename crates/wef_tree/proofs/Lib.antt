@@ -1,6 +1,7 @@
 pub mod BoundPrefixes
 pub mod DeclaredAgain
 pub mod Digits
+pub mod EncodedAgain
 pub mod Expanded
 pub mod GoodNodes
 pub mod GoodOpens
@@ -12,12 +13,15 @@ pub mod Maps
 pub mod NewBindings
 pub mod NewPrefixes
 pub mod OpensAgain
+pub mod PlainTexts
 pub mod Readings
 pub mod Shorter
 pub mod Spelled
+pub mod SpellsAgain
 pub mod Stacks
 pub mod StartsAgain
 pub mod TextsAgain
+pub mod TreesAgain
 pub mod Turns
 pub mod Utf8
 pub mod Walks

@@ -1,9 +1,12 @@
--- Laws of reading: a document has one root or one fault, and never both.
+-- Laws of reading and writing: a document has one root or one fault, and never both; what is written for a tree is read
+-- as this tree.
 use Rattle.std.specs.Prelude.{◌≡◌, ℕ, ◌≤◌, List, length}
 use Rattle.std.specs.declared.result.Result.TheVariants.{Err}
 use Rattle.wef_base.specs.declared.tree.Charset.{Charset}
 use Rattle.wef_base.specs.declared.tree.Element.{Element}
+use Rattle.wef_tree.specs.Canonical.{canonical, encoded}
 use Rattle.wef_tree.specs.Decoding.{decoded}
+use Rattle.wef_tree.specs.Good.{IsGoodTree}
 use Rattle.wef_tree.specs.Spelling.{Leads, Reaches, Spells, Stops, StopsAt}
 use Rattle.wef_tree.specs.declared.building.Builder.{Builder}
 use Rattle.wef_tree.specs.declared.faults.FaultKind.{FaultKind}
@@ -35,3 +38,11 @@ GoesOnToTheFault =
 -- No list of good pieces that begins the text is longer than the one that leads to the fault.
 abbrev pub IsLongest : Type 0
 IsLongest = (text rest left : List ℕ) (kind : FaultKind) (b : Builder) → Stops text kind rest → Reaches text b left → length rest ≤ length left
+
+-- What is written for a good tree is a document of this tree, in each charset.
+abbrev pub ReadsBack : Type 0
+ReadsBack = (charset : Charset) (root : Element) → IsGoodTree root → Spells charset (encoded charset (canonical root)) root
+
+-- Two good trees with one text are one.
+abbrev pub HasOneTree : Type 0
+HasOneTree = (one other : Element) → IsGoodTree one → IsGoodTree other → canonical one ≡ canonical other → one ≡ other

@@ -1,6 +1,6 @@
-//! Laws of reading, each the contract of a function that does nothing.
+//! Laws of reading and writing, each the contract of a function that does nothing.
 
-ghost use Rattle.wef_tree.specs.Laws.{GoesOnToTheFault, HasNoFault, HasOneFault, HasOneRoot, IsDecoded, IsLongest};
+ghost use Rattle.wef_tree.specs.Laws.{GoesOnToTheFault, HasNoFault, HasOneFault, HasOneRoot, HasOneTree, IsDecoded, IsLongest, ReadsBack};
 
 /// What bytes spell is one root, or they have one fault: never two of these.
 pub fn reading_is_one()
@@ -15,4 +15,11 @@ pub fn reading_is_one()
 pub fn faults_are_at_the_longest()
     ensures goes_on { GoesOnToTheFault }
     ensures longest { IsLongest }
+{}
+
+/// What is written for a good tree is read as this tree, in both charsets. So a tree has one text,
+/// and a text is that of one tree.
+pub fn written_is_read_again()
+    ensures reads_back { ReadsBack }
+    ensures one_tree { HasOneTree }
 {}
