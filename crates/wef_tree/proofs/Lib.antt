@@ -1,3 +1,4 @@
+pub mod Bound
 pub mod Expanded
 pub mod GoodNodes
 pub mod GoodOpens
@@ -12,3 +13,4 @@ pub mod Stacks
 pub mod Turns
 pub mod Utf8
 pub mod Walks
+pub mod Written

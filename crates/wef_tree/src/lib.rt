@@ -7,6 +7,8 @@ mod building;
 mod decoding;
 #[cfg(test)]
 mod decoding_tests;
+mod encoding;
+mod escaping;
 mod faults;
 mod fronts;
 mod headings;
