@@ -1,7 +1,8 @@
 -- Bindings that are made and left again.
 use Rattle.std.proofs.Common.{◌≡◌, ℕ, zero, suc, ◌+◌, ◌-◌, ◌<◌, List, [], ◌∷◌, ◌++◌, ◌∙◌, length, drop, refl, sym, ap, arith, append_assoc}
-use Rattle.std.specs.Prelude.{Option, Some, None, MatchOption, reverse}
-use Rattle.wef_tree.specs.Prefixes.{bound_by}
+use Rattle.std.specs.Prelude.{Option, Some, None, MatchOption, if◌then◌else◌}
+use Rattle.wef_base.specs.Names.{same}
+use Rattle.wef_tree.specs.Prefixes.{bound_by, prefix_of, unless_bound}
 use Rattle.wef_tree.specs.declared.bindings.Binding.{Binding}
 
 -- one more than a number of bindings are taken out, where one is taken out first
@@ -27,3 +28,18 @@ left_again bound (b ∷ bs) = by (length bs) bound (b ∷ bound) (bound_by (b �
     by zero outer inner (x ∷ xs) e = cc
     by (suc n) outer inner [] e = cc
     by (suc n) outer inner (x ∷ xs) e = by n outer inner xs e
+
+-- the prefix of a namespace in bindings around which it has a prefix or none
+abbrev pub prefix_around : Option (List ℕ) → List Binding → List ℕ → Option (List ℕ)
+prefix_around outside [] space = outside
+prefix_around outside (b ∷ bs) space = if same b.space space then Some b.prefix else unless_bound b.prefix (prefix_around outside bs space)
+
+pub around_none : (bs : List Binding) (space : List ℕ) → prefix_around None bs space ≡ prefix_of bs space
+around_none [] space = refl
+around_none (b ∷ bs) space = ap (λ o. if same b.space space then Some b.prefix else unless_bound b.prefix o) (around_none bs space)
+
+pub around_last :
+    (outside : Option (List ℕ)) (bs : List Binding) (b : Binding) (space : List ℕ) →
+    prefix_around outside (bs ++ b ∷ []) space ≡ prefix_around (if same b.space space then Some b.prefix else unless_bound b.prefix outside) bs space
+around_last outside [] b space = refl
+around_last outside (c ∷ cs) b space = ap (λ o. if same c.space space then Some c.prefix else unless_bound c.prefix o) (around_last outside cs b space)

@@ -6,6 +6,7 @@ pub mod GoodPieces
 pub mod GoodTrees
 pub mod Inversions
 pub mod Maps
+pub mod Numbering
 pub mod Readings
 pub mod Shorter
 pub mod Spelled
@@ -14,3 +15,4 @@ pub mod Turns
 pub mod Utf8
 pub mod Walks
 pub mod Written
+pub mod WrittenNodes

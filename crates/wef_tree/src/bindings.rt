@@ -3,7 +3,7 @@
 ghost use Rattle.std.specs.Prelude.{◌≡◌, [], ◌∷◌, length, drop, Some, MatchOption, IfOk, OnOk, if◌then◌else◌};
 ghost use Rattle.std.specs.Option.{option_copied};
 ghost use Rattle.wef_base.specs.Names.{same};
-ghost use Rattle.wef_tree.specs.Prefixes.{bound_by, unless_bound};
+ghost use Rattle.wef_tree.specs.Prefixes.{bound_by, prefix_of, unless_bound};
 
 use std::alloc::{AllocError, Global};
 use std::marker::Model;
@@ -49,8 +49,6 @@ impl Model for Bindings {
 }
 
 impl Bindings {
-    ghost use Rattle.wef_tree.specs.Prefixes.{prefix_of};
-
     /// No binding. It takes no memory.
     pub fn new(alloc: Global) -> Bindings
         ensures { result ≡ [] }
@@ -120,4 +118,17 @@ pub fn prefix_inside<'a>(
         Some(prefix) if binding.prefix == *prefix => None,
         other => other,
     }
+}
+
+/// The prefix of a namespace in bindings of which the first is the innermost.
+pub fn prefix_in<'a>(bindings: &'a [Binding], space: &Namespace) -> Option<&'a Text>
+    ensures { option_copied result ≡ prefix_of bindings.now space.now }
+{
+    let mut prefix = None;
+    let mut rest = bindings;
+    while let Some((outermost, inner)) = rest.split_last() {
+        prefix = prefix_inside(outermost, prefix, space);
+        rest = inner;
+    }
+    prefix
 }

@@ -1,4 +1,4 @@
-//! XML trees: reading documents exactly.
+//! XML trees: reading documents exactly, and writing each tree in one way.
 #![tactic(auto)]
 
 mod attributes;
@@ -15,19 +15,24 @@ mod headings;
 pub mod laws;
 mod letters;
 mod line_ends;
+mod markup;
 mod names;
 mod pieces;
 mod places;
+mod prefixes;
 mod reading;
 mod references;
 mod scopes;
 mod sections;
+mod soap;
 mod spaces;
 mod stack;
 mod tags;
 mod utf16;
 mod values;
+mod writing;
 
 pub use faults::TreeFault;
 pub use reading::read_tree;
+pub use writing::write_tree;
 pub use wef_base::{Attribute, Charset, Element, Namespace, Node};
