@@ -29,7 +29,7 @@ good_child (Chars text) e room same good =
 good_child (Element' space name attributes shape row) e room same good =
     let opened = sym (outs-Element' space name attributes shape row) ∙ ap out-Node same ∙ outs-Element e in
     closed space name attributes shape row _ room (items_shown-the_row-Node-0 shape row)
-        (let P : Element → Type 0 = λ x. IsGoodElement x room in subst P (ap (λ x. elim x [ Node-F.Element z ↦ z | Node-F.Chars t ↦ e ]) (sym opened)) good)
+    (let P : Element → Type 0 = λ x. IsGoodElement x room in subst P (ap (λ x. elim x [ Node-F.Element z ↦ z | Node-F.Chars t ↦ e ]) (sym opened)) good)
 
 -- an element is no text
 pub is_no_text : (e : Element) → is_text (Child e) ≡ false

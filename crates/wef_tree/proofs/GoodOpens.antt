@@ -170,9 +170,11 @@ good_attribute_space own os room name space good around = by (is_empty name.pref
     absent : (x : Bool) → is_some (cond {A = Option (List ℕ)} x (Some []) None) ≡ false → x ≡ false
     absent true e = e
     absent false e = refl
+
     shut : (x y : Bool) → not x ≡ true → (x && y) ≡ false
     shut true y e = absurd (cc)
     shut false y e = refl
+
     by :
         (b x : Bool) → (in_scope own os name.prefix ≡ Some space → IsXmlText space × ((b || not (is_empty space)) ≡ true)) →
         is_some (cond b (cond x (Some []) None) (cond (is_xmlns name.prefix) (Some name.local) None)) ≡ false →
@@ -208,9 +210,10 @@ good_one own os room before more g spaces around is good = by (is_some (declares
         let found = unless_some (list_any (is_attribute space g.name.local) before) (Some (before ++ record { space = space; name = g.name.local; value = g.value } ∷ [])) more e in
         let attribute : Attribute = record { space = space; name = g.name.local; value = g.value } in
         subst AreGood (some_is (before ++ attribute ∷ []) more found.1) (record {
-            good = good_more_attributes before attribute good.good (record { name = is.named.local; space = here.0; value = is.value; no_declaration = here.1 });
-            differ = differ_more [] before attribute good.differ found.0;
-          })
+          good = good_more_attributes before attribute good.good (record { name = is.named.local; space = here.0; value = is.value; no_declaration = here.1 });
+          differ = differ_more [] before attribute good.differ found.0;
+        })
+
     by : (b : Bool) → is_some (declares g.name) ≡ b → cond b (Some before) (option_and_then (with_attribute before g) (attribute_space own os g.name.prefix)) ≡ Some more → AreGood more
     by true none e = subst AreGood (some_is before more e) good
     by false none e =
@@ -251,15 +254,15 @@ pub record AreGoodChildren (ns : List Node) (room : ℕ) : Type 0 where
 
 pub with_good_text : (ns : List Node) (text : List ℕ) (room : ℕ) → AreGoodChildren ns room → ends_with_text false ns ≡ false → IsGoodText text → AreGoodChildren (ns ++ Chars text ∷ []) room
 with_good_text ns text room good fresh is = record {
-    apart = apart_more false ns (Chars text) good.apart (ap (λ b. b && true) fresh);
-    good = good_more ns (Chars text) room good.good is;
-  }
+  apart = apart_more false ns (Chars text) good.apart (ap (λ b. b && true) fresh);
+  good = good_more ns (Chars text) room good.good is;
+}
 
 pub with_good_child : (ns : List Node) (e : Element) (room : ℕ) → AreGoodChildren ns room → IsGoodElement e room → AreGoodChildren (ns ++ Child e ∷ []) room
 with_good_child ns e room good is = record {
-    apart = apart_more false ns (Child e) good.apart (ap (λ b. ends_with_text false ns && b) (is_no_text e) ∙ never (ends_with_text false ns));
-    good = good_more ns (Child e) room good.good (good_child (Child e) e room refl is);
-  }
+  apart = apart_more false ns (Child e) good.apart (ap (λ b. ends_with_text false ns && b) (is_no_text e) ∙ never (ends_with_text false ns));
+  good = good_more ns (Child e) room good.good (good_child (Child e) e room refl is);
+}
   where
     never : (x : Bool) → (x && false) ≡ false
     never true = refl

@@ -29,10 +29,10 @@ and_true false c e f = e
 -- a character before characters
 pub text_behind : (c : ℕ) (text : List ℕ) → is_xml_char c ≡ true → IsXmlText text → IsXmlText (encode_utf8 c ++ text)
 text_behind c text is good = record {
-    characters = c ∷ good.characters;
-    spelt = ap (λ t. encode_utf8 c ++ t) good.spelt;
-    allowed = and_true _ _ is good.allowed;
-  }
+  characters = c ∷ good.characters;
+  spelt = ap (λ t. encode_utf8 c ++ t) good.spelt;
+  allowed = and_true _ _ is good.allowed;
+}
 
 -- names
 
@@ -55,7 +55,12 @@ plain_name (c ∷ cs) read e =
     let whole = with_front (encode_utf8 c) (name_tail cs) in
     let found = if_some (is_name_start c) (Some whole) read e in
     let good : IsLocalName whole.0 = record {
-        first = c; more = (tail cs).more; spelt = ap (λ t. encode_utf8 c ++ t) (tail cs).spelt; begins = found.0; goes_on = (tail cs).goes_on } in
+      first = c;
+      more = (tail cs).more;
+      spelt = ap (λ t. encode_utf8 c ++ t) (tail cs).spelt;
+      begins = found.0;
+      goes_on = (tail cs).goes_on;
+    } in
     let P : List ℕ × List ℕ → Type 0 = λ r. IsLocalName r.0 in
     subst P (some_is whole read found.1) good
 
@@ -77,7 +82,7 @@ after : (first text : List ℕ) (read : Name × List ℕ) → IsLocalName first 
 after first [] read good e = subst HasGoodName (some_is (unprefixed first []) read e) (record { local = good; prefix = inl refl })
 after first (c ∷ cs) read good e = ⊎_elim
     (λ h. let found = map_some (prefixed first) (plain_name_at cs) read h.1 in
-        subst HasGoodName found.2 (record { local = plain_name cs found.0 found.1; prefix = inr good }))
+    subst HasGoodName found.2 (record { local = plain_name cs found.0 found.1; prefix = inr good }))
     (λ h. subst HasGoodName (some_is (unprefixed first (c ∷ cs)) read h.1) (record { local = good; prefix = inl refl }))
     (cond_is (c == 58) (option_map (prefixed first) (plain_name_at cs)) (Some (unprefixed first (c ∷ cs))) (Some read) e)
 
@@ -269,8 +274,8 @@ section_is (c ∷ cs) read e =
     ⊎_elim
     (λ h. subst HasXmlText (some_is ([], h.0) read h.2) no_text)
     (λ h. let found = if_some (is_xml_char c) goes_on read h.1 in
-        let more = map_some (with_front (encode_utf8 c)) (section_tail cs) read found.1 in
-        subst HasXmlText more.2 (text_behind c more.0.0 found.0 (section_is cs more.0 more.1)))
+    let more = map_some (with_front (encode_utf8 c)) (section_tail cs) read found.1 in
+    subst HasXmlText more.2 (text_behind c more.0.0 found.0 (section_is cs more.0 more.1)))
     (behind_some (strip (codes "]]>") (c ∷ cs)) (λ (rest : List ℕ). Some ([], rest)) other read e)
 
 -- pieces
@@ -319,13 +324,13 @@ closed_is tag read good =
 markup_is : (text : List ℕ) (read : Piece × List ℕ) → markup_at text ≡ Some read → HasGoodPiece read
 markup_is text read =
     either_piece (codes "!--") text (λ rest. option_map (piece_before Comment) (comment_tail false rest)) _ read
-        (λ rest e. subst HasGoodPiece (map_some (piece_before Comment) (comment_tail false rest) read e).2 tt)
+    (λ rest e. subst HasGoodPiece (map_some (piece_before Comment) (comment_tail false rest) read e).2 tt)
     (either_piece (codes "![CDATA[") text (λ rest. option_map section_piece (section_tail rest)) _ read
-        (λ rest e. let found = map_some section_piece (section_tail rest) read e in subst HasGoodPiece found.2 (section_is rest found.0 found.1))
+    (λ rest e. let found = map_some section_piece (section_tail rest) read e in subst HasGoodPiece found.2 (section_is rest found.0 found.1))
     (either_piece (codes "/") text (λ rest. option_map end_piece (end_tag_at rest)) _ read
-        (λ rest e. subst HasGoodPiece (map_some end_piece (end_tag_at rest) read e).2 tt)
+    (λ rest e. subst HasGoodPiece (map_some end_piece (end_tag_at rest) read e).2 tt)
     (either_piece (codes "?xml") text (λ rest. option_map (piece_before Declaration) (declaration_tail rest)) _ read
-        (λ rest e. subst HasGoodPiece (map_some (piece_before Declaration) (declaration_tail rest) read e).2 tt)
+    (λ rest e. subst HasGoodPiece (map_some (piece_before Declaration) (declaration_tail rest) read e).2 tt)
     (λ e. let tag = and_then_some closed_tag (tag_at text) read e in closed_is tag.0 read (tag_is text tag.0 tag.1) tag.2))))
 
 front_true : (b c : Bool) → (b && c) ≡ true → b ≡ true

@@ -48,24 +48,28 @@ begins_good = record { room = 64; deep = refl; opens = tt; fresh = tt; pending =
 
 text_join : (one more : List ℕ) → IsXmlText one → IsXmlText more → IsXmlText (one ++ more)
 text_join one more first second = record {
-    characters = first.characters ++ second.characters;
-    spelt = (λ i. first.spelt i ++ second.spelt i) ∙ sym (encodes_append first.characters second.characters);
-    allowed = all_append first.characters second.characters first.allowed second.allowed;
-  }
+  characters = first.characters ++ second.characters;
+  spelt = (λ i. first.spelt i ++ second.spelt i) ∙ sym (encodes_append first.characters second.characters);
+  allowed = all_append first.characters second.characters first.allowed second.allowed;
+}
   where
     encodes_append : (cs ds : List ℕ) → encode_utf8_all (cs ++ ds) ≡ encode_utf8_all cs ++ encode_utf8_all ds
     encodes_append [] ds = refl
     encodes_append (c ∷ cs) ds = ap (λ t. encode_utf8 c ++ t) (encodes_append cs ds) ∙ sym (append_assoc (encode_utf8 c) (encode_utf8_all cs) (encode_utf8_all ds))
+
     both : (b c : Bool) → b ≡ true → c ≡ true → (b && c) ≡ true
     both true c e f = f
     both false c e f = e
+
     front : (b c : Bool) → (b && c) ≡ true → b ≡ true
     front true c e = refl
     front false c e = e
+
     last : (b c : Bool) → (b && c) ≡ true → c ≡ true
     last true c e = e
     last false true e = refl
     last false false e = e
+
     all_append : (cs ds : List ℕ) → list_all is_xml_char cs ≡ true → list_all is_xml_char ds ≡ true → list_all is_xml_char (cs ++ ds) ≡ true
     all_append [] ds e f = f
     all_append (c ∷ cs) ds e f = both _ _ (front _ _ e) (all_append cs ds (last _ _ e) f)
@@ -73,10 +77,18 @@ text_join one more first second = record {
 -- one more child of the innermost element
 child_good : (n : Node) (o : Open) (os : List Open) (room : ℕ) → AreGoodOpens (o ∷ os) room → AreGoodChildren (o.children ++ n ∷ []) room → AreGoodOpens (with_child n (o ∷ os)) room
 child_good n o os room good children =
-    let is = good.0 in
-    (record {
-        named = is.named; in_space = is.in_space; attributed = is.attributed; different = is.different; spaces = is.spaces;
-        apart = children.apart; children = children.good }, good.1)
+    let is = good.0 in (
+      record {
+        named = is.named;
+        in_space = is.in_space;
+        attributed = is.attributed;
+        different = is.different;
+        spaces = is.spaces;
+        apart = children.apart;
+        children = children.good;
+      },
+      good.1,
+    )
 
 children_of : (o : Open) (room : ℕ) → IsGoodOpen o room → AreGoodChildren o.children room
 children_of o room good = record { apart = good.apart; good = good.children }
@@ -89,6 +101,7 @@ text_good text os room good fresh is = by (is_empty text) refl
     some [] good fresh e = tt
     some (o ∷ os) good fresh e =
         child_good (Chars text) o os room good (with_good_text o.children text room (children_of o room good.0) fresh (record { allowed = is; some = e }))
+
     by : (b : Bool) → is_empty text ≡ b → AreGoodOpens (cond b os (with_child (Chars text) os)) room
     by true e = good
     by false e = some os good fresh e
@@ -99,6 +112,7 @@ text_length text os = by (is_empty text)
     child : (os : List Open) → length (with_child (Chars text) os) ≡ length os
     child [] = refl
     child (o ∷ os) = refl
+
     by : (b : Bool) → length (cond b os (with_child (Chars text) os)) ≡ length os
     by true = refl
     by false = child os
@@ -120,13 +134,13 @@ placed_good e b (o ∷ os) room deep good pending root element =
     let outside : Builder = record b { around = o ∷ os; root = Some e } in
     let some : (length (o ∷ os) == 0) ≡ false = grind (arith, nat_tests) in
     let is : IsGoodBuilder inside = record {
-        room = room;
-        deep = deep;
-        opens = child_good (Child e) o os room good (with_good_child o.children e room (children_of o room good.0) element);
-        fresh = ends_with_child o.children e;
-        pending = pending;
-        root = root;
-      } in
+      room = room;
+      deep = deep;
+      opens = child_good (Child e) o os room good (with_good_child o.children e room (children_of o room good.0) element);
+      fresh = ends_with_child o.children e;
+      pending = pending;
+      root = root;
+    } in
     let P : Bool → Type 0 = λ b. IsGoodBuilder (cond b outside inside) in
     subst P (sym some) is
 
@@ -150,11 +164,18 @@ opened_good b tag o room is good e =
     let in_space = (good_in_scope own.0 b.around room tag.name.prefix space.0 spaces good space.1).0 in
     let P : Open → Type 0 = λ x. IsOpened b.around x in
     subst P attributes.2 (record {
-        good = λ inner. record {
-          named = is.named; in_space = in_space; attributed = differ.good; different = differ.differ; spaces = spaces; apart = refl; children = tt };
-        childless = refl;
-        fits = front_true _ _ found.0;
-      })
+      good = λ inner. record {
+        named = is.named;
+        in_space = in_space;
+        attributed = differ.good;
+        different = differ.differ;
+        spaces = spaces;
+        apart = refl;
+        children = tt;
+      };
+      childless = refl;
+      fits = front_true _ _ found.0;
+    })
   where
     front_true : (b c : Bool) → (b && c) ≡ true → b ≡ true
     front_true true c e = refl
@@ -168,7 +189,7 @@ more_good b c more good is e =
     let next : Builder = record b { begun = true; text = b.text ++ more } in
     let found = unless_some (is_outside b) (Some next) c e in
     subst IsGoodBuilder (some_is next c found.1)
-        (record { room = good.room; deep = good.deep; opens = good.opens; fresh = good.fresh; pending = text_join b.text more good.pending is; root = good.root })
+    (record { room = good.room; deep = good.deep; opens = good.opens; fresh = good.fresh; pending = text_join b.text more good.pending is; root = good.root })
 
 one_character : (c : ℕ) → is_xml_char c ≡ true → IsXmlText (encode_utf8 c)
 one_character c is = subst IsXmlText (append-nil (encode_utf8 c)) (text_behind c [] is no_text)
@@ -187,9 +208,9 @@ record IsFlat (b : Builder) (room : ℕ) : Type 0 where
 
 flat : (b : Builder) (good : IsGoodBuilder b) → IsFlat b good.room
 flat b good = record {
-    deep = (let e = text_length b.text b.around in let d = good.deep in omega arith);
-    opens = text_good b.text b.around good.room good.opens good.fresh good.pending;
-  }
+  deep = (let e = text_length b.text b.around in let d = good.deep in omega arith);
+  opens = text_good b.text b.around good.room good.opens good.fresh good.pending;
+}
 
 entered_good : (b : Builder) (o : Open) → IsGoodBuilder b → IsOpened b.around o → IsGoodBuilder (entered b o)
 entered_good b o good opens = by good.room (flat b good) good.deep
@@ -197,13 +218,13 @@ entered_good b o good opens = by good.room (flat b good) good.deep
     by : (room : ℕ) → IsFlat b room → room + length b.around ≡ 64 → IsGoodBuilder (entered b o)
     by zero is deep = let fits = opens.fits in absurd (grind (arith, nat_tests))
     by (suc room) is deep = record {
-        room = room;
-        deep = (let d = is.deep in omega arith);
-        opens = (opens.good room, is.opens);
-        fresh = ap (ends_with_text false) opens.childless;
-        pending = no_text;
-        root = good.root;
-      }
+      room = room;
+      deep = (let d = is.deep in omega arith);
+      opens = (opens.good room, is.opens);
+      fresh = ap (ends_with_text false) opens.childless;
+      pending = no_text;
+      root = good.root;
+    }
 
 passed_good : (b : Builder) (o : Open) → IsGoodBuilder b → IsOpened b.around o → IsGoodBuilder (passed b o)
 passed_good b o good opens = by good.room (flat b good) good.deep
@@ -221,7 +242,7 @@ end_good name b (o ∷ os) c room deep good pending root e =
     let next = placed (element_of o) (record b { around = os }) in
     let found = if_some (same_name name o.name) (Some next) c e in
     subst IsGoodBuilder (some_is next c found.1)
-        (placed_good (element_of o) b os (suc room) (omega arith) good.1 pending root (element_good o room good.0))
+    (placed_good (element_of o) b os (suc room) (omega arith) good.1 pending root (element_good o room good.0))
 
 taken_good : (b c : Builder) (p : Piece) → IsGoodBuilder b → IsGoodPiece p → taken b p ≡ Some c → IsGoodBuilder c
 unfolding taken

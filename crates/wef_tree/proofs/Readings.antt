@@ -29,8 +29,10 @@ same_step b text p q behind beyond t u e f g h = same (some_pair _ _ _ _ (sym e 
   where
     some_pair : (p q : Piece) (x y : List ℕ) → ◌≡◌ {A = Option (Piece × List ℕ)} (Some (p, x)) (Some (q, y)) → (p ≡ q) × (x ≡ y)
     some_pair p q x y e = (ap (λ (o : Option (Piece × List ℕ)). elim o [ Some r ↦ r.0 | None ↦ p ]) e, ap (λ (o : Option (Piece × List ℕ)). elim o [ Some r ↦ r.1 | None ↦ x ]) e)
+
     some_builder : (x y : Builder) → Some x ≡ Some y → x ≡ y
     some_builder x y e = ap (λ (o : Option Builder). elim o [ Some z ↦ z | None ↦ x ]) e
+
     same : (p ≡ q) × (behind ≡ beyond) → (p ≡ q) × (behind ≡ beyond) × (t ≡ u)
     same s = (s.0, s.1, some_builder t u (sym f ∙ ap (taken b) s.0 ∙ h))
 
@@ -81,13 +83,13 @@ of_characters charset bytes cs ds b rest e f reaches =
 pub has_one_root : HasOneRoot
 has_one_root charset bytes one other h k =
     let stop : (k.2.0 ≡ h.2.0) × (◌≡◌ {A = List ℕ} [] []) =
-        same_stop _ _ _ _ _ (end_is_stuck _) (end_is_stuck _) h.2.1 (of_characters charset bytes _ _ _ _ h.1 k.1 k.2.1) in
+    same_stop _ _ _ _ _ (end_is_stuck _) (end_is_stuck _) h.2.1 (of_characters charset bytes _ _ _ _ h.1 k.1 k.2.1) in
     same_root one other (sym h.2.2 ∙ ap (λ (b : Builder). b.root) (sym stop.0) ∙ k.2.2)
 
 pub has_no_fault : HasNoFault
 has_no_fault charset bytes root kind at h s =
     let stop : (s.stops.there ≡ h.2.0) × (s.rest ≡ []) =
-        same_stop _ _ _ _ _ (end_is_stuck _) s.stops.stuck h.2.1 (of_characters charset bytes _ _ _ _ h.1 s.decodes s.stops.reached) in
+    same_stop _ _ _ _ _ (end_is_stuck _) s.stops.stuck h.2.1 (of_characters charset bytes _ _ _ _ h.1 s.decodes s.stops.reached) in
     none_some root (sym (s.stops.rootless stop.1) ∙ ap (λ (b : Builder). b.root) stop.0 ∙ h.2.2)
 
 pub is_decoded : IsDecoded
@@ -100,9 +102,10 @@ pub has_one_fault : HasOneFault
 has_one_fault charset bytes one other here there h k =
     let same : k.characters ≡ h.characters = same_characters charset bytes _ _ k.decodes h.decodes in
     let stop : (k.stops.there ≡ h.stops.there) × (k.rest ≡ h.rest) =
-        same_stop _ _ _ _ _ h.stops.stuck k.stops.stuck h.stops.reached (of_characters charset bytes _ _ _ _ h.decodes k.decodes k.stops.reached) in
-    ( h.stops.kind_is ∙ (λ i. kind_of (sym stop.0 i) (sym stop.1 i)) ∙ sym k.stops.kind_is
-    , h.at_is ∙ (λ i. place charset bytes (sym same i) (length (line_ends false (sym same i)) - length (sym stop.1 i))) ∙ sym k.at_is )
+    same_stop _ _ _ _ _ h.stops.stuck k.stops.stuck h.stops.reached (of_characters charset bytes _ _ _ _ h.decodes k.decodes k.stops.reached) in (
+      h.stops.kind_is ∙ (λ i. kind_of (sym stop.0 i) (sym stop.1 i)) ∙ sym k.stops.kind_is,
+      h.at_is ∙ (λ i. place charset bytes (sym same i) (length (line_ends false (sym same i)) - length (sym stop.1 i))) ∙ sym k.at_is,
+    )
 
 pub goes_on_to_the_fault : GoesOnToTheFault
 goes_on_to_the_fault text rest left kind b stops reaches = goes_on _ _ nothing text _ _ rest left stops.stuck stops.reached.1 reaches.1

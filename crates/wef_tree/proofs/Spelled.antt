@@ -38,10 +38,10 @@ attribute_given bound a = record { name = record { prefix = unwrap_or (attribute
 -- the tag of an element, as it is spelt
 abbrev pub spelled : List Binding → Scope → List ℕ → List ℕ → List Attribute → Tag
 spelled first scope space name attributes = record {
-    name = spelled_name scope space name;
-    given = default_given scope space ++ map declaration_given first ++ map declaration_given (new_bindings scope.bound attributes)
-        ++ map (attribute_given (inside scope space attributes).bound) attributes;
-  }
+  name = spelled_name scope space name;
+  given = default_given scope space ++ map declaration_given first ++ map declaration_given (new_bindings scope.bound attributes)
+      ++ map (attribute_given (inside scope space attributes).bound) attributes;
+}
 
 -- a binding that may be declared, of a prefix that isn't one of the reserved ones
 pub record IsGoodBinding (b : Binding) : Type 0 where

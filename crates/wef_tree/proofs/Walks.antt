@@ -95,6 +95,9 @@ answers charset bytes characters text stop decodes is reads kind left at stop_is
     let found = subst P stop_is reads in
     let Q : List ℕ → Type 0 = λ t. Stops t kind found.0 in
     faulty charset bytes kind at (record {
-        characters = characters; decodes = decodes; rest = found.0; stops = subst Q is found.1;
-        at_is = at_is ∙ (λ i. place charset bytes characters (length (is i) - found.2 i));
-      })
+      characters = characters;
+      decodes = decodes;
+      rest = found.0;
+      stops = subst Q is found.1;
+      at_is = at_is ∙ (λ i. place charset bytes characters (length (is i) - found.2 i));
+    })

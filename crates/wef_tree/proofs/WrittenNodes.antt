@@ -36,7 +36,7 @@ node_text (Element' space name attributes shape row) e scope same =
     let opened = sym (outs-Element' space name attributes shape row) ∙ ap out-Node same ∙ outs-Element e in
     let P : Element → Type 0 = λ x. node_of (Element' space name attributes shape row) scope ≡ element_text [] scope x in
     subst P (ap (λ x. elim x [ Node-F.Element z ↦ z | Node-F.Chars t ↦ e ]) opened)
-        (closed space name attributes shape row _ scope (items_shown-the_row-Node-0 shape row))
+    (closed space name attributes shape row _ scope (items_shown-the_row-Node-0 shape row))
 
 regrouped : (before start inner end : List ℕ) → ((before ++ start) ++ inner) ++ end ≡ before ++ ((start ++ inner) ++ end)
 regrouped before start inner end = simp append_assoc
@@ -57,16 +57,16 @@ element_written w began through first left default inner e count index items cou
     let bound_is : through.bound ≡ bound_by w.bound (new_bindings w.bound e.attributes) = ap (λ (v : Writer). v.bound) kept ∙ ap (λ (v : Writer). v.bound) started in
     let left_outer : left ≡ w.bound = left_is ∙ (λ i. drop (counted i) (bound_is i)) ∙ left_again w.bound (new_bindings w.bound e.attributes) in
     let default_is : inner ≡ (inside (scope_of w default) e.space e.attributes).default =
-        inner_is ∙ ap (λ (v : Writer). (inside (scope_of v default) e.space []).default) started in
+    inner_is ∙ ap (λ (v : Writer). (inside (scope_of v default) e.space []).default) started in
     let scope_is : scope_of began inner ≡ inside (scope_of w default) e.space e.attributes =
-        λ i. record { default = default_is i; soap = (started i).root; bound = (started i).bound } in
+    λ i. record { default = default_is i; soap = (started i).root; bound = (started i).bound } in
     let none : drop index items ≡ [] = drop_all index items past in
     let inside_is : through.out ≡ (w.out ++ start_of first (scope_of w default) e.space e.name e.attributes)
-            ++ flat_map (λ n. node_of n (inside (scope_of w default) e.space e.attributes)) e.children =
-        sym (append-nil through.out) ∙ ap (λ (ns : List Node). through.out ++ flat_map (λ n. node_of n (scope_of began inner)) ns) (sym none) ∙ written
-        ∙ (λ i. (started i).out ++ flat_map (λ n. node_of n (scope_is i)) (all i)) in
+    ++ flat_map (λ n. node_of n (inside (scope_of w default) e.space e.attributes)) e.children =
+    sym (append-nil through.out) ∙ ap (λ (ns : List Node). through.out ++ flat_map (λ n. node_of n (scope_of began inner)) ns) (sym none) ∙ written
+    ∙ (λ i. (started i).out ++ flat_map (λ n. node_of n (scope_is i)) (all i)) in
     let out_is : through.out ++ end_of (scope_of (record through { bound = left }) []) e.space e.name ≡ w.out ++ element_text first (scope_of w default) e =
-        (λ i. inside_is i ++ end_of (record { default = []; soap = root_is i; bound = [] }) e.space e.name)
-        ∙ regrouped w.out (start_of first (scope_of w default) e.space e.name e.attributes) _ (end_of (scope_of w default) e.space e.name) in
+    (λ i. inside_is i ++ end_of (record { default = []; soap = root_is i; bound = [] }) e.space e.name)
+    ∙ regrouped w.out (start_of first (scope_of w default) e.space e.name e.attributes) _ (end_of (scope_of w default) e.space e.name) in
     let alloc_is = ap (λ (v : Writer). v.alloc) kept ∙ ap (λ (v : Writer). v.alloc) started in
     λ i. record { alloc = alloc_is i; out = out_is i; root = root_is i; bound = left_outer i }

@@ -113,7 +113,7 @@ new_bindings bound attributes = bindings_from (outer_prefixes bound attributes) 
 -- what is in force inside an element
 abbrev pub inside : Scope → List ℕ → List Attribute → Scope
 inside scope space attributes = record {
-    default = (if is_some (element_prefix scope.soap space) then scope.default else space);
-    soap = scope.soap;
-    bound = bound_by scope.bound (new_bindings scope.bound attributes);
-  }
+  default = (if is_some (element_prefix scope.soap space) then scope.default else space);
+  soap = scope.soap;
+  bound = bound_by scope.bound (new_bindings scope.bound attributes);
+}

@@ -8,11 +8,7 @@ use std::alloc::{AllocError, Global};
 use wef_base::{Bytes, Charset};
 
 /// The bytes of characters, behind the byte order mark of the charset.
-pub fn encode(
-    alloc: Global,
-    charset: Charset,
-    characters: &[char],
-) -> Result<Bytes, AllocError>
+pub fn encode(alloc: Global, charset: Charset, characters: &[char]) -> Result<Bytes, AllocError>
     ensures { IfOk result (λ bytes. bytes ≡ encoded charset characters.now) }
 {
     let mut bytes = Bytes::new(alloc);

@@ -31,8 +31,10 @@ mod tags;
 mod utf16;
 mod values;
 mod writing;
+#[cfg(test)]
+mod writing_tests;
 
 pub use faults::TreeFault;
 pub use reading::read_tree;
-pub use writing::write_tree;
 pub use wef_base::{Attribute, Charset, Element, Namespace, Node};
+pub use writing::write_tree;

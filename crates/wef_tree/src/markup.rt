@@ -13,11 +13,7 @@ use std::alloc::AllocError;
 use wef_base::{Attribute, List, Namespace, Text};
 
 /// Appends a name with its prefix, if it has one.
-pub fn push_name(
-    out: &mut List<char>,
-    prefix: Option<&str>,
-    local: &Text,
-) -> Result<(), AllocError>
+pub fn push_name(out: &mut List<char>, prefix: Option<&str>, local: &Text) -> Result<(), AllocError>
     ensures { OnOk result (out.new ≡ out.old ++ name_of (option_copied prefix.entry) local.now) }
 {
     match prefix {
@@ -100,7 +96,11 @@ fn push_attribute(
     ensures { OnOk result (out.new ≡ out.old ++ attribute_of bound.now attribute.now) }
 {
     out.push(' ')?;
-    push_name(out, attribute_prefix(bound, &attribute.space), &attribute.name)?;
+    push_name(
+        out,
+        attribute_prefix(bound, &attribute.space),
+        &attribute.name,
+    )?;
     push_assigned(out, &attribute.value)
 }
 

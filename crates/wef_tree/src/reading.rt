@@ -74,11 +74,7 @@ fn read_text(alloc: Global, text: &[char]) -> Result<Element, Stop>
 }
 
 /// Takes the first piece of a text, and gives what is behind it.
-fn step<'a>(
-    alloc: Global,
-    builder: &mut Builder,
-    text: &'a [char],
-) -> Result<&'a [char], Stop>
+fn step<'a>(alloc: Global, builder: &mut Builder, text: &'a [char]) -> Result<&'a [char], Stop>
     ensures { Steps builder.old builder.new text.now result }
 {
     let depth = builder.depth();

@@ -19,7 +19,10 @@ const NINE: [(&str, &str); 9] = [
     ("n", "http://schemas.xmlsoap.org/ws/2004/09/enumeration"),
     ("w", "http://schemas.dmtf.org/wbem/wsman/1/wsman.xsd"),
     ("p", "http://schemas.microsoft.com/wbem/wsman/1/wsman.xsd"),
-    ("m", "http://schemas.microsoft.com/wbem/wsman/1/subscription"),
+    (
+        "m",
+        "http://schemas.microsoft.com/wbem/wsman/1/subscription",
+    ),
     ("i", "http://schemas.microsoft.com/wbem/wsman/1/machineid"),
     ("u", "urn:wef:profile"),
 ];
