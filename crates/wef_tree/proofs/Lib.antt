@@ -1,3 +1,4 @@
+pub mod Bound
 pub mod BoundPrefixes
 pub mod DeclaredAgain
 pub mod Digits
@@ -12,6 +13,7 @@ pub mod Inversions
 pub mod Maps
 pub mod NewBindings
 pub mod NewPrefixes
+pub mod Numbering
 pub mod OpensAgain
 pub mod PlainTexts
 pub mod Readings
@@ -25,3 +27,5 @@ pub mod TreesAgain
 pub mod Turns
 pub mod Utf8
 pub mod Walks
+pub mod Written
+pub mod WrittenNodes

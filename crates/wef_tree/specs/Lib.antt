@@ -6,6 +6,7 @@ pub mod ExpandedNames
 pub mod Fronts
 pub mod Good
 pub mod Laws
+pub mod Markup
 pub mod Names
 pub mod Pieces
 pub mod Prefixes

@@ -1,4 +1,4 @@
-//! XML trees: reading documents exactly.
+//! XML trees: reading documents exactly, and writing each tree in one way.
 #![tactic(auto)]
 
 mod attributes;
@@ -7,27 +7,36 @@ mod building;
 mod decoding;
 #[cfg(test)]
 mod decoding_tests;
+mod encoding;
+mod escaping;
 mod faults;
 mod fronts;
 mod headings;
 pub mod laws;
 mod letters;
 mod line_ends;
+mod markup;
 mod names;
 mod pieces;
 mod places;
+mod prefixes;
 mod reading;
 #[cfg(test)]
 mod reading_tests;
 mod references;
 mod scopes;
 mod sections;
+mod soap;
 mod spaces;
 mod stack;
 mod tags;
 mod utf16;
 mod values;
+mod writing;
+#[cfg(test)]
+mod writing_tests;
 
 pub use faults::TreeFault;
 pub use reading::read_tree;
 pub use wef_base::{Attribute, Charset, Element, Namespace, Node};
+pub use writing::write_tree;

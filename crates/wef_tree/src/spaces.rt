@@ -117,7 +117,7 @@ pub fn attribute_space(
 }
 
 /// What stands for no namespace.
-fn no_space(alloc: Global) -> Result<Namespace, AllocError>
+pub fn no_space(alloc: Global) -> Result<Namespace, AllocError>
     ensures { IfOk result (λ n. n ≡ []) }
 {
     Namespace::new(Text::new(alloc))
@@ -130,8 +130,9 @@ fn xml_space(alloc: Global) -> Result<Namespace, AllocError>
     Namespace::new(Text::from_str(alloc, XML_SPACE)?)
 }
 
+/// Whether a namespace is that of the prefix `xml`.
 #[tactic(auto, unfolding(crate::specs::Scopes::xml_space, crate::specs::Scopes::is_xml_space))]
-fn is_xml_space(space: &Text) -> bool
+pub fn is_xml_space(space: &Text) -> bool
     ensures { result ≡ is_xml_space space.now }
 {
     space.as_str() == XML_SPACE
