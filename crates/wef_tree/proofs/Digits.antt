@@ -80,7 +80,7 @@ enough zero (suc k) n behind h l = enough_turn (n / 10 == 0) _ _ _ (λ e. absurd
 enough (suc j) zero n behind h l = enough_turn (n / 10 == 0) _ _ _ (λ e. absurd (grind (arith, nat_tests)))
 enough (suc j) (suc k) n behind h l =
     enough_turn (n / 10 == 0) _ _ _
-        (λ e. let some : 0 < n / 10 = grind (arith, nat_tests) in enough j k (n / 10) (digit_glyph false (n % 10) ∷ behind) (omega arith) (tenth n (10 ^ (suc k)) (subst (λ m. n < m) (pow-suc 10 (suc k)) l)))
+    (λ e. let some : 0 < n / 10 = grind (arith, nat_tests) in enough j k (n / 10) (digit_glyph false (n % 10) ∷ behind) (omega arith) (tenth n (10 ^ (suc k)) (subst (λ m. n < m) (pow-suc 10 (suc k)) l)))
 
 -- a number of the program has the digits that it prints
 pub printed_digits : (n : ℕ) → n < 2 ^ 64 → in_digits n ≡ decimal n

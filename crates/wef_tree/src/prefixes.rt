@@ -175,6 +175,7 @@ fn is_taken(prefix: &Text, taken: &[Text]) -> bool
     taken.iter().any(|other| *prefix == *other)
 }
 
+#[tactic(auto, using(crate::proofs::Digits::printed_digits))]
 fn numbered_prefix(alloc: Global, number: u64) -> Result<Text, AllocError>
     ensures { IfOk result (λ prefix. prefix ≡ numbered_prefix number) }
 {
