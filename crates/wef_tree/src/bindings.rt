@@ -16,18 +16,6 @@ pub struct Binding {
     pub space: Namespace,
 }
 
-impl Binding {
-    /// The same binding again, whose namespace shares the text.
-    pub fn clone(&self) -> Result<Binding, AllocError>
-        ensures { IfOk result (λ copy. copy ≡ self.now) }
-    {
-        Ok(Binding {
-            prefix: self.prefix.clone()?,
-            space: self.space.clone()?,
-        })
-    }
-}
-
 /// The bindings that are in force where an element is written, which contracts see with the innermost
 /// first.
 #[derive(Debug, Drop)]

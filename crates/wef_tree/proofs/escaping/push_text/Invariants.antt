@@ -1,7 +1,6 @@
 use Rattle.std.proofs.Common.{◌≡◌, ◌++◌, IsUtf8}
-use Rattle.std.specs.Str.{chars}
 use Rattle.std.specs.Str.Iter.{chars_rest}
-use Rattle.wef_tree.specs.Canonical.{text_of, value_of}
+use Rattle.wef_tree.specs.Canonical.{text_of}
 use Rattle.wef_tree.proofs.escaping.push_text.Given as goal
 
 abbrev pub invariant-loop-character : goal.invariant-loop-character
