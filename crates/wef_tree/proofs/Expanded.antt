@@ -7,13 +7,14 @@ use Rattle.std.specs.List.{list_any}
 use Rattle.std.specs.Ordering.{eq_by_cmp}
 use Rattle.std.proofs.lemmas.List.Folds.{list_any-append}
 use Rattle.wef_base.specs.declared.tree.Attribute.{Attribute}
+use Rattle.wef_tree.specs.Digests.{digest_ties}
 use Rattle.wef_tree.specs.ExpandedNames.{HasNamesOf, name_cmp}
 use Rattle.wef_tree.specs.Scopes.{is_attribute}
 
 -- names that tie are those of one attribute
 tied : (space name : List ℕ) (a : Attribute) → eq_by_cmp name_cmp (a.name, a.space) (name, space) ≡ is_attribute space name a
 tied space name a =
-    sym (both_tied _ _ _ _ (texts_ties a.name name) (texts_ties a.space space))
+    sym (both_tied _ _ _ _ (texts_ties a.name name) (digest_ties a.space space))
     ∙ (λ i. nat_list_eq_equiv.symm a.name name i && nat_list_eq_equiv.symm a.space space i)
 
 last : (before this : Bool) → cond this true before ≡ (before || (this || false))

@@ -6,11 +6,12 @@ use Rattle.std.specs.Cmp.Lexicographic.{slice_cmp}
 use Rattle.std.specs.List.{list_any}
 use Rattle.std.specs.BTreeSet.{BTreeSet, contains}
 use Rattle.wef_base.specs.declared.tree.Attribute.{Attribute}
+use Rattle.wef_tree.specs.Digests.{digest_cmp}
 use Rattle.wef_tree.specs.Scopes.{is_attribute}
 
--- the order of expanded names: by local names, and then by namespaces
+-- the order of expanded names: by local names, then by digests of the namespaces, and then by these
 abbrev pub name_cmp : List ℕ × List ℕ → List ℕ × List ℕ → Ordering
-name_cmp x y = ordering_then (slice_cmp nat_cmp x.0 y.0) (slice_cmp nat_cmp x.1 y.1)
+name_cmp x y = ordering_then (slice_cmp nat_cmp x.0 y.0) (digest_cmp x.1 y.1)
 
 -- a set holds the expanded names of these attributes, and no other
 abbrev pub HasNamesOf : BTreeSet (List ℕ × List ℕ) → List Attribute → Type 0

@@ -2,6 +2,7 @@ pub mod Building
 pub mod Canonical
 pub mod Decodes
 pub mod Decoding
+pub mod Digests
 pub mod ExpandedNames
 pub mod Fronts
 pub mod Good

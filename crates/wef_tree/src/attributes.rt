@@ -8,6 +8,7 @@ ghost use Rattle.wef_tree.specs.ExpandedNames.{HasNamesOf, name_cmp};
 ghost use Rattle.wef_tree.specs.Reads.{Gives, Takes};
 ghost use Rattle.wef_tree.specs.Scopes.{attribute_one, attributes_by, declares, is_attribute, with_attribute};
 
+use crate::digests::Digested;
 use crate::faults::Halt;
 use crate::names::Name;
 use crate::scopes::Declarations;
@@ -16,10 +17,54 @@ use crate::stack::Stack;
 use crate::tags::Given;
 use std::alloc::{AllocError, Global};
 use std::collections::BTreeSet;
-use wef_base::{Attribute, List, Namespace, Text};
+use std::marker::Model;
+use wef_base::{Attribute, List, Text};
 
 /// Up to this many attributes, comparing each with all before it is faster than a set of names.
 const FEW: usize = 8;
+
+/// An attribute whose namespace has its digest, which contracts see as the attribute alone.
+#[derive(Debug, Drop)]
+struct Resolved {
+    space: Digested,
+    name: Text,
+    value: Text,
+}
+
+impl Model for Resolved {
+    ghost use Rattle.wef_base.specs.declared.tree.Attribute.{Attribute};
+    ghost use Rattle.wef_base.specs.contracts.tree.Attribute as attribute;
+
+    ghost Value = { Attribute };
+
+    ghost coded = { attribute.the_row.coded };
+
+    ghost view = { λ r. record { space = r.space; name = r.name; value = r.value } };
+}
+
+impl Resolved {
+    fn new(given: Given, space: Digested) -> Resolved
+        ensures { result ≡ record { space = space; name = given.name.local; value = given.value } }
+    {
+        let Given { name, value } = given;
+        let Name { prefix: _, local } = name;
+        Resolved {
+            space,
+            name: local,
+            value,
+        }
+    }
+
+    fn into_attribute(self) -> Attribute
+        ensures { result ≡ self }
+    {
+        Attribute {
+            space: self.space.into_space(),
+            name: self.name,
+            value: self.value,
+        }
+    }
+}
 
 /// The attributes of a tag with these declarations, inside these elements; declarations aside. No
 /// two may have one namespace and local name.
@@ -53,21 +98,32 @@ fn few_attributes(
             add_one_of_few(&mut attributes, one, space)?;
         }
     }
-    Ok(attributes)
+    Ok(without_digests(alloc, attributes)?)
 }
 
 fn add_one_of_few(
-    attributes: &mut List<Attribute>,
+    attributes: &mut List<Resolved>,
     given: Given,
-    space: Namespace,
+    space: Digested,
 ) -> Result<(), Halt>
     ensures { Takes result (with_attribute attributes.old given space) attributes.new }
 {
     if has_attribute(attributes.as_slice(), &space, &given.name.local) {
         return Err(Halt::Bad);
     }
-    attributes.push(attribute(given, space))?;
+    attributes.push(Resolved::new(given, space))?;
     Ok(())
+}
+
+/// The same attributes, once they have been told apart.
+fn without_digests(alloc: Global, resolved: List<Resolved>) -> Result<List<Attribute>, AllocError>
+    ensures { IfOk result (λ attributes. attributes ≡ resolved) }
+{
+    let mut attributes = List::new(alloc);
+    for one in resolved.into_vec() {
+        attributes.push(one.into_attribute())?;
+    }
+    Ok(attributes)
 }
 
 /// Keeps the names of those so far in a set, so that it asks about each name log N times.
@@ -92,9 +148,9 @@ fn many_attributes(
 
 fn add_one_of_many(
     attributes: &mut List<Attribute>,
-    names: &mut BTreeSet<(Text, Namespace)>,
+    names: &mut BTreeSet<(Text, Digested)>,
     given: Given,
-    space: Namespace,
+    space: Digested,
 ) -> Result<(), Halt>
     requires { HasNamesOf names.old attributes.old }
     ensures takes { Takes result (with_attribute attributes.old given space) attributes.new }
@@ -103,14 +159,14 @@ fn add_one_of_many(
     if !add_name(names, &space, &given.name.local)? {
         return Err(Halt::Bad);
     }
-    attributes.push(attribute(given, space))?;
+    attributes.push(Resolved::new(given, space).into_attribute())?;
     Ok(())
 }
 
 /// Adds an expanded name to others, and says whether it is a new one.
 fn add_name(
-    names: &mut BTreeSet<(Text, Namespace)>,
-    space: &Namespace,
+    names: &mut BTreeSet<(Text, Digested)>,
+    space: &Digested,
     name: &Text,
 ) -> Result<bool, AllocError>
     ensures is_new { IfOk result (λ is_new. is_new ≡ not (contains name_cmp names.old (name.now, space.now))) }
@@ -119,19 +175,7 @@ fn add_name(
     Ok(names.insert((name.clone()?, space.clone()?))?)
 }
 
-fn attribute(given: Given, space: Namespace) -> Attribute
-    ensures { result ≡ record { space = space; name = given.name.local; value = given.value } }
-{
-    let Given { name, value } = given;
-    let Name { prefix: _, local } = name;
-    Attribute {
-        space,
-        name: local,
-        value,
-    }
-}
-
-fn has_attribute(attributes: &[Attribute], space: &Namespace, name: &Text) -> bool
+fn has_attribute(attributes: &[Resolved], space: &Digested, name: &Text) -> bool
     ensures { result ≡ list_any (is_attribute space.now name.now) attributes.now }
 {
     attributes
@@ -139,7 +183,7 @@ fn has_attribute(attributes: &[Attribute], space: &Namespace, name: &Text) -> bo
         .any(|attribute| is_attribute(attribute, space, name))
 }
 
-fn is_attribute(attribute: &Attribute, space: &Namespace, name: &Text) -> bool
+fn is_attribute(attribute: &Resolved, space: &Digested, name: &Text) -> bool
     ensures { result ≡ is_attribute space.now name.now attribute.now }
 {
     *name == attribute.name && *space == attribute.space

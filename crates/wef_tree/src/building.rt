@@ -17,7 +17,7 @@ use std::mem;
 use wef_base::{Element, List, Node, Text};
 
 /// How many elements may be open at once.
-const GREATEST_DEPTH: usize = 64;
+pub(crate) const GREATEST_DEPTH: usize = 64;
 
 /// What the pieces so far have put together.
 #[derive(Debug, Drop)]
@@ -160,7 +160,7 @@ impl Builder {
             return Err(Halt::Bad);
         }
         let declared = declared_by(alloc, tag.given.as_slice())?;
-        let space = in_scope(alloc, &declared, &self.around, &tag.name.prefix)?;
+        let space = in_scope(alloc, &declared, &self.around, &tag.name.prefix)?.into_space();
         let attributes = attributes_by(alloc, &declared, &self.around, tag.given)?;
         Ok(Open {
             name: tag.name,

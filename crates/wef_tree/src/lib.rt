@@ -7,6 +7,7 @@ mod building;
 mod decoding;
 #[cfg(test)]
 mod decoding_tests;
+mod digests;
 mod encoding;
 mod escaping;
 mod faults;

@@ -4,7 +4,7 @@ ghost use Rattle.std.specs.Prelude.{◌≡◌, length, IfOk};
 ghost use Rattle.wef_tree.specs.Good.{IsGoodTree};
 ghost use Rattle.wef_tree.specs.Spelling.{ReadsText, ReadsTree, Steps, fault_at, is_tag, kind_by};
 
-use crate::building::Builder;
+use crate::building::{Builder, GREATEST_DEPTH};
 use crate::decoding::decode;
 use crate::faults::{FaultKind, Halt, Stop, TreeFault};
 use crate::fronts::strip;
@@ -13,9 +13,6 @@ use crate::pieces::{Piece, piece_at};
 use crate::places::place;
 use std::alloc::Global;
 use wef_base::{Charset, Element};
-
-/// How many elements may be open at once.
-const GREATEST_DEPTH: usize = 64;
 
 /// Reads a document (XML 1.0 with Namespaces in XML 1.0), without document types and processing
 /// instructions. It takes time and memory in proportion to the bytes, but for a logarithm, whatever

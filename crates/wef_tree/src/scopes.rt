@@ -4,16 +4,17 @@ ghost use Rattle.std.specs.Prelude.{◌≡◌, ◌==◌, Option, IfOk};
 ghost use Rattle.std.specs.Option.{option_copied};
 ghost use Rattle.std.specs.FinMap as map;
 
+use crate::digests::Digested;
 use std::alloc::{AllocError, Global};
 use std::collections::BTreeMap;
 use std::marker::Model;
-use wef_base::{Namespace, Text};
+use wef_base::Text;
 
 /// The namespaces that a tag declares, by their prefixes, which contracts see as a finite map. The
 /// empty prefix stands for the default namespace.
 #[derive(Debug, Drop)]
 pub struct Declarations {
-    spaces: BTreeMap<Text, Namespace>,
+    spaces: BTreeMap<Text, Digested>,
 }
 
 impl Model for Declarations {
@@ -44,18 +45,14 @@ impl Declarations {
     }
 
     /// The namespace that a prefix is declared as.
-    pub fn get(&self, prefix: &Text) -> Option<&Namespace>
+    pub fn get(&self, prefix: &Text) -> Option<&Digested>
         ensures { option_copied result ≡ map.get self.now prefix.now }
     {
         self.spaces.get(prefix)
     }
 
     /// Declares a prefix, and gives the namespace that it was declared as before.
-    pub fn insert(
-        &mut self,
-        prefix: Text,
-        space: Namespace,
-    ) -> Result<Option<Namespace>, AllocError>
+    pub fn insert(&mut self, prefix: Text, space: Digested) -> Result<Option<Digested>, AllocError>
         ensures before { IfOk result (λ before. before ≡ map.get self.old prefix) }
         ensures after { IfOk result (λ _. self.new ≡ map.insert self.old prefix space) }
     {

@@ -6,6 +6,7 @@ ghost use Rattle.std.specs.FinMap as map;
 ghost use Rattle.wef_tree.specs.Reads.{Gives, Takes};
 ghost use Rattle.wef_tree.specs.Scopes.{attribute_space, declare_one, declared_by, declares, in_scope, is_xml, is_xml_space, is_xmlns, may_declare, with_declaration, xml_space};
 
+use crate::digests::Digested;
 use crate::faults::Halt;
 use crate::names::Name;
 use crate::scopes::Declarations;
@@ -45,7 +46,8 @@ fn declare(own: &mut Declarations, prefix: &Text, space: &Text) -> Result<(), Ha
     if !may_declare(prefix, space) {
         return Err(Halt::Bad);
     }
-    match own.insert(prefix.clone()?, Namespace::new(space.clone()?)?)? {
+    let space = Digested::new(Namespace::new(space.clone()?)?);
+    match own.insert(prefix.clone()?, space)? {
         Some(_) => Err(Halt::Bad),
         None => Ok(()),
     }
@@ -83,11 +85,11 @@ pub fn in_scope(
     own: &Declarations,
     around: &Stack,
     prefix: &Text,
-) -> Result<Namespace, Halt>
+) -> Result<Digested, Halt>
     ensures { Gives result (in_scope own.now around.now prefix.now) }
 {
     if is_xml(prefix) {
-        return Ok(xml_space(alloc)?);
+        return Ok(Digested::new(xml_space(alloc)?));
     }
     if let Some(space) = own.get(prefix) {
         return Ok(space.clone()?);
@@ -98,7 +100,7 @@ pub fn in_scope(
     if !prefix.is_empty() {
         return Err(Halt::Bad);
     }
-    Ok(no_space(alloc)?)
+    Ok(Digested::new(no_space(alloc)?))
 }
 
 /// The namespace of an attribute with this prefix.
@@ -107,11 +109,11 @@ pub fn attribute_space(
     own: &Declarations,
     around: &Stack,
     prefix: &Text,
-) -> Result<Namespace, Halt>
+) -> Result<Digested, Halt>
     ensures { Gives result (attribute_space own.now around.now prefix.now) }
 {
     if prefix.is_empty() {
-        return Ok(no_space(alloc)?);
+        return Ok(Digested::new(no_space(alloc)?));
     }
     in_scope(alloc, own, around, prefix)
 }

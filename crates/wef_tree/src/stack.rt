@@ -3,6 +3,7 @@
 ghost use Rattle.std.specs.Prelude.{◌≡◌, ◌==◌, [], ◌∷◌, length, MatchOption, OnOk, OnErr};
 ghost use Rattle.std.specs.Option.{option_copied};
 
+use crate::digests::Digested;
 use crate::names::Name;
 use crate::scopes::Declarations;
 use std::alloc::{AllocError, Global};
@@ -83,7 +84,7 @@ impl Stack {
     }
 
     /// The innermost declaration of a prefix.
-    pub fn declared_outside(&self, prefix: &Text) -> Option<&Namespace>
+    pub fn declared_outside(&self, prefix: &Text) -> Option<&Digested>
         ensures { option_copied result ≡ declared_outside self.now prefix.now }
     {
         let mut rest = self.items.as_slice();
