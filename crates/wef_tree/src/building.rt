@@ -1,7 +1,6 @@
 //! Putting pieces together.
 
 ghost use Rattle.std.specs.Prelude.{◌≡◌, ◌==◌, [], length, codes, encode_utf8, OnOk};
-ghost use Rattle.wef_base.specs.Names.{is_space};
 ghost use Rattle.wef_tree.specs.Building.{element_of, ended, entered, flushed, greatest_depth, has_room, is_outside, nothing, opened, passed, placed, same_name, taken, with_letter, with_more};
 ghost use Rattle.wef_tree.specs.Reads.{Gives, Takes};
 
@@ -14,6 +13,7 @@ use crate::stack::{Open, Stack};
 use crate::tags::Tag;
 use std::alloc::{AllocError, Global};
 use std::mem;
+use wef_base::names::is_xml_space;
 use wef_base::{Element, List, Node, Text};
 
 /// How many elements may be open at once.
@@ -123,7 +123,7 @@ impl Builder {
         if !self.around.is_empty() {
             return self.add_character(character);
         }
-        if !is_space(character) {
+        if !is_xml_space(character) {
             return Err(Halt::Bad);
         }
         self.begun = true;
@@ -226,11 +226,4 @@ fn same_name(one: &Name, other: &Name) -> bool
     ensures { result ≡ same_name one.now other.now }
 {
     one.prefix == other.prefix && one.local == other.local
-}
-
-/// Whether a character is a space (XML 1.0, rule S).
-fn is_space(character: char) -> bool
-    ensures { result ≡ is_space character }
-{
-    matches!(character, ' ' | '\t' | '\n' | '\r')
 }
