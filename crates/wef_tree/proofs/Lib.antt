@@ -4,6 +4,7 @@ pub mod DeclaredAgain
 pub mod Digits
 pub mod EncodedAgain
 pub mod Expanded
+pub mod Functions
 pub mod GoodNodes
 pub mod GoodOpens
 pub mod GoodPieces

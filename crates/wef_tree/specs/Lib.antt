@@ -3,6 +3,7 @@ pub mod Canonical
 pub mod Decodes
 pub mod Decoding
 pub mod Digests
+pub mod Documents
 pub mod ExpandedNames
 pub mod Fronts
 pub mod Good

@@ -1,5 +1,6 @@
 //! Laws of reading and writing, each the contract of a function that does nothing.
 
+ghost use Rattle.wef_tree.specs.Documents.{IsSpelt};
 ghost use Rattle.wef_tree.specs.Laws.{GoesOnToTheFault, HasNoFault, HasOneFault, HasOneRoot, HasOneTree, IsDecoded, IsLongest, ReadsBack};
 
 /// What bytes spell is one root, or they have one fault: never two of these.
@@ -8,6 +9,7 @@ pub fn reading_is_one()
     ensures no_fault { HasNoFault }
     ensures charset { IsDecoded }
     ensures fault { HasOneFault }
+    ensures spelt { IsSpelt }
 {}
 
 /// The fault is where the longest list of good pieces ends: each other one that begins the text is

@@ -1,6 +1,7 @@
 //! Reading a document: piece by piece, until the text ends or no piece is good.
 
 ghost use Rattle.std.specs.Prelude.{◌≡◌, length, IfOk};
+ghost use Rattle.wef_tree.specs.Documents.{GivesTree, tree_of};
 ghost use Rattle.wef_tree.specs.Good.{IsGoodTree};
 ghost use Rattle.wef_tree.specs.Spelling.{ReadsText, ReadsTree, Steps, fault_at, is_tag, kind_by};
 
@@ -20,6 +21,7 @@ use wef_base::{Charset, Element};
 pub fn read_tree(alloc: Global, bytes: &[u8], charset: Charset) -> Result<Element, TreeFault>
     ensures read { ReadsTree charset bytes.now result }
     ensures good { IfOk result (λ root. IsGoodTree root) }
+    ensures tree { GivesTree result (tree_of charset bytes.now) }
 {
     read_document(alloc, bytes, charset)
 }

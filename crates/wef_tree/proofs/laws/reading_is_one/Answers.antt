@@ -1,3 +1,4 @@
+use Rattle.wef_tree.proofs.Functions.{is_spelt}
 use Rattle.wef_tree.proofs.Readings.{has_no_fault, has_one_fault, has_one_root, is_decoded}
 use Rattle.wef_tree.proofs.laws.reading_is_one.Goals as goal
 
@@ -12,3 +13,6 @@ returns-clause-charset c = is_decoded
 
 pub returns-clause-fault : goal.returns-clause-fault
 returns-clause-fault c = has_one_fault
+
+pub returns-clause-spelt : goal.returns-clause-spelt
+returns-clause-spelt c = is_spelt
