@@ -4,7 +4,7 @@ ghost use Rattle.std.specs.Prelude.{◌≡◌, IfOk};
 
 use crate::list::List;
 use crate::text::Text;
-use std::alloc::AllocError;
+use std::alloc::{AllocError, Global};
 use std::cmp::Ordering;
 use std::marker::Model;
 use std::rc::Rc;
@@ -48,6 +48,62 @@ pub struct Attribute {
     /// The local name.
     pub name: Text,
     pub value: Text,
+}
+
+impl Node {
+    /// A copy of the node with all inside it, in memory of its own. It goes as deep as the node does.
+    #[cycle(copying)]
+    pub fn clone(&self) -> Result<Node, AllocError>
+        ensures { IfOk result (λ copy. copy ≡ self.now) }
+    {
+        match self {
+            Node::Element(element) => Ok(Node::Element(element.clone()?)),
+            Node::Chars(text) => Ok(Node::Chars(text.clone()?)),
+        }
+    }
+}
+
+impl Element {
+    /// A copy of the element with all inside it, in memory of its own. It goes as deep as the element
+    /// does.
+    #[cycle(copying)]
+    pub fn clone(&self) -> Result<Element, AllocError>
+        ensures { IfOk result (λ copy. copy ≡ self.now) }
+    {
+        let mut children = List::new(self.name.alloc());
+        for child in self.children.as_slice() {
+            children.push(child.clone()?)?;
+        }
+        Ok(Element {
+            space: self.space.clone()?,
+            name: self.name.clone()?,
+            attributes: clone_attributes(self.name.alloc(), self.attributes.as_slice())?,
+            children,
+        })
+    }
+}
+
+fn clone_attributes(alloc: Global, attributes: &[Attribute]) -> Result<List<Attribute>, AllocError>
+    ensures { IfOk result (λ copies. copies ≡ attributes.now) }
+{
+    let mut copies = List::new(alloc);
+    for attribute in attributes {
+        copies.push(attribute.clone()?)?;
+    }
+    Ok(copies)
+}
+
+impl Attribute {
+    /// A copy of the attribute, in memory of its own.
+    pub fn clone(&self) -> Result<Attribute, AllocError>
+        ensures { IfOk result (λ copy. copy ≡ self.now) }
+    {
+        Ok(Attribute {
+            space: self.space.clone()?,
+            name: self.name.clone()?,
+            value: self.value.clone()?,
+        })
+    }
 }
 
 /// The name of a namespace, which contracts see as its bytes; empty for none. All copies of one

@@ -1,7 +1,7 @@
 -- Events of plain words that no log has numbered yet.
 use Rattle.std.specs.Prelude.{ℕ, List, Option}
 use Rattle.wef_event.specs.PlainEvent.{plain_event, plain_text}
-use Rattle.wef_event.specs.declared.records.Event.{Event}
+use Rattle.wef_event.specs.Events.{Event}
 use Rattle.wef_event.specs.declared.unnumbered.PlainEvent.{PlainEvent}
 
 -- its text with a number

@@ -1,13 +1,16 @@
-//! Events: a record of a channel, as text.
+//! Events: records of a channel, as trees of XML and their text.
 #![tactic(auto)]
 
 pub mod characters;
 mod lengths;
+pub mod numbering;
 pub mod plain;
+pub mod reading;
 pub mod records;
 pub mod unnumbered;
 
-pub use plain::plain_event;
+pub use plain::{EVENT_LIMIT, plain_event};
+pub use reading::{event_of_node, read_event, read_new_event};
 pub use records::{Event, EventFault};
 pub use unnumbered::PlainEvent;
 

@@ -1,16 +1,26 @@
 //! A record of a channel.
 
-ghost use Rattle.std.specs.Prelude.{◌≡◌, IfOk};
+ghost use Rattle.std.specs.Prelude.{◌≡◌, nat_lt, IfOk};
+ghost use Rattle.wef_event.specs.Events.{IsEventOf, is_event};
 
 use std::alloc::AllocError;
+use std::marker::Model;
 use thiserror::Error;
-use wef_base::{ChannelName, Text};
+use wef_base::{ChannelName, Element, Text};
 
 /// Why there is no event.
 #[derive(Clone, Copy, Debug, PartialEq, Eq, Error)]
 pub enum EventFault {
     #[error("no memory")]
     NoMemory,
+    /// The text is no document, by the byte where its fault is, or its root isn't called Event, which
+    /// is a fault at byte 0.
+    #[error("no event: a fault at byte {at}")]
+    BadEvent { at: usize },
+    #[error("the event has no channel")]
+    NoChannel,
+    #[error("the event has no record number")]
+    NoRecordId,
     #[error("the event is too long")]
     TooLong,
 }
@@ -26,15 +36,44 @@ impl From<AllocError> for EventFault {
     }
 }
 
-/// A record: its channel, its number there, and its text in XML.
+/// A record: its tree, the tree's text, and the channel and the number that the tree says. Whoever
+/// makes one proves that they belong together.
 #[derive(Debug, Drop)]
 pub struct Event {
     pub channel: ChannelName,
+    /// From 1 to 2^63 - 1, or 0 where the event says none.
     pub number: u64,
+    /// The one text of the tree, of at most `EVENT_LIMIT` bytes.
     pub text: Text,
+    pub node: Element,
+}
+
+impl Model for Event {
+    ghost use Rattle.wef_event.specs.Events as events;
+
+    ghost Value = { events.Event };
+
+    ghost view = { λ e. record { channel = e.channel; number = e.number; text = e.text } };
+
+    ghost invariant = { λ e. events.IsEventOf (record { channel = e.channel; number = e.number; text = e.text }) e.node };
 }
 
 impl Event {
+    /// The tree of the event.
+    pub fn tree(&self) -> &Element
+        ensures { IsEventOf self.now result.now }
+    {
+        &self.node
+    }
+
+    /// Whether the event has a number; then it is the one that its text says.
+    pub fn is_numbered(&self) -> bool
+        ensures number { result ≡ nat_lt 0 self.now.number }
+        ensures event { result ≡ is_event self.now }
+    {
+        self.number > 0
+    }
+
     /// A copy of the event, in memory of its own.
     pub fn clone(&self) -> Result<Event, AllocError>
         ensures { IfOk result (λ copy. copy ≡ self.now) }
@@ -43,6 +82,7 @@ impl Event {
             channel: self.channel.clone()?,
             number: self.number,
             text: self.text.clone()?,
+            node: self.node.clone()?,
         })
     }
 }

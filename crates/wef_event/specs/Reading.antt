@@ -1,0 +1,27 @@
+-- What reading an event's text answers.
+use Rattle.std.specs.Prelude.{◌≡◌, ℕ, Bool, List, Result, ◌⊎◌}
+use Rattle.std.specs.declared.result.Result.TheVariants.{Ok, Err}
+use Rattle.wef_base.specs.declared.tree.Charset.TheVariants.{Utf8}
+use Rattle.wef_base.specs.declared.tree.Element.{Element}
+use Rattle.wef_tree.specs.Spelling.{Spells, StopsAt}
+use Rattle.wef_tree.specs.declared.faults.FaultKind.{FaultKind}
+use Rattle.wef_event.specs.Events.{Event, event_of}
+use Rattle.wef_event.specs.declared.records.EventFault.{EventFault}
+use Rattle.wef_event.specs.declared.records.EventFault.TheVariants.{NoMemory, BadEvent, NoChannel, NoRecordId, TooLong}
+
+-- The text is no document, with its fault at this byte.
+abbrev pub IsFaulty : List ℕ → ℕ → Type 0
+IsFaulty text at = (kind : FaultKind) × StopsAt Utf8 text kind at
+
+-- The text is a document, of whose root the definition says so.
+abbrev pub Says : Bool → List ℕ → Result Event EventFault → Type 0
+Says needed text answer = (root : Element) × Spells Utf8 text root × (event_of needed root ≡ answer)
+
+-- The event that the text says, or the first fault that it has: that of the document, or that of its root.
+abbrev pub ReadsEvent : Bool → List ℕ → Result Event EventFault → Type 0
+ReadsEvent needed text (Ok event) = Says needed text (Ok event)
+ReadsEvent needed text (Err NoMemory) = Unit {0}
+ReadsEvent needed text (Err (BadEvent at)) = IsFaulty text at ⊎ Says needed text (Err (BadEvent at))
+ReadsEvent needed text (Err NoChannel) = Says needed text (Err NoChannel)
+ReadsEvent needed text (Err NoRecordId) = Says needed text (Err NoRecordId)
+ReadsEvent needed text (Err TooLong) = Says needed text (Err TooLong)
