@@ -3,6 +3,7 @@ use Rattle.std.specs.Prelude.{◌≡◌, ℕ, ◌==◌, nat_le, Bool, true, fals
 use Rattle.std.specs.FinMap as map
 use Rattle.wef_base.specs.Names.{channel_name, source_name, subscription_name}
 use Rattle.wef_base.specs.Numbers.{plain_number}
+use Rattle.wef_event.specs.Events.{is_event}
 use Rattle.wef_eventing.specs.Kept.{read_kept}
 use Rattle.wef_keeper.specs.Rows.{Rows, row_of}
 use Rattle.wef_keeper.specs.declared.keys.Key.{Key}
@@ -52,8 +53,11 @@ is_subscription_row row =
 unfoldable pub is_bookmark_row : Row → Bool
 is_bookmark_row row = names_channel row.key && row.key.number == 0 && is_number row.value && is_empty row.body
 
+-- its body is the one text of an event, which says the channel and the number
 unfoldable pub is_held_row : Row → Bool
-is_held_row row = names_channel row.key && is_number row.key.number && row.value == 0
+is_held_row row =
+    names_channel row.key && is_number row.key.number && row.value == 0
+    && is_event (record { channel = row.key.channel; number = row.key.number; text = row.body })
 
 unfoldable pub is_mark_row : Row → Bool
 is_mark_row row = names_channel row.key && nat_le row.key.number row.value && is_number row.value && is_empty row.body

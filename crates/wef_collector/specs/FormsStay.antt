@@ -6,6 +6,7 @@ use Rattle.wef_batch.specs.WellFormed.{is_well_formed}
 use Rattle.wef_batch.specs.declared.items.Batch.{Batch}
 use Rattle.wef_batch.specs.declared.items.Item.{Item}
 use Rattle.wef_batch.specs.declared.items.Item.TheVariants.{Event, Dropped, Loose}
+use Rattle.wef_event.specs.Events.{is_event}
 use Rattle.wef_eventing.specs.Kept.{kept_words, read_kept}
 use Rattle.wef_eventing.specs.declared.subscriptions.Subscription.{Subscription}
 use Rattle.wef_keeper.specs.Rows.{Rows}
@@ -17,15 +18,15 @@ use Rattle.wef_collector.specs.Standing.{standing}
 use Rattle.wef_collector.specs.Taken.{taken}
 use Rattle.wef_collector.specs.declared.standings.Standing.TheVariants.{Live}
 
--- an item's numbers are such as records have
-abbrev pub HasNumber : Item → Type 0
-HasNumber (Event event) = event.number ≤ 9223372036854775807
-HasNumber (Dropped channel first last) = last ≤ 9223372036854775807
-HasNumber (Loose count) = Unit {0}
+-- an item's event is the one that its text says, and its numbers are such as records have
+abbrev pub IsSoundItem : Item → Type 0
+IsSoundItem (Event event) = (event.number ≤ 9223372036854775807) × (is_event event ≡ true)
+IsSoundItem (Dropped channel first last) = last ≤ 9223372036854775807
+IsSoundItem (Loose count) = Unit {0}
 
--- The numbers of a batch are such as records have.
-pub record HasNumbers (batch : Batch) : Type 0 where
-  pub items : AllByRecursion HasNumber batch.items
+-- The events of a batch are those that their texts say, and its numbers are such as records have.
+pub record IsSoundBatch (batch : Batch) : Type 0 where
+  pub items : AllByRecursion IsSoundItem batch.items
   pub to : (c : List ℕ) (n : ℕ) → map.get batch.to c ≡ Some n → n ≤ 9223372036854775807
 
 -- Rows of their form stay so, whatever the collector does: it begins without a row, and is started, a subscription is
@@ -38,5 +39,5 @@ pub record FormsStay : Type 0 where
       → AreFormed (added_rows rows s)
   pub end : (rows : Rows) (u : List ℕ) (about : Subscription) → standing rows u ≡ Live about → AreFormed rows → AreFormed (ended_rows rows u)
   pub take : (rows : Rows) (u s : List ℕ) (about : Subscription) (batch : Batch) (now : ℕ) → standing rows u ≡ Live about → is_source_name s ≡ true
-      → is_well_formed (channels_read about) batch ≡ true → HasNumbers batch → now ≤ 253402300799999 → AreFormed rows
+      → is_well_formed (channels_read about) batch ≡ true → IsSoundBatch batch → now ≤ 253402300799999 → AreFormed rows
       → AreFormed (taken rows u s (channels_read about) batch now)

@@ -1,6 +1,6 @@
 -- What is kept of a subscription, source and channel, by number.
 use Rattle.std.specs.Prelude.{ℕ, List, [], ◌∷◌, map}
-use Rattle.wef_event.specs.declared.records.Event.{Event}
+use Rattle.wef_event.specs.Events.{Event}
 use Rattle.wef_keeper.specs.declared.keys.Depth.TheVariants.{Channel}
 use Rattle.wef_keeper.specs.declared.keys.Row.{Row}
 use Rattle.wef_keeper.specs.Rows.{Rows}

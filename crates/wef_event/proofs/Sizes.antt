@@ -9,7 +9,7 @@ use Rattle.wef_event.specs.Characters.{escape, escaped}
 use Rattle.wef_event.specs.Lengths.{within}
 use Rattle.wef_event.specs.PlainEvent.{plain_text}
 use Rattle.wef_event.specs.Unnumbered.{numbered, numbered_text}
-use Rattle.wef_event.specs.declared.records.Event.{Event}
+use Rattle.wef_event.specs.Events.{Event}
 use Rattle.wef_event.specs.declared.unnumbered.PlainEvent.{PlainEvent}
 
 -- a character in front of a text adds the bytes that it has there

@@ -1,10 +1,10 @@
 -- An event with a number: the number in digits is the one child of the field EventRecordID, or a new one, last in System.
-use Rattle.std.specs.Prelude.{ℕ, List, [], ◌∷◌, ◌++◌, Option, Some, None, Result, codes, is_some, if◌then◌else◌}
+use Rattle.std.specs.Prelude.{ℕ, true, List, [], ◌∷◌, ◌++◌, Option, Some, None, Result, codes, is_some, if◌then◌else◌}
 use Rattle.std.specs.Fmt.{decimal}
 use Rattle.std.specs.declared.result.Result.TheVariants.{Err}
 use Rattle.wef_base.specs.declared.tree.Charset.TheVariants.{Utf8}
 use Rattle.wef_base.specs.declared.tree.Element.{Element}
-use Rattle.wef_base.specs.declared.tree.Node.{Node, Chars, out-Node}
+use Rattle.wef_base.specs.declared.tree.Node.{Node, Chars}
 use Rattle.wef_base.specs.declared.tree.Node.TheVariants.{Element as Child}
 use Rattle.wef_tree.specs.Documents.{tree_of}
 use Rattle.wef_event.specs.Events.{Event, event_of}
@@ -20,7 +20,7 @@ changed_here f None n behind changed = n ∷ changed
 -- the nodes with the first element of a name changed
 abbrev pub with_first_changed : List ℕ → (Element → Element) → List Node → List Node
 with_first_changed name f [] = []
-with_first_changed name f (n ∷ ns) = changed_here f (named name (out-Node n)) n ns (with_first_changed name f ns)
+with_first_changed name f (n ∷ ns) = changed_here f (named name n) n ns (with_first_changed name f ns)
 
 abbrev pub record_id : List ℕ
 record_id = codes "EventRecordID"

@@ -9,14 +9,16 @@ use Rattle.wef_base.specs.declared.tree.Element.{Element}
 use Rattle.wef_base.specs.declared.tree.Node.{Node, Chars, Element', Row_of-Node, end_of-Node, more_of-Node, out-Node, Node-F}
 
 -- the element that a node is, where it has this name
-abbrev pub named : List ℕ → Node-F → Option Element
-named name (Node-F.Element e) = if same e.name name then Some e else None
-named name (Node-F.Chars text) = None
+abbrev pub if_named : List ℕ → Element → Option Element
+if_named name e = if same e.name name then Some e else None
+
+abbrev pub named : List ℕ → Node → Option Element
+named name n = elim (out-Node n) [ Node-F.Element e ↦ if_named name e | Node-F.Chars text ↦ None ]
 
 -- the first child of a name
 abbrev pub first_child : List ℕ → List Node → Option Element
 first_child name [] = None
-first_child name (n ∷ ns) = option_or (named name (out-Node n)) (first_child name ns)
+first_child name (n ∷ ns) = option_or (named name n) (first_child name ns)
 
 -- the field of a name in an event: the root's first child System has it as its first child of this name
 abbrev pub field_in : List ℕ → Element → Option Element

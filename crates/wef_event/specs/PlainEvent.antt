@@ -67,13 +67,11 @@ plain_tree channel number id level word = record {
 -- The plain event of a channel and a word of characters that XML allows is the event of its tree.
 abbrev pub PlainEventsAreOfTrees : Type 0
 PlainEventsAreOfTrees = (channel word : List ℕ) (number id level : ℕ) (event : Event) →
-    channel_name channel ≡ Some channel → is_utf8 channel ≡ true → is_utf8 word ≡ true → is_xml_text word ≡ true →
-    number ≤ 9223372036854775807 → id ≤ 4294967295 → level ≤ 4294967295 →
+    channel_name channel ≡ Some channel → is_utf8 channel ≡ true → is_utf8 word ≡ true → is_xml_text word ≡ true → number ≤ 9223372036854775807 →
     plain_event channel number id level word ≡ Some event → IsEventOf event (plain_tree channel number id level word)
 
 -- And where it has a number, it is the event that its text says.
 abbrev pub PlainEventsAreRead : Type 0
 PlainEventsAreRead = (channel word : List ℕ) (number id level : ℕ) (event : Event) →
-    channel_name channel ≡ Some channel → is_utf8 channel ≡ true → is_utf8 word ≡ true → is_xml_text word ≡ true →
-    1 ≤ number → number ≤ 9223372036854775807 → id ≤ 4294967295 → level ≤ 4294967295 →
+    channel_name channel ≡ Some channel → is_utf8 channel ≡ true → is_utf8 word ≡ true → is_xml_text word ≡ true → 1 ≤ number → number ≤ 9223372036854775807 →
     plain_event channel number id level word ≡ Some event → is_event event ≡ true

@@ -47,8 +47,8 @@ pub record Lower : Type 0 where
   pub log_formed_empty : log.AreFormed map.empty
   pub log_formed_started : (rows : Rows) (capacity : ℕ) → 0 < capacity → capacity ≤ 1000000 → is_boot_full rows ≡ false → log.AreFormed rows →
       log.AreFormed (started rows capacity)
-  pub log_formed_written : (rows : Rows) (event : PlainEvent) → is_full rows event.channel ≡ false → channel_name event.channel ≡ Some event.channel → log.AreFormed rows →
-      log.AreFormed (written rows event.channel (next_text rows event))
+  pub log_formed_written : (rows : Rows) (event : PlainEvent) → is_full rows event.channel ≡ false → channel_name event.channel ≡ Some event.channel → is_event (record { channel = event.channel; number = last_of rows event.channel + 1; text = next_text rows event }) ≡ true →
+      log.AreFormed rows → log.AreFormed (written rows event.channel (next_text rows event))
   -- a channel's history is no longer than numbers go
   pub log_lengths : (rows : Rows) (all : Histories) (capacity boot : ℕ) (c : List ℕ) → IsWindow rows all capacity boot → log.AreFormed rows →
       length (history all c) ≤ 9223372036854775807

@@ -10,7 +10,7 @@ use Rattle.std.specs.List.{filter_map, cons_option}
 use Rattle.std.specs.Option.{option_and_then, option_map}
 use Rattle.std.specs.Ordering.{is_eq, nat_cmp}
 use Rattle.std.specs.Prelude.{T, slice_get}
-use Rattle.wef_event.specs.declared.records.Event.{Event}
+use Rattle.wef_event.specs.Events.{Event}
 use Rattle.wef_query.specs.declared.QueryList.{QueryList}
 use Rattle.wef_source.specs.Wanted.{Range, in_ranges, selected_at, selected_text, wanted}
 use Rattle.wef_source_log.specs.Histories.{History, text_at}

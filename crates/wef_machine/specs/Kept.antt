@@ -21,7 +21,7 @@ use Rattle.wef_keeper.specs.declared.keys.Cell.{Cell}
 use Rattle.wef_keeper.specs.declared.keys.Key.{Key}
 use Rattle.wef_query.specs.declared.QueryList.{QueryList}
 use Rattle.wef_replay.specs.Good.{is_among, is_source, is_subscription}
-use Rattle.wef_source_log.specs.Histories.{history}
+use Rattle.wef_source_log.specs.Histories.{AreEvents, history}
 use Rattle.wef_source_log.specs.Forms as log
 use Rattle.wef_source_log.specs.Windows.{IsWindow, boot_of}
 use Rattle.wef_source.specs.Machine.{End, most_drawn}
@@ -104,6 +104,8 @@ pub record IsSourceKept (rows : Rows) (messages : List Message) (s : List ℕ) (
   pub window : IsWindow slot.rows slot.histories slot.capacity (boot_of slot.rows)
   -- each row of the store is of its form
   pub formed : log.AreFormed slot.rows
+  -- each text that was ever written is that of an event
+  pub events : AreEvents slot.histories
   pub running : IsRunningKept rows messages s slot slot.end
 
 -- the greatest id that a source drew, or may have drawn: where it runs, the last one since its start; else the last one

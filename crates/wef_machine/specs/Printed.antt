@@ -7,7 +7,7 @@ use Rattle.wef_machine.specs.declared.arming.Fate.{Fate}
 use Rattle.wef_machine.specs.declared.arming.Fate.TheVariants.{Done, Failed, Stopped}
 use Rattle.wef_envelope.specs.declared.FaultName.{FaultName}
 use Rattle.wef_envelope.specs.Faults.{fault_text}
-use Rattle.wef_event.specs.declared.records.Event.{Event}
+use Rattle.wef_event.specs.Events.{Event}
 
 -- a word and a name
 unfoldable pub name_line : List ℕ → List ℕ → List ℕ

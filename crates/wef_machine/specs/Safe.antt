@@ -9,7 +9,7 @@ use Rattle.wef_collector.specs.Held.{held_after, loose_rows, mark_rows}
 use Rattle.wef_collector.specs.Standing.{standing}
 use Rattle.wef_collector.specs.declared.standings.Standing as state_of
 use Rattle.wef_collector.specs.declared.standings.Standing.TheVariants as is
-use Rattle.wef_event.specs.declared.records.Event.{Event}
+use Rattle.wef_event.specs.Events.{Event}
 use Rattle.wef_eventing.specs.declared.subscriptions.Subscription.{Subscription}
 use Rattle.wef_keeper.specs.Rows.{Rows}
 use Rattle.wef_keeper.specs.declared.keys.Row.{Row}

@@ -2,8 +2,8 @@
 --     subscribe    items from 1 to 10,000, bytes from 8,192 to 4,194,304, the beat from 1 to 86,400,000, and one channel or more, all
 --                  events of each, in one group
 --     batch        of a source that isn't named `collector` and wasn't declared, with one word or more; the numbers of events and of
---                  dropped records are from 1 to 2^63 - 1, counts and how far the batch reads a channel up to that; the texts of
---                  events may be any here (`PlainEvents` says what they are in the lines that a schedule gives)
+--                  dropped records are from 1 to 2^63 - 1, counts and how far the batch reads a channel up to that; each event is
+--                  the one that its text says (`PlainEvents` says what it is in the lines that a schedule gives)
 --     source       of a capacity from 1 to 1,000,000, not named `collector`, not declared yet and not named by a batch yet
 --     write        of a declared source, and the event's text fits with the greatest number
 --     ask, poll, lost    of a declared source
@@ -18,6 +18,7 @@ use Rattle.wef_base.specs.Names.{channel_name, same, source_name, subscription_n
 use Rattle.wef_batch.specs.declared.items.Batch as batch
 use Rattle.wef_batch.specs.declared.items.Item.{Item}
 use Rattle.wef_batch.specs.declared.items.Item.TheVariants as item
+use Rattle.wef_event.specs.Events.{is_event}
 use Rattle.wef_event.specs.Unnumbered.{numbered}
 use Rattle.wef_event.specs.declared.unnumbered.PlainEvent.{PlainEvent}
 use Rattle.wef_query.specs.declared.QueryItem.{QueryItem}
@@ -64,7 +65,7 @@ abbrev pub are_all : List QueryItem → Bool
 are_all queries = not (length queries == 0) && list_all asks_for_all queries
 
 abbrev pub is_item : Item → Bool
-is_item (item.Event event) = is_channel event.channel && is_number event.number
+is_item (item.Event event) = is_channel event.channel && is_number event.number && is_event event
 is_item (item.Dropped channel first last) = is_channel channel && is_number first && is_number last
 is_item (item.Loose count) = is_count count
 
@@ -90,7 +91,7 @@ is_end (end.Source s) = is_source s && is_no_collector s
 
 -- an event whose text fits with every number of a record
 abbrev pub fits_always : PlainEvent → Bool
-fits_always event = is_channel event.channel && is_some (numbered event 9223372036854775807)
+fits_always event = is_channel event.channel && is_utf8 event.word && is_some (numbered event 9223372036854775807)
 
 -- whether a line has values of the kinds that lines have
 abbrev pub is_line : Line → Bool

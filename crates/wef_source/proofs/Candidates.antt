@@ -8,7 +8,7 @@ use Rattle.wef_base.specs.Names.{same}
 use Rattle.wef_batch.specs.Cost.{cost}
 use Rattle.wef_batch.specs.declared.items.Item.{Item}
 use Rattle.wef_batch.specs.declared.items.Item.TheVariants.{Event, Dropped}
-use Rattle.wef_event.specs.declared.records.Event as records
+use Rattle.wef_event.specs.Events as records
 use Rattle.wef_query.specs.Selected.{is_selected}
 use Rattle.wef_query.specs.declared.QueryList.{QueryList}
 use Rattle.wef_source_log.specs.Histories.{History, text_at}

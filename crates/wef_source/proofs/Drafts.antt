@@ -9,7 +9,7 @@ use Rattle.std.specs.Option.{option_to_list}
 use Rattle.wef_batch.specs.Cost.{cost}
 use Rattle.wef_batch.specs.declared.items.Item.{Item}
 use Rattle.wef_bookmark.specs.Order.{Marks}
-use Rattle.wef_event.specs.declared.records.Event.{Event}
+use Rattle.wef_event.specs.Events.{Event}
 use Rattle.wef_keeper.specs.Rows.{Rows}
 use Rattle.wef_source.specs.Building.{built, built_items, built_to, candidates, candidates_in, channel_candidates, first_number, fitting, has_room, is_of, left_items, left_over, reaches, room_of, session_channels, with_reach, with_reaches}
 use Rattle.wef_source.specs.Drafting.{empty_draft, offered, stop_at, taken, taken_all}

@@ -11,7 +11,7 @@ use Rattle.wef_batch.specs.WellFormed.{is_in}
 use Rattle.wef_batch.specs.declared.items.Item.{Item}
 use Rattle.wef_batch.specs.declared.items.Item.TheVariants.{Event, Dropped}
 use Rattle.wef_event.specs.Characters.{escape}
-use Rattle.wef_event.specs.declared.records.Event as records
+use Rattle.wef_event.specs.Events as records
 use Rattle.wef_keeper.specs.Rows.{Rows}
 use Rattle.wef_keeper.specs.Sections.{rows_under}
 use Rattle.wef_keeper.specs.declared.keys.Depth.TheVariants.{Channel}

@@ -1,7 +1,7 @@
 -- Rows that are told, and stores that are read one call after the other.
 use Rattle.std.proofs.Common.{◌≡◌, ℕ, ◌-◌, ◌<◌, ◌≤◌, ◌==◌, Bool, false, refl, subst, ◌∙◌, arith, length, Option, Some, None, List, [], ◌∷◌, IfSome}
 use Rattle.std.specs.List.{AllByRecursion}
-use Rattle.wef_event.specs.declared.records.Event.{Event}
+use Rattle.wef_event.specs.Events.{Event}
 use Rattle.wef_keeper.proofs.Openings.{all_one}
 use Rattle.wef_keeper.specs.Access.{HasRead, IsReady, OpensAndReads}
 use Rattle.wef_keeper.specs.Keeping.{IsOneOf, Stays, Store}

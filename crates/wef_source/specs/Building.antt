@@ -11,7 +11,7 @@ use Rattle.wef_batch.specs.declared.items.Batch.{Batch}
 use Rattle.wef_batch.specs.declared.items.Item.{Item}
 use Rattle.wef_batch.specs.declared.items.Item.TheVariants as item
 use Rattle.wef_bookmark.specs.Order.{Marks, number_at, raised}
-use Rattle.wef_event.specs.declared.records.Event.{Event}
+use Rattle.wef_event.specs.Events.{Event}
 use Rattle.wef_keeper.specs.Rows.{Rows}
 use Rattle.wef_query.specs.Selected.{channels_of, is_selected}
 use Rattle.wef_query.specs.declared.QueryList.{QueryList}

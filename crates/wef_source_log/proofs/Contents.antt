@@ -13,7 +13,7 @@ use Rattle.std.specs.FinMap.Entries.{below_all, find-where_key, is_sorted-where_
 use Rattle.std.specs.List.{AllByRecursion, filter}
 use Rattle.std.specs.Option.{option_map}
 use Rattle.std.specs.Ordering.{is_eq, is_lt, nat_cmp, ordering_then}
-use Rattle.wef_event.specs.declared.records.Event.{Event}
+use Rattle.wef_event.specs.Events.{Event}
 use Rattle.wef_keeper.specs.Access.{IsBehind}
 use Rattle.wef_keeper.specs.Rows.{Rows, is_after, key_cmp, key_cmp_exact, key_cmp_total, row_of}
 use Rattle.wef_keeper.specs.Sections.{is_under}

@@ -2,6 +2,7 @@
 use Rattle.std.specs.Prelude.{◌≡◌, ℕ, ◌==◌, nat_le, Bool, true, false, ◌&&◌, List, length, Option, Some, None, IfSome, if◌then◌else◌}
 use Rattle.std.specs.FinMap as finite
 use Rattle.wef_base.specs.Names.{channel_name, same}
+use Rattle.wef_event.specs.Events.{is_event}
 use Rattle.wef_keeper.specs.Rows.{Rows, row_of}
 use Rattle.wef_keeper.specs.declared.keys.Key.{Key}
 use Rattle.wef_keeper.specs.declared.keys.Row.{Row}
@@ -19,9 +20,13 @@ is_channel text = is_read (channel_name text) text
 abbrev pub is_nameless : Key → Bool
 is_nameless key = length key.sub == 0 && length key.source == 0
 
--- a record: its number is from 1 to 2^63 - 1
+-- the key of a record: its number is from 1 to 2^63 - 1
+abbrev pub is_record_key : Key → Bool
+is_record_key key = is_nameless key && nat_le 1 key.number && nat_le key.number 9223372036854775807 && is_channel key.channel
+
+-- a record: its body is the one text of an event, which says the channel and the number
 abbrev pub is_record : Row → Bool
-is_record row = is_nameless row.key && nat_le 1 row.key.number && nat_le row.key.number 9223372036854775807 && row.value == 0 && is_channel row.key.channel
+is_record row = is_record_key row.key && row.value == 0 && is_event (record { channel = row.key.channel; number = row.key.number; text = row.body })
 
 -- the last number of a channel
 abbrev pub is_last : Row → Bool

@@ -1,9 +1,10 @@
 -- The history of a source: all records that it ever wrote, channel by channel. A channel's records are numbered by
 -- their places: the first has number 1. A history never shrinks; the log keeps only the last records of it.
-use Rattle.std.specs.Prelude.{ℕ, ◌-◌, ◌==◌, List, [], ◌∷◌, ◌++◌, Option, None, slice_get, unwrap_or, if◌then◌else◌}
+use Rattle.std.specs.Prelude.{◌≡◌, ℕ, true, ◌-◌, ◌==◌, List, [], ◌∷◌, ◌++◌, Option, Some, None, slice_get, unwrap_or, if◌then◌else◌}
 use Rattle.std.specs.Ordering.{nat_cmp}
 use Rattle.std.specs.Cmp.Lexicographic.{slice_cmp}
 use Rattle.std.specs.FinMap as map
+use Rattle.wef_event.specs.Events.{is_event}
 
 -- the texts of a channel's records, in the order of their numbers
 abbrev pub History : Type 0
@@ -24,3 +25,7 @@ text_at records n = if n == 0 then None else slice_get records (n - 1)
 -- the histories with one record more
 abbrev pub extended : Histories → List ℕ → List ℕ → Histories
 extended all c text = map.insert all c (history all c ++ text ∷ [])
+
+-- Each text of the histories is that of an event, which says the channel and the number.
+abbrev pub AreEvents : Histories → Type 0
+AreEvents all = (c : List ℕ) (n : ℕ) (text : List ℕ) → text_at (history all c) n ≡ Some text → is_event (record { channel = c; number = n; text = text }) ≡ true

@@ -1,8 +1,8 @@
 -- Laws of windows: a log in which nothing was written has the window of no history, and what the rows of a window
 -- give is what its histories say.
-use Rattle.std.specs.Prelude.{◌≡◌, ℕ, ◌+◌, ◌-◌, ◌<◌, ◌≤◌, max, Some, List, [], ◌∷◌, drop, length}
+use Rattle.std.specs.Prelude.{◌≡◌, ℕ, ◌+◌, ◌-◌, ◌<◌, ◌≤◌, max, true, Some, List, [], ◌∷◌, drop, length}
 use Rattle.std.specs.FinMap as map
-use Rattle.wef_event.specs.declared.records.Event.{Event}
+use Rattle.wef_event.specs.Events.{Event, is_event}
 use Rattle.wef_base.specs.Names.{channel_name}
 use Rattle.wef_keeper.specs.Rows.{Rows}
 use Rattle.wef_source_log.specs.Forms.{AreFormed}
@@ -44,4 +44,5 @@ WindowsRead = (rows : Rows) (all : Histories) (capacity boot : ℕ) → 0 < boot
 pub record FormsStay : Type 0 where
   pub nothing : AreFormed map.empty
   pub start : (rows : Rows) (capacity : ℕ) → AreFormed rows → boot_of rows < 9223372036854775807 → 1 ≤ capacity → capacity ≤ 1000000 → AreFormed (started rows capacity)
-  pub write : (rows : Rows) (c text : List ℕ) → AreFormed rows → last_of rows c < 9223372036854775807 → channel_name c ≡ Some c → AreFormed (written rows c text)
+  pub write : (rows : Rows) (c text : List ℕ) → AreFormed rows → last_of rows c < 9223372036854775807 → channel_name c ≡ Some c
+      → is_event (record { channel = c; number = last_of rows c + 1; text = text }) ≡ true → AreFormed (written rows c text)

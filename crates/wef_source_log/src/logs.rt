@@ -3,7 +3,7 @@
 ghost use Rattle.std.specs.Prelude.{◌≡◌, ◌+◌, ◌<◌, ◌≤◌, ◌++◌, take, false, is_some, IfOk, IfErr, IfSome, OnOk, MatchResult};
 ghost use Rattle.std.specs.List.{AllByRecursion};
 ghost use Rattle.std.specs.declared.option.Option.TheVariants.{None, Some};
-ghost use Rattle.wef_event.specs.declared.records.Event as the_event;
+ghost use Rattle.wef_event.specs.Events as the_event;
 ghost use Rattle.wef_keeper.specs.Access as access;
 ghost use Rattle.wef_source_log.specs.Answers as answers;
 ghost use Rattle.wef_source_log.specs.Calls as calls;

@@ -1,7 +1,7 @@
 -- The number behind which a page ends.
 use Rattle.std.proofs.Common.{◌≡◌, ℕ, List, [], ◌∷◌, ◌++◌, refl}
 use Rattle.wef_collector.specs.Held.{last_number}
-use Rattle.wef_event.specs.declared.records.Event.{Event}
+use Rattle.wef_event.specs.Events.{Event}
 
 -- it is that of the last event
 pub last_number-push : (after : ℕ) (front : List Event) (event : Event) → last_number after (front ++ event ∷ []) ≡ event.number

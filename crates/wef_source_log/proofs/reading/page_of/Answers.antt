@@ -1,6 +1,6 @@
 use Rattle.std.proofs.Common.{◌≡◌, ◌<◌, ◌++◌, List, sym, subst, IfSome}
 use Rattle.std.specs.List.{AllByRecursion}
-use Rattle.wef_event.specs.declared.records.Event.{Event}
+use Rattle.wef_event.specs.Events.{Event}
 use Rattle.wef_source_log.specs.Windows.{last_number, records_after}
 use Rattle.wef_source_log.proofs.Contents.{records_above}
 use Rattle.wef_source_log.proofs.Pages.{is_told_rest}

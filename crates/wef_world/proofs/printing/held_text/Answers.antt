@@ -1,7 +1,7 @@
 use Rattle.std.proofs.Common.{◌<◌, ◌∙◌, ◌++◌, ℕ, [], ◌∷◌, List, length, ap, sym, append_assoc, arith}
 use Rattle.std.specs.List.{flat_map}
 use Rattle.std.specs.Prelude.{codes}
-use Rattle.wef_event.specs.declared.records.Event.{Event}
+use Rattle.wef_event.specs.Events.{Event}
 use Rattle.wef_collector.specs.Held.{held_after}
 use Rattle.wef_collector.proofs.Pages.{last_page}
 use Rattle.wef_machine.specs.States.{Collector}
