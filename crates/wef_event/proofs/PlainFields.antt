@@ -133,13 +133,15 @@ tree_says channel number id level word named h =
     ∙ ap (λ o. with_number_found root channel (number_or false o)) (says_number channel number id level word h)
     ∙ ap (λ r. with_number_found root channel r) (none_is_zero number)
 
--- an event that isn't too long
-pub short_is : (channel : List ℕ) (number id level : ℕ) (word : List ℕ) (event : Event) → plain_event channel number id level word ≡ Some event → unless_long channel number (plain_text channel number id level word) ≡ Ok event
+-- an event that isn't too long has a short text, and this channel, number and text
+pub short_is :
+    (channel : List ℕ) (number id level : ℕ) (word : List ℕ) (event : Event) → plain_event channel number id level word ≡ Some event →
+    (unless_long channel number (plain_text channel number id level word) ≡ Ok event) × (number ≡ event.number)
 short_is channel number id level word event e = by (nat_lt event_limit (length (plain_text channel number id level word))) e
   where
     whole : Event
     whole = record { channel = channel; number = number; text = plain_text channel number id level word }
 
-    by : (b : Bool) → cond b None (Some whole) ≡ Some event → ◌≡◌ {A = Result Event EventFault} (cond b (Err EventFault.TooLong) (Ok whole)) (Ok event)
+    by : (b : Bool) → cond b None (Some whole) ≡ Some event → ◌≡◌ {A = Result Event EventFault} (cond b (Err EventFault.TooLong) (Ok whole)) (Ok event) × (number ≡ event.number)
     by true e = let bad : ⊥ = cc in absurd bad
-    by false e = let same : whole ≡ event = cc in ap Ok same
+    by false e = let same : whole ≡ event = cc in (ap Ok same, ap (λ (x : Event). x.number) same)
