@@ -1,5 +1,5 @@
 -- What the tree of a plain event says: its channel and its number.
-use Rattle.std.proofs.Common.{◌≡◌, ℕ, ◌≤◌, ◌==◌, Bool, true, false, cond, List, [], ◌∷◌, length, nat_lt, refl, ap, sym, ◌∙◌, append-nil, arith}
+use Rattle.std.proofs.Common.{◌≡◌, ℕ, ◌≤◌, Bool, true, false, cond, List, [], ◌∷◌, length, nat_lt, refl, ap, sym, ◌∙◌, append-nil, arith}
 use Rattle.std.specs.Prelude.{Option, Some, None, Result, codes}
 use Rattle.std.specs.Fmt.{decimal}
 use Rattle.std.specs.List.{flat_map}
@@ -8,12 +8,12 @@ use Rattle.std.specs.declared.result.Result.TheVariants.{Ok, Err}
 use Rattle.std.proofs.lemmas.Bool.Decides.{nat_tests}
 use Rattle.wef_base.specs.Names.{channel_name, same, trimmed}
 use Rattle.wef_base.specs.declared.tree.Element.{Element}
-use Rattle.wef_base.specs.declared.tree.Node.{Node, Chars, out-Node, Node-F}
+use Rattle.wef_base.specs.declared.tree.Node.{Node, Chars, Node-F}
 use Rattle.wef_base.specs.declared.tree.Node.TheVariants.{Element as Child, outs-Element}
 use Rattle.wef_tree.specs.Scopes.{is_empty}
 use Rattle.wef_event.specs.Events.{Event, event_limit, event_of, number_or, text_of_tree, unless_long, with_channel_found, with_number_found}
-use Rattle.wef_event.specs.Paths.{channel_in, field_in, first_child, if_named, named, number_in, number_of_digits, text_in, text_inside, unless_zero}
-use Rattle.wef_event.specs.PlainEvent.{element, event_space, only_text, plain_event, plain_text, plain_tree}
+use Rattle.wef_event.specs.Paths.{channel_in, first_child, if_named, named, number_in, number_of_digits, text_in, text_inside, unless_zero}
+use Rattle.wef_event.specs.PlainEvent.{event_space, only_text, plain_event, plain_text, plain_tree}
 use Rattle.wef_event.specs.declared.records.EventFault.{EventFault}
 use Rattle.wef_event.proofs.Digits.{decimal_digits, decimal_read, digits_trimmed}
 

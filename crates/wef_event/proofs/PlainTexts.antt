@@ -1,15 +1,14 @@
 -- The text of a plain event is the one text of its tree.
-use Rattle.std.proofs.Common.{◌≡◌, ℕ, Bool, true, false, cond, List, [], ◌∷◌, ◌++◌, codes, encode_utf8, encode_utf8_all, refl, ap, sym, ◌∙◌, append_assoc, append-nil}
+use Rattle.std.proofs.Common.{◌≡◌, ℕ, Bool, true, false, cond, List, [], ◌∷◌, ◌++◌, codes, encode_utf8_all, refl, ap, sym, ◌∙◌, append_assoc, append-nil}
 use Rattle.std.specs.Fmt.{decimal}
 use Rattle.std.specs.List.{flat_map}
 use Rattle.std.specs.Str.{chars}
 use Rattle.std.proofs.Math.Utf8.{encode}
 use Rattle.std.proofs.lemmas.Str.{encodes-append}
-use Rattle.wef_base.specs.declared.tree.Attribute.{Attribute}
 use Rattle.wef_base.specs.declared.tree.Element.{Element}
 use Rattle.wef_base.specs.declared.tree.Node.{Node, Chars}
 use Rattle.wef_base.specs.declared.tree.Node.TheVariants.{Element as Child}
-use Rattle.wef_tree.specs.Canonical.{canonical, element_text, end_of, node_of, start_of, text_of}
+use Rattle.wef_tree.specs.Canonical.{canonical, end_of, node_of, start_of, text_of}
 use Rattle.wef_tree.specs.Prefixes.{Scope, inside, is_soap, outermost, root_bindings, soap_space}
 use Rattle.wef_tree.specs.Scopes.{is_empty, is_xml_space, xml_space}
 use Rattle.wef_tree.proofs.EncodedAgain.{written8}

@@ -1,6 +1,4 @@
-use Rattle.std.proofs.Common.{◌≡◌, ◌≤◌, IsUtf8, length, arith}
-use Rattle.std.specs.Prelude.{Some}
-use Rattle.wef_base.specs.Names.{channel_name}
+use Rattle.std.proofs.Common.{◌≤◌, IsUtf8, length, arith}
 use Rattle.wef_event.specs.Events.{event_limit}
 use Rattle.wef_event.specs.PlainEvent.{plain_text}
 use Rattle.wef_event.proofs.PlainTrees.{is_event_of}

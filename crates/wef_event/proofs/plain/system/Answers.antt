@@ -1,6 +1,3 @@
-use Rattle.std.proofs.Common.{◌≡◌, ◌++◌, List, [], ◌∷◌, ◌∙◌, ap, IfOk}
-use Rattle.std.specs.Fmt.{decimal}
-use Rattle.wef_event.specs.PlainEvent.{element, event_space, only_text, plain_system}
 use Rattle.wef_event.proofs.plain.system.Goals as goal
 
 pub returns : goal.returns
