@@ -170,3 +170,21 @@ pub result_kept : (letters : Letters) (limit : ℕ) (text : List ℕ) (result : 
     → IfOk result (λ name. name_of letters limit name ≡ Some name)
 result_kept letters limit text (Ok name) utf8 e = name_kept letters limit text name utf8 e
 result_kept letters limit text (Err fault) utf8 e = tt
+
+-- ---- what a name holds
+
+none_forbidden : (letters : Letters) (limit : ℕ) (cs name : List ℕ) → name_of_characters letters limit cs ≡ Some name → list_any is_forbidden cs ≡ false
+none_forbidden letters limit [] name e = refl
+none_forbidden letters limit (c ∷ cs) name e = by (list_any is_forbidden (c ∷ cs)) (nat_lt limit (length (encode_utf8_all (map (spelt letters) (c ∷ cs))))) refl e
+  where
+    by : (b long : Bool) → list_any is_forbidden (c ∷ cs) ≡ b → cond (b || long) None (Some (encode_utf8_all (map (spelt letters) (c ∷ cs)))) ≡ Some name → list_any is_forbidden (c ∷ cs) ≡ false
+    by true long held e = let bad : ⊥ = cc in absurd bad
+    by false long held e = held
+
+-- a name that reads back as itself holds no forbidden character
+pub name_allowed : (letters : Letters) (limit : ℕ) (name : List ℕ) → IsUtf8 name → name_of letters limit name ≡ Some name → list_any is_forbidden (chars name) ≡ false
+name_allowed letters limit name utf8 e =
+    let cs = trimmed_characters (chars name) in
+    let is_characters : all_scalars cs ≡ true = scalars-without_end (without_start (chars name)) (scalars-without_start (chars name) (scalars-chars name utf8)) in
+    let read : chars name ≡ map (spelt letters) cs = ap chars (sym (name_is letters limit cs name e)) ∙ chars-encodes (map (spelt letters) cs) (scalars-map_spelt letters cs is_characters) in
+    ap (list_any is_forbidden) read ∙ forbidden-map letters cs ∙ none_forbidden letters limit cs name e

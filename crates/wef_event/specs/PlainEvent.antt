@@ -52,16 +52,23 @@ only_text text = if is_empty text then [] else Chars text ∷ []
 abbrev pub element : List ℕ → List Node → Node
 element name children = Child (record { space = event_space; name = name; attributes = []; children = children })
 
+-- the part with the fields that each event has
+abbrev pub plain_system : List ℕ → ℕ → ℕ → ℕ → Node
+plain_system channel number id level =
+    element (codes "System")
+    (element (codes "EventID") (only_text (decimal id)) ∷ element (codes "Level") (only_text (decimal level))
+    ∷ element (codes "EventRecordID") (only_text (decimal number)) ∷ element (codes "Channel") (only_text channel) ∷ [])
+
+-- the part with the data
+abbrev pub plain_data : List ℕ → Node
+plain_data word = element (codes "EventData") (element (codes "Data") (only_text word) ∷ [])
+
 abbrev pub plain_tree : List ℕ → ℕ → ℕ → ℕ → List ℕ → Element
 plain_tree channel number id level word = record {
   space = event_space;
   name = codes "Event";
   attributes = [];
-  children =
-      element (codes "System")
-      (element (codes "EventID") (only_text (decimal id)) ∷ element (codes "Level") (only_text (decimal level))
-      ∷ element (codes "EventRecordID") (only_text (decimal number)) ∷ element (codes "Channel") (only_text channel) ∷ [])
-      ∷ element (codes "EventData") (element (codes "Data") (only_text word) ∷ []) ∷ [];
+  children = plain_system channel number id level ∷ plain_data word ∷ [];
 }
 
 -- The plain event of a channel and a word of characters that XML allows is the event of its tree.

@@ -2,6 +2,7 @@
 #![tactic(auto)]
 
 pub mod characters;
+pub mod laws;
 mod lengths;
 pub mod numbering;
 mod paths;

@@ -23,7 +23,8 @@ decoded8_again cs h =
     let good = is_utf8-from_IsUtf8 (encode_utf8_all cs) (cs, (h, refl)) in
     rw (good, chars-encodes cs h) refl
 
-written8 : (cs : List ℕ) → flat_map (character_bytes Utf8) cs ≡ encode_utf8_all cs
+-- in UTF-8 they are the bytes of all, one after the other
+pub written8 : (cs : List ℕ) → flat_map (character_bytes Utf8) cs ≡ encode_utf8_all cs
 written8 [] = refl
 written8 (c ∷ cs) = ap (λ t. encode c ++ t) (written8 cs)
 
