@@ -1,11 +1,11 @@
 -- What reading an event's text answers.
-use Rattle.std.specs.Prelude.{◌≡◌, ℕ, Bool, List, Result, ◌⊎◌}
+use Rattle.std.specs.Prelude.{◌≡◌, ℕ, nat_lt, Bool, List, length, Option, Some, None, Result, ◌⊎◌, if◌then◌else◌}
 use Rattle.std.specs.declared.result.Result.TheVariants.{Ok, Err}
 use Rattle.wef_base.specs.declared.tree.Charset.TheVariants.{Utf8}
 use Rattle.wef_base.specs.declared.tree.Element.{Element}
 use Rattle.wef_tree.specs.Spelling.{Spells, StopsAt}
 use Rattle.wef_tree.specs.declared.faults.FaultKind.{FaultKind}
-use Rattle.wef_event.specs.Events.{Event, event_of}
+use Rattle.wef_event.specs.Events.{Event, event_limit, event_of}
 use Rattle.wef_event.specs.declared.records.EventFault.{EventFault}
 use Rattle.wef_event.specs.declared.records.EventFault.TheVariants.{NoMemory, BadEvent, NoChannel, NoRecordId, TooLong}
 
@@ -25,3 +25,7 @@ ReadsEvent needed text (Err (BadEvent at)) = IsFaulty text at ⊎ Says needed te
 ReadsEvent needed text (Err NoChannel) = Says needed text (Err NoChannel)
 ReadsEvent needed text (Err NoRecordId) = Says needed text (Err NoRecordId)
 ReadsEvent needed text (Err TooLong) = Says needed text (Err TooLong)
+
+-- a text, where it isn't too long for an event
+abbrev pub short_text : List ℕ → Option (List ℕ)
+short_text text = if nat_lt event_limit (length text) then None else Some text

@@ -4,6 +4,7 @@
 pub mod characters;
 mod lengths;
 pub mod numbering;
+mod paths;
 pub mod plain;
 pub mod reading;
 pub mod records;

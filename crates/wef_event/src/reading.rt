@@ -1,14 +1,18 @@
 //! Reading events.
 
-ghost use Rattle.std.specs.Prelude.{◌≡◌, true, false, is_some, IfOk, IfSome};
+ghost use Rattle.std.specs.Prelude.{◌≡◌, true, false, ◌&&◌, ◌==◌, is_some, IfOk, IfSome};
+ghost use Rattle.wef_base.specs.Names.{same};
 ghost use Rattle.wef_tree.specs.Good.{IsGoodTree};
 ghost use Rattle.wef_event.specs.Events as events;
-ghost use Rattle.wef_event.specs.Events.{Gives};
-ghost use Rattle.wef_event.specs.Reading.{ReadsEvent};
+ghost use Rattle.wef_event.specs.Events.{Gives, is_event_root, number_or, text_of_tree};
+ghost use Rattle.wef_event.specs.Reading.{ReadsEvent, short_text};
 
+use crate::paths::{channel_in, number_in};
+use crate::plain::EVENT_LIMIT;
 use crate::records::{Event, EventFault};
 use std::alloc::AllocError;
-use wef_base::{ChannelName, Element, Text};
+use wef_base::{ChannelName, Charset, Element, Text};
+use wef_tree::{TreeFault, read_tree, write_tree};
 
 /// Reads an event from its text, which is a document (XML 1.0) whose root is called Event. Its
 /// channel and its number stand in the fields Channel and EventRecordID of its System, whatever the
@@ -16,14 +20,14 @@ use wef_base::{ChannelName, Element, Text};
 pub fn read_event(text: &Text) -> Result<Event, EventFault>
     ensures { ReadsEvent true text.now result }
 {
-    Err(EventFault::NoMemory)
+    read(true, text)
 }
 
 /// Reads an event as `read_event` does. It needs no number, and has 0 where it has none.
 pub fn read_new_event(text: &Text) -> Result<Event, EventFault>
     ensures { ReadsEvent false text.now result }
 {
-    Err(EventFault::NoMemory)
+    read(false, text)
 }
 
 /// The event of a root, as `read_event` has it of a text.
@@ -31,7 +35,7 @@ pub fn event_of_node(node: &Element) -> Result<Event, EventFault>
     requires { IsGoodTree node.now }
     ensures { Gives result (events.event_of true node.now) }
 {
-    Err(EventFault::NoMemory)
+    event_from(true, node.clone()?)
 }
 
 impl Event {
@@ -41,6 +45,96 @@ impl Event {
         ensures some { IfOk result (λ found. is_some found ≡ events.is_event (record { channel = channel.now; number = number; text = text.now })) }
         ensures value { IfOk result (λ found. IfSome found (λ event. event ≡ record { channel = channel.now; number = number; text = text.now })) }
     {
-        Err(AllocError)
+        let event = match read_event(text) {
+            Ok(event) => event,
+            Err(EventFault::NoMemory) => return Err(AllocError),
+            Err(_) => return Ok(None),
+        };
+        if event.is(channel, number, text) {
+            Ok(Some(event))
+        } else {
+            Ok(None)
+        }
     }
+
+    /// Whether the event has this channel, this number and this text.
+    fn is(&self, channel: &ChannelName, number: u64, text: &Text) -> bool
+        ensures { result ≡ (same channel.now self.now.channel && number == self.now.number && same text.now self.now.text) }
+    {
+        *channel == self.channel && number == self.number && *text == self.text
+    }
+}
+
+/// Reads an event; `needed`: it needs a number.
+fn read(needed: bool, text: &Text) -> Result<Event, EventFault>
+    ensures { ReadsEvent needed text.now result }
+{
+    match read_tree(text.alloc(), text.as_str().as_bytes(), Charset::Utf8) {
+        Ok(root) => event_from(needed, root),
+        Err(TreeFault::NoMemory) => Err(EventFault::NoMemory),
+        Err(TreeFault::BadCharset { at }) => Err(EventFault::BadEvent { at }),
+        Err(TreeFault::BadXml { at }) => Err(EventFault::BadEvent { at }),
+        Err(TreeFault::TooDeep { at }) => Err(EventFault::BadEvent { at }),
+        Err(TreeFault::Refused { at }) => Err(EventFault::BadEvent { at }),
+    }
+}
+
+/// The event of a root; `needed`: it needs a number.
+fn event_from(needed: bool, node: Element) -> Result<Event, EventFault>
+    requires { IsGoodTree node }
+    ensures { Gives result (events.event_of needed node) }
+{
+    if !is_event_root(&node) {
+        return Err(EventFault::BadEvent { at: 0 });
+    }
+    let Some(channel) = channel_in(&node)? else {
+        return Err(EventFault::NoChannel);
+    };
+    let Ok(number) = number_or(needed, number_in(&node)?) else {
+        return Err(EventFault::NoRecordId);
+    };
+    let Some(text) = text_of(&node)? else {
+        return Err(EventFault::TooLong);
+    };
+    Ok(Event {
+        channel,
+        number,
+        text,
+        node,
+    })
+}
+
+fn is_event_root(root: &Element) -> bool
+    ensures { result ≡ is_event_root root.now }
+{
+    root.name.as_str() == "Event"
+}
+
+/// The number that was found; where none was, it is needed, or 0 stands for none.
+fn number_or(needed: bool, found: Option<u64>) -> Result<u64, EventFault>
+    ensures { result ≡ number_or needed found }
+{
+    match found {
+        Some(number) => Ok(number),
+        None if needed => Err(EventFault::NoRecordId),
+        None => Ok(0),
+    }
+}
+
+/// The one text of a tree. None where it has more than `EVENT_LIMIT` bytes.
+fn text_of(node: &Element) -> Result<Option<Text>, AllocError>
+    requires { IsGoodTree node.now }
+    ensures { IfOk result (λ found. found ≡ short_text (text_of_tree node.now)) }
+{
+    let alloc = node.name.alloc();
+    let Ok(bytes) = write_tree(alloc, node, Charset::Utf8) else {
+        return Err(AllocError);
+    };
+    if bytes.len() > EVENT_LIMIT {
+        return Ok(None);
+    }
+    let Ok(text) = std::str::from_utf8(bytes.as_slice()) else {
+        unreachable!()
+    };
+    Ok(Some(Text::from_str(alloc, text)?))
 }
