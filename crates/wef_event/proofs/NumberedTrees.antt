@@ -1,6 +1,6 @@
 -- The tree of an event with a number: it is good, and says the channel as before and the number.
 use Rattle.std.proofs.Common.{◌≡◌, ℕ, zero, suc, ◌≤◌, ◌==◌, nat_le, nat_lt, cond, Bool, true, false, ◌&&◌, ◌||◌, List, [], ◌∷◌, ◌++◌, length, refl, ap, sym, subst, ◌∙◌, arith, append-nil, IsAscii}
-use Rattle.std.specs.Prelude.{Option, Some, None, Result, codes, is_some}
+use Rattle.std.specs.Prelude.{Option, Some, None, Result, IfOk, codes, is_some}
 use Rattle.std.specs.Fmt.{decimal}
 use Rattle.std.specs.List.{list_all}
 use Rattle.std.specs.Option.{option_and_then, option_or}
@@ -21,7 +21,7 @@ use Rattle.wef_tree.specs.Good.{AreGoodNodes, IsGoodElement, IsGoodText, IsGoodT
 use Rattle.wef_tree.specs.Scopes.{is_empty}
 use Rattle.wef_tree.proofs.GoodOpens.{AreGoodChildren, with_good_child}
 use Rattle.wef_tree.proofs.GoodPrefixes.{plain_name_is}
-use Rattle.wef_event.specs.Events.{Event, IsEventOf, event_limit, event_of, is_event_root, number_or, text_of_tree, unless_long, with_number_found}
+use Rattle.wef_event.specs.Events.{Event, Gives, IsEventOf, event_limit, event_of, is_event_root, number_or, text_of_tree, unless_long, with_number_found}
 use Rattle.wef_event.specs.Numbering.{new_field, numbered_by, numbered_children, numbered_root, numbered_system, record_id, with_first_changed, with_number, with_only}
 use Rattle.wef_event.specs.Paths.{channel_in, field_in, first_child, named, number_in, number_of_digits, text_inside}
 use Rattle.wef_event.specs.declared.records.EventFault.{EventFault}
@@ -204,11 +204,41 @@ event_of_numbered needed event node n is some small =
         (Err (EventFault.BadEvent 0)))
     ∙ ap (with_number_found (numbered_root (decimal n) node) event.channel) (either_number needed n)
 
--- what an event with a number is, by its tree
-pub with_number_is : (event : Event) (node : Element) (n : ℕ) → IsEventOf event node → 1 ≤ n → n ≤ 9223372036854775807
-    → with_number event n ≡ unless_long event.channel n (numbered_text n node)
+-- an event with a number is that of its tree with the number
+with_number_is : (event : Event) (node : Element) (n : ℕ) → IsEventOf event node → with_number event n ≡ event_of true (numbered_root (decimal n) node)
 unfolding with_number
-with_number_is event node n is some small =
-    ap (λ (text : List ℕ). numbered_by n (tree_of Utf8 text)) (made event node is.event_is).text
-    ∙ ap (numbered_by n) (tree_again node is.good)
-    ∙ event_of_numbered true event node n is some small
+with_number_is event node n is =
+    ap (λ (text : List ℕ). numbered_by n (tree_of Utf8 text)) (made event node is.event_is).text ∙ ap (numbered_by n) (tree_again node is.good)
+
+-- an event that isn't too long has its channel and its number
+record HasBoth (c : List ℕ) (n : ℕ) (event : Event) : Type 0 where
+  channel : event.channel ≡ c
+  number : event.number ≡ n
+
+short_has : (c : List ℕ) (n : ℕ) (text : List ℕ) (event : Event) → unless_long c n text ≡ Ok event → HasBoth c n event
+short_has c n text event e = by (nat_lt event_limit (length text)) e
+  where
+    by : (b : Bool) → ◌≡◌ {A = Result Event EventFault} (cond b (Err EventFault.TooLong) (Ok (record { channel = c; number = n; text = text }))) (Ok event) → HasBoth c n event
+    by true e = let bad : ⊥ = cc in absurd bad
+    by false e = let one : record { channel = c; number = n; text = text } ≡ event = cc in record { channel = sym (ap (λ x. x.channel) one); number = sym (ap (λ x. x.number) one) }
+
+-- What a call gave for the tree of an event with a number: it is what the definition gives, with the channel of the event
+-- and the number.
+pub record IsNumbered (event : Event) (n : ℕ) (result : Result Event EventFault) : Type 0 where
+  pub given : Gives result (with_number event n)
+  pub channel : IfOk result (λ made. made.channel ≡ event.channel)
+  pub number : IfOk result (λ made. made.number ≡ n)
+
+pub is_numbered : (event : Event) (node root : Element) (n : ℕ) (result : Result Event EventFault) → IsEventOf event node → 1 ≤ n → n ≤ 9223372036854775807
+    → root ≡ numbered_root (decimal n) node → Gives result (event_of true root) → IsNumbered event n result
+is_numbered event node root n result is some small same gives =
+    by result (subst (λ given. Gives result given) (ap (event_of true) same ∙ sym (with_number_is event node n is)) gives)
+  where
+    whole : with_number event n ≡ unless_long event.channel n (numbered_text n node)
+    whole = with_number_is event node n is ∙ event_of_numbered true event node n is some small
+
+    by : (r : Result Event EventFault) → Gives r (with_number event n) → IsNumbered event n r
+    by (Ok made) given =
+        let has = short_has event.channel n (numbered_text n node) made (sym whole ∙ given) in
+        record { given = given; channel = has.channel; number = has.number }
+    by (Err fault) given = record { given = given; channel = tt; number = tt }

@@ -9,6 +9,8 @@ ghost use Rattle.wef_event.specs.Numbering.{changed_node, new_field, numbered_ch
 ghost use Rattle.wef_event.specs.Paths.{named};
 ghost use Rattle.wef_event.specs.declared.records.EventFault.TheVariants.{NoMemory, TooLong};
 
+use crate::paths::named;
+use crate::reading::event_from;
 use crate::records::{Event, EventFault};
 use std::alloc::{AllocError, Global};
 use std::mem;
@@ -25,8 +27,25 @@ impl Event {
         ensures channel { IfOk result (λ event. event.channel ≡ self.now.channel) }
         ensures number { IfOk result (λ event. event.number ≡ number) }
     {
-        Err(EventFault::NoMemory)
+        event_from(true, numbered(&self.node, number)?)
     }
+}
+
+/// A copy of an event's tree with a number.
+fn numbered(node: &Element, number: u64) -> Result<Element, AllocError>
+    ensures { IfOk result (λ numbered. numbered ≡ numbered_root (decimal number) node.now) }
+{
+    let digits = digits_of(node.name.alloc(), number)?;
+    numbered_root(&digits, node.clone()?)
+}
+
+/// A number in decimal digits.
+fn digits_of(alloc: Global, number: u64) -> Result<Text, AllocError>
+    ensures { IfOk result (λ digits. digits ≡ decimal number) }
+{
+    let mut digits = Text::new(alloc);
+    digits.push_number(number)?;
+    Ok(digits)
 }
 
 /// The root of an event with the digits of a number.
@@ -120,15 +139,7 @@ fn only_child(text: &Text) -> Result<List<Node>, AllocError>
 fn first_place(name: &str, nodes: &[Node]) -> Option<usize>
     ensures { result ≡ position (λ node. is_some (named name.now node)) nodes.now }
 {
-    nodes.iter().position(|node| is_named(name, node))
-}
-
-/// Whether a node is an element of a name.
-fn is_named(name: &str, node: &Node) -> bool
-    ensures { result ≡ is_some (named name.now node.now) }
-{
-    match node {
-        Node::Element(element) => element.name.as_str() == name,
-        Node::Chars(_) => false,
-    }
+    nodes
+        .iter()
+        .position(|node| named(name, node).is_some())
 }
