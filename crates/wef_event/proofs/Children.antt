@@ -122,9 +122,11 @@ opened space name attributes shape row children (suc room) same good =
 -- what an element is that is a node of a name
 inside : (name space called : List ℕ) (attributes : List Attribute) (shape : _) (row : Row_of-Node _) (e : Element) → named name (Element' space called attributes shape row) ≡ Some e
     → (children : List Node) × (items-the_row-Node _ row ≡ children) × (record { space = space; name = called; attributes = attributes; children = children } ≡ e)
-inside name space called attributes shape row e is =
-    (_, sym (items_shown-the_row-Node-0 shape row),
-        (found_named name _ e (sym (ap (λ o. elim o [ Node-F.Element x ↦ if_named name x | Node-F.Chars more ↦ None ]) (outs-Element' space called attributes shape row)) ∙ is)).1)
+inside name space called attributes shape row e is = (
+  _,
+  sym (items_shown-the_row-Node-0 shape row),
+  (found_named name _ e (sym (ap (λ o. elim o [ Node-F.Element x ↦ if_named name x | Node-F.Chars more ↦ None ]) (outs-Element' space called attributes shape row)) ∙ is)).1,
+)
 
 -- an element that is a good node is a good element
 pub good_named : (name : List ℕ) (n : Node) (e : Element) (room : ℕ) → named name n ≡ Some e → IsGoodNode n room → IsGoodElement e room

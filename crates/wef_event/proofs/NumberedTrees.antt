@@ -69,13 +69,16 @@ with_only_good text zero good e is = is
 with_only_good text (suc room) good e is = (is.0, refl, alone text room good)
 
 new_field_good : (space text : List ℕ) (room : ℕ) → IsXmlText space → IsGoodText text → IsGoodElement (new_field space text) (suc room)
-new_field_good space text room in_space good =
-    (record {
-      named = plain_name_is 69 (codes "ventRecordID") refl refl refl;
-      in_space = in_space;
-      attributed = tt;
-      different = refl;
-    }, refl, alone text room good)
+new_field_good space text room in_space good = (
+  record {
+    named = plain_name_is 69 (codes "ventRecordID") refl refl refl;
+    in_space = in_space;
+    attributed = tt;
+    different = refl;
+  },
+  refl,
+  alone text room good,
+)
 
 children_good : (space text : List ℕ) (ns : List Node) (room : ℕ) → IsXmlText space → IsGoodText text → AreGoodChildren ns (suc room) → AreGoodChildren (numbered_children space text ns) (suc room)
 children_good space text ns room in_space good are = by (is_some (first_child record_id ns))
@@ -93,9 +96,11 @@ system_good text room good e is =
     (is.0, are.apart, are.good)
 
 root_good : (text : List ℕ) (room : ℕ) (root : Element) → IsGoodText text → IsGoodElement root (suc (suc (suc room))) → IsGoodElement (numbered_root text root) (suc (suc (suc room)))
-root_good text room root good is =
-    (is.0, changed_apart system_name (numbered_system text) root.children false ∙ is.1,
-        changed_good system_name (numbered_system text) root.children (suc (suc room)) (system_good text room good) is.2)
+root_good text room root good is = (
+  is.0,
+  changed_apart system_name (numbered_system text) root.children false ∙ is.1,
+  changed_good system_name (numbered_system text) root.children (suc (suc room)) (system_good text room good) is.2,
+)
 
 pub numbered_good : (n : ℕ) (root : Element) → n ≤ 9223372036854775807 → IsGoodTree root → IsGoodTree (numbered_root (decimal n) root)
 numbered_good n root small good = root_good (decimal n) 61 root (good_digits n small) good
@@ -145,7 +150,7 @@ number_after space digits ns = by (first_child record_id ns) refl
     by None found = record {
       field = new_field space digits;
       is = first_more record_id ns (Child (new_field space digits))
-        ∙ (λ i. option_or (found i) (named_so record_id (new_field space digits) refl i));
+          ∙ (λ i. option_or (found i) (named_so record_id (new_field space digits) refl i));
       only = append-nil digits;
     }
 
@@ -169,10 +174,10 @@ says_number n root system some small is =
     let found = number_after system.space (decimal n) system.children in
     record {
       channel = ap (option_and_then (λ field. channel_name (text_inside field)))
-        (field_after channel_field (decimal n) root system is ∙ channel_after system.space (decimal n) system.children ∙ sym (field_before channel_field root system is));
+          (field_after channel_field (decimal n) root system is ∙ channel_after system.space (decimal n) system.children ∙ sym (field_before channel_field root system is));
       number = ap (option_and_then (λ field. number_of_digits (trimmed (text_inside field)))) (field_after record_id (decimal n) root system is ∙ found.is)
-        ∙ ap (λ (text : List ℕ). number_of_digits (trimmed text)) found.only
-        ∙ digits_read n some small;
+          ∙ ap (λ (text : List ℕ). number_of_digits (trimmed text)) found.only
+          ∙ digits_read n some small;
     }
 
 -- the channel is found as before, and the number too
@@ -200,8 +205,8 @@ event_of_numbered needed event node n is some small =
     let found = made event node is.event_is in
     let says = found_in_numbered n node event.channel some small found.channel in
     (λ i. cond (found.root i)
-        (elim ((says.channel ∙ found.channel) i) [ Some c ↦ with_number_found (numbered_root (decimal n) node) c (number_or needed (says.number i)) | None ↦ Err EventFault.NoChannel ])
-        (Err (EventFault.BadEvent 0)))
+    (elim ((says.channel ∙ found.channel) i) [ Some c ↦ with_number_found (numbered_root (decimal n) node) c (number_or needed (says.number i)) | None ↦ Err EventFault.NoChannel ])
+    (Err (EventFault.BadEvent 0)))
     ∙ ap (with_number_found (numbered_root (decimal n) node) event.channel) (either_number needed n)
 
 -- an event with a number is that of its tree with the number

@@ -4,6 +4,8 @@
 pub mod characters;
 mod lengths;
 pub mod numbering;
+#[cfg(test)]
+mod numbering_tests;
 mod paths;
 pub mod plain;
 pub mod reading;

@@ -36,7 +36,9 @@ fn numbered(node: &Element, number: u64) -> Result<Element, AllocError>
     ensures { IfOk result (λ numbered. numbered ≡ numbered_root (decimal number) node.now) }
 {
     let digits = digits_of(node.name.alloc(), number)?;
-    numbered_root(&digits, node.clone()?)
+    let mut root = node.clone()?;
+    number_root(&digits, &mut root)?;
+    Ok(root)
 }
 
 /// A number in decimal digits.
@@ -48,22 +50,13 @@ fn digits_of(alloc: Global, number: u64) -> Result<Text, AllocError>
     Ok(digits)
 }
 
-/// The root of an event with the digits of a number.
-fn numbered_root(digits: &Text, root: Element) -> Result<Element, AllocError>
-    ensures { IfOk result (λ numbered. numbered ≡ numbered_root digits.now root) }
+/// Gives the root of an event the digits of a number.
+fn number_root(digits: &Text, root: &mut Element) -> Result<(), AllocError>
+    ensures { OnOk result (root.new ≡ numbered_root digits.now root.old) }
 {
-    let Element {
-        space,
-        name,
-        attributes,
-        children,
-    } = root;
-    Ok(Element {
-        space,
-        name,
-        attributes,
-        children: with_system_numbered(digits, children)?,
-    })
+    let children = mem::replace(&mut root.children, List::new(digits.alloc()));
+    root.children = with_system_numbered(digits, children)?;
+    Ok(())
 }
 
 /// The children of an event, with the digits of a number in the first System.
@@ -139,7 +132,5 @@ fn only_child(text: &Text) -> Result<List<Node>, AllocError>
 fn first_place(name: &str, nodes: &[Node]) -> Option<usize>
     ensures { result ≡ position (λ node. is_some (named name.now node)) nodes.now }
 {
-    nodes
-        .iter()
-        .position(|node| named(name, node).is_some())
+    nodes.iter().position(|node| named(name, node).is_some())
 }

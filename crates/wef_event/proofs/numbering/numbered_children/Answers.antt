@@ -16,7 +16,7 @@ returns c = c.from.ensures ∙ changed ∙ ap (numbered_children c.args.space.no
 
     changed : c.match-first_place.nodes.items ≡ numbered_children c.args.space.now c.args.digits.now nodes
     changed = elim c.match-first_place.branch [
-        in-Some+in_ok-fill_field-in-Some w ↦
+      | in-Some+in_ok-fill_field-in-Some w ↦
           let at : position (is_named record_id) nodes ≡ Some w.in-Some.place = cc in
           ap (λ v. v.items) w.nodes-is
           ∙ filled_at c.args.space.now c.args.digits.now nodes w.in-Some.place w.index_mut.result.now w.fill_field.new.node at w.index_mut.ensures.value w.in_ok-fill_field-in-Some.ensures
@@ -24,4 +24,5 @@ returns c = c.from.ensures ∙ changed ∙ ap (numbered_children c.args.space.no
           let none : position (is_named record_id) nodes ≡ None = cc in
           ap (λ v. v.items) w.nodes-is ∙ w.in_ok-push-in-None.ensures.items
           ∙ ap (λ field. nodes ++ Child field ∷ []) w.in_ok-new_field-in-None.ensures
-          ∙ added c.args.space.now c.args.digits.now nodes none ]
+          ∙ added c.args.space.now c.args.digits.now nodes none
+    ]

@@ -15,10 +15,11 @@ returns c = c.from.ensures ∙ changed ∙ ap (with_first_changed (codes "System
 
     changed : c.match-first_place.nodes.items ≡ with_first_changed (codes "System") (numbered_system c.args.digits.now) nodes
     changed = elim c.match-first_place.branch [
-        in-Some+in_ok-number_system w ↦
+      | in-Some+in_ok-number_system w ↦
           let at : position (is_named (codes "System")) nodes ≡ Some w.in-Some.place = cc in
           ap (λ v. v.items) w.nodes-is
           ∙ changed_at (codes "System") (numbered_system c.args.digits.now) nodes w.in-Some.place w.index_mut.result.now w.number_system.new.node at w.index_mut.ensures.value w.in_ok-number_system.ensures
       | in_default w ↦
           let none : position (is_named (codes "System")) nodes ≡ None = cc in
-          ap (λ v. v.items) w.nodes-is ∙ sym (changed_nowhere (codes "System") (numbered_system c.args.digits.now) nodes none) ]
+          ap (λ v. v.items) w.nodes-is ∙ sym (changed_nowhere (codes "System") (numbered_system c.args.digits.now) nodes none)
+    ]
