@@ -1,9 +1,9 @@
 -- The text of a good tree is UTF-8, and what is UTF-8 is decoded, with a byte order mark or without.
-use Rattle.std.proofs.Common.{◌≡◌, ℕ, ◌==◌, Bool, true, false, cond, List, [], ◌∷◌, ◌++◌, encode_utf8_all, refl, ap, sym, ◌∙◌, subst, arith}
+use Rattle.std.proofs.Common.{◌≡◌, ℕ, ◌==◌, Bool, true, false, cond, List, [], ◌∷◌, ◌++◌, encode_utf8_all, refl, ap, sym, ◌∙◌, arith}
 use Rattle.std.specs.Prelude.{Option, Some, None, Result}
 use Rattle.std.specs.declared.result.Result.TheVariants.{Ok, Err}
 use Rattle.std.specs.List.{flat_map}
-use Rattle.std.specs.Str.{IsUtf8, chars, is_utf8}
+use Rattle.std.specs.Str.{IsUtf8, chars}
 use Rattle.std.specs.Str.Lossy.{utf8_valid_len}
 use Rattle.std.proofs.lemmas.Bool.Decides.{nat_tests}
 use Rattle.std.proofs.lemmas.Str.{IsUtf8-past_char, is_utf8-from_IsUtf8}
@@ -11,7 +11,7 @@ use lib.Utf8.{encode}
 use Rattle.wef_base.specs.declared.tree.Charset.TheVariants.{Utf8}
 use Rattle.wef_base.specs.declared.tree.Element.{Element}
 use Rattle.wef_tree.specs.Canonical.{canonical, character_bytes}
-use Rattle.wef_tree.specs.Decoding.{decoded, decoded8, joined, mark_length, utf8_mark, without_front, without_mark}
+use Rattle.wef_tree.specs.Decoding.{decoded, joined, mark_length, utf8_mark, without_front, without_mark}
 use Rattle.wef_tree.specs.Fronts.{strip}
 use Rattle.wef_tree.specs.Good.{IsGoodTree}
 use Rattle.wef_tree.proofs.PlainTexts.{canonical_plain, plain_scalars}

@@ -45,15 +45,13 @@ impl Event {
         ensures some { IfOk result (λ found. is_some found ≡ events.is_event (record { channel = channel.now; number = number; text = text.now })) }
         ensures value { IfOk result (λ found. IfSome found (λ event. event ≡ record { channel = channel.now; number = number; text = text.now })) }
     {
-        let event = match read_event(text) {
-            Ok(event) => event,
-            Err(EventFault::NoMemory) => return Err(AllocError),
-            Err(_) => return Ok(None),
-        };
-        if event.is(channel, number, text) {
-            Ok(Some(event))
-        } else {
-            Ok(None)
+        match read_event(text) {
+            Ok(event) if event.is(channel, number, text) => Ok(Some(event)),
+            Ok(_) => Ok(None),
+            Err(fault) => match fault {
+                EventFault::NoMemory => Err(AllocError),
+                _ => Ok(None),
+            },
         }
     }
 

@@ -1,5 +1,4 @@
-use Rattle.std.proofs.Common.{◌≡◌, true, false, Ok, Err, ap, sym, ◌∙◌}
-use Rattle.std.specs.Prelude.{Some, None}
+use Rattle.std.proofs.Common.{◌≡◌, true, false, ap, sym, ◌∙◌}
 use Rattle.wef_event.specs.Events.{is_event_root, number_or}
 use Rattle.wef_event.specs.Paths.{number_in}
 use Rattle.wef_event.proofs.Found.{given_anyhow, is_there, no_channel, no_number, no_root, too_long}

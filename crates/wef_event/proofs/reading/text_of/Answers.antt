@@ -1,4 +1,4 @@
-use Rattle.std.proofs.Common.{◌≡◌, sym, subst}
+use Rattle.std.proofs.Common.{◌≡◌, subst}
 use Rattle.std.specs.Str.{IsUtf8}
 use Rattle.wef_event.specs.Events.{text_of_tree}
 use Rattle.wef_event.proofs.PlainUtf8.{tree_is_utf8}

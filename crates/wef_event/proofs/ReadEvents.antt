@@ -1,0 +1,48 @@
+-- What reading a text says of the event that the text has.
+use Rattle.std.proofs.Common.{◌≡◌, ℕ, ◌==◌, ◌&&◌, true, false, List, refl, ap, sym, ◌∙◌, ◌⊎◌, inl, inr}
+use Rattle.std.specs.Prelude.{Option, Some, None, Result}
+use Rattle.std.specs.Option.{option_and_then}
+use Rattle.std.specs.declared.result.Result.TheVariants.{Ok, Err}
+use Rattle.wef_base.specs.Names.{same}
+use Rattle.wef_base.specs.declared.tree.Charset.TheVariants.{Utf8}
+use Rattle.wef_base.specs.declared.tree.Element.{Element}
+use Rattle.wef_tree.specs.Documents.{tree_of}
+use Rattle.wef_tree.proofs.Functions.{is_given, is_spelt_by}
+use Rattle.wef_tree.proofs.Readings.{has_no_fault}
+use Rattle.wef_event.specs.Events.{Event, event_in, event_of, event_or_none, is_event, is_found}
+use Rattle.wef_event.specs.Reading.{IsFaulty, ReadsEvent, Says}
+use Rattle.wef_event.specs.declared.records.EventFault.{EventFault}
+use Rattle.wef_event.specs.declared.records.EventFault.TheVariants.{NoMemory, BadEvent, NoChannel, NoRecordId, TooLong}
+
+-- the event of a text whose root is known
+said : (text : List ℕ) (answer : Result Event EventFault) → Says true text answer → event_in text ≡ event_or_none answer
+unfolding event_in
+said text answer says =
+    ap (option_and_then (λ root. event_or_none (event_of true root))) (is_given Utf8 text says.0 says.1) ∙ ap event_or_none says.2
+
+-- a faulty text has none
+faulty : (text : List ℕ) (at : ℕ) → IsFaulty text at → event_in text ≡ None
+unfolding event_in
+faulty text at fault = by (tree_of Utf8 text) refl
+  where
+    by : (o : Option Element) → tree_of Utf8 text ≡ o → option_and_then (λ root. event_or_none (event_of true root)) o ≡ None
+    by None e = refl
+    by (Some root) e = absurd (has_no_fault Utf8 text root fault.0 at (is_spelt_by Utf8 text root e) fault.1)
+
+bad : (text : List ℕ) (at : ℕ) → IsFaulty text at ⊎ Says true text (Err (BadEvent at)) → event_in text ≡ None
+bad text at (inl fault) = faulty text at fault
+bad text at (inr says) = said text (Err (BadEvent at)) says
+
+-- where reading refuses a text, no event is the one that it says
+pub no_event : (event : Event) (fault : EventFault) → (fault ≡ NoMemory → ⊥) → ReadsEvent true event.text (Err fault) → false ≡ is_event event
+unfolding is_event
+no_event event NoMemory memory read = absurd (memory refl)
+no_event event (BadEvent at) memory read = sym (ap (is_found event) (bad event.text at read))
+no_event event NoChannel memory read = sym (ap (is_found event) (said event.text (Err NoChannel) read))
+no_event event NoRecordId memory read = sym (ap (is_found event) (said event.text (Err NoRecordId) read))
+no_event event TooLong memory read = sym (ap (is_found event) (said event.text (Err TooLong) read))
+
+-- where reading gives an event, another is the one that the text says if it is the same
+pub other_event : (event other : Event) → Says true event.text (Ok other) → (same event.channel other.channel && event.number == other.number && same event.text other.text) ≡ is_event event
+unfolding is_event
+other_event event other read = sym (ap (is_found event) (said event.text (Ok other) read))
