@@ -4,7 +4,7 @@ use Rattle.std.specs.Fmt.{decimal}
 use Rattle.std.specs.declared.result.Result.TheVariants.{Err}
 use Rattle.wef_base.specs.declared.tree.Charset.TheVariants.{Utf8}
 use Rattle.wef_base.specs.declared.tree.Element.{Element}
-use Rattle.wef_base.specs.declared.tree.Node.{Node, Chars}
+use Rattle.wef_base.specs.declared.tree.Node.{Node, Chars, out-Node, Node-F}
 use Rattle.wef_base.specs.declared.tree.Node.TheVariants.{Element as Child}
 use Rattle.wef_tree.specs.Documents.{tree_of}
 use Rattle.wef_event.specs.Events.{Event, event_of}
@@ -21,6 +21,10 @@ changed_here f None n behind changed = n ∷ changed
 abbrev pub with_first_changed : List ℕ → (Element → Element) → List Node → List Node
 with_first_changed name f [] = []
 with_first_changed name f (n ∷ ns) = changed_here f (named name n) n ns (with_first_changed name f ns)
+
+-- a node, changed where it is an element
+abbrev pub changed_node : (Element → Element) → Node → Node
+changed_node f n = elim (out-Node n) [ Node-F.Element e ↦ Child (f e) | Node-F.Chars text ↦ n ]
 
 abbrev pub record_id : List ℕ
 record_id = codes "EventRecordID"

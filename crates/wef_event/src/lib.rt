@@ -5,6 +5,8 @@ pub mod characters;
 pub mod laws;
 mod lengths;
 pub mod numbering;
+#[cfg(test)]
+mod numbering_tests;
 mod paths;
 pub mod plain;
 pub mod reading;

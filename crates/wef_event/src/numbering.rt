@@ -1,11 +1,20 @@
 //! Giving an event its number.
 
-ghost use Rattle.std.specs.Prelude.{◌≡◌, ◌≤◌, IfOk, IfErr};
+ghost use Rattle.std.specs.Prelude.{◌≡◌, ◌≤◌, [], ◌∷◌, codes, is_some, IfOk, IfErr, OnOk};
+ghost use Rattle.std.specs.Fmt.{decimal};
+ghost use Rattle.std.specs.List.{position};
+ghost use Rattle.wef_base.specs.declared.tree.Node.{Chars};
 ghost use Rattle.wef_event.specs.Events.{Gives};
-ghost use Rattle.wef_event.specs.Numbering.{with_number};
+ghost use Rattle.wef_event.specs.Numbering.{changed_node, new_field, numbered_children, numbered_root, numbered_system, with_first_changed, with_number, with_only};
+ghost use Rattle.wef_event.specs.Paths.{named};
 ghost use Rattle.wef_event.specs.declared.records.EventFault.TheVariants.{NoMemory, TooLong};
 
+use crate::paths::named;
+use crate::reading::event_from;
 use crate::records::{Event, EventFault};
+use std::alloc::{AllocError, Global};
+use std::mem;
+use wef_base::{Element, List, Namespace, Node, Text};
 
 impl Event {
     /// The event with a number: its digits are all that its field EventRecordID holds, or stand in
@@ -18,6 +27,110 @@ impl Event {
         ensures channel { IfOk result (λ event. event.channel ≡ self.now.channel) }
         ensures number { IfOk result (λ event. event.number ≡ number) }
     {
-        Err(EventFault::NoMemory)
+        event_from(true, numbered(&self.node, number)?)
     }
+}
+
+/// A copy of an event's tree with a number.
+fn numbered(node: &Element, number: u64) -> Result<Element, AllocError>
+    ensures { IfOk result (λ numbered. numbered ≡ numbered_root (decimal number) node.now) }
+{
+    let digits = digits_of(node.name.alloc(), number)?;
+    let mut root = node.clone()?;
+    number_root(&digits, &mut root)?;
+    Ok(root)
+}
+
+/// A number in decimal digits.
+fn digits_of(alloc: Global, number: u64) -> Result<Text, AllocError>
+    ensures { IfOk result (λ digits. digits ≡ decimal number) }
+{
+    let mut digits = Text::new(alloc);
+    digits.push_number(number)?;
+    Ok(digits)
+}
+
+/// Gives the root of an event the digits of a number.
+fn number_root(digits: &Text, root: &mut Element) -> Result<(), AllocError>
+    ensures { OnOk result (root.new ≡ numbered_root digits.now root.old) }
+{
+    let children = mem::replace(&mut root.children, List::new(digits.alloc()));
+    root.children = with_system_numbered(digits, children)?;
+    Ok(())
+}
+
+/// The children of an event, with the digits of a number in the first System.
+fn with_system_numbered(digits: &Text, children: List<Node>) -> Result<List<Node>, AllocError>
+    ensures { IfOk result (λ changed. changed ≡ with_first_changed (codes "System") (numbered_system digits.now) children) }
+{
+    let mut nodes = children.into_vec();
+    if let Some(place) = first_place("System", nodes.as_slice()) {
+        number_system(digits, &mut nodes[place])?;
+    }
+    Ok(List::from(nodes))
+}
+
+/// Gives System the digits of a number.
+fn number_system(digits: &Text, node: &mut Node) -> Result<(), AllocError>
+    ensures { OnOk result (node.new ≡ changed_node (numbered_system digits.now) node.old) }
+{
+    if let Node::Element(system) = node {
+        let children = mem::replace(&mut system.children, List::new(digits.alloc()));
+        system.children = numbered_children(digits, &system.space, children)?;
+    }
+    Ok(())
+}
+
+/// The children of System, whose namespace this is, with the digits of a number.
+fn numbered_children(
+    digits: &Text,
+    space: &Namespace,
+    children: List<Node>,
+) -> Result<List<Node>, AllocError>
+    ensures { IfOk result (λ changed. changed ≡ numbered_children space.now digits.now children) }
+{
+    let mut nodes = children.into_vec();
+    match first_place("EventRecordID", nodes.as_slice()) {
+        Some(place) => fill_field(digits, &mut nodes[place])?,
+        None => nodes.push(Node::Element(new_field(digits, space)?))?,
+    }
+    Ok(List::from(nodes))
+}
+
+/// Has the digits of a number be all that a field holds.
+fn fill_field(digits: &Text, node: &mut Node) -> Result<(), AllocError>
+    ensures { OnOk result (node.new ≡ changed_node (with_only digits.now) node.old) }
+{
+    if let Node::Element(field) = node {
+        field.children = only_child(digits)?;
+    }
+    Ok(())
+}
+
+/// A new field with the digits of a number, in a namespace.
+fn new_field(digits: &Text, space: &Namespace) -> Result<Element, AllocError>
+    ensures { IfOk result (λ field. field ≡ new_field space.now digits.now) }
+{
+    Ok(Element {
+        space: space.clone()?,
+        name: Text::from_str(digits.alloc(), "EventRecordID")?,
+        attributes: List::new(digits.alloc()),
+        children: only_child(digits)?,
+    })
+}
+
+/// A text as the one child of an element.
+fn only_child(text: &Text) -> Result<List<Node>, AllocError>
+    ensures { IfOk result (λ children. children ≡ Chars text.now ∷ []) }
+{
+    let mut children = List::new(text.alloc());
+    children.push(Node::Chars(text.clone()?))?;
+    Ok(children)
+}
+
+/// The place of the first element of a name.
+fn first_place(name: &str, nodes: &[Node]) -> Option<usize>
+    ensures { result ≡ position (λ node. is_some (named name.now node)) nodes.now }
+{
+    nodes.iter().position(|node| named(name, node).is_some())
 }

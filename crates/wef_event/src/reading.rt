@@ -78,7 +78,7 @@ fn read(needed: bool, text: &Text) -> Result<Event, EventFault>
 }
 
 /// The event of a root; `needed`: it needs a number.
-fn event_from(needed: bool, node: Element) -> Result<Event, EventFault>
+pub(crate) fn event_from(needed: bool, node: Element) -> Result<Event, EventFault>
     requires { IsGoodTree node }
     ensures { Gives result (events.event_of needed node) }
 {
