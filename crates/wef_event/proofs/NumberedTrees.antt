@@ -1,6 +1,6 @@
 -- The tree of an event with a number: it is good, and says the channel as before and the number.
 use Rattle.std.proofs.Common.{◌≡◌, ℕ, zero, suc, ◌≤◌, ◌==◌, nat_le, nat_lt, cond, Bool, true, false, ◌&&◌, ◌||◌, List, [], ◌∷◌, ◌++◌, length, refl, ap, sym, subst, ◌∙◌, arith, append-nil, IsAscii}
-use Rattle.std.specs.Prelude.{Option, Some, None, Result, IfOk, codes, is_some}
+use Rattle.std.specs.Prelude.{Option, Some, None, Result, IfOk, IfErr, codes, is_some}
 use Rattle.std.specs.Fmt.{decimal}
 use Rattle.std.specs.List.{list_all}
 use Rattle.std.specs.Option.{option_and_then, option_or}
@@ -22,7 +22,7 @@ use Rattle.wef_tree.specs.Scopes.{is_empty}
 use Rattle.wef_tree.proofs.GoodOpens.{AreGoodChildren, with_good_child}
 use Rattle.wef_tree.proofs.GoodPrefixes.{plain_name_is}
 use Rattle.wef_event.specs.Events.{Event, Gives, IsEventOf, event_limit, event_of, is_event_root, number_or, text_of_tree, unless_long, with_number_found}
-use Rattle.wef_event.specs.Numbering.{new_field, numbered_by, numbered_children, numbered_root, numbered_system, record_id, with_first_changed, with_number, with_only}
+use Rattle.wef_event.specs.Numbering.{RefusesNumber, new_field, numbered_by, numbered_children, numbered_root, numbered_system, record_id, with_first_changed, with_number, with_only}
 use Rattle.wef_event.specs.Paths.{channel_in, field_in, first_child, named, number_in, number_of_digits, text_inside}
 use Rattle.wef_event.specs.declared.records.EventFault.{EventFault}
 use Rattle.wef_event.proofs.Children.{KeepsGood, changed_apart, changed_good, first_changed, first_more, first_other, named_otherwise, named_so}
@@ -233,6 +233,23 @@ pub record IsNumbered (event : Event) (n : ℕ) (result : Result Event EventFaul
   pub given : Gives result (with_number event n)
   pub channel : IfOk result (λ made. made.channel ≡ event.channel)
   pub number : IfOk result (λ made. made.number ≡ n)
+  pub refusal : IfErr result RefusesNumber
+
+-- only its length is wrong with it
+too_long : (c : List ℕ) (n : ℕ) (text : List ℕ) (fault : EventFault) → unless_long c n text ≡ Err fault → RefusesNumber fault
+too_long c n text fault e = by (nat_lt event_limit (length text)) e
+  where
+    by : (b : Bool) → ◌≡◌ {A = Result Event EventFault} (cond b (Err EventFault.TooLong) (Ok (record { channel = c; number = n; text = text }))) (Err fault) → RefusesNumber fault
+    by true e = let same : EventFault.TooLong ≡ fault = cc in subst RefusesNumber same tt
+    by false e = let bad : ⊥ = cc in absurd bad
+
+-- a refusal that the definition gives
+given_refusal : (fault : EventFault) (given : Result Event EventFault) → Gives (Err fault) given → (given ≡ Err fault → RefusesNumber fault) → RefusesNumber fault
+given_refusal EventFault.NoMemory given gives refuses = tt
+given_refusal (EventFault.BadEvent at) given gives refuses = refuses gives
+given_refusal EventFault.NoChannel given gives refuses = refuses gives
+given_refusal EventFault.NoRecordId given gives refuses = refuses gives
+given_refusal EventFault.TooLong given gives refuses = tt
 
 pub is_numbered : (event : Event) (node root : Element) (n : ℕ) (result : Result Event EventFault) → IsEventOf event node → 1 ≤ n → n ≤ 9223372036854775807
     → root ≡ numbered_root (decimal n) node → Gives result (event_of true root) → IsNumbered event n result
@@ -245,5 +262,10 @@ is_numbered event node root n result is some small same gives =
     by : (r : Result Event EventFault) → Gives r (with_number event n) → IsNumbered event n r
     by (Ok made) given =
         let has = short_has event.channel n (numbered_text n node) made (sym whole ∙ given) in
-        record { given = given; channel = has.channel; number = has.number }
-    by (Err fault) given = record { given = given; channel = tt; number = tt }
+        record { given = given; channel = has.channel; number = has.number; refusal = tt }
+    by (Err fault) given = record {
+      given = given;
+      channel = tt;
+      number = tt;
+      refusal = given_refusal fault (with_number event n) given (λ e. too_long event.channel n (numbered_text n node) fault (sym whole ∙ e));
+    }

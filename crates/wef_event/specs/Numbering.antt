@@ -10,7 +10,7 @@ use Rattle.wef_tree.specs.Documents.{tree_of}
 use Rattle.wef_event.specs.Events.{Event, event_of}
 use Rattle.wef_event.specs.Paths.{first_child, named}
 use Rattle.wef_event.specs.declared.records.EventFault.{EventFault}
-use Rattle.wef_event.specs.declared.records.EventFault.TheVariants.{BadEvent}
+use Rattle.wef_event.specs.declared.records.EventFault.TheVariants.{NoMemory, BadEvent, NoChannel, NoRecordId, TooLong}
 
 -- a node and those behind it, where the node is an element that changes; else the node and what becomes of those
 abbrev pub changed_here : (Element → Element) → Option Element → Node → List Node → List Node → List Node
@@ -57,3 +57,11 @@ numbered_by n None = Err (BadEvent 0)
 -- an event with a number, or TooLong where its text then is too long
 unfoldable pub with_number : Event → ℕ → Result Event EventFault
 with_number event n = numbered_by n (tree_of Utf8 event.text)
+
+-- an event gets its number, but for want of memory, or where its text then is too long
+abbrev pub RefusesNumber : EventFault → Type 0
+RefusesNumber NoMemory = Unit {0}
+RefusesNumber TooLong = Unit {0}
+RefusesNumber (BadEvent at) = ⊥
+RefusesNumber NoChannel = ⊥
+RefusesNumber NoRecordId = ⊥

@@ -5,9 +5,8 @@ ghost use Rattle.std.specs.Fmt.{decimal};
 ghost use Rattle.std.specs.List.{position};
 ghost use Rattle.wef_base.specs.declared.tree.Node.{Chars};
 ghost use Rattle.wef_event.specs.Events.{Gives};
-ghost use Rattle.wef_event.specs.Numbering.{changed_node, new_field, numbered_children, numbered_root, numbered_system, with_first_changed, with_number, with_only};
+ghost use Rattle.wef_event.specs.Numbering.{RefusesNumber, changed_node, new_field, numbered_children, numbered_root, numbered_system, with_first_changed, with_number, with_only};
 ghost use Rattle.wef_event.specs.Paths.{named};
-ghost use Rattle.wef_event.specs.declared.records.EventFault.TheVariants.{NoMemory, TooLong};
 
 use crate::paths::named;
 use crate::reading::event_from;
@@ -26,6 +25,7 @@ impl Event {
         ensures given { Gives result (with_number self.now number) }
         ensures channel { IfOk result (λ event. event.channel ≡ self.now.channel) }
         ensures number { IfOk result (λ event. event.number ≡ number) }
+        ensures refusal { IfErr result RefusesNumber }
     {
         event_from(true, numbered(&self.node, number)?)
     }

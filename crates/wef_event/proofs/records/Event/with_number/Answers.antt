@@ -21,3 +21,6 @@ returns-clause-channel c = (made c).channel
 
 pub returns-clause-number : goal.returns-clause-number
 returns-clause-number c = (made c).number
+
+pub returns-clause-refusal : goal.returns-clause-refusal
+returns-clause-refusal c = (made c).refusal
