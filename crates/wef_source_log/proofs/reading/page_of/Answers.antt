@@ -1,4 +1,4 @@
-use Rattle.std.proofs.Common.{◌≡◌, ◌<◌, ◌++◌, rules, false, take, map, ap, sym, ◌∙◌, subst, List, Option, Some, IfSome}
+use Rattle.std.proofs.Common.{◌≡◌, ◌<◌, ◌++◌, rules, false, take, map, ap, sym, ◌∙◌, subst, List, Option, IfSome}
 use Rattle.std.specs.List.{AllByRecursion, list_all}
 use Rattle.wef_event.specs.Events.{Event}
 use Rattle.wef_keeper.specs.declared.keys.Row.{Row}
