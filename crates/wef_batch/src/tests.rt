@@ -2,9 +2,9 @@
 
 use crate::{Batch, Item, cost, judge, loose_sum, reach};
 use std::alloc::Global;
-use wef_base::{ChannelName, List, Text, ValueFault};
+use wef_base::{ChannelName, List, Text, ValueFault, is_xml_text};
 use wef_bookmark::Bookmark;
-use wef_event::Event;
+use wef_event::{Event, plain_event};
 
 /// What an item of a case is, its channel by a letter.
 #[derive(Clone, Copy)]
@@ -21,14 +21,22 @@ fn channel(alloc: Global, word: &str) -> Result<ChannelName, ValueFault> {
     ChannelName::read(&Text::from_str(alloc, word)?)
 }
 
+/// The event of a channel with a number and a word, or a fault where there is none.
+fn event_of(alloc: Global, name: &str, number: u64, word: &str) -> Result<Event, ValueFault> {
+    let word = Text::from_str(alloc, word)?;
+    if number > MAX || !is_xml_text(&word)? {
+        return Err(ValueFault::TooLarge);
+    }
+    match plain_event(&channel(alloc, name)?, number, 0, 0, &word) {
+        Ok(event) => Ok(event),
+        Err(_) => Err(ValueFault::NoMemory),
+    }
+}
+
 fn item_of(alloc: Global, part: Part) -> Result<Option<Item>, ValueFault> {
     Ok(match part {
         Part::Nothing => None,
-        Part::Event(name, number) => Some(Item::Event(Event {
-            channel: channel(alloc, name)?,
-            number,
-            text: Text::from_str(alloc, "<Event></Event>")?,
-        })),
+        Part::Event(name, number) => Some(Item::Event(event_of(alloc, name, number, "a")?)),
         Part::Dropped(name, first, last) => Some(Item::Dropped {
             channel: channel(alloc, name)?,
             first,
@@ -231,27 +239,16 @@ fn a_batch_reaches_its_bookmark_or_its_last(rt: HostRuntime) {
 #[test]
 fn an_event_costs_its_escaped_text(rt: HostRuntime) {
     let alloc = rt.alloc();
+    // Round the text stand 77 bytes. With an empty word it has 218 bytes, and 96 more once its 16 tags
+    // are escaped. What a word escapes there is escaped again.
     let cases = [
-        (
-            "",
-            "<w:Event Action=\"http://schemas.dmtf.org/wbem/wsman/1/wsman/Event\"></w:Event>",
-        ),
-        (
-            "<Event>\"'</Event>",
-            "<w:Event Action=\"http://schemas.dmtf.org/wbem/wsman/1/wsman/Event\">&lt;Event&gt;\"'&lt;/Event&gt;</w:Event>",
-        ),
-        (
-            "&\t\n\r;\u{e9}\u{20ac}\u{1f600}",
-            "<w:Event Action=\"http://schemas.dmtf.org/wbem/wsman/1/wsman/Event\">&amp;&#x9;&#xA;&#xD;;\u{e9}\u{20ac}\u{1f600}</w:Event>",
-        ),
+        ("", 391),
+        ("<a> \"'", 411),
+        ("&\t\n\r;\u{e9}\u{20ac}\u{1f600}", 437),
     ];
-    for (text, written) in cases {
-        let item = Item::Event(Event {
-            channel: channel(alloc, "a").expect(&rt, "a name"),
-            number: 7,
-            text: Text::from_str(alloc, text).expect(&rt, "memory"),
-        });
-        assert_eq!(&rt; cost(&item), written.len() as u64, "at {text}");
+    for (word, want) in cases {
+        let event = event_of(alloc, "a", 7, word).expect(&rt, "an event");
+        assert_eq!(&rt; cost(&Item::Event(event)), want, "at {word}");
     }
 }
 

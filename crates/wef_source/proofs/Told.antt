@@ -1,11 +1,13 @@
 -- Rows that are told, and stores that are read one call after the other.
 use Rattle.std.proofs.Common.{◌≡◌, ℕ, ◌-◌, ◌<◌, ◌≤◌, ◌==◌, Bool, false, refl, subst, ◌∙◌, arith, length, Option, Some, None, List, [], ◌∷◌, IfSome}
 use Rattle.std.specs.List.{AllByRecursion}
+use Rattle.wef_base.specs.Counts.{Rose}
 use Rattle.wef_event.specs.Events.{Event}
 use Rattle.wef_keeper.proofs.Openings.{all_one}
-use Rattle.wef_keeper.specs.Access.{HasRead, IsReady, OpensAndReads}
+use Rattle.wef_keeper.specs.Access.{HasRead, IsReady, OpensAndReads, Reads}
 use Rattle.wef_keeper.specs.Keeping.{IsOneOf, Stays, Store}
 use Rattle.wef_keeper.specs.Rows.{Rows}
+use Rattle.wef_source_log.specs.Forms.{AreFormed}
 use Rattle.wef_source_log.specs.Windows.{last_number}
 
 -- ---- facts of rows that are told
@@ -53,6 +55,18 @@ read_twice before mid now h k = (
   where
     up : (a b c : ℕ) → a ≤ b → b ≤ c → a ≤ c
     up a b c p q = omega arith
+
+-- a read that may fail, after one that is done
+pub reads_after : (failed : Bool) (before mid now : Store) → HasRead before mid → Reads AreFormed failed mid now → Reads AreFormed failed before now
+reads_after failed before mid now h k = (
+  read_twice before mid now h k.0,
+  λ e. if_told (λ (rows : Rows). AreFormed rows → Rose mid.faults now.faults) (λ (rows : Rows). AreFormed rows → Rose before.faults now.faults) now.rows
+      (λ rows rose formed. rose_later before.faults mid.faults now.faults h.5 (rose formed)) (k.1 e),
+  subst (λ (plan : Option (Option Bool)). IfSome plan (λ planned. IfSome now.rows (λ rows. AreFormed rows → failed ≡ false))) h.4 k.2,
+)
+  where
+    rose_later : (a b c : ℕ) → a ≤ b → Rose b c → Rose a c
+    rose_later a b c p rose = omega arith
 
 -- ---- a store that isn't touched
 

@@ -5,18 +5,21 @@ use Rattle.std.proofs.lemmas.Bool.Decides.{nat_tests}
 use Rattle.std.proofs.lemmas.List.Elements.{All-head, All-tail, All-take, All-weaker}
 use Rattle.std.specs.Cmp.Lexicographic.{nat_list_eq_equiv}
 use Rattle.std.specs.FinMap as finite
-use Rattle.std.specs.List.{All, list_all}
+use Rattle.std.specs.List.{All, AllByRecursion, list_all}
 use Rattle.std.specs.Option.{option_map}
 use Rattle.std.specs.Prelude.{Option, Some, None, IfSome}
-use Rattle.wef_keeper.specs.Keeping.{row_at}
 use Rattle.wef_base.specs.Names.{channel_name}
+use Rattle.wef_event.specs.Events.{is_event}
+use Rattle.wef_keeper.specs.Access.{IsBehind}
+use Rattle.wef_keeper.specs.Keeping.{row_at}
 use Rattle.wef_keeper.specs.Laws.{get-changed}
 use Rattle.wef_keeper.specs.Rows.{Rows, applied, cell_of, cell_of_row, changed, key_cmp, key_cmp_exact, key_of, row_of}
-use Rattle.wef_keeper.specs.Sections.{rows_under}
+use Rattle.wef_keeper.specs.Sections.{is_under, rows_under}
 use Rattle.wef_keeper.specs.declared.keys.Cell.{Cell}
 use Rattle.wef_keeper.specs.declared.keys.Change.{Change}
 use Rattle.wef_keeper.specs.declared.keys.Change.TheVariants.{Delete, Put}
 use Rattle.wef_keeper.specs.declared.keys.Depth.{Depth}
+use Rattle.wef_keeper.specs.declared.keys.Depth.TheVariants.{Channel}
 use Rattle.wef_keeper.specs.declared.keys.Key.{Key}
 use Rattle.wef_keeper.specs.declared.keys.Row.{Row}
 use Rattle.wef_source_log.specs.Forms.{AreFormed, has_number, is_bare, is_boot, is_capacity, is_channel, is_formed, is_last, is_nameless, is_read, is_record, is_whole}
@@ -24,6 +27,7 @@ use Rattle.wef_source_log.specs.Keys.{boot_key, capacity_key, last_key, record_k
 use Rattle.wef_source_log.specs.Laws.{FormsStay}
 use Rattle.wef_source_log.specs.Windows.{boot_of, capacity_changes, capacity_of, last_of, start_changes, write_changes}
 use Rattle.wef_source_log.proofs.Cells.{hits, tie}
+use Rattle.wef_source_log.proofs.Pages.{own_key}
 use Rattle.wef_source_log.proofs.Stands.{Stands, rows_stand}
 
 IsFormed : Row → Type 0
@@ -71,9 +75,25 @@ pub no_whole : (told : Option Rows) (key : Key) (found : Option Row) → is_whol
 no_whole told key None ill is = let bad : ⊥ = cc in absurd bad
 no_whole told key (Some row) ill is = no_row told key row ill is
 
-pub no_page : (told : Option Rows) (n : ℕ) (depth : Depth) (after : Key) (page : List Row) → list_all is_formed page ≡ false → IfSome told (λ rows. page ≡ take n (rows_under depth after rows)) → IfSome told (λ rows. AreFormed rows → ⊥)
-no_page None n depth after page ill is = tt
-no_page (Some rows) n depth after page ill is = λ formed. let well = formed_front n depth after rows page formed is in cc
+-- a row with the key of a record is of its form where it is a record
+record_form : (c : List ℕ) (after : ℕ) (row : Row) → is_under Channel (record_key c after) row.key ≡ true → is_record row ≡ is_formed row
+unfolding is_formed
+record_form c after row under =
+    ap (λ (key : Key). if key.kind == 9 then is_record row else (if key.kind == 10 then is_last row else (if key.kind == 11 then is_capacity row else (if key.kind == 12 then is_boot row else true))))
+    (sym (own_key c after row.key under))
+
+record_forms : (c : List ℕ) (after : ℕ) (rows : List Row) → AllByRecursion (IsBehind Channel (record_key c after)) rows → list_all is_record rows ≡ list_all is_formed rows
+record_forms c after [] behind = refl
+record_forms c after (row ∷ rows) behind = λ i. record_form c after row behind.0.under i && record_forms c after rows behind.1 i
+
+-- so where a row of a page isn't a record, the rows aren't all of their form
+pub no_record : (told : Option Rows) (n : ℕ) (c : List ℕ) (after : ℕ) (start : Key) (page : List Row) → start ≡ record_key c after → AllByRecursion (IsBehind Channel start) page
+    → list_all is_record page ≡ false → IfSome told (λ rows. page ≡ take n (rows_under Channel start rows)) → IfSome told (λ rows. AreFormed rows → ⊥)
+no_record None n c after start page begins behind ill is = tt
+no_record (Some rows) n c after start page begins behind ill is = λ formed.
+    let well = formed_front n Channel start rows page formed is in
+    let same = record_forms c after page (subst (λ (key : Key). AllByRecursion (IsBehind Channel key) page) begins behind) in
+    cc
 
 -- ---- a number that stands
 
@@ -171,9 +191,10 @@ below_test n m h = grind (arith, nat_tests)
 kept_name : (c : List ℕ) → channel_name c ≡ Some c → is_channel c ≡ true
 kept_name c e = ap (λ (read : Option (List ℕ)). is_read read c) e ∙ nat_list_eq_equiv.refl c
 
-record_sound : (c text : List ℕ) (n : ℕ) → 1 ≤ n → n ≤ 9223372036854775807 → channel_name c ≡ Some c → IsSound (Put (record { key = record_key c n; value = 0; body = text }))
+record_sound : (c text : List ℕ) (n : ℕ) → 1 ≤ n → n ≤ 9223372036854775807 → channel_name c ≡ Some c → is_event (record { channel = c; number = n; text = text }) ≡ true
+    → IsSound (Put (record { key = record_key c n; value = 0; body = text }))
 unfolding is_formed
-record_sound c text n some within name = λ i. true && below_test 1 n some i && below_test n 9223372036854775807 within i && true && kept_name c name i
+record_sound c text n some within name event = λ i. true && below_test 1 n some i && below_test n 9223372036854775807 within i && kept_name c name i && true && event i
 
 last_sound : (c : List ℕ) (n : ℕ) → n ≤ 9223372036854775807 → channel_name c ≡ Some c → IsSound (Put (record { key = last_key c; value = n; body = [] }))
 unfolding is_formed
@@ -195,8 +216,9 @@ leaving_sound : (full : Bool) (key : Key) → AreSound (if full then Delete key 
 leaving_sound true key = (tt, tt)
 leaving_sound false key = tt
 
-write_sound : (capacity n : ℕ) (c text : List ℕ) → 1 ≤ n → n ≤ 9223372036854775807 → channel_name c ≡ Some c → AreSound (write_changes capacity c n text)
-write_sound capacity n c text some within name = (record_sound c text n some within name, (last_sound c n within name, leaving_sound (nat_lt capacity n) (record_key c (n - capacity))))
+write_sound : (capacity n : ℕ) (c text : List ℕ) → 1 ≤ n → n ≤ 9223372036854775807 → channel_name c ≡ Some c → is_event (record { channel = c; number = n; text = text }) ≡ true
+    → AreSound (write_changes capacity c n text)
+write_sound capacity n c text some within name event = (record_sound c text n some within name event, (last_sound c n within name, leaving_sound (nat_lt capacity n) (record_key c (n - capacity))))
 
 next_within : (n : ℕ) → n < 9223372036854775807 → n + 1 ≤ 9223372036854775807
 next_within n h = omega arith
@@ -213,7 +235,7 @@ forms_stay = record {
   nothing = nothing_formed;
   start = λ rows capacity formed left some most.
       formed_applied (start_changes rows capacity) rows (start_sound capacity (boot_of rows + 1) (finite.get rows capacity_key) some most (next_within (boot_of rows) left)) formed;
-  write = λ rows c text formed left name.
+  write = λ rows c text formed left name event.
       formed_applied (write_changes (capacity_of rows) c (last_of rows c + 1) text) rows
-      (write_sound (capacity_of rows) (last_of rows c + 1) c text (next_some (last_of rows c)) (next_within (last_of rows c) left) name) formed;
+      (write_sound (capacity_of rows) (last_of rows c + 1) c text (next_some (last_of rows c)) (next_within (last_of rows c) left) name event) formed;
 }

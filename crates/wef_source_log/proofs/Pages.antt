@@ -4,8 +4,9 @@ use Rattle.std.proofs.lemmas.Bool.{and_parts, eqb-true}
 use Rattle.std.proofs.lemmas.List.{take-map, map-append}
 use Rattle.std.proofs.lemmas.List.Elements.{All-head, All-tail, All-take, filter_passes}
 use Rattle.std.specs.Cmp.Lexicographic.{bytes_decides, pointwise}
-use Rattle.std.specs.List.{All}
+use Rattle.std.specs.List.{All, AllByRecursion}
 use Rattle.std.specs.Prelude.{Option, Some, None, IfSome}
+use Rattle.wef_keeper.specs.Access.{IsBehind}
 use Rattle.wef_keeper.specs.Rows.{Rows, rows_after}
 use Rattle.wef_keeper.specs.Sections.{is_under, last_key, rows_under}
 use Rattle.wef_keeper.specs.declared.keys.Depth.TheVariants.{Channel}
@@ -35,6 +36,14 @@ last_record c after (row ∷ rows) all =
     let rest = All-tail (λ (r : Row). is_under Channel (record_key c after) r.key ≡ true) row rows all in
     ap (λ (k : Key). last_key k rows) own ∙ last_record c row.key.number rows rest
 
+-- under the key of a channel's records, the events of rows are the channel's
+pub own_events : (c : List ℕ) (after : ℕ) (start : Key) (rows : List Row) → start ≡ record_key c after → AllByRecursion (IsBehind Channel start) rows
+    → map (λ (row : Row). event_of_row row.key.channel row) rows ≡ map (event_of_row c) rows
+own_events c after start [] begins behind = refl
+own_events c after start (row ∷ rows) begins behind =
+    let under = subst (λ (key : Key). is_under Channel key row.key ≡ true) begins behind.0.under in
+    λ i. event_of_row (own_key c after row.key under i).channel row ∷ own_events c after start rows begins behind.1 i
+
 -- a page of records
 pub is_page : (m : ℕ) (rows : Rows) (c : List ℕ) (after : ℕ) (start : Key) (page : List Row) → start ≡ record_key c after
     → page ≡ take m (rows_under Channel start rows) → map (event_of_row c) page ≡ take m (records_after rows c after)
@@ -57,6 +66,11 @@ is_rest m rows c after start page begins is splits =
     ∙ ap (λ (k : Key). map (event_of_row c) page ++ map (event_of_row c) (rows_under Channel k rows)) last
 
 -- so of rows that are told
+pub is_told_page : (m : ℕ) (told : Option Rows) (c : List ℕ) (after : ℕ) (start : Key) (page : List Row) → start ≡ record_key c after
+    → IfSome told (λ rows. page ≡ take m (rows_under Channel start rows)) → IfSome told (λ rows. map (event_of_row c) page ≡ take m (records_after rows c after))
+is_told_page m None c after start page begins is = tt
+is_told_page m (Some rows) c after start page begins is = is_page m rows c after start page begins is
+
 pub is_told_rest : (m : ℕ) (told : Option Rows) (c : List ℕ) (after : ℕ) (start : Key) (page : List Row) → start ≡ record_key c after
     → IfSome told (λ rows. page ≡ take m (rows_under Channel start rows)) → IfSome told (λ rows. rows_under Channel start rows ≡ page ++ rows_under Channel (last_key start page) rows)
     → IfSome told (λ rows. records_after rows c after ≡ map (event_of_row c) page ++ records_after rows c (last_number after (map (event_of_row c) page)))

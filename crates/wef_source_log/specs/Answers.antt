@@ -13,10 +13,14 @@ use Rattle.wef_source_log.specs.Windows.{IsWindow, boot_of, capacity_of, last_of
 use Rattle.wef_source_log.specs.declared.faults.LogFault.{LogFault}
 use Rattle.wef_source_log.specs.declared.faults.LogFault.TheVariants.{NoMemory, Failed, Full, TooLong}
 
--- a fault of making an event, as the log's
+-- A fault of making an event, as the log's. The log makes events of plain words alone, and MakesEvent says that those
+-- are refused as too long at most: the last three never come.
 abbrev pub log_fault : event.EventFault → LogFault
 log_fault events.NoMemory = NoMemory
 log_fault events.TooLong = TooLong
+log_fault (events.BadEvent at) = Failed
+log_fault events.NoChannel = Failed
+log_fault events.NoRecordId = Failed
 
 -- a fault of the store, as the log's
 abbrev pub kept_fault : store.StoreFault → LogFault

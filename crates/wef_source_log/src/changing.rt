@@ -131,6 +131,7 @@ fn write_changes(capacity: u64, next: Event) -> Result<List<Change>, AllocError>
         channel,
         number,
         text,
+        node: _,
     } = next;
     let mut changes = List::new(channel.as_text().alloc());
     changes.push(Change::Put(Row {

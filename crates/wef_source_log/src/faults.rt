@@ -42,6 +42,10 @@ impl From<EventFault> for LogFault {
         match fault {
             EventFault::NoMemory => LogFault::NoMemory,
             EventFault::TooLong => LogFault::TooLong,
+            // The log makes events of plain words alone, and those are refused as too long at most.
+            EventFault::BadEvent { .. } | EventFault::NoChannel | EventFault::NoRecordId => {
+                LogFault::Failed
+            }
         }
     }
 }

@@ -1,25 +1,14 @@
 //! The forms of the log's rows.
 
-ghost use Rattle.std.specs.Prelude.{◌≡◌, IfOk};
-ghost use Rattle.std.specs.List.{list_all};
+ghost use Rattle.std.specs.Prelude.{◌≡◌, ◌==◌, ◌&&◌, is_some, IfOk, IfSome};
 ghost use Rattle.wef_source_log.specs.Forms as forms;
+ghost use Rattle.wef_source_log.specs.Windows.{event_of_row};
 
 use std::alloc::AllocError;
 use wef_base::numbers::MAX;
 use wef_base::{ChannelName, Text, ValueFault};
+use wef_event::Event;
 use wef_keeper::{Key, Row};
-
-/// Whether each row is of its form.
-pub fn are_formed(rows: &[Row]) -> Result<bool, AllocError>
-    ensures { IfOk result (λ formed. formed ≡ list_all forms.is_formed rows.now) }
-{
-    for row in rows {
-        if !is_formed(row)? {
-            return Ok(false);
-        }
-    }
-    Ok(true)
-}
 
 /// Whether a row is of its form. Rows of other kinds than the log's have none.
 #[tactic(auto, unfolding(crate::specs::Forms::is_formed))]
@@ -38,12 +27,31 @@ pub fn is_formed(row: &Row) -> Result<bool, AllocError>
 fn is_record(row: &Row) -> Result<bool, AllocError>
     ensures { IfOk result (λ formed. formed ≡ forms.is_record row.now) }
 {
+    Ok(event_of(row)?.is_some())
+}
+
+/// The event of a record. None where the row isn't a record.
+pub fn event_of(row: &Row) -> Result<Option<Event>, AllocError>
+    ensures some { IfOk result (λ found. is_some found ≡ forms.is_record row.now) }
+    ensures value { IfOk result (λ found. IfSome found (λ event. event ≡ event_of_row row.now.key.channel row.now)) }
+{
+    let Some(channel) = record_channel(row)? else {
+        return Ok(None);
+    };
+    Event::of_text(&channel, row.key.number, &row.body)
+}
+
+/// The channel of a row that has a record's key and its value.
+fn record_channel(row: &Row) -> Result<Option<ChannelName>, AllocError>
+    ensures some { IfOk result (λ found. is_some found ≡ (forms.is_record_key row.now.key && row.now.value == 0)) }
+    ensures value { IfOk result (λ found. IfSome found (λ name. name ≡ row.now.key.channel)) }
+{
     let number = row.key.number;
     let formed = is_nameless(&row.key) && 1 <= number && number <= MAX && row.value == 0;
     if !formed {
-        return Ok(false);
+        return Ok(None);
     }
-    is_channel(&row.key.channel)
+    channel_of(&row.key.channel)
 }
 
 fn is_last(row: &Row) -> Result<bool, AllocError>
@@ -56,7 +64,7 @@ fn is_last(row: &Row) -> Result<bool, AllocError>
     if !formed {
         return Ok(false);
     }
-    is_channel(&row.key.channel)
+    Ok(channel_of(&row.key.channel)?.is_some())
 }
 
 fn is_capacity(row: &Row) -> bool
@@ -87,13 +95,15 @@ fn is_nameless(key: &Key) -> bool
     key.sub.is_empty() && key.source.is_empty()
 }
 
-/// Whether a text is a channel's name that reads back as itself.
-fn is_channel(text: &Text) -> Result<bool, AllocError>
-    ensures { IfOk result (λ is. is ≡ forms.is_channel text.now) }
+/// The channel's name that a text is. None where it doesn't read back as itself.
+fn channel_of(text: &Text) -> Result<Option<ChannelName>, AllocError>
+    ensures some { IfOk result (λ found. is_some found ≡ forms.is_channel text.now) }
+    ensures value { IfOk result (λ found. IfSome found (λ name. name ≡ text.now)) }
 {
     match ChannelName::read(text) {
-        Ok(name) => Ok(name.as_text() == text),
+        Ok(name) if name.as_text() == text => Ok(Some(name)),
+        Ok(_) => Ok(None),
         Err(ValueFault::NoMemory) => Err(AllocError),
-        Err(_) => Ok(false),
+        Err(_) => Ok(None),
     }
 }

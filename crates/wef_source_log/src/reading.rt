@@ -1,20 +1,19 @@
 //! How the log's rows are read in a store that is ready. Each row that is read is tested.
 
-ghost use Rattle.std.specs.Prelude.{◌≡◌, ◌<◌, ◌≤◌, ◌++◌, true, take, map, IfOk, IfErr, IfSome};
-ghost use Rattle.std.specs.List.{AllByRecursion};
+ghost use Rattle.std.specs.Prelude.{◌≡◌, ◌<◌, ◌≤◌, ◌++◌, true, take, map, is_some, IfOk, IfErr, IfSome};
+ghost use Rattle.std.specs.List.{AllByRecursion, list_all};
 ghost use Rattle.wef_event.specs.Events as the_event;
 ghost use Rattle.wef_keeper.specs.Access as access;
 ghost use Rattle.wef_keeper.specs.Keeping.{row_at};
-ghost use Rattle.wef_keeper.specs.Sections.{last_key, rows_under};
 ghost use Rattle.wef_source_log.specs.Answers as answers;
 ghost use Rattle.wef_source_log.specs.Calls.{fails};
 ghost use Rattle.wef_source_log.specs.Forms as forms;
 ghost use Rattle.wef_source_log.specs.Windows as windows;
 
 use crate::faults::LogFault;
-use crate::forms::{are_formed, is_formed};
+use crate::forms::{event_of, is_formed};
 use crate::keys::{capacity_key, last_key, record_key};
-use std::alloc::AllocError;
+use std::alloc::{AllocError, Global};
 use wef_base::numbers::MAX;
 use wef_base::{ChannelName, List};
 use wef_event::Event;
@@ -43,28 +42,6 @@ fn is_whole(found: &Option<Row>) -> Result<bool, AllocError>
         Some(row) => is_formed(row),
         None => Ok(true),
     }
-}
-
-/// The first `max` rows of a section behind a key. `Failed` where one isn't of its form.
-pub fn formed_page<K: Keeper>(
-    keeper: &mut K,
-    after: &Key,
-    depth: Depth,
-    max: u32,
-) -> Result<List<Row>, LogFault>
-    requires max { 1 ≤ max }
-    requires ready { access.IsReady (K.store keeper.old) }
-    ensures page { IfSome (K.store keeper.new).rows (λ rows. IfOk result (λ page. page ≡ take max (rows_under depth after.now rows))) }
-    ensures rest { IfSome (K.store keeper.new).rows (λ rows. IfOk result (λ page. rows_under depth after.now rows ≡ page ++ rows_under depth (last_key after.now page) rows)) }
-    ensures behind { IfOk result (AllByRecursion (access.IsBehind depth after.now)) }
-    ensures refusal { IfErr result answers.RefusesRead }
-    ensures reads { access.Reads forms.AreFormed (fails result) (K.store keeper.old) (K.store keeper.new) }
-{
-    let page = access::section_page(keeper, after, depth, max)?;
-    if !are_formed(page.as_slice())? {
-        return Err(LogFault::Failed);
-    }
-    Ok(page)
 }
 
 /// The number that stands at a key: 0 where none does.
@@ -149,20 +126,24 @@ pub fn page_of<K: Keeper>(
     ensures reads { access.Reads forms.AreFormed (fails result) (K.store keeper.old) (K.store keeper.new) }
 {
     let start = record_key(channel, after)?;
-    let page = formed_page(keeper, &start, Depth::Channel, max)?;
-    Ok(events_of(channel, page)?)
+    let rows = access::section_page(keeper, &start, Depth::Channel, max)?;
+    match events_of(channel.as_text().alloc(), rows.as_slice())? {
+        Some(events) => Ok(events),
+        None => Err(LogFault::Failed),
+    }
 }
 
-fn events_of(channel: &ChannelName, rows: List<Row>) -> Result<List<Event>, AllocError>
-    ensures { IfOk result (λ events. events ≡ map (windows.event_of_row channel.now) rows) }
+/// The events of records. None where a row isn't a record.
+fn events_of(alloc: Global, rows: &[Row]) -> Result<Option<List<Event>>, AllocError>
+    ensures some { IfOk result (λ found. is_some found ≡ list_all forms.is_record rows.now) }
+    ensures value { IfOk result (λ found. IfSome found (λ events. events ≡ map (λ row. windows.event_of_row row.key.channel row) rows.now)) }
 {
-    let mut events = List::new(channel.as_text().alloc());
-    for row in rows.into_vec() {
-        events.push(Event {
-            channel: channel.clone()?,
-            number: row.key.number,
-            text: row.body,
-        })?;
+    let mut events = List::new(alloc);
+    for row in rows {
+        let Some(event) = event_of(row)? else {
+            return Ok(None);
+        };
+        events.push(event)?;
     }
-    Ok(events)
+    Ok(Some(events))
 }

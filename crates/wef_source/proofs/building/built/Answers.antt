@@ -1,4 +1,5 @@
-use Rattle.std.proofs.Common.{◌≡◌, ◌∙◌, ap, subst, sym, true}
+use Rattle.std.proofs.Common.{◌≡◌, ◌∙◌, ap, subst, sym, false, true}
+use Rattle.std.proofs.lemmas.Result.{err_from_is_err_and}
 use Rattle.std.specs.FinMap as map
 use Rattle.std.specs.Option.{option_to_list}
 use Rattle.wef_keeper.specs.Rows.{Rows}
@@ -6,7 +7,7 @@ use Rattle.wef_source.specs.Building.{built, candidates_in, reaches, room_of, se
 use Rattle.wef_source.specs.Drafting.{empty_draft, taken_all}
 use Rattle.wef_source.specs.Serving.{HasEach}
 use Rattle.wef_source.proofs.Drafts.{built_by}
-use Rattle.wef_source.proofs.Told.{told_since}
+use Rattle.wef_source.proofs.Told.{reads_after, told_since}
 use Rattle.wef_source.proofs.building.built.Goals as goal
 
 pub reached-requires-clause-covered : goal.reached-requires-clause-covered
@@ -33,3 +34,13 @@ returns-clause-ok g c =
     (drafted ∙ ap (λ cs. taken_all start (candidates_in rows session cs)) named)
     (reached ∙ ap (λ cs. with_reaches session.positions map.empty (reaches rows cs (option_to_list draft.left))) named_again))
     c.in_ok-draft.ensures.ok c.in_ok-to.ensures.ok
+
+pub returns-in_err-to-clause-reads : goal.returns-in_err-to-clause-reads
+returns-in_err-to-clause-reads g c =
+    let p = err_from_is_err_and c.from_residual-in_err-to.result c.from_residual-in_err-to.ensures.1 in
+    rw (p.1, p.2)
+    (reads_after _ (g.K.Keeper.store c.args.log.now.keeper) (g.K.Keeper.store c.drafted.new.log.keeper) (g.K.Keeper.store c.reached.new.log.keeper) c.in_ok-draft.ensures.reads.0 c.in_err-to.ensures.reads)
+
+pub returns-clause-reads : goal.returns-clause-reads
+returns-clause-reads g c =
+    reads_after false (g.K.Keeper.store c.args.log.now.keeper) (g.K.Keeper.store c.drafted.new.log.keeper) (g.K.Keeper.store c.reached.new.log.keeper) c.in_ok-draft.ensures.reads.0 c.in_ok-to.ensures.reads
