@@ -1,9 +1,9 @@
-use Rattle.std.proofs.Common.{rules, ◌≡◌, ◌∙◌, ◌++◌, false, map, refl, subst, sym, take}
+use Rattle.std.proofs.Common.{rules, ◌≡◌, ◌∙◌, ◌++◌, false, map, sym, take}
 use Rattle.std.specs.List.{list_all}
 use Rattle.wef_keeper.specs.Sections.{last_key, rows_under}
 use Rattle.wef_keeper.specs.declared.keys.Depth.TheVariants.{Channel}
 use Rattle.wef_collector.specs.Forms.{is_formed, is_held_row}
-use Rattle.wef_collector.specs.Held.{event_of_row, held_after, last_number, own_event}
+use Rattle.wef_collector.specs.Held.{held_after, last_number, own_event}
 use Rattle.wef_collector.specs.Keys.{held_key}
 use Rattle.wef_collector.proofs.Forming.{no_page}
 use Rattle.wef_collector.proofs.HeldPages.{held_as_formed, is_page, is_rest, own_events}
