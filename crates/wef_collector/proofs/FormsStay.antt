@@ -23,6 +23,8 @@ use Rattle.wef_batch.specs.WellFormed.{follows, is_above, is_at_least, is_in_ord
 use Rattle.wef_batch.specs.declared.items.Batch.{Batch}
 use Rattle.wef_batch.specs.declared.items.Item.{Item}
 use Rattle.wef_batch.specs.declared.items.Item.TheVariants.{Event, Dropped, Loose}
+use Rattle.wef_event.specs.Events as events
+use Rattle.wef_event.specs.Events.{is_event}
 use Rattle.wef_eventing.specs.Kept.{channel_of, channels_from, from_words, kept_words, made_of, number_between, read_kept, with_first}
 use Rattle.wef_eventing.specs.Subscriptions.{all_events}
 use Rattle.wef_eventing.specs.declared.subscriptions.Subscription.{Subscription}
@@ -39,12 +41,12 @@ use Rattle.wef_collector.specs.Answers.{channels_read}
 use Rattle.wef_collector.specs.Bookmarks.{bookmark_at, is_one}
 use Rattle.wef_collector.specs.Boots.{boot_of}
 use Rattle.wef_collector.specs.Forms.{AreFormed, is_boot_row, is_bookmark_row, is_channel_name, is_formed, is_heard_row, is_held_row, is_loose_row, is_mark_row, is_source_name, is_subscription_name, is_subscription_row, names_channel}
-use Rattle.wef_collector.specs.FormsStay.{FormsStay, HasNumber, HasNumbers}
+use Rattle.wef_collector.specs.FormsStay.{FormsStay, IsSoundItem, IsSoundBatch}
 use Rattle.wef_collector.specs.Keys.{bookmark_key, boot_key, heard_key, held_key, loose_key, mark_key, subscription_key}
 use Rattle.wef_collector.specs.Standing.{kept_body, standing, standing_by, standing_of}
 use Rattle.wef_collector.specs.Taken.{batch_changes, channel_changes, heard_changes, is_later, item_changes, loose_changes, move_changes, put, reach_changes, taken}
 use Rattle.wef_collector.specs.declared.standings.Standing.TheVariants.{Ended, Live}
-use Rattle.wef_collector.proofs.Hits.{hits, one_key, same_self}
+use Rattle.wef_collector.proofs.Hits.{hits, one_key, one_name, same_self}
 
 -- ---- changes of rows of their form
 
@@ -120,9 +122,10 @@ bookmark_sound : (u s c : List ℕ) (t : ℕ) → AreNames u s c → t ≤ 92233
 unfolding is_formed is_bookmark_row
 bookmark_sound u s c t names within = λ i. names i && true && le_tested t 9223372036854775807 within i && true
 
-held_sound : (u s c text : List ℕ) (n : ℕ) → AreNames u s c → n ≤ 9223372036854775807 → IsSound (put (held_key u s c n) 0 text)
+held_sound : (u s c text : List ℕ) (n : ℕ) → AreNames u s c → n ≤ 9223372036854775807 → is_event (record { channel = c; number = n; text = text }) ≡ true
+    → IsSound (put (held_key u s c n) 0 text)
 unfolding is_formed is_held_row
-held_sound u s c text n names within = λ i. names i && le_tested n 9223372036854775807 within i && true
+held_sound u s c text n names within event = λ i. names i && le_tested n 9223372036854775807 within i && true && event i
 
 mark_sound : (u s c : List ℕ) (first last : ℕ) → AreNames u s c → first ≤ last → last ≤ 9223372036854775807 → IsSound (put (mark_key u s c first) last [])
 unfolding is_formed is_mark_row
@@ -256,9 +259,9 @@ kept_channels u body about e = words_channels u (parts 32 body) about e
 
 -- ---- what a batch changes in a channel
 
--- an item's numbers, in a channel
+-- an item's numbers, in a channel, and its event
 abbrev IsWithin : List ℕ → Item → Type 0
-IsWithin c (Event event) = event.number ≤ 9223372036854775807
+IsWithin c (Event event) = (event.number ≤ 9223372036854775807) × (is_event event ≡ true)
 IsWithin c (Dropped channel first last) = (same channel c ≡ true → first ≤ last) × (last ≤ 9223372036854775807)
 IsWithin c (Loose count) = Unit {0}
 
@@ -266,19 +269,27 @@ span_ends : (previous : Option ℕ) (t : Bool) (first last : ℕ) → follows pr
 span_ends previous true first last e is = le_holds first last (and_parts (is_above previous first) (nat_le first last) e).1
 span_ends previous false first last e is = let bad : ⊥ = cc in absurd bad
 
-one_within : (c : List ℕ) (previous : Option ℕ) (item : Item) → follows previous (span_in c item) ≡ true → HasNumber item → IsWithin c item
+one_within : (c : List ℕ) (previous : Option ℕ) (item : Item) → follows previous (span_in c item) ≡ true → IsSoundItem item → IsWithin c item
 one_within c previous (Event event) e number = number
 one_within c previous (Dropped channel first last) e number = (span_ends previous (same channel c) first last e, number)
 one_within c previous (Loose count) e number = tt
 
-all_within : (c : List ℕ) (previous : Option ℕ) (items : List Item) → rises c previous items ≡ true → AllByRecursion HasNumber items → AllByRecursion (IsWithin c) items
+-- an event of a channel, by the channel's name
+event_there : (c : List ℕ) (event : events.Event) → same event.channel c ≡ true → is_event event ≡ true → is_event (record { channel = c; number = event.number; text = event.text }) ≡ true
+event_there c event is says = ap (λ (d : List ℕ). is_event (record { channel = d; number = event.number; text = event.text })) (sym (one_name event.channel c is)) ∙ says
+
+all_within : (c : List ℕ) (previous : Option ℕ) (items : List Item) → rises c previous items ≡ true → AllByRecursion IsSoundItem items → AllByRecursion (IsWithin c) items
 all_within c previous [] e numbers = tt
 all_within c previous (item ∷ items) e numbers =
     let both = and_parts (follows previous (span_in c item)) (rises c (later previous (span_in c item)) items) e in
     (one_within c previous item both.0 numbers.0, all_within c (later previous (span_in c item)) items both.1 numbers.1)
 
 item_sound : (u s c : List ℕ) (b : ℕ) → AreNames u s c → (item : Item) → IsWithin c item → AreSound (item_changes u s c b item)
-item_sound u s c b names (Event event) within = sound-if (same event.channel c && nat_lt b event.number) (put (held_key u s c event.number) 0 event.text) (λ _. held_sound u s c event.text event.number names within)
+item_sound u s c b names (Event event) within =
+    sound-if (same event.channel c && nat_lt b event.number) (put (held_key u s c event.number) 0 event.text)
+    (λ test.
+    let both = and_parts (same event.channel c) (nat_lt b event.number) test in
+    held_sound u s c event.text event.number names within.0 (event_there c event both.0 within.1))
 item_sound u s c b names (Dropped channel first last) within =
     sound-if (same channel c && nat_lt b last) (put (mark_key u s c (max first (b + 1))) last [])
     (λ test.
@@ -295,16 +306,16 @@ later_within : (previous : Option ℕ) (t : Bool) (first last : ℕ) → IsNumbe
 later_within previous true first last before within = within
 later_within previous false first last before within = before
 
-item_within : (c : List ℕ) (previous : Option ℕ) (item : Item) → IsNumberOrNone previous → HasNumber item → IsNumberOrNone (later previous (span_in c item))
-item_within c previous (Event event) before number = later_within previous (same event.channel c) event.number event.number before number
+item_within : (c : List ℕ) (previous : Option ℕ) (item : Item) → IsNumberOrNone previous → IsSoundItem item → IsNumberOrNone (later previous (span_in c item))
+item_within c previous (Event event) before number = later_within previous (same event.channel c) event.number event.number before number.0
 item_within c previous (Dropped channel first last) before number = later_within previous (same channel c) first last before number
 item_within c previous (Loose count) before number = before
 
-last_within : (c : List ℕ) (previous : Option ℕ) (items : List Item) → IsNumberOrNone previous → AllByRecursion HasNumber items → IsNumberOrNone (last_after c previous items)
+last_within : (c : List ℕ) (previous : Option ℕ) (items : List Item) → IsNumberOrNone previous → AllByRecursion IsSoundItem items → IsNumberOrNone (last_after c previous items)
 last_within c previous [] before numbers = before
 last_within c previous (item ∷ items) before numbers = last_within c (later previous (span_in c item)) items (item_within c previous item before numbers.0) numbers.1
 
-reach_within : (c : List ℕ) (batch : Batch) → HasNumbers batch → IsNumberOrNone (reach c batch)
+reach_within : (c : List ℕ) (batch : Batch) → IsSoundBatch batch → IsNumberOrNone (reach c batch)
 reach_within c batch numbers = by (finite.get batch.to c) (numbers.to c)
   where
     by : (to : Option ℕ) → ((n : ℕ) → to ≡ Some n → n ≤ 9223372036854775807) → IsNumberOrNone (reach_of to (last_in c batch.items))
@@ -340,7 +351,7 @@ all_ready batch (c ∷ channels) names e =
     let both = and_parts (is_in_order batch c) (list_all (is_in_order batch) channels) e in
     ((names.0, both.0), all_ready batch channels names.1 both.1)
 
-channel_sound : (rows : Rows) (u s : List ℕ) (batch : Batch) → is_subscription_name u ≡ true → is_source_name s ≡ true → HasNumbers batch → loose_sum batch.items ≤ 9223372036854775807
+channel_sound : (rows : Rows) (u s : List ℕ) (batch : Batch) → is_subscription_name u ≡ true → is_source_name s ≡ true → IsSoundBatch batch → loose_sum batch.items ≤ 9223372036854775807
     → (c : List ℕ) → IsReady batch c → AreSound (channel_changes rows u s batch c)
 channel_sound rows u s batch name source numbers few c ready =
     let order = and_parts (rises c None batch.items) (is_at_least (finite.get batch.to c) (last_in c batch.items)) ready.1 in
@@ -348,7 +359,7 @@ channel_sound rows u s batch name source numbers few c ready =
     reach_sound u s c (bookmark_at rows u s c) batch (reach c batch) names (all_within c None batch.items order.0 numbers.items) few (reach_within c batch numbers)
 
 batch_sound : (rows : Rows) (u s : List ℕ) (channels : List (List ℕ)) (batch : Batch) (now : ℕ) → is_subscription_name u ≡ true → is_source_name s ≡ true → AllByRecursion IsChannel channels
-    → is_well_formed channels batch ≡ true → HasNumbers batch → now ≤ 253402300799999 → AreSound (batch_changes rows u s channels batch now)
+    → is_well_formed channels batch ≡ true → IsSoundBatch batch → now ≤ 253402300799999 → AreSound (batch_changes rows u s channels batch now)
 batch_sound rows u s channels batch now name source names formed numbers moment =
     let outer = and_parts (list_all (is_listed channels) batch.items && list_all (is_in_order batch) channels) (nat_le (loose_sum batch.items) 9223372036854775807) formed in
     let inner = and_parts (list_all (is_listed channels) batch.items) (list_all (is_in_order batch) channels) outer.0 in
@@ -364,7 +375,7 @@ start_formed rows left formed =
     formed_applied (put boot_key (boot_of rows + 1) [] ∷ []) rows (boot_sound (boot_of rows + 1) (next_within (boot_of rows) 9223372036854775807 (lt_holds (boot_of rows) 9223372036854775807 left)), tt) formed
 
 take_formed : (rows : Rows) (u s : List ℕ) (about : Subscription) (batch : Batch) (now : ℕ) → standing rows u ≡ Live about → is_source_name s ≡ true → is_well_formed (channels_read about) batch ≡ true
-    → HasNumbers batch → now ≤ 253402300799999 → AreFormed rows → AreFormed (taken rows u s (channels_read about) batch now)
+    → IsSoundBatch batch → now ≤ 253402300799999 → AreFormed rows → AreFormed (taken rows u s (channels_read about) batch now)
 unfolding taken
 take_formed rows u s about batch now lives source well numbers moment formed =
     let kept = live_kept rows u about lives formed in

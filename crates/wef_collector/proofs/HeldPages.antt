@@ -1,16 +1,18 @@
--- The key behind which a page of held events ends.
+-- A page of held events: what its rows are, and the key behind which it ends.
 use Rattle.std.proofs.Common.{◌≡◌, ℕ, true, ◌&&◌, List, [], ◌∷◌, ◌++◌, map, take, nat_eq, refl, sym, subst, ap, ◌∙◌}
 use Rattle.std.proofs.lemmas.Bool.{and_parts, eqb-true}
 use Rattle.std.proofs.lemmas.List.{take-map, map-append}
 use Rattle.std.proofs.lemmas.List.Elements.{All-head, All-tail, All-take, filter_passes}
 use Rattle.std.specs.Cmp.Lexicographic.{bytes_decides, pointwise}
-use Rattle.std.specs.List.{All}
+use Rattle.std.specs.List.{All, AllByRecursion, list_all}
+use Rattle.wef_keeper.specs.Access.{IsBehind}
 use Rattle.wef_keeper.specs.Rows.{Rows, rows_after}
 use Rattle.wef_keeper.specs.Sections.{is_under, last_key, rows_under}
 use Rattle.wef_keeper.specs.declared.keys.Depth.TheVariants.{Channel}
 use Rattle.wef_keeper.specs.declared.keys.Key.{Key}
 use Rattle.wef_keeper.specs.declared.keys.Row.{Row}
-use Rattle.wef_collector.specs.Held.{event_of_row, held_rows, held_after, last_number}
+use Rattle.wef_collector.specs.Forms.{is_formed, is_held_row}
+use Rattle.wef_collector.specs.Held.{event_of_row, held_rows, held_after, last_number, own_event}
 use Rattle.wef_collector.specs.Keys.{held_key}
 
 -- a key under that of a channel's held events is the one of its own number
@@ -24,6 +26,31 @@ own_key u s c n k e =
     let source = sym ((bytes_decides s k.source).0 middle.1) in
     let channel = sym ((bytes_decides c k.channel).0 outer.1) in
     λ i. record { kind = kind i; sub = sub i; source = source i; channel = channel i; number = k.number }
+
+-- such a row is of its form where it is a held row of its form
+held_formed : (u s c : List ℕ) (row : Row) → row.key ≡ held_key u s c row.key.number → is_held_row row ≡ is_formed row
+unfolding is_formed
+held_formed u s c row own =
+    ap (λ (k : Key). is_held_row (record { key = k; value = row.value; body = row.body })) own
+    ∙ sym (ap (λ (k : Key). is_formed (record { key = k; value = row.value; body = row.body })) own)
+
+all_held : (u s c : List ℕ) (after : ℕ) (rows : List Row) → AllByRecursion (IsBehind Channel (held_key u s c after)) rows → list_all is_held_row rows ≡ list_all is_formed rows
+all_held u s c after [] behind = refl
+all_held u s c after (row ∷ rows) behind = λ i. held_formed u s c row (own_key u s c after row.key behind.0.under) i && all_held u s c after rows behind.1 i
+
+-- so rows behind the key of a channel's held events are of their form where they are held rows of their form
+pub held_as_formed : (u s c : List ℕ) (after : ℕ) (start : Key) (page : List Row) → start ≡ held_key u s c after → AllByRecursion (IsBehind Channel start) page
+    → list_all is_held_row page ≡ list_all is_formed page
+held_as_formed u s c after start page begins behind = all_held u s c after page (subst (λ (k : Key). AllByRecursion (IsBehind Channel k) page) begins behind)
+
+all_own : (u s c : List ℕ) (after : ℕ) (rows : List Row) → AllByRecursion (IsBehind Channel (held_key u s c after)) rows → map own_event rows ≡ map (event_of_row c) rows
+all_own u s c after [] behind = refl
+all_own u s c after (row ∷ rows) behind = λ i. event_of_row (own_key u s c after row.key behind.0.under i).channel row ∷ all_own u s c after rows behind.1 i
+
+-- and their events are those of the channel
+pub own_events : (u s c : List ℕ) (after : ℕ) (start : Key) (page : List Row) → start ≡ held_key u s c after → AllByRecursion (IsBehind Channel start) page
+    → map own_event page ≡ map (event_of_row c) page
+own_events u s c after start page begins behind = all_own u s c after page (subst (λ (k : Key). AllByRecursion (IsBehind Channel k) page) begins behind)
 
 -- where all rows are under the key of held events, the last row's key is that of the last event's number
 pub last_held : (u s c : List ℕ) (after : ℕ) (rows : List Row) → All (λ (row : Row). is_under Channel (held_key u s c after) row.key ≡ true) rows

@@ -36,6 +36,11 @@ abbrev pub NamesItself : Option (List ℕ) → List ℕ → Type 0
 NamesItself None text = is_subscription_name text ≡ false
 NamesItself (Some name) text = (name ≡ text) × (is_subscription_name text ≡ true)
 
+-- the name of a channel, where the text is one that reads back as itself
+abbrev pub NamesChannel : Option (List ℕ) → List ℕ → Type 0
+NamesChannel None text = is_channel_name text ≡ false
+NamesChannel (Some name) text = (name ≡ text) × (is_channel_name text ≡ true)
+
 -- a key of a subscription and a source
 abbrev pub names_source : Key → Bool
 names_source key = is_subscription_name key.sub && is_source_name key.source

@@ -14,6 +14,10 @@ held_rows rows u s c after = rows_under Channel (held_key u s c after) rows
 abbrev pub event_of_row : List ℕ → Row → Event
 event_of_row c row = record { channel = c; number = row.key.number; text = row.body }
 
+-- the event of a held row
+abbrev pub own_event : Row → Event
+own_event row = event_of_row row.key.channel row
+
 -- the held events above a number, by number
 abbrev pub held_after : Rows → List ℕ → List ℕ → List ℕ → ℕ → List Event
 held_after rows u s c after = map (event_of_row c) (held_rows rows u s c after)

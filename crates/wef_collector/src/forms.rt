@@ -1,12 +1,14 @@
 //! The form of the collector's rows, by their kind.
 
-ghost use Rattle.std.specs.Prelude.{◌≡◌, IfOk};
+ghost use Rattle.std.specs.Prelude.{◌≡◌, is_some, IfOk, IfSome};
 ghost use Rattle.std.specs.List.{list_all};
 ghost use Rattle.wef_collector.specs.Forms as spec;
+ghost use Rattle.wef_collector.specs.Held.{own_event};
 
 use std::alloc::AllocError;
 use wef_base::numbers::{MAX, read_plain_number};
 use wef_base::{ChannelName, SourceName, SubId, Text, ValueFault};
+use wef_event::Event;
 use wef_eventing::read_kept;
 use wef_keeper::{Key, Row};
 
@@ -68,14 +70,28 @@ fn is_bookmark(row: &Row) -> Result<bool, AllocError>
     Ok(row.key.number == 0 && row.value <= MAX && row.body.is_empty())
 }
 
-#[tactic(auto, unfolding(crate::specs::Forms::is_held_row))]
 fn is_held(row: &Row) -> Result<bool, AllocError>
     ensures { IfOk result (λ formed. formed ≡ spec.is_held_row row.now) }
 {
-    if !names_channel(&row.key)? {
-        return Ok(false);
+    Ok(held_event(row)?.is_some())
+}
+
+/// The event of a held row. None where the row isn't of its form.
+#[tactic(auto, unfolding(crate::specs::Forms::is_held_row))]
+pub fn held_event(row: &Row) -> Result<Option<Event>, AllocError>
+    ensures some { IfOk result (λ found. is_some found ≡ spec.is_held_row row.now) }
+    ensures value { IfOk result (λ found. IfSome found (λ event. event ≡ own_event row.now)) }
+{
+    if !names_source(&row.key)? {
+        return Ok(None);
     }
-    Ok(row.key.number <= MAX && row.value == 0)
+    let Some(channel) = channel_named(&row.key.channel)? else {
+        return Ok(None);
+    };
+    if row.key.number > MAX || row.value != 0 {
+        return Ok(None);
+    }
+    Event::of_text(&channel, row.key.number, &row.body)
 }
 
 #[tactic(auto, unfolding(crate::specs::Forms::is_mark_row))]
@@ -133,7 +149,7 @@ fn names_channel(key: &Key) -> Result<bool, AllocError>
     if !names_source(key)? {
         return Ok(false);
     }
-    is_channel_name(&key.channel)
+    Ok(channel_named(&key.channel)?.is_some())
 }
 
 fn names_source(key: &Key) -> Result<bool, AllocError>
@@ -170,12 +186,17 @@ fn is_source_name(text: &Text) -> Result<bool, AllocError>
     }
 }
 
-fn is_channel_name(text: &Text) -> Result<bool, AllocError>
-    ensures { IfOk result (λ named. named ≡ spec.is_channel_name text.now) }
+/// The channel's name that a text is, where it reads back as itself.
+fn channel_named(text: &Text) -> Result<Option<ChannelName>, AllocError>
+    ensures { IfOk result (λ name. spec.NamesChannel name text.now) }
 {
-    match ChannelName::read(text) {
-        Ok(name) => Ok(*text == *name.as_text()),
-        Err(ValueFault::BadName) => Ok(false),
-        Err(_) => Err(AllocError),
+    let name = match ChannelName::read(text) {
+        Ok(name) => name,
+        Err(ValueFault::BadName) => return Ok(None),
+        Err(_) => return Err(AllocError),
+    };
+    if *text != *name.as_text() {
+        return Ok(None);
     }
+    Ok(Some(name))
 }

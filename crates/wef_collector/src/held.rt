@@ -1,15 +1,17 @@
 //! The events that are held.
 
-ghost use Rattle.std.specs.Prelude.{◌≡◌, ◌≤◌, ◌++◌, map, take, IfOk, IfSome};
+ghost use Rattle.std.specs.Prelude.{◌≡◌, ◌≤◌, ◌++◌, is_some, map, take, IfOk, IfSome};
+ghost use Rattle.std.specs.List.{list_all};
 ghost use Rattle.wef_keeper.specs.Access as access;
-ghost use Rattle.wef_collector.specs.Forms.{AreFormed};
+ghost use Rattle.wef_collector.specs.Forms.{AreFormed, is_held_row};
 ghost use Rattle.wef_collector.specs.Held as spec;
 
+use crate::forms::held_event;
 use crate::keys::held_key;
-use crate::reading::formed_page;
-use std::alloc::AllocError;
+use std::alloc::{AllocError, Global};
 use wef_base::{ChannelName, List, SourceName, SubId};
 use wef_event::Event;
+use wef_keeper::access::section_page;
 use wef_keeper::{Depth, Keeper, Row, StoreFault};
 
 /// The first `max` events that are held of a source's channel above a number. The rest are those
@@ -30,20 +32,24 @@ pub fn held_page<K: Keeper>(
     ensures reads { access.Reads AreFormed (access.fails result) (K.store keeper.old) (K.store keeper.new) }
 {
     let start = held_key(sub.as_text(), source.as_text(), channel.as_text(), after)?;
-    let page = formed_page(keeper, &start, Depth::Channel, max)?;
-    Ok(events_of(channel, page)?)
+    let page = section_page(keeper, &start, Depth::Channel, max)?;
+    let Some(events) = events_of(channel.as_text().alloc(), page.as_slice())? else {
+        return Err(StoreFault::Failed);
+    };
+    Ok(events)
 }
 
-fn events_of(channel: &ChannelName, rows: List<Row>) -> Result<List<Event>, AllocError>
-    ensures { IfOk result (λ events. events ≡ map (spec.event_of_row channel.now) rows) }
+/// The events of held rows. None where a row isn't of its form.
+fn events_of(alloc: Global, rows: &[Row]) -> Result<Option<List<Event>>, AllocError>
+    ensures some { IfOk result (λ found. is_some found ≡ list_all is_held_row rows.now) }
+    ensures value { IfOk result (λ found. IfSome found (λ events. events ≡ map spec.own_event rows.now)) }
 {
-    let mut events = List::new(channel.as_text().alloc());
-    for row in rows.into_vec() {
-        events.push(Event {
-            channel: channel.clone()?,
-            number: row.key.number,
-            text: row.body,
-        })?;
+    let mut events = List::new(alloc);
+    for row in rows {
+        let Some(event) = held_event(row)? else {
+            return Ok(None);
+        };
+        events.push(event)?;
     }
-    Ok(events)
+    Ok(Some(events))
 }

@@ -1,5 +1,7 @@
 //! Offers, by example, start numbers, and a store that fails at each of its calls.
 
+ghost use Rattle.std.specs.Prelude.{◌≤◌};
+
 use crate::failing::FailingKeeper;
 use crate::keys::boot_key;
 use crate::{Collector, CollectorFault};
@@ -8,7 +10,7 @@ use std::test::Fail;
 use wef_base::{ChannelName, List, SourceName, SubId, Text};
 use wef_batch::{Batch, Item};
 use wef_bookmark::Bookmark;
-use wef_event::Event;
+use wef_event::plain_event;
 use wef_eventing::Subscription;
 use wef_keeper::{Change, Keeper, MemKeeper, Row};
 
@@ -28,15 +30,20 @@ fn subscription(alloc: Global, name: &str) -> Result<Subscription, Fail> {
 }
 
 /// A batch of one event, which reads the channel to its number.
-fn batch_to(alloc: Global, number: u64) -> Result<Batch, Fail> {
+fn batch_to(alloc: Global, number: u64) -> Result<Batch, Fail>
+    requires { number ≤ 9223372036854775807 }
+{
     let mut to = Bookmark::new(alloc);
     to.raise(&channel(alloc)?, number)?;
+    let word = Text::from_str(alloc, "event")?;
     let mut items = List::new(alloc);
-    items.push(Item::Event(Event {
-        channel: channel(alloc)?,
+    items.push(Item::Event(plain_event(
+        &channel(alloc)?,
         number,
-        text: Text::from_str(alloc, "event")?,
-    }))?;
+        0,
+        0,
+        &word,
+    )?))?;
     Ok(Batch {
         items,
         to,

@@ -1,6 +1,11 @@
-use Rattle.std.proofs.Common.{◌≡◌, ◌++◌, map}
-use Rattle.wef_collector.specs.Held.{event_of_row}
+use Rattle.std.proofs.Common.{◌≡◌, ◌++◌, drop, map}
+use Rattle.std.specs.List.{list_all}
+use Rattle.wef_collector.specs.Forms.{is_held_row}
+use Rattle.wef_collector.specs.Held.{own_event}
 use Rattle.wef_collector.proofs.held.events_of.Given as goal
 
 abbrev pub invariant-loop-row : goal.invariant-loop-row
-invariant-loop-row l = l.events ++ map (event_of_row l.channel) l.row-iterator.rest.items ≡ map (event_of_row l.channel) l.fn.rows
+invariant-loop-row l = record {
+  events : l.events ++ map own_event (drop l.row-index l.rows) ≡ map own_event l.rows;
+  formed : list_all is_held_row (drop l.row-index l.rows) ≡ list_all is_held_row l.rows;
+}
