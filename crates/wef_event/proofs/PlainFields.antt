@@ -89,12 +89,14 @@ number_found channel number id level =
 abbrev child_of : List ℕ → Option Element → Option Element
 child_of name o = option_and_then (λ (part : Element). first_child name part.children) o
 
+-- what a field says
 abbrev channel_of : Option Element → Option (List ℕ)
 channel_of o = option_and_then (λ field. channel_name (text_inside field)) o
 
 abbrev number_of : Option Element → Option ℕ
 number_of o = option_and_then (λ field. number_of_digits (trimmed (text_inside field))) o
 
+-- the tree says the channel
 pub says_channel : (channel : List ℕ) (number id level : ℕ) (word : List ℕ) → channel_in (plain_tree channel number id level word) ≡ channel_name channel
 unfolding channel_in
 says_channel channel number id level word =
@@ -102,6 +104,7 @@ says_channel channel number id level word =
     ∙ ap channel_of (channel_found channel number id level)
     ∙ ap channel_name (leaf_text (codes "Channel") channel)
 
+-- and the number, where it isn't 0
 pub says_number : (channel : List ℕ) (number id level : ℕ) (word : List ℕ) → number ≤ 9223372036854775807 → number_in (plain_tree channel number id level word) ≡ unless_zero number
 unfolding number_in
 says_number channel number id level word h =

@@ -41,6 +41,7 @@ MakesEvent (Err NoRecordId) given = ⊥
 
 -- ---- its tree
 
+-- the namespace of all its elements
 unfoldable pub event_space : List ℕ
 event_space = codes "http://schemas.microsoft.com/win/2004/08/events/event"
 
@@ -63,6 +64,7 @@ plain_system channel number id level =
 abbrev pub plain_data : List ℕ → Node
 plain_data word = element (codes "EventData") (element (codes "Data") (only_text word) ∷ [])
 
+-- the root with the two
 abbrev pub plain_tree : List ℕ → ℕ → ℕ → ℕ → List ℕ → Element
 plain_tree channel number id level word = record {
   space = event_space;

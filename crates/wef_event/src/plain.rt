@@ -84,6 +84,7 @@ fn event_space(alloc: Global) -> Result<Namespace, AllocError>
     )?)
 }
 
+/// The root of the event, with all inside it.
 fn plain_tree(
     space: Namespace,
     channel: &str,
@@ -136,6 +137,7 @@ fn event_data(space: &Namespace, word: &str) -> Result<Node, AllocError>
     element(space, "EventData", fields)
 }
 
+/// An element that holds the digits of a number.
 fn number_field(space: &Namespace, name: &str, number: u64) -> Result<Node, AllocError>
     requires { space.now ≡ event_space }
     ensures { IfOk result (λ node. node ≡ element name.now (only_text (decimal number))) }
@@ -145,6 +147,7 @@ fn number_field(space: &Namespace, name: &str, number: u64) -> Result<Node, Allo
     field(space, name, digits.as_str())
 }
 
+/// An element that holds a text.
 fn field(space: &Namespace, name: &str, text: &str) -> Result<Node, AllocError>
     requires { space.now ≡ event_space }
     ensures { IfOk result (λ node. node ≡ element name.now (only_text text.now)) }
@@ -152,6 +155,7 @@ fn field(space: &Namespace, name: &str, text: &str) -> Result<Node, AllocError>
     element(space, name, only_text(space.as_text().alloc(), text)?)
 }
 
+/// An element of the namespace of events, without attributes.
 fn element(space: &Namespace, name: &str, children: List<Node>) -> Result<Node, AllocError>
     requires { space.now ≡ event_space }
     ensures { IfOk result (λ node. node ≡ element name.now children) }

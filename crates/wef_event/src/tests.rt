@@ -2,7 +2,8 @@
 
 use crate::{Event, EventFault, PlainEvent, plain_event};
 use std::alloc::{AllocError, Global};
-use wef_base::{ChannelName, Text, ValueFault, is_xml_text};
+use wef_base::{ChannelName, Charset, Text, ValueFault, is_xml_text};
+use wef_tree::write_tree;
 
 fn channel(alloc: Global, word: &str) -> Result<ChannelName, ValueFault> {
     ChannelName::read(&Text::from_str(alloc, word)?)
@@ -20,6 +21,14 @@ fn event_of(
         return Ok(None);
     }
     Ok(Some(plain_event(name, number, id, level, word)?))
+}
+
+/// Whether the tree of an event is written as its text.
+fn is_written_so(alloc: Global, event: &Event) -> bool {
+    match write_tree(alloc, event.tree(), Charset::Utf8) {
+        Ok(bytes) => bytes.as_slice() == event.text.as_str().as_bytes(),
+        Err(_) => false,
+    }
 }
 
 /// The event of a word that holds XML Chars alone, before it has a number.
@@ -69,6 +78,7 @@ fn plain_events_are_written_out(rt: HostRuntime) {
         assert_eq!(&rt; event.text.as_str(), want);
         assert_eq!(&rt; event.number, number);
         assert!(&rt; event.channel == name);
+        assert!(&rt; is_written_so(alloc, &event));
         let copy = event.clone().expect(&rt, "memory");
         assert!(&rt; copy.text == event.text);
     }

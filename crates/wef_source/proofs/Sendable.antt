@@ -1,5 +1,5 @@
 -- Each candidate costs at most the room, so the first one always fits.
-use Rattle.std.proofs.Common.{◌≡◌, ℕ, zero, suc, ◌+◌, ◌-◌, ◌*◌, ◌/◌, ◌%◌, ◌≤◌, ◌==◌, Bool, true, false, ◌||◌, cond, List, [], ◌∷◌, ◌++◌, length, length-append, map, min, refl, ap, Some, None, arith, nat_lt, nat_le}
+use Rattle.std.proofs.Common.{◌≡◌, ℕ, zero, suc, ◌+◌, ◌-◌, ◌*◌, ◌/◌, ◌%◌, ◌≤◌, ◌==◌, Bool, true, false, ◌||◌, cond, List, [], ◌∷◌, ◌++◌, length, length-append, map, min, refl, ap, sym, subst, Some, None, arith, nat_lt, nat_le}
 use Rattle.std.specs.Prelude.{codes, encode_utf8}
 use Rattle.std.specs.Fmt.{decimal, digit_glyph, digits, digits_onto}
 use Rattle.std.specs.List.{cons_option, filter_map, flat_map}
@@ -12,6 +12,7 @@ use Rattle.wef_batch.specs.declared.items.Item.{Item}
 use Rattle.wef_batch.specs.declared.items.Item.TheVariants.{Event, Dropped}
 use Rattle.wef_event.specs.Characters.{escape}
 use Rattle.wef_event.specs.Events as records
+use Rattle.wef_event.proofs.Escaped.{escape_by}
 use Rattle.wef_keeper.specs.Rows.{Rows}
 use Rattle.wef_keeper.specs.Sections.{rows_under}
 use Rattle.wef_keeper.specs.declared.keys.Depth.TheVariants.{Channel}
@@ -33,13 +34,15 @@ encoded_short c = let bounds = (len_utf8_bounds c).1 in let is = length-encode c
 
 escaped_short : (c : ℕ) → length (escape c) ≤ 6
 escaped_short c =
-    by_bool (λ x. length x ≤ 6) (c == 38) (λ _. omega arith)
-    (λ _. by_bool (λ x. length x ≤ 6) (c == 60) (λ _. omega arith)
-    (λ _. by_bool (λ x. length x ≤ 6) (c == 62) (λ _. omega arith)
-    (λ _. by_bool (λ x. length x ≤ 6) (c == 9) (λ _. omega arith)
-    (λ _. by_bool (λ x. length x ≤ 6) (c == 10) (λ _. omega arith)
-    (λ _. by_bool (λ x. length x ≤ 6) (c == 13) (λ _. omega arith)
-    (λ _. encoded_short c))))))
+    let IsShort : List ℕ → Type 0 = λ x. length x ≤ 6 in
+    subst IsShort (sym (escape_by c))
+    (by_bool IsShort (c == 38) (λ _. omega arith)
+    (λ _. by_bool IsShort (c == 60) (λ _. omega arith)
+    (λ _. by_bool IsShort (c == 62) (λ _. omega arith)
+    (λ _. by_bool IsShort (c == 9) (λ _. omega arith)
+    (λ _. by_bool IsShort (c == 10) (λ _. omega arith)
+    (λ _. by_bool IsShort (c == 13) (λ _. omega arith)
+    (λ _. encoded_short c)))))))
 
 quoted_short : (c : ℕ) → length (quoted_character c) ≤ 6
 quoted_short c = by_bool (λ x. length x ≤ 6) (c == 34) (λ _. omega arith) (λ _. escaped_short c)
