@@ -7,6 +7,8 @@ pub mod numbering;
 mod paths;
 pub mod plain;
 pub mod reading;
+#[cfg(test)]
+mod reading_tests;
 pub mod records;
 pub mod unnumbered;
 
