@@ -10,6 +10,8 @@ mod numbering_tests;
 mod paths;
 pub mod plain;
 pub mod reading;
+#[cfg(test)]
+mod reading_tests;
 pub mod records;
 pub mod unnumbered;
 
