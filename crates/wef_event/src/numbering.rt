@@ -1,9 +1,10 @@
 //! Giving an event its number.
 
-ghost use Rattle.std.specs.Prelude.{◌≡◌, ◌≤◌, [], ◌∷◌, codes, is_some, IfOk, IfErr, OnOk};
+ghost use Rattle.std.specs.Prelude.{◌≡◌, ◌≤◌, [], ◌∷◌, ◌++◌, codes, is_some, IfOk, IfErr, OnOk};
 ghost use Rattle.std.specs.Fmt.{decimal};
 ghost use Rattle.std.specs.List.{position};
 ghost use Rattle.wef_base.specs.declared.tree.Node.{Chars};
+ghost use Rattle.wef_base.specs.declared.tree.Node.TheVariants.{Element as Child};
 ghost use Rattle.wef_event.specs.Events.{Gives};
 ghost use Rattle.wef_event.specs.Numbering.{RefusesNumber, changed_node, new_field, numbered_children, numbered_root, numbered_system, with_first_changed, with_number, with_only};
 ghost use Rattle.wef_event.specs.Paths.{named};
@@ -92,7 +93,7 @@ fn numbered_children(
     let mut nodes = children.into_vec();
     match first_place("EventRecordID", nodes.as_slice()) {
         Some(place) => fill_field(digits, &mut nodes[place])?,
-        None => nodes.push(Node::Element(new_field(digits, space)?))?,
+        None => add_field(digits, space, &mut nodes)?,
     }
     Ok(List::from(nodes))
 }
@@ -104,6 +105,14 @@ fn fill_field(digits: &Text, node: &mut Node) -> Result<(), AllocError>
     if let Node::Element(field) = node {
         field.children = only_child(digits)?;
     }
+    Ok(())
+}
+
+/// Adds a field with the digits of a number, in a namespace, behind the others.
+fn add_field(digits: &Text, space: &Namespace, nodes: &mut Vec<Node>) -> Result<(), AllocError>
+    ensures { OnOk result (nodes.new.items ≡ nodes.old.items ++ Child (new_field space.now digits.now) ∷ []) }
+{
+    nodes.push(Node::Element(new_field(digits, space)?))?;
     Ok(())
 }
 
