@@ -168,23 +168,22 @@ fn a_started_log_goes_on(rt: HostRuntime) {
     has_ends(&rt, &mut log, &name, 2, 2);
 }
 
-/// A store with one row, which has a number.
-fn holding(
-    alloc: Global,
-    kind: u8,
-    channel: &str,
-    value: u64,
-    body: &str,
-) -> Result<MemKeeper, KeeperFault> {
+/// A key of a channel, of no channel where the name is empty.
+fn key_of(alloc: Global, kind: u8, channel: &str, number: u64) -> Result<Key, AllocError> {
+    Ok(Key {
+        kind,
+        sub: Text::new(alloc),
+        source: Text::new(alloc),
+        channel: Text::from_str(alloc, channel)?,
+        number,
+    })
+}
+
+/// A store with one row.
+fn holding(alloc: Global, key: Key, value: u64, body: &str) -> Result<MemKeeper, KeeperFault> {
     let mut changes = List::new(alloc);
     changes.push(Change::Put(Row {
-        key: Key {
-            kind,
-            sub: Text::new(alloc),
-            source: Text::new(alloc),
-            channel: Text::from_str(alloc, channel)?,
-            number: 0,
-        },
+        key,
         value,
         body: Text::from_str(alloc, body)?,
     }))?;
@@ -208,7 +207,8 @@ fn each_start_has_the_next_number(rt: HostRuntime) {
 fn a_start_number_has_an_end(rt: HostRuntime) {
     let alloc = rt.alloc();
     for (value, want) in [(MAX, Some(LogFault::Full)), (MAX - 1, None)] {
-        let keeper = holding(alloc, 12, "", value, "").expect(&rt, "memory");
+        let key = key_of(alloc, 12, "", 0).expect(&rt, "memory");
+        let keeper = holding(alloc, key, value, "").expect(&rt, "memory");
         let fault = Log::start(alloc, keeper, 4).err().map(|refused| refused.1);
         assert_eq!(&rt; fault, want);
     }
@@ -222,10 +222,22 @@ fn a_channel_has_an_end(rt: HostRuntime) {
         (MAX - 1, "", Ok(MAX)),
         (7, "spoilt", Err(LogFault::Failed)),
     ] {
-        let keeper = holding(alloc, 10, "a", value, body).expect(&rt, "memory");
+        let key = key_of(alloc, 10, "a", 0).expect(&rt, "memory");
+        let keeper = holding(alloc, key, value, body).expect(&rt, "memory");
         let mut log = over(&rt, alloc, keeper, 4);
         assert_eq!(&rt; try_write(&rt, alloc, &mut log, "a"), want);
     }
+}
+
+#[test]
+fn a_record_that_is_no_event_is_not_given(rt: HostRuntime) {
+    let alloc = rt.alloc();
+    let name = channel(alloc, "a").expect(&rt, "a name");
+    let key = key_of(alloc, 9, "a", 1).expect(&rt, "memory");
+    let keeper = holding(alloc, key, 0, "<Event></Event>").expect(&rt, "memory");
+    let mut log = over(&rt, alloc, keeper, 4);
+    assert!(&rt; matches!(log.page(&name, 0, 4), Err(LogFault::Failed)));
+    assert!(&rt; matches!(log.page(&name, 1, 4), Ok(_)));
 }
 
 #[test]
