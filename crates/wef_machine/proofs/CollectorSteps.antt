@@ -45,8 +45,7 @@ use Rattle.wef_machine.specs.declared.messages.Message.{Message}
 use Rattle.wef_machine.specs.declared.messages.Message.TheVariants.{Ack, Events, Fault}
 use Rattle.wef_query.specs.Order.{with_name}
 use Rattle.wef_machine.proofs.Growing.{same_rows}
-use Rattle.wef_machine.proofs.FittingNumbers.{fitting_numbers}
-use Rattle.wef_collector.specs.FormsStay.{HasNumbers}
+use Rattle.wef_collector.specs.FormsStay.{IsSoundBatch}
 use Rattle.wef_machine.proofs.Lower.{Lower}
 use Rattle.wef_machine.proofs.Moves.{alike_pair, kept_reply, kept_rows, untouched_pair}
 use Rattle.wef_machine.proofs.Names.{among_with, not_among_with}
@@ -187,9 +186,9 @@ IsForeign state s = (r : List ℕ) → is_among state.foreign r ≡ false → s 
 pub is_foreign : (state : State) (s : List ℕ) → IsForeign (with_foreign state s) s
 is_foreign state s r apart e = other_name r s (not_among_with state.foreign s r apart).1 (sym e)
 
-foreign_taken : Lower → (state : State) (u s : List ℕ) (about : Subscription) (batch : Batch) → IsKept state → IsForeign state s → is_source s ≡ true → HasNumbers batch →
+foreign_taken : Lower → (state : State) (u s : List ℕ) (about : Subscription) (batch : Batch) → IsKept state → IsForeign state s → is_source s ≡ true → IsSoundBatch batch →
     standing state.collector.rows u ≡ stands.Live about → is_well_formed (channels_read about) batch ≡ true → KeptWith state (taken state.collector.rows u s (channels_read about) batch moment)
-foreign_taken lower state u s about batch kept foreign source numbers live good =
+foreign_taken lower state u s about batch kept foreign source sound live good =
     let channels = channels_read about in
     let rows = taken state.collector.rows u s channels batch moment in
     kept_rows state rows state.foreign kept (taking_grows state.collector.rows u s channels batch moment)
@@ -197,11 +196,11 @@ foreign_taken lower state u s about batch kept foreign source numbers live good 
     alike_pair rows state.collector.rows v r c (subscription_at rows v) (slot_of state r) (taking_spares_source state.collector.rows u s channels batch moment v r c (foreign r apart))
     (subst (λ (o : Option Subscription). IsPairKept state.collector.rows v r c o (slot_of state r)) (sym (subscription_by_taking state.collector.rows u s channels batch moment v)) (kept.pairs v r c apart)))
     kept.apart (keys_by_taking state.collector.rows u s channels batch moment kept.keys)
-    (lower.formed_taken state.collector.rows u s about batch moment live source good numbers (omega arith) kept.formed)
+    (lower.formed_taken state.collector.rows u s about batch moment live source good sound (omega arith) kept.formed)
 
-pub batch_keeps : Lower → (state : State) (u s : List ℕ) (batch : Batch) → IsKept state → IsForeign state s → is_source s ≡ true → HasNumbers batch → IsKept (batch_at u s batch state)
+pub batch_keeps : Lower → (state : State) (u s : List ℕ) (batch : Batch) → IsKept state → IsForeign state s → is_source s ≡ true → IsSoundBatch batch → IsKept (batch_at u s batch state)
 unfolding taken
-batch_keeps lower state u s batch kept foreign source numbers = by_standing (standing state.collector.rows u) refl
+batch_keeps lower state u s batch kept foreign source sound = by_standing (standing state.collector.rows u) refl
   where
     by_standing : (found : state_of.Standing) → standing state.collector.rows u ≡ found → IsKept (with_call state (batch_effect_by state.collector.rows u s batch found))
     by_standing stands.Unknown e = kept
@@ -210,7 +209,7 @@ batch_keeps lower state u s batch kept foreign source numbers = by_standing (sta
         let changes : List Change = batch_changes state.collector.rows u s (channels_read about) batch moment in
         let effect : BatchEffect = Ok changes in
         cond_both (is_well_formed (channels_read about) batch) effect (Err InvalidMessage) (λ (x : BatchEffect). IsKept (with_call state x))
-        (λ good. called_kept state changes kept (foreign_taken lower state u s about batch kept foreign source numbers e good)) (λ bad. kept)
+        (λ good. called_kept state changes kept (foreign_taken lower state u s about batch kept foreign source sound e good)) (λ bad. kept)
 
 -- ---- batches of declared sources
 
@@ -229,14 +228,6 @@ served_pair state u s c slot delivery kept there is at listed =
     subst (λ (x : Option Subscription × Option Slot). IsPairKept rows u s c x.0 x.1) (λ i. (sym known i, sym there i))
     (subst (IsChannelKept rows u s c is.about slot) (sym listed) after.0)
 
--- the numbers of a delivered batch are such as records have
-numbers_kept : Lower → (state : State) (s : List ℕ) (slot : Slot) (delivery : Delivery) → IsKept state → slot_of state s ≡ Some slot → IsDelivery state.collector.rows s slot delivery →
-    HasNumbers delivery.batch
-numbers_kept lower state s slot delivery kept there is =
-    let source = kept.sources s slot there in
-    fitting_numbers is.about.query is.about.max_bytes slot.histories slot.capacity is.above delivery.batch is.fits
-    (λ c. lower.log_lengths slot.rows slot.histories slot.capacity (windows.boot_of slot.rows) c source.window source.formed)
-
 taken_kept : Lower → (state : State) (s : List ℕ) (slot : Slot) (delivery : Delivery) → IsKept state → slot_of state s ≡ Some slot →
     (is : IsDelivery state.collector.rows s slot delivery) → standing state.collector.rows is.u ≡ stands.Live is.about → is_well_formed (channels_read is.about) delivery.batch ≡ true →
     KeptWith state (taken state.collector.rows is.u s (channels_read is.about) delivery.batch moment)
@@ -246,7 +237,7 @@ taken_kept lower state s slot delivery kept there is live good =
     subst (λ (o : Option Subscription). IsPairKept rows v r c o (slot_of state r)) (sym (subscription_by_taking state.collector.rows is.u s (channels_read is.about) delivery.batch moment v))
     (by_pair v r c apart (is_served is.u s (channels_read is.about) v r c) refl))
     kept.apart (keys_by_taking state.collector.rows is.u s (channels_read is.about) delivery.batch moment kept.keys)
-    (lower.formed_taken state.collector.rows is.u s is.about delivery.batch moment live (kept.sources s slot there).name good (numbers_kept lower state s slot delivery kept there is) (omega arith) kept.formed)
+    (lower.formed_taken state.collector.rows is.u s is.about delivery.batch moment live (kept.sources s slot there).name good is.sound (omega arith) kept.formed)
   where
     rows : Rows
     rows = taken state.collector.rows is.u s (channels_read is.about) delivery.batch moment

@@ -1,4 +1,5 @@
--- The numbers of a batch that fits a source's histories are no greater than these are long.
+-- A batch that fits a source's histories is sound, where its events are those that their texts say: its numbers are no
+-- greater than the histories are long.
 use Rattle.std.proofs.Common.{◌≡◌, ℕ, ◌≤◌, Bool, true, false, ◌&&◌, cond, List, [], ◌∷◌, length, nat_le, refl, ap, sym, ◌∙◌, subst, arith}
 use Rattle.std.proofs.lemmas.Bool.{and_parts}
 use Rattle.std.proofs.lemmas.Bool.Decides.{nat_tests}
@@ -19,7 +20,8 @@ use Rattle.wef_query.specs.Selected.{channels_of}
 use Rattle.wef_query.specs.declared.QueryList.{QueryList}
 use Rattle.wef_source.specs.Fits.{Fits, FitsChannel}
 use Rattle.wef_source_log.specs.Histories.{Histories, History, history}
-use Rattle.wef_collector.specs.FormsStay.{HasNumber, HasNumbers}
+use Rattle.wef_machine.proofs.SaidEvents.{IsSaidItem}
+use Rattle.wef_collector.specs.FormsStay.{IsSoundBatch, IsSoundItem}
 
 at_most : (m n : ℕ) → nat_le m n ≡ true → m ≤ n
 at_most m n e = grind (arith, nat_tests, e)
@@ -37,10 +39,10 @@ record IsInBatch (channels : List (List ℕ)) (batch : Batch) (item : Item) : Ty
   listed : is_listed channels item ≡ true
   ends : (c : List ℕ) → is_in channels c ≡ true → ends_by (reach c batch) (span_in c item) ≡ true
 
-pub fitting_numbers : (query : QueryList) (max_bytes : ℕ) (all : Histories) (capacity : ℕ) (b : Marks) (batch : Batch) → Fits query max_bytes all capacity b batch →
-    ((c : List ℕ) → length (history all c) ≤ 9223372036854775807) → HasNumbers batch
-fitting_numbers query max_bytes all capacity b batch fits lengths = record {
-  items = each batch.items listed (λ c here. items_are_reached channels batch c fits.well_formed here);
+pub fitting_is_sound : (query : QueryList) (max_bytes : ℕ) (all : Histories) (capacity : ℕ) (b : Marks) (batch : Batch) → Fits query max_bytes all capacity b batch →
+    ((c : List ℕ) → length (history all c) ≤ 9223372036854775807) → AllByRecursion IsSaidItem batch.items → IsSoundBatch batch
+fitting_is_sound query max_bytes all capacity b batch fits lengths said = record {
+  items = each batch.items listed said (λ c here. items_are_reached channels batch c fits.well_formed here);
   to = λ c n e. by_channel c n e (is_in channels c) refl;
 }
   where
@@ -55,25 +57,27 @@ fitting_numbers query max_bytes all capacity b batch fits lengths = record {
     ends_in c first last here ends =
         by_reach query max_bytes c (history all c) capacity (number_at b c) batch.items (reach c batch) first last (fits.channels c here) ends (lengths c)
 
-    number : (item : Item) → IsInBatch (channels_of query.items) batch item → HasNumber item
-    number (Event event) is =
-        ends_in event.channel event.number event.number is.listed
-        (subst (λ (o : Option (ℕ × ℕ)). ends_by (reach event.channel batch) o ≡ true) (own_span event.channel event.channel (event.number, event.number) refl) (is.ends event.channel is.listed))
-    number (Dropped channel first last) is =
+    sound : (item : Item) → IsInBatch (channels_of query.items) batch item → IsSaidItem item → IsSoundItem item
+    sound (Event event) is said = (
+      ends_in event.channel event.number event.number is.listed
+      (subst (λ (o : Option (ℕ × ℕ)). ends_by (reach event.channel batch) o ≡ true) (own_span event.channel event.channel (event.number, event.number) refl) (is.ends event.channel is.listed)),
+      said,
+    )
+    sound (Dropped channel first last) is said =
         ends_in channel first last is.listed
         (subst (λ (o : Option (ℕ × ℕ)). ends_by (reach channel batch) o ≡ true) (own_span channel channel (first, last) refl) (is.ends channel is.listed))
-    number (Loose count) is = tt
+    sound (Loose count) is said = tt
 
-    each : (items : List Item) → list_all (is_listed (channels_of query.items)) items ≡ true →
-        ((c : List ℕ) → is_in (channels_of query.items) c ≡ true → list_all (λ item. ends_by (reach c batch) (span_in c item)) items ≡ true) → AllByRecursion HasNumber items
-    each [] are ends = tt
-    each (item ∷ items) are ends =
+    each : (items : List Item) → list_all (is_listed (channels_of query.items)) items ≡ true → AllByRecursion IsSaidItem items →
+        ((c : List ℕ) → is_in (channels_of query.items) c ≡ true → list_all (λ item. ends_by (reach c batch) (span_in c item)) items ≡ true) → AllByRecursion IsSoundItem items
+    each [] are said ends = tt
+    each (item ∷ items) are said ends =
         let parts = and_parts (is_listed channels item) (list_all (is_listed channels) items) are in (
-          number item (record {
+          sound item (record {
             listed = parts.0;
             ends = λ c here. (and_parts (ends_by (reach c batch) (span_in c item)) (list_all (λ other. ends_by (reach c batch) (span_in c other)) items) (ends c here)).0;
-          }),
-          each items parts.1 (λ c here. (and_parts (ends_by (reach c batch) (span_in c item)) (list_all (λ other. ends_by (reach c batch) (span_in c other)) items) (ends c here)).1),
+          }) said.0,
+          each items parts.1 said.1 (λ c here. (and_parts (ends_by (reach c batch) (span_in c item)) (list_all (λ other. ends_by (reach c batch) (span_in c other)) items) (ends c here)).1),
         )
 
     by_channel : (c : List ℕ) (n : ℕ) → map.get batch.to c ≡ Some n → (reads : Bool) → is_in (channels_of query.items) c ≡ reads → n ≤ 9223372036854775807

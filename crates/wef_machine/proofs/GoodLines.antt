@@ -1,4 +1,5 @@
--- What a good line says: its subscription reads back from the words that keep it, and its numbers are such as records have.
+-- What a good line says: its subscription reads back from the words that keep it, its batch is sound, and its event may be
+-- written.
 use Rattle.std.proofs.Common.{◌≡◌, ℕ, ◌<◌, ◌≤◌, ◌==◌, Bool, true, false, not, ◌&&◌, cond, List, [], ◌∷◌, length, map, nat_le, refl, ap, sym, ◌∙◌, subst, arith}
 use Rattle.std.proofs.lemmas.Bool.{and_parts}
 use Rattle.std.proofs.lemmas.Bool.Decides.{nat_tests}
@@ -15,7 +16,7 @@ use Rattle.wef_base.specs.Names.{channel_name}
 use Rattle.wef_batch.specs.declared.items.Batch.{Batch}
 use Rattle.wef_batch.specs.declared.items.Item.{Item}
 use Rattle.wef_batch.specs.declared.items.Item.TheVariants as item
-use Rattle.wef_collector.proofs.Hits.{one_name}
+use Rattle.wef_event.specs.Events.{is_event}
 use Rattle.wef_event.specs.Unnumbered.{numbered}
 use Rattle.wef_event.specs.declared.unnumbered.PlainEvent.{PlainEvent}
 use Rattle.wef_eventing.proofs.Back.{reads_back}
@@ -24,10 +25,11 @@ use Rattle.wef_eventing.specs.Subscriptions.{AreLimits}
 use Rattle.wef_query.specs.Queries.{all_events_of}
 use Rattle.wef_query.specs.declared.QueryItem.{QueryItem}
 use Rattle.wef_query.specs.declared.QueryList.{QueryList}
+use Rattle.wef_replay.proofs.GoodNames.{kept_channel}
 use Rattle.wef_replay.specs.Good.{are_all, are_limits, are_words, asks_for_all, fits_always, has_word, is_between, is_channel, is_count, is_item, is_line, is_no_collector, is_number, is_one, is_reach, is_source, is_subscription}
 use Rattle.wef_replay.specs.declared.lines.Line.TheVariants as lines
 use Rattle.wef_machine.specs.Steps.{subscription_of}
-use Rattle.wef_collector.specs.FormsStay.{HasNumber, HasNumbers}
+use Rattle.wef_collector.specs.FormsStay.{IsSoundBatch, IsSoundItem}
 
 -- ---- names and numbers
 
@@ -36,13 +38,6 @@ at_most m n e = grind (arith, nat_tests, e)
 
 between : (least greatest n : ℕ) → is_between least greatest n ≡ true → (least ≤ n) × (n ≤ greatest)
 between least greatest n e = let parts = and_parts (nat_le least n) (nat_le n greatest) e in (at_most least n parts.0, at_most n greatest parts.1)
-
-one_given : (name : List ℕ) (o : Option (List ℕ)) → is_one name o ≡ true → o ≡ Some name
-one_given name None e = cc
-one_given name (Some given) e = ap Some (sym (one_name name given e))
-
-kept_channel : (c : List ℕ) → is_channel c ≡ true → channel_name c ≡ Some c
-kept_channel c e = one_given c (channel_name c) (and_parts (is_utf8 c) (is_one c (channel_name c)) e).1
 
 -- ---- a subscription
 
@@ -113,14 +108,17 @@ names_source u s b e =
     let inner = and_parts (is_subscription u && is_source s) (is_no_collector s) outer.0 in
     (and_parts (is_subscription u) (is_source s) inner.0).1
 
-number : (i : Item) → is_item i ≡ true → HasNumber i
-number (item.Event event) e = (between 1 9223372036854775807 event.number (and_parts (is_channel event.channel) (is_number event.number) e).1).1
-number (item.Dropped channel first last) e = (between 1 9223372036854775807 last (and_parts (is_channel channel && is_number first) (is_number last) e).1).1
-number (item.Loose count) e = tt
+sound : (i : Item) → is_item i ≡ true → IsSoundItem i
+sound (item.Event event) e =
+    let outer = and_parts (is_channel event.channel && is_number event.number) (is_event event) e in
+    let inner = and_parts (is_channel event.channel) (is_number event.number) outer.0 in
+    ((between 1 9223372036854775807 event.number inner.1).1, outer.1)
+sound (item.Dropped channel first last) e = (between 1 9223372036854775807 last (and_parts (is_channel channel && is_number first) (is_number last) e).1).1
+sound (item.Loose count) e = tt
 
-numbers : (items : List Item) → list_all is_item items ≡ true → AllByRecursion HasNumber items
-numbers [] e = tt
-numbers (i ∷ items) e = let parts = and_parts (is_item i) (list_all is_item items) e in (number i parts.0, numbers items parts.1)
+all_sound : (items : List Item) → list_all is_item items ≡ true → AllByRecursion IsSoundItem items
+all_sound [] e = tt
+all_sound (i ∷ items) e = let parts = and_parts (is_item i) (list_all is_item items) e in (sound i parts.0, all_sound items parts.1)
 
 reached : (es : List (List ℕ × ℕ)) → list_all is_reach es ≡ true → (c : List ℕ) (n : ℕ) → finite.find (slice_cmp nat_cmp) c es ≡ Some n → n ≤ 9223372036854775807
 reached [] e c n found = absurd (none-some n found)
@@ -133,19 +131,31 @@ reached (x ∷ es) e c n found = by_test (reached es (and_parts (is_reach x) (li
     by_test behind true is = subst (λ (m : ℕ). m ≤ 9223372036854775807) (same_Some x.1 n is) (at_most x.1 9223372036854775807 (and_parts (is_channel x.0) (is_count x.1) (parts).0).1)
     by_test behind false is = behind is
 
-pub has_numbers : (u s : List ℕ) (b : Batch) → is_line (lines.Batch u s b) ≡ true → HasNumbers b
-has_numbers u s b e =
+pub sound_batch : (u s : List ℕ) (b : Batch) → is_line (lines.Batch u s b) ≡ true → IsSoundBatch b
+sound_batch u s b e =
     let words = (and_parts (is_subscription u && is_source s && is_no_collector s) (are_words b) e).1 in
     let outer = and_parts (has_word b && list_all is_item b.items) (list_all is_reach (finite.entries b.to)) words in
     let inner = and_parts (has_word b) (list_all is_item b.items) outer.0 in
     record {
-      items = numbers b.items inner.1;
+      items = all_sound b.items inner.1;
       to = λ c n found. reached (finite.entries b.to) outer.1 c n (sym (finite.get-entries b.to c) ∙ found);
     }
 
 -- ---- a write
 
-pub names_channel : (s : List ℕ) (event : PlainEvent) → is_line (lines.Write s event) ≡ true → channel_name event.channel ≡ Some event.channel
-names_channel s event e =
+-- An event may be written: its channel is a name as it is kept, and its words are texts.
+pub record IsWritable (event : PlainEvent) : Type 0 where
+  pub named : channel_name event.channel ≡ Some event.channel
+  pub channel : is_utf8 event.channel ≡ true
+  pub word : is_utf8 event.word ≡ true
+
+pub writable : (s : List ℕ) (event : PlainEvent) → is_line (lines.Write s event) ≡ true → IsWritable event
+writable s event e =
     let fits = (and_parts (is_source s) (fits_always event) e).1 in
-    kept_channel event.channel (and_parts (is_channel event.channel) (is_some (numbered event 9223372036854775807)) fits).0
+    let outer = and_parts (is_channel event.channel && is_utf8 event.word) (is_some (numbered event 9223372036854775807)) fits in
+    let inner = and_parts (is_channel event.channel) (is_utf8 event.word) outer.0 in
+    record {
+      named = kept_channel event.channel inner.0;
+      channel = (and_parts (is_utf8 event.channel) (is_one event.channel (channel_name event.channel)) inner.0).0;
+      word = inner.1;
+    }

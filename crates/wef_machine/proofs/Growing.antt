@@ -150,6 +150,7 @@ source_grows rows rows' messages messages' s slot grows more kept = record {
   greatest = kept.greatest;
   window = kept.window;
   formed = kept.formed;
+  events = kept.events;
   running = running_grows rows rows' messages messages' s slot slot.end grows more kept.running;
 }
 
@@ -169,6 +170,7 @@ delivery_grows rows rows' s slot slot' delivery grows more is = record {
   behind = behind_grows rows rows' is.u s is.above grows is.behind;
   fits = subst (λ (capacity : ℕ). Fits is.about.query is.about.max_bytes slot'.histories capacity is.above delivery.batch) more.capacity
       (fits_longer is.about.query is.about.max_bytes slot.histories slot'.histories slot.capacity is.above delivery.batch more.histories is.fits);
+  sound = is.sound;
   drawn = drawn_grows slot slot' delivery.id.value more is.drawn;
 }
 

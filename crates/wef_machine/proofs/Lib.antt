@@ -18,6 +18,7 @@ pub mod Numbered
 pub mod Offering
 pub mod Ranges
 pub mod RowMoves
+pub mod SaidEvents
 pub mod Schedules
 pub mod Sent
 pub mod Sessions

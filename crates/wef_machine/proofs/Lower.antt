@@ -8,11 +8,13 @@ use Rattle.wef_bookmark.specs.Order.{IsAtMost, Marks}
 use Rattle.wef_collector.specs.Answers.{added_rows, channels_read, ended_rows}
 use Rattle.wef_collector.specs.Boots.{boot_of}
 use Rattle.wef_collector.specs.Forms as collector
-use Rattle.wef_collector.specs.FormsStay.{HasNumbers}
+use Rattle.wef_collector.specs.FormsStay.{IsSoundBatch}
 use Rattle.wef_collector.specs.Keys.{boot_key}
 use Rattle.wef_collector.specs.Standing.{standing}
 use Rattle.wef_collector.specs.Taken.{taken}
 use Rattle.wef_collector.specs.declared.standings.Standing.TheVariants.{Live}
+use Rattle.wef_event.specs.Events.{is_event}
+use Rattle.wef_event.specs.PlainEvent.{PlainEventsAreRead}
 use Rattle.wef_event.specs.declared.unnumbered.PlainEvent.{PlainEvent}
 use Rattle.wef_eventing.specs.Kept.{kept_words, read_kept}
 use Rattle.wef_eventing.specs.declared.subscriptions.Subscription.{Subscription}
@@ -25,6 +27,7 @@ use Rattle.wef_source.specs.declared.sessions.Session.{Session}
 use Rattle.wef_source_log.specs.Answers.{is_boot_full, is_full, next_text}
 use Rattle.wef_source_log.specs.Forms as log
 use Rattle.wef_source_log.specs.Histories.{Histories, extended, history}
+use Rattle.wef_source_log.specs.Laws.{WindowsRead}
 use Rattle.wef_source_log.specs.Windows as windows
 use Rattle.wef_source_log.specs.Windows.{IsWindow, started, last_of, written}
 
@@ -36,7 +39,7 @@ pub record Lower : Type 0 where
   pub formed_added : (rows : Rows) (about : Subscription) → is_subscription about.name ≡ true → read_kept about.name (kept_words about) ≡ Some about → collector.AreFormed rows → collector.AreFormed (added_rows rows about)
   pub formed_ended : (rows : Rows) (u : List ℕ) (about : Subscription) → standing rows u ≡ Live about → collector.AreFormed rows → collector.AreFormed (ended_rows rows u)
   pub formed_taken : (rows : Rows) (u s : List ℕ) (about : Subscription) (batch : Batch) (now : ℕ) → standing rows u ≡ Live about → is_source s ≡ true →
-      is_well_formed (channels_read about) batch ≡ true → HasNumbers batch → now ≤ 253402300799999 → collector.AreFormed rows →
+      is_well_formed (channels_read about) batch ≡ true → IsSoundBatch batch → now ≤ 253402300799999 → collector.AreFormed rows →
       collector.AreFormed (taken rows u s (channels_read about) batch now)
   -- a log's rows keep their form and their window
   pub log_empty : (capacity : ℕ) → IsWindow map.empty map.empty capacity 0
@@ -47,11 +50,15 @@ pub record Lower : Type 0 where
   pub log_formed_empty : log.AreFormed map.empty
   pub log_formed_started : (rows : Rows) (capacity : ℕ) → 0 < capacity → capacity ≤ 1000000 → is_boot_full rows ≡ false → log.AreFormed rows →
       log.AreFormed (started rows capacity)
-  pub log_formed_written : (rows : Rows) (event : PlainEvent) → is_full rows event.channel ≡ false → channel_name event.channel ≡ Some event.channel → is_event (record { channel = event.channel; number = last_of rows event.channel + 1; text = next_text rows event }) ≡ true →
-      log.AreFormed rows → log.AreFormed (written rows event.channel (next_text rows event))
+  pub log_formed_written : (rows : Rows) (event : PlainEvent) → is_full rows event.channel ≡ false → channel_name event.channel ≡ Some event.channel →
+      is_event (record { channel = event.channel; number = last_of rows event.channel + 1; text = next_text rows event }) ≡ true → log.AreFormed rows → log.AreFormed (written rows event.channel (next_text rows event))
   -- a channel's history is no longer than numbers go
   pub log_lengths : (rows : Rows) (all : Histories) (capacity boot : ℕ) (c : List ℕ) → IsWindow rows all capacity boot → log.AreFormed rows →
       length (history all c) ≤ 9223372036854775807
+  -- what a window's rows give is what its histories say
+  pub log_reads : WindowsRead
+  -- a plain event with a number is the one that its text says
+  pub plain_events : PlainEventsAreRead
   -- what is built fits
   pub built_fits : (rows : Rows) (all : Histories) (capacity boot : ℕ) (session : Session) (b : Marks) → 0 < capacity → 0 < boot → IsWindow rows all capacity boot →
       AreWithin session.positions all → IsAtMost session.positions b → Fits session.query session.max_bytes all capacity b (built rows session)

@@ -8,6 +8,7 @@ use Rattle.std.specs.Option.{option_map}
 use Rattle.std.specs.Str.{is_utf8}
 use Rattle.wef_collector.proofs.FormsStay.{forms_stay as collector_forms}
 use Rattle.wef_collector.specs.Forms.{is_source_name, is_subscription_name}
+use Rattle.wef_event.proofs.PlainTrees.{plain_is_read}
 use Rattle.wef_keeper.specs.Rows.{Rows, row_of}
 use Rattle.wef_keeper.specs.declared.keys.Cell.{Cell}
 use Rattle.wef_replay.specs.Good.{is_source, is_subscription}
@@ -48,18 +49,20 @@ lower = record {
   formed_booted = collector_forms.start;
   formed_added = λ rows about name back formed. collector_forms.add rows about (subscription_named about.name name) back formed;
   formed_ended = collector_forms.end;
-  formed_taken = λ rows u s about batch now live source good numbers soon formed.
-      collector_forms.take rows u s about batch now live (source_named s source) good numbers soon formed;
+  formed_taken = λ rows u s about batch now live source good sound soon formed.
+      collector_forms.take rows u s about batch now live (source_named s source) good sound soon formed;
   log_empty = nothing_is_empty;
   log_starts = starts_keep;
   log_extends = λ rows event all capacity boot some begun window. (extends rows _ event (last_of rows event.channel + 1) refl refl all capacity boot some begun window).1;
   log_boot_is = boot_is;
   log_formed_empty = log_forms.nothing;
   log_formed_started = λ rows capacity least greatest room formed. log_forms.start rows capacity formed (below (boot_of rows) room) least greatest;
-  log_formed_written = λ rows event room named formed. log_forms.write rows event.channel _ formed (below (last_of rows event.channel) room) named;
+  log_formed_written = λ rows event room named said formed. log_forms.write rows event.channel _ formed (below (last_of rows event.channel) room) named said;
   log_lengths = λ rows all capacity boot c window formed.
       let same = last_in rows all capacity boot window c in
       let most = last_within rows c formed in
       omega arith;
+  log_reads = windows_read;
+  plain_events = plain_is_read;
   built_fits = built_fit windows_read;
 }

@@ -39,6 +39,7 @@ use Rattle.wef_keeper.specs.declared.keys.Depth.{Depth}
 use Rattle.wef_keeper.specs.declared.keys.Depth.TheVariants.{Source}
 use Rattle.wef_keeper.specs.declared.keys.Key.{Key}
 use Rattle.wef_keeper.specs.declared.keys.Row.{Row}
+use Rattle.wef_replay.proofs.GoodNames.{one_given}
 use Rattle.wef_replay.specs.Good.{is_one, is_source, is_subscription}
 use Rattle.wef_machine.specs.Kept.{IsBehind, IsOffered}
 use Rattle.wef_machine.specs.Safe.{about_of, subscription_at}
@@ -149,10 +150,6 @@ bookmark_behind rows u s keys =
     (all_stand rows Source (bookmark_key u s [])))))
 
 -- ---- names
-
-one_given : (name : List ℕ) (o : Option (List ℕ)) → is_one name o ≡ true → o ≡ Some name
-one_given name None e = cc
-one_given name (Some given) e = ap Some (sym (one_name name given e))
 
 -- a name that its reader gives
 reads_subscription : (u : List ℕ) → is_subscription u ≡ true → IsUtf8 u × (subscription_name u ≡ Some u)

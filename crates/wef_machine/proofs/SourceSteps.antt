@@ -6,7 +6,6 @@ use Rattle.std.proofs.lemmas.Bool.Decides.{nat_tests}
 use Rattle.std.specs.Prelude.{Option, Some, None, Ok, Err, is_none, is_some, unwrap_or}
 use Rattle.std.specs.FinMap as finite
 use Rattle.std.specs.List.{AllByRecursion}
-use Rattle.wef_base.specs.Names.{channel_name}
 use Rattle.wef_batch.specs.WellFormed.{is_in}
 use Rattle.wef_collector.proofs.Hits.{one_name}
 use Rattle.wef_collector.specs.Answers.{channels_read}
@@ -14,6 +13,7 @@ use Rattle.wef_collector.specs.Bookmarks.{bookmark_at}
 use Rattle.wef_envelope.specs.Ids.{ids_agree}
 use Rattle.wef_envelope.specs.declared.FaultName.{FaultName}
 use Rattle.wef_envelope.specs.declared.MessageId.{MessageId}
+use Rattle.wef_event.specs.Events.{is_event}
 use Rattle.wef_event.specs.Unnumbered.{numbered}
 use Rattle.wef_event.specs.declared.unnumbered.PlainEvent.{PlainEvent}
 use Rattle.wef_eventing.specs.declared.bodies.Offer.{Offer}
@@ -23,7 +23,7 @@ use Rattle.wef_keeper.specs.declared.keys.Change.{Change}
 use Rattle.wef_query.specs.declared.QueryList.{QueryList}
 use Rattle.wef_source_log.specs.Answers.{Effect, is_boot_full, is_full, next_text}
 use Rattle.wef_source_log.specs.Forms as log
-use Rattle.wef_source_log.specs.Histories.{Histories, History, extended, history}
+use Rattle.wef_source_log.specs.Histories.{AreEvents, Histories, History, extended, history}
 use Rattle.wef_source_log.specs.Windows.{IsWindow, boot_of, capacity_of, last_of, start_changes, started, write_changes, written}
 use Rattle.wef_source_log.specs.declared.faults.LogFault.TheVariants as log_faults
 use Rattle.wef_source.specs.Answers.{waiting_for}
@@ -45,9 +45,12 @@ use Rattle.wef_machine.specs.declared.arming.Fate.TheVariants.{Done, Failed, Sto
 use Rattle.wef_machine.specs.declared.messages.Message.{Message}
 use Rattle.wef_machine.specs.declared.messages.Message.TheVariants.{Ask, Events}
 use Rattle.wef_machine.proofs.CollectorSteps.{committed_both, done_leaves}
+use Rattle.wef_machine.proofs.FittingNumbers.{fitting_is_sound}
+use Rattle.wef_machine.proofs.GoodLines.{IsWritable}
 use Rattle.wef_machine.proofs.Growing.{HistoriesGrow, SlotGrows, same_histories, same_rows, same_slot, served_grows}
 use Rattle.wef_machine.proofs.Lower.{Lower}
 use Rattle.wef_machine.proofs.Moves.{declared_is, kept_draw, kept_slot, put_there, slot_put}
+use Rattle.wef_machine.proofs.SaidEvents.{built_said, numbered_said, written_events}
 use Rattle.wef_machine.proofs.Sent.{all_map, sent_before, sent_last}
 use Rattle.wef_machine.proofs.Sessions.{acknowledged_served, all_changed, all_first_changed, all_offered, all_without, first_is, first_passes, settled_served}
 
@@ -81,6 +84,7 @@ with_store state s slot rows end kept store running = record {
   greatest = kept.greatest;
   window = store.window;
   formed = store.formed;
+  events = kept.events;
   running = running;
 }
 
@@ -191,6 +195,7 @@ source_with_end rows messages messages' s slot end kept boot some drawn sessions
   greatest = kept.greatest;
   window = kept.window;
   formed = kept.formed;
+  events = kept.events;
   running = (record { boot = boot; drawn = drawn; sessions = sessions }, some);
 }
 
@@ -218,27 +223,31 @@ longer_histories all c text = record {
       (λ is. (text ∷ [], ap (λ (e : List ℕ). history all e ++ text ∷ []) (sym is))) ([], sym (append-nil (history all d)));
 }
 
--- What a write leaves: rows that are a window of the histories, of their form, and of the same start.
+-- What a write leaves: rows that are a window of the histories, of their form, and of the same start, and histories of events.
 record IsWritten (slot : Slot) (all : Histories) (rows : Rows) : Type 0 where
   grows : HistoriesGrow slot.histories all
   window : IsWindow rows all slot.capacity (boot_of rows)
   formed : log.AreFormed rows
+  events : AreEvents all
   boot : boot_of rows ≡ boot_of slot.rows
 
 not_written : (state : State) (s : List ℕ) (slot : Slot) → IsKeptSlot state s slot → IsWritten slot slot.histories slot.rows
-not_written state s slot kept = record { grows = same_histories slot.histories; window = kept.window; formed = kept.formed; boot = refl }
+not_written state s slot kept = record { grows = same_histories slot.histories; window = kept.window; formed = kept.formed; events = kept.events; boot = refl }
 
 is_written : Lower → (state : State) (s : List ℕ) (slot : Slot) (event : PlainEvent) → IsKeptSlot state s slot → 0 < boot_of slot.rows → is_full slot.rows event.channel ≡ false →
-    channel_name event.channel ≡ Some event.channel →
+    IsWritable event → is_event (record { channel = event.channel; number = last_of slot.rows event.channel + 1; text = next_text slot.rows event }) ≡ true →
     IsWritten slot (extended slot.histories event.channel (next_text slot.rows event)) (written slot.rows event.channel (next_text slot.rows event))
-is_written lower state s slot event kept some room named =
+is_written lower state s slot event kept some room good said =
     let text = next_text slot.rows event in
     let window = lower.log_extends slot.rows event slot.histories slot.capacity (boot_of slot.rows) kept.capacity some kept.window in
+    let reads = lower.log_reads slot.rows slot.histories slot.capacity (boot_of slot.rows) some kept.window in
     let boot = lower.log_boot_is (written slot.rows event.channel text) (extended slot.histories event.channel text) slot.capacity (boot_of slot.rows) window in
     record {
       grows = longer_histories slot.histories event.channel text;
       window = subst (λ (b : ℕ). IsWindow (written slot.rows event.channel text) (extended slot.histories event.channel text) slot.capacity b) (sym boot) window;
-      formed = lower.log_formed_written slot.rows event room named kept.formed;
+      formed = lower.log_formed_written slot.rows event room good.named said kept.formed;
+      events = written_events slot.histories event.channel text kept.events
+          (subst (λ (n : ℕ). is_event (record { channel = event.channel; number = n + 1; text = text }) ≡ true) (reads.last_is event.channel) said);
       boot = boot;
     }
 
@@ -265,6 +274,7 @@ written_slot state s slot end all rows how kept there runs left = by_fate how
           greatest = source.greatest;
           window = left.window;
           formed = left.formed;
+          events = left.events;
           running = (record { boot = is.0.boot ∙ sym left.boot; drawn = is.0.drawn; sessions = is.0.sessions }, is.1);
         })
 
@@ -278,7 +288,7 @@ written_slot state s slot end all rows how kept there runs left = by_fate how
           drawn = subst (λ (o : Option End). last_id slot o ≤ boot_of rows * 18446744073709551616 + most_drawn) (sym runs)
               (closed_later rows end (is.0.boot ∙ sym left.boot) is.0.drawn);
         })
-        (record { name = source.name; capacity = source.capacity; greatest = source.greatest; window = left.window; formed = left.formed; running = tt })
+        (record { name = source.name; capacity = source.capacity; greatest = source.greatest; window = left.window; formed = left.formed; events = left.events; running = tt })
 
     by_fate : (f : Fate) → IsKept (with_slot state s (record slot { histories = all; rows = rows; end = end_after f end }))
     by_fate Done = on
@@ -286,9 +296,9 @@ written_slot state s slot end all rows how kept there runs left = by_fate how
     by_fate Stopped = off
 
 recorded_kept : Lower → (state : State) (s : List ℕ) (slot : Slot) (end : End) (event : PlainEvent) → IsKept state → slot_of state s ≡ Some slot → slot.end ≡ Some end →
-    is_full slot.rows event.channel ≡ false → channel_name event.channel ≡ Some event.channel →
+    is_full slot.rows event.channel ≡ false → IsWritable event → is_none (numbered event (last_of slot.rows event.channel + 1)) ≡ false →
     IsKept (write_by state s slot end event (Ok (write_changes (capacity_of slot.rows) event.channel (last_of slot.rows event.channel + 1) (next_text slot.rows event))))
-recorded_kept lower state s slot end event kept there runs room named = by_arm (arm_of state s)
+recorded_kept lower state s slot end event kept there runs room good fits = by_arm (arm_of state s)
   where
     text : List ℕ
     text = next_text slot.rows event
@@ -304,7 +314,8 @@ recorded_kept lower state s slot end event kept there runs room named = by_arm (
         let is = running_is state s slot end source runs in
         let boot = is.0.boot in
         let some = is.1 in
-        is_written lower state s slot event source (omega arith) room named
+        is_written lower state s slot event source (omega arith) room good
+        (numbered_said lower.plain_events event (last_of slot.rows event.channel) good room fits)
 
     by_arm : (armed : Option Armed) → IsKept (with_slot state s (slot_written armed slot end event.channel (next_text slot.rows event)
         (write_changes (capacity_of slot.rows) event.channel (last_of slot.rows event.channel + 1) (next_text slot.rows event))))
@@ -319,14 +330,14 @@ recorded_kept lower state s slot end event kept there runs room named = by_arm (
         by_after true = written_slot state s slot end (extended slot.histories event.channel text) (written slot.rows event.channel text) (fate (Some a) changes) kept there runs new
         by_after false = written_slot state s slot end slot.histories slot.rows (fate (Some a) changes) kept there runs (not_written state s slot source)
 
-pub write_keeps : Lower → (state : State) (s : List ℕ) (event : PlainEvent) → IsKept state → channel_name event.channel ≡ Some event.channel → IsKept (write_step state s event)
-write_keeps lower state s event kept named = at_source_keeps lower state s (write_at s event) kept (λ now slot end kept_now opened there runs.
+pub write_keeps : Lower → (state : State) (s : List ℕ) (event : PlainEvent) → IsKept state → IsWritable event → IsKept (write_step state s event)
+write_keeps lower state s event kept good = at_source_keeps lower state s (write_at s event) kept (λ now slot end kept_now opened there runs.
     let changes : List Change = write_changes (capacity_of slot.rows) event.channel (last_of slot.rows event.channel + 1) (next_text slot.rows event) in
     let effect : Effect = Ok changes in
     cond_both (is_full slot.rows event.channel) (Err log_faults.Full) (cond (is_none (numbered event (last_of slot.rows event.channel + 1))) (Err log_faults.TooLong) effect)
     (λ (x : Effect). IsKept (write_by now s slot end event x)) (λ full. kept_now) (λ room.
     cond_both (is_none (numbered event (last_of slot.rows event.channel + 1))) (Err log_faults.TooLong) effect (λ (x : Effect). IsKept (write_by now s slot end event x))
-    (λ long. kept_now) (λ fits. recorded_kept lower now s slot end event kept_now there runs room named)))
+    (λ long. kept_now) (λ fits. recorded_kept lower now s slot end event kept_now there runs room good fits)))
 
 -- ---- drawing an id
 
@@ -395,6 +406,8 @@ delivery_kept lower state s slot new end session kept there runs served same_his
     let inside = bookmark_within state session.name s c terms.about slot kept terms.known there in
     let behind = served.positions c in
     omega arith in
+    let sound = fitting_is_sound session.query session.max_bytes slot.histories slot.capacity session.positions (built slot.rows session) in
+    let reads = lower.log_reads slot.rows slot.histories slot.capacity (boot_of slot.rows) (omega arith) source.window in
     let fit = lower.built_fits slot.rows slot.histories slot.capacity (boot_of slot.rows) session session.positions source.capacity (omega arith) source.window within (λ c. omega arith) in
     record {
       u = session.name;
@@ -406,6 +419,8 @@ delivery_kept lower state s slot new end session kept there runs served same_his
       behind = served.positions;
       fits = subst (λ (x : (QueryList × ℕ) × (Histories × ℕ)). Fits (x.0).0 (x.0).1 (x.1).0 (x.1).1 session.positions (built slot.rows session))
           (λ i. ((terms.query_is i, terms.max_bytes_is i), (sym same_histories i, sym same_capacity i))) fit;
+      sound = sound fit (λ c. lower.log_lengths slot.rows slot.histories slot.capacity (boot_of slot.rows) c source.window source.formed)
+          (built_said slot.rows slot.histories slot.capacity (boot_of slot.rows) session reads source.events);
       drawn = drawn;
     }
 
@@ -532,4 +547,4 @@ crash_keeps state s kept = by_slot (slot_of state s) refl
     by_slot (Some slot) there =
         let source = kept.sources s slot there in
         kept_slot state s slot (crashed_slot slot) kept there (crashed slot there slot.end refl source.running)
-        (record { name = source.name; capacity = source.capacity; greatest = source.greatest; window = source.window; formed = source.formed; running = tt })
+        (record { name = source.name; capacity = source.capacity; greatest = source.greatest; window = source.window; formed = source.formed; events = source.events; running = tt })

@@ -41,12 +41,13 @@ use Rattle.wef_machine.specs.declared.arming.Armed.{Armed}
 use Rattle.wef_machine.specs.declared.messages.Message.{Message}
 use Rattle.wef_machine.specs.declared.messages.Message.TheVariants as sent
 use Rattle.wef_machine.proofs.CollectorSteps.{at_collector_keeps, batch_keeps, end_keeps, events_keep, foreign_kept, is_foreign, subscribe_keeps}
-use Rattle.wef_machine.proofs.GoodLines.{all_events, has_numbers, names_channel, names_source}
+use Rattle.wef_machine.proofs.GoodLines.{all_events, names_source, sound_batch, writable}
 use Rattle.wef_machine.proofs.Lower.{Lower}
 use Rattle.wef_machine.proofs.Moves.{kept_declared, kept_reply}
 use Rattle.wef_machine.proofs.Names.{undeclared}
 use Rattle.wef_machine.proofs.Offering.{all_offers}
 use Rattle.wef_machine.proofs.Sent.{all_map, sent_by_number}
+use Rattle.wef_machine.proofs.SaidEvents.{no_events}
 use Rattle.wef_machine.proofs.SourceSteps.{ack_keeps, ask_keeps, crash_keeps, fault_keeps, lost_keeps, offers_keep, poll_keeps, write_keeps}
 
 -- ---- a world in which nothing has happened
@@ -138,6 +139,7 @@ declared_kept lower state s capacity kept good between new apart =
       greatest = bounds.1;
       window = subst (λ (b : ℕ). IsWindow finite.empty finite.empty capacity b) (sym empty_boot) (lower.log_empty capacity);
       formed = lower.log_formed_empty;
+      events = no_events;
       running = tt;
     })
 
@@ -162,7 +164,7 @@ steps_keep lower state (Batch u s b) kept good =
     let none = undeclared state s (not_true (is_among (declared_names state) s) parts.1) in
     at_collector_keeps lower (with_foreign state s) (batch_at u s b) (foreign_kept state s kept none) (λ now kept_now opened.
     batch_keeps lower now u s b kept_now (λ r apart. is_foreign state s r (subst (λ (names : List (List ℕ)). is_among names r ≡ false) opened.foreign apart))
-    (names_source u s b parts.0) (has_numbers u s b parts.0))
+    (names_source u s b parts.0) (sound_batch u s b parts.0))
 steps_keep lower state (Source s capacity) kept good =
     let parts = and_parts (is_line (Source s capacity)) (not (is_among (declared_names state) s) && not (is_among state.foreign s)) good in
     let line = and_parts (is_source s && is_no_collector s) (is_between 1 1000000 capacity) parts.0 in
@@ -170,7 +172,7 @@ steps_keep lower state (Source s capacity) kept good =
     let new = and_parts (not (is_among (declared_names state) s)) (not (is_among state.foreign s)) parts.1 in
     declared_kept lower state s capacity kept name line.1 (not_true (is_among (declared_names state) s) new.0) (not_true (is_among state.foreign s) new.1)
 steps_keep lower state (Write s event) kept good =
-    write_keeps lower state s event kept (names_channel s event (and_parts (is_line (Write s event)) (is_among (declared_names state) s) good).0)
+    write_keeps lower state s event kept (writable s event (and_parts (is_line (Write s event)) (is_among (declared_names state) s) good).0)
 steps_keep lower state (Ask s) kept good = ask_keeps lower state s kept
 steps_keep lower state (Poll s u) kept good = poll_keeps lower state s u kept
 steps_keep lower state (Deliver k) kept good = deliver_keeps lower state k kept

@@ -10,6 +10,7 @@ use Rattle.wef_bookmark.specs.Order.{Marks, number_at}
 use Rattle.wef_collector.specs.Answers.{channels_read}
 use Rattle.wef_collector.specs.Bookmarks.{bookmark_at}
 use Rattle.wef_collector.specs.Forms as collector
+use Rattle.wef_collector.specs.FormsStay.{IsSoundBatch}
 use Rattle.wef_collector.specs.Keys.{subscription_key}
 use Rattle.wef_envelope.specs.declared.MessageId.{MessageId}
 use Rattle.wef_eventing.specs.Addresses.{source_in, subscription_in}
@@ -119,8 +120,8 @@ abbrev pub WasDrawn : Slot → Option ℕ → Type 0
 WasDrawn slot None = ⊥
 WasDrawn slot (Some id) = id ≤ last_id slot slot.end
 
--- A delivery of a source goes to a subscription that is there, and its batch fits above a bookmark that is at most at
--- what is kept.
+-- A delivery of a source goes to a subscription that is there. Its batch is sound, the events at or below the bookmark
+-- among it, and fits above a bookmark that is at most at what is kept.
 pub record IsDelivery (rows : Rows) (s : List ℕ) (slot : Slot) (delivery : Delivery) : Type 0 where
   pub u : List ℕ
   pub about : Subscription
@@ -130,6 +131,7 @@ pub record IsDelivery (rows : Rows) (s : List ℕ) (slot : Slot) (delivery : Del
   pub above : Marks
   pub behind : IsBehind rows u s above
   pub fits : Fits about.query about.max_bytes slot.histories slot.capacity above delivery.batch
+  pub sound : IsSoundBatch delivery.batch
   pub drawn : WasDrawn slot delivery.id.value
 
 -- An acknowledgement is for a delivery of its source to a subscription that is there, and all that the batch reads of the

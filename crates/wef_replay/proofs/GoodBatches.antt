@@ -13,23 +13,24 @@ use Rattle.std.proofs.lemmas.Bool.Decides.{nat_tests}
 use Rattle.std.proofs.lemmas.Cmp.{nat_list_cmp_total}
 use Rattle.std.proofs.lemmas.List.Elements.{All-nil, All-push}
 use Rattle.std.proofs.lemmas.List.Folds.{list_all-append}
-use Rattle.wef_base.specs.Names.{same}
+use Rattle.wef_base.specs.Names.{channel_name, same}
 use Rattle.wef_base.specs.Words.{decoded, parts}
 use Rattle.wef_batch.specs.declared.items.Batch as batch
 use Rattle.wef_batch.specs.declared.items.Item.TheVariants as item
 use Rattle.wef_bookmark.specs.Order.{Marks, number_at, raised}
 use Rattle.wef_base.specs.Characters.{is_xml_text}
 use Rattle.wef_event.specs.PlainEvent.{plain_event, plain_text}
-use Rattle.wef_event.specs.Events.{Event}
+use Rattle.wef_event.specs.Events.{Event, is_event}
+use Rattle.wef_event.proofs.PlainTrees.{plain_is_read}
 use Rattle.wef_replay.specs.BatchWords.{added, batch_word, colon_joined, data_word, dropped_word, empty_batch, event_word, greatest, if_word, if_xml_text, is_nothing, loose_word, reach_word, read_words, word_of}
-use Rattle.wef_replay.specs.Good.{are_words, has_word, is_channel, is_count, is_item, is_number, is_reach}
+use Rattle.wef_replay.specs.Good.{are_words, has_word, is_channel, is_count, is_item, is_number, is_one, is_reach}
 use Rattle.wef_replay.specs.PlainEvents.{IsPlainItem}
 use Rattle.wef_replay.specs.Values.{channel_word, number_word}
 use Rattle.wef_replay.specs.declared.batches.BatchWord.{BatchWord}
 use Rattle.wef_replay.specs.declared.batches.BatchWord.TheVariants.{Item, Reach, Ack}
 use Rattle.wef_replay.proofs.Gifts.{AllOf, all_of-if, all_of-map, all_of-tested, all_of-then}
-use Rattle.wef_replay.proofs.GoodNames.{decoded_is_text, good-channel}
-use Rattle.wef_replay.proofs.GoodNumbers.{count_from_between, good-number, is_count-max}
+use Rattle.wef_replay.proofs.GoodNames.{decoded_is_text, good-channel, kept_channel}
+use Rattle.wef_replay.proofs.GoodNumbers.{count_from_between, good-number, is_count-max, of_record}
 
 -- ---- one word
 
@@ -48,6 +49,13 @@ good-data_word piece more =
     all_of-then (λ word. is_utf8 word ≡ true) IsXmlWord if_xml_text (decoded (colon_joined piece more)) (decoded_is_text (colon_joined piece more))
     (λ word text. all_of-tested IsXmlWord (is_xml_text word) word (λ characters. (text, characters)))
 
+-- a plain event of a channel's name and a number is the one that its text says
+said : (c : List ℕ) (n : ℕ) (word : List ℕ) (event : Event) → is_channel c ≡ true → is_number n ≡ true → IsXmlWord word → plain_event c n 0 0 word ≡ Some event → is_event event ≡ true
+said c n word event channel number characters made =
+    let utf8 = (and_parts (is_utf8 c) (is_one c (channel_name c)) channel).0 in
+    let within = of_record n number in
+    plain_is_read c word n 0 0 event (kept_channel c channel) utf8 characters.0 characters.1 within.0 within.1 made
+
 good-plain_event : (c : List ℕ) (n : ℕ) (word : List ℕ) → is_channel c ≡ true → is_number n ≡ true → IsXmlWord word → AllOf (λ event. IsGoodWord (Item (item.Event event))) (plain_event c n 0 0 word)
 good-plain_event c n word channel number characters = by (nat_lt 1048576 (length (plain_text c n 0 0 word))) refl
   where
@@ -56,7 +64,10 @@ good-plain_event c n word channel number characters = by (nat_lt 1048576 (length
 
     by : (b : Bool) → nat_lt 1048576 (length (plain_text c n 0 0 word)) ≡ b → AllOf (λ event. IsGoodWord (Item (item.Event event))) (cond b None (Some made))
     by true long = tt
-    by false fits = (and_from (is_channel c) (is_number n) channel number, (word, characters.0, characters.1, ap (λ (b : Bool). cond b None (Some made)) fits))
+    by false fits =
+        let is_made : plain_event c n 0 0 word ≡ Some made = ap (λ (b : Bool). cond b None (Some made)) fits in
+        let read = said c n word made channel number characters is_made in
+        (λ i. channel i && number i && read i, (word, characters.0, characters.1, is_made))
 
 good-event_word : (channel number piece : List ℕ) (more : List (List ℕ)) → AllOf IsGoodWord (event_word channel number piece more)
 good-event_word channel number piece more =

@@ -4,7 +4,7 @@ use Rattle.std.specs.Prelude.{◌==◌, Option, Some, None, codes, is_some, not}
 use Rattle.std.specs.List.{list_all}
 use Rattle.std.specs.Option.{option_and_then, option_map}
 use Rattle.std.specs.Str.{is_utf8}
-use Rattle.std.proofs.lemmas.Bool.{and_from, and_parts}
+use Rattle.std.proofs.lemmas.Bool.{and_parts}
 use Rattle.std.proofs.lemmas.Bool.Decides.{nat_tests}
 use Rattle.wef_base.specs.Names.{same}
 use Rattle.wef_base.specs.Words.{decoded, parts}
@@ -106,20 +106,20 @@ good-source_line (source ∷ capacity ∷ []) =
     all_of-map _ IsGoodLine (λ n. Source s n) (number_word 1 1000000 capacity) (good-number 1 1000000 capacity) (λ n is_n. (λ i. is_s i && is_n i, tt)))
 good-source_line (a ∷ b ∷ c ∷ more) = tt
 
-good-if_fits : (event : PlainEvent) → is_channel event.channel ≡ true → AllOf (λ event. fits_always event ≡ true) (if_fits event)
-good-if_fits event channel =
-    all_of-tested (λ (event : PlainEvent). fits_always event ≡ true) (is_some (numbered event greatest)) event (λ fits. and_from (is_channel event.channel) _ channel fits)
+good-if_fits : (event : PlainEvent) → is_channel event.channel ≡ true → is_utf8 event.word ≡ true → AllOf (λ event. fits_always event ≡ true) (if_fits event)
+good-if_fits event channel text =
+    all_of-tested (λ (event : PlainEvent). fits_always event ≡ true) (is_some (numbered event greatest)) event (λ fits. λ i. channel i && text i && fits i)
 
-good-event_if_xml : (c : List ℕ) (i l : ℕ) (w : List ℕ) (b : Bool) (e : is_xml_text w ≡ b) → is_channel c ≡ true → AllOf (λ event. fits_always event ≡ true) (event_if_xml c i l w b e)
-good-event_if_xml c i l w true e channel = good-if_fits (record { channel = c; id = i; level = l; word = w; characters = e }) channel
-good-event_if_xml c i l w false e channel = tt
+good-event_if_xml : (c : List ℕ) (i l : ℕ) (w : List ℕ) (b : Bool) (e : is_xml_text w ≡ b) → is_channel c ≡ true → is_utf8 w ≡ true → AllOf (λ event. fits_always event ≡ true) (event_if_xml c i l w b e)
+good-event_if_xml c i l w true e channel text = good-if_fits (record { channel = c; id = i; level = l; word = w; characters = e }) channel text
+good-event_if_xml c i l w false e channel text = tt
 
 good-event_words : (channel id level word : List ℕ) → AllOf (λ event. fits_always event ≡ true) (event_words channel id level word)
 good-event_words channel id level word =
     all_of-then _ _ _ (channel_word channel) (good-channel channel) (λ c is_c.
     all_of-then _ _ _ (number_word 0 4294967295 id) (good-number 0 4294967295 id) (λ i is_i.
     all_of-then _ _ _ (number_word 0 4294967295 level) (good-number 0 4294967295 level) (λ l is_l.
-    all_of-then _ _ (λ w. fitting_event c i l w) (decoded word) (decoded_is_text word) (λ w is_w. good-event_if_xml c i l w (is_xml_text w) refl is_c))))
+    all_of-then _ _ (λ w. fitting_event c i l w) (decoded word) (decoded_is_text word) (λ w is_w. good-event_if_xml c i l w (is_xml_text w) refl is_c is_w))))
 
 good-write_line : (words : List (List ℕ)) → AllOf IsGoodLine (write_line words)
 good-write_line [] = tt

@@ -2,8 +2,12 @@
 use Rattle.std.proofs.Common.{◌≡◌, ℕ, Bool, true, false, ◌&&◌, cond, List, [], ◌∷◌, map, refl, ap, sym, ◌∙◌, arith, encode_utf8_all}
 use Rattle.std.specs.Prelude.{Option, Some, None, IsUtf8, codes, not}
 use Rattle.std.specs.Char.{to_ascii_lowercase}
-use Rattle.std.specs.Cmp.Lexicographic.{nat_list_eq_equiv}
+use Rattle.std.specs.Cmp.Lexicographic.{nat_list_eq_equiv, slice_cmp, texts_ties}
+use Rattle.std.specs.FinMap.{nat_cmp-IsAntisymmetric, slice_cmp-IsAntisymmetric}
+use Rattle.std.specs.Ordering.{is_eq, nat_cmp}
 use Rattle.std.specs.Str.{all_scalars, chars, is_utf8}
+use Rattle.std.specs.declared.cmp.Ordering.{Ordering}
+use Rattle.std.specs.declared.cmp.Ordering.TheVariants.{Less, Equal, Greater}
 use Rattle.std.proofs.lemmas.Bool.{and_from, and_parts}
 use Rattle.std.proofs.lemmas.Bool.Decides.{nat_tests}
 use Rattle.std.proofs.lemmas.Str.{IsUtf8-from_is_utf8, is_utf8-from_IsUtf8, scalars-chars}
@@ -77,6 +81,23 @@ name_is_text letters limit text name utf8 e =
 -- a text that its reader gives just so is a name
 pub kept_is_one : (name : List ℕ) (given : Option (List ℕ)) → is_utf8 name ≡ true → given ≡ Some name → (is_utf8 name && is_one name given) ≡ true
 kept_is_one name given utf8 kept = (λ i. utf8 i && is_one name (kept i)) ∙ nat_list_eq_equiv.refl name
+
+tie : (r : Ordering) → is_eq r ≡ true → r ≡ Equal
+tie Less e = cc
+tie Equal e = refl
+tie Greater e = cc
+
+-- names that are the same byte for byte are one
+one_name : (a b : List ℕ) → same a b ≡ true → a ≡ b
+one_name a b e = slice_cmp-IsAntisymmetric nat_cmp-IsAntisymmetric a b (tie (slice_cmp nat_cmp a b) (sym (texts_ties a b) ∙ e))
+
+-- and back: a name is what its reader gives
+pub one_given : (name : List ℕ) (given : Option (List ℕ)) → is_one name given ≡ true → given ≡ Some name
+one_given name None e = cc
+one_given name (Some given) e = ap Some (sym (one_name name given e))
+
+pub kept_channel : (c : List ℕ) → is_channel c ≡ true → channel_name c ≡ Some c
+kept_channel c e = one_given c (channel_name c) (and_parts (is_utf8 c) (is_one c (channel_name c)) e).1
 
 good_name : (letters : Letters) (limit : ℕ) (text : List ℕ) → is_utf8 text ≡ true → AllOf (λ name. (is_utf8 name && is_one name (name_of letters limit name)) ≡ true) (name_of letters limit text)
 good_name letters limit text utf8 = by (name_of letters limit text) refl

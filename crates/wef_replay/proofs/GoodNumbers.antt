@@ -1,10 +1,10 @@
 -- Numbers that words give are within their limits.
-use Rattle.std.proofs.Common.{◌≡◌, ℕ, true, ◌&&◌, List, arith, max, nat_le}
+use Rattle.std.proofs.Common.{◌≡◌, ◌≤◌, ℕ, true, ◌&&◌, List, arith, max, nat_le}
 use Rattle.std.specs.Prelude.{None, not}
 use Rattle.std.proofs.lemmas.Bool.{and_from, and_parts}
 use Rattle.std.proofs.lemmas.Bool.Decides.{nat_tests}
 use Rattle.wef_base.specs.Numbers.{has_leading_zero, is_numeral, number_within, plain_number, value_from}
-use Rattle.wef_replay.specs.Good.{is_between, is_count}
+use Rattle.wef_replay.specs.Good.{is_between, is_count, is_number}
 use Rattle.wef_replay.specs.Values.{at_least, number_word}
 use Rattle.wef_replay.proofs.Gifts.{AllOf, all_of-if, all_of-tested, all_of-then}
 
@@ -18,6 +18,16 @@ pub good-number : (least greatest : ℕ) (word : List ℕ) → AllOf (λ n. is_b
 good-number least greatest word =
     all_of-then (λ n. nat_le n greatest ≡ true) (λ n. is_between least greatest n ≡ true) (at_least least) (plain_number greatest word) (within_greatest greatest word)
     (λ n most. all_of-tested (λ n. is_between least greatest n ≡ true) (nat_le least n) n (λ e. and_from (nat_le least n) (nat_le n greatest) e most))
+
+-- the number of a record is within its limits
+pub of_record : (n : ℕ) → is_number n ≡ true → (1 ≤ n) × (n ≤ 9223372036854775807)
+of_record n h = (least n h, most n h)
+  where
+    least : (n : ℕ) → is_number n ≡ true → 1 ≤ n
+    least n h = grind (arith, nat_tests, h)
+
+    most : (n : ℕ) → is_number n ≡ true → n ≤ 9223372036854775807
+    most n h = grind (arith, nat_tests, h)
 
 -- a number from 0 on has no least
 pub count_from_between : (n : ℕ) → is_between 0 9223372036854775807 n ≡ true → is_count n ≡ true

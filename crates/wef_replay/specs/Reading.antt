@@ -18,6 +18,9 @@ line_fault values.BadName = NotUnderstood
 -- a fault of making an event, as a fault of the line
 abbrev pub event_line_fault : event.EventFault → LineFault
 event_line_fault events.NoMemory = NoMemory
+event_line_fault (events.BadEvent at) = NotUnderstood
+event_line_fault events.NoChannel = NotUnderstood
+event_line_fault events.NoRecordId = NotUnderstood
 event_line_fault events.TooLong = NotUnderstood
 
 -- a refusal comes exactly where the definition gives nothing, or for want of memory

@@ -3,14 +3,16 @@
 ghost use Rattle.std.specs.Prelude.{◌≡◌, ◌&&◌};
 ghost use Rattle.std.specs.FinMap as map;
 ghost use Rattle.std.specs.List.{list_all};
+ghost use Rattle.std.specs.Str.{is_utf8};
+ghost use Rattle.wef_event.specs.Events.{is_event};
 ghost use Rattle.wef_replay.specs.Good.{are_all, are_limits, are_words, asks_for_all, fits_always, has_word, is_between, is_channel, is_count, is_end, is_item, is_line, is_no_collector, is_number, is_reach, is_source, is_subscription};
 
 use crate::lines::{EndName, Line};
 use std::collections::BTreeMap;
 use wef_base::numbers::MAX;
-use wef_base::{ChannelName, SourceName, SubId};
+use wef_base::{ChannelName, SourceName, SubId, Text};
 use wef_batch::{Batch, Item};
-use wef_event::PlainEvent;
+use wef_event::{Event, PlainEvent};
 use wef_query::QueryItem;
 
 /// Whether the values of a line are within the limits of a schedule, wherever the line stands. It
@@ -135,7 +137,15 @@ fn is_end(end: &EndName) -> bool
 fn fits_always(event: &PlainEvent) -> bool
     ensures { result ≡ fits_always event.now }
 {
-    is_channel(&event.channel) && event.fits(MAX)
+    is_channel(&event.channel) && is_text(&event.word) && event.fits(MAX)
+}
+
+/// Whether it is UTF-8, which its type promises.
+fn is_text(text: &Text) -> bool
+    ensures { result ≡ is_utf8 text.now }
+{
+    let _kept = text.as_str();
+    true
 }
 
 fn are_words(batch: &Batch) -> bool
@@ -162,7 +172,7 @@ fn is_item(item: &Item) -> bool
     ensures { result ≡ is_item item.now }
 {
     match item {
-        Item::Event(event) => is_channel(&event.channel) && is_number(event.number),
+        Item::Event(event) => is_event(event),
         Item::Dropped {
             channel,
             first,
@@ -170,6 +180,13 @@ fn is_item(item: &Item) -> bool
         } => is_channel(channel) && is_number(*first) && is_number(*last),
         Item::Loose { count } => is_count(*count),
     }
+}
+
+/// Whether the event has a number, as one that its text says has.
+fn is_event(event: &Event) -> bool
+    ensures { result ≡ (is_channel event.now.channel && is_number event.now.number && is_event event.now) }
+{
+    is_channel(&event.channel) && is_number(event.number) && event.is_numbered()
 }
 
 fn are_reaches(numbers: &BTreeMap<ChannelName, u64>) -> bool

@@ -55,7 +55,7 @@ impl From<EventFault> for LineFault {
     fn from(fault: EventFault) -> LineFault {
         match fault {
             EventFault::NoMemory => LineFault::NoMemory,
-            EventFault::TooLong => LineFault::NotUnderstood,
+            _ => LineFault::NotUnderstood,
         }
     }
 }
