@@ -1,16 +1,15 @@
 //! Offers, by example, start numbers, and a store that fails at each of its calls.
 
-ghost use Rattle.std.specs.Prelude.{◌≤◌};
-
 use crate::failing::FailingKeeper;
 use crate::keys::boot_key;
 use crate::{Collector, CollectorFault};
 use std::alloc::Global;
 use std::test::Fail;
-use wef_base::{ChannelName, List, SourceName, SubId, Text};
+use wef_base::numbers::MAX;
+use wef_base::{ChannelName, List, SourceName, SubId, Text, ValueFault, is_xml_text};
 use wef_batch::{Batch, Item};
 use wef_bookmark::Bookmark;
-use wef_event::plain_event;
+use wef_event::{Event, plain_event};
 use wef_eventing::Subscription;
 use wef_keeper::{Change, Keeper, MemKeeper, Row};
 
@@ -29,21 +28,21 @@ fn subscription(alloc: Global, name: &str) -> Result<Subscription, Fail> {
     Ok(Subscription::all_events(name, channels, 20, 512_000, 900_000)?)
 }
 
+/// The channel's event of a number, or a fault where there is none.
+fn event_of(alloc: Global, number: u64) -> Result<Event, Fail> {
+    let word = Text::from_str(alloc, "event")?;
+    if number > MAX || !is_xml_text(&word)? {
+        return Err(ValueFault::TooLarge.into());
+    }
+    Ok(plain_event(&channel(alloc)?, number, 0, 0, &word)?)
+}
+
 /// A batch of one event, which reads the channel to its number.
-fn batch_to(alloc: Global, number: u64) -> Result<Batch, Fail>
-    requires { number ≤ 9223372036854775807 }
-{
+fn batch_to(alloc: Global, number: u64) -> Result<Batch, Fail> {
     let mut to = Bookmark::new(alloc);
     to.raise(&channel(alloc)?, number)?;
-    let word = Text::from_str(alloc, "event")?;
     let mut items = List::new(alloc);
-    items.push(Item::Event(plain_event(
-        &channel(alloc)?,
-        number,
-        0,
-        0,
-        &word,
-    )?))?;
+    items.push(Item::Event(event_of(alloc, number)?))?;
     Ok(Batch {
         items,
         to,

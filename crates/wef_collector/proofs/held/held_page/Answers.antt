@@ -2,7 +2,7 @@ use Rattle.std.proofs.Common.{rules, ◌≡◌, ◌∙◌, ◌++◌, false, map,
 use Rattle.std.specs.List.{list_all}
 use Rattle.wef_keeper.specs.Sections.{last_key, rows_under}
 use Rattle.wef_keeper.specs.declared.keys.Depth.TheVariants.{Channel}
-use Rattle.wef_collector.specs.Forms.{is_formed, is_held_row}
+use Rattle.wef_collector.specs.Forms.{is_held_row}
 use Rattle.wef_collector.specs.Held.{held_after, last_number, own_event}
 use Rattle.wef_collector.specs.Keys.{held_key}
 use Rattle.wef_collector.proofs.Forming.{no_page}
