@@ -44,15 +44,30 @@ fn is_same(event: &Event, other: &Event) -> bool {
     event.channel == other.channel && event.number == other.number && event.text == other.text
 }
 
-/// Whether a text gives an event that its own text, its tree and its parts give again.
+/// Whether an event's text is read as the event again.
+fn is_read_again(event: &Event) -> Result<bool, EventFault> {
+    let again = read_event(&event.text)?;
+    Ok(is_same(event, &again))
+}
+
+/// Whether an event is the one of its tree.
+fn is_of_tree(event: &Event) -> Result<bool, EventFault> {
+    let again = event_of_node(event.tree())?;
+    Ok(is_same(event, &again))
+}
+
+/// Whether an event's parts are the event.
+fn is_of_parts(event: &Event) -> Result<bool, AllocError> {
+    match Event::of_text(&event.channel, event.number, &event.text)? {
+        Some(again) => Ok(is_same(event, &again)),
+        None => Ok(false),
+    }
+}
+
+/// Whether a text's event is the one of its own text, of its tree and of its parts.
 fn is_kept(text: &Text) -> Result<bool, EventFault> {
     let event = read_event(text)?;
-    let again = read_event(&event.text)?;
-    let of_tree = event_of_node(event.tree())?;
-    let Some(of_text) = Event::of_text(&event.channel, event.number, &event.text)? else {
-        return Ok(false);
-    };
-    Ok(is_same(&event, &again) && is_same(&event, &of_tree) && is_same(&event, &of_text))
+    Ok(is_read_again(&event)? && is_of_tree(&event)? && is_of_parts(&event)?)
 }
 
 /// Events in their one text.
