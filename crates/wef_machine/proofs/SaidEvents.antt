@@ -115,10 +115,17 @@ numbered_are c n (text ∷ texts) said = (
     plus_next : (n k : ℕ) → n + suc k ≡ n + 1 + k
     plus_next n k = omega arith
 
+zero_plus : (k : ℕ) → zero + k ≡ k
+zero_plus k = omega arith
+
+one_plus : (m k : ℕ) → suc m + k ≡ suc (m + k)
+one_plus m k = omega arith
+
+-- what stands at a place behind others stands that much further among all
 at_dropped : (records : History) (m k : ℕ) (text : List ℕ) → slice_get (drop m records) k ≡ Some text → slice_get records (m + k) ≡ Some text
-at_dropped records zero k text e = e
+at_dropped records zero k text e = ap (slice_get records) (zero_plus k) ∙ e
 at_dropped [] (suc m) k text e = absurd (none-some text e)
-at_dropped (x ∷ records) (suc m) k text e = at_dropped records m k text e
+at_dropped (x ∷ records) (suc m) k text e = ap (slice_get (x ∷ records)) (one_plus m k) ∙ at_dropped records m k text e
 
 is_some_number : (n k : ℕ) → 1 ≤ n → n + k == 0 ≡ false
 is_some_number n k least = grind (arith, nat_tests, least)
