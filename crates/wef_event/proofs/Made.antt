@@ -13,7 +13,7 @@ use Rattle.wef_tree.specs.Documents.{tree_of}
 use Rattle.wef_tree.specs.Good.{IsGoodTree}
 use Rattle.wef_tree.proofs.Functions.{is_given}
 use Rattle.wef_tree.proofs.SpellsAgain.{spells_again}
-use Rattle.wef_event.specs.Events.{Event, IsEventOf, event_in, event_limit, event_of, event_or_none, is_event, is_event_root, is_found, number_or, text_of_tree, unless_long, with_channel_found, with_number_found}
+use Rattle.wef_event.specs.Events.{Event, IsEventOf, event_in, event_limit, event_of, event_or_none, is_event, is_event_root, is_found, number_or, text_of_tree, unless_long, with_number_found}
 use Rattle.wef_event.specs.Paths.{channel_in, field_in, number_in, number_of_digits, text_inside, unless_zero}
 use Rattle.wef_event.specs.declared.records.EventFault.{EventFault}
 

@@ -1,5 +1,5 @@
 -- The tree of an event with a number: it is good, and says the channel as before and the number.
-use Rattle.std.proofs.Common.{◌≡◌, ℕ, zero, suc, ◌≤◌, ◌==◌, nat_le, nat_lt, cond, Bool, true, false, ◌&&◌, ◌||◌, List, [], ◌∷◌, ◌++◌, length, refl, ap, sym, subst, ◌∙◌, arith, append-nil, IsAscii}
+use Rattle.std.proofs.Common.{◌≡◌, ℕ, zero, suc, ◌≤◌, ◌==◌, nat_lt, cond, Bool, true, false, List, [], ◌∷◌, ◌++◌, length, refl, ap, sym, subst, ◌∙◌, arith, append-nil}
 use Rattle.std.specs.Prelude.{Option, Some, None, Result, IfOk, IfErr, codes, is_some}
 use Rattle.std.specs.Fmt.{decimal}
 use Rattle.std.specs.List.{list_all}
@@ -17,17 +17,16 @@ use Rattle.wef_base.specs.declared.tree.Element.{Element}
 use Rattle.wef_base.specs.declared.tree.Node.{Node, Chars}
 use Rattle.wef_base.specs.declared.tree.Node.TheVariants.{Element as Child}
 use Rattle.wef_tree.specs.Documents.{tree_of}
-use Rattle.wef_tree.specs.Good.{AreGoodNodes, IsGoodElement, IsGoodText, IsGoodTree, IsXmlText, are_apart}
-use Rattle.wef_tree.specs.Scopes.{is_empty}
+use Rattle.wef_tree.specs.Good.{AreGoodNodes, IsGoodElement, IsGoodText, IsGoodTree, IsXmlText}
 use Rattle.wef_tree.proofs.GoodOpens.{AreGoodChildren, with_good_child}
 use Rattle.wef_tree.proofs.GoodPrefixes.{plain_name_is}
-use Rattle.wef_event.specs.Events.{Event, Gives, IsEventOf, event_limit, event_of, is_event_root, number_or, text_of_tree, unless_long, with_number_found}
+use Rattle.wef_event.specs.Events.{Event, Gives, IsEventOf, event_limit, event_of, number_or, text_of_tree, unless_long, with_number_found}
 use Rattle.wef_event.specs.Numbering.{RefusesNumber, new_field, numbered_by, numbered_children, numbered_root, numbered_system, record_id, with_first_changed, with_number, with_only}
-use Rattle.wef_event.specs.Paths.{channel_in, field_in, first_child, named, number_in, number_of_digits, text_inside}
+use Rattle.wef_event.specs.Paths.{channel_in, field_in, first_child, number_in, number_of_digits, text_inside}
 use Rattle.wef_event.specs.declared.records.EventFault.{EventFault}
 use Rattle.wef_event.proofs.Children.{KeepsGood, changed_apart, changed_good, first_changed, first_more, first_other, named_otherwise, named_so}
 use Rattle.wef_event.proofs.DigitsRead.{decimal_digits, decimal_parts, digits_read}
-use Rattle.wef_event.proofs.Made.{IsMade, made, tree_again}
+use Rattle.wef_event.proofs.Made.{made, tree_again}
 
 abbrev system_name : List ℕ
 system_name = codes "System"

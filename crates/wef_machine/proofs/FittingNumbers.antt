@@ -60,7 +60,7 @@ fitting_is_sound query max_bytes all capacity b batch fits lengths said = record
     sound : (item : Item) → IsInBatch (channels_of query.items) batch item → IsSaidItem item → IsSoundItem item
     sound (Event event) is said = (
       ends_in event.channel event.number event.number is.listed
-      (subst (λ (o : Option (ℕ × ℕ)). ends_by (reach event.channel batch) o ≡ true) (own_span event.channel event.channel (event.number, event.number) refl) (is.ends event.channel is.listed)),
+          (subst (λ (o : Option (ℕ × ℕ)). ends_by (reach event.channel batch) o ≡ true) (own_span event.channel event.channel (event.number, event.number) refl) (is.ends event.channel is.listed)),
       said,
     )
     sound (Dropped channel first last) is said =

@@ -1,8 +1,9 @@
 use Rattle.std.proofs.Common.{◌∙◌, sym, ap}
+use Rattle.wef_event.specs.Events.{Event}
 use Rattle.wef_collector.specs.Held.{last_number}
 use Rattle.wef_world.proofs.LastNumbers.{last_number-push}
 use Rattle.wef_world.proofs.printing.last_number_of.Goals as goal
 
 pub returns-in-Some : goal.returns-in-Some
 returns-in-Some c =
-    sym (last_number-push c.args.after c.in-Some.field-0-1.now c.in-Some.event.now) ∙ ap (last_number c.args.after) (sym c.in-Some.ensures.cases.0)
+    ap (λ (event : Event). event.number) c.event.view_is ∙ sym (last_number-push c.args.after c.in-Some.field-0-1.now c.in-Some.event.now) ∙ ap (last_number c.args.after) (sym c.in-Some.ensures.cases.0)
