@@ -41,7 +41,11 @@ pub fn event_of_node(node: &Element) -> Result<Event, EventFault>
 impl Event {
     /// The event of this channel and this number whose text this is. None where the text isn't the
     /// one text of a tree that says them.
-    pub fn of_text(channel: &ChannelName, number: u64, text: &Text) -> Result<Option<Event>, AllocError>
+    pub fn of_text(
+        channel: &ChannelName,
+        number: u64,
+        text: &Text,
+    ) -> Result<Option<Event>, AllocError>
         ensures some { IfOk result (λ found. is_some found ≡ events.is_event (record { channel = channel.now; number = number; text = text.now })) }
         ensures value { IfOk result (λ found. IfSome found (λ event. event ≡ record { channel = channel.now; number = number; text = text.now })) }
     {

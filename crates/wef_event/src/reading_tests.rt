@@ -72,7 +72,10 @@ fn is_kept(text: &Text) -> Result<bool, EventFault> {
 
 /// Events in their one text.
 const OWN: &[(&str, &str)] = &[
-    ("<Event><System><EventRecordID>7</EventRecordID><Channel>a</Channel></System></Event>", "7 a"),
+    (
+        "<Event><System><EventRecordID>7</EventRecordID><Channel>a</Channel></System></Event>",
+        "7 a",
+    ),
     (
         "<Event xmlns=\"http://schemas.microsoft.com/win/2004/08/events/event\"><System><EventRecordID>7</EventRecordID><Channel>a</Channel></System></Event>",
         "7 a",
@@ -157,7 +160,10 @@ const OWN: &[(&str, &str)] = &[
         "<Event><System><EventRecordID>007</EventRecordID><Channel>a</Channel></System></Event>",
         "7 a",
     ),
-    ("<Event><System><EventRecordID>1</EventRecordID><Channel>a</Channel></System></Event>", "1 a"),
+    (
+        "<Event><System><EventRecordID>1</EventRecordID><Channel>a</Channel></System></Event>",
+        "1 a",
+    ),
     (
         "<Event><System><EventRecordID>0000000000000000000000000000001</EventRecordID><Channel>a</Channel></System></Event>",
         "1 a",
@@ -381,7 +387,10 @@ const FAULTS: &[(&str, &str)] = &[
         "<Even><System><EventRecordID>7</EventRecordID><Channel>a</Channel></System></Even>",
         "BadEvent 0",
     ),
-    ("<System><EventRecordID>7</EventRecordID><Channel>a</Channel></System>", "BadEvent 0"),
+    (
+        "<System><EventRecordID>7</EventRecordID><Channel>a</Channel></System>",
+        "BadEvent 0",
+    ),
     (
         "<x><Event><System><EventRecordID>7</EventRecordID><Channel>a</Channel></System></Event></x>",
         "BadEvent 0",
@@ -392,7 +401,10 @@ const FAULTS: &[(&str, &str)] = &[
         "BadEvent 0",
     ),
     ("<Event/>", "NoChannel"),
-    ("<Event><EventRecordID>7</EventRecordID><Channel>a</Channel></Event>", "NoChannel"),
+    (
+        "<Event><EventRecordID>7</EventRecordID><Channel>a</Channel></Event>",
+        "NoChannel",
+    ),
     (
         "<Event><system><EventRecordID>7</EventRecordID><Channel>a</Channel></system></Event>",
         "NoChannel",
@@ -405,7 +417,10 @@ const FAULTS: &[(&str, &str)] = &[
         "<Event><System/><System><EventRecordID>7</EventRecordID><Channel>a</Channel></System></Event>",
         "NoChannel",
     ),
-    ("<Event><System><EventRecordID>7</EventRecordID></System></Event>", "NoChannel"),
+    (
+        "<Event><System><EventRecordID>7</EventRecordID></System></Event>",
+        "NoChannel",
+    ),
     (
         "<Event><System><EventRecordID>7</EventRecordID><channel>a</channel></System></Event>",
         "NoChannel",
@@ -424,9 +439,12 @@ const FAULTS: &[(&str, &str)] = &[
     ),
     (
         "<Event>&lt;System><EventRecordID>7</EventRecordID><Channel>a</Channel></Event>",
-        "BadEvent 70",
+        "NoChannel",
     ),
-    ("<Event><System><EventRecordID>7</EventRecordID><Channel/></System></Event>", "NoChannel"),
+    (
+        "<Event><System><EventRecordID>7</EventRecordID><Channel/></System></Event>",
+        "NoChannel",
+    ),
     (
         "<Event><System><EventRecordID>7</EventRecordID><Channel> </Channel></System></Event>",
         "NoChannel",
@@ -456,11 +474,20 @@ const FAULTS: &[(&str, &str)] = &[
         "NoChannel",
     ),
     ("<event>", "BadEvent 7"),
-    ("<Event><System><Channel> </Channel></System></Eve", "BadEvent 44"),
+    (
+        "<Event><System><Channel> </Channel></System></Eve",
+        "BadEvent 44",
+    ),
     ("<event/>", "BadEvent 0"),
     ("<event><System/></event>", "BadEvent 0"),
-    ("<Event><System><EventRecordID>x</EventRecordID></System></Event>", "NoChannel"),
-    ("<Event><System><EventRecordID>0</EventRecordID><Channel/></System></Event>", "NoChannel"),
+    (
+        "<Event><System><EventRecordID>x</EventRecordID></System></Event>",
+        "NoChannel",
+    ),
+    (
+        "<Event><System><EventRecordID>0</EventRecordID><Channel/></System></Event>",
+        "NoChannel",
+    ),
 ];
 
 /// Channels, numbers and texts, and whether they are an event.
@@ -585,8 +612,18 @@ const PARTS: &[(&str, u64, &str, bool)] = &[
         "<Event xmlns=\"\"><System><EventRecordID>7</EventRecordID><Channel>a</Channel></System></Event>",
         false,
     ),
-    ("a", 0, "<Event><System><Channel>a</Channel></System></Event>", false),
-    ("a", 7, "<Event><System><Channel>a</Channel></System></Event>", false),
+    (
+        "a",
+        0,
+        "<Event><System><Channel>a</Channel></System></Event>",
+        false,
+    ),
+    (
+        "a",
+        7,
+        "<Event><System><Channel>a</Channel></System></Event>",
+        false,
+    ),
     (
         "a",
         0,
@@ -711,7 +748,12 @@ fn the_text_of_an_event_has_at_most_a_mebibyte(rt: HostRuntime) {
         (system, ">", 262_122, "TooLong"),
         (system, "<!---->", 200_000, "7 a"),
         ("<Channel>a</Channel>", "x", 1_100_000, "NoRecordId"),
-        ("<EventRecordID>7</EventRecordID>", "x", 1_100_000, "NoChannel"),
+        (
+            "<EventRecordID>7</EventRecordID>",
+            "x",
+            1_100_000,
+            "NoChannel",
+        ),
     ];
     for (system, piece, count, want) in rows {
         let text = filled(alloc, system, piece, count).expect(&rt, "memory");

@@ -33,7 +33,7 @@ invariant_of-result c =
     record {
       good = c.requires;
       event_is = is_there false c.args.node c.in-Some.channel c.in-Ok.number c.in-Some-2.text root (sym c.in_ok-channel.ensures ∙ c.in-Some.is)
-      (given_anyhow c.args.needed (number_in c.args.node) c.in-Ok.number number) (sym c.in_ok-text.ensures ∙ c.in-Some-2.is);
+          (given_anyhow c.args.needed (number_in c.args.node) c.in-Ok.number number) (sym c.in_ok-text.ensures ∙ c.in-Some-2.is);
     }
 
 pub returns : goal.returns
