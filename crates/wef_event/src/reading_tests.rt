@@ -439,7 +439,7 @@ const FAULTS: &[(&str, &str)] = &[
     ),
     (
         "<Event>&lt;System><EventRecordID>7</EventRecordID><Channel>a</Channel></Event>",
-        "BadEvent 70",
+        "NoChannel",
     ),
     (
         "<Event><System><EventRecordID>7</EventRecordID><Channel/></System></Event>",

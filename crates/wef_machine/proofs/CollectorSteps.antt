@@ -29,7 +29,6 @@ use Rattle.wef_keeper.specs.declared.keys.Cell.{Cell}
 use Rattle.wef_keeper.specs.declared.keys.Change.{Change}
 use Rattle.wef_replay.specs.Good.{is_among, is_source, is_subscription}
 use Rattle.wef_source_log.specs.Histories.{history}
-use Rattle.wef_source_log.specs.Windows as windows
 use Rattle.wef_source.specs.declared.messages.Delivery.{Delivery}
 use Rattle.wef_machine.specs.Arming.{committed, fate, is_done}
 use Rattle.wef_machine.specs.Collecting.{at_collector, commits, opening, starts, with_call, with_opened}

@@ -4,13 +4,13 @@ use Rattle.std.proofs.lemmas.Bool.Decides.{nat_tests}
 use Rattle.std.proofs.lemmas.Option.{none-some, same_Some}
 use Rattle.std.specs.Prelude.{Option, Some, None, is_none, slice_get, unwrap_or}
 use Rattle.std.specs.FinMap as finite
-use Rattle.std.specs.List.{AllByRecursion, filter_map, flat_map}
+use Rattle.std.specs.List.{AllByRecursion, filter_map}
 use Rattle.wef_batch.specs.Cost.{cost}
 use Rattle.wef_batch.specs.declared.items.Item.{Item}
 use Rattle.wef_batch.specs.declared.items.Item.TheVariants as item
 use Rattle.wef_bookmark.specs.Order.{number_at}
 use Rattle.wef_event.specs.Events.{Event, is_event}
-use Rattle.wef_event.specs.PlainEvent.{PlainEventsAreRead, plain_event, plain_text}
+use Rattle.wef_event.specs.PlainEvent.{PlainEventsAreRead}
 use Rattle.wef_event.specs.Unnumbered.{numbered, numbered_text}
 use Rattle.wef_event.specs.declared.unnumbered.PlainEvent.{PlainEvent}
 use Rattle.wef_keeper.specs.Rows.{Rows}
