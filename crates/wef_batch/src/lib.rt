@@ -10,6 +10,3 @@ pub use costing::cost;
 pub use items::{Batch, Item};
 pub use judging::{items_are_reached, judge, loose_sum};
 pub use reaching::reach;
-
-#[cfg(test)]
-mod tests;

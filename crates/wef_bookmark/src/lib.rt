@@ -5,6 +5,3 @@ pub mod marking;
 pub mod order;
 
 pub use marking::{Bookmark, BookmarkFault};
-
-#[cfg(test)]
-mod tests;

@@ -10,6 +10,3 @@ mod top;
 
 pub use ending::Ending;
 pub use top::run;
-
-#[cfg(test)]
-mod tests;

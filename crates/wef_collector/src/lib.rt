@@ -22,8 +22,3 @@ pub use effects::MOST_SUBSCRIPTIONS;
 pub use faults::CollectorFault;
 pub use listing::Listed;
 pub use standings::Standing;
-
-#[cfg(test)]
-mod failing;
-#[cfg(test)]
-mod tests;

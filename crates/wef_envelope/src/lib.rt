@@ -8,9 +8,6 @@ ghost use Rattle.wef_envelope.specs.Ids.{ids_agree};
 use std::alloc::AllocError;
 use wef_base::Text;
 
-#[cfg(test)]
-mod tests;
-
 /// A message's id: the text as it came, and its value where the text is a UUID.
 #[derive(Debug, Drop)]
 pub struct MessageId {

@@ -5,13 +5,9 @@ pub mod characters;
 pub mod laws;
 mod lengths;
 pub mod numbering;
-#[cfg(test)]
-mod numbering_tests;
 mod paths;
 pub mod plain;
 pub mod reading;
-#[cfg(test)]
-mod reading_tests;
 pub mod records;
 pub mod unnumbered;
 
@@ -19,6 +15,3 @@ pub use plain::{EVENT_LIMIT, plain_event};
 pub use reading::{event_of_node, read_event, read_new_event};
 pub use records::{Event, EventFault};
 pub use unnumbered::PlainEvent;
-
-#[cfg(test)]
-mod tests;

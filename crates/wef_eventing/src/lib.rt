@@ -10,6 +10,3 @@ pub use addresses::{delivery_address, source_in, subscription_in};
 pub use bodies::{Body, Offer, Subscribe};
 pub use kept::{kept_words, read_kept};
 pub use subscriptions::{EndStatus, SourceAt, SubKind, Subscription};
-
-#[cfg(test)]
-mod tests;

@@ -8,12 +8,8 @@ pub mod keeping;
 pub mod keys;
 pub mod laws;
 pub mod mem_keeper;
-#[cfg(test)]
-mod mem_tests;
 mod paging;
 pub mod table;
-#[cfg(test)]
-mod tests;
 
 pub use access::StoreFault;
 pub use keeping::{Keeper, KeeperFault};

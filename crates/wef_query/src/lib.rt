@@ -12,9 +12,6 @@ use std::alloc::{AllocError, Global};
 use std::collections::BTreeSet;
 use wef_base::{ChannelName, List};
 
-#[cfg(test)]
-mod tests;
-
 /// One query: all events of a channel, selected or suppressed.
 #[derive(Debug, Drop)]
 pub struct QueryItem {

@@ -1,6 +1,6 @@
 -- Batches that words make have items, numbers and channels as batches have.
 use Rattle.std.proofs.Common.{◌≡◌, ℕ, ◌+◌, Bool, true, false, ◌&&◌, ◌||◌, cond, List, [], ◌∷◌, Ordering, length, refl, ap, sym, ◌∙◌, arith, max, nat_lt, length-append}
-use Rattle.std.specs.Prelude.{◌==◌, Option, Some, None, codes, not, unwrap_or}
+use Rattle.std.specs.Prelude.{◌==◌, Option, Some, None, codes, is_some, not, unwrap_or}
 use Rattle.std.specs.Cmp.Lexicographic.{slice_cmp}
 use Rattle.std.specs.FinMap as map
 use Rattle.std.specs.FinMap.Entries.{by_order}
@@ -8,7 +8,7 @@ use Rattle.std.specs.List.{All, list_all}
 use Rattle.std.specs.Ordering.{eq_by_cmp, nat_cmp}
 use Rattle.std.specs.Str.{is_utf8}
 use Rattle.std.specs.declared.cmp.Ordering.TheVariants.{Less, Equal, Greater}
-use Rattle.std.proofs.lemmas.Bool.{and_from, and_parts, or_left, or_right}
+use Rattle.std.proofs.lemmas.Bool.{and_from, and_parts, false≢true, or_left, or_right}
 use Rattle.std.proofs.lemmas.Bool.Decides.{nat_tests}
 use Rattle.std.proofs.lemmas.Cmp.{nat_list_cmp_total}
 use Rattle.std.proofs.lemmas.List.Elements.{All-nil, All-push}
@@ -22,7 +22,7 @@ use Rattle.wef_base.specs.Characters.{is_xml_text}
 use Rattle.wef_event.specs.PlainEvent.{plain_event, plain_text}
 use Rattle.wef_event.specs.Events.{Event, is_event}
 use Rattle.wef_event.proofs.PlainTrees.{plain_is_read}
-use Rattle.wef_replay.specs.BatchWords.{added, batch_word, colon_joined, data_word, dropped_word, empty_batch, event_word, greatest, if_word, if_xml_text, is_nothing, loose_word, reach_word, read_words, word_of}
+use Rattle.wef_replay.specs.BatchWords.{added, batch_word, colon_joined, data_word, dropped_word, empty_batch, event_word, greatest, if_word, if_xml_text, is_nothing, loose_word, reach_word, read_words, spelled, word_of}
 use Rattle.wef_replay.specs.Good.{are_words, has_word, is_channel, is_count, is_item, is_number, is_one, is_reach}
 use Rattle.wef_replay.specs.PlainEvents.{IsPlainItem}
 use Rattle.wef_replay.specs.Values.{channel_word, number_word}
@@ -194,3 +194,20 @@ pub good-batch_words : (word : List ℕ) (words : List (List ℕ)) → AllOf Are
 good-batch_words word words =
     all_of-then IsGoodWord AreGoodWords (λ w. read_words (added w empty_batch) words) (batch_word word) (good-word_of (parts 58 word))
     (λ w good. good-read_words (added w empty_batch) words (good-added w empty_batch good good-empty) (has_word-added w empty_batch))
+
+-- ---- batches that are kept as words
+
+none_is_said : are_words empty_batch ≡ false
+none_is_said = ap (λ n. (not (0 == 0) || not (n == 0) || false) && list_all is_item [] && list_all is_reach (map.entries empty_batch.to)) none
+  where
+    none : length (map.entries empty_batch.to) ≡ 0
+    none = sym (map.len-entries empty_batch.to) ∙ map.len-empty (slice_cmp nat_cmp) ℕ
+
+-- what words spell says anything where there are words, and is within the limits then
+pub good-spelled : (words : List (List ℕ)) → is_some (read_words empty_batch words) ≡ true → not (length words == 0) ≡ are_words (spelled words)
+good-spelled [] some = sym none_is_said
+good-spelled (word ∷ words) some = more_than_none (length (word ∷ words)) (length words) (omega arith) ∙ sym (by (read_words empty_batch (word ∷ words)) (good-batch_words word words) some)
+  where
+    by : (given : Option batch.Batch) → AllOf AreGoodWords given → is_some given ≡ true → are_words (unwrap_or given empty_batch) ≡ true
+    by None good some = absurd (false≢true some)
+    by (Some b) good some = good.0

@@ -5,7 +5,7 @@
 --     t:CHANNEL:NUMBER         how far the batch reads the channel
 --     ack                      the source wants to hear that the batch is kept
 -- Names and DATA are percent-decoded. DATA is all that follows the third colon, other colons too.
-use Rattle.std.specs.Prelude.{ℕ, ◌&&◌, Bool, true, false, List, [], ◌∷◌, ◌++◌, Option, Some, None, if◌then◌else◌, codes}
+use Rattle.std.specs.Prelude.{ℕ, ◌&&◌, Bool, true, false, List, [], ◌∷◌, ◌++◌, Option, Some, None, if◌then◌else◌, unwrap_or, codes}
 use Rattle.std.specs.FinMap as map
 use Rattle.std.specs.List.{flat_map}
 use Rattle.std.specs.Option.{option_and_then, option_map}
@@ -86,3 +86,7 @@ read_words b (word ∷ words) = option_and_then (λ w. read_words (added w b) wo
 
 abbrev pub empty_batch : batch.Batch
 empty_batch = record { items = []; to = map.empty; ack_wanted = false }
+
+-- the batch that words spell, and the empty one where they spell none
+abbrev pub spelled : List (List ℕ) → batch.Batch
+spelled words = unwrap_or (read_words empty_batch words) empty_batch

@@ -4,8 +4,8 @@ ghost use Rattle.std.specs.Prelude.{◌≡◌};
 ghost use Rattle.wef_replay.specs.Grammar.{ask_line, back_line, batch_line, calm_line, crash_line, deliver_line, does_nothing, end_line, event_words, fail_line, failure_line_of, fitting_event, line_of_words, lost_line, meaning, poll_line, print_line, show_line, source_line, source_line_of, stop_line, subscribe_line, subscribe_numbers, write_line};
 ghost use Rattle.wef_replay.specs.Reading.{Gives};
 
-use crate::batches::batch_of;
 use crate::lines::Line;
+use crate::spelled::SpelledBatch;
 use crate::values::{
     LineFault, after_of, channel_of, channels_of, end_of, is_word, number_of, sending_source_of,
     source_of, subscription_of, text_of,
@@ -156,7 +156,7 @@ fn batch_line_of(alloc: Global, words: &[Bytes]) -> Result<Line, LineFault>
         [sub, source, _, ..] => {
             let sub = subscription_of(alloc, sub)?;
             let source = sending_source_of(alloc, source)?;
-            let batch = batch_of(alloc, &words[2..])?;
+            let batch = SpelledBatch::read(alloc, &words[2..])?;
             Ok(Line::Batch { sub, source, batch })
         }
         _ => Err(LineFault::NotUnderstood),

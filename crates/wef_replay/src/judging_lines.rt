@@ -1,18 +1,14 @@
 //! Which lines have values of the kinds that lines have.
 
 ghost use Rattle.std.specs.Prelude.{◌≡◌, ◌&&◌};
-ghost use Rattle.std.specs.FinMap as map;
 ghost use Rattle.std.specs.List.{list_all};
 ghost use Rattle.std.specs.Str.{is_utf8};
-ghost use Rattle.wef_event.specs.Events.{is_event};
-ghost use Rattle.wef_replay.specs.Good.{are_all, are_limits, are_words, asks_for_all, fits_always, has_word, is_between, is_channel, is_count, is_end, is_item, is_line, is_no_collector, is_number, is_reach, is_source, is_subscription};
+ghost use Rattle.wef_replay.specs.Good.{are_all, are_limits, asks_for_all, fits_always, is_between, is_channel, is_count, is_end, is_line, is_no_collector, is_source, is_subscription};
 
 use crate::lines::{EndName, Line};
-use std::collections::BTreeMap;
 use wef_base::numbers::MAX;
 use wef_base::{ChannelName, SourceName, SubId, Text};
-use wef_batch::{Batch, Item};
-use wef_event::{Event, PlainEvent};
+use wef_event::PlainEvent;
 use wef_query::QueryItem;
 
 /// Whether the values of a line are within the limits of a schedule, wherever the line stands. It
@@ -34,7 +30,7 @@ pub fn is_line(line: &Line) -> bool
         }
         Line::End { sub } => is_subscription(sub),
         Line::Batch { sub, source, batch } => {
-            is_subscription(sub) && is_source(source) && is_no_collector(source) && are_words(batch)
+            is_subscription(sub) && is_source(source) && is_no_collector(source) && batch.has_word()
         }
         Line::Source { source, capacity } => {
             is_source(source) && is_no_collector(source) && is_between(1, 1_000_000, *capacity)
@@ -146,72 +142,6 @@ fn is_text(text: &Text) -> bool
 {
     let _kept = text.as_str();
     true
-}
-
-fn are_words(batch: &Batch) -> bool
-    ensures { result ≡ are_words batch.now }
-{
-    has_word(batch) && are_items(batch.items.as_slice()) && are_reaches(batch.to.numbers())
-}
-
-/// Whether the batch says anything: an item, how far it reads a channel, or that it wants an
-/// acknowledgement.
-fn has_word(batch: &Batch) -> bool
-    ensures { result ≡ has_word batch.now }
-{
-    !batch.items.is_empty() || !batch.to.numbers().is_empty() || batch.ack_wanted
-}
-
-fn are_items(items: &[Item]) -> bool
-    ensures { result ≡ list_all is_item items.now }
-{
-    items.iter().all(|item| is_item(item))
-}
-
-fn is_item(item: &Item) -> bool
-    ensures { result ≡ is_item item.now }
-{
-    match item {
-        Item::Event(event) => is_event(event),
-        Item::Dropped {
-            channel,
-            first,
-            last,
-        } => is_channel(channel) && is_number(*first) && is_number(*last),
-        Item::Loose { count } => is_count(*count),
-    }
-}
-
-/// Whether the event has a number, as one that its text says has.
-fn is_event(event: &Event) -> bool
-    ensures { result ≡ (is_channel event.now.channel && is_number event.now.number && is_event event.now) }
-{
-    is_channel(&event.channel) && is_number(event.number) && event.is_numbered()
-}
-
-fn are_reaches(numbers: &BTreeMap<ChannelName, u64>) -> bool
-    ensures { result ≡ list_all is_reach numbers.now.entries }
-{
-    for (channel, number) in numbers {
-        if !is_reach(channel, *number) {
-            return false;
-        }
-    }
-    true
-}
-
-/// Whether a batch may read the channel so far.
-fn is_reach(channel: &ChannelName, number: u64) -> bool
-    ensures { result ≡ (is_channel channel.now && is_count number) }
-{
-    is_channel(channel) && is_count(number)
-}
-
-/// Whether it is the number of a record.
-fn is_number(number: u64) -> bool
-    ensures { result ≡ is_number number }
-{
-    is_between(1, MAX, number)
 }
 
 fn is_count(number: u64) -> bool

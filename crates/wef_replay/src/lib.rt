@@ -8,11 +8,10 @@ pub mod laws;
 mod lines;
 mod naming;
 mod schedule;
+mod spelled;
 mod values;
 
 pub use judging_lines::is_line;
 pub use lines::{EndName, Line};
 pub use schedule::{SCHEDULE_LIMIT, ScheduleFault, read_schedule};
-
-#[cfg(test)]
-mod tests;
+pub use spelled::SpelledBatch;

@@ -1,7 +1,7 @@
 //! The lines of a schedule, as values.
 
+use crate::spelled::SpelledBatch;
 use wef_base::{ChannelName, SourceName, SubId};
-use wef_batch::Batch;
 use wef_event::PlainEvent;
 use wef_query::QueryList;
 
@@ -36,7 +36,7 @@ pub enum Line {
     Batch {
         sub: SubId,
         source: SourceName,
-        batch: Batch,
+        batch: SpelledBatch,
     },
 
     /// Declares a source, whose log keeps so many records a channel.

@@ -17,6 +17,3 @@ pub use memories::Memory;
 pub use messages::{Delivery, Moved, Poll, Reply};
 pub use sessions::{Outstanding, Session};
 pub use source::SourceEnd;
-
-#[cfg(test)]
-mod tests;

@@ -9,8 +9,6 @@ pub mod keys;
 pub mod laws;
 pub mod logs;
 mod reading;
-#[cfg(test)]
-mod tests;
 
 pub use faults::LogFault;
 pub use logs::Log;

@@ -5,8 +5,6 @@ mod attributes;
 mod bindings;
 mod building;
 mod decoding;
-#[cfg(test)]
-mod decoding_tests;
 mod digests;
 mod encoding;
 mod escaping;
@@ -22,8 +20,6 @@ mod pieces;
 mod places;
 mod prefixes;
 mod reading;
-#[cfg(test)]
-mod reading_tests;
 mod references;
 mod scopes;
 mod sections;
@@ -34,8 +30,6 @@ mod tags;
 mod utf16;
 mod values;
 mod writing;
-#[cfg(test)]
-mod writing_tests;
 
 pub use faults::TreeFault;
 pub use reading::read_tree;

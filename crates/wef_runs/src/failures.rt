@@ -1,0 +1,145 @@
+//! Streams that fail, and commits that fail, each in turn.
+
+use crate::outcomes::{BASE, ran, replayed};
+use std::alloc::{AllocError, Global};
+use std::test::Fail;
+use wef_base::{Bytes, List, MemSink, MemSource, Text};
+
+/// A run of a word whose reads and writes of these numbers fail; its status, and what it tells. It
+/// prints nothing.
+fn told(
+    alloc: Global,
+    word: &str,
+    failing_read: u64,
+    failing_write: u64,
+    status: u8,
+    message: &[u8],
+) -> Result<bool, AllocError> {
+    let reads = List::from(vec![in alloc; failing_read]?);
+    let writes = List::from(vec![in alloc; failing_write]?);
+    let ran = ran(alloc, word, BASE.as_bytes(), reads, writes)?;
+    Ok(ran.status == status && ran.err.taken() == message && ran.out.taken().is_empty())
+}
+
+#[test]
+fn faults_of_input_and_output(rt: HostRuntime) -> Result<(), Fail> {
+    let alloc = rt.alloc();
+    assert!(rt; told(alloc, "replay", 2, 0, 5, b"input failed\n".as_slice())?);
+    assert!(rt; told(alloc, "replay", 0, 1, 5, b"output failed\n".as_slice())?);
+    assert!(rt; told(alloc, "reply", 0, 0, 2, b"usage: wef COMMAND\n".as_slice())?);
+    Ok(())
+}
+
+/// Replays a schedule into a sink that has its past.
+fn status_into(alloc: Global, schedule: &str, out: &mut MemSink) -> Result<u8, Fail> {
+    let mut words = Vec::new(alloc);
+    words.push(Text::from_str(alloc, "replay")?)?;
+    let bytes = Bytes::from_slice(alloc, schedule.as_bytes())?;
+    let mut input = MemSource::of(bytes, List::new(alloc));
+    let mut err = MemSink::of(alloc, List::new(alloc));
+    Ok(wef_cli::run(alloc, words.as_slice(), &mut input, out, &mut err))
+}
+
+#[test]
+fn a_second_write_that_fails(rt: HostRuntime) -> Result<(), Fail> {
+    let alloc = rt.alloc();
+    let mut out = MemSink::of(alloc, List::from(vec![in alloc; 2u64]?));
+    assert_eq!(rt; status_into(alloc, BASE, &mut out)?, 0);
+    assert_eq!(rt; status_into(alloc, "", &mut out)?, 0);
+    assert_eq!(rt; status_into(alloc, "shew", &mut out)?, 3);
+    assert_eq!(rt; status_into(alloc, "show", &mut out)?, 5);
+    assert_eq!(rt; out.taken(), b"added base\n".as_slice());
+    assert_eq!(rt; status_into(alloc, "show", &mut out)?, 0);
+    assert_eq!(rt; out.taken(), b"added base\nend\n".as_slice());
+    Ok(())
+}
+
+/// A schedule in which one source writes 9 events; each of its lines comes to a commit, or to none.
+const LINES: [&str; 30] = [
+    "subscribe base 2 512000 900000 all application\n",
+    "source pc1 100\n",
+    "write pc1 application 1 4 a\n",
+    "write pc1 application 1 4 a\n",
+    "write pc1 application 1 4 a\n",
+    "ask pc1\n",
+    "back 0\n",
+    "back 0\n",
+    "poll pc1 base\n",
+    "back 0\n",
+    "back 0\n",
+    "write pc1 application 1 4 a\n",
+    "poll pc1 base\n",
+    "back 0\n",
+    "back 1\n",
+    "back 0\n",
+    "write pc1 application 1 4 a\n",
+    "crash pc1\n",
+    "ask pc1\n",
+    "back 0\n",
+    "back 0\n",
+    "poll pc1 base\n",
+    "write pc1 application 1 4 a\n",
+    "crash collector\n",
+    "back 0\n",
+    "back 0\n",
+    "write pc1 application 1 4 a\n",
+    "poll pc1 base\n",
+    "back 0\n",
+    "write pc1 application 1 4 a\n",
+];
+
+/// What is armed in front of a line.
+const ARMED: [&str; 8] = [
+    "fail collector before\n",
+    "fail collector after\n",
+    "stop collector before\n",
+    "stop collector after\n",
+    "fail pc1 before\n",
+    "fail pc1 after\n",
+    "stop pc1 before\n",
+    "stop pc1 after\n",
+];
+
+/// Whatever was armed is over; the source writes its last event, asks again, and sends all that it has.
+const SETTLED: &str =
+    "calm\nsubscribe base 2 512000 900000 all application\nwrite pc1 application 1 4 a\nask pc1\nback 0\nback 0\npoll pc1 base\nback 0\nback 0\npoll pc1 base\nback 0\nback 0\npoll pc1 base\nback 0\nback 0\npoll pc1 base\nback 0\nback 0\npoll pc1 base\nback 0\nback 0\nshow\n";
+
+/// What the report ends with where all 9 events are held, or one fewer since its write failed.
+const REPORTS: [&str; 2] = [
+    "  channel application bookmark 9\n   held 1-9\nend\n",
+    "  channel application bookmark 8\n   held 1-8\nend\n",
+];
+
+/// The schedule with something armed in front of one of its lines, and settled.
+fn armed_before(alloc: Global, at: usize, armed: &str) -> Result<Text, Fail> {
+    let mut schedule = Text::new(alloc);
+    for (index, line) in LINES.iter().enumerate() {
+        if index == at {
+            schedule.push_str(armed)?;
+        }
+        schedule.push_str(line)?;
+    }
+    schedule.push_str(SETTLED)?;
+    Ok(schedule)
+}
+
+/// Whether all that was written is held once the schedule is settled.
+fn holds_all(alloc: Global, at: usize, armed: &str) -> Result<bool, Fail> {
+    let schedule = armed_before(alloc, at, armed)?;
+    let ran = replayed(alloc, schedule.as_str().as_bytes())?;
+    Ok(
+        REPORTS
+            .iter()
+            .any(|report| ran.out.taken().ends_with(report.as_bytes())),
+    )
+}
+
+#[test]
+fn every_commit_fails_once(rt: HostRuntime) -> Result<(), Fail> {
+    for at in 2..LINES.len() {
+        for armed in ARMED {
+            assert!(rt; holds_all(rt.alloc(), at, armed)?, "{armed} {at}");
+        }
+    }
+    Ok(())
+}

@@ -1,0 +1,38 @@
+//! Ids and the names of faults by example.
+
+use wef_base::Text;
+use wef_envelope::{FaultName, MessageId};
+
+#[test]
+fn ids_agree_by_their_values(rt: HostRuntime) {
+    let alloc = rt.alloc();
+    assert_eq!(&rt;
+        MessageId::of(1, 2),
+        0x0000_0000_0000_0001_0000_0000_0000_0002
+    );
+    assert_eq!(&rt; MessageId::of(u64::MAX, u64::MAX), u128::MAX);
+    for (value, other, want) in [
+        (Some(7), Some(7), true),
+        (Some(7), Some(8), false),
+        (Some(7), None, false),
+        (None, Some(7), false),
+        (None, None, false),
+    ] {
+        let left = MessageId {
+            value,
+            text: Text::new(alloc),
+        };
+        let right = MessageId {
+            value: other,
+            text: Text::new(alloc),
+        };
+        assert_eq!(&rt; left.agrees(&right), want);
+    }
+}
+
+#[test]
+fn faults_have_names(rt: HostRuntime) {
+    let text = Text::from_str(rt.alloc(), "Busy").expect(&rt, "memory");
+    assert_eq!(&rt; FaultName::InvalidMessage.as_str(), "InvalidMessage");
+    assert_eq!(&rt; FaultName::Other(text).as_str(), "Busy");
+}

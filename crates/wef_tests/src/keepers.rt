@@ -1,0 +1,143 @@
+//! A keeper in memory that fails where it is told to, and pages of a thousand rows.
+
+ghost use Rattle.std.specs.Prelude.{◌≡◌, ◌≤◌, take, IfOk, OnOk};
+ghost use Rattle.wef_keeper.specs.Keeping.{OfRows, raised};
+ghost use Rattle.wef_keeper.specs.Rows.{applied, rows_after};
+
+use std::alloc::{AllocError, Global};
+use std::test::Fail;
+use wef_base::{List, Text};
+use wef_keeper::{Change, Keeper, KeeperFault, Key, MemKeeper, Row};
+
+/// How many rows a page has that begins behind a row's number, where rows 1 to 1,000 stand.
+const PAGES: [(u64, u32, usize); 6] = [
+    (0, 1, 1),
+    (0, 2, 2),
+    (0, 256, 256),
+    (744, 256, 256),
+    (768, 256, 232),
+    (1000, 256, 0),
+];
+
+/// Whether a failing commit keeps its changes, whether a crash ends the doubt, and what then stands.
+const FAILURES: [(bool, bool, u64); 4] = [
+    (false, true, 5),
+    (false, false, 5),
+    (true, true, 8),
+    (true, false, 8),
+];
+
+fn key(alloc: Global, number: u64) -> Key {
+    Key {
+        kind: 3,
+        sub: Text::new(alloc),
+        source: Text::new(alloc),
+        channel: Text::new(alloc),
+        number,
+    }
+}
+
+fn put(alloc: Global, number: u64, value: u64) -> Change {
+    Change::Put(Row {
+        key: key(alloc, number),
+        value,
+        body: Text::new(alloc),
+    })
+}
+
+fn one(alloc: Global, number: u64, value: u64) -> Result<List<Change>, AllocError> {
+    let mut changes = List::new(alloc);
+    changes.push(put(alloc, number, value))?;
+    Ok(changes)
+}
+
+/// The value of the row of a number, or 0 where there is none.
+fn value_at<K: Keeper>(keeper: &mut K, alloc: Global, number: u64) -> Result<u64, KeeperFault> {
+    let row = keeper.get(&key(alloc, number))?;
+    Ok(match row {
+        Some(row) => row.value,
+        None => 0,
+    })
+}
+
+/// Two commits and a page, each by the store contract alone.
+fn page_of_both<K: Keeper>(
+    keeper: &mut K,
+    first: &List<Change>,
+    second: &List<Change>,
+    after: &Key,
+    max: u32,
+) -> Result<List<Row>, KeeperFault>
+    requires { 1 ≤ max }
+    ensures tries { OnOk result ((K.store keeper.new).tries ≡ raised (raised (K.store keeper.old).tries)) }
+    ensures reads { OnOk result ((K.store keeper.new).reads ≡ raised (K.store keeper.old).reads) }
+    ensures page { OfRows (K.store keeper.old) (K.store keeper.new) (λ before now. IfOk result (λ page. page ≡ take max (rows_after after.now (applied second.now (applied first.now before))))) }
+{
+    keeper.commit(first)?;
+    keeper.commit(second)?;
+    keeper.page(after, max)
+}
+
+#[test]
+fn a_page_has_both_commits(rt: HostRuntime) -> Result<(), Fail> {
+    let alloc = rt.alloc();
+    let mut keeper = MemKeeper::new(alloc);
+    let first = one(alloc, 1, 5)?;
+    let second = one(alloc, 2, 7)?;
+    let page = page_of_both(&mut keeper, &first, &second, &key(alloc, 0), 3)?;
+    assert_eq!(rt; page.len(), 2);
+    Ok(())
+}
+
+/// What stands where 5 stood, after a commit of 8 that fails as it is armed, one of 9 in doubt, and
+/// a crash or an opening.
+fn value_left(alloc: Global, after: bool, crashes: bool) -> Result<u64, KeeperFault> {
+    let mut keeper = MemKeeper::new(alloc);
+    keeper.commit(&one(alloc, 1, 5)?)?;
+    keeper.fail_next(after);
+    let _failed = keeper.commit(&one(alloc, 1, 8)?);
+    let _in_doubt = keeper.commit(&one(alloc, 1, 9)?);
+    if crashes {
+        keeper.crash();
+    } else {
+        keeper.reopen()?;
+    }
+    value_at(&mut keeper, alloc, 1)
+}
+
+#[test]
+fn a_commit_fails_as_it_is_armed(rt: HostRuntime) -> Result<(), Fail> {
+    let alloc = rt.alloc();
+    for (after, crashes, left) in FAILURES {
+        assert_eq!(rt; value_left(alloc, after, crashes)?, left);
+    }
+    Ok(())
+}
+
+#[test]
+fn a_calmed_commit_is_done(rt: HostRuntime) -> Result<(), Fail> {
+    let alloc = rt.alloc();
+    let mut keeper = MemKeeper::new(alloc);
+    keeper.fail_next(true);
+    keeper.calm();
+    keeper.commit(&one(alloc, 4, 6)?)?;
+    assert!(rt; !keeper.is_armed());
+    assert_eq!(rt; value_at(&mut keeper, alloc, 4)?, 6);
+    Ok(())
+}
+
+#[test]
+fn pages_of_a_thousand_rows(rt: HostRuntime) -> Result<(), Fail> {
+    let alloc = rt.alloc();
+    let mut changes = List::new(alloc);
+    for number in 1..=1000 {
+        changes.push(put(alloc, number, number))?;
+    }
+    let mut keeper = MemKeeper::new(alloc);
+    keeper.commit(&changes)?;
+    for (after, max, rows) in PAGES {
+        let page = keeper.page(&key(alloc, after), max)?;
+        assert_eq!(rt; page.len(), rows);
+    }
+    Ok(())
+}
