@@ -41,10 +41,12 @@ number_or false None = Ok 0
 abbrev pub unless_long : List ℕ → ℕ → List ℕ → Result Event EventFault
 unless_long c n text = if nat_lt event_limit (length text) then Err TooLong else Ok (record { channel = c; number = n; text = text })
 
+-- the event of a root whose channel was found, once it was looked for its number
 abbrev pub with_number_found : Element → List ℕ → Result ℕ EventFault → Result Event EventFault
 with_number_found root c (Ok n) = unless_long c n (text_of_tree root)
 with_number_found root c (Err fault) = Err fault
 
+-- the event of a root, once it was looked for its channel
 abbrev pub with_channel_found : Bool → Element → Option (List ℕ) → Result Event EventFault
 with_channel_found needed root (Some c) = with_number_found root c (number_or needed (number_in root))
 with_channel_found needed root None = Err NoChannel
@@ -69,6 +71,7 @@ Gives (Err NoChannel) given = given ≡ Err NoChannel
 Gives (Err NoRecordId) given = given ≡ Err NoRecordId
 Gives (Err TooLong) given = given ≡ Err TooLong
 
+-- the event, where there is one
 abbrev pub event_or_none : Result Event EventFault → Option Event
 event_or_none (Ok event) = Some event
 event_or_none (Err fault) = None

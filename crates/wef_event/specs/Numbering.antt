@@ -26,6 +26,7 @@ with_first_changed name f (n ∷ ns) = changed_here f (named name n) n ns (with_
 abbrev pub changed_node : (Element → Element) → Node → Node
 changed_node f n = elim (out-Node n) [ Node-F.Element e ↦ Child (f e) | Node-F.Chars text ↦ n ]
 
+-- the name of the field for the number
 abbrev pub record_id : List ℕ
 record_id = codes "EventRecordID"
 
@@ -37,6 +38,8 @@ with_only text e = record e { children = Chars text ∷ [] }
 abbrev pub new_field : List ℕ → List ℕ → Element
 new_field space digits = record { space = space; name = record_id; attributes = []; children = Chars digits ∷ [] }
 
+-- the children of System, with the digits of a number: the first of the fields for it has them as its one child, and where
+-- there is none, one more comes last
 abbrev pub numbered_children : List ℕ → List ℕ → List Node → List Node
 numbered_children space digits children =
     if is_some (first_child record_id children) then with_first_changed record_id (with_only digits) children
@@ -50,6 +53,7 @@ numbered_system digits system = record system { children = numbered_children sys
 abbrev pub numbered_root : List ℕ → Element → Element
 numbered_root digits root = record root { children = with_first_changed (codes "System") (numbered_system digits) root.children }
 
+-- the event of a root with a number
 abbrev pub numbered_by : ℕ → Option Element → Result Event EventFault
 numbered_by n (Some root) = event_of true (numbered_root (decimal n) root)
 numbered_by n None = Err (BadEvent 0)

@@ -8,10 +8,11 @@ use Rattle.wef_base.specs.Numbers.{is_numeral, number_within}
 use Rattle.wef_base.specs.declared.tree.Element.{Element}
 use Rattle.wef_base.specs.declared.tree.Node.{Node, Chars, Element', Row_of-Node, end_of-Node, more_of-Node, out-Node, Node-F}
 
--- the element that a node is, where it has this name
+-- an element, where it has this name
 abbrev pub if_named : List ℕ → Element → Option Element
 if_named name e = if same e.name name then Some e else None
 
+-- the element that a node is, where it has this name
 abbrev pub named : List ℕ → Node → Option Element
 named name n = elim (out-Node n) [ Node-F.Element e ↦ if_named name e | Node-F.Chars text ↦ None ]
 
@@ -42,6 +43,7 @@ text_inside e = flat_map text_in e.children
 unfoldable pub channel_in : Element → Option (List ℕ)
 channel_in root = option_and_then (λ field. channel_name (text_inside field)) (field_in (codes "Channel") root)
 
+-- a number but 0
 abbrev pub unless_zero : ℕ → Option ℕ
 unless_zero n = if nat_lt 0 n then Some n else None
 

@@ -1,7 +1,7 @@
 //! A record of a channel.
 
-ghost use Rattle.std.specs.Prelude.{◌≡◌, nat_lt, IfOk};
-ghost use Rattle.wef_event.specs.Events.{IsEventOf, is_event};
+ghost use Rattle.std.specs.Prelude.{◌≡◌, IfOk};
+ghost use Rattle.wef_event.specs.Events.{IsEventOf};
 
 use std::alloc::AllocError;
 use std::marker::Model;
@@ -64,14 +64,6 @@ impl Event {
         ensures { IsEventOf self.now result.now }
     {
         &self.node
-    }
-
-    /// Whether the event has a number; then it is the one that its text says.
-    pub fn is_numbered(&self) -> bool
-        ensures number { result ≡ nat_lt 0 self.now.number }
-        ensures event { result ≡ is_event self.now }
-    {
-        self.number > 0
     }
 
     /// A copy of the event, in memory of its own.

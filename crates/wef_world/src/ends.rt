@@ -148,7 +148,11 @@ impl Ends {
                 query,
             } => self.subscribe(sub, *items, *bytes, *beat, query),
             Line::End { sub } => self.end(sub),
-            Line::Batch { sub, source, batch } => self.take(sub, source, &batch.to_batch(self.alloc)?),
+            Line::Batch { sub, source, batch } => self.take(
+                sub,
+                source,
+                &batch.to_batch(self.alloc)?,
+            ),
             Line::Source { source, capacity } => self.declare(source, Capacity::of(*capacity)),
             Line::Write { source, event } => self.write(source, event),
             Line::Ask { source } => self.ask(source),
