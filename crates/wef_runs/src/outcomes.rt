@@ -15,7 +15,7 @@ pub struct Outcome {
 }
 
 /// Runs `wef` with one word, over streams that fail at the calls of these numbers.
-pub fn ran(
+pub(crate) fn ran(
     alloc: Global,
     word: &str,
     schedule: &[u8],
@@ -32,7 +32,7 @@ pub fn ran(
 }
 
 /// Replays a schedule without faults.
-pub fn replayed(alloc: Global, schedule: &[u8]) -> Result<Outcome, AllocError> {
+pub(crate) fn replayed(alloc: Global, schedule: &[u8]) -> Result<Outcome, AllocError> {
     ran(
         alloc,
         "replay",

@@ -1,5 +1,6 @@
 //! Batches by example.
 
+use Part::{Gone, Loose, Record};
 use std::alloc::Global;
 use wef_base::{ChannelName, List, Text, ValueFault, is_xml_text};
 use wef_batch::{Batch, Item, cost, judge, loose_sum, reach};
@@ -9,9 +10,8 @@ use wef_event::{Event, plain_event};
 /// What an item of a case is, its channel by a letter.
 #[derive(Clone, Copy)]
 enum Part {
-    Nothing,
-    Event(&'static str, u64),
-    Dropped(&'static str, u64, u64),
+    Record(&'static str, u64),
+    Gone(&'static str, u64, u64),
     Loose(u64),
 }
 
@@ -33,29 +33,22 @@ fn event_of(alloc: Global, name: &str, number: u64, word: &str) -> Result<Event,
     }
 }
 
-fn item_of(alloc: Global, part: Part) -> Result<Option<Item>, ValueFault> {
-    Ok(match part {
-        Part::Nothing => None,
-        Part::Event(name, number) => Some(Item::Event(event_of(alloc, name, number, "a")?)),
-        Part::Dropped(name, first, last) => Some(Item::Dropped {
+fn item_of(alloc: Global, part: &Part) -> Result<Item, ValueFault> {
+    Ok(match *part {
+        Record(name, number) => Item::Event(event_of(alloc, name, number, "a")?),
+        Gone(name, first, last) => Item::Dropped {
             channel: channel(alloc, name)?,
             first,
             last,
-        }),
-        Part::Loose(count) => Some(Item::Loose { count }),
+        },
+        Loose(count) => Item::Loose { count },
     })
 }
 
-fn batch_of(
-    alloc: Global,
-    parts: [Part; 3],
-    to: Option<(&'static str, u64)>,
-) -> Result<Batch, ValueFault> {
+fn batch_of(alloc: Global, parts: &[Part], to: Option<(&str, u64)>) -> Result<Batch, ValueFault> {
     let mut items = List::new(alloc);
     for part in parts {
-        if let Some(item) = item_of(alloc, part)? {
-            items.push(item)?;
-        }
+        items.push(item_of(alloc, part)?)?;
     }
     let mut bookmark = Bookmark::new(alloc);
     if let Some((name, number)) = to {
@@ -78,141 +71,98 @@ fn subscribed(alloc: Global) -> Result<List<ChannelName>, ValueFault> {
     Ok(channels)
 }
 
+/// Batches of a subscription to the channels `a` and `b`: their items, how far they read a channel,
+/// and whether they are well-formed.
+const BATCHES: &[(&str, &[Part], Option<(&str, u64)>, bool)] = &[
+    ("nothing", &[], None, true),
+    ("rising", &[Record("a", 1), Record("a", 2)], None, true),
+    ("equal", &[Record("a", 2), Record("a", 2)], None, false),
+    ("falling", &[Record("a", 2), Record("a", 1)], None, false),
+    (
+        "two channels",
+        &[Record("a", 2), Record("b", 1), Record("a", 3)],
+        None,
+        true,
+    ),
+    (
+        "falling behind another",
+        &[Record("a", 2), Record("b", 9), Record("a", 1)],
+        None,
+        false,
+    ),
+    ("foreign event", &[Record("c", 1)], None, false),
+    ("foreign range", &[Gone("c", 1, 2)], None, false),
+    ("range of one", &[Gone("a", 5, 5)], None, true),
+    ("turned range", &[Gone("a", 5, 4)], None, false),
+    (
+        "range at the event",
+        &[Record("a", 5), Gone("a", 5, 9)],
+        None,
+        false,
+    ),
+    (
+        "range before the event",
+        &[Record("a", 5), Gone("a", 4, 9)],
+        None,
+        false,
+    ),
+    (
+        "range behind the event",
+        &[Record("a", 5), Gone("a", 6, 9)],
+        None,
+        true,
+    ),
+    (
+        "event in the range",
+        &[Gone("a", 1, 9), Record("a", 9)],
+        None,
+        false,
+    ),
+    (
+        "event behind the range",
+        &[Gone("a", 1, 9), Record("a", 10)],
+        None,
+        true,
+    ),
+    (
+        "bookmark at the last",
+        &[Record("a", 1), Record("a", 4)],
+        Some(("a", 4)),
+        true,
+    ),
+    (
+        "bookmark behind",
+        &[Record("a", 1), Record("a", 4)],
+        Some(("a", 3)),
+        false,
+    ),
+    (
+        "bookmark without items",
+        &[Record("b", 4)],
+        Some(("a", 0)),
+        true,
+    ),
+    (
+        "bookmark of another",
+        &[Record("a", 4)],
+        Some(("c", 1)),
+        true,
+    ),
+    ("greatest sum", &[Loose(1), Loose(MAX - 1)], None, true),
+    ("sum too great", &[Loose(MAX), Loose(1)], None, false),
+    (
+        "sum past 64 bits",
+        &[Loose(u64::MAX), Loose(u64::MAX)],
+        None,
+        false,
+    ),
+];
+
 #[test]
 fn batches_are_judged(rt: HostRuntime) {
-    use Part::{Dropped, Event, Loose, Nothing};
     let alloc = rt.alloc();
     let channels = subscribed(alloc).expect(&rt, "names");
-    let cases: [(&str, [Part; 3], Option<(&'static str, u64)>, bool); 22] = [
-        ("nothing", [Nothing, Nothing, Nothing], None, true),
-        (
-            "rising",
-            [Event("a", 1), Event("a", 2), Nothing],
-            None,
-            true,
-        ),
-        (
-            "equal",
-            [Event("a", 2), Event("a", 2), Nothing],
-            None,
-            false,
-        ),
-        (
-            "falling",
-            [Event("a", 2), Event("a", 1), Nothing],
-            None,
-            false,
-        ),
-        (
-            "two channels",
-            [Event("a", 2), Event("b", 1), Event("a", 3)],
-            None,
-            true,
-        ),
-        (
-            "falling behind another",
-            [Event("a", 2), Event("b", 9), Event("a", 1)],
-            None,
-            false,
-        ),
-        (
-            "foreign event",
-            [Event("c", 1), Nothing, Nothing],
-            None,
-            false,
-        ),
-        (
-            "foreign range",
-            [Dropped("c", 1, 2), Nothing, Nothing],
-            None,
-            false,
-        ),
-        (
-            "range of one",
-            [Dropped("a", 5, 5), Nothing, Nothing],
-            None,
-            true,
-        ),
-        (
-            "turned range",
-            [Dropped("a", 5, 4), Nothing, Nothing],
-            None,
-            false,
-        ),
-        (
-            "range at the event",
-            [Event("a", 5), Dropped("a", 5, 9), Nothing],
-            None,
-            false,
-        ),
-        (
-            "range before the event",
-            [Event("a", 5), Dropped("a", 4, 9), Nothing],
-            None,
-            false,
-        ),
-        (
-            "range behind the event",
-            [Event("a", 5), Dropped("a", 6, 9), Nothing],
-            None,
-            true,
-        ),
-        (
-            "event in the range",
-            [Dropped("a", 1, 9), Event("a", 9), Nothing],
-            None,
-            false,
-        ),
-        (
-            "event behind the range",
-            [Dropped("a", 1, 9), Event("a", 10), Nothing],
-            None,
-            true,
-        ),
-        (
-            "bookmark at the last",
-            [Event("a", 1), Event("a", 4), Nothing],
-            Some(("a", 4)),
-            true,
-        ),
-        (
-            "bookmark behind",
-            [Event("a", 1), Event("a", 4), Nothing],
-            Some(("a", 3)),
-            false,
-        ),
-        (
-            "bookmark without items",
-            [Event("b", 4), Nothing, Nothing],
-            Some(("a", 0)),
-            true,
-        ),
-        (
-            "bookmark of another",
-            [Event("a", 4), Nothing, Nothing],
-            Some(("c", 1)),
-            true,
-        ),
-        (
-            "greatest sum",
-            [Loose(1), Loose(MAX - 1), Nothing],
-            None,
-            true,
-        ),
-        (
-            "sum too great",
-            [Loose(MAX), Loose(1), Nothing],
-            None,
-            false,
-        ),
-        (
-            "sum past 64 bits",
-            [Loose(u64::MAX), Loose(u64::MAX), Nothing],
-            None,
-            false,
-        ),
-    ];
-    for (name, parts, to, want) in cases {
+    for &(name, parts, to, want) in BATCHES {
         let batch = batch_of(alloc, parts, to).expect(&rt, "a batch");
         assert_eq!(&rt; judge(&batch, channels.as_slice()), want, "at {name}");
     }
@@ -220,16 +170,15 @@ fn batches_are_judged(rt: HostRuntime) {
 
 #[test]
 fn a_batch_reaches_its_bookmark_or_its_last(rt: HostRuntime) {
-    use Part::{Dropped, Event, Loose, Nothing};
     let alloc = rt.alloc();
-    let parts = [Event("a", 3), Dropped("b", 4, 9), Event("a", 5)];
-    let batch = batch_of(alloc, parts, Some(("a", 7))).expect(&rt, "a batch");
+    let parts = [Record("a", 3), Gone("b", 4, 9), Record("a", 5)];
+    let batch = batch_of(alloc, &parts, Some(("a", 7))).expect(&rt, "a batch");
     for (name, want) in [("a", Some(7)), ("b", Some(9)), ("c", None)] {
         let channel = channel(alloc, name).expect(&rt, "a name");
         assert_eq!(&rt; reach(&batch, &channel), want, "at {name}");
     }
-    let parts = [Loose(u64::MAX), Loose(2), Nothing];
-    let batch = batch_of(alloc, parts, None).expect(&rt, "a batch");
+    let parts = [Loose(u64::MAX), Loose(2)];
+    let batch = batch_of(alloc, &parts, None).expect(&rt, "a batch");
     assert_eq!(&rt;
         loose_sum(batch.items.as_slice()),
         18_446_744_073_709_551_617
@@ -256,19 +205,19 @@ fn an_event_costs_its_escaped_text(rt: HostRuntime) {
 fn dropped_records_cost_their_numbers(rt: HostRuntime) {
     let cases = [
         (
-            Part::Dropped("a", 9, 9),
+            Part::Gone("a", 9, 9),
             "<w:DroppedEvents u:Channel=\"a\" u:First=\"9\" u:Last=\"9\">1</w:DroppedEvents>",
         ),
         (
-            Part::Dropped("a\"&<>\u{e9}\u{20ac}", 10, 109),
+            Part::Gone("a\"&<>\u{e9}\u{20ac}", 10, 109),
             "<w:DroppedEvents u:Channel=\"a&quot;&amp;&lt;&gt;\u{e9}\u{20ac}\" u:First=\"10\" u:Last=\"109\">100</w:DroppedEvents>",
         ),
         (
-            Part::Dropped("a", 0, u64::MAX),
+            Part::Gone("a", 0, u64::MAX),
             "<w:DroppedEvents u:Channel=\"a\" u:First=\"0\" u:Last=\"18446744073709551615\">18446744073709551616</w:DroppedEvents>",
         ),
         (
-            Part::Dropped("a", 100, 2),
+            Part::Gone("a", 100, 2),
             "<w:DroppedEvents u:Channel=\"a\" u:First=\"100\" u:Last=\"2\">1</w:DroppedEvents>",
         ),
         (Part::Loose(0), "<w:DroppedEvents>0</w:DroppedEvents>"),
@@ -278,8 +227,7 @@ fn dropped_records_cost_their_numbers(rt: HostRuntime) {
         ),
     ];
     for (part, written) in cases {
-        let item = item_of(rt.alloc(), part).expect(&rt, "a name");
-        let item = item.expect(&rt, "an item");
+        let item = item_of(rt.alloc(), &part).expect(&rt, "an item");
         assert_eq!(&rt; cost(&item), written.len() as u64, "at {written}");
     }
 }

@@ -27,7 +27,7 @@ pub struct FailingKeeper {
 
 impl FailingKeeper {
     /// A keeper without a row, of which nothing was asked yet.
-    pub fn new(alloc: Global, fails_at: [u64; 2], keeps: bool) -> FailingKeeper {
+    pub(crate) fn new(alloc: Global, fails_at: [u64; 2], keeps: bool) -> FailingKeeper {
         FailingKeeper {
             rows: Rows::new(alloc),
             alloc,
