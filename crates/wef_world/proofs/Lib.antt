@@ -10,4 +10,5 @@ pub mod Openings
 pub mod Ready
 pub mod Started
 pub mod Stays
+pub mod Takings
 pub mod Windowed

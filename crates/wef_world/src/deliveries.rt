@@ -60,7 +60,7 @@ impl Ends {
     }
 
     /// Delivers the message of a number.
-    #[tactic(auto, using(crate::proofs::CollectorOutcomes::answers_as, crate::proofs::CollectorOutcomes::words_as))]
+    #[tactic(auto, using(crate::proofs::Takings::asked_state, crate::proofs::Takings::asked_text, crate::proofs::Takings::events_state, crate::proofs::Takings::events_text))]
     pub(crate) fn deliver(&mut self, number: u64) -> Result<Text, WorldFault>
         requires kept { IsKept self.old }
         ensures state { OnOk result (self.new ≡ steps.deliver_step self.old number) }
@@ -72,49 +72,25 @@ impl Ends {
         };
         match message {
             Message::Ask { source, id } => {
-                let fate = self.collector.open(alloc)?;
-                if fate != Fate::Done {
-                    return Ok(took_line(alloc, number, fate_word(fate))?);
-                }
-                let answer = answer_to_ask(alloc, &mut self.collector, source, id)?;
-                self.reply(number, "offers", answer)
+                let taken = take_ask(alloc, &mut self.collector, source, id)?;
+                self.tell(number, taken)
             }
             Message::Events { source, delivery } => {
-                let fate = self.collector.open(alloc)?;
-                if fate != Fate::Done {
-                    return Ok(took_line(alloc, number, fate_word(fate))?);
-                }
-                let outcome = take_delivery(&mut self.collector, delivery)?;
-                let word = outcome_word(alloc, &outcome, &delivery.batch)?;
-                match answer_to_delivery(source, delivery, outcome)? {
-                    Some(answer) => self.reply(number, word.as_str(), answer),
-                    None => Ok(took_line(alloc, number, word.as_str())?),
-                }
+                let taken = take_events(alloc, &mut self.collector, source, delivery)?;
+                self.tell(number, taken)
             }
             Message::Offers {
                 source,
                 relates,
                 offers,
             } => {
-                let word = give_offers(
-                    alloc,
-                    &mut self.sources,
-                    &mut self.arms,
-                    source,
-                    relates,
-                    offers,
-                )?;
+                let (sources, arms) = (&mut self.sources, &mut self.arms);
+                let word = give_offers(alloc, sources, arms, source, relates, offers)?;
                 Ok(took_line(alloc, number, word.as_str())?)
             }
             Message::Ack { source, relates } => {
-                let word = give_reply(
-                    alloc,
-                    &mut self.sources,
-                    &mut self.arms,
-                    source,
-                    relates,
-                    &Reply::Ack,
-                )?;
+                let (sources, arms) = (&mut self.sources, &mut self.arms);
+                let word = give_reply(alloc, sources, arms, source, relates, &Reply::Ack)?;
                 Ok(took_line(alloc, number, word.as_str())?)
             }
             Message::Fault {
@@ -123,27 +99,103 @@ impl Ends {
                 name,
             } => {
                 let reply = Reply::Fault(name.clone()?);
-                let word = give_reply(
-                    alloc,
-                    &mut self.sources,
-                    &mut self.arms,
-                    source,
-                    relates,
-                    &reply,
-                )?;
+                let (sources, arms) = (&mut self.sources, &mut self.arms);
+                let word = give_reply(alloc, sources, arms, source, relates, &reply)?;
                 Ok(took_line(alloc, number, word.as_str())?)
             }
         }
     }
 
-    /// Sends the answer to a message that was taken.
-    fn reply(&mut self, number: u64, word: &str, answer: Message) -> Result<Text, WorldFault>
-        ensures state { OnOk result (self.new ≡ states.with_message self.old answer) }
-        ensures printed { IfOk result (λ text. text ≡ answered_line number word.now (states.next_number self.old)) }
+    /// Tells what the collector made of a message, and sends its answer, where there is one.
+    fn tell(&mut self, number: u64, taken: Taken) -> Result<Text, WorldFault>
+        ensures state { OnOk result (self.new ≡ steps.with_answer self.old taken.answer) }
+        ensures printed { IfOk result (λ text. text ≡ steps.took_text number taken.word taken.answer (states.next_number self.old)) }
     {
-        let sent = self.send(answer)?;
-        Ok(answered_line(self.alloc, number, word, sent)?)
+        let Taken { word, answer } = taken;
+        match answer {
+            Some(answer) => {
+                let sent = self.send(answer)?;
+                Ok(answered_line(self.alloc, number, word.as_str(), sent)?)
+            }
+            None => Ok(took_line(self.alloc, number, word.as_str())?),
+        }
     }
+}
+
+/// What the collector makes of a message.
+#[derive(Debug, Drop)]
+struct Taken {
+    /// The word that is printed for it.
+    word: Text,
+    /// The answer, where there is one.
+    answer: Option<Message>,
+}
+
+/// Lets the collector take an ask of a source.
+fn take_ask(
+    alloc: Global,
+    collector: &mut CollectorSide,
+    source: &SourceName,
+    id: &MessageId,
+) -> Result<Taken, WorldFault>
+    requires formed { AreFormed collector.old.rows }
+    ensures collector { OnOk result (collector.new ≡ collecting.opened collector.old) }
+    ensures taken { IfOk result (λ taken. taken ≡ outcomes.asked_of collector.old source.now id.now) }
+{
+    match collector.open(alloc)? {
+        Fate::Done => Ok(Taken {
+            word: Text::from_str(alloc, "offers")?,
+            answer: Some(answer_to_ask(alloc, collector, source, id)?),
+        }),
+        fate => closed(alloc, fate),
+    }
+}
+
+/// Lets the collector take a delivery of a source.
+fn take_events(
+    alloc: Global,
+    collector: &mut CollectorSide,
+    source: &SourceName,
+    delivery: &Delivery,
+) -> Result<Taken, WorldFault>
+    requires formed { AreFormed collector.old.rows }
+    ensures collector { OnOk result (collector.new ≡ outcomes.events_collector collector.old delivery.now) }
+    ensures taken { IfOk result (λ taken. taken ≡ outcomes.events_of collector.old source.now delivery.now) }
+{
+    match collector.open(alloc)? {
+        Fate::Done => take_events_open(alloc, collector, source, delivery),
+        fate => closed(alloc, fate),
+    }
+}
+
+/// Lets a running collector take a delivery of a source.
+#[tactic(auto, using(crate::proofs::CollectorOutcomes::answers_as, crate::proofs::CollectorOutcomes::words_for))]
+fn take_events_open(
+    alloc: Global,
+    collector: &mut CollectorSide,
+    source: &SourceName,
+    delivery: &Delivery,
+) -> Result<Taken, WorldFault>
+    requires runs { collector.old.runs ≡ true }
+    requires formed { AreFormed collector.old.rows }
+    ensures collector { OnOk result (collector.new ≡ collecting.after_call collector.old (steps.delivery_effect collector.old.rows delivery.now)) }
+    ensures taken { IfOk result (λ taken. taken ≡ outcomes.events_taken collector.old source.now delivery.now) }
+{
+    let outcome = take_delivery(collector, delivery)?;
+    Ok(Taken {
+        word: outcome_word(alloc, &outcome, &delivery.batch)?,
+        answer: answer_to_delivery(source, delivery, outcome)?,
+    })
+}
+
+/// What a collector that can't be opened makes of a message.
+fn closed(alloc: Global, fate: Fate) -> Result<Taken, WorldFault>
+    ensures { IfOk result (λ taken. taken ≡ outcomes.closed_of fate) }
+{
+    Ok(Taken {
+        word: Text::from_str(alloc, fate_word(fate))?,
+        answer: None,
+    })
 }
 
 /// The message of a number.
