@@ -12,7 +12,7 @@ use wef_base::{Bytes, IoFailed, Sink, Source};
 pub const INPUT_LIMIT: usize = 16_777_216;
 
 /// Why an input isn't read whole.
-#[derive(Clone, Copy, Debug)]
+#[derive(Clone, Copy)]
 pub enum InputFault {
     NoMemory,
     Failed,

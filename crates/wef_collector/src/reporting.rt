@@ -253,7 +253,7 @@ fn push_loose_line(text: &mut Text, row: &Row) -> Result<(), AllocError>
 }
 
 /// Which numbers a row stands for.
-#[derive(Clone, Copy, Debug, PartialEq, Eq)]
+#[derive(Clone, Copy, PartialEq, Eq)]
 pub enum Spans {
     /// Its own number, as a held event.
     Held,

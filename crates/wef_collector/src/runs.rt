@@ -8,14 +8,14 @@ use std::alloc::{AllocError, Global};
 use wef_base::Text;
 
 /// The numbers from the first to the last.
-#[derive(Clone, Copy, Debug, PartialEq, Eq)]
+#[derive(Clone, Copy, PartialEq, Eq)]
 pub struct Span {
     pub first: u64,
     pub last: u64,
 }
 
 /// Writes the runs that spans make, given in rising order, each behind a space.
-#[derive(Debug, Drop)]
+#[derive(Drop)]
 pub struct RunWriter {
     pub text: Text,
     /// The run that the next span may go on.

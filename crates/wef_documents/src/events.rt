@@ -116,19 +116,30 @@ fn plain_row(row: &str) -> Option<(u64, u32, u32, &str)> {
 /// What reading a text answers, written out, with the event's text where that is another.
 fn answer_of(text: &Text, read: Result<Event, EventFault>) -> Result<Text, AllocError> {
     let mut shown = Text::new(text.alloc());
-    match read {
-        Ok(event) => {
-            shown.push_number(event.number)?;
-            shown.push(' ')?;
-            shown.push_str(event.channel.as_text().as_str())?;
-            if event.text != *text {
-                shown.push_str(" in ")?;
-                shown.push_str(event.text.as_str())?;
-            }
-        }
-        Err(fault) => push_fault(&mut shown, fault)?,
-    }
+    push_answer(&mut shown, text, &read)?;
     Ok(shown)
+}
+
+fn push_answer(
+    shown: &mut Text,
+    text: &Text,
+    read: &Result<Event, EventFault>,
+) -> Result<(), AllocError> {
+    match read {
+        Ok(event) => push_read(shown, text, event),
+        Err(fault) => push_fault(shown, *fault),
+    }
+}
+
+fn push_read(shown: &mut Text, text: &Text, event: &Event) -> Result<(), AllocError> {
+    shown.push_number(event.number)?;
+    shown.push(' ')?;
+    shown.push_str(event.channel.as_text().as_str())?;
+    if event.text == *text {
+        return Ok(());
+    }
+    shown.push_str(" in ")?;
+    shown.push_str(event.text.as_str())
 }
 
 fn push_fault(shown: &mut Text, fault: EventFault) -> Result<(), AllocError> {

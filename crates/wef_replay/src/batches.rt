@@ -15,7 +15,7 @@ use wef_bookmark::Bookmark;
 use wef_event::plain_event;
 
 /// What one word of a batch says.
-#[derive(Debug, Drop)]
+#[derive(Drop)]
 pub enum BatchWord {
     Item(Item),
 

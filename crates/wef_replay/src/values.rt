@@ -14,7 +14,7 @@ use wef_base::{Bytes, ChannelName, List, SourceName, SubId, Text, ValueFault};
 use wef_event::EventFault;
 
 /// Why a line isn't read.
-#[derive(Clone, Copy, Debug, PartialEq, Eq)]
+#[derive(Clone, Copy, PartialEq, Eq)]
 pub enum LineFault {
     NoMemory,
     /// The line isn't one of a schedule.

@@ -24,7 +24,7 @@ use wef_base::{Attribute, List, Text};
 const FEW: usize = 8;
 
 /// An attribute whose namespace has its digest, which contracts see as the attribute alone.
-#[derive(Debug, Drop)]
+#[derive(Drop)]
 struct Resolved {
     space: Digested,
     name: Text,

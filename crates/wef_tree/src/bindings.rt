@@ -10,7 +10,7 @@ use std::marker::Model;
 use wef_base::{List, Namespace, Text};
 
 /// A prefix that stands for a namespace.
-#[derive(Debug, Drop)]
+#[derive(Drop)]
 pub struct Binding {
     pub prefix: Text,
     pub space: Namespace,
@@ -18,7 +18,7 @@ pub struct Binding {
 
 /// The bindings that are in force where an element is written, which contracts see with the innermost
 /// first.
-#[derive(Debug, Drop)]
+#[derive(Drop)]
 pub struct Bindings {
     items: Vec<Binding>,
 }

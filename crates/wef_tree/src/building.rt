@@ -20,7 +20,7 @@ use wef_base::{Element, List, Node, Text};
 pub(crate) const GREATEST_DEPTH: usize = 64;
 
 /// What the pieces so far have put together.
-#[derive(Debug, Drop)]
+#[derive(Drop)]
 pub struct Builder {
     /// Whether a piece has come.
     pub begun: bool,

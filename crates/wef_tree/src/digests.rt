@@ -12,7 +12,7 @@ use wef_base::{Namespace, Text};
 /// A namespace with its digest, which contracts see as the namespace alone. Two are compared by
 /// their digests first, and in full only where these are the same. So long namespaces that differ
 /// at their ends are told apart in a fixed time, and nothing but time rests on the digests.
-#[derive(Debug, Drop)]
+#[derive(Drop)]
 pub struct Digested {
     space: Namespace,
     digest: [u8; 32],

@@ -24,7 +24,7 @@ pub enum TreeFault {
 }
 
 /// What is wrong with a text, its place aside.
-#[derive(Clone, Copy, Debug, PartialEq, Eq)]
+#[derive(Clone, Copy, PartialEq, Eq)]
 pub enum FaultKind {
     Xml,
     Deep,
@@ -32,7 +32,7 @@ pub enum FaultKind {
 }
 
 /// Why a part of a text couldn't be read.
-#[derive(Clone, Copy, Debug)]
+#[derive(Clone, Copy)]
 pub enum Halt {
     NoMemory,
     /// The part isn't there, or not as it has to be.
@@ -51,7 +51,7 @@ impl From<AllocError> for Halt {
 }
 
 /// Why reading a text stopped.
-#[derive(Clone, Copy, Debug)]
+#[derive(Clone, Copy)]
 pub enum Stop {
     NoMemory,
     /// What is wrong, and how many characters are left from there on.

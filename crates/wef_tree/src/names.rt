@@ -10,7 +10,7 @@ use std::alloc::{AllocError, Global};
 use wef_base::Text;
 
 /// A name: a prefix, empty where there is none, and a local name.
-#[derive(Debug, Drop)]
+#[derive(Drop)]
 pub struct Name {
     pub prefix: Text,
     pub local: Text,

@@ -16,7 +16,7 @@ use std::alloc::Global;
 use wef_base::{Text, is_xml_char};
 
 /// A piece of a document.
-#[derive(Debug, Drop)]
+#[derive(Drop)]
 pub enum Piece {
     /// `<?xml .. ?>`
     Declaration,

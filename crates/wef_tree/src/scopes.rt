@@ -12,7 +12,7 @@ use wef_base::Text;
 
 /// The namespaces that a tag declares, by their prefixes, which contracts see as a finite map. The
 /// empty prefix stands for the default namespace.
-#[derive(Debug, Drop)]
+#[derive(Drop)]
 pub struct Declarations {
     spaces: BTreeMap<Text, Digested>,
 }

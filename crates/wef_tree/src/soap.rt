@@ -29,7 +29,7 @@ const NINE: [(&str, &str); 9] = [
 
 /// The prefixes that a root declares for all inside it, the nine or none. Contracts see whether it
 /// declares them.
-#[derive(Debug, Drop)]
+#[derive(Drop)]
 pub struct RootPrefixes {
     is_soap: bool,
     bindings: List<Binding>,

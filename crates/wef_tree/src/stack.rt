@@ -11,7 +11,7 @@ use std::marker::Model;
 use wef_base::{Attribute, List, Namespace, Node, Text};
 
 /// An element whose end tag hasn't come.
-#[derive(Debug, Drop)]
+#[derive(Drop)]
 pub struct Open {
     /// Its name as it is spelt, which the end tag repeats.
     pub name: Name,
@@ -22,7 +22,7 @@ pub struct Open {
 }
 
 /// The open elements, which contracts see with the innermost first.
-#[derive(Debug, Drop)]
+#[derive(Drop)]
 pub struct Stack {
     items: Vec<Open>,
 }

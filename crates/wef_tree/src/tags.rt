@@ -14,14 +14,14 @@ use wef_base::names::{is_xml_space, trim_start};
 use wef_base::{List, Text};
 
 /// An attribute as it is spelt, its value read. It may be a declaration of a namespace.
-#[derive(Debug, Drop)]
+#[derive(Drop)]
 pub struct Given {
     pub name: Name,
     pub value: Text,
 }
 
 /// A start tag, or an empty tag.
-#[derive(Debug, Drop)]
+#[derive(Drop)]
 pub struct Tag {
     pub name: Name,
     pub given: List<Given>,

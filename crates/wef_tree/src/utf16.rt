@@ -9,7 +9,7 @@ use crate::TreeFault;
 use std::alloc::Global;
 
 /// Which byte of a unit comes first: the greater one or the lesser one.
-#[derive(Clone, Copy, Debug, PartialEq, Eq)]
+#[derive(Clone, Copy, PartialEq, Eq)]
 pub enum ByteOrder {
     BigEndian,
     LittleEndian,

@@ -44,7 +44,7 @@ fn write_document(alloc: Global, root: &Element) -> Result<List<char>, AllocErro
 }
 
 /// A document that is being written.
-#[derive(Debug, Drop)]
+#[derive(Drop)]
 struct Writer {
     alloc: Global,
     out: List<char>,

@@ -27,7 +27,7 @@ use wef_eventing::{Offer, Subscription};
 use wef_machine::{Armed, Fate};
 
 /// What became of a call that changes the collector's rows.
-#[derive(Clone, Copy, Debug, PartialEq, Eq)]
+#[derive(Clone, Copy, PartialEq, Eq)]
 pub enum Called {
     /// It came to its commit, which went so. One that changes nothing is done.
     Committed(Fate),

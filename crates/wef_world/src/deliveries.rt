@@ -37,7 +37,7 @@ use wef_source::{Delivery, Reply};
 const HOST: &str = "collector:5985";
 
 /// What became of a batch that was given to the collector.
-#[derive(Debug, Drop)]
+#[derive(Drop)]
 pub enum Outcome {
     /// It came to its commit, which went so.
     Committed(Fate),
@@ -123,7 +123,7 @@ impl Ends {
 }
 
 /// What the collector makes of a message.
-#[derive(Debug, Drop)]
+#[derive(Drop)]
 struct Taken {
     /// The word that is printed for it.
     word: Text,

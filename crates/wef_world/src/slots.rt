@@ -90,7 +90,7 @@ impl Model for Slot {
 }
 
 /// What a write did.
-#[derive(Clone, Copy, Debug, PartialEq, Eq)]
+#[derive(Clone, Copy, PartialEq, Eq)]
 pub enum Written {
     /// The event is the record of this number.
     Record(u64),
@@ -103,7 +103,7 @@ pub enum Written {
 }
 
 /// What a poll found.
-#[derive(Debug, Drop)]
+#[derive(Drop)]
 pub enum Polled {
     /// No session has the name.
     Unknown,
