@@ -41,13 +41,24 @@ pub struct Element {
 }
 
 /// An attribute of an element.
-#[derive(Debug, Drop)]
+#[derive(Debug)]
 pub struct Attribute {
     /// The namespace, empty for none.
     pub space: Namespace,
     /// The local name.
     pub name: Text,
     pub value: Text,
+}
+
+/// One call for whoever lets an attribute go, whatever it holds.
+impl Drop for Attribute {
+    fn drop(self) {
+        let Attribute {
+            space: _,
+            name: _,
+            value: _,
+        } = self;
+    }
 }
 
 impl Node {

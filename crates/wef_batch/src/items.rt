@@ -23,7 +23,7 @@ pub enum Item {
 }
 
 /// What a source delivers at once.
-#[derive(Debug, Drop)]
+#[derive(Debug)]
 pub struct Batch {
     pub items: List<Item>,
 
@@ -32,4 +32,15 @@ pub struct Batch {
 
     /// Whether the source wants to hear that the batch is kept.
     pub ack_wanted: bool,
+}
+
+/// One call for whoever lets a batch go, whatever it holds.
+impl Drop for Batch {
+    fn drop(self) {
+        let Batch {
+            items: _,
+            to: _,
+            ack_wanted: _,
+        } = self;
+    }
 }

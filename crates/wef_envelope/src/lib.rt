@@ -46,7 +46,7 @@ impl MessageId {
 }
 
 /// The name of a fault that an end answers with, or that it was answered.
-#[derive(Debug, Drop)]
+#[derive(Debug)]
 pub enum FaultName {
     DeliveryModeRequestedUnavailable,
     FilteringRequestedUnavailable,
@@ -63,6 +63,28 @@ pub enum FaultName {
     MustUnderstand,
     /// A name that no standard that is kept here gives.
     Other(Text),
+}
+
+/// One call for whoever lets a name go, whatever it holds.
+impl Drop for FaultName {
+    fn drop(self) {
+        match self {
+            FaultName::Other(_) => {}
+            FaultName::DeliveryModeRequestedUnavailable
+            | FaultName::FilteringRequestedUnavailable
+            | FaultName::InvalidExpirationTime
+            | FaultName::InvalidMessage
+            | FaultName::UnableToRenew
+            | FaultName::ActionNotSupported
+            | FaultName::DestinationUnreachable
+            | FaultName::MessageInformationHeaderRequired
+            | FaultName::InvalidBookmark
+            | FaultName::EncodingLimit
+            | FaultName::InternalError
+            | FaultName::InvalidEnumerationContext
+            | FaultName::MustUnderstand => {}
+        }
+    }
 }
 
 impl FaultName {

@@ -38,7 +38,7 @@ impl From<AllocError> for EventFault {
 
 /// A record: its tree, the tree's text, and the channel and the number that the tree says. Whoever
 /// makes one proves that they belong together.
-#[derive(Debug, Drop)]
+#[derive(Debug)]
 pub struct Event {
     pub channel: ChannelName,
     /// From 1 to 2^63 - 1, or 0 where the event says none.
@@ -46,6 +46,18 @@ pub struct Event {
     /// The one text of the tree, of at most `EVENT_LIMIT` bytes.
     pub text: Text,
     pub node: Element,
+}
+
+/// One call for whoever lets an event go, whatever it holds.
+impl Drop for Event {
+    fn drop(self) {
+        let Event {
+            channel: _,
+            number: _,
+            text: _,
+            node: _,
+        } = self;
+    }
 }
 
 impl Model for Event {
@@ -64,6 +76,19 @@ impl Event {
         ensures { IsEventOf self.now result.now }
     {
         &self.node
+    }
+
+    /// The channel, the number and the text, without the tree.
+    pub fn into_parts(self) -> (ChannelName, u64, Text)
+        ensures { result ≡ (self.channel, self.number, self.text) }
+    {
+        let Event {
+            channel,
+            number,
+            text,
+            node: _,
+        } = self;
+        (channel, number, text)
     }
 
     /// A copy of the event, in memory of its own.

@@ -6,7 +6,7 @@ use wef_bookmark::Bookmark;
 use wef_query::QueryList;
 
 /// A wish to be sent events. Times are in milliseconds.
-#[derive(Debug, Drop)]
+#[derive(Debug)]
 pub struct Subscribe {
     /// Where the events go.
     pub notify_to: Text,
@@ -22,15 +22,42 @@ pub struct Subscribe {
     pub from: Bookmark,
 }
 
+/// One call for whoever lets a subscribe go, whatever it holds.
+impl Drop for Subscribe {
+    fn drop(self) {
+        let Subscribe {
+            notify_to: _,
+            end_to: _,
+            identifier: _,
+            query: _,
+            max_items: _,
+            max_bytes: _,
+            heartbeat: _,
+            expires: _,
+            from: _,
+        } = self;
+    }
+}
+
 /// A subscription that a collector offers to a source that asks.
-#[derive(Debug, Drop)]
+#[derive(Debug)]
 pub struct Offer {
     pub version: Text,
     pub subscribe: Subscribe,
 }
 
+/// One call for whoever lets an offer go, whatever it holds.
+impl Drop for Offer {
+    fn drop(self) {
+        let Offer {
+            version: _,
+            subscribe: _,
+        } = self;
+    }
+}
+
 /// A message's body.
-#[derive(Debug, Drop)]
+#[derive(Debug)]
 pub enum Body {
     Enumerate,
     Offers(List<Offer>),
@@ -43,4 +70,26 @@ pub enum Body {
     Unsubscribe,
     Unsubscribed,
     Ended { identifier: Text, status: EndStatus },
+}
+
+/// One call for whoever lets a body go, whatever it holds.
+impl Drop for Body {
+    fn drop(self) {
+        match self {
+            Body::Offers(_) => {}
+            Body::Subscribe(_) => {}
+            Body::Subscribed {
+                identifier: _,
+                expires: _,
+            } => {}
+            Body::Renew { expires: _ } => {}
+            Body::Renewed { expires: _ } => {}
+            Body::StatusIs { expires: _ } => {}
+            Body::Ended {
+                identifier: _,
+                status: _,
+            } => {}
+            Body::Enumerate | Body::GetStatus | Body::Unsubscribe | Body::Unsubscribed => {}
+        }
+    }
 }

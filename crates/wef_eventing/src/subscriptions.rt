@@ -36,7 +36,7 @@ impl SourceAt {
 }
 
 /// What a collector wants of its sources. Times are in milliseconds.
-#[derive(Debug, Drop)]
+#[derive(Debug)]
 pub struct Subscription {
     pub name: SubId,
     pub kind: SubKind,
@@ -53,6 +53,23 @@ pub struct Subscription {
     pub sources: List<SourceAt>,
     /// It rises with each change of the subscription.
     pub version: u64,
+}
+
+/// One call for whoever lets a subscription go, whatever it holds.
+impl Drop for Subscription {
+    fn drop(self) {
+        let Subscription {
+            name: _,
+            kind: _,
+            query: _,
+            max_items: _,
+            max_bytes: _,
+            heartbeat: _,
+            expires: _,
+            sources: _,
+            version: _,
+        } = self;
+    }
 }
 
 /// Why a source ended a subscription.

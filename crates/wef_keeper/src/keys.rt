@@ -9,13 +9,26 @@ use wef_base::Text;
 
 /// The key of a row. Keys go by kind, then by the bytes of subscription, source and channel, then by
 /// number. A part that a kind of row doesn't name is empty, or 0.
-#[derive(Debug, Drop, PartialEq, Eq, PartialOrd, Ord)]
+#[derive(Debug, PartialEq, Eq, PartialOrd, Ord)]
 pub struct Key {
     pub kind: u8,
     pub sub: Text,
     pub source: Text,
     pub channel: Text,
     pub number: u64,
+}
+
+/// One call for whoever lets a key go, whatever it holds.
+impl Drop for Key {
+    fn drop(self) {
+        let Key {
+            kind: _,
+            sub: _,
+            source: _,
+            channel: _,
+            number: _,
+        } = self;
+    }
 }
 
 impl Key {
@@ -62,10 +75,20 @@ impl Row {
 }
 
 /// One change of the rows: what stands at a key from now on, or that nothing does.
-#[derive(Debug, Drop)]
+#[derive(Debug)]
 pub enum Change {
     Put(Row),
     Delete(Key),
+}
+
+/// One call for whoever lets a change go, whatever it holds.
+impl Drop for Change {
+    fn drop(self) {
+        match self {
+            Change::Put(_) => {}
+            Change::Delete(_) => {}
+        }
+    }
 }
 
 impl Change {

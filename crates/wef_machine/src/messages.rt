@@ -6,7 +6,7 @@ use wef_eventing::Offer;
 use wef_source::Delivery;
 
 /// A message. Each is from or to a source; the other end is the collector.
-#[derive(Debug, Drop)]
+#[derive(Debug)]
 pub enum Message {
     /// The source asks for its subscriptions.
     Ask {
@@ -39,4 +39,31 @@ pub enum Message {
         relates: MessageId,
         name: FaultName,
     },
+}
+
+/// One call for whoever lets a message go, whatever it holds.
+impl Drop for Message {
+    fn drop(self) {
+        match self {
+            Message::Ask { source: _, id: _ } => {}
+            Message::Offers {
+                source: _,
+                relates: _,
+                offers: _,
+            } => {}
+            Message::Events {
+                source: _,
+                delivery: _,
+            } => {}
+            Message::Ack {
+                source: _,
+                relates: _,
+            } => {}
+            Message::Fault {
+                source: _,
+                relates: _,
+                name: _,
+            } => {}
+        }
+    }
 }

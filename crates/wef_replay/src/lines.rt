@@ -16,7 +16,7 @@ pub enum EndName {
 }
 
 /// What one line of a schedule does. An empty line and a comment do nothing, and are no line here.
-#[derive(Debug, Drop)]
+#[derive(Debug)]
 pub enum Line {
     /// Adds a subscription that sources ask for.
     Subscribe {
@@ -107,4 +107,47 @@ pub enum Line {
 
     /// Takes back what `Fail` and `Stop` lines armed.
     Calm,
+}
+
+/// One call for whoever lets a line go, whatever it holds.
+impl Drop for Line {
+    fn drop(self) {
+        match self {
+            Line::Subscribe {
+                sub: _,
+                items: _,
+                bytes: _,
+                beat: _,
+                query: _,
+            } => {}
+            Line::End { sub: _ } => {}
+            Line::Batch {
+                sub: _,
+                source: _,
+                batch: _,
+            } => {}
+            Line::Source {
+                source: _,
+                capacity: _,
+            } => {}
+            Line::Write {
+                source: _,
+                event: _,
+            } => {}
+            Line::Ask { source: _ } => {}
+            Line::Poll { source: _, sub: _ } => {}
+            Line::Deliver { number: _ } => {}
+            Line::Back { number: _ } => {}
+            Line::Lost { source: _, sub: _ } => {}
+            Line::Print {
+                sub: _,
+                source: _,
+                channel: _,
+            } => {}
+            Line::Crash { end: _ } => {}
+            Line::Fail { end: _, after: _ } => {}
+            Line::Stop { end: _, after: _ } => {}
+            Line::Show | Line::Calm => {}
+        }
+    }
 }

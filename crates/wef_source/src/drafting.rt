@@ -203,11 +203,14 @@ fn dropped(item: Item) -> Item
     ensures { result ≡ spec.dropped item }
 {
     match item {
-        Item::Event(event) => Item::Dropped {
-            channel: event.channel,
-            first: event.number,
-            last: event.number,
-        },
+        Item::Event(event) => {
+            let (channel, number, _) = event.into_parts();
+            Item::Dropped {
+                channel,
+                first: number,
+                last: number,
+            }
+        }
         other => other,
     }
 }

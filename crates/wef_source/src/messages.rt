@@ -5,13 +5,25 @@ use wef_batch::Batch;
 use wef_envelope::{FaultName, MessageId};
 
 /// A batch on its way to the collector.
-#[derive(Debug, Drop)]
+#[derive(Debug)]
 pub struct Delivery {
     pub id: MessageId,
     /// Where it goes.
     pub notify_to: Text,
     pub identifier: Option<Text>,
     pub batch: Batch,
+}
+
+/// One call for whoever lets a delivery go, whatever it holds.
+impl Drop for Delivery {
+    fn drop(self) {
+        let Delivery {
+            id: _,
+            notify_to: _,
+            identifier: _,
+            batch: _,
+        } = self;
+    }
 }
 
 /// What a session has to send.
@@ -22,11 +34,21 @@ pub enum Poll {
 }
 
 /// The answer to a delivery.
-#[derive(Debug, Drop)]
+#[derive(Debug)]
 pub enum Reply {
     /// The batch is kept.
     Ack,
     Fault(FaultName),
+}
+
+/// One call for whoever lets a reply go, whatever it holds.
+impl Drop for Reply {
+    fn drop(self) {
+        match self {
+            Reply::Fault(_) => {}
+            Reply::Ack => {}
+        }
+    }
 }
 
 /// What an answer did to its session.

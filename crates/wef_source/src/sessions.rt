@@ -17,7 +17,7 @@ pub struct Outstanding {
 }
 
 /// A subscription that a source serves.
-#[derive(Debug, Drop)]
+#[derive(Debug)]
 pub struct Session {
     pub name: SubId,
     /// Where its batches go.
@@ -35,6 +35,24 @@ pub struct Session {
     pub outstanding: Option<Outstanding>,
     /// When the last message of the session was sent.
     pub last_sent: u64,
+}
+
+/// One call for whoever lets a session go, whatever it holds.
+impl Drop for Session {
+    fn drop(self) {
+        let Session {
+            name: _,
+            notify_to: _,
+            identifier: _,
+            query: _,
+            max_items: _,
+            max_bytes: _,
+            heartbeat: _,
+            positions: _,
+            outstanding: _,
+            last_sent: _,
+        } = self;
+    }
 }
 
 /// A copy of a text, where there is one.

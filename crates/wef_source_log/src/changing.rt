@@ -127,12 +127,7 @@ fn write_changes(capacity: u64, next: Event) -> Result<List<Change>, AllocError>
     ensures changes { IfOk result (λ changes. changes ≡ windows.write_changes capacity next.channel next.number next.text) }
     ensures some { IfOk result (λ changes. access.is_idle changes ≡ false) }
 {
-    let Event {
-        channel,
-        number,
-        text,
-        node: _,
-    } = next;
+    let (channel, number, text) = next.into_parts();
     let mut changes = List::new(channel.as_text().alloc());
     changes.push(Change::Put(Row {
         key: record_key(&channel, number)?,
