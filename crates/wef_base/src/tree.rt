@@ -41,24 +41,13 @@ pub struct Element {
 }
 
 /// An attribute of an element.
-#[derive(Debug)]
+#[derive(Debug, Drop)]
 pub struct Attribute {
     /// The namespace, empty for none.
     pub space: Namespace,
     /// The local name.
     pub name: Text,
     pub value: Text,
-}
-
-/// One call for whoever lets an attribute go, whatever it holds.
-impl Drop for Attribute {
-    fn drop(self) {
-        let Attribute {
-            space: _,
-            name: _,
-            value: _,
-        } = self;
-    }
 }
 
 impl Node {
