@@ -1,17 +1,25 @@
 -- Facts of what a store tells, and reads one after the other.
-use Rattle.std.proofs.Common.{◌≡◌, ℕ, ◌≤◌, Bool, true, false, ◌∙◌, subst, arith}
+use Rattle.std.proofs.Common.{◌≡◌, ℕ, ◌≤◌, Bool, true, false, refl, ◌∙◌, subst, arith}
 use Rattle.std.specs.List.{AllByRecursion}
-use Rattle.std.specs.Prelude.{Option, Some, None, IfSome, List}
+use Rattle.std.specs.Prelude.{Option, Some, None, Result, Ok, Err, IfOk, IfSome, List}
 use Rattle.wef_base.specs.Counts.{Rose}
 use Rattle.wef_keeper.specs.Access.{AnyRows, HasOpened, OpensAndReads, Reads}
 use Rattle.wef_keeper.specs.Keeping.{IsOneOf, Stays, Store}
 use Rattle.wef_keeper.specs.Rows.{Rows}
+use Rattle.wef_keeper.specs.declared.access.StoreFault.{StoreFault}
 use Rattle.wef_collector.specs.Forms.{AreFormed}
 
 -- two facts of what is told give a third
 pub told_both : {X : Type 0} (told : Option X) (P Q R : X → Type 0) → IfSome told P → IfSome told Q → ((x : X) → P x → Q x → R x) → IfSome told R
 told_both None P Q R p q f = tt
 told_both (Some x) P Q R p q f = f x p q
+
+-- a fact of an answer and two of what is told give one of both
+pub told_ok : {A X : Type 0} (result : Result A StoreFault) (told : Option X) (P : A → Type 0) (Q S : X → Type 0) (R : X → A → Type 0) → IfOk result P → IfSome told Q → IfSome told S
+    → ((x : X) (a : A) → P a → Q x → S x → R x a) → IfSome told (λ x. IfOk result (R x))
+told_ok result None P Q S R p q s f = tt
+told_ok (Ok a) (Some x) P Q S R p q s f = f x a p q s
+told_ok (Err fault) (Some x) P Q S R p q s f = tt
 
 -- what was said of what was told before is said of what is told now
 pub still_told : {X : Type 0} (before now : Option X) (P : X → Type 0) → Stays before now → IfSome before P → IfSome now P
@@ -68,6 +76,12 @@ any_cause P (Some rows) holds = λ formed. holds tt
 any_sure : (plan : Option (Option Bool)) (P : Type 0) (told : Option Rows) → IfSome plan (λ planned. IfSome told (λ rows. AnyRows rows → P)) → IfSome plan (λ planned. IfSome told (λ rows. AreFormed rows → P))
 any_sure None P told sure = tt
 any_sure (Some planned) P told sure = any_cause P told sure
+
+-- a call that finds rows which aren't of their form, or doesn't fail
+pub may_be_ill : (failed : Bool) (before now : Store) → Reads AnyRows false before now → (failed ≡ true → IfSome now.rows (λ rows. AreFormed rows → ⊥)) → Reads AreFormed failed before now
+may_be_ill true before now reads ill = ill_formed before now reads (ill refl)
+may_be_ill false before now reads ill =
+    (reads.0, (λ fails. any_cause (Rose before.faults now.faults) now.rows (reads.1 fails)), any_sure before.plan (false ≡ false) now.rows reads.2)
 
 -- an opening alone is one
 pub only_opens : (failed : Bool) (before now : Store) → OpensAndReads AnyRows failed before now → OpensAndReads AreFormed failed before now

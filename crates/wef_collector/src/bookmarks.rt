@@ -7,10 +7,10 @@ ghost use Rattle.wef_keeper.specs.Access as access;
 ghost use Rattle.wef_collector.specs.Bookmarks as spec;
 ghost use Rattle.wef_collector.specs.Forms.{AreFormed};
 
-use crate::keys::bookmark_key;
+use crate::keys::bookmarks_start;
 use crate::reading::formed_section;
 use std::alloc::{AllocError, Global};
-use wef_base::{ChannelName, SourceName, SubId, Text, ValueFault};
+use wef_base::{ChannelName, List, SourceName, SubId, Text, ValueFault};
 use wef_bookmark::Bookmark;
 use wef_keeper::{Depth, Keeper, Row, StoreFault};
 
@@ -24,11 +24,22 @@ pub fn bookmark_of<K: Keeper>(
     ensures bookmark { IfSome (K.store keeper.new).rows (λ rows. IfOk result (λ bookmark. bookmark ≡ spec.bookmark_of rows sub.now source.now)) }
     ensures reads { access.Reads AreFormed (access.fails result) (K.store keeper.old) (K.store keeper.new) }
 {
-    let alloc = sub.as_text().alloc();
-    let none = Text::new(alloc);
-    let start = bookmark_key(sub.as_text(), source.as_text(), &none)?;
-    let kept = formed_section(keeper, &start, Depth::Source)?;
-    Ok(bookmark_by(alloc, kept.as_slice())?)
+    let kept = bookmark_rows(keeper, sub.as_text(), source.as_text())?;
+    Ok(bookmark_by(sub.as_text().alloc(), kept.as_slice())?)
+}
+
+/// The bookmark rows of a subscription and a source, in the order of the channels' names.
+pub fn bookmark_rows<K: Keeper>(
+    keeper: &mut K,
+    sub: &Text,
+    source: &Text,
+) -> Result<List<Row>, StoreFault>
+    requires { access.IsReady (K.store keeper.old) }
+    ensures rows { IfSome (K.store keeper.new).rows (λ rows. IfOk result (λ found. found ≡ spec.bookmark_rows rows sub.now source.now)) }
+    ensures reads { access.Reads AreFormed (access.fails result) (K.store keeper.old) (K.store keeper.new) }
+{
+    let start = bookmarks_start(sub, source)?;
+    formed_section(keeper, &start, Depth::Source)
 }
 
 /// The bookmark that rows make.

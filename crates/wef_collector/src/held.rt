@@ -1,6 +1,6 @@
 //! The events that are held.
 
-ghost use Rattle.std.specs.Prelude.{◌≡◌, ◌≤◌, ◌++◌, is_some, map, take, IfOk, IfSome};
+ghost use Rattle.std.specs.Prelude.{◌≡◌, ◌≤◌, [], ◌∷◌, ◌++◌, true, false, map, take, IfOk, IfSome, OnOk};
 ghost use Rattle.std.specs.List.{list_all};
 ghost use Rattle.wef_keeper.specs.Access as access;
 ghost use Rattle.wef_collector.specs.Forms.{AreFormed, is_held_row};
@@ -8,7 +8,7 @@ ghost use Rattle.wef_collector.specs.Held as spec;
 
 use crate::forms::held_event;
 use crate::keys::held_key;
-use std::alloc::{AllocError, Global};
+use std::alloc::Global;
 use wef_base::{ChannelName, List, SourceName, SubId};
 use wef_event::Event;
 use wef_keeper::access::section_page;
@@ -33,23 +33,29 @@ pub fn held_page<K: Keeper>(
 {
     let start = held_key(sub.as_text(), source.as_text(), channel.as_text(), after)?;
     let page = section_page(keeper, &start, Depth::Channel, max)?;
-    let Some(events) = events_of(channel.as_text().alloc(), page.as_slice())? else {
-        return Err(StoreFault::Failed);
-    };
-    Ok(events)
+    events_of(channel.as_text().alloc(), page.as_slice())
 }
 
-/// The events of held rows. None where a row isn't of its form.
-fn events_of(alloc: Global, rows: &[Row]) -> Result<Option<List<Event>>, AllocError>
-    ensures some { IfOk result (λ found. is_some found ≡ list_all is_held_row rows.now) }
-    ensures value { IfOk result (λ found. IfSome found (λ events. events ≡ map spec.own_event rows.now)) }
+/// The events of held rows. It fails where a row isn't of its form.
+fn events_of(alloc: Global, rows: &[Row]) -> Result<List<Event>, StoreFault>
+    ensures value { IfOk result (λ events. events ≡ map spec.own_event rows.now) }
+    ensures formed { OnOk result (list_all is_held_row rows.now ≡ true) }
+    ensures failed { access.fails result ≡ true → list_all is_held_row rows.now ≡ false }
 {
     let mut events = List::new(alloc);
     for row in rows {
-        let Some(event) = held_event(row)? else {
-            return Ok(None);
-        };
-        events.push(event)?;
+        push_event(&mut events, row)?;
     }
-    Ok(Some(events))
+    Ok(events)
+}
+
+fn push_event(events: &mut List<Event>, row: &Row) -> Result<(), StoreFault>
+    ensures value { OnOk result (events.new ≡ events.old ++ spec.own_event row.now ∷ []) }
+    ensures formed { OnOk result (is_held_row row.now ≡ true) }
+    ensures failed { access.fails result ≡ true → is_held_row row.now ≡ false }
+{
+    match held_event(row)? {
+        Some(event) => Ok(events.push(event)?),
+        None => Err(StoreFault::Failed),
+    }
 }

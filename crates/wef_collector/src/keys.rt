@@ -54,6 +54,22 @@ pub fn bookmark_key(sub: &Text, source: &Text, channel: &Text) -> Result<Key, Al
     channel_key(2, sub, source, channel, 0)
 }
 
+/// The key in front of the bookmarks of a source.
+pub fn bookmarks_start(sub: &Text, source: &Text) -> Result<Key, AllocError>
+    ensures { IfOk result (λ key. key ≡ keys.bookmark_key sub.now source.now []) }
+{
+    let none = Text::new(sub.alloc());
+    bookmark_key(sub, source, &none)
+}
+
+/// The key in front of the bookmarks of all sources.
+pub fn all_bookmarks_start(sub: &Text) -> Result<Key, AllocError>
+    ensures { IfOk result (λ key. key ≡ keys.bookmark_key sub.now [] []) }
+{
+    let none = Text::new(sub.alloc());
+    bookmarks_start(sub, &none)
+}
+
 /// The key of a held event, by its number.
 pub fn held_key(sub: &Text, source: &Text, channel: &Text, number: u64) -> Result<Key, AllocError>
     ensures { IfOk result (λ key. key ≡ keys.held_key sub.now source.now channel.now number) }
@@ -81,6 +97,14 @@ pub fn heard_key(sub: &Text, source: &Text) -> Result<Key, AllocError>
 {
     let none = Text::new(sub.alloc());
     channel_key(6, sub, source, &none, 0)
+}
+
+/// The key in front of the moments at which sources were heard.
+pub fn all_heard_start(sub: &Text) -> Result<Key, AllocError>
+    ensures { IfOk result (λ key. key ≡ keys.heard_key sub.now []) }
+{
+    let none = Text::new(sub.alloc());
+    heard_key(sub, &none)
 }
 
 fn channel_key(

@@ -5,6 +5,7 @@ ghost use Rattle.std.specs.List.{filter_map};
 ghost use Rattle.wef_keeper.specs.Access as access;
 ghost use Rattle.wef_collector.specs.Forms.{AreFormed};
 ghost use Rattle.wef_collector.specs.Listing as spec;
+ghost use Rattle.wef_collector.specs.Standing as standings;
 
 use crate::keys::subscriptions_start;
 use crate::reading::formed_section;
@@ -30,9 +31,21 @@ pub fn list_subscriptions<K: Keeper>(
     ensures list { IfSome (K.store keeper.new).rows (λ rows. IfOk result (λ list. list ≡ spec.listed rows)) }
     ensures reads { access.Reads AreFormed (access.fails result) (K.store keeper.old) (K.store keeper.new) }
 {
-    let start = subscriptions_start(alloc);
-    let subscriptions = formed_section(keeper, &start, Depth::Kind)?;
+    let subscriptions = subscription_rows(keeper, alloc)?;
     Ok(listed_in(alloc, subscriptions.as_slice())?)
+}
+
+/// The rows of all subscriptions, in the order of their names.
+pub fn subscription_rows<K: Keeper>(
+    keeper: &mut K,
+    alloc: Global,
+) -> Result<List<Row>, StoreFault>
+    requires { access.IsReady (K.store keeper.old) }
+    ensures rows { IfSome (K.store keeper.new).rows (λ rows. IfOk result (λ found. found ≡ standings.subscription_rows rows)) }
+    ensures reads { access.Reads AreFormed (access.fails result) (K.store keeper.old) (K.store keeper.new) }
+{
+    let start = subscriptions_start(alloc);
+    formed_section(keeper, &start, Depth::Kind)
 }
 
 fn listed_in(alloc: Global, rows: &[Row]) -> Result<List<Listed>, AllocError>

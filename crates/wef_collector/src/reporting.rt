@@ -11,7 +11,9 @@ ghost use Rattle.wef_collector.specs.Runs.{runs_from, runs_of, runs_text};
 ghost use Rattle.wef_collector.specs.Report as spec;
 ghost use Rattle.wef_keeper.specs.declared.keys.Row as the_row;
 
-use crate::keys::{bookmark_key, heard_key, held_key, loose_key, mark_key, subscriptions_start};
+use crate::bookmarks::bookmark_rows;
+use crate::keys::{all_bookmarks_start, all_heard_start, held_key, loose_key, mark_key};
+use crate::listing::subscription_rows;
 use crate::reading::{formed_page, formed_section};
 use crate::runs::{RunWriter, Span};
 use std::alloc::{AllocError, Global};
@@ -27,14 +29,26 @@ pub fn report<K: Keeper>(keeper: &mut K, alloc: Global) -> Result<Text, StoreFau
     ensures text { IfSome (K.store keeper.new).rows (λ rows. IfOk result (λ text. text ≡ spec.report rows)) }
     ensures reads { access.Reads AreFormed (access.fails result) (K.store keeper.old) (K.store keeper.new) }
 {
-    let start = subscriptions_start(alloc);
-    let subscriptions = formed_section(keeper, &start, Depth::Kind)?;
+    let subscriptions = subscription_rows(keeper, alloc)?;
     let mut text = Text::new(alloc);
-    for row in subscriptions.as_slice() {
-        push_subscription(&mut text, keeper, row)?;
-    }
+    push_subscriptions(&mut text, keeper, subscriptions.as_slice())?;
     text.push_str("end\n")?;
     Ok(text)
+}
+
+fn push_subscriptions<K: Keeper>(
+    text: &mut Text,
+    keeper: &mut K,
+    subscriptions: &[Row],
+) -> Result<(), StoreFault>
+    requires { access.IsReady (K.store keeper.old) }
+    ensures text { IfSome (K.store keeper.new).rows (λ rows. OnOk result (text.new ≡ text.old ++ flat_map (spec.subscription_report rows) subscriptions.now)) }
+    ensures reads { access.Reads AreFormed (access.fails result) (K.store keeper.old) (K.store keeper.new) }
+{
+    for row in subscriptions {
+        push_subscription(text, keeper, row)?;
+    }
+    Ok(())
 }
 
 fn push_subscription<K: Keeper>(
@@ -48,8 +62,21 @@ fn push_subscription<K: Keeper>(
 {
     push_subscription_line(text, &row.key.sub, row.value)?;
     let sources = sources_of(keeper, &row.key.sub)?;
-    for source in sources.as_slice() {
-        push_source(text, keeper, &row.key.sub, source)?;
+    push_sources(text, keeper, &row.key.sub, sources.as_slice())
+}
+
+fn push_sources<K: Keeper>(
+    text: &mut Text,
+    keeper: &mut K,
+    sub: &Text,
+    sources: &[Text],
+) -> Result<(), StoreFault>
+    requires { access.IsReady (K.store keeper.old) }
+    ensures text { IfSome (K.store keeper.new).rows (λ rows. OnOk result (text.new ≡ text.old ++ flat_map (spec.source_report rows sub.now) sources.now)) }
+    ensures reads { access.Reads AreFormed (access.fails result) (K.store keeper.old) (K.store keeper.new) }
+{
+    for source in sources {
+        push_source(text, keeper, sub, source)?;
     }
     Ok(())
 }
@@ -83,10 +110,22 @@ fn sources_of<K: Keeper>(keeper: &mut K, sub: &Text) -> Result<List<Text>, Store
     ensures sources { IfSome (K.store keeper.new).rows (λ rows. IfOk result (λ sources. sources ≡ spec.sources_of rows sub.now)) }
     ensures reads { access.Reads AreFormed (access.fails result) (K.store keeper.old) (K.store keeper.new) }
 {
-    let none = Text::new(sub.alloc());
-    let served = formed_section(keeper, &bookmark_key(sub, &none, &none)?, Depth::Sub)?;
-    let heard = formed_section(keeper, &heard_key(sub, &none)?, Depth::Sub)?;
+    let served = rows_behind(keeper, all_bookmarks_start(sub)?, Depth::Sub)?;
+    let heard = rows_behind(keeper, all_heard_start(sub)?, Depth::Sub)?;
     Ok(sources_in(sub.alloc(), served.as_slice(), heard.as_slice())?)
+}
+
+/// All rows behind a key that share its parts down to a depth.
+fn rows_behind<K: Keeper>(
+    keeper: &mut K,
+    start: Key,
+    depth: Depth,
+) -> Result<List<Row>, StoreFault>
+    requires { access.IsReady (K.store keeper.old) }
+    ensures rows { IfSome (K.store keeper.new).rows (λ rows. IfOk result (λ found. found ≡ rows_under depth start rows)) }
+    ensures reads { access.Reads AreFormed (access.fails result) (K.store keeper.old) (K.store keeper.new) }
+{
+    formed_section(keeper, &start, depth)
 }
 
 /// The sources of rows, each once, in order.
@@ -120,9 +159,22 @@ fn push_source<K: Keeper>(
     ensures reads { access.Reads AreFormed (access.fails result) (K.store keeper.old) (K.store keeper.new) }
 {
     push_source_line(text, source)?;
-    let none = Text::new(sub.alloc());
-    let channels = formed_section(keeper, &bookmark_key(sub, source, &none)?, Depth::Source)?;
-    for row in channels.as_slice() {
+    let channels = bookmark_rows(keeper, sub, source)?;
+    push_channels(text, keeper, sub, source, channels.as_slice())
+}
+
+fn push_channels<K: Keeper>(
+    text: &mut Text,
+    keeper: &mut K,
+    sub: &Text,
+    source: &Text,
+    channels: &[Row],
+) -> Result<(), StoreFault>
+    requires { access.IsReady (K.store keeper.old) }
+    ensures text { IfSome (K.store keeper.new).rows (λ rows. OnOk result (text.new ≡ text.old ++ flat_map (spec.channel_report rows sub.now source.now) channels.now)) }
+    ensures reads { access.Reads AreFormed (access.fails result) (K.store keeper.old) (K.store keeper.new) }
+{
+    for row in channels {
         push_channel(text, keeper, sub, source, row)?;
     }
     Ok(())
@@ -224,7 +276,7 @@ fn push_loose<K: Keeper>(
     ensures text { IfSome (K.store keeper.new).rows (λ rows. OnOk result (text.new ≡ text.old ++ flat_map spec.loose_line (loose_rows rows sub.now source.now channel.now))) }
     ensures reads { access.Reads AreFormed (access.fails result) (K.store keeper.old) (K.store keeper.new) }
 {
-    let loose = formed_section(keeper, &loose_key(sub, source, channel, 0)?, Depth::Channel)?;
+    let loose = rows_behind(keeper, loose_key(sub, source, channel, 0)?, Depth::Channel)?;
     push_loose_lines(text, loose.as_slice())?;
     Ok(())
 }

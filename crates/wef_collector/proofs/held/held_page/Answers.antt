@@ -1,27 +1,26 @@
-use Rattle.std.proofs.Common.{rules, ◌≡◌, ◌∙◌, ◌++◌, false, map, sym, take}
-use Rattle.std.specs.List.{list_all}
+use Rattle.std.proofs.Common.{◌≡◌, ◌∙◌, ◌++◌, List, map, sym, take}
+use Rattle.wef_event.specs.Events.{Event}
+use Rattle.wef_keeper.specs.Access.{fails}
 use Rattle.wef_keeper.specs.Sections.{last_key, rows_under}
 use Rattle.wef_keeper.specs.declared.keys.Depth.TheVariants.{Channel}
-use Rattle.wef_collector.specs.Forms.{is_held_row}
 use Rattle.wef_collector.specs.Held.{held_after, last_number, own_event}
 use Rattle.wef_collector.specs.Keys.{held_key}
 use Rattle.wef_collector.proofs.Forming.{no_page}
 use Rattle.wef_collector.proofs.HeldPages.{held_as_formed, is_page, is_rest, own_events}
-use Rattle.wef_collector.proofs.ReadsOf.{ill_formed, told_both}
+use Rattle.wef_collector.proofs.ReadsOf.{may_be_ill, told_ok}
 use Rattle.wef_collector.proofs.held.held_page.Goals as goal
 
-pub returns-in_default-clause-reads : goal.returns-in_default-clause-reads
-returns-in_default-clause-reads g c =
-    let u = c.args.sub.now in
-    let s = c.args.source.now in
-    let channel = c.args.channel.now in
+pub returns-clause-reads : goal.returns-clause-reads
+returns-clause-reads g c =
     let start = c.in_ok-start.start in
     let page = c.in_ok-page.page in
-    let begins = c.in_ok-start.ensures ∙ (λ i. held_key (c.as_text.ensures.value i) (c.as_text-2.ensures.value i) (c.as_text-3.ensures.value i) c.args.after) in
-    let ill : list_all is_held_row page ≡ false = search rules in
+    let begins : c.in_ok-start.start ≡ held_key c.args.sub.now c.args.source.now c.args.channel.now c.args.after = c.in_ok-start.ensures ∙ (λ i. held_key (c.as_text.ensures.value i) (c.as_text-2.ensures.value i) (c.as_text-3.ensures.value i) c.args.after) in
+    let behind = c.in_ok-page.ensures.behind in
+    let as_formed = held_as_formed c.args.sub.now c.args.source.now c.args.channel.now c.args.after start page begins behind in
     let now = g.K.Keeper.store c.section_page.new.keeper in
-    ill_formed (g.K.Keeper.store c.args.keeper.now) now c.in_ok-page.ensures.reads
-    (no_page now.rows c.args.max Channel start page (sym (held_as_formed u s channel c.args.after start page begins c.in_ok-page.ensures.behind) ∙ ill) c.in_ok-page.ensures.page)
+    let items = c.as_slice.ensures in
+    may_be_ill (fails c.events_of.result) (g.K.Keeper.store c.args.keeper.now) now c.in_ok-page.ensures.reads
+    (λ failed. no_page now.rows c.args.max Channel start page (sym as_formed ∙ rw items at (c.events_of.ensures.failed failed)) c.in_ok-page.ensures.page)
 
 pub returns-clause-page : goal.returns-clause-page
 returns-clause-page g c =
@@ -30,13 +29,13 @@ returns-clause-page g c =
     let channel = c.args.channel.now in
     let start = c.in_ok-start.start in
     let page = c.in_ok-page.page in
-    let begins = c.in_ok-start.ensures ∙ (λ i. held_key (c.as_text.ensures.value i) (c.as_text-2.ensures.value i) (c.as_text-3.ensures.value i) c.args.after) in
+    let begins : c.in_ok-start.start ≡ held_key c.args.sub.now c.args.source.now c.args.channel.now c.args.after = c.in_ok-start.ensures ∙ (λ i. held_key (c.as_text.ensures.value i) (c.as_text-2.ensures.value i) (c.as_text-3.ensures.value i) c.args.after) in
     let now = g.K.Keeper.store c.section_page.new.keeper in
-    let events : c.in-Some.events ≡ map own_event page = search rules in
-    told_both now.rows (λ rows. page ≡ take c.args.max (rows_under Channel start rows)) (λ rows. page ≡ take c.args.max (rows_under Channel start rows))
-    (λ rows. c.in-Some.events ≡ take c.args.max (held_after rows u s channel c.args.after))
-    c.in_ok-page.ensures.page c.in_ok-page.ensures.page
-    (λ rows is _. events ∙ own_events u s channel c.args.after start page begins c.in_ok-page.ensures.behind ∙ is_page c.args.max rows u s channel c.args.after start page begins is)
+    let own = own_events u s channel c.args.after start page begins c.in_ok-page.ensures.behind in
+    told_ok c.events_of.result now.rows (λ events. events ≡ map own_event page) (λ rows. page ≡ take c.args.max (rows_under Channel start rows)) (λ rows. page ≡ take c.args.max (rows_under Channel start rows))
+    (λ rows (events : List Event). events ≡ take c.args.max (held_after rows u s channel c.args.after))
+    (rw c.as_slice.ensures at c.events_of.ensures.value) c.in_ok-page.ensures.page c.in_ok-page.ensures.page
+    (λ rows events are is _. are ∙ own ∙ is_page c.args.max rows u s channel c.args.after start page begins is)
 
 pub returns-clause-rest : goal.returns-clause-rest
 returns-clause-rest g c =
@@ -45,11 +44,10 @@ returns-clause-rest g c =
     let channel = c.args.channel.now in
     let start = c.in_ok-start.start in
     let page = c.in_ok-page.page in
-    let begins = c.in_ok-start.ensures ∙ (λ i. held_key (c.as_text.ensures.value i) (c.as_text-2.ensures.value i) (c.as_text-3.ensures.value i) c.args.after) in
+    let begins : c.in_ok-start.start ≡ held_key c.args.sub.now c.args.source.now c.args.channel.now c.args.after = c.in_ok-start.ensures ∙ (λ i. held_key (c.as_text.ensures.value i) (c.as_text-2.ensures.value i) (c.as_text-3.ensures.value i) c.args.after) in
     let now = g.K.Keeper.store c.section_page.new.keeper in
-    let events : c.in-Some.events ≡ map own_event page = search rules in
-    let held = events ∙ own_events u s channel c.args.after start page begins c.in_ok-page.ensures.behind in
-    told_both now.rows (λ rows. page ≡ take c.args.max (rows_under Channel start rows)) (λ rows. rows_under Channel start rows ≡ page ++ rows_under Channel (last_key start page) rows)
-    (λ rows. held_after rows u s channel c.args.after ≡ c.in-Some.events ++ held_after rows u s channel (last_number c.args.after c.in-Some.events))
-    c.in_ok-page.ensures.page c.in_ok-page.ensures.rest
-    (λ rows is splits. rw held (is_rest c.args.max rows u s channel c.args.after start page begins is splits))
+    let own = own_events u s channel c.args.after start page begins c.in_ok-page.ensures.behind in
+    told_ok c.events_of.result now.rows (λ events. events ≡ map own_event page) (λ rows. page ≡ take c.args.max (rows_under Channel start rows)) (λ rows. rows_under Channel start rows ≡ page ++ rows_under Channel (last_key start page) rows)
+    (λ rows (events : List Event). held_after rows u s channel c.args.after ≡ events ++ held_after rows u s channel (last_number c.args.after events))
+    (rw c.as_slice.ensures at c.events_of.ensures.value) c.in_ok-page.ensures.page c.in_ok-page.ensures.rest
+    (λ rows events are is splits. rw (are ∙ own) (is_rest c.args.max rows u s channel c.args.after start page begins is splits))

@@ -2,11 +2,10 @@ use Rattle.std.proofs.Common.{◌≡◌, ◌++◌, drop, IfSome}
 use Rattle.std.specs.List.{flat_map}
 use Rattle.wef_keeper.specs.Access.{HasRead}
 use Rattle.wef_collector.specs.Report.{subscription_report}
-use Rattle.wef_collector.specs.Standing.{subscription_rows}
-use Rattle.wef_collector.proofs.reporting.report.Given as goal
+use Rattle.wef_collector.proofs.reporting.push_subscriptions.Given as goal
 
 abbrev pub invariant-loop-row : goal.invariant-loop-row
 invariant-loop-row g l = record {
   read : HasRead (g.K.Keeper.store l.fn.keeper) (g.K.Keeper.store l.keeper);
-  rest : IfSome (g.K.Keeper.store l.keeper).rows (λ rows. l.text ++ flat_map (subscription_report rows) (drop l.row-index l.row-items) ≡ flat_map (subscription_report rows) (subscription_rows rows));
+  rest : IfSome (g.K.Keeper.store l.keeper).rows (λ rows. l.text ++ flat_map (subscription_report rows) (drop l.row-index l.subscriptions) ≡ l.fn.text ++ flat_map (subscription_report rows) l.subscriptions);
 }
