@@ -2,6 +2,7 @@
 
 ghost use Rattle.std.specs.Prelude.{◌≡◌, ◌+◌, ◌<◌, [], ◌∷◌, ◌++◌, IfOk, IfSome, OnOk};
 ghost use Rattle.std.specs.Fmt.{decimal};
+ghost use Rattle.std.specs.FinMap as map;
 ghost use Rattle.std.specs.List.{flat_map};
 ghost use Rattle.wef_batch.specs.Reach as reaches;
 ghost use Rattle.wef_keeper.specs.Access as access;
@@ -11,7 +12,7 @@ ghost use Rattle.wef_collector.specs.Taken as spec;
 ghost use Rattle.wef_collector.specs.Bookmarks as bookmarks;
 
 use crate::keys::{bookmark_key, heard_key, held_key, loose_key, mark_key};
-use crate::reading::formed_cell;
+use crate::reading::{formed_cell, formed_number};
 use std::alloc::AllocError;
 use wef_base::{ChannelName, List, SourceName, SubId, Text};
 use wef_batch::{Batch, Item, loose_sum, reach};
@@ -32,11 +33,29 @@ pub fn batch_changes<K: Keeper>(
     ensures reads { access.Reads AreFormed (access.fails result) (K.store keeper.old) (K.store keeper.new) }
 {
     let mut changes = List::new(sub.as_text().alloc());
-    for channel in channels {
-        push_channel_changes(&mut changes, keeper, sub, source, channel, batch)?;
-    }
+    push_all_changes(&mut changes, keeper, sub, source, channels, batch)?;
     push_heard_changes(&mut changes, keeper, sub, source, now)?;
     Ok(changes)
+}
+
+/// What a batch changes in all of these channels.
+fn push_all_changes<K: Keeper>(
+    changes: &mut List<Change>,
+    keeper: &mut K,
+    sub: &SubId,
+    source: &SourceName,
+    channels: &[ChannelName],
+    batch: &Batch,
+) -> Result<(), StoreFault>
+    requires ready { access.IsReady (K.store keeper.old) }
+    requires loose { reaches.loose_sum batch.now.items < 18446744073709551616 }
+    ensures changes { IfSome (K.store keeper.new).rows (λ rows. OnOk result (changes.new ≡ changes.old ++ flat_map (spec.channel_changes rows sub.now source.now batch.now) channels.now)) }
+    ensures reads { access.Reads AreFormed (access.fails result) (K.store keeper.old) (K.store keeper.new) }
+{
+    for channel in channels {
+        push_channel_changes(changes, keeper, sub, source, channel, batch)?;
+    }
+    Ok(())
 }
 
 fn push_channel_changes<K: Keeper>(
@@ -72,10 +91,7 @@ pub fn bookmark_at<K: Keeper>(
     ensures reads { access.Reads AreFormed (access.fails result) (K.store keeper.old) (K.store keeper.new) }
 {
     let key = bookmark_key(sub.as_text(), source.as_text(), channel.as_text())?;
-    match formed_cell(keeper, &key)? {
-        Some(cell) => Ok(cell.value),
-        None => Ok(0),
-    }
+    formed_number(keeper, &key)
 }
 
 /// What a batch that reaches a channel up to a number changes in it.
@@ -216,12 +232,26 @@ fn push_heard_changes<K: Keeper>(
     ensures reads { access.Reads AreFormed (access.fails result) (K.store keeper.old) (K.store keeper.new) }
 {
     let key = heard_key(sub.as_text(), source.as_text())?;
-    match formed_cell(keeper, &key)? {
-        Some(cell) if now <= cell.value => Ok(()),
-        _ => {
-            push_put(changes, key, now, Text::new(sub.as_text().alloc()))?;
-            Ok(())
-        }
+    if !is_later(keeper, &key, now)? {
+        return Ok(());
+    }
+    Ok(push_put(
+        changes,
+        key,
+        now,
+        Text::new(sub.as_text().alloc()),
+    )?)
+}
+
+/// Whether a moment is later than the one that stands at a key, if one does.
+fn is_later<K: Keeper>(keeper: &mut K, key: &Key, now: u64) -> Result<bool, StoreFault>
+    requires { access.IsReady (K.store keeper.old) }
+    ensures later { IfSome (K.store keeper.new).rows (λ rows. IfOk result (λ later. later ≡ spec.is_later now (map.get rows key.now))) }
+    ensures reads { access.Reads AreFormed (access.fails result) (K.store keeper.old) (K.store keeper.new) }
+{
+    match formed_cell(keeper, key)? {
+        Some(cell) => Ok(cell.value < now),
+        None => Ok(true),
     }
 }
 

@@ -6,18 +6,20 @@ ghost use Rattle.wef_eventing.specs.Kept.{read_kept};
 ghost use Rattle.wef_eventing.specs.Kept as kept;
 ghost use Rattle.wef_eventing.specs.Subscriptions.{IsAllEvents};
 ghost use Rattle.wef_keeper.specs.Access as access;
+ghost use Rattle.wef_collector.specs.Answers as answers;
 ghost use Rattle.wef_collector.specs.Boots.{boot_of};
 ghost use Rattle.wef_collector.specs.Calls as calls;
 ghost use Rattle.wef_collector.specs.Faults.{fails};
 ghost use Rattle.wef_collector.specs.Forms.{AreFormed};
+ghost use Rattle.wef_collector.specs.Keys as keys;
 ghost use Rattle.wef_collector.specs.Standing as standings;
 ghost use Rattle.wef_collector.specs.Taken as taken;
 
 use crate::changes::batch_changes;
 use crate::faults::CollectorFault;
 use crate::keys::{boot_key, subscription_key, subscriptions_start};
-use crate::reading::{formed_cell, formed_page};
-use crate::standings::live_in;
+use crate::reading::{formed_cell, formed_number, formed_page};
+use crate::standings::{live_in, subscription_cell};
 use std::alloc::{AllocError, Global};
 use wef_base::numbers::MAX;
 use wef_base::{List, SourceName, SubId, Text};
@@ -41,15 +43,32 @@ pub fn add_changes<K: Keeper>(
     ensures listed { IfErr result calls.OfAdd }
     ensures reads { access.Reads AreFormed (fails result) (K.store keeper.old) (K.store keeper.new) }
 {
-    let key = subscription_key(&subscription.name)?;
-    if formed_cell(keeper, &key)?.is_some() {
+    if is_there(keeper, &subscription.name)? {
         return Err(CollectorFault::Exists);
     }
     if is_full(keeper, alloc)? {
         return Err(CollectorFault::TooMany);
     }
+    Ok(put_live(alloc, subscription)?)
+}
+
+/// Whether a name is that of a subscription, ended or not.
+fn is_there<K: Keeper>(keeper: &mut K, sub: &SubId) -> Result<bool, StoreFault>
+    requires { access.IsReady (K.store keeper.old) }
+    ensures there { IfSome (K.store keeper.new).rows (λ rows. IfOk result (λ there. there ≡ answers.is_there rows sub.now)) }
+    ensures reads { access.Reads AreFormed (access.fails result) (K.store keeper.old) (K.store keeper.new) }
+{
+    Ok(subscription_cell(keeper, sub)?.is_some())
+}
+
+/// The change that puts a live subscription.
+fn put_live(alloc: Global, subscription: &Subscription) -> Result<List<Change>, AllocError>
+    ensures changes { IfOk result (λ changes. changes ≡ taken.put (keys.subscription_key subscription.now.name) 0 (kept.kept_words subscription.now) ∷ []) }
+    ensures reads_back { IfOk result (λ _. IsAllEvents subscription.now → read_kept subscription.now.name (kept.kept_words subscription.now) ≡ Some subscription.now) }
+{
+    let key = subscription_key(&subscription.name)?;
     let body = kept_words(subscription)?;
-    Ok(one_put(alloc, key, 0, body)?)
+    one_put(alloc, key, 0, body)
 }
 
 fn is_full<K: Keeper>(keeper: &mut K, alloc: Global) -> Result<bool, StoreFault>
@@ -75,6 +94,19 @@ pub fn end_changes<K: Keeper>(
 {
     live_in(keeper, sub)?;
     let key = subscription_key(sub)?;
+    Ok(put_ended(keeper, alloc, key)?)
+}
+
+/// The change that ends the subscription of a key. Its words stay.
+fn put_ended<K: Keeper>(
+    keeper: &mut K,
+    alloc: Global,
+    key: Key,
+) -> Result<List<Change>, StoreFault>
+    requires { access.IsReady (K.store keeper.old) }
+    ensures changes { IfSome (K.store keeper.new).rows (λ rows. IfOk result (λ changes. changes ≡ taken.put key 1 (standings.kept_body (map.get rows key)) ∷ [])) }
+    ensures reads { access.Reads AreFormed (access.fails result) (K.store keeper.old) (K.store keeper.new) }
+{
     let body = body_of(keeper, alloc, &key)?;
     Ok(one_put(alloc, key, 1, body)?)
 }
@@ -136,10 +168,8 @@ fn boot_in<K: Keeper>(keeper: &mut K, alloc: Global) -> Result<u64, StoreFault>
     ensures boot { IfSome (K.store keeper.new).rows (λ rows. IfOk result (λ boot. boot ≡ boot_of rows)) }
     ensures reads { access.Reads AreFormed (access.fails result) (K.store keeper.old) (K.store keeper.new) }
 {
-    match formed_cell(keeper, &boot_key(alloc))? {
-        Some(cell) => Ok(cell.value),
-        None => Ok(0),
-    }
+    let key = boot_key(alloc);
+    formed_number(keeper, &key)
 }
 
 /// The list of one change, which puts a row.

@@ -29,10 +29,25 @@ pub fn offers_to<K: Keeper>(
 {
     let subscriptions = list_subscriptions(keeper, alloc)?;
     let mut offers = List::new(alloc);
-    for listed in subscriptions.as_slice() {
-        push_offer(&mut offers, keeper, source, host, listed)?;
-    }
+    push_offers(&mut offers, keeper, source, host, subscriptions.as_slice())?;
     Ok(offers)
+}
+
+fn push_offers<K: Keeper>(
+    offers: &mut List<Offer>,
+    keeper: &mut K,
+    source: &SourceName,
+    host: &Text,
+    subscriptions: &[Listed],
+) -> Result<(), StoreFault>
+    requires { access.IsReady (K.store keeper.old) }
+    ensures offers { IfSome (K.store keeper.new).rows (λ rows. OnOk result (offers.new ≡ offers.old ++ filter_map (spec.offer_of rows source.now host.now) subscriptions.now)) }
+    ensures reads { access.Reads AreFormed (access.fails result) (K.store keeper.old) (K.store keeper.new) }
+{
+    for listed in subscriptions {
+        push_offer(offers, keeper, source, host, listed)?;
+    }
+    Ok(())
 }
 
 fn push_offer<K: Keeper>(

@@ -1,11 +1,13 @@
 //! Reads of the store's rows, each tested for its form.
 
-ghost use Rattle.std.specs.Prelude.{◌≡◌, ◌≤◌, ◌++◌, true, take, IfOk, IfSome};
+ghost use Rattle.std.specs.Prelude.{◌≡◌, ◌≤◌, ◌++◌, true, take, unwrap_or, IfOk, IfSome};
 ghost use Rattle.std.specs.FinMap as map;
 ghost use Rattle.std.specs.List.{AllByRecursion, list_all};
+ghost use Rattle.std.specs.Option.{option_map};
 ghost use Rattle.wef_keeper.specs.Access as access;
 ghost use Rattle.wef_keeper.specs.Keeping.{row_at};
 ghost use Rattle.wef_keeper.specs.Sections.{last_key, rows_under};
+ghost use Rattle.wef_keeper.specs.declared.keys.Cell as the_cell;
 ghost use Rattle.wef_collector.specs.Forms as forms;
 ghost use Rattle.wef_collector.specs.Forms.{AreFormed};
 
@@ -26,6 +28,18 @@ pub fn formed_cell<K: Keeper>(keeper: &mut K, key: &Key) -> Result<Option<Cell>,
             body: row.body,
         })),
         None => Ok(None),
+    }
+}
+
+/// The number that stands at a key, 0 where no row does.
+pub fn formed_number<K: Keeper>(keeper: &mut K, key: &Key) -> Result<u64, StoreFault>
+    requires { access.IsReady (K.store keeper.old) }
+    ensures number { IfSome (K.store keeper.new).rows (λ rows. IfOk result (λ number. number ≡ unwrap_or (option_map (λ (cell : the_cell.Cell). cell.value) (map.get rows key.now)) 0)) }
+    ensures reads { access.Reads AreFormed (access.fails result) (K.store keeper.old) (K.store keeper.new) }
+{
+    match formed_cell(keeper, key)? {
+        Some(cell) => Ok(cell.value),
+        None => Ok(0),
     }
 }
 

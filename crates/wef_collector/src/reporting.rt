@@ -1,12 +1,13 @@
 //! The report of all that is kept, as text.
 
-ghost use Rattle.std.specs.Prelude.{◌≡◌, ◌++◌, List, map, IfOk, IfSome, OnOk};
+ghost use Rattle.std.specs.Prelude.{◌≡◌, [], ◌++◌, List, map, IfOk, IfSome, OnOk};
 ghost use Rattle.std.specs.List.{flat_map};
 ghost use Rattle.wef_keeper.specs.Access as access;
 ghost use Rattle.wef_keeper.specs.Sections.{rows_under};
 ghost use Rattle.wef_query.specs.Order.{with_names};
 ghost use Rattle.wef_collector.specs.Forms.{AreFormed};
-ghost use Rattle.wef_collector.specs.Held.{loose_rows};
+ghost use Rattle.wef_collector.specs.Held as held;
+ghost use Rattle.wef_collector.specs.Keys as keys;
 ghost use Rattle.wef_collector.specs.Runs.{runs_from, runs_of, runs_text};
 ghost use Rattle.wef_collector.specs.Report as spec;
 ghost use Rattle.wef_keeper.specs.declared.keys.Row as the_row;
@@ -110,22 +111,29 @@ fn sources_of<K: Keeper>(keeper: &mut K, sub: &Text) -> Result<List<Text>, Store
     ensures sources { IfSome (K.store keeper.new).rows (λ rows. IfOk result (λ sources. sources ≡ spec.sources_of rows sub.now)) }
     ensures reads { access.Reads AreFormed (access.fails result) (K.store keeper.old) (K.store keeper.new) }
 {
-    let served = rows_behind(keeper, all_bookmarks_start(sub)?, Depth::Sub)?;
-    let heard = rows_behind(keeper, all_heard_start(sub)?, Depth::Sub)?;
+    let served = served_rows(keeper, sub)?;
+    let heard = heard_rows(keeper, sub)?;
     Ok(sources_in(sub.alloc(), served.as_slice(), heard.as_slice())?)
 }
 
-/// All rows behind a key that share its parts down to a depth.
-fn rows_behind<K: Keeper>(
-    keeper: &mut K,
-    start: Key,
-    depth: Depth,
-) -> Result<List<Row>, StoreFault>
+/// The bookmark rows of a subscription.
+fn served_rows<K: Keeper>(keeper: &mut K, sub: &Text) -> Result<List<Row>, StoreFault>
     requires { access.IsReady (K.store keeper.old) }
-    ensures rows { IfSome (K.store keeper.new).rows (λ rows. IfOk result (λ found. found ≡ rows_under depth start rows)) }
+    ensures rows { IfSome (K.store keeper.new).rows (λ rows. IfOk result (λ served. served ≡ rows_under Depth.Sub (keys.bookmark_key sub.now [] []) rows)) }
     ensures reads { access.Reads AreFormed (access.fails result) (K.store keeper.old) (K.store keeper.new) }
 {
-    formed_section(keeper, &start, depth)
+    let start = all_bookmarks_start(sub)?;
+    formed_section(keeper, &start, Depth::Sub)
+}
+
+/// The rows of a subscription that say when its sources were heard.
+fn heard_rows<K: Keeper>(keeper: &mut K, sub: &Text) -> Result<List<Row>, StoreFault>
+    requires { access.IsReady (K.store keeper.old) }
+    ensures rows { IfSome (K.store keeper.new).rows (λ rows. IfOk result (λ heard. heard ≡ rows_under Depth.Sub (keys.heard_key sub.now []) rows)) }
+    ensures reads { access.Reads AreFormed (access.fails result) (K.store keeper.old) (K.store keeper.new) }
+{
+    let start = all_heard_start(sub)?;
+    formed_section(keeper, &start, Depth::Sub)
 }
 
 /// The sources of rows, each once, in order.
@@ -273,12 +281,26 @@ fn push_loose<K: Keeper>(
     channel: &Text,
 ) -> Result<(), StoreFault>
     requires { access.IsReady (K.store keeper.old) }
-    ensures text { IfSome (K.store keeper.new).rows (λ rows. OnOk result (text.new ≡ text.old ++ flat_map spec.loose_line (loose_rows rows sub.now source.now channel.now))) }
+    ensures text { IfSome (K.store keeper.new).rows (λ rows. OnOk result (text.new ≡ text.old ++ flat_map spec.loose_line (held.loose_rows rows sub.now source.now channel.now))) }
     ensures reads { access.Reads AreFormed (access.fails result) (K.store keeper.old) (K.store keeper.new) }
 {
-    let loose = rows_behind(keeper, loose_key(sub, source, channel, 0)?, Depth::Channel)?;
+    let loose = loose_rows(keeper, sub, source, channel)?;
     push_loose_lines(text, loose.as_slice())?;
     Ok(())
+}
+
+fn loose_rows<K: Keeper>(
+    keeper: &mut K,
+    sub: &Text,
+    source: &Text,
+    channel: &Text,
+) -> Result<List<Row>, StoreFault>
+    requires { access.IsReady (K.store keeper.old) }
+    ensures rows { IfSome (K.store keeper.new).rows (λ rows. IfOk result (λ loose. loose ≡ held.loose_rows rows sub.now source.now channel.now)) }
+    ensures reads { access.Reads AreFormed (access.fails result) (K.store keeper.old) (K.store keeper.new) }
+{
+    let start = loose_key(sub, source, channel, 0)?;
+    formed_section(keeper, &start, Depth::Channel)
 }
 
 fn push_loose_lines(text: &mut Text, rows: &[Row]) -> Result<(), AllocError>
@@ -338,12 +360,28 @@ fn runs_behind<K: Keeper>(keeper: &mut K, after: Key, spans: Spans) -> Result<Te
 {
     let mut writer = RunWriter::new(after.sub.alloc());
     let mut after = after;
+    add_behind(&mut writer, keeper, &mut after, spans)?;
+    Ok(writer.finish()?)
+}
+
+/// Adds the rows of a channel behind a key, page by page. The key moves on to the last of them.
+fn add_behind<K: Keeper>(
+    writer: &mut RunWriter,
+    keeper: &mut K,
+    after: &mut Key,
+    spans: Spans,
+) -> Result<(), StoreFault>
+    requires { access.IsReady (K.store keeper.old) }
+    ensures text { IfSome (K.store keeper.new).rows (λ rows. OnOk result (writer.new.text ++ runs_text (runs_from writer.new.running [])
+        ≡ writer.old.text ++ runs_text (runs_from writer.old.running (map (spec.span_of spans) (rows_under Depth.Channel after.old rows))))) }
+    ensures reads { access.Reads AreFormed (access.fails result) (K.store keeper.old) (K.store keeper.new) }
+{
     loop {
-        let page = formed_page(keeper, &after, Depth::Channel, PAGE)?;
-        add_page(&mut writer, page.as_slice(), spans)?;
+        let page = formed_page(keeper, after, Depth::Channel, PAGE)?;
+        add_page(writer, page.as_slice(), spans)?;
         let is_last = page.len() < PAGE as usize;
         if is_last {
-            return Ok(writer.finish()?);
+            return Ok(());
         }
         after.number = last_number(after.number, page.as_slice());
     }

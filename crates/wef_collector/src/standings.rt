@@ -6,6 +6,7 @@ ghost use Rattle.wef_keeper.specs.Access as access;
 ghost use Rattle.wef_collector.specs.Answers as answers;
 ghost use Rattle.wef_collector.specs.Faults.{fails};
 ghost use Rattle.wef_collector.specs.Forms.{AreFormed};
+ghost use Rattle.wef_collector.specs.Keys.{subscription_key};
 ghost use Rattle.wef_collector.specs.Standing as spec;
 
 use crate::faults::CollectorFault;
@@ -60,9 +61,18 @@ pub fn standing_in<K: Keeper>(keeper: &mut K, sub: &SubId) -> Result<Standing, S
     ensures standing { IfSome (K.store keeper.new).rows (λ rows. IfOk result (λ s. s ≡ spec.standing rows sub.now)) }
     ensures reads { access.Reads AreFormed (access.fails result) (K.store keeper.old) (K.store keeper.new) }
 {
-    let key = subscription_key(sub)?;
-    let cell = formed_cell(keeper, &key)?;
+    let cell = subscription_cell(keeper, sub)?;
     Ok(standing_of(sub, cell)?)
+}
+
+/// What stands at a subscription's key, where a row does.
+pub fn subscription_cell<K: Keeper>(keeper: &mut K, sub: &SubId) -> Result<Option<Cell>, StoreFault>
+    requires { access.IsReady (K.store keeper.old) }
+    ensures cell { IfSome (K.store keeper.new).rows (λ rows. IfOk result (λ cell. cell ≡ map.get rows (subscription_key sub.now))) }
+    ensures reads { access.Reads AreFormed (access.fails result) (K.store keeper.old) (K.store keeper.new) }
+{
+    let key = subscription_key(sub)?;
+    formed_cell(keeper, &key)
 }
 
 fn standing_of(sub: &SubId, cell: Option<Cell>) -> Result<Standing, AllocError>

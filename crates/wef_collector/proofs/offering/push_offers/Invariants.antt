@@ -1,0 +1,11 @@
+use Rattle.std.proofs.Common.{◌≡◌, ◌++◌, drop, IfSome}
+use Rattle.std.specs.List.{filter_map}
+use Rattle.wef_keeper.specs.Access.{HasRead}
+use Rattle.wef_collector.specs.Offers.{offer_of}
+use Rattle.wef_collector.proofs.offering.push_offers.Given as goal
+
+abbrev pub invariant-loop-listed : goal.invariant-loop-listed
+invariant-loop-listed g l = record {
+  read : HasRead (g.K.Keeper.store l.fn.keeper) (g.K.Keeper.store l.keeper);
+  rest : IfSome (g.K.Keeper.store l.keeper).rows (λ rows. l.offers ++ filter_map (offer_of rows l.source l.host) (drop l.listed-index l.subscriptions) ≡ l.fn.offers ++ filter_map (offer_of rows l.source l.host) l.subscriptions);
+}
