@@ -17,10 +17,9 @@ use Rattle.wef_collector.specs.Keys.{subscription_key}
 use Rattle.wef_collector.specs.Standing.{is_full, standing, standing_by, standing_of}
 use Rattle.wef_eventing.specs.declared.subscriptions.Subscription.{Subscription}
 use Rattle.wef_collector.specs.Answers.{channels_read, is_there}
-use Rattle.wef_collector.specs.Calls.{add_effect, take_by, take_effect}
+use Rattle.wef_collector.specs.Calls.{add_effect, take_by}
 use Rattle.wef_collector.specs.Taken.{batch_changes, put}
 use Rattle.wef_collector.specs.declared.faults.CollectorFault.TheVariants.{Exists, NotWellFormed, TooMany}
-use Rattle.wef_collector.specs.declared.standings.Standing.{Standing}
 use Rattle.wef_collector.specs.declared.standings.Standing.TheVariants.{Live}
 
 same_key : (k : Key) → eq_by_cmp key_cmp k k ≡ true
@@ -53,12 +52,10 @@ added_lives (Some found) (Some after) s changes follows made reads =
     let is = follows ∙ ap (λ (made : List Change). applied made found) (one_put found s changes made) in
     λ all. ap (λ (rows : Rows). standing rows s.name) is ∙ put_lives found s (kept_words s) (reads all)
 
--- what taking a batch does, by how it is judged for a live subscription
-pub takes_ill : (rows : Rows) (u source : List ℕ) (s : Subscription) (batch : Batch) (now : ℕ) → standing rows u ≡ Live s → is_well_formed (channels_read s) batch ≡ false → take_effect rows u source batch now ≡ Err NotWellFormed
-takes_ill rows u source s batch now live ill =
-    ap (λ (found : Standing). take_by found rows u source batch now) live ∙ ap (λ (well : Bool). if well then Ok (batch_changes rows u source (channels_read s) batch now) else Err NotWellFormed) ill
+-- what taking a batch does for a live subscription, by how it is judged
+pub takes_ill : (rows : Rows) (u source : List ℕ) (s : Subscription) (batch : Batch) (now : ℕ) → is_well_formed (channels_read s) batch ≡ false → take_by (Live s) rows u source batch now ≡ Err NotWellFormed
+takes_ill rows u source s batch now ill = ap (λ (well : Bool). if well then Ok (batch_changes rows u source (channels_read s) batch now) else Err NotWellFormed) ill
 
-pub takes_well : (rows : Rows) (u source : List ℕ) (s : Subscription) (batch : Batch) (now : ℕ) → standing rows u ≡ Live s → is_well_formed (channels_read s) batch ≡ true
-    → take_effect rows u source batch now ≡ Ok (batch_changes rows u source (channels_read s) batch now)
-takes_well rows u source s batch now live well =
-    ap (λ (found : Standing). take_by found rows u source batch now) live ∙ ap (λ (well : Bool). if well then Ok (batch_changes rows u source (channels_read s) batch now) else Err NotWellFormed) well
+pub takes_well : (rows : Rows) (u source : List ℕ) (s : Subscription) (batch : Batch) (now : ℕ) → is_well_formed (channels_read s) batch ≡ true
+    → take_by (Live s) rows u source batch now ≡ Ok (batch_changes rows u source (channels_read s) batch now)
+takes_well rows u source s batch now well = ap (λ (well : Bool). if well then Ok (batch_changes rows u source (channels_read s) batch now) else Err NotWellFormed) well

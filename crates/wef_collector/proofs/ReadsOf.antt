@@ -9,6 +9,11 @@ use Rattle.wef_keeper.specs.Rows.{Rows}
 use Rattle.wef_keeper.specs.declared.access.StoreFault.{StoreFault}
 use Rattle.wef_collector.specs.Forms.{AreFormed}
 
+-- a fact of all is one of what is told
+pub told_any : {X : Type 0} (told : Option X) (P : X → Type 0) → ((x : X) → P x) → IfSome told P
+told_any None P f = tt
+told_any (Some x) P f = f x
+
 -- two facts of what is told give a third
 pub told_both : {X : Type 0} (told : Option X) (P Q R : X → Type 0) → IfSome told P → IfSome told Q → ((x : X) → P x → Q x → R x) → IfSome told R
 told_both None P Q R p q f = tt

@@ -14,6 +14,7 @@ ghost use Rattle.wef_collector.specs.Forms.{AreFormed};
 ghost use Rattle.wef_collector.specs.Keys as keys;
 ghost use Rattle.wef_collector.specs.Standing as standings;
 ghost use Rattle.wef_collector.specs.Taken as taken;
+ghost use Rattle.wef_collector.specs.declared.standings.Standing.TheVariants.{Live};
 
 use crate::changes::batch_changes;
 use crate::faults::CollectorFault;
@@ -138,6 +139,24 @@ pub fn take_changes<K: Keeper>(
     ensures reads { access.Reads AreFormed (fails result) (K.store keeper.old) (K.store keeper.new) }
 {
     let subscription = live_in(keeper, sub)?;
+    live_changes(keeper, alloc, sub, source, &subscription, batch, now)
+}
+
+/// What a batch changes that is well-formed for the channels of a live subscription.
+fn live_changes<K: Keeper>(
+    keeper: &mut K,
+    alloc: Global,
+    sub: &SubId,
+    source: &SourceName,
+    subscription: &Subscription,
+    batch: &Batch,
+    now: u64,
+) -> Result<List<Change>, CollectorFault>
+    requires { access.IsReady (K.store keeper.old) }
+    ensures effect { IfSome (K.store keeper.new).rows (λ rows. calls.Tells result (calls.take_by (Live subscription.now) rows sub.now source.now batch.now now)) }
+    ensures listed { IfErr result calls.OfTake }
+    ensures reads { access.Reads AreFormed (fails result) (K.store keeper.old) (K.store keeper.new) }
+{
     let channels = channels(alloc, &subscription.query)?;
     if !judge(batch, channels.as_slice()) {
         return Err(CollectorFault::NotWellFormed);
