@@ -235,12 +235,7 @@ fn push_heard_changes<K: Keeper>(
     if !is_later(keeper, &key, now)? {
         return Ok(());
     }
-    Ok(push_put(
-        changes,
-        key,
-        now,
-        Text::new(sub.as_text().alloc()),
-    )?)
+    Ok(push_put(changes, key, now, Text::new(sub.as_text().alloc()))?)
 }
 
 /// Whether a moment is later than the one that stands at a key, if one does.

@@ -99,11 +99,7 @@ pub fn end_changes<K: Keeper>(
 }
 
 /// The change that ends the subscription of a key. Its words stay.
-fn put_ended<K: Keeper>(
-    keeper: &mut K,
-    alloc: Global,
-    key: Key,
-) -> Result<List<Change>, StoreFault>
+fn put_ended<K: Keeper>(keeper: &mut K, alloc: Global, key: Key) -> Result<List<Change>, StoreFault>
     requires { access.IsReady (K.store keeper.old) }
     ensures changes { IfSome (K.store keeper.new).rows (λ rows. IfOk result (λ changes. changes ≡ taken.put key 1 (standings.kept_body (map.get rows key)) ∷ [])) }
     ensures reads { access.Reads AreFormed (access.fails result) (K.store keeper.old) (K.store keeper.new) }

@@ -36,10 +36,7 @@ pub fn list_subscriptions<K: Keeper>(
 }
 
 /// The rows of all subscriptions, in the order of their names.
-pub fn subscription_rows<K: Keeper>(
-    keeper: &mut K,
-    alloc: Global,
-) -> Result<List<Row>, StoreFault>
+pub fn subscription_rows<K: Keeper>(keeper: &mut K, alloc: Global) -> Result<List<Row>, StoreFault>
     requires { access.IsReady (K.store keeper.old) }
     ensures rows { IfSome (K.store keeper.new).rows (λ rows. IfOk result (λ found. found ≡ standings.subscription_rows rows)) }
     ensures reads { access.Reads AreFormed (access.fails result) (K.store keeper.old) (K.store keeper.new) }
