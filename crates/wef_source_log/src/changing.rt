@@ -12,7 +12,7 @@ ghost use Rattle.wef_source_log.specs.Windows as windows;
 
 use crate::faults::LogFault;
 use crate::keys::{boot_key, capacity_key, last_key, record_key};
-use crate::reading::{capacity_of, formed_row, last_of, number_at};
+use crate::reading::{boot_of, capacity_of, has_capacity, last_of};
 use std::alloc::{AllocError, Global};
 use wef_base::numbers::MAX;
 use wef_base::{ChannelName, List, Text};
@@ -58,13 +58,13 @@ fn prepared_start<K: Keeper>(
     ensures refusal { IfErr result answers.RefusesStart }
     ensures reads { access.Reads forms.AreFormed (fails result) (K.store keeper.old) (K.store keeper.new) }
 {
-    let boot = number_at(keeper, &boot_key(alloc))?;
+    let boot = boot_of(alloc, keeper)?;
     if boot >= MAX {
         return Err(LogFault::Full);
     }
-    let kept = formed_row(keeper, &capacity_key(alloc))?;
+    let is_kept = has_capacity(alloc, keeper)?;
     let number = boot + 1;
-    let changes = start_changes(alloc, kept.is_some(), capacity, number)?;
+    let changes = start_changes(alloc, is_kept, capacity, number)?;
     Ok(Prepared { changes, number })
 }
 

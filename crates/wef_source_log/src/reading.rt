@@ -8,11 +8,12 @@ ghost use Rattle.wef_keeper.specs.Keeping.{row_at};
 ghost use Rattle.wef_source_log.specs.Answers as answers;
 ghost use Rattle.wef_source_log.specs.Calls.{fails};
 ghost use Rattle.wef_source_log.specs.Forms as forms;
+ghost use Rattle.wef_source_log.specs.Keys as keys;
 ghost use Rattle.wef_source_log.specs.Windows as windows;
 
 use crate::faults::LogFault;
 use crate::forms::{event_of, is_formed};
-use crate::keys::{capacity_key, last_key, record_key};
+use crate::keys::{boot_key, capacity_key, last_key, record_key};
 use std::alloc::{AllocError, Global};
 use wef_base::numbers::MAX;
 use wef_base::{ChannelName, List};
@@ -86,6 +87,39 @@ pub fn capacity_of<K: Keeper>(keeper: &mut K, channel: &ChannelName) -> Result<u
     number_at(keeper, &key)
 }
 
+/// Whether the capacity is kept.
+pub fn has_capacity<K: Keeper>(alloc: Global, keeper: &mut K) -> Result<bool, LogFault>
+    requires { access.IsReady (K.store keeper.old) }
+    ensures kept { IfSome (K.store keeper.new).rows (λ rows. IfOk result (λ kept. kept ≡ is_some (row_at keys.capacity_key rows))) }
+    ensures refusal { IfErr result answers.RefusesRead }
+    ensures reads { access.Reads forms.AreFormed (fails result) (K.store keeper.old) (K.store keeper.new) }
+{
+    let key = capacity_key(alloc);
+    is_kept(keeper, &key)
+}
+
+/// Whether a row stands at a key.
+fn is_kept<K: Keeper>(keeper: &mut K, key: &Key) -> Result<bool, LogFault>
+    requires { access.IsReady (K.store keeper.old) }
+    ensures kept { IfSome (K.store keeper.new).rows (λ rows. IfOk result (λ kept. kept ≡ is_some (row_at key.now rows))) }
+    ensures refusal { IfErr result answers.RefusesRead }
+    ensures reads { access.Reads forms.AreFormed (fails result) (K.store keeper.old) (K.store keeper.new) }
+{
+    Ok(formed_row(keeper, key)?.is_some())
+}
+
+/// How often the source was started.
+pub fn boot_of<K: Keeper>(alloc: Global, keeper: &mut K) -> Result<u64, LogFault>
+    requires { access.IsReady (K.store keeper.old) }
+    ensures number { IfSome (K.store keeper.new).rows (λ rows. IfOk result (λ number. number ≡ windows.boot_of rows)) }
+    ensures within { IfOk result (λ number. number ≤ 9223372036854775807) }
+    ensures refusal { IfErr result answers.RefusesRead }
+    ensures reads { access.Reads forms.AreFormed (fails result) (K.store keeper.old) (K.store keeper.new) }
+{
+    let key = boot_key(alloc);
+    number_at(keeper, &key)
+}
+
 /// The first number of a channel's window: 1 where nothing was written.
 pub fn first_of<K: Keeper>(keeper: &mut K, channel: &ChannelName) -> Result<u64, LogFault>
     requires { access.IsReady (K.store keeper.old) }
@@ -125,8 +159,10 @@ pub fn page_of<K: Keeper>(
     ensures refusal { IfErr result answers.RefusesRead }
     ensures reads { access.Reads forms.AreFormed (fails result) (K.store keeper.old) (K.store keeper.new) }
 {
-    let start = record_key(channel, after)?;
-    let rows = access::section_page(keeper, &start, Depth::Channel, max)?;
+    let rows = {
+        let start = record_key(channel, after)?;
+        access::section_page(keeper, &start, Depth::Channel, max)?
+    };
     match events_of(channel.as_text().alloc(), rows.as_slice())? {
         Some(events) => Ok(events),
         None => Err(LogFault::Failed),

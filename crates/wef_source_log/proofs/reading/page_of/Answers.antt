@@ -11,7 +11,7 @@ use Rattle.wef_source_log.proofs.ReadsOf.{ill_formed}
 use Rattle.wef_source_log.proofs.reading.page_of.Goals as goal
 
 -- the events are those of the channel's rows
-events_are : (g : _) (c : goal.After-drop-start-in-Some-3 g) → c.in-Some.events ≡ map (event_of_row c.args.channel.now) c.in_ok-rows.rows
+events_are : (g : _) (c : goal.After-drop-rows-inside-in-Some g) → c.in-Some.events ≡ map (event_of_row c.args.channel.now) c.in_ok-rows.rows
 events_are g c =
     subst (λ (found : Option (List Event)). IfSome found (λ events. events ≡ map (λ (row : Row). event_of_row row.key.channel row) c.as_slice.result.now)) c.in-Some.is c.in_ok-events.ensures.value
     ∙ ap (map (λ (row : Row). event_of_row row.key.channel row)) c.as_slice.ensures
