@@ -9,13 +9,13 @@ ghost use Rattle.wef_source.specs.Serving.{AreKept, IsCovered};
 ghost use Rattle.wef_source.specs.Sessions as spec;
 
 use crate::faults::SourceFault;
-use crate::sessions::{Session, copied};
+use crate::sessions::{Session, copied_address};
 use std::alloc::{AllocError, Global};
 use std::cmp::Ordering;
 use wef_base::{ChannelName, List, SubId};
 use wef_bookmark::Bookmark;
 use wef_eventing::{Offer, Subscribe, subscription_in};
-use wef_query::channels;
+use wef_query::{QueryList, channels};
 
 /// The sessions of offers, begun at a moment, in the order of their names.
 pub fn sessions_of(
@@ -66,18 +66,30 @@ fn session_from(
     ensures ok { IfOk result (λ session. session ≡ spec.session_from now subscribe.now name) }
     ensures refusal { IfErr result WantsMemory }
 {
+    let (notify_to, identifier) = copied_address(&subscribe.notify_to, &subscribe.identifier)?;
+    let (query, positions) = starting(alloc, subscribe)?;
     Ok(Session {
         name,
-        notify_to: subscribe.notify_to.clone()?,
-        identifier: copied(&subscribe.identifier)?,
-        query: subscribe.query.clone(alloc)?,
+        notify_to,
+        identifier,
+        query,
         max_items: subscribe.max_items,
         max_bytes: subscribe.max_bytes,
         heartbeat: subscribe.heartbeat,
-        positions: starting_positions(alloc, subscribe)?,
+        positions,
         outstanding: None,
         last_sent: now,
     })
+}
+
+/// What a subscription reads, and where it begins.
+fn starting(alloc: Global, subscribe: &Subscribe) -> Result<(QueryList, Bookmark), SourceFault>
+    ensures query { IfOk result (λ starting. starting.0 ≡ subscribe.now.query) }
+    ensures positions { IfOk result (λ starting. starting.1 ≡ spec.with_channels subscribe.now.from (channels_of subscribe.now.query.items)) }
+    ensures refusal { IfErr result WantsMemory }
+{
+    let query = subscribe.query.clone(alloc)?;
+    Ok((query, starting_positions(alloc, subscribe)?))
 }
 
 /// Where a subscription begins: each channel of its query has an entry.

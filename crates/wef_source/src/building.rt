@@ -1,6 +1,6 @@
 //! The batch that a session sends.
 
-ghost use Rattle.std.specs.Prelude.{◌≡◌, IfOk, IfErr, IfSome, OnOk};
+ghost use Rattle.std.specs.Prelude.{◌≡◌, true, IfOk, IfErr, IfSome, OnOk};
 ghost use Rattle.std.specs.FinMap as map;
 ghost use Rattle.std.specs.Option.{option_to_list};
 ghost use Rattle.wef_keeper.specs.Access as access;
@@ -36,33 +36,58 @@ pub fn built<K: Keeper>(
     ensures reads { access.Reads AreFormed (fails result) (K.store log.old.keeper) (K.store log.new.keeper) }
 {
     let channels = channels(alloc, &session.query)?;
-    let draft = drafted(alloc, log, session, channels.as_slice())?;
-    let to = reached(alloc, log, session, channels.as_slice(), &draft.left)?;
-    Ok(Batch {
-        items: draft.items,
-        to,
-        ack_wanted: true,
-    })
+    built_from(alloc, log, session, channels.as_slice())
 }
 
-/// What is to be said of channels, one after the other, while it fits.
-fn drafted<K: Keeper>(
+/// As `built`, from the channels of the session's query.
+fn built_from<K: Keeper>(
     alloc: Global,
     log: &mut Log<K>,
     session: &Session,
     channels: &[ChannelName],
-) -> Result<Draft, SourceFault>
-    requires { access.IsReady (K.store log.old.keeper) }
-    ensures ok { IfSome (K.store log.new.keeper).rows (λ rows. IfOk result (λ draft. draft
-        ≡ drafting.taken_all (drafting.empty_draft session.now.max_items (spec.room_of session.now.max_bytes)) (spec.candidates_in rows session.now channels.now))) }
+) -> Result<Batch, SourceFault>
+    requires channels { channels.now ≡ spec.session_channels session.now }
+    requires covered { IsCovered session.now }
+    requires ready { access.IsReady (K.store log.old.keeper) }
+    ensures ok { IfSome (K.store log.new.keeper).rows (λ rows. IfOk result (λ batch. batch ≡ spec.built rows session.now)) }
+    ensures covered { IfOk result (λ batch. HasAll session.now.positions batch.to) }
     ensures refusal { IfErr result RefusesRead }
     ensures reads { access.Reads AreFormed (fails result) (K.store log.old.keeper) (K.store log.new.keeper) }
 {
     let mut draft = Draft::new(alloc, session.max_items, room_of(session));
-    for channel in channels {
-        draft.take_channel(log, session, channel)?;
+    let to = filled(alloc, log, session, channels, &mut draft)?;
+    Ok(batch_of(draft, to))
+}
+
+fn batch_of(draft: Draft, to: Bookmark) -> Batch
+    ensures { result ≡ record { items = draft.items; to = to; ack_wanted = true } }
+{
+    Batch {
+        items: draft.items,
+        to,
+        ack_wanted: true,
     }
-    Ok(draft)
+}
+
+/// Takes what is to be said of channels while it fits, and answers how far they are read then.
+fn filled<K: Keeper>(
+    alloc: Global,
+    log: &mut Log<K>,
+    session: &Session,
+    channels: &[ChannelName],
+    draft: &mut Draft,
+) -> Result<Bookmark, SourceFault>
+    requires covered { HasEach session.now.positions channels.now }
+    requires ready { access.IsReady (K.store log.old.keeper) }
+    ensures draft { IfSome (K.store log.new.keeper).rows (λ rows. OnOk result (draft.new ≡ drafting.taken_all draft.old (spec.candidates_in rows session.now channels.now))) }
+    ensures to { IfSome (K.store log.new.keeper).rows (λ rows. IfOk result (λ to. to
+        ≡ spec.with_reaches session.now.positions map.empty (spec.reaches rows channels.now (option_to_list draft.new.left)))) }
+    ensures covered { IfOk result (HasAll session.now.positions) }
+    ensures refusal { IfErr result RefusesRead }
+    ensures reads { access.Reads AreFormed (fails result) (K.store log.old.keeper) (K.store log.new.keeper) }
+{
+    draft.take_channels(log, session, channels)?;
+    reached(alloc, log, session, channels, &draft.left)
 }
 
 /// How far channels are read above a session's positions, where an item is left.

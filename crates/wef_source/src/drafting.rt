@@ -1,6 +1,6 @@
 //! Drafts of batches: candidates are offered one after the other, and taken while they fit.
 
-ghost use Rattle.std.specs.Prelude.{◌≡◌, ◌∷◌, [], is_some, IfErr, IfSome, OnOk};
+ghost use Rattle.std.specs.Prelude.{◌≡◌, ◌∷◌, [], is_some, Some, None, IfErr, IfSome, OnOk};
 ghost use Rattle.std.specs.List.{filter_map};
 ghost use Rattle.wef_keeper.specs.Access as access;
 ghost use Rattle.wef_source_log.specs.Forms.{AreFormed};
@@ -62,20 +62,52 @@ impl Draft {
         if self.left.is_some() {
             return Ok(());
         }
+        self.take_next(item)
+    }
+
+    /// Takes an item where it fits, and all before it did.
+    fn take_next(&mut self, item: Item) -> Result<(), AllocError>
+        requires { self.old.left ≡ None }
+        ensures { OnOk result (self.new ≡ spec.taken self.old item) }
+    {
         let bytes = cost(&item);
         if self.items_left == 0 || bytes > self.bytes_left {
-            self.left = Some(item);
+            self.leave(item);
             return Ok(());
         }
-        self.items.push(item)?;
         self.items_left -= 1;
         self.bytes_left -= bytes;
+        self.items.push(item)
+    }
+
+    /// Leaves the first item that doesn't fit.
+    fn leave(&mut self, item: Item)
+        ensures { self.new ≡ record self.old { left = Some item } }
+    {
+        self.left = Some(item);
+    }
+
+    /// Takes what is to be said of channels, one after the other, while it fits.
+    pub fn take_channels<K: Keeper>(
+        &mut self,
+        log: &mut Log<K>,
+        session: &Session,
+        channels: &[ChannelName],
+    ) -> Result<(), SourceFault>
+        requires { access.IsReady (K.store log.old.keeper) }
+        ensures ok { IfSome (K.store log.new.keeper).rows (λ rows. OnOk result (self.new ≡ spec.taken_all self.old (building.candidates_in rows session.now channels.now))) }
+        ensures refusal { IfErr result RefusesRead }
+        ensures reads { access.Reads AreFormed (fails result) (K.store log.old.keeper) (K.store log.new.keeper) }
+    {
+        for channel in channels {
+            self.take_channel(log, session, channel)?;
+        }
         Ok(())
     }
 
     /// Takes what is to be said of a channel above a position, while it fits. The log is read page by
     /// page, and no further than what is taken goes.
-    pub fn take_channel<K: Keeper>(
+    fn take_channel<K: Keeper>(
         &mut self,
         log: &mut Log<K>,
         session: &Session,

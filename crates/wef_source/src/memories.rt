@@ -1,6 +1,6 @@
 //! What a source remembers while it runs. It is lost where the source ends.
 
-ghost use Rattle.std.specs.Prelude.{◌≡◌, [], false, true, is_some, IfOk, IfErr, IfSome, OnOk, OnErr};
+ghost use Rattle.std.specs.Prelude.{◌≡◌, [], false, true, is_some, Some, IfOk, IfErr, IfSome, OnOk, OnErr};
 ghost use Rattle.wef_envelope.specs.Ids.{ids_agree};
 ghost use Rattle.wef_keeper.specs.Access as access;
 ghost use Rattle.wef_query.specs.Order.{IsInOrder};
@@ -17,10 +17,12 @@ use crate::building::built;
 use crate::faults::SourceFault;
 use crate::messages::{Delivery, Moved, Poll, Reply};
 use crate::serving::{move_waiting, place_of_name, refuse_waiting, send, settle_named};
-use crate::sessions::{Outstanding, Session, copied};
+use crate::sessions::{Outstanding, Session, copied_address};
 use std::alloc::{AllocError, Global};
 use std::marker::Model;
 use wef_base::{List, SubId, Text};
+use wef_batch::Batch;
+use wef_bookmark::Bookmark;
 use wef_envelope::{FaultName, MessageId};
 use wef_eventing::Offer;
 use wef_keeper::Keeper;
@@ -241,18 +243,44 @@ impl Memory {
         if batch.items.is_empty() {
             return Ok(None);
         }
+        let prepared = self.delivered(session, batch)?;
+        Ok(Some(prepared))
+    }
+
+    /// The delivery of a batch to a session, and what its answer will be awaited by.
+    fn delivered(
+        &self,
+        session: &Session,
+        batch: Batch,
+    ) -> Result<(Delivery, Outstanding), SourceFault>
+        ensures delivery { IfOk result (λ prepared. prepared.0 ≡ record {
+          id = record { value = Some (machine.next_id self.now); text = [] };
+          notify_to = session.now.notify_to;
+          identifier = session.now.identifier;
+          batch = batch;
+        }) }
+        ensures awaited { IfOk result (λ prepared. prepared.1 ≡ record { id = machine.next_id self.now; to = batch.to }) }
+        ensures left { IfOk result (λ prepared. machine.is_spent self.now ≡ false) }
+        ensures refusal { IfErr result (MayRefuseToPrepare self.now) }
+        ensures unread { fails result ≡ false }
+    {
+        let outstanding = self.awaited(&batch.to)?;
+        let delivery = addressed(self.alloc, session, outstanding.id, batch)?;
+        Ok((delivery, outstanding))
+    }
+
+    /// What the answer to the next delivery will be awaited by.
+    fn awaited(&self, to: &Bookmark) -> Result<Outstanding, SourceFault>
+        ensures ok { IfOk result (λ outstanding. outstanding ≡ record { id = machine.next_id self.now; to = to.now }) }
+        ensures left { IfOk result (λ outstanding. machine.is_spent self.now ≡ false) }
+        ensures refusal { IfErr result (MayRefuseToPrepare self.now) }
+        ensures unread { fails result ≡ false }
+    {
         let id = self.next_id()?;
-        let outstanding = Outstanding {
+        Ok(Outstanding {
             id,
-            to: batch.to.clone()?,
-        };
-        let delivery = Delivery {
-            id: message_id(self.alloc, id),
-            notify_to: session.notify_to.clone()?,
-            identifier: copied(&session.identifier)?,
-            batch,
-        };
-        Ok(Some((delivery, outstanding)))
+            to: to.clone()?,
+        })
     }
 
     /// The value of the next id. It isn't drawn yet.
@@ -285,6 +313,29 @@ fn message_id(alloc: Global, id: u128) -> MessageId
         value: Some(id),
         text: Text::new(alloc),
     }
+}
+
+/// The delivery of a batch to a session, under an id.
+fn addressed(
+    alloc: Global,
+    session: &Session,
+    id: u128,
+    batch: Batch,
+) -> Result<Delivery, AllocError>
+    ensures { IfOk result (λ delivery. delivery ≡ record {
+      id = record { value = Some id; text = [] };
+      notify_to = session.now.notify_to;
+      identifier = session.now.identifier;
+      batch = batch;
+    }) }
+{
+    let (notify_to, identifier) = copied_address(&session.notify_to, &session.identifier)?;
+    Ok(Delivery {
+        id: message_id(alloc, id),
+        notify_to,
+        identifier,
+        batch,
+    })
 }
 
 fn names_of(alloc: Global, sessions: &[Session]) -> Result<List<SubId>, AllocError>

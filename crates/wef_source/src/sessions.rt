@@ -55,8 +55,19 @@ impl Drop for Session {
     }
 }
 
+/// Copies of where batches go, and of the identifier.
+pub(crate) fn copied_address(
+    notify_to: &Text,
+    identifier: &Option<Text>,
+) -> Result<(Text, Option<Text>), AllocError>
+    ensures { IfOk result (λ copies. copies ≡ (notify_to.now, identifier.now)) }
+{
+    let notify_to = notify_to.clone()?;
+    Ok((notify_to, copied(identifier)?))
+}
+
 /// A copy of a text, where there is one.
-pub(crate) fn copied(text: &Option<Text>) -> Result<Option<Text>, AllocError>
+fn copied(text: &Option<Text>) -> Result<Option<Text>, AllocError>
     ensures { IfOk result (λ copy. copy ≡ text.now) }
 {
     match text {

@@ -1,10 +1,10 @@
 use Rattle.std.proofs.Common.{◌≡◌, suc, ◌+◌, ◌∷◌, ◌<◌, ◌∙◌, add-one, ap, drop, drop-cons, length, sym, arith}
 use Rattle.wef_keeper.specs.Rows.{Rows}
-use Rattle.wef_source.specs.Building.{candidates_in, channel_candidates, room_of}
-use Rattle.wef_source.specs.Drafting.{empty_draft, taken_all}
+use Rattle.wef_source.specs.Building.{candidates_in, channel_candidates}
+use Rattle.wef_source.specs.Drafting.{taken_all}
 use Rattle.wef_source.proofs.Drafts.{channel_taken}
 use Rattle.wef_source.proofs.Told.{read_twice, told_since}
-use Rattle.wef_source.proofs.building.drafted.Goals as goal
+use Rattle.wef_source.proofs.drafting.Draft.take_channels.Goals as goal
 
 pub loop-channel-preserved : goal.loop-channel-preserved
 loop-channel-preserved g c =
@@ -18,15 +18,16 @@ loop-channel-preserved g c =
     let start = g.K.Keeper.store c.args.log.now.keeper in
     let mid = g.K.Keeper.store c.loop-channel.log.keeper in
     let now = g.K.Keeper.store c.take_channel.new.log.keeper in
-    let draft = c.loop-channel.draft in
+    let before = c.args.self.now in
+    let draft = c.loop-channel.self in
     let next = c.take_channel.new.self in
     record {
       read = read_twice start mid now c.loop-channel.invariant.read c.in_ok-take_channel.ensures.reads.0;
       rest = told_since
-          (λ (rows : Rows). taken_all draft (candidates_in rows session (drop index all)) ≡ taken_all (empty_draft session.max_items (room_of session.max_bytes)) (candidates_in rows session all))
+          (λ (rows : Rows). taken_all draft (candidates_in rows session (drop index all)) ≡ taken_all before (candidates_in rows session all))
           (λ (rows : Rows). next ≡ taken_all draft (channel_candidates rows session c.channel-item.result))
-          (λ (rows : Rows). taken_all next (candidates_in rows session (drop (index + 1) all)) ≡ taken_all (empty_draft session.max_items (room_of session.max_bytes)) (candidates_in rows session all))
+          (λ (rows : Rows). taken_all next (candidates_in rows session (drop (index + 1) all)) ≡ taken_all before (candidates_in rows session all))
           mid.rows now.rows c.in_ok-take_channel.ensures.reads.0.1
-          (λ rows before took. channel_taken rows session draft next c.channel-item.result (drop (index + 1) all) (drop index all) took parts ∙ before)
+          (λ rows kept took. channel_taken rows session draft next c.channel-item.result (drop (index + 1) all) (drop index all) took parts ∙ kept)
           c.loop-channel.invariant.rest c.in_ok-take_channel.ensures.ok;
     }
