@@ -1,6 +1,6 @@
 //! How the log's rows are read in a store that is ready. Each row that is read is tested.
 
-ghost use Rattle.std.specs.Prelude.{◌≡◌, ◌<◌, ◌≤◌, ◌++◌, true, take, map, is_some, IfOk, IfErr, IfSome};
+ghost use Rattle.std.specs.Prelude.{◌≡◌, ◌<◌, ◌≤◌, ◌++◌, false, true, take, map, is_some, IfOk, IfErr, IfSome};
 ghost use Rattle.std.specs.List.{AllByRecursion, list_all};
 ghost use Rattle.wef_event.specs.Events as the_event;
 ghost use Rattle.wef_keeper.specs.Access as access;
@@ -29,6 +29,16 @@ pub fn formed_row<K: Keeper>(keeper: &mut K, key: &Key) -> Result<Option<Row>, L
     ensures reads { access.Reads forms.AreFormed (fails result) (K.store keeper.old) (K.store keeper.new) }
 {
     let found = access::row(keeper, key)?;
+    whole(found)
+}
+
+/// A row, or none. `Failed` where there is one that isn't of its form.
+fn whole(found: Option<Row>) -> Result<Option<Row>, LogFault>
+    ensures row { IfOk result (λ row. row ≡ found) }
+    ensures formed { IfOk result (λ row. forms.is_whole row ≡ true) }
+    ensures failed { fails result ≡ true → forms.is_whole found ≡ false }
+    ensures refusal { IfErr result answers.RefusesRead }
+{
     if !is_whole(&found)? {
         return Err(LogFault::Failed);
     }
