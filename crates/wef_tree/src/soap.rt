@@ -1,6 +1,6 @@
 //! The prefixes that a root in the namespace of SOAP declares.
 
-ghost use Rattle.std.specs.Prelude.{◌≡◌, [], None, IfOk, if◌then◌else◌};
+ghost use Rattle.std.specs.Prelude.{◌≡◌, [], map, None, IfOk, if◌then◌else◌};
 ghost use Rattle.std.specs.Option.{option_copied};
 ghost use Rattle.wef_tree.specs.Prefixes.{is_soap, nine, prefix_of, root_bindings};
 
@@ -12,7 +12,7 @@ use wef_base::{List, Namespace, Text};
 const SOAP_SPACE: &str = "http://www.w3.org/2003/05/soap-envelope";
 
 /// The nine prefixes and their namespaces, in the order in which the root declares them.
-const NINE: [(&str, &str); 9] = [
+const NINE: &[(&str, &str)] = &[
     ("s", SOAP_SPACE),
     ("a", "http://schemas.xmlsoap.org/ws/2004/08/addressing"),
     ("e", "http://schemas.xmlsoap.org/ws/2004/08/eventing"),
@@ -84,11 +84,19 @@ pub fn root_bindings(alloc: Global, space: &Namespace) -> Result<List<Binding>, 
     Ok(List::new(alloc))
 }
 
+#[tactic(auto, unfolding(crate::specs::Prefixes::nine, crate::specs::Prefixes::soap_space))]
 fn nine(alloc: Global) -> Result<List<Binding>, AllocError>
     ensures { IfOk result (λ bindings. bindings ≡ nine) }
 {
+    bindings_of(alloc, NINE)
+}
+
+/// A binding for each row, of its prefix and its namespace.
+fn bindings_of(alloc: Global, rows: &[(&str, &str)]) -> Result<List<Binding>, AllocError>
+    ensures { IfOk result (λ bindings. bindings ≡ map (λ row. record { prefix = row.0.now; space = row.1.now }) rows.now) }
+{
     let mut bindings = List::new(alloc);
-    for (prefix, space) in NINE {
+    for (prefix, space) in rows {
         bindings.push(binding(alloc, prefix, space)?)?;
     }
     Ok(bindings)
