@@ -93,12 +93,26 @@ fn few_attributes(
 {
     let mut attributes = List::new(alloc);
     for one in given.into_vec() {
-        if declared_prefix(&one.name).is_none() {
-            let space = attribute_space(alloc, own, around, &one.name.prefix)?;
-            add_one_of_few(&mut attributes, one, space)?;
-        }
+        take_one_of_few(alloc, own, around, &mut attributes, one)?;
     }
     Ok(without_digests(alloc, attributes)?)
+}
+
+/// Adds an attribute, unless it is a declaration.
+fn take_one_of_few(
+    alloc: Global,
+    own: &Declarations,
+    around: &Stack,
+    attributes: &mut List<Resolved>,
+    given: Given,
+) -> Result<(), Halt>
+    ensures { Takes result (attribute_one own.now around.now attributes.old given) attributes.new }
+{
+    if declared_prefix(&given.name).is_some() {
+        return Ok(());
+    }
+    let space = attribute_space(alloc, own, around, &given.name.prefix)?;
+    add_one_of_few(attributes, given, space)
 }
 
 fn add_one_of_few(
@@ -138,12 +152,29 @@ fn many_attributes(
     let mut attributes = List::new(alloc);
     let mut names = BTreeSet::new(alloc);
     for one in given.into_vec() {
-        if declared_prefix(&one.name).is_none() {
-            let space = attribute_space(alloc, own, around, &one.name.prefix)?;
-            add_one_of_many(&mut attributes, &mut names, one, space)?;
-        }
+        take_one_of_many(alloc, own, around, &mut attributes, &mut names, one)?;
     }
     Ok(attributes)
+}
+
+/// Adds an attribute, unless it is a declaration.
+fn take_one_of_many(
+    alloc: Global,
+    own: &Declarations,
+    around: &Stack,
+    attributes: &mut List<Attribute>,
+    names: &mut BTreeSet<(Text, Digested)>,
+    given: Given,
+) -> Result<(), Halt>
+    requires { HasNamesOf names.old attributes.old }
+    ensures takes { Takes result (attribute_one own.now around.now attributes.old given) attributes.new }
+    ensures names { OnOk result (HasNamesOf names.new attributes.new) }
+{
+    if declared_prefix(&given.name).is_some() {
+        return Ok(());
+    }
+    let space = attribute_space(alloc, own, around, &given.name.prefix)?;
+    add_one_of_many(attributes, names, given, space)
 }
 
 fn add_one_of_many(
