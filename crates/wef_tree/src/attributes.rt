@@ -1,6 +1,6 @@
 //! The attributes of a tag.
 
-ghost use Rattle.std.specs.Prelude.{◌≡◌, ℕ, [], List, true, not, IfOk, OnOk, if◌then◌else◌};
+ghost use Rattle.std.specs.Prelude.{◌≡◌, ℕ, [], ◌∷◌, ◌++◌, List, true, not, IfOk, OnOk, if◌then◌else◌};
 ghost use Rattle.std.specs.BTreeSet.{contains};
 ghost use Rattle.std.specs.Ordering.{eq_by_cmp};
 ghost use Rattle.std.specs.List.{list_any};
@@ -190,8 +190,18 @@ fn add_one_of_many(
     if !add_name(names, &space, &given.name.local)? {
         return Err(Halt::Bad);
     }
-    attributes.push(Resolved::new(given, space).into_attribute())?;
+    push_attribute(attributes, given, space)?;
     Ok(())
+}
+
+fn push_attribute(
+    attributes: &mut List<Attribute>,
+    given: Given,
+    space: Digested,
+) -> Result<(), AllocError>
+    ensures { OnOk result (attributes.new ≡ attributes.old ++ record { space = space; name = given.name.local; value = given.value } ∷ []) }
+{
+    attributes.push(Resolved::new(given, space).into_attribute())
 }
 
 /// Adds an expanded name to others, and says whether it is a new one.
