@@ -1,6 +1,6 @@
 //! The prefixes of elements and attributes, and the bindings that an element makes for its attributes.
 
-ghost use Rattle.std.specs.Prelude.{◌≡◌, ◌+◌, [], ◌++◌, length, IfOk, OnOk};
+ghost use Rattle.std.specs.Prelude.{◌≡◌, ◌+◌, [], ◌∷◌, ◌++◌, length, IfOk, OnOk};
 ghost use Rattle.std.specs.List.{list_any};
 ghost use Rattle.std.specs.Option.{option_copied, option_to_list};
 ghost use Rattle.wef_base.specs.Names.{same};
@@ -139,13 +139,25 @@ fn bindings_from(
     let mut number = 1;
     for space in spaces {
         let free = next_free(alloc, taken, number)?;
-        bindings.push(Binding {
-            prefix: numbered_prefix(alloc, free)?,
-            space: space.clone()?,
-        })?;
+        push_numbered(&mut bindings, alloc, free, space)?;
         number = next_number(free)?;
     }
     Ok(bindings)
+}
+
+/// Adds the binding of a namespace to the prefix with this number.
+fn push_numbered(
+    bindings: &mut List<Binding>,
+    alloc: Global,
+    number: u64,
+    space: &Namespace,
+) -> Result<(), AllocError>
+    ensures { OnOk result (bindings.new ≡ bindings.old ++ record { prefix = numbered_prefix number; space = space.now } ∷ []) }
+{
+    bindings.push(Binding {
+        prefix: numbered_prefix(alloc, number)?,
+        space: space.clone()?,
+    })
 }
 
 /// The first number from this one on whose prefix isn't taken.
