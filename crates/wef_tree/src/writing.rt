@@ -4,7 +4,7 @@ ghost use Rattle.std.specs.Prelude.{◌≡◌, ◌++◌, [], ◌∷◌, length, 
 ghost use Rattle.wef_tree.specs.Canonical.{canonical, element_text, encoded, end_of, name_of, node_of, start_of};
 ghost use Rattle.wef_tree.specs.Good.{IsGoodTree};
 ghost use Rattle.wef_tree.specs.Markup.{default_declaration, scope_of};
-ghost use Rattle.wef_tree.specs.Prefixes.{element_prefix, inside, new_bindings, outermost};
+ghost use Rattle.wef_tree.specs.Prefixes.{element_prefix, inside, new_bindings, outermost, root_bindings};
 ghost use Rattle.wef_tree.specs.declared.faults.TreeFault.TheVariants.{NoMemory};
 
 use crate::bindings::{Binding, Bindings};
@@ -37,8 +37,7 @@ fn write_document(alloc: Global, root: &Element) -> Result<List<char>, AllocErro
     ensures { IfOk result (λ document. document ≡ canonical root.now) }
 {
     let mut writer = Writer::new(alloc, &root.space)?;
-    let first = root_bindings(alloc, &root.space)?;
-    writer.write_element(first.as_slice(), &no_space(alloc)?, root)?;
+    writer.write_root(root)?;
     let Writer { out, .. } = writer;
     Ok(out)
 }
@@ -65,6 +64,13 @@ impl Writer {
             root: RootPrefixes::new(alloc, space)?,
             bound,
         })
+    }
+
+    fn write_root(&mut self, root: &Element) -> Result<(), AllocError>
+        ensures { OnOk result (self.new ≡ record self.old { out = self.old.out ++ element_text (root_bindings root.now.space) (scope_of self.old []) root.now }) }
+    {
+        let first = root_bindings(self.alloc, &root.space)?;
+        self.write_element(first.as_slice(), &no_space(self.alloc)?, root)
     }
 
     /// Writes a node inside this default namespace.
