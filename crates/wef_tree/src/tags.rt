@@ -42,8 +42,10 @@ pub fn end_tag_at(alloc: Global, text: &[char]) -> Result<(Name, &[char]), Halt>
     ensures { Reads result (end_tag_at text.now) }
 {
     let (name, rest) = name_at(alloc, text)?;
-    let rest = strip(b">", trim_start(rest)).ok_or(Halt::Bad)?;
-    Ok((name, rest))
+    match strip(b">", trim_start(rest)) {
+        Some(rest) => Ok((name, rest)),
+        None => Err(Halt::Bad),
+    }
 }
 
 fn givens_in(alloc: Global, text: &[char]) -> Result<(List<Given>, &[char]), Halt>
