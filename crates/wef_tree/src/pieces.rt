@@ -80,8 +80,10 @@ fn closed_tag(tag: Tag, text: &[char]) -> Result<(Piece, &[char]), Halt>
     if let Some(rest) = strip(b">", text) {
         return Ok((Piece::Start(tag), rest));
     }
-    let rest = strip(b"/>", text).ok_or(Halt::Bad)?;
-    Ok((Piece::Empty(tag), rest))
+    match strip(b"/>", text) {
+        Some(rest) => Ok((Piece::Empty(tag), rest)),
+        None => Err(Halt::Bad),
+    }
 }
 
 /// A character that stands for itself, which `]` doesn't where it begins `]]>`.
