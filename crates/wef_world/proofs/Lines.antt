@@ -1,5 +1,5 @@
 -- What the lines of a source do, by what using it did: it is opened, taken out, used, and put back.
-use Rattle.std.proofs.Common.{◌≡◌, ℕ, Bool, true, false, cond, List, ap, sym, ◌∙◌, subst}
+use Rattle.std.proofs.Common.{◌≡◌, ℕ, Bool, true, false, cond, List, refl, ap, sym, ◌∙◌, subst}
 use Rattle.std.specs.Prelude.{Option, Some, None, Result, Ok, Err, IfOk, OnOk, is_some}
 use Rattle.std.specs.FinMap.{get, insert, remove}
 use Rattle.wef_envelope.specs.declared.MessageId.{MessageId}
@@ -9,13 +9,13 @@ use Rattle.wef_source.specs.Sessions.{session_of}
 use Rattle.wef_source.specs.declared.messages.Delivery.{Delivery}
 use Rattle.wef_source.specs.declared.sessions.Session.{Session}
 use Rattle.wef_source_log.specs.Answers.{Effect, write_effect}
-use Rattle.wef_machine.specs.Printed.{sent_events_line}
 use Rattle.wef_machine.specs.Sources.{ask_at, at_slot, at_source, crash_slot, lost_at, poll_at, poll_in, poll_text, poll_text_in, print_at_slot, print_at_source, print_where_runs, slot_opened, slot_opening, where_runs, with_opened, write_at, write_by}
 use Rattle.wef_machine.specs.States.{Arms, Slot, Slots, State, arm_of, arms_with, next_number, slot_of, slot_with, with_message}
 use Rattle.wef_machine.specs.declared.arming.Armed.{Armed}
 use Rattle.wef_machine.specs.declared.arming.Fate.{Fate}
 use Rattle.wef_machine.specs.declared.messages.Message.TheVariants.{Ask, Events}
 use Rattle.wef_machine.proofs.NameMaps.{remove_absent}
+use Rattle.wef_world.specs.Polls.{polled_line, with_polled}
 use Rattle.wef_world.specs.Slots.{AsksAs, AsksBy, AtRunning, LosesAs, PollsAs, PollsIn, WhereRuns, WritesSlot, armed_by, armed_written, arms_opened, slot_by}
 use Rattle.wef_world.specs.declared.slots.Polled.{Polled}
 use Rattle.wef_world.specs.declared.slots.Polled.TheVariants as polled
@@ -104,61 +104,50 @@ asked_some state now s s' slot slot' rest sources id after is found taken put na
 
 -- ---- polls
 
--- whether a poll sent nothing
-abbrev pub IsSilent : Polled → Type 0
-IsSilent polled.Unknown = Unit {0}
-IsSilent polled.Nothing = Unit {0}
-IsSilent polled.Spent = Unit {0}
-IsSilent (polled.Sent delivery) = ⊥
-
-silent_in : (state : State) (s : List ℕ) (slot slot' : Slot) (sources : Slots) (end : End) (session : Option Session) (answer : Polled) → Some slot ≡ slot_of state s
-    → sources ≡ insert state.sources s slot' → IsSilent answer → PollsIn slot slot' end session answer → with_sources state sources ≡ poll_in s state slot end session
-silent_in state s slot slot' sources end None polled.Unknown found put silent h = ap (with_sources state) (put_same state s slot slot' sources found put h)
-silent_in state s slot slot' sources end None polled.Nothing found put silent h = absurd h
-silent_in state s slot slot' sources end None polled.Spent found put silent h = absurd h
-silent_in state s slot slot' sources end None (polled.Sent delivery) found put silent h = absurd h
-silent_in state s slot slot' sources end (Some session) polled.Unknown found put silent h = absurd h
-silent_in state s slot slot' sources end (Some session) polled.Nothing found put silent h =
+polled_in : (state : State) (s : List ℕ) (slot slot' : Slot) (sources : Slots) (end : End) (session : Option Session) (answer : Polled) → Some slot ≡ slot_of state s
+    → sources ≡ insert state.sources s slot' → PollsIn slot slot' end session answer → with_polled (with_sources state sources) s answer ≡ poll_in s state slot end session
+polled_in state s slot slot' sources end None polled.Unknown found put h = ap (with_sources state) (put_same state s slot slot' sources found put h)
+polled_in state s slot slot' sources end None polled.Nothing found put h = absurd h
+polled_in state s slot slot' sources end None polled.Spent found put h = absurd h
+polled_in state s slot slot' sources end None (polled.Sent delivery) found put h = absurd h
+polled_in state s slot slot' sources end (Some session) polled.Unknown found put h = absurd h
+polled_in state s slot slot' sources end (Some session) polled.Nothing found put h =
     ap (with_sources state) (put_same state s slot slot' sources found put h.1) ∙ sym (when_true _ _ _ h.0)
-silent_in state s slot slot' sources end (Some session) polled.Spent found put silent h =
+polled_in state s slot slot' sources end (Some session) polled.Spent found put h =
     ap (with_sources state) (put_same state s slot slot' sources found put h.2) ∙ sym (when_false _ _ _ h.0 ∙ when_true _ _ _ h.1)
-silent_in state s slot slot' sources end (Some session) (polled.Sent delivery) found put silent h = absurd silent
-
-pub polled_nothing : (state now : State) (s u : List ℕ) (slot slot' : Slot) (rest sources : Slots) (answer : Polled) → state ≡ now → Some slot ≡ slot_of state s → rest ≡ remove state.sources s
-    → sources ≡ insert rest s slot' → IsSilent answer → PollsAs slot slot' u answer → AtRunning (slot_of now s) (λ slot end. with_sources state sources ≡ poll_at s u now slot end)
-polled_nothing state now s u slot slot' rest sources answer is found taken put silent polls =
-    let all = put_over state.sources rest sources s slot' taken put in
-    ran state now s slot (with_sources state sources) (poll_at s u) is found
-    (where_map slot.end (λ end. PollsIn slot slot' end (session_of end.sessions u) answer) (λ end. with_sources state sources ≡ poll_at s u state slot end)
-    (λ end h. silent_in state s slot slot' sources end (session_of end.sessions u) answer found all silent h) polls)
-
-sent_in : (state : State) (s s' : List ℕ) (slot slot' : Slot) (sources : Slots) (end : End) (session : Option Session) (delivery : Delivery) → sources ≡ insert state.sources s slot'
-    → s' ≡ s → PollsIn slot slot' end session (polled.Sent delivery) → with_message (with_sources state sources) (Events s' delivery) ≡ poll_in s state slot end session
-sent_in state s s' slot slot' sources end None delivery put name h = absurd h
-sent_in state s s' slot slot' sources end (Some session) delivery put name h =
+polled_in state s slot slot' sources end (Some session) (polled.Sent delivery) found put h =
     let changed = put ∙ ap (insert state.sources s) h.3 in
-    (λ i. with_message (with_sources state (changed i)) (Events (name i) (h.2 i))) ∙ sym (when_false _ _ _ h.0 ∙ when_false _ _ _ h.1)
+    (λ i. with_message (with_sources state (changed i)) (Events s (h.2 i))) ∙ sym (when_false _ _ _ h.0 ∙ when_false _ _ _ h.1)
 
-pub polled_sent : (state now : State) (s s' u : List ℕ) (slot slot' : Slot) (rest sources : Slots) (delivery : Delivery) (after : State) → state ≡ now → Some slot ≡ slot_of state s
-    → rest ≡ remove state.sources s → sources ≡ insert rest s slot' → s' ≡ s → after ≡ with_message (with_sources state sources) (Events s' delivery)
-    → PollsAs slot slot' u (polled.Sent delivery) → AtRunning (slot_of now s) (λ slot end. after ≡ poll_at s u now slot end)
-polled_sent state now s s' u slot slot' rest sources delivery after is found taken put name sends polls =
+pub polls_state : {X E : Type 0} (r : Result X E) (state now : State) (s u : List ℕ) (slot slot' : Slot) (rest sources : Slots) (answer : Polled) (after : State) → state ≡ now → Some slot ≡ slot_of state s
+    → rest ≡ remove state.sources s → sources ≡ insert rest s slot' → PollsAs slot slot' u answer → OnOk r (after ≡ with_polled (with_sources state sources) s answer)
+    → OnOk r (AtRunning (slot_of now s) (λ slot end. after ≡ poll_at s u now slot end))
+polls_state (Ok x) state now s u slot slot' rest sources answer after is found taken put polls sends =
     let all = put_over state.sources rest sources s slot' taken put in
     ran state now s slot after (poll_at s u) is found
-    (where_map slot.end (λ end. PollsIn slot slot' end (session_of end.sessions u) (polled.Sent delivery)) (λ end. after ≡ poll_at s u state slot end)
-    (λ end h. sends ∙ sent_in state s s' slot slot' sources end (session_of end.sessions u) delivery all name h) polls)
+    (where_map slot.end (λ end. PollsIn slot slot' end (session_of end.sessions u) answer) (λ end. after ≡ poll_at s u state slot end)
+    (λ end h. sends ∙ polled_in state s slot slot' sources end (session_of end.sessions u) answer found all h) polls)
+polls_state (Err e) state now s u slot slot' rest sources answer after is found taken put polls sends = tt
 
-sent_text : (state : State) (s u : List ℕ) (slot slot' : Slot) (end : End) (session : Option Session) (delivery : Delivery) → PollsIn slot slot' end session (polled.Sent delivery)
-    → sent_events_line (next_number state) s u ≡ poll_text_in s u state slot end session
-sent_text state s u slot slot' end None delivery h = absurd h
-sent_text state s u slot slot' end (Some session) delivery h = sym (when_false _ _ _ h.0 ∙ when_false _ _ _ h.1)
+line_in : (state : State) (s u : List ℕ) (slot slot' : Slot) (end : End) (session : Option Session) (answer : Polled) → PollsIn slot slot' end session answer
+    → polled_line s u (next_number state) answer ≡ poll_text_in s u state slot end session
+line_in state s u slot slot' end None polled.Unknown h = refl
+line_in state s u slot slot' end None polled.Nothing h = absurd h
+line_in state s u slot slot' end None polled.Spent h = absurd h
+line_in state s u slot slot' end None (polled.Sent delivery) h = absurd h
+line_in state s u slot slot' end (Some session) polled.Unknown h = absurd h
+line_in state s u slot slot' end (Some session) polled.Nothing h = sym (when_true _ _ _ h.0)
+line_in state s u slot slot' end (Some session) polled.Spent h = sym (when_false _ _ _ h.0 ∙ when_true _ _ _ h.1)
+line_in state s u slot slot' end (Some session) (polled.Sent delivery) h = sym (when_false _ _ _ h.0 ∙ when_false _ _ _ h.1)
 
-pub polled_text : (state now : State) (s u : List ℕ) (slot slot' : Slot) (delivery : Delivery) (words : List ℕ) → state ≡ now → Some slot ≡ slot_of state s
-    → words ≡ sent_events_line (next_number state) s u → PollsAs slot slot' u (polled.Sent delivery) → AtRunning (slot_of now s) (λ slot end. words ≡ poll_text s u now slot end)
-polled_text state now s u slot slot' delivery words is found text polls =
+pub polls_line : {E : Type 0} (r : Result (List ℕ) E) (state now : State) (s u : List ℕ) (slot slot' : Slot) (answer : Polled) → state ≡ now → Some slot ≡ slot_of state s
+    → PollsAs slot slot' u answer → IfOk r (λ words. words ≡ polled_line s u (next_number state) answer)
+    → IfOk r (λ words. AtRunning (slot_of now s) (λ slot end. words ≡ poll_text s u now slot end))
+polls_line (Ok words) state now s u slot slot' answer is found polls text =
     said state now s slot words (poll_text s u) is found
-    (where_map slot.end (λ end. PollsIn slot slot' end (session_of end.sessions u) (polled.Sent delivery)) (λ end. words ≡ poll_text s u state slot end)
-    (λ end h. text ∙ sent_text state s u slot slot' end (session_of end.sessions u) delivery h) polls)
+    (where_map slot.end (λ end. PollsIn slot slot' end (session_of end.sessions u) answer) (λ end. words ≡ poll_text s u state slot end)
+    (λ end h. text ∙ line_in state s u slot slot' end (session_of end.sessions u) answer h) polls)
+polls_line (Err e) state now s u slot slot' answer is found polls text = tt
 
 -- ---- lost deliveries
 

@@ -10,9 +10,10 @@ ghost use Rattle.wef_collector.specs.Standing.{standing};
 ghost use Rattle.wef_machine.specs.Collecting as collecting;
 ghost use Rattle.wef_machine.specs.Deliveries as steps;
 ghost use Rattle.wef_machine.specs.Kept.{IsKept};
-ghost use Rattle.wef_machine.specs.Printed.{answered_line};
+ghost use Rattle.wef_machine.specs.Printed as texts;
 ghost use Rattle.wef_machine.specs.States as states;
 ghost use Rattle.wef_machine.specs.declared.messages.Message.TheVariants.{Offers};
+ghost use Rattle.wef_source.specs.declared.messages.Reply.TheVariants as replies;
 ghost use Rattle.wef_world.specs.Outcomes as outcomes;
 ghost use Rattle.wef_world.specs.Slots as slots;
 
@@ -86,22 +87,21 @@ impl Ends {
             } => {
                 let (sources, arms) = (&mut self.sources, &mut self.arms);
                 let word = give_offers(alloc, sources, arms, source, relates, offers)?;
-                Ok(took_line(alloc, number, word.as_str())?)
+                took(alloc, number, word)
             }
             Message::Ack { source, relates } => {
                 let (sources, arms) = (&mut self.sources, &mut self.arms);
-                let word = give_reply(alloc, sources, arms, source, relates, &Reply::Ack)?;
-                Ok(took_line(alloc, number, word.as_str())?)
+                let word = give_ack(alloc, sources, arms, source, relates)?;
+                took(alloc, number, word)
             }
             Message::Fault {
                 source,
                 relates,
                 name,
             } => {
-                let reply = Reply::Fault(name.clone()?);
                 let (sources, arms) = (&mut self.sources, &mut self.arms);
-                let word = give_reply(alloc, sources, arms, source, relates, &reply)?;
-                Ok(took_line(alloc, number, word.as_str())?)
+                let word = give_fault(alloc, sources, arms, source, relates, name)?;
+                took(alloc, number, word)
             }
         }
     }
@@ -117,7 +117,7 @@ impl Ends {
                 let sent = self.send(answer)?;
                 Ok(answered_line(self.alloc, number, word.as_str(), sent)?)
             }
-            None => Ok(took_line(self.alloc, number, word.as_str())?),
+            None => took(self.alloc, number, word),
         }
     }
 }
@@ -186,6 +186,13 @@ fn take_events_open(
         word: outcome_word(alloc, &outcome, &delivery.batch)?,
         answer: answer_to_delivery(source, delivery, outcome)?,
     })
+}
+
+/// Tells what an end that doesn't answer made of a message, by the word for it.
+fn took(alloc: Global, number: u64, word: Text) -> Result<Text, WorldFault>
+    ensures { IfOk result (λ text. text ≡ texts.took_line number word) }
+{
+    Ok(took_line(alloc, number, word.as_str())?)
 }
 
 /// What a collector that can't be opened makes of a message.
@@ -343,8 +350,9 @@ fn give_offers(
             let Some(mut slot) = sources.take(source) else {
                 unreachable!()
             };
-            let adopted = slot.adopt(relates, offers)?;
+            let adopted = slot.adopt(relates, offers);
             sources.put(source, slot)?;
+            let adopted = adopted?;
             match adopted {
                 Some(number) => Ok(adopted_word(alloc, number)?),
                 None => Ok(Text::from_str(alloc, "not-asked")?),
@@ -353,6 +361,40 @@ fn give_offers(
         Some(fate) => Ok(Text::from_str(alloc, fate_word(fate))?),
         None => Ok(Text::from_str(alloc, "not-asked")?),
     }
+}
+
+/// Gives a source the acknowledgement of a delivery. Answers the word for what became of it.
+fn give_ack(
+    alloc: Global,
+    sources: &mut Sources,
+    arms: &mut Arms,
+    source: &SourceName,
+    relates: &MessageId,
+) -> Result<Text, WorldFault>
+    requires { slots.IsFormedAt (map.get sources.old source.now) }
+    ensures sources { OnOk result (sources.new ≡ slots.sources_changed sources.old arms.old source.now (λ end. steps.after_ack end relates.now)) }
+    ensures arms { OnOk result (arms.new ≡ slots.arms_opened sources.old arms.old source.now) }
+    ensures word { IfOk result (λ word. word ≡ slots.word_at sources.old arms.old source.now (λ end. slots.reply_word end relates.now replies.Ack)) }
+{
+    give_reply(alloc, sources, arms, source, relates, &Reply::Ack)
+}
+
+/// Gives a source the fault that answers a delivery. Answers the word for what became of it.
+fn give_fault(
+    alloc: Global,
+    sources: &mut Sources,
+    arms: &mut Arms,
+    source: &SourceName,
+    relates: &MessageId,
+    name: &FaultName,
+) -> Result<Text, WorldFault>
+    requires { slots.IsFormedAt (map.get sources.old source.now) }
+    ensures sources { OnOk result (sources.new ≡ slots.sources_changed sources.old arms.old source.now (λ end. steps.after_fault end relates.now name.now)) }
+    ensures arms { OnOk result (arms.new ≡ slots.arms_opened sources.old arms.old source.now) }
+    ensures word { IfOk result (λ word. word ≡ slots.word_at sources.old arms.old source.now (λ end. slots.reply_word end relates.now (replies.Fault name.now))) }
+{
+    let reply = Reply::Fault(name.clone()?);
+    give_reply(alloc, sources, arms, source, relates, &reply)
 }
 
 /// Gives a source the answer to a delivery. Answers the word for what became of it.

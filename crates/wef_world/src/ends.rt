@@ -197,19 +197,11 @@ impl Ends {
         ensures state { OnOk result (self.new ≡ collecting.at_collector self.old (steps.subscribe_at (steps.subscription_of sub.now items bytes beat query.now))) }
         ensures printed { IfOk result (λ text. text ≡ collecting.print_at_collector self.old steps.closed_line (steps.subscribe_text (steps.subscription_of sub.now items bytes beat query.now))) }
     {
-        let subscription = Subscription {
-            name: sub.clone()?,
-            kind: SubKind::BySource,
-            query: query.clone(self.alloc)?,
-            max_items: items,
-            max_bytes: bytes,
-            heartbeat: beat,
-            expires: 3_600_000,
-            sources: List::new(self.alloc),
-            version: 1,
-        };
         match self.collector.open(self.alloc)? {
-            Fate::Done => self.add(&subscription),
+            Fate::Done => {
+                let subscription = subscription_of(self.alloc, sub, items, bytes, beat, query)?;
+                self.add(&subscription)
+            }
             fate => Ok(fate_line(self.alloc, fate, COLLECTOR)?),
         }
     }
@@ -344,6 +336,30 @@ impl Ends {
         self.arms = Arms::new(self.alloc);
         Ok(Text::new(self.alloc))
     }
+}
+
+/// A subscription that a line tells of.
+fn subscription_of(
+    alloc: Global,
+    sub: &SubId,
+    items: u32,
+    bytes: u32,
+    beat: u64,
+    query: &QueryList,
+) -> Result<Subscription, AllocError>
+    ensures { IfOk result (λ subscription. subscription ≡ steps.subscription_of sub.now items bytes beat query.now) }
+{
+    Ok(Subscription {
+        name: sub.clone()?,
+        kind: SubKind::BySource,
+        query: query.clone(alloc)?,
+        max_items: items,
+        max_bytes: bytes,
+        heartbeat: beat,
+        expires: 3_600_000,
+        sources: List::new(alloc),
+        version: 1,
+    })
 }
 
 /// What is printed of a call that adds a subscription.

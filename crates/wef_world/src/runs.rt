@@ -1,9 +1,10 @@
 //! Whole schedules.
 
-ghost use Rattle.std.specs.Prelude.{◌≡◌, IfOk};
+ghost use Rattle.std.specs.Prelude.{◌≡◌, ◌++◌, true, IfOk, OnOk};
 ghost use Rattle.wef_replay.specs.Good.{AreGood, no_names};
 ghost use Rattle.wef_machine.specs.Laws.{AreKept, AreSafe};
-ghost use Rattle.wef_machine.specs.Steps.{trail};
+ghost use Rattle.wef_machine.specs.States.{start};
+ghost use Rattle.wef_machine.specs.Steps.{AreAdmitted, admits, printed_by, step, trail, trail_from};
 
 use crate::faults::WorldFault;
 use crate::world::World;
@@ -20,10 +21,40 @@ pub fn run_lines(alloc: Global, lines: List<Line>) -> Result<Bytes, WorldFault>
     ensures kept { AreKept lines }
     ensures safe { AreSafe lines }
 {
-    let mut world = World::new(alloc);
     let mut out = Bytes::new(alloc);
-    for line in lines.into_vec() {
-        world.apply(&line, &mut out)?;
-    }
+    run_anew(alloc, lines, &mut out)?;
     Ok(out)
 }
+
+/// Does lines from a world in which nothing has happened, and appends what they print.
+fn run_anew(alloc: Global, lines: List<Line>, out: &mut Bytes) -> Result<(), WorldFault>
+    requires { AreAdmitted start lines }
+    ensures { OnOk result (out.new ≡ out.old ++ trail_from start lines) }
+{
+    let mut world = World::new(alloc);
+    run_in(&mut world, lines, out)
+}
+
+/// Does lines that a world admits, one after the other, and appends what they print.
+fn run_in(world: &mut World, lines: List<Line>, out: &mut Bytes) -> Result<(), WorldFault>
+    requires { AreAdmitted world.old lines }
+    ensures { OnOk result (out.new ≡ out.old ++ trail_from world.old lines) }
+{
+    for line in lines.into_vec() {
+        run_one(world, line, out)?;
+    }
+    Ok(())
+}
+
+/// Does one line that the world admits, and lets it go.
+fn run_one(world: &mut World, line: Line, out: &mut Bytes) -> Result<(), WorldFault>
+    requires { admits world.old line ≡ true }
+    ensures state { OnOk result (world.new ≡ step line world.old) }
+    ensures printed { OnOk result (out.new ≡ out.old ++ printed_by line world.old) }
+{
+    let done = world.apply(&line, out);
+    let_go(line);
+    done
+}
+
+fn let_go<T: Drop>(_value: T) {}

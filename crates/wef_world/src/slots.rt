@@ -122,6 +122,7 @@ impl Slot {
     ghost use Rattle.wef_source.specs.Machine.{adopted};
     ghost use Rattle.wef_source.specs.Sessions.{session_of};
     ghost use Rattle.wef_source_log.specs.Forms.{AreFormed};
+    ghost use Rattle.wef_source_log.specs.Histories.{extended};
     ghost use Rattle.wef_world.specs.Slots as slots;
     ghost use Rattle.wef_machine.specs.States.{moment};
 
@@ -202,7 +203,14 @@ impl Slot {
         ensures { OnOk result (self.new ≡ slots.recorded self.old event.now number) }
     {
         let record = record_of(event, number)?;
-        self.histories.append(&record.channel, &record.text)?;
+        self.remember(&record)
+    }
+
+    /// Appends a record to its channel's history.
+    fn remember(&mut self, event: &Event) -> Result<(), WorldFault>
+        ensures { OnOk result (self.new ≡ record self.old { histories = extended self.old.histories event.now.channel event.now.text }) }
+    {
+        self.histories.append(&event.channel, &event.text)?;
         Ok(())
     }
 

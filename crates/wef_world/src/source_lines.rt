@@ -4,7 +4,10 @@ ghost use Rattle.std.specs.Prelude.{◌≡◌, [], IfOk, OnOk};
 ghost use Rattle.std.specs.FinMap as map;
 ghost use Rattle.wef_machine.specs.Kept.{IsKept};
 ghost use Rattle.wef_machine.specs.Sources as steps;
+ghost use Rattle.wef_machine.specs.Printed.{sent_events_line};
 ghost use Rattle.wef_machine.specs.States as states;
+ghost use Rattle.wef_machine.specs.declared.messages.Message.TheVariants.{Events};
+ghost use Rattle.wef_world.specs.Polls as polls;
 ghost use Rattle.wef_world.specs.Slots as slots;
 
 use crate::ends::Ends;
@@ -18,6 +21,7 @@ use std::alloc::AllocError;
 use wef_base::{SourceName, SubId, Text};
 use wef_event::PlainEvent;
 use wef_machine::{Fate, Message};
+use wef_source::Delivery;
 
 impl Ends {
     /// Declares a source.
@@ -60,8 +64,9 @@ impl Ends {
             unreachable!()
         };
         let mut armed = self.arms.get(source);
-        let written = slot.write(&mut armed, event)?;
+        let written = slot.write(&mut armed, event);
         self.sources.put(source, slot)?;
+        let written = written?;
         self.arms.set(source, armed)?;
         let name = source.as_text();
         match written {
@@ -128,20 +133,45 @@ impl Ends {
         let Some(mut slot) = self.sources.take(source) else {
             unreachable!()
         };
-        let polled = slot.poll(sub)?;
+        let polled = slot.poll(sub);
         self.sources.put(source, slot)?;
+        let polled = polled?;
+        self.send_polled(source, sub, polled)
+    }
+
+    /// Sends what a session has to send, and tells what it is.
+    fn send_polled(
+        &mut self,
+        source: &SourceName,
+        sub: &SubId,
+        polled: Polled,
+    ) -> Result<Text, WorldFault>
+        ensures state { OnOk result (self.new ≡ polls.with_polled self.old source.now polled) }
+        ensures printed { IfOk result (λ text. text ≡ polls.polled_line source.now sub.now (states.next_number self.old) polled) }
+    {
         match polled {
             Polled::Unknown => Ok(pair_line("unknown", source.as_text(), sub.as_text())?),
             Polled::Nothing => Ok(pair_line("nothing", source.as_text(), sub.as_text())?),
             Polled::Spent => Ok(name_line("spent", source.as_text())?),
-            Polled::Sent(delivery) => {
-                let number = self.send(Message::Events {
-                    source: source.clone()?,
-                    delivery,
-                })?;
-                Ok(sent_events_line(number, source, sub)?)
-            }
+            Polled::Sent(delivery) => self.send_events(source, sub, delivery),
         }
+    }
+
+    /// Sends a delivery.
+    fn send_events(
+        &mut self,
+        source: &SourceName,
+        sub: &SubId,
+        delivery: Delivery,
+    ) -> Result<Text, WorldFault>
+        ensures state { OnOk result (self.new ≡ states.with_message self.old (Events source.now delivery)) }
+        ensures printed { IfOk result (λ text. text ≡ sent_events_line (states.next_number self.old) source.now sub.now) }
+    {
+        let number = self.send(Message::Events {
+            source: source.clone()?,
+            delivery,
+        })?;
+        Ok(sent_events_line(number, source, sub)?)
     }
 
     /// Lets a source give up waiting for the answer to a session's delivery.

@@ -88,8 +88,8 @@ pub(crate) fn open_source(
         return Ok(None);
     };
     let mut armed = arms.get(name);
-    let fate = slot.open(alloc, name, &mut armed)?;
+    let fate = slot.open(alloc, name, &mut armed);
     sources.put(name, slot)?;
     arms.set(name, armed)?;
-    Ok(Some(fate))
+    Ok(Some(fate?))
 }

@@ -11,5 +11,5 @@ returns-in_default-clause-sources c = none_opened c.args.sources.now c.take.new.
 pub returns-clause-sources : goal.returns-clause-sources
 returns-clause-sources c =
     let slot = c.in-Some.slot in
-    one_opened c.args.sources.now c.take.new.self c.put.new.self c.args.arms.now c.args.name.now slot c.open.new.self c.take.ensures.rest c.in_ok-put.ensures c.in-Some.ensures.slot
+    one_opened c.args.sources.now c.take.new.self c.put.new.self c.args.arms.now c.args.name.now slot c.open-fate.new.self c.take.ensures.rest c.in_ok-put.ensures c.in-Some.ensures.slot
     (c.in_ok-fate.ensures.slot ∙ ap (λ (a : Option Armed). slot_opened a slot) c.get-armed.ensures)

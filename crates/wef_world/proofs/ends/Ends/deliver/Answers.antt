@@ -7,12 +7,12 @@ give_offers-requires c =
     let before : State = record { collector = c.self.inside.collector; foreign = c.self.inside.foreign.keys; sources = c.self.inside.sources; arms = c.self.inside.arms; messages = c.self.inside.messages } in
     formed_at before c.args.self.now c.in-Offers.source c.self.view_is c.requires.kept
 
-pub give_reply-requires : goal.give_reply-requires
-give_reply-requires c =
+pub give_ack-requires : goal.give_ack-requires
+give_ack-requires c =
     let before : State = record { collector = c.self.inside.collector; foreign = c.self.inside.foreign.keys; sources = c.self.inside.sources; arms = c.self.inside.arms; messages = c.self.inside.messages } in
     formed_at before c.args.self.now c.in-Ack.source c.self.view_is c.requires.kept
 
-pub give_reply-requires-in-Fault : goal.give_reply-requires-in-Fault
-give_reply-requires-in-Fault c =
+pub give_fault-requires : goal.give_fault-requires
+give_fault-requires c =
     let before : State = record { collector = c.self.inside.collector; foreign = c.self.inside.foreign.keys; sources = c.self.inside.sources; arms = c.self.inside.arms; messages = c.self.inside.messages } in
     formed_at before c.args.self.now c.in-Fault.source c.self.view_is c.requires.kept

@@ -1,9 +1,0 @@
-use Rattle.std.proofs.Common.{◌≡◌, ◌++◌}
-use Rattle.wef_machine.specs.Steps.{AreAdmitted, trail, trail_from}
-use Rattle.wef_world.proofs.runs.run_lines.Given as goal
-
-abbrev pub invariant-loop-line : goal.invariant-loop-line
-invariant-loop-line l = record {
-  printed : l.out ++ trail_from l.world l.line-iterator.rest.items ≡ trail l.fn.lines;
-  admitted : AreAdmitted l.world l.line-iterator.rest.items;
-}
