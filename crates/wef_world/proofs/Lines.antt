@@ -6,7 +6,6 @@ use Rattle.wef_envelope.specs.declared.MessageId.{MessageId}
 use Rattle.wef_event.specs.declared.unnumbered.PlainEvent.{PlainEvent}
 use Rattle.wef_source.specs.Machine.{End, lost_in}
 use Rattle.wef_source.specs.Sessions.{session_of}
-use Rattle.wef_source.specs.declared.messages.Delivery.{Delivery}
 use Rattle.wef_source.specs.declared.sessions.Session.{Session}
 use Rattle.wef_source_log.specs.Answers.{Effect, write_effect}
 use Rattle.wef_machine.specs.Sources.{ask_at, at_slot, at_source, crash_slot, lost_at, poll_at, poll_in, poll_text, poll_text_in, print_at_slot, print_at_source, print_where_runs, slot_opened, slot_opening, where_runs, with_opened, write_at, write_by}

@@ -14,6 +14,7 @@ use crate::arms::Arms;
 use crate::collector_side::{Called, CollectorSide};
 use crate::deliveries::{outcome_word, take_batch};
 use crate::faults::WorldFault;
+use crate::letting::let_go;
 use crate::printing::{batch_line, fate_line, fate_word, held_text, name_line};
 use crate::slots::Capacity;
 use crate::sources::Sources;
@@ -200,7 +201,9 @@ impl Ends {
         match self.collector.open(self.alloc)? {
             Fate::Done => {
                 let subscription = subscription_of(self.alloc, sub, items, bytes, beat, query)?;
-                self.add(&subscription)
+                let text = self.add(&subscription);
+                let_go(subscription);
+                text
             }
             fate => Ok(fate_line(self.alloc, fate, COLLECTOR)?),
         }

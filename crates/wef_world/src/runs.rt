@@ -7,6 +7,7 @@ ghost use Rattle.wef_machine.specs.States.{start};
 ghost use Rattle.wef_machine.specs.Steps.{AreAdmitted, admits, printed_by, step, trail, trail_from};
 
 use crate::faults::WorldFault;
+use crate::letting::let_go;
 use crate::world::World;
 use std::alloc::Global;
 use wef_base::{Bytes, List};
@@ -56,5 +57,3 @@ fn run_one(world: &mut World, line: Line, out: &mut Bytes) -> Result<(), WorldFa
     let_go(line);
     done
 }
-
-fn let_go<T: Drop>(_value: T) {}

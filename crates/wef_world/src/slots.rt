@@ -9,6 +9,7 @@ use crate::arming::{plan_of, settle_source};
 use crate::ends::MOMENT;
 use crate::faults::WorldFault;
 use crate::histories::Histories;
+use crate::letting::let_go;
 use crate::source_place::SourcePlace;
 use std::alloc::Global;
 use std::marker::Model;
@@ -122,7 +123,6 @@ impl Slot {
     ghost use Rattle.wef_source.specs.Machine.{adopted};
     ghost use Rattle.wef_source.specs.Sessions.{session_of};
     ghost use Rattle.wef_source_log.specs.Forms.{AreFormed};
-    ghost use Rattle.wef_source_log.specs.Histories.{extended};
     ghost use Rattle.wef_world.specs.Slots as slots;
     ghost use Rattle.wef_machine.specs.States.{moment};
 
@@ -203,15 +203,9 @@ impl Slot {
         ensures { OnOk result (self.new ≡ slots.recorded self.old event.now number) }
     {
         let record = record_of(event, number)?;
-        self.remember(&record)
-    }
-
-    /// Appends a record to its channel's history.
-    fn remember(&mut self, event: &Event) -> Result<(), WorldFault>
-        ensures { OnOk result (self.new ≡ record self.old { histories = extended self.old.histories event.now.channel event.now.text }) }
-    {
-        self.histories.append(&event.channel, &event.text)?;
-        Ok(())
+        let appended = self.histories.append(&record.channel, &record.text);
+        let_go(record);
+        Ok(appended?)
     }
 
     /// Draws the id of an ask of a running source. None where no id is left.

@@ -6,6 +6,7 @@ ghost use Rattle.wef_world.specs.Slots as slots;
 
 use crate::arms::Arms;
 use crate::faults::WorldFault;
+use crate::letting::let_go;
 use crate::slots::Slot;
 use std::alloc::{AllocError, Global};
 use std::collections::BTreeMap;
@@ -58,8 +59,16 @@ impl Sources {
     pub fn put(&mut self, name: &SourceName, slot: Slot) -> Result<(), AllocError>
         ensures { OnOk result (self.new ≡ map.insert self.old name.now slot) }
     {
-        self.slots.insert(name.clone()?, slot)?;
-        Ok(())
+        match name.clone() {
+            Ok(name) => {
+                let_go(self.slots.insert(name, slot)?);
+                Ok(())
+            }
+            Err(error) => {
+                let_go(slot);
+                Err(error)
+            }
+        }
     }
 
     /// Takes a source out.

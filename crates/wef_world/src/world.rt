@@ -1,13 +1,16 @@
 //! A world: the ends that a schedule moves, in a state that is kept.
 
 ghost use Rattle.std.specs.Prelude.{◌≡◌, ◌++◌, true, OnOk, OnErr};
+ghost use Rattle.wef_machine.specs.Kept.{IsKept};
 ghost use Rattle.wef_machine.specs.States as states;
 ghost use Rattle.wef_machine.specs.Steps as steps;
 
 use crate::ends::Ends;
 use crate::faults::WorldFault;
+use crate::letting::let_go;
 use std::alloc::Global;
 use std::marker::Model;
+use std::mem;
 use wef_base::Bytes;
 use wef_replay::Line;
 
@@ -67,9 +70,28 @@ impl World {
         let Some(mut ends) = self.ends.take() else {
             return Err(WorldFault::NoMemory);
         };
-        let text = ends.run_line(line)?;
-        out.extend(text.as_str().as_bytes())?;
-        self.ends = Some(ends);
-        Ok(())
+        match print_line(&mut ends, line, out) {
+            Ok(()) => {
+                let_go(mem::replace(&mut self.ends, Some(ends)));
+                Ok(())
+            }
+            Err(fault) => {
+                let_go(ends);
+                Err(fault)
+            }
+        }
     }
+}
+
+/// Does one line that the ends admit, and appends what it prints.
+fn print_line(ends: &mut Ends, line: &Line, out: &mut Bytes) -> Result<(), WorldFault>
+    requires admitted { steps.admits ends.old line.now ≡ true }
+    requires kept { IsKept ends.old }
+    ensures state { OnOk result (ends.new ≡ steps.step line.now ends.old) }
+    ensures printed { OnOk result (out.new ≡ out.old ++ steps.printed_by line.now ends.old) }
+    ensures err { OnErr result (out.new ≡ out.old) }
+{
+    let text = ends.run_line(line)?;
+    out.extend(text.as_str().as_bytes())?;
+    Ok(())
 }

@@ -1,5 +1,4 @@
-use Rattle.std.proofs.Common.{◌≡◌, List, ◌++◌, subst, sym, ◌∙◌}
-use Rattle.wef_replay.specs.declared.lines.Line.{Line}
+use Rattle.std.proofs.Common.{◌≡◌, ◌++◌, subst, sym, ◌∙◌}
 use Rattle.wef_machine.specs.Steps.{AreAdmitted, trail_from}
 use Rattle.wef_world.proofs.runs.run_in.Goals as goal
 
