@@ -14,7 +14,6 @@ use crate::arms::Arms;
 use crate::collector_side::{Called, CollectorSide};
 use crate::deliveries::{outcome_word, take_batch};
 use crate::faults::WorldFault;
-use crate::letting::let_go;
 use crate::printing::{batch_line, fate_line, fate_word, held_text, name_line};
 use crate::slots::Capacity;
 use crate::sources::Sources;
@@ -202,7 +201,7 @@ impl Ends {
             Fate::Done => {
                 let subscription = subscription_of(self.alloc, sub, items, bytes, beat, query)?;
                 let text = self.add(&subscription);
-                let_go(subscription);
+                drop(subscription);
                 text
             }
             fate => Ok(fate_line(self.alloc, fate, COLLECTOR)?),

@@ -9,7 +9,6 @@ pub mod deliveries;
 mod ends;
 pub mod faults;
 pub mod histories;
-mod letting;
 mod printing;
 pub mod runs;
 pub mod slots;

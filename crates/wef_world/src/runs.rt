@@ -7,7 +7,6 @@ ghost use Rattle.wef_machine.specs.States.{start};
 ghost use Rattle.wef_machine.specs.Steps.{AreAdmitted, admits, printed_by, step, trail, trail_from};
 
 use crate::faults::WorldFault;
-use crate::letting::let_go;
 use crate::world::World;
 use std::alloc::Global;
 use wef_base::{Bytes, List};
@@ -54,6 +53,6 @@ fn run_one(world: &mut World, line: Line, out: &mut Bytes) -> Result<(), WorldFa
     ensures printed { OnOk result (out.new ≡ out.old ++ printed_by line world.old) }
 {
     let done = world.apply(&line, out);
-    let_go(line);
+    drop(line);
     done
 }

@@ -9,7 +9,6 @@ use crate::arming::{plan_of, settle_source};
 use crate::ends::MOMENT;
 use crate::faults::WorldFault;
 use crate::histories::Histories;
-use crate::letting::let_go;
 use crate::source_place::SourcePlace;
 use std::alloc::Global;
 use std::marker::Model;
@@ -204,7 +203,7 @@ impl Slot {
     {
         let record = record_of(event, number)?;
         let appended = self.histories.append(&record.channel, &record.text);
-        let_go(record);
+        drop(record);
         Ok(appended?)
     }
 

@@ -6,7 +6,6 @@ ghost use Rattle.wef_world.specs.Slots as slots;
 
 use crate::arms::Arms;
 use crate::faults::WorldFault;
-use crate::letting::let_go;
 use crate::slots::Slot;
 use std::alloc::{AllocError, Global};
 use std::collections::BTreeMap;
@@ -61,11 +60,11 @@ impl Sources {
     {
         match name.clone() {
             Ok(name) => {
-                let_go(self.slots.insert(name, slot)?);
+                drop(self.slots.insert(name, slot)?);
                 Ok(())
             }
             Err(error) => {
-                let_go(slot);
+                drop(slot);
                 Err(error)
             }
         }

@@ -7,7 +7,6 @@ ghost use Rattle.wef_machine.specs.Steps as steps;
 
 use crate::ends::Ends;
 use crate::faults::WorldFault;
-use crate::letting::let_go;
 use std::alloc::Global;
 use std::marker::Model;
 use std::mem;
@@ -72,11 +71,11 @@ impl World {
         };
         match print_line(&mut ends, line, out) {
             Ok(()) => {
-                let_go(mem::replace(&mut self.ends, Some(ends)));
+                drop(mem::replace(&mut self.ends, Some(ends)));
                 Ok(())
             }
             Err(fault) => {
-                let_go(ends);
+                drop(ends);
                 Err(fault)
             }
         }
