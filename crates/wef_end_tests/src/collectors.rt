@@ -1,7 +1,7 @@
 //! Offers, by example, start numbers, and a store that fails at each of its calls.
 
 use crate::failing::FailingKeeper;
-use std::alloc::Global;
+use std::alloc::{AllocError, Global};
 use std::test::Fail;
 use wef_base::numbers::MAX;
 use wef_base::{ChannelName, List, SourceName, SubId, Text, ValueFault, is_xml_text};
@@ -9,7 +9,7 @@ use wef_batch::{Batch, Item};
 use wef_bookmark::Bookmark;
 use wef_collector::{Collector, CollectorFault};
 use wef_event::{Event, plain_event};
-use wef_eventing::Subscription;
+use wef_eventing::{Offer, Subscription};
 use wef_keeper::{Change, Keeper, Key, MemKeeper, Row};
 
 fn channel(alloc: Global) -> Result<ChannelName, Fail> {
@@ -20,11 +20,20 @@ fn source(alloc: Global) -> Result<SourceName, Fail> {
     Ok(SourceName::read(&Text::from_str(alloc, "host-1")?)?)
 }
 
+fn id(alloc: Global, name: &str) -> Result<SubId, Fail> {
+    Ok(SubId::read(&Text::from_str(alloc, name)?)?)
+}
+
 fn subscription(alloc: Global, name: &str) -> Result<Subscription, Fail> {
+    let name = id(alloc, name)?;
+    let channels = channels(alloc)?;
+    Ok(Subscription::all_events(name, channels, 20, 512_000, 900_000)?)
+}
+
+fn channels(alloc: Global) -> Result<List<ChannelName>, Fail> {
     let mut channels = List::new(alloc);
     channels.push(channel(alloc)?)?;
-    let name = SubId::read(&Text::from_str(alloc, name)?)?;
-    Ok(Subscription::all_events(name, channels, 20, 512_000, 900_000)?)
+    Ok(channels)
 }
 
 /// The channel's event of a number, or a fault where there is none.
@@ -38,15 +47,23 @@ fn event_of(alloc: Global, number: u64) -> Result<Event, Fail> {
 
 /// A batch of one event, which reads the channel to its number.
 fn batch_to(alloc: Global, number: u64) -> Result<Batch, Fail> {
-    let mut to = Bookmark::new(alloc);
-    to.raise(&channel(alloc)?, number)?;
-    let mut items = List::new(alloc);
-    items.push(Item::Event(event_of(alloc, number)?))?;
     Ok(Batch {
-        items,
-        to,
+        items: items_of(alloc, number)?,
+        to: reach_of(alloc, number)?,
         ack_wanted: true,
     })
+}
+
+fn items_of(alloc: Global, number: u64) -> Result<List<Item>, Fail> {
+    let mut items = List::new(alloc);
+    items.push(Item::Event(event_of(alloc, number)?))?;
+    Ok(items)
+}
+
+fn reach_of(alloc: Global, number: u64) -> Result<Bookmark, Fail> {
+    let mut to = Bookmark::new(alloc);
+    to.raise(&channel(alloc)?, number)?;
+    Ok(to)
 }
 
 /// The key of the row that keeps the number of the last start.
@@ -60,37 +77,37 @@ fn start_number_key(alloc: Global) -> Key {
     }
 }
 
-/// The store of a collector that was started so often.
-fn started(alloc: Global, boot: u64) -> Result<MemKeeper, Fail> {
+/// That a collector was started so often.
+fn started(alloc: Global, boot: u64) -> Result<List<Change>, AllocError> {
     let mut changes = List::new(alloc);
     changes.push(Change::Put(Row {
         key: start_number_key(alloc),
         value: boot,
         body: Text::new(alloc),
     }))?;
+    Ok(changes)
+}
+
+/// The fault of a start behind so many.
+fn start_fault(alloc: Global, boot: u64) -> Result<Option<CollectorFault>, Fail> {
     let mut keeper = MemKeeper::new(alloc);
-    keeper.commit(&changes)?;
-    Ok(keeper)
+    keeper.commit(&started(alloc, boot)?)?;
+    Ok(match Collector::start(alloc, keeper) {
+        Ok(_) => None,
+        Err((_, fault)) => Some(fault),
+    })
 }
 
 #[test]
 fn a_start_number_has_an_end(rt: HostRuntime) -> Result<(), Fail> {
-    let alloc = rt.alloc();
-    for (boot, want) in [
-        (9_223_372_036_854_775_806, None),
-        (9_223_372_036_854_775_807, Some(CollectorFault::Full)),
-    ] {
-        let keeper = started(alloc, boot)?;
-        let fault = Collector::start(alloc, keeper)
-            .err()
-            .map(|refused| refused.1);
-        assert_eq!(&rt; fault, want);
+    for (boot, want) in [(MAX - 1, None), (MAX, Some(CollectorFault::Full))] {
+        assert_eq!(&rt; start_fault(rt.alloc(), boot)?, want);
     }
     Ok(())
 }
 
-fn in_memory(alloc: Global) -> Result<Collector<MemKeeper>, CollectorFault> {
-    match Collector::start(alloc, MemKeeper::new(alloc)) {
+fn start<K: Keeper + Drop>(alloc: Global, keeper: K) -> Result<Collector<K>, CollectorFault> {
+    match Collector::start(alloc, keeper) {
         Ok(collector) => Ok(collector),
         Err((_, fault)) => Err(fault),
     }
@@ -99,36 +116,57 @@ fn in_memory(alloc: Global) -> Result<Collector<MemKeeper>, CollectorFault> {
 /// The version, the address and the bookmark of each offer that three subscriptions give, of which
 /// `ended` was ended and `b` was served up to 7.
 fn offered(alloc: Global) -> Result<Text, Fail> {
-    let mut collector = in_memory(alloc)?;
-    for name in ["b", "ended", "a/1"] {
-        collector.add(&subscription(alloc, name)?)?;
-    }
-    let source = source(alloc)?;
-    let served = subscription(alloc, "b")?;
-    let batch = batch_to(alloc, 7)?;
-    collector.take(&served.name, &source, &batch, 1000)?;
-    collector.end(&subscription(alloc, "ended")?.name)?;
-    printed(alloc, &mut collector, &source)
+    let mut collector = start(alloc, MemKeeper::new(alloc))?;
+    offered_by(alloc, &mut collector)
 }
 
-fn printed(
-    alloc: Global,
-    collector: &mut Collector<MemKeeper>,
-    source: &SourceName,
-) -> Result<Text, Fail> {
+fn offered_by(alloc: Global, collector: &mut Collector<MemKeeper>) -> Result<Text, Fail> {
+    for name in ["b", "ended", "a/1"] {
+        add(alloc, collector, name)?;
+    }
+    take_seven(alloc, collector)?;
+    end(alloc, collector)?;
+    printed(alloc, collector)
+}
+
+fn add(alloc: Global, collector: &mut Collector<MemKeeper>, name: &str) -> Result<(), Fail> {
+    let subscription = subscription(alloc, name)?;
+    Ok(collector.add(&subscription)?)
+}
+
+fn take_seven(alloc: Global, collector: &mut Collector<MemKeeper>) -> Result<(), Fail> {
+    let (sub, source) = (id(alloc, "b")?, source(alloc)?);
+    let batch = batch_to(alloc, 7)?;
+    Ok(collector.take(&sub, &source, &batch, 1000)?)
+}
+
+fn end(alloc: Global, collector: &mut Collector<MemKeeper>) -> Result<(), Fail> {
+    let sub = id(alloc, "ended")?;
+    Ok(collector.end(&sub)?)
+}
+
+fn printed(alloc: Global, collector: &mut Collector<MemKeeper>) -> Result<Text, Fail> {
     let host = Text::from_str(alloc, "h:5985")?;
-    let offers = collector.offers(source, &host)?;
-    let channel = channel(alloc)?;
+    let offers = collector.offers(&source(alloc)?, &host)?;
+    listed(alloc, offers.as_slice())
+}
+
+fn listed(alloc: Global, offers: &[Offer]) -> Result<Text, Fail> {
     let mut text = Text::new(alloc);
-    for offer in offers.as_slice() {
-        text.push_str(offer.version.as_str())?;
-        text.push_str(" ")?;
-        text.push_str(offer.subscribe.notify_to.as_str())?;
-        text.push_str(" ")?;
-        text.push_number(offer.subscribe.from.at(&channel))?;
-        text.push_str("\n")?;
+    let channel = channel(alloc)?;
+    for offer in offers {
+        push_offer(&mut text, offer, &channel)?;
     }
     Ok(text)
+}
+
+fn push_offer(text: &mut Text, offer: &Offer, channel: &ChannelName) -> Result<(), AllocError> {
+    text.push_str(offer.version.as_str())?;
+    text.push_str(" ")?;
+    text.push_str(offer.subscribe.notify_to.as_str())?;
+    text.push_str(" ")?;
+    text.push_number(offer.subscribe.from.at(channel))?;
+    text.push_str("\n")
 }
 
 #[test]
@@ -161,7 +199,7 @@ impl Retries {
             Ok(collector) => Ok(collector),
             Err((keeper, CollectorFault::Failed)) => {
                 self.note();
-                again(alloc, keeper)
+                start(alloc, keeper)
             }
             Err((_, fault)) => Err(fault),
         }
@@ -209,54 +247,68 @@ impl Retries {
     }
 }
 
-fn again(alloc: Global, keeper: FailingKeeper) -> Result<Collector<FailingKeeper>, CollectorFault> {
-    match Collector::start(alloc, keeper) {
-        Ok(collector) => Ok(collector),
-        Err((_, fault)) => Err(fault),
-    }
-}
-
 /// What is reported of a batch that was taken once, over a store of which one call fails, and how
 /// often the store was said to fail.
 fn reported(alloc: Global, fails_at: u64, keeps: bool) -> Result<Text, Fail> {
     let mut retries = Retries { failed: 0 };
     let keeper = FailingKeeper::new(alloc, [fails_at, 0], keeps);
     let mut collector = retries.start(alloc, keeper)?;
-    let subscription = subscription(alloc, "u")?;
-    retries.add(&mut collector, &subscription)?;
-    let batch = batch_to(alloc, 7)?;
-    retries.take(&mut collector, &subscription.name, &source(alloc)?, &batch)?;
-    let mut text = retries.report(&mut collector)?;
+    reported_by(alloc, &mut retries, &mut collector)
+}
+
+fn reported_by(
+    alloc: Global,
+    retries: &mut Retries,
+    collector: &mut Collector<FailingKeeper>,
+) -> Result<Text, Fail> {
+    retries.add(collector, &subscription(alloc, "u")?)?;
+    take_again(alloc, retries, collector)?;
+    let mut text = retries.report(collector)?;
     text.push_number(u64::from(retries.failed))?;
     Ok(text)
+}
+
+fn take_again(
+    alloc: Global,
+    retries: &mut Retries,
+    collector: &mut Collector<FailingKeeper>,
+) -> Result<(), Fail> {
+    let (sub, source) = (id(alloc, "u")?, source(alloc)?);
+    let batch = batch_to(alloc, 7)?;
+    Ok(retries.take(collector, &sub, &source, &batch)?)
 }
 
 /// The calls of the store where none fails: 3 at the start, 4 for the subscription, 5 for the batch
 /// and 8 for the report.
 const CALLS: u64 = 20;
 
+/// What is reported, before the number of failures.
+const REPORT: &str =
+    "subscription u live\n source host-1\n  channel security bookmark 7\n   held 7\nend\n";
+
+/// How many failures are told beside the report, or none where that is another.
+fn told(alloc: Global, fails_at: u64, keeps: bool) -> Result<Option<u64>, Fail> {
+    let text = reported(alloc, fails_at, keeps)?;
+    Ok(match text.as_str().strip_prefix(REPORT) {
+        Some(failures) => failures.parse::<u64>().ok(),
+        None => None,
+    })
+}
+
 #[test]
 fn each_failure_is_told_once_and_changes_nothing_else(rt: HostRuntime) -> Result<(), Fail> {
-    let alloc = rt.alloc();
-    for keeps in [false, true] {
-        for fails_at in 1..=CALLS {
-            let text = reported(alloc, fails_at, keeps)?;
-            assert_eq!(rt;
-                text.as_str(),
-                "subscription u live\n source host-1\n  channel security bookmark 7\n   held 7\nend\n1",
-                "at {fails_at}"
-            );
-        }
+    for fails_at in 1..=CALLS {
+        let told = (
+            told(rt.alloc(), fails_at, false)?,
+            told(rt.alloc(), fails_at, true)?,
+        );
+        assert_eq!(rt; told, (Some(1), Some(1)), "at {fails_at}");
     }
     Ok(())
 }
 
 #[test]
 fn a_store_that_does_not_fail_is_not_said_to(rt: HostRuntime) -> Result<(), Fail> {
-    let text = reported(rt.alloc(), CALLS + 1, false)?;
-    assert_eq!(rt;
-        text.as_str(),
-        "subscription u live\n source host-1\n  channel security bookmark 7\n   held 7\nend\n0"
-    );
+    assert_eq!(rt; told(rt.alloc(), CALLS + 1, false)?, Some(0));
     Ok(())
 }

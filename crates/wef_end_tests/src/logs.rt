@@ -1,135 +1,109 @@
-//! Logs by example.
+//! Logs by example: what is done with a log, in words, and what is answered.
 
 use std::alloc::{AllocError, Global};
-use std::process::Abort;
-use wef_base::numbers::MAX;
-use wef_base::{ChannelName, List, Text, ValueFault, is_xml_text};
+use std::test::Fail;
+use wef_base::{ChannelName, List, Text, is_xml_text};
 use wef_event::{Event, PlainEvent};
 use wef_keeper::{Change, Keeper, KeeperFault, Key, MemKeeper, Row};
 use wef_source_log::{Log, LogFault};
 
-fn channel(alloc: Global, name: &str) -> Result<ChannelName, ValueFault> {
-    ChannelName::read(&Text::from_str(alloc, name)?)
-}
+/// What is done between two starts: how many records a channel the log keeps if it is the first, and
+/// the steps.
+type Start = (u64, &'static str);
 
-/// The event of a word that holds XML Chars alone.
-fn event_of(alloc: Global, name: &str, word: Text) -> Result<Option<PlainEvent>, ValueFault> {
-    if !is_xml_text(&word)? {
-        return Ok(None);
+/// Starts over one store, one after the other, and what all their steps answer.
+const RUNS: &[(&[Start], &str)] = &[
+    (
+        &[(4, "write a 9;ends a;page a 0 100;page a 7 1;page a 9 100")],
+        "1 2 3 4 5 6 7 8 9;6-9;6 7 8 9;8;;",
+    ),
+    (
+        &[(1, "write a 9;ends a;page a 0 100")],
+        "1 2 3 4 5 6 7 8 9;9-9;9;",
+    ),
+    (
+        &[(
+            2,
+            "write a 9;ends b;page b 0 100;write b 1;ends b;page b 0 100",
+        )],
+        "1 2 3 4 5 6 7 8 9;1-0;;1;1-1;1;",
+    ),
+    // What stands round the word has 228 bytes.
+    (
+        &[(4, "long application 1048349;long application 1048348")],
+        "TooLong;1;",
+    ),
+    (
+        &[(1, "boot;write a 1"), (4, "boot;write a 1;ends a")],
+        "1;1;2;2;2-2;",
+    ),
+    (
+        &[
+            (4, "boot"),
+            (4, "boot"),
+            (4, "boot"),
+            (4, "boot"),
+            (4, "boot"),
+        ],
+        "1;2;3;4;5;",
+    ),
+    (
+        &[(
+            4,
+            "write a 1;fail after;armed;write a 1;write a 1;fail before;armed;write a 1;write a 1;fail after;calm;armed;write a 1",
+        )],
+        "1;;true;Failed;3;;true;Failed;4;;;false;5;",
+    ),
+];
+
+/// A row that stands when a log is started: its kind, channel, number, value and body.
+type Held = (u8, &'static str, u64, u64, &'static str);
+
+/// Rows, and what the steps behind them answer.
+const HELD: &[(Held, &str, &str)] = &[
+    (
+        (12, "", 0, 9_223_372_036_854_775_806, ""),
+        "boot",
+        "9223372036854775807;",
+    ),
+    ((12, "", 0, 9_223_372_036_854_775_807, ""), "boot", "Full"),
+    (
+        (10, "a", 0, 9_223_372_036_854_775_807, ""),
+        "write a 1",
+        "Full;",
+    ),
+    (
+        (10, "a", 0, 9_223_372_036_854_775_806, ""),
+        "write a 1",
+        "9223372036854775807;",
+    ),
+    ((10, "a", 0, 7, "spoilt"), "write a 1", "Failed;"),
+    (
+        (9, "a", 1, 0, "<Event></Event>"),
+        "page a 0 4;page a 1 4",
+        "Failed;;",
+    ),
+];
+
+/// A name that is none counts as want of memory.
+fn channel(alloc: Global, name: &str) -> Result<ChannelName, LogFault> {
+    match ChannelName::read(&Text::from_str(alloc, name)?) {
+        Ok(channel) => Ok(channel),
+        Err(_) => Err(LogFault::NoMemory),
     }
-    Ok(Some(PlainEvent {
-        channel: channel(alloc, name)?,
-        id: 7,
-        level: 4,
-        word,
-    }))
 }
 
-/// A log over a store.
-fn over(rt: &impl Abort, alloc: Global, keeper: MemKeeper, capacity: u64) -> Log<MemKeeper> {
-    Log::start(alloc, keeper, capacity.clamp(1, 1_000_000))
-        .ok()
-        .expect(rt, "a log")
+fn number(word: &str) -> u64 {
+    word.parse::<u64>().unwrap_or(0)
 }
 
-/// A log in which nothing was written.
-fn fresh(rt: &impl Abort, alloc: Global, capacity: u64) -> Log<MemKeeper> {
-    over(rt, alloc, MemKeeper::new(alloc), capacity)
+/// A word and what follows it.
+fn parted(words: &str) -> (&str, &str) {
+    words.split_once(' ').unwrap_or((words, ""))
 }
 
-/// Writes an event of a channel.
-fn try_write(
-    rt: &impl Abort,
-    alloc: Global,
-    log: &mut Log<MemKeeper>,
-    name: &str,
-) -> Result<u64, LogFault> {
-    let word = Text::from_str(alloc, "word").expect(rt, "memory");
-    let event = event_of(alloc, name, word).expect(rt, "a name");
-    let event = event.expect(rt, "XML characters");
-    log.write(&event)
-}
-
-/// Writes an event of a channel, and answers its number.
-fn write(rt: &impl Abort, alloc: Global, log: &mut Log<MemKeeper>, name: &str) -> u64 {
-    try_write(rt, alloc, log, name).expect(rt, "a number")
-}
-
-fn write_nine(rt: &impl Abort, alloc: Global, log: &mut Log<MemKeeper>) {
-    for number in 1..10 {
-        assert_eq!(rt; write(rt, alloc, log, "a"), number);
-    }
-}
-
-fn numbers(alloc: Global, page: &[Event]) -> Result<Text, AllocError> {
-    let mut text = Text::new(alloc);
-    for event in page {
-        text.push_number(event.number)?;
-        text.push_str(" ")?;
-    }
-    Ok(text)
-}
-
-/// Compares the numbers of a page's records.
-fn is_page(
-    rt: &impl Abort,
-    log: &mut Log<MemKeeper>,
-    name: &ChannelName,
-    after: u64,
-    max: u32,
-    want: &str,
-) {
-    if max > 0 {
-        let page = log.page(name, after, max).expect(rt, "memory");
-        let text = numbers(name.as_text().alloc(), page.as_slice()).expect(rt, "memory");
-        assert_eq!(rt; text.as_str(), want);
-    }
-}
-
-/// Compares the ends of a channel's window.
-fn has_ends(rt: &impl Abort, log: &mut Log<MemKeeper>, name: &ChannelName, first: u64, last: u64) {
-    assert_eq!(rt; log.first(name).expect(rt, "memory"), first);
-    assert_eq!(rt; log.last(name).expect(rt, "memory"), last);
-}
-
-#[test]
-fn a_window_of_four_has_the_last_four(rt: HostRuntime) {
-    let alloc = rt.alloc();
-    let name = channel(alloc, "a").expect(&rt, "a name");
-    let mut log = fresh(&rt, alloc, 4);
-    write_nine(&rt, alloc, &mut log);
-    has_ends(&rt, &mut log, &name, 6, 9);
-    is_page(&rt, &mut log, &name, 0, 100, "6 7 8 9 ");
-    is_page(&rt, &mut log, &name, 7, 1, "8 ");
-    is_page(&rt, &mut log, &name, 9, 100, "");
-    assert_eq!(&rt; log.boot(), 1);
-}
-
-#[test]
-fn a_window_of_one_has_the_last(rt: HostRuntime) {
-    let alloc = rt.alloc();
-    let name = channel(alloc, "a").expect(&rt, "a name");
-    let mut log = fresh(&rt, alloc, 1);
-    write_nine(&rt, alloc, &mut log);
-    has_ends(&rt, &mut log, &name, 9, 9);
-    is_page(&rt, &mut log, &name, 0, 100, "9 ");
-}
-
-#[test]
-fn channels_are_apart(rt: HostRuntime) {
-    let alloc = rt.alloc();
-    let other = channel(alloc, "b").expect(&rt, "a name");
-    let mut log = fresh(&rt, alloc, 2);
-    write_nine(&rt, alloc, &mut log);
-    has_ends(&rt, &mut log, &other, 1, 0);
-    is_page(&rt, &mut log, &other, 0, 100, "");
-    assert_eq!(&rt; write(&rt, alloc, &mut log, "b"), 1);
-    has_ends(&rt, &mut log, &other, 1, 1);
-    is_page(&rt, &mut log, &other, 0, 100, "1 ");
-}
-
-/// A word of letters, so many.
-fn letters(alloc: Global, count: u32) -> Result<Text, AllocError> {
+/// The word of the letter a, so often.
+fn letters(alloc: Global, count: u64) -> Result<Text, AllocError> {
     let mut word = Text::new(alloc);
     for _ in 0..count {
         word.push('a')?;
@@ -137,121 +111,216 @@ fn letters(alloc: Global, count: u32) -> Result<Text, AllocError> {
     Ok(word)
 }
 
-/// The event of a word of so many letters.
-fn long_event(rt: &impl Abort, alloc: Global, count: u32) -> PlainEvent {
-    let word = letters(alloc, count).expect(rt, "memory");
-    let event = event_of(alloc, "application", word).expect(rt, "a name");
-    event.expect(rt, "XML characters")
-}
-
-#[test]
-fn an_event_of_more_than_a_mebibyte_is_not_kept(rt: HostRuntime) {
-    let alloc = rt.alloc();
-    let mut log = fresh(&rt, alloc, 4);
-    // What stands round the word has 228 bytes.
-    let event = long_event(&rt, alloc, 1_048_349);
-    assert!(&rt; matches!(log.write(&event), Err(LogFault::TooLong)));
-    let event = long_event(&rt, alloc, 1_048_348);
-    assert!(&rt; matches!(log.write(&event), Ok(1)));
-}
-
-#[test]
-fn a_started_log_goes_on(rt: HostRuntime) {
-    let alloc = rt.alloc();
-    let name = channel(alloc, "a").expect(&rt, "a name");
-    let mut log = fresh(&rt, alloc, 1);
-    assert_eq!(&rt; log.boot(), 1);
-    assert_eq!(&rt; write(&rt, alloc, &mut log, "a"), 1);
-    let mut log = over(&rt, alloc, log.into_keeper(), 4);
-    assert_eq!(&rt; log.boot(), 2);
-    assert_eq!(&rt; write(&rt, alloc, &mut log, "a"), 2);
-    has_ends(&rt, &mut log, &name, 2, 2);
-}
-
-/// A key of a channel, of no channel where the name is empty.
-fn key_of(alloc: Global, kind: u8, channel: &str, number: u64) -> Result<Key, AllocError> {
-    Ok(Key {
-        kind,
-        sub: Text::new(alloc),
-        source: Text::new(alloc),
-        channel: Text::from_str(alloc, channel)?,
-        number,
+fn event_of(alloc: Global, name: &str, count: u64) -> Result<PlainEvent, LogFault> {
+    let channel = channel(alloc, name)?;
+    let word = letters(alloc, count)?;
+    if !is_xml_text(&word)? {
+        return Err(LogFault::NoMemory);
+    }
+    Ok(PlainEvent {
+        channel,
+        id: 7,
+        level: 4,
+        word,
     })
 }
 
-/// A store with one row.
-fn holding(alloc: Global, key: Key, value: u64, body: &str) -> Result<MemKeeper, KeeperFault> {
-    let mut changes = List::new(alloc);
-    changes.push(Change::Put(Row {
-        key,
-        value,
-        body: Text::from_str(alloc, body)?,
-    }))?;
+/// Writes an event of so many letters.
+fn write(log: &mut Log<MemKeeper>, alloc: Global, name: &str, count: u64) -> Result<u64, LogFault> {
+    let event = event_of(alloc, name, count)?;
+    log.write(&event)
+}
+
+fn push_written(
+    text: &mut Text,
+    log: &mut Log<MemKeeper>,
+    name: &str,
+    count: u64,
+) -> Result<(), LogFault> {
+    let number = write(log, text.alloc(), name, count)?;
+    Ok(text.push_number(number)?)
+}
+
+fn push_long(text: &mut Text, log: &mut Log<MemKeeper>, words: &str) -> Result<(), LogFault> {
+    let (name, count) = parted(words);
+    push_written(text, log, name, number(count))
+}
+
+fn push_writes(text: &mut Text, log: &mut Log<MemKeeper>, words: &str) -> Result<(), LogFault> {
+    let (name, times) = parted(words);
+    for turn in 0..number(times) {
+        push_gap(text, turn > 0)?;
+        push_written(text, log, name, 4)?;
+    }
+    Ok(())
+}
+
+fn push_gap(text: &mut Text, is_gap: bool) -> Result<(), AllocError> {
+    text.push_str(if is_gap { " " } else { "" })
+}
+
+fn push_numbers(text: &mut Text, page: &[Event]) -> Result<(), AllocError> {
+    let mut is_gap = false;
+    for event in page {
+        push_gap(text, is_gap)?;
+        text.push_number(event.number)?;
+        is_gap = true;
+    }
+    Ok(())
+}
+
+fn push_page(text: &mut Text, log: &mut Log<MemKeeper>, words: &str) -> Result<(), LogFault> {
+    let (name, numbers) = parted(words);
+    let (after, max) = parted(numbers);
+    let page = page_of(log, text.alloc(), name, number(after), max)?;
+    Ok(push_numbers(text, page.as_slice())?)
+}
+
+fn page_of(
+    log: &mut Log<MemKeeper>,
+    alloc: Global,
+    name: &str,
+    after: u64,
+    max: &str,
+) -> Result<List<Event>, LogFault> {
+    let max = max.parse::<u32>().unwrap_or(1).max(1);
+    let channel = channel(alloc, name)?;
+    log.page(&channel, after, max)
+}
+
+fn push_ends(text: &mut Text, log: &mut Log<MemKeeper>, name: &str) -> Result<(), LogFault> {
+    let (first, last) = ends_of(log, text.alloc(), name)?;
+    text.push_number(first)?;
+    text.push_str("-")?;
+    Ok(text.push_number(last)?)
+}
+
+fn ends_of(log: &mut Log<MemKeeper>, alloc: Global, name: &str) -> Result<(u64, u64), LogFault> {
+    let channel = channel(alloc, name)?;
+    Ok((log.first(&channel)?, log.last(&channel)?))
+}
+
+fn push_armed(text: &mut Text, log: &Log<MemKeeper>) -> Result<(), AllocError> {
+    text.push_str(if log.is_armed() { "true" } else { "false" })
+}
+
+/// Does a step, and appends its answer.
+fn push_answer(text: &mut Text, log: &mut Log<MemKeeper>, step: &str) -> Result<(), LogFault> {
+    let (word, rest) = parted(step);
+    match word {
+        "write" => push_writes(text, log, rest)?,
+        "long" => push_long(text, log, rest)?,
+        "page" => push_page(text, log, rest)?,
+        "ends" => push_ends(text, log, rest)?,
+        "boot" => text.push_number(log.boot())?,
+        "armed" => push_armed(text, log)?,
+        "fail" => log.fail_next(rest == "after"),
+        "calm" => log.calm(),
+        _ => text.push_str("no step")?,
+    }
+    Ok(())
+}
+
+fn push_fault(text: &mut Text, fault: LogFault) -> Result<(), AllocError> {
+    text.push_str(match fault {
+        LogFault::NoMemory => return Err(AllocError),
+        LogFault::Failed => "Failed",
+        LogFault::Full => "Full",
+        LogFault::TooLong => "TooLong",
+    })
+}
+
+fn push_steps(text: &mut Text, log: &mut Log<MemKeeper>, steps: &str) -> Result<(), AllocError> {
+    for step in steps.split(';') {
+        if let Err(fault) = push_answer(text, log, step) {
+            push_fault(text, fault)?;
+        }
+        text.push_str(";")?;
+    }
+    Ok(())
+}
+
+/// Starts a log over a store, does the steps, and gives the store back.
+fn push_started(
+    text: &mut Text,
+    keeper: MemKeeper,
+    capacity: u64,
+    steps: &str,
+) -> Result<MemKeeper, AllocError> {
+    match Log::start(text.alloc(), keeper, capacity.clamp(1, 1_000_000)) {
+        Ok(log) => push_done(text, log, steps),
+        Err((keeper, fault)) => {
+            push_fault(text, fault)?;
+            Ok(keeper)
+        }
+    }
+}
+
+fn push_done(text: &mut Text, log: Log<MemKeeper>, steps: &str) -> Result<MemKeeper, AllocError> {
+    let mut log = log;
+    push_steps(text, &mut log, steps)?;
+    Ok(log.into_keeper())
+}
+
+/// What starts over one store answer.
+fn ran(alloc: Global, starts: &[Start]) -> Result<Text, AllocError> {
+    let mut text = Text::new(alloc);
     let mut keeper = MemKeeper::new(alloc);
-    keeper.commit(&changes)?;
+    for &(capacity, steps) in starts {
+        keeper = push_started(&mut text, keeper, capacity, steps)?;
+    }
+    Ok(text)
+}
+
+#[test]
+fn logs_keep_their_windows(rt: HostRuntime) -> Result<(), Fail> {
+    for &(starts, want) in RUNS {
+        assert_eq!(rt; ran(rt.alloc(), starts)?.as_str(), want);
+    }
+    Ok(())
+}
+
+fn row_of(alloc: Global, held: &Held) -> Result<Row, AllocError> {
+    let (kind, channel, number, value, body) = *held;
+    let channel = Text::from_str(alloc, channel)?;
+    let body = Text::from_str(alloc, body)?;
+    Ok(Row {
+        key: Key {
+            kind,
+            sub: Text::new(alloc),
+            source: Text::new(alloc),
+            channel,
+            number,
+        },
+        value,
+        body,
+    })
+}
+
+fn put(alloc: Global, held: &Held) -> Result<List<Change>, AllocError> {
+    let mut changes = List::new(alloc);
+    changes.push(Change::Put(row_of(alloc, held)?))?;
+    Ok(changes)
+}
+
+/// A store with one row.
+fn holding(alloc: Global, held: &Held) -> Result<MemKeeper, KeeperFault> {
+    let mut keeper = MemKeeper::new(alloc);
+    keeper.commit(&put(alloc, held)?)?;
     Ok(keeper)
 }
 
-#[test]
-fn each_start_has_the_next_number(rt: HostRuntime) {
-    let alloc = rt.alloc();
-    let mut keeper = MemKeeper::new(alloc);
-    for boot in 1..11u64 {
-        let log = over(&rt, alloc, keeper, 4);
-        assert_eq!(&rt; log.boot(), boot);
-        keeper = log.into_keeper();
-    }
+/// What the steps of a log over a store with one row answer.
+fn ran_over(alloc: Global, held: &Held, steps: &str) -> Result<Text, Fail> {
+    let mut text = Text::new(alloc);
+    let _keeper = push_started(&mut text, holding(alloc, held)?, 4, steps)?;
+    Ok(text)
 }
 
 #[test]
-fn a_start_number_has_an_end(rt: HostRuntime) {
-    let alloc = rt.alloc();
-    for (value, want) in [(MAX, Some(LogFault::Full)), (MAX - 1, None)] {
-        let key = key_of(alloc, 12, "", 0).expect(&rt, "memory");
-        let keeper = holding(alloc, key, value, "").expect(&rt, "memory");
-        let fault = Log::start(alloc, keeper, 4).err().map(|refused| refused.1);
-        assert_eq!(&rt; fault, want);
+fn logs_go_on_from_what_is_held(rt: HostRuntime) -> Result<(), Fail> {
+    for (held, steps, want) in HELD {
+        assert_eq!(rt; ran_over(rt.alloc(), held, steps)?.as_str(), *want);
     }
-}
-
-#[test]
-fn a_channel_has_an_end(rt: HostRuntime) {
-    let alloc = rt.alloc();
-    for (value, body, want) in [
-        (MAX, "", Err(LogFault::Full)),
-        (MAX - 1, "", Ok(MAX)),
-        (7, "spoilt", Err(LogFault::Failed)),
-    ] {
-        let key = key_of(alloc, 10, "a", 0).expect(&rt, "memory");
-        let keeper = holding(alloc, key, value, body).expect(&rt, "memory");
-        let mut log = over(&rt, alloc, keeper, 4);
-        assert_eq!(&rt; try_write(&rt, alloc, &mut log, "a"), want);
-    }
-}
-
-#[test]
-fn a_record_that_is_no_event_is_not_given(rt: HostRuntime) {
-    let alloc = rt.alloc();
-    let name = channel(alloc, "a").expect(&rt, "a name");
-    let key = key_of(alloc, 9, "a", 1).expect(&rt, "memory");
-    let keeper = holding(alloc, key, 0, "<Event></Event>").expect(&rt, "memory");
-    let mut log = over(&rt, alloc, keeper, 4);
-    assert!(&rt; matches!(log.page(&name, 0, 4), Err(LogFault::Failed)));
-    assert!(&rt; matches!(log.page(&name, 1, 4), Ok(_)));
-}
-
-#[test]
-fn the_next_call_finds_what_a_failed_write_left(rt: HostRuntime) {
-    let alloc = rt.alloc();
-    let mut log = fresh(&rt, alloc, 4);
-    assert_eq!(&rt; write(&rt, alloc, &mut log, "a"), 1);
-    for (stands, next) in [(true, 3), (false, 4)] {
-        log.fail_next(stands);
-        assert!(&rt; log.is_armed());
-        assert_eq!(&rt; try_write(&rt, alloc, &mut log, "a"), Err(LogFault::Failed));
-        assert_eq!(&rt; write(&rt, alloc, &mut log, "a"), next);
-    }
-    log.fail_next(true);
-    log.calm();
-    assert_eq!(&rt; write(&rt, alloc, &mut log, "a"), 5);
+    Ok(())
 }

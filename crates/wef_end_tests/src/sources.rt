@@ -1,7 +1,7 @@
-//! Sources by example.
+//! Sources by example: what is done with a source, in words, and what is answered.
 
 use std::alloc::{AllocError, Global};
-use std::process::Abort;
+use std::test::Fail;
 use wef_base::{ChannelName, List, SourceName, SubId, Text, ValueFault, is_xml_text};
 use wef_batch::{Batch, Item};
 use wef_bookmark::Bookmark;
@@ -12,28 +12,106 @@ use wef_keeper::MemKeeper;
 use wef_query::QueryList;
 use wef_source::{Delivery, Moved, Poll, Reply, SourceEnd, SourceFault};
 
-/// The value of an id that no source draws.
-const FOREIGN: u128 = 5;
+type Source = SourceEnd<MemKeeper>;
+
+/// The steps of a source that keeps four records a channel, those once it is started again, and what
+/// all of them answer. An id is the number of the start and that of the message.
+const RUNS: &[(&str, &str, &str)] = &[
+    // A window that wrapped is sent with what left it.
+    (
+        "serve 20 512000;poll;write application 9;poll;poll;ack 1.2;poll",
+        "",
+        "1.1 adopted 1 of 1;nothing;1 2 3 4 5 6 7 8 9;1.2 application gone 1-5, application 6, application 7, application 8, application 9, to application 9;nothing;moved;nothing;",
+    ),
+    // An event that can never be sent is given up. Round the word, an event as written has 401 bytes:
+    // 4,096 are left for items.
+    (
+        "serve 20 8192;long application 3696;poll;ack 1.2;long application 3695;poll;ack 1.3",
+        "",
+        "1.1 adopted 1 of 1;1;1.2 application gone 1-1, to application 1;moved;2;1.3 application 2, to application 2;moved;",
+    ),
+    // A batch may end between two channels.
+    (
+        "serve 1 512000;write system 1;write application 1;poll;ack 1.2;poll;ack 1.3;poll",
+        "",
+        "1.1 adopted 1 of 1;1;1;1.2 application 1, to application 1;moved;1.3 system 1, to system 1;moved;nothing;",
+    ),
+    // A delivery that is lost or refused is sent again.
+    (
+        "serve 20 512000;write application 1;poll;lost;poll;ack 1.2;refuse 1.3;poll;unreachable 1.4;lost;sessions",
+        "",
+        "1.1 adopted 1 of 1;1;1.2 application 1, to application 1;;1.3 application 1, to application 1;NotAsked;refused;1.4 application 1, to application 1;refused;UnknownSubscription;0;",
+    ),
+    // An answer to another id is not asked for.
+    (
+        "serve 20 512000;write application 1;poll;ack none;adopt none;ack 0.5;adopt 0.5;poll",
+        "",
+        "1.1 adopted 1 of 1;1;1.2 application 1, to application 1;NotAsked;NotAsked;NotAsked;NotAsked;nothing;",
+    ),
+    // A started source forgets its sessions and keeps its log.
+    (
+        "serve 20 512000;boot;name;write application 2",
+        "boot;poll;ask;write application 1",
+        "1.1 adopted 1 of 1;1;s;1 2;2;UnknownSubscription;2.1;3;",
+    ),
+    // What a failed write left is sent.
+    (
+        "serve 20 512000;fail before;calm;write application 1;fail after;armed;write application 1;poll",
+        "",
+        "1.1 adopted 1 of 1;;;1;;true;Failed;1.2 application 1, application 2, to application 2;",
+    ),
+];
 
 fn channel(alloc: Global, name: &str) -> Result<ChannelName, ValueFault> {
     ChannelName::read(&Text::from_str(alloc, name)?)
 }
 
-/// The event of a word that holds XML Chars alone.
-fn event_of(alloc: Global, name: &str, word: Text) -> Result<Option<PlainEvent>, ValueFault> {
-    if !is_xml_text(&word)? {
-        return Ok(None);
+/// A name that is none counts as want of memory.
+fn known<T>(read: Result<T, ValueFault>) -> Result<T, SourceFault> {
+    match read {
+        Ok(value) => Ok(value),
+        Err(_) => Err(SourceFault::NoMemory),
     }
-    Ok(Some(PlainEvent {
-        channel: channel(alloc, name)?,
-        id: 7,
-        level: 4,
-        word,
-    }))
+}
+
+fn subscription(alloc: Global) -> Result<SubId, SourceFault> {
+    known(SubId::read(&Text::from_str(alloc, "u")?))
+}
+
+/// The id of `START.MESSAGE`, or one that is no UUID.
+fn id_of(alloc: Global, word: &str) -> MessageId {
+    let value = match word.split_once('.') {
+        Some((boot, seq)) => Some(MessageId::of(number(boot), number(seq))),
+        None => None,
+    };
+    MessageId {
+        value,
+        text: Text::new(alloc),
+    }
+}
+
+fn push_half(text: &mut Text, half: u128) -> Result<(), AllocError> {
+    text.push_number(u64::try_from(half).unwrap_or(0))
+}
+
+fn push_id(text: &mut Text, id: &MessageId) -> Result<(), AllocError> {
+    let value = id.value.unwrap_or(0);
+    push_half(text, value / 18_446_744_073_709_551_616)?;
+    text.push_str(".")?;
+    push_half(text, value % 18_446_744_073_709_551_616)
+}
+
+fn number(word: &str) -> u64 {
+    word.parse::<u64>().unwrap_or(0)
+}
+
+/// A word and what follows it.
+fn parted(words: &str) -> (&str, &str) {
+    words.split_once(' ').unwrap_or((words, ""))
 }
 
 /// A word of the letter x, so often.
-fn letters(alloc: Global, count: u32) -> Result<Text, AllocError> {
+fn letters(alloc: Global, count: u64) -> Result<Text, AllocError> {
     let mut word = Text::new(alloc);
     for _ in 0..count {
         word.push('x')?;
@@ -41,115 +119,140 @@ fn letters(alloc: Global, count: u32) -> Result<Text, AllocError> {
     Ok(word)
 }
 
-/// Writes an event of so many letters.
-fn try_write(
-    rt: &impl Abort,
-    alloc: Global,
-    source: &mut SourceEnd<MemKeeper>,
-    name: &str,
-    count: u32,
-) -> Result<u64, SourceFault> {
-    let word = letters(alloc, count).expect(rt, "memory");
-    let event = event_of(alloc, name, word).expect(rt, "a name");
-    let event = event.expect(rt, "XML characters");
-    source.write(&event)
-}
-
-/// Writes an event of so many letters, and answers its number.
-fn write(
-    rt: &impl Abort,
-    alloc: Global,
-    source: &mut SourceEnd<MemKeeper>,
-    name: &str,
-    count: u32,
-) -> u64 {
-    try_write(rt, alloc, source, name, count).expect(rt, "a number")
-}
-
-/// A source over a store, which keeps four records a channel.
-fn over(rt: &impl Abort, alloc: Global, keeper: MemKeeper) -> SourceEnd<MemKeeper> {
-    let name = Text::from_str(alloc, "s").expect(rt, "memory");
-    let name = SourceName::read(&name).expect(rt, "a name");
-    SourceEnd::start(alloc, keeper, name, 4)
-        .ok()
-        .expect(rt, "a source")
-}
-
-fn write_many(
-    rt: &impl Abort,
-    alloc: Global,
-    source: &mut SourceEnd<MemKeeper>,
-    name: &str,
-    count: u64,
-) {
-    for number in 0..count {
-        assert_eq!(rt; write(rt, alloc, source, name, 1), number + 1);
+fn event_of(alloc: Global, name: &str, count: u64) -> Result<PlainEvent, SourceFault> {
+    let channel = known(channel(alloc, name))?;
+    let word = letters(alloc, count)?;
+    if !is_xml_text(&word)? {
+        return Err(SourceFault::NoMemory);
     }
-}
-
-/// An offer of the subscription `u` to all events of two channels.
-fn offer_of(alloc: Global, max_items: u32, max_bytes: u32) -> Result<Offer, ValueFault> {
-    let mut names = List::new(alloc);
-    names.push(channel(alloc, "application")?)?;
-    names.push(channel(alloc, "system")?)?;
-    Ok(Offer {
-        version: Text::from_str(alloc, "1")?,
-        subscribe: Subscribe {
-            notify_to: Text::from_str(alloc, "http://host/wsman/subscriptions/u/s")?,
-            end_to: None,
-            identifier: None,
-            query: QueryList::all(alloc, names)?,
-            max_items,
-            max_bytes,
-            heartbeat: 0,
-            expires: None,
-            from: Bookmark::new(alloc),
-        },
+    Ok(PlainEvent {
+        channel,
+        id: 7,
+        level: 4,
+        word,
     })
 }
 
-fn subscription(alloc: Global) -> Result<SubId, ValueFault> {
-    SubId::read(&Text::from_str(alloc, "u")?)
+/// Writes an event of so many letters.
+fn write(source: &mut Source, alloc: Global, name: &str, count: u64) -> Result<u64, SourceFault> {
+    let event = event_of(alloc, name, count)?;
+    source.write(&event)
 }
 
-/// Has a source serve the subscription, and answers its name.
-fn serve(rt: &impl Abort, alloc: Global, source: &mut SourceEnd<MemKeeper>, offer: Offer) -> SubId {
-    let id = source.ask().expect(rt, "an id");
+fn push_written(
+    text: &mut Text,
+    source: &mut Source,
+    name: &str,
+    count: u64,
+) -> Result<(), SourceFault> {
+    let number = write(source, text.alloc(), name, count)?;
+    Ok(text.push_number(number)?)
+}
+
+fn push_long(text: &mut Text, source: &mut Source, words: &str) -> Result<(), SourceFault> {
+    let (name, count) = parted(words);
+    push_written(text, source, name, number(count))
+}
+
+fn push_writes(text: &mut Text, source: &mut Source, words: &str) -> Result<(), SourceFault> {
+    let (name, times) = parted(words);
+    for turn in 0..number(times) {
+        text.push_str(if turn > 0 { " " } else { "" })?;
+        push_written(text, source, name, 1)?;
+    }
+    Ok(())
+}
+
+/// All events of two channels.
+fn query(alloc: Global) -> Result<QueryList, ValueFault> {
+    let mut names = List::new(alloc);
+    add(&mut names, alloc, "application")?;
+    add(&mut names, alloc, "system")?;
+    Ok(QueryList::all(alloc, names)?)
+}
+
+fn add(names: &mut List<ChannelName>, alloc: Global, name: &str) -> Result<(), ValueFault> {
+    Ok(names.push(channel(alloc, name)?)?)
+}
+
+/// An offer of the subscription `u`.
+fn offer_of(alloc: Global, max_items: u32, max_bytes: u32) -> Result<Offer, ValueFault> {
+    let version = Text::from_str(alloc, "1")?;
+    let subscribe = subscribe(alloc, max_items, max_bytes)?;
+    Ok(Offer { version, subscribe })
+}
+
+fn subscribe(alloc: Global, max_items: u32, max_bytes: u32) -> Result<Subscribe, ValueFault> {
+    let notify_to = Text::from_str(alloc, "http://host/wsman/subscriptions/u/s")?;
+    let query = query(alloc)?;
+    Ok(Subscribe {
+        notify_to,
+        end_to: None,
+        identifier: None,
+        query,
+        max_items,
+        max_bytes,
+        heartbeat: 0,
+        expires: None,
+        from: Bookmark::new(alloc),
+    })
+}
+
+fn offers_of(alloc: Global, words: &str) -> Result<List<Offer>, ValueFault> {
+    let (items, bytes) = parted(words);
+    let items = items.parse::<u32>().unwrap_or(0);
+    let bytes = bytes.parse::<u32>().unwrap_or(0);
     let mut offers = List::new(alloc);
-    offers.push(offer).expect(rt, "memory");
-    assert_eq!(rt; source.adopt(&id, &offers, 0).expect(rt, "an answer"), 1);
-    assert_eq!(rt; source.sessions().expect(rt, "memory").len(), 1);
-    subscription(alloc).expect(rt, "a name")
+    offers.push(offer_of(alloc, items, bytes)?)?;
+    Ok(offers)
 }
 
-/// A source that keeps four records a channel, and serves the subscription.
-fn serving(
-    rt: &impl Abort,
-    alloc: Global,
-    max_items: u32,
-    max_bytes: u32,
-) -> (SourceEnd<MemKeeper>, SubId) {
-    let mut source = over(rt, alloc, MemKeeper::new(alloc));
-    let offer = offer_of(alloc, max_items, max_bytes).expect(rt, "an offer");
-    let sub = serve(rt, alloc, &mut source, offer);
-    (source, sub)
+/// Asks, and adopts an offer of so many items and bytes a batch.
+fn push_served(text: &mut Text, source: &mut Source, words: &str) -> Result<(), SourceFault> {
+    let offers = known(offers_of(text.alloc(), words))?;
+    let id = source.ask()?;
+    push_adopted(text, source, &id, &offers)
+}
+
+fn push_adopted(
+    text: &mut Text,
+    source: &mut Source,
+    id: &MessageId,
+    offers: &List<Offer>,
+) -> Result<(), SourceFault> {
+    let count = source.adopt(id, offers, 0)?;
+    push_id(text, id)?;
+    text.push_str(" adopted ")?;
+    text.push_number(count)?;
+    text.push_str(" of ")?;
+    push_sessions(text, source)
+}
+
+/// Adopts no offer.
+fn push_none(text: &mut Text, source: &mut Source, id: &str) -> Result<(), SourceFault> {
+    let id = id_of(text.alloc(), id);
+    push_adopted(text, source, &id, &List::new(text.alloc()))
+}
+
+fn push_sessions(text: &mut Text, source: &Source) -> Result<(), SourceFault> {
+    let sessions = source.sessions()?;
+    Ok(text.push_number(sessions.len() as u64)?)
+}
+
+fn push_asked(text: &mut Text, source: &mut Source) -> Result<(), SourceFault> {
+    let id = source.ask()?;
+    Ok(push_id(text, &id)?)
 }
 
 fn push_item(text: &mut Text, item: &Item) -> Result<(), AllocError> {
     match item {
-        Item::Event(event) => {
-            text.push_str(event.channel.as_text().as_str())?;
-            text.push_str(" ")?;
-            text.push_number(event.number)
-        }
+        Item::Event(event) => push_numbered(text, &event.channel, " ", event.number),
         Item::Dropped {
             channel,
             first,
             last,
         } => {
-            text.push_str(channel.as_text().as_str())?;
-            text.push_str(" gone ")?;
-            text.push_number(*first)?;
+            push_numbered(text, channel, " gone ", *first)?;
             text.push_str("-")?;
             text.push_number(*last)
         }
@@ -157,180 +260,167 @@ fn push_item(text: &mut Text, item: &Item) -> Result<(), AllocError> {
     }
 }
 
+fn push_numbered(
+    text: &mut Text,
+    channel: &ChannelName,
+    between: &str,
+    number: u64,
+) -> Result<(), AllocError> {
+    text.push_str(channel.as_text().as_str())?;
+    text.push_str(between)?;
+    text.push_number(number)
+}
+
 /// What a batch has, and how far it reads.
-fn shown(alloc: Global, batch: &Batch) -> Result<Text, AllocError> {
-    let mut text = Text::new(alloc);
+fn push_batch(text: &mut Text, batch: &Batch) -> Result<(), AllocError> {
     for item in batch.items.as_slice() {
-        push_item(&mut text, item)?;
-        text.push_str("; ")?;
+        text.push_str(" ")?;
+        push_item(text, item)?;
+        text.push_str(",")?;
     }
-    text.push_str("to")?;
+    text.push_str(" to")?;
     for (channel, number) in batch.to.numbers() {
         text.push_str(" ")?;
-        text.push_str(channel.as_text().as_str())?;
-        text.push_str(" ")?;
-        text.push_number(*number)?;
+        push_numbered(text, channel, " ", *number)?;
     }
+    Ok(())
+}
+
+fn push_delivery(text: &mut Text, delivery: &Delivery) -> Result<(), AllocError> {
+    push_id(text, &delivery.id)?;
+    push_batch(text, &delivery.batch)
+}
+
+fn push_poll(text: &mut Text, poll: &Poll) -> Result<(), AllocError> {
+    match poll {
+        Poll::Send(delivery) => push_delivery(text, delivery),
+        Poll::Nothing => text.push_str("nothing"),
+    }
+}
+
+fn push_polled(text: &mut Text, source: &mut Source) -> Result<(), SourceFault> {
+    let poll = polled(source, text.alloc())?;
+    Ok(push_poll(text, &poll)?)
+}
+
+fn polled(source: &mut Source, alloc: Global) -> Result<Poll, SourceFault> {
+    let sub = subscription(alloc)?;
+    source.poll(&sub, 1)
+}
+
+fn push_moved(
+    text: &mut Text,
+    source: &mut Source,
+    id: &str,
+    reply: &Reply,
+) -> Result<(), SourceFault> {
+    let id = id_of(text.alloc(), id);
+    let moved = source.on_reply(&id, reply)?;
+    Ok(push_move(text, moved)?)
+}
+
+fn push_move(text: &mut Text, moved: Moved) -> Result<(), AllocError> {
+    text.push_str(match moved {
+        Moved::Moved => "moved",
+        Moved::Refused => "refused",
+    })
+}
+
+fn push_refused(
+    text: &mut Text,
+    source: &mut Source,
+    id: &str,
+    fault: FaultName,
+) -> Result<(), SourceFault> {
+    push_moved(text, source, id, &Reply::Fault(fault))
+}
+
+fn lose(alloc: Global, source: &mut Source) -> Result<(), SourceFault> {
+    source.on_lost(&subscription(alloc)?)
+}
+
+/// Does a step that the log takes, and appends its answer.
+fn push_kept(text: &mut Text, source: &mut Source, step: &str) -> Result<(), SourceFault> {
+    let (word, rest) = parted(step);
+    match word {
+        "write" => push_writes(text, source, rest)?,
+        "long" => push_long(text, source, rest)?,
+        "boot" => text.push_number(source.boot())?,
+        "name" => text.push_str(source.name().as_text().as_str())?,
+        "armed" => text.push_str(if source.is_armed() { "true" } else { "false" })?,
+        "fail" => source.fail_next(rest == "after"),
+        "calm" => source.calm(),
+        _ => text.push_str("no step")?,
+    }
+    Ok(())
+}
+
+/// Does a step, and appends its answer.
+fn push_answer(text: &mut Text, source: &mut Source, step: &str) -> Result<(), SourceFault> {
+    let (word, rest) = parted(step);
+    match word {
+        "serve" => push_served(text, source, rest),
+        "adopt" => push_none(text, source, rest),
+        "sessions" => push_sessions(text, source),
+        "ask" => push_asked(text, source),
+        "poll" => push_polled(text, source),
+        "lost" => lose(text.alloc(), source),
+        "ack" => push_moved(text, source, rest, &Reply::Ack),
+        "refuse" => push_refused(text, source, rest, FaultName::InternalError),
+        "unreachable" => push_refused(text, source, rest, FaultName::DestinationUnreachable),
+        _ => push_kept(text, source, step),
+    }
+}
+
+fn push_fault(text: &mut Text, fault: SourceFault) -> Result<(), AllocError> {
+    text.push_str(match fault {
+        SourceFault::NoMemory => return Err(AllocError),
+        SourceFault::Failed => "Failed",
+        SourceFault::Full => "Full",
+        SourceFault::TooLong => "TooLong",
+        SourceFault::NotAsked => "NotAsked",
+        SourceFault::UnknownSubscription => "UnknownSubscription",
+        SourceFault::Spent => "Spent",
+    })
+}
+
+fn push_steps(text: &mut Text, source: &mut Source, steps: &str) -> Result<(), AllocError> {
+    for step in steps.split_terminator(';') {
+        if let Err(fault) = push_answer(text, source, step) {
+            push_fault(text, fault)?;
+        }
+        text.push_str(";")?;
+    }
+    Ok(())
+}
+
+fn started(alloc: Global, keeper: MemKeeper) -> Result<Source, SourceFault> {
+    let name = known(SourceName::read(&Text::from_str(alloc, "s")?))?;
+    match SourceEnd::start(alloc, keeper, name, 4) {
+        Ok(source) => Ok(source),
+        Err((_, fault)) => Err(fault),
+    }
+}
+
+/// Starts a source over a store, does the steps, and gives the store back.
+fn push_started(text: &mut Text, keeper: MemKeeper, steps: &str) -> Result<MemKeeper, SourceFault> {
+    let mut source = started(text.alloc(), keeper)?;
+    push_steps(text, &mut source, steps)?;
+    Ok(source.into_keeper())
+}
+
+/// What the steps of a source answer, and those once it is started again.
+fn ran(alloc: Global, steps: &str, again: &str) -> Result<Text, SourceFault> {
+    let mut text = Text::new(alloc);
+    let keeper = push_started(&mut text, MemKeeper::new(alloc), steps)?;
+    let _keeper = push_started(&mut text, keeper, again)?;
     Ok(text)
 }
 
-/// Takes what the session sends, and compares it.
-fn sends(
-    rt: &impl Abort,
-    alloc: Global,
-    source: &mut SourceEnd<MemKeeper>,
-    sub: &SubId,
-    want: &str,
-) -> Delivery {
-    let poll = source.poll(sub, 1).expect(rt, "an answer");
-    let delivery = sent(poll).expect(rt, "a delivery");
-    assert_eq!(rt;
-        shown(alloc, &delivery.batch).expect(rt, "memory").as_str(),
-        want
-    );
-    delivery
-}
-
-fn sent(poll: Poll) -> Option<Delivery> {
-    match poll {
-        Poll::Send(delivery) => Some(delivery),
-        Poll::Nothing => None,
+#[test]
+fn sources_send_what_they_have(rt: HostRuntime) -> Result<(), Fail> {
+    for (steps, again, want) in RUNS {
+        assert_eq!(rt; ran(rt.alloc(), steps, again)?.as_str(), *want);
     }
-}
-
-fn says_nothing(rt: &impl Abort, source: &mut SourceEnd<MemKeeper>, sub: &SubId) {
-    let poll = source.poll(sub, 2).expect(rt, "an answer");
-    assert!(rt; matches!(&poll, Poll::Nothing));
-}
-
-fn is_acknowledged(rt: &impl Abort, source: &mut SourceEnd<MemKeeper>, delivery: &Delivery) {
-    assert_eq!(rt;
-        source.on_reply(&delivery.id, &Reply::Ack),
-        Ok(Moved::Moved)
-    );
-}
-
-#[test]
-fn a_window_that_wrapped_is_sent_with_what_left_it(rt: HostRuntime) {
-    let alloc = rt.alloc();
-    let (mut source, sub) = serving(&rt, alloc, 20, 512_000);
-    says_nothing(&rt, &mut source, &sub);
-    write_many(&rt, alloc, &mut source, "application", 9);
-    let want =
-        "application gone 1-5; application 6; application 7; application 8; application 9; to application 9";
-    let delivery = sends(&rt, alloc, &mut source, &sub, want);
-    says_nothing(&rt, &mut source, &sub);
-    is_acknowledged(&rt, &mut source, &delivery);
-    says_nothing(&rt, &mut source, &sub);
-}
-
-#[test]
-fn an_event_that_can_never_be_sent_is_given_up(rt: HostRuntime) {
-    let alloc = rt.alloc();
-    let (mut source, sub) = serving(&rt, alloc, 20, 8192);
-    // Round the word, an event as written has 401 bytes: 4,096 are left for items.
-    for (count, want) in [
-        (3696, "application gone 1-1; to application 1"),
-        (3695, "application 2; to application 2"),
-    ] {
-        write(&rt, alloc, &mut source, "application", count);
-        let delivery = sends(&rt, alloc, &mut source, &sub, want);
-        is_acknowledged(&rt, &mut source, &delivery);
-    }
-}
-
-#[test]
-fn a_batch_may_end_between_two_channels(rt: HostRuntime) {
-    let alloc = rt.alloc();
-    let (mut source, sub) = serving(&rt, alloc, 1, 512_000);
-    write_many(&rt, alloc, &mut source, "system", 1);
-    write_many(&rt, alloc, &mut source, "application", 1);
-    for want in ["application 1; to application 1", "system 1; to system 1"] {
-        let delivery = sends(&rt, alloc, &mut source, &sub, want);
-        is_acknowledged(&rt, &mut source, &delivery);
-    }
-    says_nothing(&rt, &mut source, &sub);
-}
-
-#[test]
-fn a_delivery_that_is_lost_or_refused_is_sent_again(rt: HostRuntime) {
-    let alloc = rt.alloc();
-    let (mut source, sub) = serving(&rt, alloc, 20, 512_000);
-    write_many(&rt, alloc, &mut source, "application", 1);
-    let want = "application 1; to application 1";
-    let lost = sends(&rt, alloc, &mut source, &sub, want);
-    source.on_lost(&sub).expect(&rt, "a session");
-    let refused = sends(&rt, alloc, &mut source, &sub, want);
-    assert_eq!(&rt;
-        source.on_reply(&lost.id, &Reply::Ack),
-        Err(SourceFault::NotAsked)
-    );
-    let reply = Reply::Fault(FaultName::InternalError);
-    assert_eq!(&rt; source.on_reply(&refused.id, &reply), Ok(Moved::Refused));
-    let sent = sends(&rt, alloc, &mut source, &sub, want);
-    let reply = Reply::Fault(FaultName::DestinationUnreachable);
-    assert_eq!(&rt; source.on_reply(&sent.id, &reply), Ok(Moved::Refused));
-    assert_eq!(&rt; source.on_lost(&sub), Err(SourceFault::UnknownSubscription));
-    assert_eq!(&rt; source.sessions().expect(&rt, "memory").len(), 0);
-}
-
-#[test]
-fn an_answer_to_another_id_is_not_asked_for(rt: HostRuntime) {
-    let alloc = rt.alloc();
-    let (mut source, sub) = serving(&rt, alloc, 20, 512_000);
-    write_many(&rt, alloc, &mut source, "application", 1);
-    sends(
-        &rt,
-        alloc,
-        &mut source,
-        &sub,
-        "application 1; to application 1",
-    );
-    for value in [None, Some(FOREIGN)] {
-        let other = MessageId {
-            value,
-            text: Text::new(alloc),
-        };
-        assert_eq!(&rt;
-            source.on_reply(&other, &Reply::Ack),
-            Err(SourceFault::NotAsked)
-        );
-        assert_eq!(&rt;
-            source.adopt(&other, &List::new(alloc), 3),
-            Err(SourceFault::NotAsked)
-        );
-    }
-    says_nothing(&rt, &mut source, &sub);
-}
-
-#[test]
-fn a_started_source_forgets_its_sessions_and_keeps_its_log(rt: HostRuntime) {
-    let alloc = rt.alloc();
-    let (mut source, sub) = serving(&rt, alloc, 20, 512_000);
-    assert_eq!(&rt; source.boot(), 1);
-    assert_eq!(&rt; source.name().as_text().as_str(), "s");
-    write_many(&rt, alloc, &mut source, "application", 2);
-    let mut source = over(&rt, alloc, source.into_keeper());
-    assert_eq!(&rt; source.boot(), 2);
-    assert!(&rt; matches!(source.poll(&sub, 1), Err(SourceFault::UnknownSubscription)));
-    let id = source.ask().expect(&rt, "an id");
-    assert_eq!(&rt; id.value, Some(MessageId::of(2, 1)));
-    assert_eq!(&rt; write(&rt, alloc, &mut source, "application", 1), 3);
-}
-
-#[test]
-fn what_a_failed_write_left_is_sent(rt: HostRuntime) {
-    let alloc = rt.alloc();
-    let (mut source, sub) = serving(&rt, alloc, 20, 512_000);
-    source.fail_next(false);
-    source.calm();
-    assert_eq!(&rt; write(&rt, alloc, &mut source, "application", 1), 1);
-    source.fail_next(true);
-    assert!(&rt; source.is_armed());
-    assert_eq!(&rt;
-        try_write(&rt, alloc, &mut source, "application", 1),
-        Err(SourceFault::Failed)
-    );
-    let want = "application 1; application 2; to application 2";
-    sends(&rt, alloc, &mut source, &sub, want);
+    Ok(())
 }

@@ -57,6 +57,7 @@ const GOOD: &[&[u8]] = &[
     b"end base\r",
     b"subscribe more 10000 4194304 86400000 all c c\r",
     b"batch base pc1 e:c:1:a\r",
+    b"source pc1 1\nwrite pc1 a 4294967295 4294967295 ",
 ];
 
 /// The line behind one that adds a subscription, and in front of a report.

@@ -1,5 +1,7 @@
 //! Ids and the names of faults by example.
 
+use std::alloc::AllocError;
+use std::test::Fail;
 use wef_base::Text;
 use wef_envelope::{FaultName, MessageId};
 
@@ -30,9 +32,21 @@ fn ids_agree_by_their_values(rt: HostRuntime) {
     }
 }
 
+fn push_name(text: &mut Text, fault: FaultName) -> Result<(), AllocError> {
+    text.push_str(fault.as_str())?;
+    text.push_str(" ")
+}
+
+fn push_names(text: &mut Text) -> Result<(), AllocError> {
+    push_name(text, FaultName::InvalidMessage)?;
+    let word = Text::from_str(text.alloc(), "Busy")?;
+    push_name(text, FaultName::Other(word))
+}
+
 #[test]
-fn faults_have_names(rt: HostRuntime) {
-    let text = Text::from_str(rt.alloc(), "Busy").expect(&rt, "memory");
-    assert_eq!(&rt; FaultName::InvalidMessage.as_str(), "InvalidMessage");
-    assert_eq!(&rt; FaultName::Other(text).as_str(), "Busy");
+fn faults_have_names(rt: HostRuntime) -> Result<(), Fail> {
+    let mut text = Text::new(rt.alloc());
+    push_names(&mut text)?;
+    assert_eq!(rt; text.as_str(), "InvalidMessage Busy ");
+    Ok(())
 }

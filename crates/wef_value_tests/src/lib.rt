@@ -1,19 +1,11 @@
-//! Values and stores, by example: names, marks, batches, subscriptions, schedules, rows.
+//! Ids, lines and stores, by example.
 #![tactic(auto)]
 
-#[cfg(test)]
-mod batches;
-#[cfg(test)]
-mod bookmarks;
 #[cfg(test)]
 mod envelopes;
 #[cfg(test)]
 mod keepers;
 #[cfg(test)]
-mod queries;
+mod lines;
 #[cfg(test)]
 mod rows;
-#[cfg(test)]
-mod schedules;
-#[cfg(test)]
-mod subscriptions;

@@ -1,0 +1,82 @@
+//! What is done with a line.
+
+use crate::addresses::{push_address, push_named};
+use crate::batches::push_batch;
+use crate::bookmarks::push_bookmarks;
+use crate::queries::push_queries;
+use crate::subscriptions::push_kept;
+use std::alloc::{AllocError, Global};
+use wef_base::{ChannelName, List, Text, ValueFault};
+
+/// What is done with a line.
+#[derive(Clone, Copy)]
+pub enum Task {
+    /// `bookmarks`: the numbers of two lists of words `CHANNEL:NUMBER`, and of both joined.
+    Bookmarks,
+    /// `batch`: what is told of the batch that words of a schedule spell.
+    Batch,
+    /// `queries`: the channels of words `GROUP+CHANNEL` and `GROUP-CHANNEL`, and which are asked for.
+    Queries,
+    /// `kept`: the subscription that words keep.
+    Kept,
+    /// `address of`: where `HOST, SUBSCRIPTION, SOURCE` is sent to.
+    AddressOf,
+    /// `address`: where an address leads.
+    Address,
+}
+
+impl Task {
+    /// The task that stands before the colon of a heading.
+    pub fn of_heading(heading: &str) -> Option<Task> {
+        let (task, _) = heading.split_once(':')?;
+        match task {
+            "bookmarks" => Some(Task::Bookmarks),
+            "batch" => Some(Task::Batch),
+            "queries" => Some(Task::Queries),
+            "kept" => Some(Task::Kept),
+            "address of" => Some(Task::AddressOf),
+            "address" => Some(Task::Address),
+            _ => None,
+        }
+    }
+
+    /// What is printed for a line.
+    pub fn answer(self, alloc: Global, line: &str) -> Result<Text, AllocError> {
+        let mut shown = Text::new(alloc);
+        match self.push_answer(&mut shown, line) {
+            Ok(()) => {}
+            Err(ValueFault::NoMemory) => return Err(AllocError),
+            Err(_) => shown.push_str("no row")?,
+        }
+        Ok(shown)
+    }
+
+    fn push_answer(self, shown: &mut Text, line: &str) -> Result<(), ValueFault> {
+        match self {
+            Task::Bookmarks => push_bookmarks(shown, line),
+            Task::Batch => push_batch(shown, line),
+            Task::Queries => push_queries(shown, line),
+            Task::Kept => push_kept(shown, line),
+            Task::AddressOf => push_named(shown, line),
+            Task::Address => Ok(push_address(shown, &Text::from_str(shown.alloc(), line)?)?),
+        }
+    }
+}
+
+/// The channel of a word.
+pub fn channel(alloc: Global, word: &str) -> Result<ChannelName, ValueFault> {
+    ChannelName::read(&Text::from_str(alloc, word)?)
+}
+
+/// The channels a, b and c.
+pub fn letters(alloc: Global) -> Result<List<ChannelName>, ValueFault> {
+    let mut names = List::new(alloc);
+    add(&mut names, alloc, "a")?;
+    add(&mut names, alloc, "b")?;
+    add(&mut names, alloc, "c")?;
+    Ok(names)
+}
+
+fn add(names: &mut List<ChannelName>, alloc: Global, word: &str) -> Result<(), ValueFault> {
+    Ok(names.push(channel(alloc, word)?)?)
+}
