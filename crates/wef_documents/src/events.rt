@@ -9,7 +9,7 @@ const GREATEST: u64 = 9_223_372_036_854_775_807;
 
 /// The event of a text; what there is where it needs no number, and of the text's tree, where that
 /// is another answer.
-pub fn push_event(shown: &mut Text, text: &Text) -> Result<(), AllocError> {
+pub(crate) fn push_event(shown: &mut Text, text: &Text) -> Result<(), AllocError> {
     let answer = answer_of(text, read_event(text))?;
     shown.push_str(answer.as_str())?;
     let new = answer_of(text, read_new_event(text))?;
@@ -29,7 +29,7 @@ pub fn push_event(shown: &mut Text, text: &Text) -> Result<(), AllocError> {
 
 /// The event of `NUMBER TEXT`, where the number is given to that of the text. One that was given
 /// before leaves nothing.
-pub fn push_numbered(shown: &mut Text, row: &Text) -> Result<(), AllocError> {
+pub(crate) fn push_numbered(shown: &mut Text, row: &Text) -> Result<(), AllocError> {
     let Some((number, text)) = row.as_str().split_once(' ') else {
         return shown.push_str("no row");
     };
@@ -54,7 +54,7 @@ fn numbered(event: Result<Event, EventFault>, number: u64) -> Result<Event, Even
 }
 
 /// Whether the `CHANNEL NUMBER TEXT` of a row are an event.
-pub fn push_parts(shown: &mut Text, row: &Text) -> Result<(), AllocError> {
+pub(crate) fn push_parts(shown: &mut Text, row: &Text) -> Result<(), AllocError> {
     shown.push_str(match is_event(row) {
         Ok(true) => "an event",
         Ok(false) => "no event",
@@ -79,7 +79,7 @@ fn parts_of(row: &str) -> Option<(&str, u64, &str)> {
 }
 
 /// The plain event of `NUMBER ID LEVEL WORD` in the channel application.
-pub fn push_plain(shown: &mut Text, row: &Text) -> Result<(), AllocError> {
+pub(crate) fn push_plain(shown: &mut Text, row: &Text) -> Result<(), AllocError> {
     match plain_of(row) {
         Ok(Some(event)) => shown.push_str(event.text.as_str()),
         Ok(None) => shown.push_str("no row"),

@@ -8,7 +8,7 @@ use wef_base::{Charset, Text, is_xml_text};
 
 /// What is done with a line.
 #[derive(Drop)]
-pub enum Task {
+pub(crate) enum Task {
     /// `utf-8`: its tree.
     Utf8,
     /// `utf-16`: its tree, where the line's bytes are UTF-16.
@@ -31,7 +31,7 @@ pub enum Task {
 
 impl Task {
     /// The task that stands before the colon of a heading.
-    pub fn of_heading(heading: &str) -> Option<Task> {
+    pub(crate) fn of_heading(heading: &str) -> Option<Task> {
         let (task, _) = heading.split_once(':')?;
         match task {
             "utf-8" => Some(Task::Utf8),
@@ -50,7 +50,7 @@ impl Task {
     }
 
     /// What is printed for a line.
-    pub fn answer(&self, alloc: Global, line: &str) -> Result<Text, AllocError> {
+    pub(crate) fn answer(&self, alloc: Global, line: &str) -> Result<Text, AllocError> {
         let bytes = unescaped(alloc, line)?;
         let bytes = bytes.as_slice();
         let mut shown = Text::new(alloc);

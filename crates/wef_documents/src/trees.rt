@@ -8,7 +8,11 @@ use wef_base::{Attribute, Charset, Element, List, Namespace, Node, Text};
 use wef_tree::{TreeFault, read_tree, write_tree};
 
 /// What reading answers, written out.
-pub fn push_reading(shown: &mut Text, charset: Charset, bytes: &[u8]) -> Result<(), AllocError> {
+pub(crate) fn push_reading(
+    shown: &mut Text,
+    charset: Charset,
+    bytes: &[u8],
+) -> Result<(), AllocError> {
     match read_tree(shown.alloc(), bytes, charset) {
         Ok(root) => push_element(shown, &root),
         Err(fault) => push_fault(shown, fault),
@@ -16,7 +20,11 @@ pub fn push_reading(shown: &mut Text, charset: Charset, bytes: &[u8]) -> Result<
 }
 
 /// The one text of a document's tree, and its bytes in hexadecimal where that is in UTF-16.
-pub fn push_written(shown: &mut Text, charset: Charset, bytes: &[u8]) -> Result<(), AllocError> {
+pub(crate) fn push_written(
+    shown: &mut Text,
+    charset: Charset,
+    bytes: &[u8],
+) -> Result<(), AllocError> {
     match read_tree(shown.alloc(), bytes, Charset::Utf8) {
         Ok(root) => push_text(shown, charset, &root),
         Err(fault) => push_fault(shown, fault),
@@ -45,7 +53,11 @@ fn push_hexadecimal(shown: &mut Text, bytes: &[u8]) -> Result<(), AllocError> {
 }
 
 /// Whether each front of a document but the whole has a fault, none behind its end.
-pub fn push_cuts(shown: &mut Text, charset: Charset, bytes: &[u8]) -> Result<(), AllocError> {
+pub(crate) fn push_cuts(
+    shown: &mut Text,
+    charset: Charset,
+    bytes: &[u8],
+) -> Result<(), AllocError> {
     for cut in 0..bytes.len() {
         if !is_faulty(shown.alloc(), charset, &bytes[..cut]) {
             shown.push_str("no fault when cut at ")?;

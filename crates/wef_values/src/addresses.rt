@@ -5,7 +5,7 @@ use wef_base::{SourceName, SubId, Text, ValueFault};
 use wef_eventing::{delivery_address, source_in, subscription_in};
 
 /// The address of `HOST, SUBSCRIPTION, SOURCE`, and where that leads.
-pub fn push_named(shown: &mut Text, row: &str) -> Result<(), ValueFault> {
+pub(crate) fn push_named(shown: &mut Text, row: &str) -> Result<(), ValueFault> {
     let (host, names) = row.split_once(", ").ok_or(ValueFault::BadName)?;
     let (sub, source) = names.split_once(", ").ok_or(ValueFault::BadName)?;
     push_parts(shown, host, sub, source)
@@ -46,7 +46,7 @@ fn push_led(shown: &mut Text, address: &Text) -> Result<(), AllocError> {
 }
 
 /// The subscription and the source that an address leads to.
-pub fn push_address(shown: &mut Text, address: &Text) -> Result<(), AllocError> {
+pub(crate) fn push_address(shown: &mut Text, address: &Text) -> Result<(), AllocError> {
     push_subscription(shown, address)?;
     push_source(shown, address)
 }

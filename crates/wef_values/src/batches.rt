@@ -8,7 +8,7 @@ use wef_replay::{Line, ScheduleFault, SpelledBatch, is_line, read_schedule};
 
 /// Whether the batch of a line's words is well-formed, how far it reads the channels a, b and c, how
 /// many records it says are gone without a number, and what each of its items costs.
-pub fn push_batch(shown: &mut Text, words: &str) -> Result<(), ValueFault> {
+pub(crate) fn push_batch(shown: &mut Text, words: &str) -> Result<(), ValueFault> {
     let mut line = Text::from_str(shown.alloc(), "batch base pc1 ")?;
     line.push_str(words)?;
     push_read(

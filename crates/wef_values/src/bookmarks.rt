@@ -8,7 +8,7 @@ use wef_bookmark::Bookmark;
 /// The bookmarks of `FIRST, SECOND`, each a list of words `CHANNEL:NUMBER` to which channels are
 /// raised in order; which covers which; the same once the second joined the first; and a copy of
 /// that.
-pub fn push_bookmarks(shown: &mut Text, row: &str) -> Result<(), ValueFault> {
+pub(crate) fn push_bookmarks(shown: &mut Text, row: &str) -> Result<(), ValueFault> {
     let (first, second) = row.split_once(',').ok_or(ValueFault::BadName)?;
     let here = raised(shown.alloc(), first)?;
     let there = raised(shown.alloc(), second)?;

@@ -7,7 +7,7 @@ use wef_query::{QueryItem, QueryList, channels, selected};
 
 /// The channels of the Selects among `GROUP+CHANNEL`, a Select, and `GROUP-CHANNEL`, a Suppress; the
 /// length of the list of all events of these; and whether the events of the channel a are selected.
-pub fn push_queries(shown: &mut Text, words: &str) -> Result<(), ValueFault> {
+pub(crate) fn push_queries(shown: &mut Text, words: &str) -> Result<(), ValueFault> {
     let list = list_of(shown.alloc(), words)?;
     push_list(shown, &list)
 }

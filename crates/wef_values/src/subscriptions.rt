@@ -5,7 +5,7 @@ use wef_base::{SubId, Text, ValueFault};
 use wef_eventing::{Subscription, kept_words, read_kept};
 
 /// The subscription `Base` that words keep, and the words that keep a copy of it.
-pub fn push_kept(shown: &mut Text, words: &str) -> Result<(), ValueFault> {
+pub(crate) fn push_kept(shown: &mut Text, words: &str) -> Result<(), ValueFault> {
     let name = SubId::read(&Text::from_str(shown.alloc(), "Base")?)?;
     Ok(push_kept_of(shown, &name, words)?)
 }

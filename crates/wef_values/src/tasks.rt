@@ -10,7 +10,7 @@ use wef_base::{ChannelName, List, Text, ValueFault};
 
 /// What is done with a line.
 #[derive(Clone, Copy)]
-pub enum Task {
+pub(crate) enum Task {
     /// `bookmarks`: the numbers of two lists of words `CHANNEL:NUMBER`, and of both joined.
     Bookmarks,
     /// `batch`: what is told of the batch that words of a schedule spell.
@@ -27,7 +27,7 @@ pub enum Task {
 
 impl Task {
     /// The task that stands before the colon of a heading.
-    pub fn of_heading(heading: &str) -> Option<Task> {
+    pub(crate) fn of_heading(heading: &str) -> Option<Task> {
         let (task, _) = heading.split_once(':')?;
         match task {
             "bookmarks" => Some(Task::Bookmarks),
@@ -41,7 +41,7 @@ impl Task {
     }
 
     /// What is printed for a line.
-    pub fn answer(self, alloc: Global, line: &str) -> Result<Text, AllocError> {
+    pub(crate) fn answer(self, alloc: Global, line: &str) -> Result<Text, AllocError> {
         let mut shown = Text::new(alloc);
         match self.push_answer(&mut shown, line) {
             Ok(()) => {}
@@ -64,12 +64,12 @@ impl Task {
 }
 
 /// The channel of a word.
-pub fn channel(alloc: Global, word: &str) -> Result<ChannelName, ValueFault> {
+pub(crate) fn channel(alloc: Global, word: &str) -> Result<ChannelName, ValueFault> {
     ChannelName::read(&Text::from_str(alloc, word)?)
 }
 
 /// The channels a, b and c.
-pub fn letters(alloc: Global) -> Result<List<ChannelName>, ValueFault> {
+pub(crate) fn letters(alloc: Global) -> Result<List<ChannelName>, ValueFault> {
     let mut names = List::new(alloc);
     add(&mut names, alloc, "a")?;
     add(&mut names, alloc, "b")?;
