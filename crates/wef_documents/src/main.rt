@@ -14,9 +14,6 @@ use escapes::escaped;
 use std::io;
 use tasks::Task;
 
-#[cfg(test)]
-mod limits;
-
 fn main(rt: HostRuntime) -> io::Result<()> {
     let alloc = rt.alloc();
     let mut task = Task::Utf8;

@@ -1,10 +1,13 @@
-//! Both ends, by example: the log, the source, the collector, and a store that fails at each call.
+//! Both ends, by example: the log, the source, the collector, and a store that fails at each call;
+//! and events at their greatest length.
 #![tactic(auto)]
 
 #[cfg(test)]
 mod collectors;
 #[cfg(test)]
 mod failing;
+#[cfg(test)]
+mod limits;
 #[cfg(test)]
 mod logs;
 #[cfg(test)]
