@@ -9,7 +9,7 @@ use std::test::Fail;
 use wef_base::{List, Text};
 use wef_keeper::{Change, Keeper, KeeperFault, Key, MemKeeper, Row};
 
-/// Pages of the rows 1 to 1,000: the number that each begins behind, and its greatest length.
+/// Pages of a thousand rows: the number that each begins behind, and its greatest length.
 const PAGES: &[(u64, u32)] = &[
     (0, 1),
     (0, 2),
@@ -138,7 +138,7 @@ fn a_calmed_commit_is_done(rt: HostRuntime) -> Result<(), Fail> {
     Ok(())
 }
 
-/// The rows 1 to 1,000.
+/// A thousand rows, numbered from 1.
 fn thousand(alloc: Global) -> Result<List<Change>, AllocError> {
     let mut changes = List::new(alloc);
     for number in 1..=1000 {
