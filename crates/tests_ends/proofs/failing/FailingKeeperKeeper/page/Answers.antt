@@ -3,7 +3,7 @@ use Rattle.std.proofs.lemmas.List.Elements.{All-map, All-take, filter_passes}
 use Rattle.std.specs.FinMap as finite
 use Rattle.wef_keeper.specs.Rows.{is_after, row_of, rows_after}
 use Rattle.wef_keeper.specs.declared.keys.Row.{Row}
-use Rattle.wef_end_tests.proofs.failing.FailingKeeperKeeper.page.Goals as goal
+use Rattle.tests_ends.proofs.failing.FailingKeeperKeeper.page.Goals as goal
 
 pub returns-clause-behind : goal.returns-clause-behind
 returns-clause-behind c =
