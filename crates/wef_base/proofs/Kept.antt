@@ -39,13 +39,13 @@ spelt-spelt : (letters : Letters) (c : ℕ) → spelt letters (spelt letters c) 
 spelt-spelt Kept c = refl
 spelt-spelt Small c = small-small c
 
-scalar-spelt : (letters : Letters) (c : ℕ) → scalar c ≡ true → scalar (spelt letters c) ≡ true
+pub scalar-spelt : (letters : Letters) (c : ℕ) → scalar c ≡ true → scalar (spelt letters c) ≡ true
 scalar-spelt Kept c h = h
 scalar-spelt Small c h = scalar-small c h
 
 -- ---- characters stay characters
 
-scalars-without_start : (cs : List ℕ) → all_scalars cs ≡ true → all_scalars (without_start cs) ≡ true
+pub scalars-without_start : (cs : List ℕ) → all_scalars cs ≡ true → all_scalars (without_start cs) ≡ true
 scalars-without_start [] h = h
 scalars-without_start (c ∷ cs) h = by (is_space c) (scalars-without_start cs (and_parts (scalar c) (all_scalars cs) h).1)
   where
@@ -53,7 +53,7 @@ scalars-without_start (c ∷ cs) h = by (is_space c) (scalars-without_start cs (
     by true rest = rest
     by false rest = h
 
-scalars-unless_last_space : (c : ℕ) (cs : List ℕ) → scalar c ≡ true → all_scalars cs ≡ true → all_scalars (unless_last_space c cs) ≡ true
+pub scalars-unless_last_space : (c : ℕ) (cs : List ℕ) → scalar c ≡ true → all_scalars cs ≡ true → all_scalars (unless_last_space c cs) ≡ true
 scalars-unless_last_space c [] one rest = by (is_space c)
   where
     by : (b : Bool) → all_scalars (cond b [] (c ∷ [])) ≡ true
@@ -61,13 +61,13 @@ scalars-unless_last_space c [] one rest = by (is_space c)
     by false = and_from (scalar c) true one refl
 scalars-unless_last_space c (d ∷ ds) one rest = and_from (scalar c) (all_scalars (d ∷ ds)) one rest
 
-scalars-without_end : (cs : List ℕ) → all_scalars cs ≡ true → all_scalars (without_end cs) ≡ true
+pub scalars-without_end : (cs : List ℕ) → all_scalars cs ≡ true → all_scalars (without_end cs) ≡ true
 scalars-without_end [] h = h
 scalars-without_end (c ∷ cs) h =
     let parts = and_parts (scalar c) (all_scalars cs) h in
     scalars-unless_last_space c (without_end cs) parts.0 (scalars-without_end cs parts.1)
 
-scalars-map_spelt : (letters : Letters) (cs : List ℕ) → all_scalars cs ≡ true → all_scalars (map (spelt letters) cs) ≡ true
+pub scalars-map_spelt : (letters : Letters) (cs : List ℕ) → all_scalars cs ≡ true → all_scalars (map (spelt letters) cs) ≡ true
 scalars-map_spelt letters [] h = h
 scalars-map_spelt letters (c ∷ cs) h =
     let parts = and_parts (scalar c) (all_scalars cs) h in

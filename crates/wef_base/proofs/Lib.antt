@@ -1,7 +1,7 @@
 pub mod Cuts
 pub mod Decimals
-pub mod Escapes
 pub mod Kept
+pub mod Percent
 pub mod PrintedBack
 pub mod Reading
 pub mod Trimmed

@@ -1,11 +1,10 @@
 //! A source and a sink in memory, which tell their bytes and fail where they are told to.
 
-ghost use Rattle.std.specs.Prelude.{◌≡◌, ℕ, ◌+◌, ◌-◌, ◌<◌, ◌≤◌, ◌↔◌, ◌==◌, List, [], take, drop, length, is_some, IsTrue, IsErr, Contains, IfOk, refl, min};
+ghost use Rattle.std.specs.Prelude.{◌≡◌, ℕ, ◌+◌, ◌-◌, ◌<◌, ◌≤◌, ◌↔◌, ◌==◌, List, [], take, drop, length, is_some, true, false, IsOk, IsErr, Contains, IfOk, refl, min};
 ghost use Rattle.std.specs.declared.option.Option.TheVariants.{Some};
 ghost use Rattle.std.specs.Io.{ReadsAtMost, WritesAtMost};
 ghost use Rattle.std.specs.Io.KnownBytes.{ReadConsumes, WriteAppends};
-ghost use Rattle.std.specs.List.{list_any};
-ghost use Rattle.wef_base.specs.Counts.{HasCause, Gives};
+ghost use Rattle.wef_base.specs.Counts.{CountsFaults, HasCause, Gives, is_told};
 
 use crate::bytes::Bytes;
 use crate::list::List;
@@ -28,6 +27,7 @@ impl MemSource {
         ensures left { drop result.at result.bytes ≡ bytes }
         ensures failing { result.failing ≡ failing }
         ensures calls { result.calls ≡ 0 }
+        ensures faults { result.faults ≡ 0 }
     {
         MemSource {
             bytes,
@@ -54,13 +54,15 @@ impl Source for MemSource {
         ensures count { Gives self.old.at self.new.at result }
         ensures cause { HasCause self.old.faults self.new.faults result }
 
-        // The calls that stand in the list fail, and no others.
-        ensures fails { IsErr result ↔ IsTrue (list_any (λ n. n == self.new.calls) self.old.failing) }
-        ensures calls { self.new.calls ≡ min (self.old.calls + 1) 18446744073709551615 }
+        // The calls that stand in the list fail, and no others: at these alone the count of faults rises.
+        ensures fails { is_told self.new.calls self.old.failing ≡ true → IsErr result }
+        ensures others { is_told self.new.calls self.old.failing ≡ false → IsOk result }
+        ensures counts { CountsFaults self.old.faults self.new.faults result }
+        ensures calls { self.new.calls ≡ min (self.old.calls + 1) u64.MAX }
         ensures list { self.new.failing ≡ self.old.failing }
     {
         self.calls = self.calls.saturating_add(1);
-        if stands_in(self.failing.as_slice(), self.calls) {
+        if is_told(self.calls, self.failing.as_slice()) {
             self.faults = self.faults.saturating_add(1);
             return Err(IoFailed);
         }
@@ -79,10 +81,11 @@ fn after(bytes: &[u8], at: usize) -> &[u8]
     if at < bytes.len() { &bytes[at..] } else { &[] }
 }
 
-fn stands_in(numbers: &[u64], number: u64) -> bool
-    ensures { result ≡ list_any (λ n. n == number) numbers.now }
+/// Whether the call of this number, counted from 1, is told to fail.
+fn is_told(call: u64, failing: &[u64]) -> bool
+    ensures { result ≡ is_told call failing.now }
 {
-    numbers.iter().any(|&n| n == number)
+    failing.iter().any(|&number| number == call)
 }
 
 /// A sink that keeps what it takes.
@@ -92,6 +95,7 @@ pub struct MemSink {
     failing: List<u64>,
     calls: u64,
     faults: u64,
+    refused: u64,
 }
 
 impl MemSink {
@@ -100,12 +104,15 @@ impl MemSink {
         ensures taken { result.taken ≡ [] }
         ensures failing { result.failing ≡ failing }
         ensures calls { result.calls ≡ 0 }
+        ensures faults { result.faults ≡ 0 }
+        ensures refused { result.refused ≡ 0 }
     {
         MemSink {
             taken: Bytes::new(alloc),
             failing,
             calls: 0,
             faults: 0,
+            refused: 0,
         }
     }
 
@@ -114,6 +121,13 @@ impl MemSink {
         ensures { result.now ≡ self.now.taken }
     {
         self.taken.as_slice()
+    }
+
+    /// How many of its writes found no memory. It stays at 2^64 - 1.
+    pub fn refused(&self) -> u64
+        ensures { result ≡ self.now.refused }
+    {
+        self.refused
     }
 }
 
@@ -124,21 +138,30 @@ impl Sink for MemSink {
 
     ghost tells = { λ a b. refl };
 
-    /// A write that finds no memory fails as one of the list does.
+    /// A write that finds no memory fails too, and is counted as refused.
     fn write(&mut self, piece: &[u8]) -> Result<usize, IoFailed>
         ensures bound { WritesAtMost result piece.now }
         ensures bytes { WriteAppends (Some self.old.taken) (Some self.new.taken) result piece.now }
         ensures moves { IfOk result (λ n. 0 < length piece.now → 0 < n) }
         ensures cause { HasCause self.old.faults self.new.faults result }
 
-        // The calls that stand in the list fail.
-        ensures fails { IsTrue (list_any (λ n. n == self.new.calls) self.old.failing) → IsErr result }
-        ensures calls { self.new.calls ≡ min (self.old.calls + 1) 18446744073709551615 }
+        // The calls that stand in the list fail, and another only where a growth is refused, which has
+        // a count of its own.
+        ensures fails { is_told self.new.calls self.old.failing ≡ true → IsErr result }
+        ensures others { is_told self.new.calls self.old.failing ≡ false → CountsFaults self.old.refused self.new.refused result }
+        ensures refused { is_told self.new.calls self.old.failing ≡ true → self.new.refused ≡ self.old.refused }
+        ensures counts { CountsFaults self.old.faults self.new.faults result }
+        ensures calls { self.new.calls ≡ min (self.old.calls + 1) u64.MAX }
         ensures list { self.new.failing ≡ self.old.failing }
     {
         self.calls = self.calls.saturating_add(1);
-        if stands_in(self.failing.as_slice(), self.calls) || self.taken.extend(piece).is_err() {
+        if is_told(self.calls, self.failing.as_slice()) {
             self.faults = self.faults.saturating_add(1);
+            return Err(IoFailed);
+        }
+        if self.taken.extend(piece).is_err() {
+            self.faults = self.faults.saturating_add(1);
+            self.refused = self.refused.saturating_add(1);
             return Err(IoFailed);
         }
         Ok(piece.len())

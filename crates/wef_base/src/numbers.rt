@@ -14,7 +14,7 @@ pub const MAX: u64 = 9_223_372_036_854_775_807;
 /// Reads decimal digits between optional spaces. `NotANumber` where there is anything else,
 /// `TooLarge` above `MAX`.
 pub fn read_number(text: &Text) -> Result<u64, ValueFault>
-    ensures { ReadsNumber 9223372036854775807 (trimmed text.now) result }
+    ensures { ReadsNumber MAX (trimmed text.now) result }
 {
     let digits = text.trimmed()?;
     let digits = digits.as_str().as_bytes();
@@ -24,10 +24,10 @@ pub fn read_number(text: &Text) -> Result<u64, ValueFault>
     value_within(digits, MAX).ok_or(ValueFault::TooLarge)
 }
 
-/// The number of digits without a leading zero, at most a limit below 2^63. None for anything else.
+/// The number of digits without a leading zero, at most a limit. None for anything else.
 #[tactic(auto, unfolding(crate::specs::Numbers::plain_number))]
 pub fn read_plain_number(word: &[u8], limit: u64) -> Option<u64>
-    requires { limit < 9223372036854775808 }
+    requires { limit ≤ MAX }
     ensures value { result ≡ plain_number limit word.now }
     ensures within { IfSome result (λ n. n ≤ limit) }
 {
@@ -60,7 +60,7 @@ fn leads_with_zero(word: &[u8]) -> bool
 
 fn value_within(digits: &[u8], limit: u64) -> Option<u64>
     requires digits { is_numeral digits.now ≡ true }
-    requires small { limit < 9223372036854775808 }
+    requires small { limit ≤ MAX }
     ensures value { result ≡ number_within limit digits.now }
     ensures within { IfSome result (λ n. n ≤ limit) }
 {

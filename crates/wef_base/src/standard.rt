@@ -1,11 +1,13 @@
 //! The standard streams, as a source and two sinks. No contract says what a stream holds or does
 //! with what it takes: these tell their counts of faults alone.
 
-ghost use Rattle.std.specs.Prelude.{refl};
+ghost use Rattle.std.specs.Prelude.{◌<◌, ◌≤◌, length, refl, IfOk};
+ghost use Rattle.std.specs.Io.{WritesAtMost};
 ghost use Rattle.std.specs.declared.option.Option.TheVariants.{None};
+ghost use Rattle.wef_base.specs.Counts.{HasCause};
 
 use crate::ports::{IoFailed, Sink, Source};
-use std::io::{Read, StdinLock};
+use std::io::{self, Read, StdinLock};
 
 /// The standard input.
 #[derive(Drop)]
@@ -69,13 +71,7 @@ impl Sink for StdSink {
     ghost tells = { λ a b. refl };
 
     fn write(&mut self, piece: &[u8]) -> Result<usize, IoFailed> {
-        match self.rt.write_some(piece) {
-            Ok(count) if count > 0 || piece.is_empty() => Ok(count),
-            _ => {
-                self.faults = self.faults.saturating_add(1);
-                Err(IoFailed)
-            }
-        }
+        taken(self.rt.write_some(piece), piece, &mut self.faults)
     }
 }
 
@@ -101,12 +97,23 @@ impl Sink for StdErr {
     ghost tells = { λ a b. refl };
 
     fn write(&mut self, piece: &[u8]) -> Result<usize, IoFailed> {
-        match self.rt.stderr().write_some(piece) {
-            Ok(count) if count > 0 || piece.is_empty() => Ok(count),
-            _ => {
-                self.faults = self.faults.saturating_add(1);
-                Err(IoFailed)
-            }
+        taken(self.rt.stderr().write_some(piece), piece, &mut self.faults)
+    }
+}
+
+/// What a sink answers where the system answers this to the write of a piece. It fails, and is
+/// counted, where the system takes nothing of something.
+fn taken(written: io::Result<usize>, piece: &[u8], faults: &mut u64) -> Result<usize, IoFailed>
+    requires { IfOk written (λ n. n ≤ length piece.now) }
+    ensures bound { WritesAtMost result piece.now }
+    ensures moves { IfOk result (λ n. 0 < length piece.now → 0 < n) }
+    ensures cause { HasCause faults.old faults.new result }
+{
+    match written {
+        Ok(count) if count > 0 || piece.is_empty() => Ok(count),
+        _ => {
+            *faults = faults.saturating_add(1);
+            Err(IoFailed)
         }
     }
 }

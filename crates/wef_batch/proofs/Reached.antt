@@ -10,6 +10,7 @@ use Rattle.std.specs.FinMap as map
 use Rattle.std.proofs.lemmas.Map.Lookups.{exact_bytes}
 use Rattle.std.proofs.lemmas.Bool.Decides.{nat_tests}
 use Rattle.wef_base.specs.Names.{same}
+use Rattle.wef_base.specs.declared.numbers.TheConstants.{MAX}
 use Rattle.wef_batch.specs.declared.items.Item.{Item}
 use Rattle.wef_batch.specs.Reach.{span_in, later, last_after, last_in, reach_of, loose_sum}
 use Rattle.wef_batch.specs.WellFormed.{is_in, is_listed, follows, rises, is_at_least, is_in_order, ends_by, ItemsAreReached}
@@ -105,7 +106,7 @@ each_further to last c (item ∷ items) h all =
 
 pub items_are_reached : ItemsAreReached
 items_are_reached channels batch c formed here =
-    let first = both_true (list_all (is_listed channels) batch.items && list_all (is_in_order batch) channels) (nat_le (loose_sum batch.items) 9223372036854775807) formed in
+    let first = both_true (list_all (is_listed channels) batch.items && list_all (is_in_order batch) channels) (nat_le (loose_sum batch.items) MAX) formed in
     let second = both_true (list_all (is_listed channels) batch.items) (list_all (is_in_order batch) channels) first.0 in
     let ordered = both_true (rises c None batch.items) (is_at_least (map.get batch.to c) (last_in c batch.items)) (holds_in (is_in_order batch) channels c second.1 here) in
     each_further (map.get batch.to c) (last_in c batch.items) c batch.items ordered.1 (each_ends c None batch.items ordered.0)

@@ -35,6 +35,10 @@ written (Event event) = written_event event.text
 written (Dropped channel first last) = written_dropped channel first last
 written (Loose count) = written_loose count
 
--- how many bytes it has, up to 2^64 - 1
+-- the greatest cost: 2^64 - 1
+abbrev pub most : ℕ
+most = 18446744073709551615
+
+-- how many bytes it has, up to the greatest cost
 unfoldable pub cost : Item → ℕ
-cost item = min (length (written item)) 18446744073709551615
+cost item = min (length (written item)) most

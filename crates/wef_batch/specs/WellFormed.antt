@@ -3,6 +3,7 @@ use Rattle.std.specs.Prelude.{ℕ, nat_lt, nat_le, Bool, true, false, ◌&&◌, 
 use Rattle.std.specs.List.{list_any, list_all}
 use Rattle.std.specs.FinMap as map
 use Rattle.wef_base.specs.Names.{same}
+use Rattle.wef_base.specs.declared.numbers.TheConstants.{MAX}
 use Rattle.wef_batch.specs.declared.items.Item.{Item}
 use Rattle.wef_batch.specs.declared.items.Item.TheVariants.{Event, Dropped, Loose}
 use Rattle.wef_batch.specs.declared.items.Batch.{Batch}
@@ -43,10 +44,10 @@ is_at_least (Some to) (Some last) = nat_le last to
 abbrev pub is_in_order : Batch → List ℕ → Bool
 is_in_order batch c = rises c None batch.items && is_at_least (map.get batch.to c) (last_in c batch.items)
 
--- each item of a channel is of a listed one, each listed channel is in order, and the loose counts sum to at most 2^63 - 1
+-- each item of a channel is of a listed one, each listed channel is in order, and the loose counts sum to at most MAX
 abbrev pub is_well_formed : List (List ℕ) → Batch → Bool
 is_well_formed channels batch =
-    list_all (is_listed channels) batch.items && list_all (is_in_order batch) channels && nat_le (loose_sum batch.items) 9223372036854775807
+    list_all (is_listed channels) batch.items && list_all (is_in_order batch) channels && nat_le (loose_sum batch.items) MAX
 
 abbrev pub IsWellFormed : List (List ℕ) → Batch → Type 0
 IsWellFormed channels batch = IsTrue (is_well_formed channels batch)

@@ -26,7 +26,7 @@ pub fn cost(item: &Item) -> u64
 }
 
 fn event_cost(text: &Text) -> u64
-    ensures { result ≡ min (length (spec.written_event text.now)) 18446744073709551615 }
+    ensures { result ≡ min (length (spec.written_event text.now)) spec.most }
 {
     event_tags_len().saturating_add(escaped_len(text.as_str()))
 }
@@ -40,7 +40,7 @@ fn event_tags_len() -> u64
 }
 
 fn dropped_cost(channel: &ChannelName, first: u64, last: u64) -> u64
-    ensures { result ≡ min (length (spec.written_dropped channel.now first last)) 18446744073709551615 }
+    ensures { result ≡ min (length (spec.written_dropped channel.now first last)) spec.most }
 {
     let count = u128::from(last.saturating_sub(first)) + 1;
     let numbers = decimal_len(u128::from(first))
@@ -60,7 +60,7 @@ fn dropped_tags_len() -> u64
 }
 
 fn loose_cost(count: u64) -> u64
-    ensures { result ≡ min (length (spec.written_loose count)) 18446744073709551615 }
+    ensures { result ≡ min (length (spec.written_loose count)) spec.most }
 {
     loose_tags_len() + decimal_len(u128::from(count))
 }
@@ -89,7 +89,7 @@ fn decimal_len(number: u128) -> u64
 
 /// How many bytes a text has as it stands between two tags.
 fn escaped_len(text: &str) -> u64
-    ensures { result ≡ min (length (escaped text.now)) 18446744073709551615 }
+    ensures { result ≡ min (length (escaped text.now)) spec.most }
 {
     let mut len = 0u64;
     for character in text.chars() {
@@ -100,7 +100,7 @@ fn escaped_len(text: &str) -> u64
 
 /// How many bytes a text has as it stands in an attribute.
 fn quoted_len(text: &str) -> u64
-    ensures { result ≡ min (length (spec.quoted text.now)) 18446744073709551615 }
+    ensures { result ≡ min (length (spec.quoted text.now)) spec.most }
 {
     let mut len = 0u64;
     for character in text.chars() {

@@ -3,6 +3,7 @@
 ghost use Rattle.std.specs.Prelude.{◌≡◌, ◌<◌, ◌≤◌, ◌++◌, length, codes, Some, IfOk, IfSome, OnOk};
 ghost use Rattle.std.specs.List.{All, flat_map};
 ghost use Rattle.wef_base.specs.Words.{decoded};
+ghost use Rattle.wef_base.specs.declared.numbers.TheConstants.{MAX};
 ghost use Rattle.wef_eventing.specs.Kept.{HasKeptName, channel_of, channels_from, from_words, kept_channel};
 ghost use Rattle.wef_eventing.specs.Kept as kept;
 ghost use Rattle.wef_eventing.specs.Subscriptions.{IsAllEvents};
@@ -107,10 +108,9 @@ fn read_words(name: &SubId, words: &[Bytes]) -> Result<Option<Subscription>, All
     }
 }
 
-/// The number of digits without a leading zero, from the least to the greatest, which is below
-/// 2^63.
+/// The number of digits without a leading zero, from the least to the greatest.
 fn number_between(word: &[u8], least: u64, greatest: u64) -> Option<u64>
-    requires { greatest < 9223372036854775808 }
+    requires { greatest ≤ MAX }
     ensures value { result ≡ kept.number_between least greatest word.now }
     ensures within { IfSome result (λ n. (least ≤ n) × (n ≤ greatest)) }
 {

@@ -1,4 +1,4 @@
-use Rattle.wef_base.proofs.Escapes.{encoded_is}
+use Rattle.wef_base.proofs.PrintedBack.{encoded_is}
 use Rattle.wef_base.proofs.printed.push_printed.Goals as goal
 
 pub returns-clause-ok : goal.returns-clause-ok

@@ -1,13 +1,12 @@
 use Rattle.std.proofs.Common.{◌≡◌, ℕ, List, ◌+◌, min, length, ap, ◌∙◌}
 use Rattle.std.specs.Fmt.{decimal}
-use Rattle.wef_batch.specs.Cost.{quoted}
+use Rattle.wef_batch.specs.Cost.{most, quoted}
 use Rattle.wef_batch.proofs.Costs.{capped_with_numbers, dropped_size}
 use Rattle.wef_batch.proofs.costing.dropped_cost.Goals as goal
 
 pub returns : goal.returns
 returns c =
     let channel = c.args.channel.now in
-    let most : ℕ = 18446744073709551615 in
     let size : c.quoted_len.result ≡ min (length (quoted channel)) most =
     c.quoted_len.ensures ∙ ap (λ (t : List ℕ). min (length (quoted t)) most) (c.as_str.ensures ∙ c.as_text.ensures.value) in
     let first = c.decimal_len.ensures.value ∙ ap (λ (n : ℕ). length (decimal n)) c.from.ensures in
