@@ -11,6 +11,7 @@ use Rattle.std.proofs.lemmas.Str.{chars-encodes, encode_ascii}
 use Rattle.wef_base.specs.Characters.{is_xml_char}
 use Rattle.wef_base.specs.Names.{is_space, trimmed, trimmed_characters, unless_last_space, without_end, without_start}
 use Rattle.wef_base.specs.Numbers.{has_leading_zero, is_digit, is_numeral, number_within, plain_number}
+use Rattle.wef_base.specs.declared.numbers.TheConstants.{MAX}
 use Rattle.wef_base.proofs.Decimals.{plain_number-decimal}
 use Rattle.wef_tree.specs.Canonical.{text_char, text_of}
 use Rattle.wef_tree.specs.Good.{IsXmlText}
@@ -133,11 +134,11 @@ number_by limit n ds e = by (is_numeral ds) (has_leading_zero ds) refl e
     by true true numeral e = let bad : ⊥ = cc in absurd bad
     by false c numeral e = let bad : ⊥ = cc in absurd bad
 
-pub decimal_numeral : (n : ℕ) → n ≤ 9223372036854775807 → is_numeral (decimal n) ≡ true
-decimal_numeral n h = (number_by 9223372036854775807 n (decimal n) (plain_number-decimal 9223372036854775807 n h (omega arith))).0
+pub decimal_numeral : (n : ℕ) → n ≤ MAX → is_numeral (decimal n) ≡ true
+decimal_numeral n h = (number_by MAX n (decimal n) (plain_number-decimal MAX n h (omega arith))).0
 
 -- the digits of a number are read as the number, and those of 0 as none
-pub decimal_read : (n : ℕ) → n ≤ 9223372036854775807 → number_of_digits (decimal n) ≡ unless_zero n
+pub decimal_read : (n : ℕ) → n ≤ MAX → number_of_digits (decimal n) ≡ unless_zero n
 decimal_read n h =
-    let parts = number_by 9223372036854775807 n (decimal n) (plain_number-decimal 9223372036854775807 n h (omega arith)) in
+    let parts = number_by MAX n (decimal n) (plain_number-decimal MAX n h (omega arith)) in
     rw (parts.0, parts.1) refl

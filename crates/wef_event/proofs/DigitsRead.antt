@@ -10,12 +10,13 @@ use Rattle.std.proofs.lemmas.Fmt.{IsAscii-decimal}
 use Rattle.std.proofs.lemmas.Str.{chars-IsAscii, encodes-IsAscii}
 use Rattle.wef_base.specs.Names.{is_space, trimmed, unless_last_space, without_end, without_start}
 use Rattle.wef_base.specs.Numbers.{has_leading_zero, is_digit, is_numeral, number_within, plain_number}
+use Rattle.wef_base.specs.declared.numbers.TheConstants.{MAX}
 use Rattle.wef_base.proofs.Decimals.{plain_number-decimal}
 use Rattle.wef_event.specs.Paths.{number_of_digits, unless_zero}
 
 -- the greatest number of a record
 abbrev greatest : ℕ
-greatest = 9223372036854775807
+greatest = MAX
 
 -- digits without a leading zero are a numeral
 plain_parts : (numeral leading : Bool) (o : Option ℕ) (n : ℕ) → cond (numeral && not leading) o None ≡ Some n → (numeral ≡ true) × (o ≡ Some n)
@@ -64,7 +65,7 @@ pub trimmed_decimal : (n : ℕ) → n ≤ greatest → trimmed (decimal n) ≡ d
 trimmed_decimal n small = trimmed_digits (decimal n) (IsAscii-decimal n (omega arith)) (decimal_digits n small)
 
 -- the number of a record is read back from its digits
-pub digits_read : (n : ℕ) → 1 ≤ n → n ≤ 9223372036854775807 → number_of_digits (trimmed (decimal n)) ≡ Some n
+pub digits_read : (n : ℕ) → 1 ≤ n → n ≤ MAX → number_of_digits (trimmed (decimal n)) ≡ Some n
 digits_read n some small =
     let parts = decimal_parts n small in
     ap number_of_digits (trimmed_decimal n small)

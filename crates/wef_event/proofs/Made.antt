@@ -7,13 +7,15 @@ use Rattle.std.specs.declared.result.Result.TheVariants.{Ok, Err}
 use Rattle.std.proofs.lemmas.Bool.Decides.{nat_tests}
 use Rattle.wef_base.specs.Names.{same, trimmed}
 use Rattle.wef_base.specs.Numbers.{is_numeral, number_within}
+use Rattle.wef_base.specs.declared.numbers.TheConstants.{MAX}
 use Rattle.wef_base.specs.declared.tree.Charset.TheVariants.{Utf8}
 use Rattle.wef_base.specs.declared.tree.Element.{Element}
-use Rattle.wef_tree.specs.Documents.{tree_of}
+use Rattle.wef_tree.specs.Documents.{GivesTree, tree_of}
 use Rattle.wef_tree.specs.Good.{IsGoodTree}
+use Rattle.wef_tree.specs.declared.faults.TreeFault.{TreeFault}
 use Rattle.wef_tree.proofs.Functions.{is_given}
 use Rattle.wef_tree.proofs.SpellsAgain.{spells_again}
-use Rattle.wef_event.specs.Events.{Event, IsEventOf, event_in, event_limit, event_of, event_or_none, is_event, is_event_root, is_found, number_or, text_of_tree, unless_long, with_number_found}
+use Rattle.wef_event.specs.Events.{Event, HasTree, IsEventOf, event_in, event_limit, event_of, event_or_none, is_event, is_event_root, is_found, number_or, text_of_tree, unless_long, with_number_found}
 use Rattle.wef_event.specs.Paths.{channel_in, field_in, number_in, number_of_digits, text_inside, unless_zero}
 use Rattle.wef_event.specs.declared.records.EventFault.{EventFault}
 
@@ -66,6 +68,31 @@ made event node e = by (is_event_root node) refl (channel_in node) refl (number_
 pub tree_again : (node : Element) → IsGoodTree node → tree_of Utf8 (text_of_tree node) ≡ Some node
 tree_again node good = is_given Utf8 (text_of_tree node) node (spells_again Utf8 node good)
 
+-- the text of an event is read as its tree
+pub event_tree : (event : Event) (node : Element) → IsEventOf event node → tree_of Utf8 event.text ≡ Some node
+event_tree event node is = ap (tree_of Utf8) (made event node is.event_is).text ∙ tree_again node is.good
+
+-- and as no other
+pub the_tree : (event : Event) (root : Element) → HasTree event → tree_of Utf8 event.text ≡ Some root → IsEventOf event root
+the_tree event root has read = subst (λ node. IsEventOf event node) (one (sym (event_tree event has.0 has.1) ∙ read)) has.1
+  where
+    one : ◌≡◌ {A = Option Element} (Some has.0) (Some root) → has.0 ≡ root
+    one e = cc
+
+-- so reading finds no fault in it
+pub no_fault : (event : Event) (fault : TreeFault) → HasTree event → (fault ≡ TreeFault.NoMemory → ⊥) → GivesTree (Err fault) (tree_of Utf8 event.text) → ⊥
+no_fault event fault has memory gives = by fault memory gives
+  where
+    none : tree_of Utf8 event.text ≡ None → ⊥
+    none e = let is = event_tree event has.0 has.1 in cc
+
+    by : (f : TreeFault) → (f ≡ TreeFault.NoMemory → ⊥) → GivesTree (Err f) (tree_of Utf8 event.text) → ⊥
+    by TreeFault.NoMemory memory gives = memory refl
+    by (TreeFault.BadCharset at) memory gives = none gives
+    by (TreeFault.BadXml at) memory gives = none gives
+    by (TreeFault.TooDeep at) memory gives = none gives
+    by (TreeFault.Refused at) memory gives = none gives
+
 -- the event that the text of an event's tree says
 pub said : (event : Event) (node : Element) → IsGoodTree node → IsMade event node → event_in event.text ≡ event_or_none (event_of true node)
 unfolding event_in
@@ -91,7 +118,7 @@ above_zero n m e = by (nat_lt 0 n) refl e
     by false above e = let bad : ⊥ = cc in absurd bad
 
 digits_above : (digits : List ℕ) (m : ℕ) → number_of_digits digits ≡ Some m → nat_lt 0 m ≡ true
-digits_above digits m e = by (is_numeral digits) (number_within 9223372036854775807 digits) e
+digits_above digits m e = by (is_numeral digits) (number_within MAX digits) e
   where
     by : (b : Bool) (o : Option ℕ) → cond b (option_and_then unless_zero o) None ≡ Some m → nat_lt 0 m ≡ true
     by true (Some n) e = above_zero n m e

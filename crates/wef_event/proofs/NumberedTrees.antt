@@ -1,6 +1,6 @@
 -- The tree of an event with a number: it is good, and says the channel as before and the number.
 use Rattle.std.proofs.Common.{◌≡◌, ℕ, zero, suc, ◌≤◌, ◌==◌, nat_lt, cond, Bool, true, false, List, [], ◌∷◌, ◌++◌, length, refl, ap, sym, subst, ◌∙◌, arith, append-nil}
-use Rattle.std.specs.Prelude.{Option, Some, None, Result, IfOk, IfErr, codes, is_some}
+use Rattle.std.specs.Prelude.{Option, Some, None, Result, IfOk, codes, is_some}
 use Rattle.std.specs.Fmt.{decimal}
 use Rattle.std.specs.List.{list_all}
 use Rattle.std.specs.Option.{option_and_then, option_or}
@@ -12,21 +12,21 @@ use Rattle.std.proofs.lemmas.Str.{encodes-IsAscii}
 use Rattle.wef_base.specs.Characters.{is_xml_char}
 use Rattle.wef_base.specs.Names.{channel_name, trimmed}
 use Rattle.wef_base.specs.Numbers.{is_digit}
-use Rattle.wef_base.specs.declared.tree.Charset.TheVariants.{Utf8}
+use Rattle.wef_base.specs.declared.numbers.TheConstants.{MAX}
 use Rattle.wef_base.specs.declared.tree.Element.{Element}
 use Rattle.wef_base.specs.declared.tree.Node.{Node, Chars}
 use Rattle.wef_base.specs.declared.tree.Node.TheVariants.{Element as Child}
-use Rattle.wef_tree.specs.Documents.{tree_of}
 use Rattle.wef_tree.specs.Good.{AreGoodNodes, IsGoodElement, IsGoodText, IsGoodTree, IsXmlText}
 use Rattle.wef_tree.proofs.GoodOpens.{AreGoodChildren, with_good_child}
 use Rattle.wef_tree.proofs.GoodPrefixes.{plain_name_is}
-use Rattle.wef_event.specs.Events.{Event, Gives, IsEventOf, event_limit, event_of, number_or, text_of_tree, unless_long, with_number_found}
-use Rattle.wef_event.specs.Numbering.{RefusesNumber, new_field, numbered_by, numbered_children, numbered_root, numbered_system, record_id, with_first_changed, with_number, with_only}
+use Rattle.wef_event.specs.Events.{Event, Gives, IsEventOf, event_limit, event_of, event_or_none, number_or, text_of_tree, unless_long, with_number_found}
+use Rattle.wef_event.specs.Numbering.{NumberedEventsAreRead, new_field, numbered, numbered_by, numbered_children, numbered_root, numbered_system, record_id, with_first_changed, with_number, with_only}
 use Rattle.wef_event.specs.Paths.{channel_in, field_in, first_child, number_in, number_of_digits, text_inside}
+use Rattle.wef_event.specs.PlainEvent.{MakesEvent}
 use Rattle.wef_event.specs.declared.records.EventFault.{EventFault}
 use Rattle.wef_event.proofs.Children.{KeepsGood, changed_apart, changed_good, first_changed, first_more, first_other, named_otherwise, named_so}
 use Rattle.wef_event.proofs.DigitsRead.{decimal_digits, decimal_parts, digits_read}
-use Rattle.wef_event.proofs.Made.{made, tree_again}
+use Rattle.wef_event.proofs.Made.{event_tree, is_read, made}
 
 abbrev system_name : List ℕ
 system_name = codes "System"
@@ -49,7 +49,7 @@ not_empty : (n : ℕ) → nat_lt 0 n ≡ true → (n == 0) ≡ false
 not_empty n h = grind (arith, nat_tests)
 
 -- the digits of a number are a text of an element
-pub good_digits : (n : ℕ) → n ≤ 9223372036854775807 → IsGoodText (decimal n)
+pub good_digits : (n : ℕ) → n ≤ MAX → IsGoodText (decimal n)
 good_digits n small = record {
   allowed = record {
     characters = decimal n;
@@ -101,7 +101,7 @@ root_good text room root good is = (
   changed_good system_name (numbered_system text) root.children (suc (suc room)) (system_good text room good) is.2,
 )
 
-pub numbered_good : (n : ℕ) (root : Element) → n ≤ 9223372036854775807 → IsGoodTree root → IsGoodTree (numbered_root (decimal n) root)
+pub numbered_good : (n : ℕ) (root : Element) → n ≤ MAX → IsGoodTree root → IsGoodTree (numbered_root (decimal n) root)
 numbered_good n root small good = root_good (decimal n) 61 root (good_digits n small) good
 
 -- ---- what it says
@@ -167,7 +167,7 @@ pub record SaysNumber (n : ℕ) (root : Element) : Type 0 where
   pub channel : channel_in (numbered_root (decimal n) root) ≡ channel_in root
   pub number : number_in (numbered_root (decimal n) root) ≡ Some n
 
-says_number : (n : ℕ) (root system : Element) → 1 ≤ n → n ≤ 9223372036854775807 → first_child system_name root.children ≡ Some system → SaysNumber n root
+says_number : (n : ℕ) (root system : Element) → 1 ≤ n → n ≤ MAX → first_child system_name root.children ≡ Some system → SaysNumber n root
 unfolding channel_in number_in
 says_number n root system some small is =
     let found = number_after system.space (decimal n) system.children in
@@ -180,7 +180,7 @@ says_number n root system some small is =
     }
 
 -- the channel is found as before, and the number too
-pub found_in_numbered : (n : ℕ) (root : Element) (c : List ℕ) → 1 ≤ n → n ≤ 9223372036854775807 → channel_in root ≡ Some c → SaysNumber n root
+pub found_in_numbered : (n : ℕ) (root : Element) (c : List ℕ) → 1 ≤ n → n ≤ MAX → channel_in root ≡ Some c → SaysNumber n root
 found_in_numbered n root c some small channel = by (first_child system_name root.children) refl (has_system root c channel)
   where
     by : (o : Option Element) → first_child system_name root.children ≡ o → is_some o ≡ true → SaysNumber n root
@@ -189,16 +189,16 @@ found_in_numbered n root c some small channel = by (first_child system_name root
 
 -- ---- its event
 
-abbrev pub numbered_text : ℕ → Element → List ℕ
-numbered_text n root = text_of_tree (numbered_root (decimal n) root)
+abbrev pub text_with_number : ℕ → Element → List ℕ
+text_with_number n root = text_of_tree (numbered_root (decimal n) root)
 
 either_number : (needed : Bool) (n : ℕ) → number_or needed (Some n) ≡ Ok n
 either_number true n = refl
 either_number false n = refl
 
 -- it has the channel of the event, the number, and the tree's text, where that isn't too long
-pub event_of_numbered : (needed : Bool) (event : Event) (node : Element) (n : ℕ) → IsEventOf event node → 1 ≤ n → n ≤ 9223372036854775807
-    → event_of needed (numbered_root (decimal n) node) ≡ unless_long event.channel n (numbered_text n node)
+pub event_of_numbered : (needed : Bool) (event : Event) (node : Element) (n : ℕ) → IsEventOf event node → 1 ≤ n → n ≤ MAX
+    → event_of needed (numbered_root (decimal n) node) ≡ unless_long event.channel n (text_with_number n node)
 unfolding event_of
 event_of_numbered needed event node n is some small =
     let found = made event node is.event_is in
@@ -211,8 +211,7 @@ event_of_numbered needed event node n is some small =
 -- an event with a number is that of its tree with the number
 with_number_is : (event : Event) (node : Element) (n : ℕ) → IsEventOf event node → with_number event n ≡ event_of true (numbered_root (decimal n) node)
 unfolding with_number
-with_number_is event node n is =
-    ap (λ (text : List ℕ). numbered_by n (tree_of Utf8 text)) (made event node is.event_is).text ∙ ap (numbered_by n) (tree_again node is.good)
+with_number_is event node n is = ap (numbered_by n) (event_tree event node is)
 
 -- an event that isn't too long has its channel and its number
 record HasBoth (c : List ℕ) (n : ℕ) (event : Event) : Type 0 where
@@ -230,41 +229,66 @@ short_has c n text event e = by (nat_lt event_limit (length text)) e
 -- and the number.
 pub record IsNumbered (event : Event) (n : ℕ) (result : Result Event EventFault) : Type 0 where
   pub given : Gives result (with_number event n)
+  pub made : MakesEvent result (numbered event n)
   pub channel : IfOk result (λ made. made.channel ≡ event.channel)
   pub number : IfOk result (λ made. made.number ≡ n)
-  pub refusal : IfErr result RefusesNumber
 
 -- only its length is wrong with it
-too_long : (c : List ℕ) (n : ℕ) (text : List ℕ) (fault : EventFault) → unless_long c n text ≡ Err fault → RefusesNumber fault
+too_long : (c : List ℕ) (n : ℕ) (text : List ℕ) (fault : EventFault) → unless_long c n text ≡ Err fault → EventFault.TooLong ≡ fault
 too_long c n text fault e = by (nat_lt event_limit (length text)) e
   where
-    by : (b : Bool) → ◌≡◌ {A = Result Event EventFault} (cond b (Err EventFault.TooLong) (Ok (record { channel = c; number = n; text = text }))) (Err fault) → RefusesNumber fault
-    by true e = let same : EventFault.TooLong ≡ fault = cc in subst RefusesNumber same tt
+    by : (b : Bool) → ◌≡◌ {A = Result Event EventFault} (cond b (Err EventFault.TooLong) (Ok (record { channel = c; number = n; text = text }))) (Err fault) → EventFault.TooLong ≡ fault
+    by true e = cc
     by false e = let bad : ⊥ = cc in absurd bad
 
--- a refusal that the definition gives
-given_refusal : (fault : EventFault) (given : Result Event EventFault) → Gives (Err fault) given → (given ≡ Err fault → RefusesNumber fault) → RefusesNumber fault
-given_refusal EventFault.NoMemory given gives refuses = tt
-given_refusal (EventFault.BadEvent at) given gives refuses = refuses gives
-given_refusal EventFault.NoChannel given gives refuses = refuses gives
-given_refusal EventFault.NoRecordId given gives refuses = refuses gives
-given_refusal EventFault.TooLong given gives refuses = tt
+-- what a maker gives is what it makes, where only the length may be wrong
+made_as_given : (result given : Result Event EventFault) → Gives result given → ((fault : EventFault) → given ≡ Err fault → EventFault.TooLong ≡ fault) → MakesEvent result (event_or_none given)
+made_as_given (Ok event) given gives only = ap event_or_none gives
+made_as_given (Err EventFault.NoMemory) given gives only = tt
+made_as_given (Err EventFault.TooLong) given gives only = ap event_or_none gives
+made_as_given (Err (EventFault.BadEvent at)) given gives only = let other = only (EventFault.BadEvent at) gives in let bad : ⊥ = cc in absurd bad
+made_as_given (Err EventFault.NoChannel) given gives only = let other = only EventFault.NoChannel gives in let bad : ⊥ = cc in absurd bad
+made_as_given (Err EventFault.NoRecordId) given gives only = let other = only EventFault.NoRecordId gives in let bad : ⊥ = cc in absurd bad
 
-pub is_numbered : (event : Event) (node root : Element) (n : ℕ) (result : Result Event EventFault) → IsEventOf event node → 1 ≤ n → n ≤ 9223372036854775807
+-- an event with a number, by the text of its tree with the number
+pub by_length : (event : Event) (node : Element) (n : ℕ) → IsEventOf event node → 1 ≤ n → n ≤ MAX → with_number event n ≡ unless_long event.channel n (text_with_number n node)
+by_length event node n is some small = with_number_is event node n is ∙ event_of_numbered true event node n is some small
+
+pub is_numbered : (event : Event) (node root : Element) (n : ℕ) (result : Result Event EventFault) → IsEventOf event node → 1 ≤ n → n ≤ MAX
     → root ≡ numbered_root (decimal n) node → Gives result (event_of true root) → IsNumbered event n result
+unfolding numbered
 is_numbered event node root n result is some small same gives =
     by result (subst (λ given. Gives result given) (ap (event_of true) same ∙ sym (with_number_is event node n is)) gives)
   where
-    whole : with_number event n ≡ unless_long event.channel n (numbered_text n node)
-    whole = with_number_is event node n is ∙ event_of_numbered true event node n is some small
+    whole : with_number event n ≡ unless_long event.channel n (text_with_number n node)
+    whole = by_length event node n is some small
+
+    made_so : (r : Result Event EventFault) → Gives r (with_number event n) → MakesEvent r (event_or_none (with_number event n))
+    made_so r given = made_as_given r (with_number event n) given (λ fault e. too_long event.channel n (text_with_number n node) fault (sym whole ∙ e))
 
     by : (r : Result Event EventFault) → Gives r (with_number event n) → IsNumbered event n r
     by (Ok made) given =
-        let has = short_has event.channel n (numbered_text n node) made (sym whole ∙ given) in
-        record { given = given; channel = has.channel; number = has.number; refusal = tt }
-    by (Err fault) given = record {
-      given = given;
-      channel = tt;
-      number = tt;
-      refusal = given_refusal fault (with_number event n) given (λ e. too_long event.channel n (numbered_text n node) fault (sym whole ∙ e));
-    }
+        let has = short_has event.channel n (text_with_number n node) made (sym whole ∙ given) in
+        record { given = given; made = made_so (Ok made) given; channel = has.channel; number = has.number }
+    by (Err fault) given = record { given = given; made = made_so (Err fault) given; channel = tt; number = tt }
+
+-- ---- it is read
+
+-- what a maker gave
+pub given_ok : (given : Result Event EventFault) (event : Event) → event_or_none given ≡ Some event → given ≡ Ok event
+given_ok (Ok other) event e = cc
+given_ok (Err fault) event e = let bad : ⊥ = cc in absurd bad
+
+some_number : (n : ℕ) → 1 ≤ n → nat_lt 0 n ≡ true
+some_number n h = grind (arith, nat_tests)
+
+pub numbered_is_read : NumberedEventsAreRead
+unfolding numbered
+numbered_is_read event made node n is some small e =
+    let given : unless_long event.channel n (text_with_number n node) ≡ Ok made = sym (by_length event node n is some small) ∙ given_ok (with_number event n) made e in
+    let has = short_has event.channel n (text_with_number n node) made given in
+    let is_made : IsEventOf made (numbered_root (decimal n) node) = record {
+      good = numbered_good n node small is.good;
+      event_is = event_of_numbered false event node n is some small ∙ given;
+    } in
+    (sym (is_read made (numbered_root (decimal n) node) is_made) ∙ ap (nat_lt 0) has.number ∙ some_number n some, has.channel, has.number)

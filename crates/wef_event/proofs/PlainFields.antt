@@ -7,6 +7,7 @@ use Rattle.std.specs.Option.{option_and_then, option_or}
 use Rattle.std.specs.declared.result.Result.TheVariants.{Ok, Err}
 use Rattle.std.proofs.lemmas.Bool.Decides.{nat_tests}
 use Rattle.wef_base.specs.Names.{channel_name, same, trimmed}
+use Rattle.wef_base.specs.declared.numbers.TheConstants.{MAX}
 use Rattle.wef_base.specs.declared.tree.Element.{Element}
 use Rattle.wef_base.specs.declared.tree.Node.{Node, Chars, Node-F}
 use Rattle.wef_base.specs.declared.tree.Node.TheVariants.{Element as Child, outs-Element}
@@ -79,7 +80,7 @@ channel_found channel number id level =
     ∙ behind (codes "Channel") (leaf (codes "EventRecordID") (decimal number)) (from_channel channel) refl
     ∙ here (codes "Channel") (leaf (codes "Channel") channel) [] refl
 
-number_found : (channel : List ℕ) (number id level : ℕ) → first_child (codes "EventRecordID") (system channel number id level).children ≡ Some (leaf (codes "EventRecordID") (decimal number))
+pub number_found : (channel : List ℕ) (number id level : ℕ) → first_child (codes "EventRecordID") (system channel number id level).children ≡ Some (leaf (codes "EventRecordID") (decimal number))
 number_found channel number id level =
     behind (codes "EventRecordID") (leaf (codes "EventID") (decimal id)) (from_level channel number level) refl
     ∙ behind (codes "EventRecordID") (leaf (codes "Level") (decimal level)) (from_number channel number) refl
@@ -105,7 +106,7 @@ says_channel channel number id level word =
     ∙ ap channel_name (leaf_text (codes "Channel") channel)
 
 -- and the number, where it isn't 0
-pub says_number : (channel : List ℕ) (number id level : ℕ) (word : List ℕ) → number ≤ 9223372036854775807 → number_in (plain_tree channel number id level word) ≡ unless_zero number
+pub says_number : (channel : List ℕ) (number id level : ℕ) (word : List ℕ) → number ≤ MAX → number_in (plain_tree channel number id level word) ≡ unless_zero number
 unfolding number_in
 says_number channel number id level word h =
     ap (λ o. number_of (child_of (codes "EventRecordID") o)) (system_found channel number id level word)
@@ -115,7 +116,7 @@ says_number channel number id level word h =
     ∙ decimal_read number h
 
 -- 0 stands for no number
-none_is_zero : (number : ℕ) → number_or false (unless_zero number) ≡ Ok number
+pub none_is_zero : (number : ℕ) → number_or false (unless_zero number) ≡ Ok number
 none_is_zero number = by (nat_lt 0 number) refl
   where
     zero_is : nat_lt 0 number ≡ false → 0 ≡ number
@@ -125,16 +126,24 @@ none_is_zero number = by (nat_lt 0 number) refl
     by true e = refl
     by false e = ap (λ (n : ℕ). Ok n) (zero_is e)
 
+-- and another number is there
+pub says_some : (number : ℕ) → 1 ≤ number → number_or true (unless_zero number) ≡ Ok number
+says_some number some = ap (λ (b : Bool). number_or true (cond b (Some number) None)) (above some)
+  where
+    above : 1 ≤ number → nat_lt 0 number ≡ true
+    above h = grind (arith, nat_tests, h)
+
 -- the event of the tree, by its text
 pub tree_says :
-    (channel : List ℕ) (number id level : ℕ) (word : List ℕ) → channel_name channel ≡ Some channel → number ≤ 9223372036854775807 →
-    event_of false (plain_tree channel number id level word) ≡ unless_long channel number (text_of_tree (plain_tree channel number id level word))
+    (needed : Bool) (channel : List ℕ) (number id level : ℕ) (word : List ℕ) → channel_name channel ≡ Some channel → number ≤ MAX →
+    number_or needed (unless_zero number) ≡ Ok number →
+    event_of needed (plain_tree channel number id level word) ≡ unless_long channel number (text_of_tree (plain_tree channel number id level word))
 unfolding event_of
-tree_says channel number id level word named h =
+tree_says needed channel number id level word named h said =
     let root = plain_tree channel number id level word in
-    ap (λ o. with_channel_found false root o) (says_channel channel number id level word ∙ named)
-    ∙ ap (λ o. with_number_found root channel (number_or false o)) (says_number channel number id level word h)
-    ∙ ap (λ r. with_number_found root channel r) (none_is_zero number)
+    ap (λ o. with_channel_found needed root o) (says_channel channel number id level word ∙ named)
+    ∙ ap (λ o. with_number_found root channel (number_or needed o)) (says_number channel number id level word h)
+    ∙ ap (λ r. with_number_found root channel r) said
 
 -- an event that isn't too long has a short text, and this channel, number and text
 pub short_is :

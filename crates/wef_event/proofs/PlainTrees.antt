@@ -5,10 +5,11 @@ use Rattle.std.proofs.lemmas.Bool.Decides.{nat_tests}
 use Rattle.std.proofs.lemmas.Str.{is_utf8-from_IsUtf8}
 use Rattle.wef_base.specs.Characters.{is_xml_text}
 use Rattle.wef_base.specs.Names.{channel_name}
+use Rattle.wef_base.specs.declared.numbers.TheConstants.{MAX}
 use Rattle.wef_event.specs.Events.{IsEventOf, event_limit, unless_long}
 use Rattle.wef_event.specs.PlainEvent.{PlainEventsAreOfTrees, PlainEventsAreRead, plain_text, plain_tree}
 use Rattle.wef_event.proofs.Made.{is_read}
-use Rattle.wef_event.proofs.PlainFields.{short_is, tree_says}
+use Rattle.wef_event.proofs.PlainFields.{none_is_zero, short_is, tree_says}
 use Rattle.wef_event.proofs.PlainGood.{plain_good}
 use Rattle.wef_event.proofs.PlainTexts.{plain_text_is}
 
@@ -16,7 +17,7 @@ pub plain_of_tree : PlainEventsAreOfTrees
 plain_of_tree channel word number id level event named utf8 word_utf8 allowed h e = record {
   good = plain_good channel word number id level named utf8 word_utf8 allowed;
   event_is =
-      tree_says channel number id level word named h ∙ ap (λ text. unless_long channel number text) (plain_text_is channel number id level word)
+      tree_says false channel number id level word named h (none_is_zero number) ∙ ap (λ text. unless_long channel number text) (plain_text_is channel number id level word)
       ∙ (short_is channel number id level word event e).0;
 }
 
@@ -31,7 +32,7 @@ plain_is_read channel word number id level event named utf8 word_utf8 allowed so
 
 -- the same of its parts
 pub is_event_of :
-    (channel word : List ℕ) (number id level : ℕ) → channel_name channel ≡ Some channel → IsUtf8 channel → IsUtf8 word → is_xml_text word ≡ true → number ≤ 9223372036854775807 →
+    (channel word : List ℕ) (number id level : ℕ) → channel_name channel ≡ Some channel → IsUtf8 channel → IsUtf8 word → is_xml_text word ≡ true → number ≤ MAX →
     length (plain_text channel number id level word) ≤ event_limit →
     IsEventOf (record { channel = channel; number = number; text = plain_text channel number id level word }) (plain_tree channel number id level word)
 is_event_of channel word number id level named utf8 word_utf8 allowed h short =

@@ -1,6 +1,6 @@
 -- What reading a text says of the event that the text has.
-use Rattle.std.proofs.Common.{◌≡◌, ℕ, ◌==◌, ◌&&◌, true, false, List, refl, ap, sym, ◌∙◌, ◌⊎◌, inl, inr}
-use Rattle.std.specs.Prelude.{Option, Some, None, Result}
+use Rattle.std.proofs.Common.{◌≡◌, ℕ, ◌==◌, ◌&&◌, true, false, Bool, cond, List, length, nat_lt, refl, ap, sym, ◌∙◌, ◌⊎◌, inl, inr}
+use Rattle.std.specs.Prelude.{Option, Some, None, Result, IfErr}
 use Rattle.std.specs.Option.{option_and_then}
 use Rattle.std.specs.declared.result.Result.TheVariants.{Ok, Err}
 use Rattle.wef_base.specs.Names.{same}
@@ -9,8 +9,9 @@ use Rattle.wef_base.specs.declared.tree.Element.{Element}
 use Rattle.wef_tree.specs.Documents.{tree_of}
 use Rattle.wef_tree.proofs.Functions.{is_given, is_spelt_by}
 use Rattle.wef_tree.proofs.Readings.{has_no_fault}
-use Rattle.wef_event.specs.Events.{Event, event_in, event_of, event_or_none, is_event, is_found}
-use Rattle.wef_event.specs.Reading.{IsFaulty, ReadsEvent, Says}
+use Rattle.wef_event.specs.Events.{Event, event_in, event_limit, event_of, event_or_none, is_event, is_event_root, is_found, number_or, text_of_tree, with_number_found}
+use Rattle.wef_event.specs.Paths.{channel_in, number_in}
+use Rattle.wef_event.specs.Reading.{AsksForNoNumber, IsFaulty, ReadsEvent, Says}
 use Rattle.wef_event.specs.declared.records.EventFault.{EventFault}
 use Rattle.wef_event.specs.declared.records.EventFault.TheVariants.{NoMemory, BadEvent, NoChannel, NoRecordId, TooLong}
 
@@ -46,3 +47,27 @@ no_event event TooLong memory read = sym (ap (is_found event) (said event.text (
 pub other_event : (event other : Event) → Says true event.text (Ok other) → (same event.channel other.channel && event.number == other.number && same event.text other.text) ≡ is_event event
 unfolding is_event
 other_event event other read = sym (ap (is_found event) (said event.text (Ok other) read))
+
+-- where no number is needed, none is asked for
+found_so : (root : Element) → event_of false root ≡ Err NoRecordId → ⊥
+unfolding event_of
+found_so root e = by (is_event_root root) (channel_in root) (number_in root) e
+  where
+    long : (b : Bool) (event : Event) → ◌≡◌ {A = Result Event EventFault} (cond b (Err TooLong) (Ok event)) (Err NoRecordId) → ⊥
+    long true event e = cc
+    long false event e = cc
+
+    by : (b : Bool) (c : Option (List ℕ)) (m : Option ℕ)
+        → ◌≡◌ {A = Result Event EventFault} (cond b (elim c [ Some c ↦ with_number_found root c (number_or false m) | None ↦ Err NoChannel ]) (Err (BadEvent 0))) (Err NoRecordId) → ⊥
+    by false c m e = cc
+    by true None m e = cc
+    by true (Some c) None e = long (nat_lt event_limit (length (text_of_tree root))) _ e
+    by true (Some c) (Some n) e = long (nat_lt event_limit (length (text_of_tree root))) _ e
+
+pub asks_for_none : (text : List ℕ) (result : Result Event EventFault) → ReadsEvent false text result → IfErr result AsksForNoNumber
+asks_for_none text (Ok event) reads = tt
+asks_for_none text (Err NoMemory) reads = tt
+asks_for_none text (Err (BadEvent at)) reads = tt
+asks_for_none text (Err NoChannel) reads = tt
+asks_for_none text (Err NoRecordId) reads = absurd (found_so reads.0 reads.2)
+asks_for_none text (Err TooLong) reads = tt

@@ -2,20 +2,19 @@
 use Rattle.std.proofs.Common.{◌≡◌, ◌<◌, ◌≤◌, ◌+◌, ◌++◌, ◌∙◌, ℕ, Bool, true, false, cond, nat_le, nat_lt, not, List, length, refl, ap, IsUtf8, arith, length-append}
 use Rattle.std.specs.Prelude.{Some, None, codes, encode_utf8, is_some}
 use Rattle.std.specs.Fmt.{decimal}
-use Rattle.std.specs.List.{flat_map}
 use Rattle.std.proofs.lemmas.Bool.Decides.{nat_tests}
-use Rattle.std.proofs.lemmas.Str.{chars_past_char}
 use Rattle.wef_event.specs.Characters.{escape, escaped}
 use Rattle.wef_event.specs.Lengths.{within}
 use Rattle.wef_event.specs.PlainEvent.{plain_text}
-use Rattle.wef_event.specs.Unnumbered.{numbered, numbered_text}
+use Rattle.wef_event.specs.Unnumbered.{plain_numbered, plain_numbered_text}
 use Rattle.wef_event.specs.Events.{Event}
 use Rattle.wef_event.specs.declared.unnumbered.PlainEvent.{PlainEvent}
+use Rattle.wef_event.proofs.Escaped.{escaped_past}
 
 -- a character in front of a text adds the bytes that it has there
 pub escaped_past_char : (text rest : List ℕ) (c : ℕ) → IsUtf8 text → text ≡ encode_utf8 c ++ rest → length (escaped text) ≡ length (escape c) + length (escaped rest)
 escaped_past_char text rest c utf8 parts =
-    ap (λ (cs : List ℕ). length (flat_map escape cs)) (chars_past_char text rest c utf8 parts) ∙ length-append (escape c) (escaped rest)
+    ap length (escaped_past text rest c utf8 parts) ∙ length-append (escape c) (escaped rest)
 
 test_holds : (limit n : ℕ) → n ≤ limit → nat_le n limit ≡ true
 test_holds limit n h = grind (arith, nat_tests)
@@ -66,9 +65,9 @@ unless_past true event = refl
 unless_past false event = refl
 
 -- an event fits where its text has at most so many bytes
-pub fits_by_length : (event : PlainEvent) (number n : ℕ) → length (numbered_text event number) ≡ n → is_some (numbered event number) ≡ nat_le n 1048576
-fits_by_length event number n e = unless_past (nat_lt 1048576 (length (numbered_text event number))) _ ∙ not_past 1048576 (length (numbered_text event number)) ∙ ap (λ (m : ℕ). nat_le m 1048576) e
+pub fits_by_length : (event : PlainEvent) (number n : ℕ) → length (plain_numbered_text event number) ≡ n → is_some (plain_numbered event number) ≡ nat_le n 1048576
+fits_by_length event number n e = unless_past (nat_lt 1048576 (length (plain_numbered_text event number))) _ ∙ not_past 1048576 (length (plain_numbered_text event number)) ∙ ap (λ (m : ℕ). nat_le m 1048576) e
 
 -- a text past the limit doesn't fit
-pub past_is_unfit : (event : PlainEvent) (number n : ℕ) → length (numbered_text event number) ≡ n → 1048576 < n → is_some (numbered event number) ≡ false
+pub past_is_unfit : (event : PlainEvent) (number n : ℕ) → length (plain_numbered_text event number) ≡ n → 1048576 < n → is_some (plain_numbered event number) ≡ false
 past_is_unfit event number n e past = fits_by_length event number n e ∙ test_fails 1048576 n past

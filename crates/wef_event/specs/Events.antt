@@ -12,8 +12,7 @@ use Rattle.wef_event.specs.Paths.{channel_in, number_in}
 use Rattle.wef_event.specs.declared.records.EventFault.{EventFault}
 use Rattle.wef_event.specs.declared.records.EventFault.TheVariants.{NoMemory, BadEvent, NoChannel, NoRecordId, TooLong}
 
--- An event, as contracts see it: its channel, its number there, or 0 where it has none yet, and its text. Its tree isn't
--- named, since the text is that of one tree alone.
+-- An event: its channel, its number there, or 0 where it has none yet, and its text, which is that of one tree alone.
 pub record Event : Type 0 where
   pub channel : List ℕ
   pub number : ℕ
@@ -61,6 +60,10 @@ event_of needed root = if is_event_root root then with_channel_found needed root
 pub record IsEventOf (event : Event) (node : Element) : Type 0 where
   pub good : IsGoodTree node
   pub event_is : event_of false node ≡ Ok event
+
+-- An event stands for some tree.
+abbrev pub HasTree : Event → Type 0
+HasTree event = (node : Element) × IsEventOf event node
 
 -- A maker of events gives what the definition gives, or wants memory.
 abbrev pub Gives : Result Event EventFault → Result Event EventFault → Type 0

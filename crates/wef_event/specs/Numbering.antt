@@ -1,16 +1,17 @@
 -- An event with a number: the number in digits is the one child of the field EventRecordID, or a new one, last in System.
-use Rattle.std.specs.Prelude.{ℕ, true, List, [], ◌∷◌, ◌++◌, Option, Some, None, Result, codes, is_some, if◌then◌else◌}
+use Rattle.std.specs.Prelude.{◌≡◌, ℕ, ◌≤◌, true, List, [], ◌∷◌, ◌++◌, Option, Some, None, Result, codes, is_some, if◌then◌else◌}
 use Rattle.std.specs.Fmt.{decimal}
 use Rattle.std.specs.declared.result.Result.TheVariants.{Err}
+use Rattle.wef_base.specs.declared.numbers.TheConstants.{MAX}
 use Rattle.wef_base.specs.declared.tree.Charset.TheVariants.{Utf8}
 use Rattle.wef_base.specs.declared.tree.Element.{Element}
 use Rattle.wef_base.specs.declared.tree.Node.{Node, Chars, out-Node, Node-F}
 use Rattle.wef_base.specs.declared.tree.Node.TheVariants.{Element as Child}
 use Rattle.wef_tree.specs.Documents.{tree_of}
-use Rattle.wef_event.specs.Events.{Event, event_of}
+use Rattle.wef_event.specs.Events.{Event, IsEventOf, event_of, event_or_none, is_event}
 use Rattle.wef_event.specs.Paths.{first_child, named}
 use Rattle.wef_event.specs.declared.records.EventFault.{EventFault}
-use Rattle.wef_event.specs.declared.records.EventFault.TheVariants.{NoMemory, BadEvent, NoChannel, NoRecordId, TooLong}
+use Rattle.wef_event.specs.declared.records.EventFault.TheVariants.{BadEvent}
 
 -- a node and those behind it, where the node is an element that changes; else the node and what becomes of those
 abbrev pub changed_here : (Element → Element) → Option Element → Node → List Node → List Node → List Node
@@ -62,10 +63,20 @@ numbered_by n None = Err (BadEvent 0)
 unfoldable pub with_number : Event → ℕ → Result Event EventFault
 with_number event n = numbered_by n (tree_of Utf8 event.text)
 
--- an event gets its number, but for want of memory, or where its text then is too long
-abbrev pub RefusesNumber : EventFault → Type 0
-RefusesNumber NoMemory = Unit {0}
-RefusesNumber TooLong = Unit {0}
-RefusesNumber (BadEvent at) = ⊥
-RefusesNumber NoChannel = ⊥
-RefusesNumber NoRecordId = ⊥
+-- the event, where there is one
+unfoldable pub numbered : Event → ℕ → Option Event
+numbered event n = event_or_none (with_number event n)
+
+-- the text of an event, or nothing where there is none
+abbrev pub text_or_nothing : Option Event → List ℕ
+text_or_nothing (Some event) = event.text
+text_or_nothing None = []
+
+-- its text with a number
+abbrev pub numbered_text : Event → ℕ → List ℕ
+numbered_text event n = text_or_nothing (numbered event n)
+
+-- With a number, the event of a tree is the one that its text says, and has the channel and this number.
+abbrev pub NumberedEventsAreRead : Type 0
+NumberedEventsAreRead = (event made : Event) (node : Element) (number : ℕ) → IsEventOf event node → 1 ≤ number → number ≤ MAX →
+    numbered event number ≡ Some made → (is_event made ≡ true) × (made.channel ≡ event.channel) × (made.number ≡ number)

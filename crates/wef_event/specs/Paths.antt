@@ -5,6 +5,7 @@ use Rattle.std.specs.List.{flat_map}
 use Rattle.std.specs.Option.{option_and_then, option_or}
 use Rattle.wef_base.specs.Names.{channel_name, same, trimmed}
 use Rattle.wef_base.specs.Numbers.{is_numeral, number_within}
+use Rattle.wef_base.specs.declared.numbers.TheConstants.{MAX}
 use Rattle.wef_base.specs.declared.tree.Element.{Element}
 use Rattle.wef_base.specs.declared.tree.Node.{Node, Chars, Element', Row_of-Node, end_of-Node, more_of-Node, out-Node, Node-F}
 
@@ -49,7 +50,7 @@ unless_zero n = if nat_lt 0 n then Some n else None
 
 -- the number of a record that digits write: from 1 to 2^63 - 1
 abbrev pub number_of_digits : List ℕ → Option ℕ
-number_of_digits digits = if is_numeral digits then option_and_then unless_zero (number_within 9223372036854775807 digits) else None
+number_of_digits digits = if is_numeral digits then option_and_then unless_zero (number_within MAX digits) else None
 
 -- the number of an event, where its field is one, with spaces round it or not
 unfoldable pub number_in : Element → Option ℕ

@@ -5,6 +5,7 @@ use Rattle.std.specs.declared.result.Result.TheVariants.{Ok, Err}
 use Rattle.std.specs.Fmt.{decimal}
 use Rattle.wef_base.specs.Characters.{is_xml_text}
 use Rattle.wef_base.specs.Names.{channel_name}
+use Rattle.wef_base.specs.declared.numbers.TheConstants.{MAX}
 use Rattle.wef_base.specs.declared.tree.Element.{Element}
 use Rattle.wef_base.specs.declared.tree.Node.{Node, Chars}
 use Rattle.wef_base.specs.declared.tree.Node.TheVariants.{Element as Child}
@@ -76,11 +77,11 @@ plain_tree channel number id level word = record {
 -- The plain event of a channel and a word of characters that XML allows is the event of its tree.
 abbrev pub PlainEventsAreOfTrees : Type 0
 PlainEventsAreOfTrees = (channel word : List ℕ) (number id level : ℕ) (event : Event) →
-    channel_name channel ≡ Some channel → is_utf8 channel ≡ true → is_utf8 word ≡ true → is_xml_text word ≡ true → number ≤ 9223372036854775807 →
+    channel_name channel ≡ Some channel → is_utf8 channel ≡ true → is_utf8 word ≡ true → is_xml_text word ≡ true → number ≤ MAX →
     plain_event channel number id level word ≡ Some event → IsEventOf event (plain_tree channel number id level word)
 
 -- And where it has a number, it is the event that its text says.
 abbrev pub PlainEventsAreRead : Type 0
 PlainEventsAreRead = (channel word : List ℕ) (number id level : ℕ) (event : Event) →
-    channel_name channel ≡ Some channel → is_utf8 channel ≡ true → is_utf8 word ≡ true → is_xml_text word ≡ true → 1 ≤ number → number ≤ 9223372036854775807 →
+    channel_name channel ≡ Some channel → is_utf8 channel ≡ true → is_utf8 word ≡ true → is_xml_text word ≡ true → 1 ≤ number → number ≤ MAX →
     plain_event channel number id level word ≡ Some event → is_event event ≡ true

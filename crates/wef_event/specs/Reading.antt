@@ -26,6 +26,14 @@ ReadsEvent needed text (Err NoChannel) = Says needed text (Err NoChannel)
 ReadsEvent needed text (Err NoRecordId) = Says needed text (Err NoRecordId)
 ReadsEvent needed text (Err TooLong) = Says needed text (Err TooLong)
 
+-- A reader that needs no number never asks for one.
+abbrev pub AsksForNoNumber : EventFault → Type 0
+AsksForNoNumber NoRecordId = ⊥
+AsksForNoNumber NoMemory = Unit {0}
+AsksForNoNumber (BadEvent at) = Unit {0}
+AsksForNoNumber NoChannel = Unit {0}
+AsksForNoNumber TooLong = Unit {0}
+
 -- a text, where it isn't too long for an event
 abbrev pub short_text : List ℕ → Option (List ℕ)
 short_text text = if nat_lt event_limit (length text) then None else Some text

@@ -8,11 +8,10 @@ use wef_base::Text;
 
 /// Appends a text as it stands between two tags: markup and the white space that a reader would
 /// change are character references. After an error a part may stand there.
-pub(crate) fn push_escaped(text: &mut Text, word: &Text) -> Result<(), AllocError>
+pub(crate) fn push_escaped(text: &mut Text, word: &str) -> Result<(), AllocError>
     ensures { OnOk result (text.new ≡ text.old ++ escaped word.now) }
 {
-    let characters = word.characters()?;
-    for &character in characters.as_slice() {
+    for character in word.chars() {
         push_escape(text, character)?;
     }
     Ok(())

@@ -1,13 +1,15 @@
 //! Giving an event its number.
 
-ghost use Rattle.std.specs.Prelude.{◌≡◌, ◌≤◌, [], ◌∷◌, ◌++◌, codes, is_some, IfOk, IfErr, OnOk};
+ghost use Rattle.std.specs.Prelude.{◌≡◌, ◌≤◌, [], ◌∷◌, ◌++◌, codes, is_some, IfOk, OnOk};
 ghost use Rattle.std.specs.Fmt.{decimal};
 ghost use Rattle.std.specs.List.{position};
+ghost use Rattle.wef_base.specs.declared.numbers.TheConstants.{MAX};
 ghost use Rattle.wef_base.specs.declared.tree.Node.{Chars};
 ghost use Rattle.wef_base.specs.declared.tree.Node.TheVariants.{Element as Child};
 ghost use Rattle.wef_event.specs.Events.{Gives};
-ghost use Rattle.wef_event.specs.Numbering.{RefusesNumber, changed_node, new_field, numbered_children, numbered_root, numbered_system, with_first_changed, with_number, with_only};
+ghost use Rattle.wef_event.specs.Numbering.{changed_node, new_field, numbered, numbered_children, numbered_root, numbered_system, with_first_changed, with_number, with_only};
 ghost use Rattle.wef_event.specs.Paths.{named};
+ghost use Rattle.wef_event.specs.PlainEvent.{MakesEvent};
 
 use crate::paths::named;
 use crate::reading::event_from;
@@ -22,24 +24,26 @@ impl Event {
     /// `EVENT_LIMIT` bytes.
     pub fn with_number(&self, number: u64) -> Result<Event, EventFault>
         requires least { 1 ≤ number }
-        requires greatest { number ≤ 9223372036854775807 }
+        requires greatest { number ≤ MAX }
         ensures given { Gives result (with_number self.now number) }
+        ensures made { MakesEvent result (numbered self.now number) }
         ensures channel { IfOk result (λ event. event.channel ≡ self.now.channel) }
         ensures number { IfOk result (λ event. event.number ≡ number) }
-        ensures refusal { IfErr result RefusesNumber }
     {
-        event_from(true, numbered(&self.node, number)?)
+        let mut root = self.tree()?;
+        number_root(number, &mut root)?;
+        event_from(true, &root)
     }
 }
 
-/// A copy of an event's tree with a number.
-fn numbered(node: &Element, number: u64) -> Result<Element, AllocError>
-    ensures { IfOk result (λ numbered. numbered ≡ numbered_root (decimal number) node.now) }
+/// Gives the root of an event a number.
+fn number_root(number: u64, root: &mut Element) -> Result<(), AllocError>
+    ensures { OnOk result (root.new ≡ numbered_root (decimal number) root.old) }
 {
-    let digits = digits_of(node.name.alloc(), number)?;
-    let mut root = node.clone()?;
-    number_root(&digits, &mut root)?;
-    Ok(root)
+    let digits = digits_of(root.name.alloc(), number)?;
+    let children = mem::replace(&mut root.children, List::new(digits.alloc()));
+    root.children = with_system_numbered(&digits, children)?;
+    Ok(())
 }
 
 /// A number in decimal digits.
@@ -49,15 +53,6 @@ fn digits_of(alloc: Global, number: u64) -> Result<Text, AllocError>
     let mut digits = Text::new(alloc);
     digits.push_number(number)?;
     Ok(digits)
-}
-
-/// Gives the root of an event the digits of a number.
-fn number_root(digits: &Text, root: &mut Element) -> Result<(), AllocError>
-    ensures { OnOk result (root.new ≡ numbered_root digits.now root.old) }
-{
-    let children = mem::replace(&mut root.children, List::new(digits.alloc()));
-    root.children = with_system_numbered(digits, children)?;
-    Ok(())
 }
 
 /// The children of an event, with the digits of a number in the first System.

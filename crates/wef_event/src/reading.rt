@@ -1,11 +1,11 @@
 //! Reading events.
 
-ghost use Rattle.std.specs.Prelude.{◌≡◌, true, false, ◌&&◌, ◌==◌, is_some, IfOk, IfSome};
+ghost use Rattle.std.specs.Prelude.{◌≡◌, true, false, ◌&&◌, ◌==◌, is_some, IfErr, IfOk, IfSome};
 ghost use Rattle.wef_base.specs.Names.{same};
 ghost use Rattle.wef_tree.specs.Good.{IsGoodTree};
 ghost use Rattle.wef_event.specs.Events as events;
-ghost use Rattle.wef_event.specs.Events.{Gives, is_event_root, number_or, text_of_tree};
-ghost use Rattle.wef_event.specs.Reading.{ReadsEvent, short_text};
+ghost use Rattle.wef_event.specs.Events.{Gives, IsEventOf, is_event_root, number_or, text_of_tree};
+ghost use Rattle.wef_event.specs.Reading.{AsksForNoNumber, ReadsEvent, short_text};
 
 use crate::paths::{channel_in, number_in};
 use crate::plain::EVENT_LIMIT;
@@ -25,7 +25,8 @@ pub fn read_event(text: &Text) -> Result<Event, EventFault>
 
 /// Reads an event as `read_event` does. It needs no number, and has 0 where it has none.
 pub fn read_new_event(text: &Text) -> Result<Event, EventFault>
-    ensures { ReadsEvent false text.now result }
+    ensures read { ReadsEvent false text.now result }
+    ensures number { IfErr result AsksForNoNumber }
 {
     read(false, text)
 }
@@ -35,10 +36,27 @@ pub fn event_of_node(node: &Element) -> Result<Event, EventFault>
     requires { IsGoodTree node.now }
     ensures { Gives result (events.event_of true node.now) }
 {
-    event_from(true, node.clone()?)
+    event_from(true, node)
 }
 
 impl Event {
+    /// The tree of the event. Each call reads it from the text.
+    pub fn tree(&self) -> Result<Element, AllocError>
+        ensures { IfOk result (λ node. IsEventOf self.now node) }
+    {
+        match read_tree(
+            self.text.alloc(),
+            self.text.as_str().as_bytes(),
+            Charset::Utf8,
+        ) {
+            Ok(node) => Ok(node),
+            Err(fault) => match fault {
+                TreeFault::NoMemory => Err(AllocError),
+                _ => unreachable!(),
+            },
+        }
+    }
+
     /// The event of this channel and this number whose text this is. None where the text isn't the
     /// one text of a tree that says them.
     pub fn of_text(
@@ -72,7 +90,7 @@ fn read(needed: bool, text: &Text) -> Result<Event, EventFault>
     ensures { ReadsEvent needed text.now result }
 {
     match read_tree(text.alloc(), text.as_str().as_bytes(), Charset::Utf8) {
-        Ok(root) => event_from(needed, root),
+        Ok(root) => event_from(needed, &root),
         Err(TreeFault::NoMemory) => Err(EventFault::NoMemory),
         Err(TreeFault::BadCharset { at }) => Err(EventFault::BadEvent { at }),
         Err(TreeFault::BadXml { at }) => Err(EventFault::BadEvent { at }),
@@ -82,27 +100,26 @@ fn read(needed: bool, text: &Text) -> Result<Event, EventFault>
 }
 
 /// The event of a root; `needed`: it needs a number.
-pub(crate) fn event_from(needed: bool, node: Element) -> Result<Event, EventFault>
-    requires { IsGoodTree node }
-    ensures { Gives result (events.event_of needed node) }
+pub(crate) fn event_from(needed: bool, node: &Element) -> Result<Event, EventFault>
+    requires { IsGoodTree node.now }
+    ensures { Gives result (events.event_of needed node.now) }
 {
-    if !is_event_root(&node) {
+    if !is_event_root(node) {
         return Err(EventFault::BadEvent { at: 0 });
     }
-    let Some(channel) = channel_in(&node)? else {
+    let Some(channel) = channel_in(node)? else {
         return Err(EventFault::NoChannel);
     };
-    let Ok(number) = number_or(needed, number_in(&node)?) else {
+    let Ok(number) = number_or(needed, number_in(node)?) else {
         return Err(EventFault::NoRecordId);
     };
-    let Some(text) = text_of(&node)? else {
+    let Some(text) = text_of(node)? else {
         return Err(EventFault::TooLong);
     };
     Ok(Event {
         channel,
         number,
         text,
-        node,
     })
 }
 

@@ -1,12 +1,11 @@
 //! A record of a channel.
 
 ghost use Rattle.std.specs.Prelude.{◌≡◌, IfOk};
-ghost use Rattle.wef_event.specs.Events.{IsEventOf};
 
 use std::alloc::AllocError;
 use std::marker::Model;
 use thiserror::Error;
-use wef_base::{ChannelName, Element, Text};
+use wef_base::{ChannelName, Text};
 
 /// Why there is no event.
 #[derive(Clone, Copy, Debug, PartialEq, Eq, Error)]
@@ -36,16 +35,15 @@ impl From<AllocError> for EventFault {
     }
 }
 
-/// A record: its tree, the tree's text, and the channel and the number that the tree says. Whoever
-/// makes one proves that they belong together.
+/// A record: its text, and the channel and the number that the text says. Whoever makes one proves
+/// that they belong together.
 #[derive(Debug)]
 pub struct Event {
     pub channel: ChannelName,
     /// From 1 to 2^63 - 1, or 0 where the event says none.
     pub number: u64,
-    /// The one text of the tree, of at most `EVENT_LIMIT` bytes.
+    /// The one text of a tree, of at most 1,048,576 bytes (`EVENT_LIMIT`).
     pub text: Text,
-    pub node: Element,
 }
 
 /// One call for whoever lets an event go, whatever it holds.
@@ -55,7 +53,6 @@ impl Drop for Event {
             channel: _,
             number: _,
             text: _,
-            node: _,
         } = self;
     }
 }
@@ -67,18 +64,11 @@ impl Model for Event {
 
     ghost view = { λ e. record { channel = e.channel; number = e.number; text = e.text } };
 
-    ghost invariant = { λ e. events.IsEventOf (record { channel = e.channel; number = e.number; text = e.text }) e.node };
+    ghost invariant = { λ e. events.HasTree (record { channel = e.channel; number = e.number; text = e.text }) };
 }
 
 impl Event {
-    /// The tree of the event.
-    pub fn tree(&self) -> &Element
-        ensures { IsEventOf self.now result.now }
-    {
-        &self.node
-    }
-
-    /// The channel, the number and the text, without the tree.
+    /// The channel, the number and the text.
     pub fn into_parts(self) -> (ChannelName, u64, Text)
         ensures { result ≡ (self.channel, self.number, self.text) }
     {
@@ -86,7 +76,6 @@ impl Event {
             channel,
             number,
             text,
-            node: _,
         } = self;
         (channel, number, text)
     }
@@ -99,7 +88,6 @@ impl Event {
             channel: self.channel.clone()?,
             number: self.number,
             text: self.text.clone()?,
-            node: self.node.clone()?,
         })
     }
 }

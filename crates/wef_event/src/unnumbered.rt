@@ -2,6 +2,7 @@
 
 ghost use Rattle.std.specs.Prelude.{◌≡◌, ◌≤◌, true, is_some, IfOk};
 ghost use Rattle.wef_base.specs.Characters.{is_xml_text};
+ghost use Rattle.wef_base.specs.declared.numbers.TheConstants.{MAX};
 
 use crate::lengths::{decimal_length, escaped_length};
 use crate::plain::{EVENT_LIMIT, plain_event};
@@ -25,19 +26,28 @@ pub struct PlainEvent {
 
 impl PlainEvent {
     ghost use Rattle.wef_event.specs.PlainEvent.{MakesEvent};
-    ghost use Rattle.wef_event.specs.Unnumbered.{numbered};
+    ghost use Rattle.wef_event.specs.Unnumbered.{new_event, plain_numbered};
+
+    /// The event before it has a number, which is 0 there. `TooLong` where its text has more than
+    /// `EVENT_LIMIT` bytes.
+    pub fn to_event(&self) -> Result<Event, EventFault>
+        ensures value { IfOk result (λ event. event ≡ new_event self.now) }
+        ensures made { MakesEvent result (plain_numbered self.now 0) }
+    {
+        self.numbered(0)
+    }
 
     /// The event with its number. `TooLong` where its text has more than `EVENT_LIMIT` bytes.
     pub fn numbered(&self, number: u64) -> Result<Event, EventFault>
-        requires { number ≤ 9223372036854775807 }
-        ensures { MakesEvent result (numbered self.now number) }
+        requires { number ≤ MAX }
+        ensures { MakesEvent result (plain_numbered self.now number) }
     {
         plain_event(&self.channel, number, self.id, self.level, &self.word)
     }
 
     /// Whether the event has a text that isn't too long, with this number. It takes no memory.
     pub fn fits(&self, number: u64) -> bool
-        ensures { result ≡ is_some (numbered self.now number) }
+        ensures { result ≡ is_some (plain_numbered self.now number) }
     {
         let Some(channel) = escaped_length(self.channel.as_text(), EVENT_LIMIT) else {
             return false;

@@ -17,7 +17,7 @@ use Rattle.wef_batch.specs.declared.items.Batch.{Batch}
 use Rattle.wef_batch.specs.declared.items.Item.{Item}
 use Rattle.wef_batch.specs.declared.items.Item.TheVariants as item
 use Rattle.wef_event.specs.Events.{is_event}
-use Rattle.wef_event.specs.Unnumbered.{numbered}
+use Rattle.wef_event.specs.Unnumbered.{plain_numbered}
 use Rattle.wef_event.specs.declared.unnumbered.PlainEvent.{PlainEvent}
 use Rattle.wef_eventing.proofs.Back.{reads_back}
 use Rattle.wef_eventing.specs.Kept.{HasKeptName, kept_words, read_kept}
@@ -152,7 +152,7 @@ pub record IsWritable (event : PlainEvent) : Type 0 where
 pub writable : (s : List ℕ) (event : PlainEvent) → is_line (lines.Write s event) ≡ true → IsWritable event
 writable s event e =
     let fits = (and_parts (is_source s) (fits_always event) e).1 in
-    let outer = and_parts (is_channel event.channel && is_utf8 event.word) (is_some (numbered event 9223372036854775807)) fits in
+    let outer = and_parts (is_channel event.channel && is_utf8 event.word) (is_some (plain_numbered event 9223372036854775807)) fits in
     let inner = and_parts (is_channel event.channel) (is_utf8 event.word) outer.0 in
     record {
       named = kept_channel event.channel inner.0;

@@ -11,7 +11,7 @@ use Rattle.wef_batch.specs.declared.items.Item.TheVariants as item
 use Rattle.wef_bookmark.specs.Order.{number_at}
 use Rattle.wef_event.specs.Events.{Event, is_event}
 use Rattle.wef_event.specs.PlainEvent.{PlainEventsAreRead}
-use Rattle.wef_event.specs.Unnumbered.{numbered, numbered_text}
+use Rattle.wef_event.specs.Unnumbered.{plain_numbered, plain_numbered_text}
 use Rattle.wef_event.specs.declared.unnumbered.PlainEvent.{PlainEvent}
 use Rattle.wef_keeper.specs.Rows.{Rows}
 use Rattle.wef_query.specs.Selected.{is_selected}
@@ -91,13 +91,13 @@ below : (n : ℕ) → nat_le 9223372036854775807 n ≡ false → n < 92233720368
 below n e = grind (arith, nat_tests, e)
 
 -- an event with the next number is the one that its text says
-pub numbered_said : PlainEventsAreRead → (event : PlainEvent) (last : ℕ) → IsWritable event → nat_le 9223372036854775807 last ≡ false → is_none (numbered event (last + 1)) ≡ false
-    → IsText event.channel (last + 1) (numbered_text event (last + 1))
+pub numbered_said : PlainEventsAreRead → (event : PlainEvent) (last : ℕ) → IsWritable event → nat_le 9223372036854775807 last ≡ false → is_none (plain_numbered event (last + 1)) ≡ false
+    → IsText event.channel (last + 1) (plain_numbered_text event (last + 1))
 numbered_said read event last good room fits =
-    let made : Event = record { channel = event.channel; number = last + 1; text = numbered_text event (last + 1) } in
+    let made : Event = record { channel = event.channel; number = last + 1; text = plain_numbered_text event (last + 1) } in
     let within = below last room in
     read event.channel event.word (last + 1) event.id event.level made good.named good.channel good.word event.characters (omega arith) (omega arith)
-    (made_is (nat_lt 1048576 (length (numbered_text event (last + 1)))) made fits)
+    (made_is (nat_lt 1048576 (length (plain_numbered_text event (last + 1)))) made fits)
 
 -- ---- what is built
 

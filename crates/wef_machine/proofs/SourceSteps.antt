@@ -14,7 +14,7 @@ use Rattle.wef_envelope.specs.Ids.{ids_agree}
 use Rattle.wef_envelope.specs.declared.FaultName.{FaultName}
 use Rattle.wef_envelope.specs.declared.MessageId.{MessageId}
 use Rattle.wef_event.specs.Events.{is_event}
-use Rattle.wef_event.specs.Unnumbered.{numbered}
+use Rattle.wef_event.specs.Unnumbered.{plain_numbered}
 use Rattle.wef_event.specs.declared.unnumbered.PlainEvent.{PlainEvent}
 use Rattle.wef_eventing.specs.declared.bodies.Offer.{Offer}
 use Rattle.wef_eventing.specs.declared.subscriptions.Subscription.{Subscription}
@@ -296,7 +296,7 @@ written_slot state s slot end all rows how kept there runs left = by_fate how
     by_fate Stopped = off
 
 recorded_kept : Lower → (state : State) (s : List ℕ) (slot : Slot) (end : End) (event : PlainEvent) → IsKept state → slot_of state s ≡ Some slot → slot.end ≡ Some end →
-    is_full slot.rows event.channel ≡ false → IsWritable event → is_none (numbered event (last_of slot.rows event.channel + 1)) ≡ false →
+    is_full slot.rows event.channel ≡ false → IsWritable event → is_none (plain_numbered event (last_of slot.rows event.channel + 1)) ≡ false →
     IsKept (write_by state s slot end event (Ok (write_changes (capacity_of slot.rows) event.channel (last_of slot.rows event.channel + 1) (next_text slot.rows event))))
 recorded_kept lower state s slot end event kept there runs room good fits = by_arm (arm_of state s)
   where
@@ -334,9 +334,9 @@ pub write_keeps : Lower → (state : State) (s : List ℕ) (event : PlainEvent) 
 write_keeps lower state s event kept good = at_source_keeps lower state s (write_at s event) kept (λ now slot end kept_now opened there runs.
     let changes : List Change = write_changes (capacity_of slot.rows) event.channel (last_of slot.rows event.channel + 1) (next_text slot.rows event) in
     let effect : Effect = Ok changes in
-    cond_both (is_full slot.rows event.channel) (Err log_faults.Full) (cond (is_none (numbered event (last_of slot.rows event.channel + 1))) (Err log_faults.TooLong) effect)
+    cond_both (is_full slot.rows event.channel) (Err log_faults.Full) (cond (is_none (plain_numbered event (last_of slot.rows event.channel + 1))) (Err log_faults.TooLong) effect)
     (λ (x : Effect). IsKept (write_by now s slot end event x)) (λ full. kept_now) (λ room.
-    cond_both (is_none (numbered event (last_of slot.rows event.channel + 1))) (Err log_faults.TooLong) effect (λ (x : Effect). IsKept (write_by now s slot end event x))
+    cond_both (is_none (plain_numbered event (last_of slot.rows event.channel + 1))) (Err log_faults.TooLong) effect (λ (x : Effect). IsKept (write_by now s slot end event x))
     (λ long. kept_now) (λ fits. recorded_kept lower now s slot end event kept_now there runs room good fits)))
 
 -- ---- drawing an id

@@ -9,7 +9,7 @@ use Rattle.std.proofs.lemmas.Bool.Decides.{nat_tests}
 use Rattle.wef_base.specs.Names.{same}
 use Rattle.wef_base.specs.Words.{decoded, parts}
 use Rattle.wef_base.specs.Characters.{is_xml_text}
-use Rattle.wef_event.specs.Unnumbered.{numbered}
+use Rattle.wef_event.specs.Unnumbered.{plain_numbered}
 use Rattle.wef_event.specs.declared.unnumbered.PlainEvent.{PlainEvent}
 use Rattle.wef_query.specs.Queries.{all_events_of}
 use Rattle.wef_replay.specs.BatchWords.{empty_batch, greatest, read_words}
@@ -108,7 +108,7 @@ good-source_line (a ∷ b ∷ c ∷ more) = tt
 
 good-if_fits : (event : PlainEvent) → is_channel event.channel ≡ true → is_utf8 event.word ≡ true → AllOf (λ event. fits_always event ≡ true) (if_fits event)
 good-if_fits event channel text =
-    all_of-tested (λ (event : PlainEvent). fits_always event ≡ true) (is_some (numbered event greatest)) event (λ fits. λ i. channel i && text i && fits i)
+    all_of-tested (λ (event : PlainEvent). fits_always event ≡ true) (is_some (plain_numbered event greatest)) event (λ fits. λ i. channel i && text i && fits i)
 
 good-event_if_xml : (c : List ℕ) (i l : ℕ) (w : List ℕ) (b : Bool) (e : is_xml_text w ≡ b) → is_channel c ≡ true → is_utf8 w ≡ true → AllOf (λ event. fits_always event ≡ true) (event_if_xml c i l w b e)
 good-event_if_xml c i l w true e channel text = good-if_fits (record { channel = c; id = i; level = l; word = w; characters = e }) channel text

@@ -19,7 +19,7 @@ use Rattle.wef_batch.specs.declared.items.Batch as batch
 use Rattle.wef_batch.specs.declared.items.Item.{Item}
 use Rattle.wef_batch.specs.declared.items.Item.TheVariants as item
 use Rattle.wef_event.specs.Events.{is_event}
-use Rattle.wef_event.specs.Unnumbered.{numbered}
+use Rattle.wef_event.specs.Unnumbered.{plain_numbered}
 use Rattle.wef_event.specs.declared.unnumbered.PlainEvent.{PlainEvent}
 use Rattle.wef_query.specs.declared.QueryItem.{QueryItem}
 use Rattle.wef_replay.specs.declared.lines.EndName.{EndName}
@@ -91,7 +91,7 @@ is_end (end.Source s) = is_source s && is_no_collector s
 
 -- an event whose text fits with every number of a record
 abbrev pub fits_always : PlainEvent → Bool
-fits_always event = is_channel event.channel && is_utf8 event.word && is_some (numbered event 9223372036854775807)
+fits_always event = is_channel event.channel && is_utf8 event.word && is_some (plain_numbered event 9223372036854775807)
 
 -- whether a line has values of the kinds that lines have
 abbrev pub is_line : Line → Bool

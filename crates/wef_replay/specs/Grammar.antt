@@ -22,7 +22,7 @@ use Rattle.std.specs.Str.{is_utf8}
 use Rattle.wef_base.specs.Names.{same}
 use Rattle.wef_base.specs.Words.{parts, decoded}
 use Rattle.wef_base.specs.Characters.{is_xml_text}
-use Rattle.wef_event.specs.Unnumbered.{numbered}
+use Rattle.wef_event.specs.Unnumbered.{plain_numbered}
 use Rattle.wef_event.specs.declared.unnumbered.PlainEvent.{PlainEvent}
 use Rattle.wef_query.specs.declared.QueryList.{QueryList}
 use Rattle.wef_query.specs.Queries.{all_events_of}
@@ -60,7 +60,7 @@ source_line _ = None
 
 -- an event that fits with every number of a record
 abbrev pub if_fits : PlainEvent → Option PlainEvent
-if_fits event = if is_some (numbered event greatest) then Some event else None
+if_fits event = if is_some (plain_numbered event greatest) then Some event else None
 
 -- the event of a word, where XML allows each of its characters
 abbrev pub event_if_xml : List ℕ → ℕ → ℕ → (word : List ℕ) → (is : Bool) → is_xml_text word ≡ is → Option PlainEvent

@@ -10,7 +10,7 @@ use Rattle.std.specs.FinMap as finite
 use Rattle.std.specs.FinMap.{nat_cmp-IsAntisymmetric, slice_cmp-IsAntisymmetric}
 use Rattle.std.specs.Option.{option_map}
 use Rattle.std.specs.Ordering.{eq_by_cmp, is_eq, nat_cmp, ordering_then}
-use Rattle.wef_event.specs.Unnumbered.{numbered_text}
+use Rattle.wef_event.specs.Unnumbered.{plain_numbered_text}
 use Rattle.wef_event.specs.declared.unnumbered.PlainEvent.{PlainEvent}
 use Rattle.wef_keeper.specs.Laws.{get-applied}
 use Rattle.wef_keeper.specs.Rows.{Rows, applied, cell_of, found_after, key_cmp, key_of}
@@ -272,9 +272,9 @@ pub extends : (rows rows' : Rows) (event : PlainEvent) (n : ℕ) → n ≡ last_
 extends rows rows' event n numbered wrote all capacity boot some begun window =
     let c = event.channel in
     let last = last_in rows all capacity boot window c in
-    let text = numbered_text event n in
+    let text = plain_numbered_text event n in
     let same : written rows c (next_text rows event) ≡ next_rows rows capacity all c text =
-    λ i. applied (write_changes (capacity_in rows all capacity boot begun window i) c (last i + 1) (numbered_text event (sym numbered i))) rows in
+    λ i. applied (write_changes (capacity_in rows all capacity boot begun window i) c (last i + 1) (plain_numbered_text event (sym numbered i))) rows in
     let is : next_rows rows capacity all c text ≡ rows' = sym (wrote ∙ same) in
     (numbered ∙ ap (λ k. k + 1) last, subst (λ (r : Rows). IsWindow r (extended all c text) capacity boot) is (next_window rows all capacity boot c text some window))
 

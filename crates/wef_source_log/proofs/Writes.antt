@@ -2,7 +2,7 @@
 use Rattle.std.proofs.Common.{◌≡◌, ℕ, ◌+◌, Bool, true, false, Result, IfOk, if◌then◌else◌}
 use Rattle.std.specs.Prelude.{is_none}
 use Rattle.std.specs.declared.result.Result.TheVariants.{Ok, Err}
-use Rattle.wef_event.specs.Unnumbered.{numbered}
+use Rattle.wef_event.specs.Unnumbered.{plain_numbered}
 use Rattle.wef_event.specs.declared.unnumbered.PlainEvent.{PlainEvent}
 use Rattle.wef_keeper.specs.Rows.{Rows}
 use Rattle.wef_source_log.specs.Answers.{ExtendsHistory, is_full, next_text, write_effect}
@@ -15,7 +15,7 @@ use Rattle.wef_source_log.proofs.Cells.{extends}
 -- a write that is done puts the next record
 makes_written : (rows after : Rows) (event : PlainEvent) → Makes (write_effect rows event) rows after → after ≡ written rows event.channel (next_text rows event)
 makes_written rows after event makes =
-    by (is_full rows event.channel) (is_none (numbered event (last_of rows event.channel + 1))) makes
+    by (is_full rows event.channel) (is_none (plain_numbered event (last_of rows event.channel + 1))) makes
   where
     by : (full none : Bool)
         → Makes (if full then Err Full else (if none then Err TooLong else Ok (write_changes (capacity_of rows) event.channel (last_of rows event.channel + 1) (next_text rows event)))) rows after

@@ -3,7 +3,7 @@ use Rattle.std.specs.Prelude.{◌≡◌, ℕ, ◌+◌, ◌<◌, nat_le, Bool, Li
 use Rattle.wef_event.specs.declared.records.EventFault as event
 use Rattle.wef_event.specs.declared.records.EventFault.TheVariants as events
 use Rattle.wef_event.specs.declared.unnumbered.PlainEvent.{PlainEvent}
-use Rattle.wef_event.specs.Unnumbered.{numbered, numbered_text}
+use Rattle.wef_event.specs.Unnumbered.{plain_numbered, plain_numbered_text}
 use Rattle.wef_keeper.specs.Rows.{Rows}
 use Rattle.wef_keeper.specs.declared.access.StoreFault as store
 use Rattle.wef_keeper.specs.declared.access.StoreFault.TheVariants as stores
@@ -47,7 +47,7 @@ is_full rows c = nat_le 9223372036854775807 (last_of rows c)
 
 -- the text that an event has as the next record of its channel
 abbrev pub next_text : Rows → PlainEvent → List ℕ
-next_text rows event = numbered_text event (last_of rows event.channel + 1)
+next_text rows event = plain_numbered_text event (last_of rows event.channel + 1)
 
 -- what a call does: the changes that it commits, or why it is refused
 abbrev pub Effect : Type 0
@@ -58,7 +58,7 @@ Effect = Result (List Change) LogFault
 abbrev pub write_effect : Rows → PlainEvent → Effect
 write_effect rows event =
     if is_full rows event.channel then Err Full
-    else (if is_none (numbered event (last_of rows event.channel + 1)) then Err TooLong
+    else (if is_none (plain_numbered event (last_of rows event.channel + 1)) then Err TooLong
     else Ok (write_changes (capacity_of rows) event.channel (last_of rows event.channel + 1) (next_text rows event)))
 
 -- whether the source was started as often as it can be
@@ -73,4 +73,4 @@ start_effect rows capacity = if is_boot_full rows then Err Full else Ok (start_c
 -- plus one, and the rows are the window of the longer histories.
 abbrev pub ExtendsHistory : Rows → Rows → PlainEvent → ℕ → Type 0
 ExtendsHistory rows rows' event n = (all : Histories) (capacity boot : ℕ) → 0 < capacity → 0 < boot → IsWindow rows all capacity boot →
-    (n ≡ length (history all event.channel) + 1) × IsWindow rows' (extended all event.channel (numbered_text event n)) capacity boot
+    (n ≡ length (history all event.channel) + 1) × IsWindow rows' (extended all event.channel (plain_numbered_text event n)) capacity boot

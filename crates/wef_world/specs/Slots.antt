@@ -3,7 +3,7 @@ use Rattle.std.specs.Prelude.{◌≡◌, ℕ, ◌+◌, ◌<◌, Bool, true, fals
 use Rattle.std.specs.FinMap as map
 use Rattle.wef_envelope.specs.Ids.{ids_agree}
 use Rattle.wef_envelope.specs.declared.MessageId.{MessageId}
-use Rattle.wef_event.specs.Unnumbered.{numbered_text}
+use Rattle.wef_event.specs.Unnumbered.{plain_numbered_text}
 use Rattle.wef_event.specs.declared.unnumbered.PlainEvent.{PlainEvent}
 use Rattle.wef_eventing.specs.declared.bodies.Offer.{Offer}
 use Rattle.wef_source.specs.Answers.{waiting_for}
@@ -42,7 +42,7 @@ pub record HasWindow (slot : Slot) : Type 0 where
 
 -- a source with an event in its history, as the record of a number
 abbrev pub recorded : Slot → PlainEvent → ℕ → Slot
-recorded slot event n = record slot { histories = extended slot.histories event.channel (numbered_text event n) }
+recorded slot event n = record slot { histories = extended slot.histories event.channel (plain_numbered_text event n) }
 
 -- the source after a write with this effect
 abbrev pub slot_by : Option Armed → Slot → End → PlainEvent → Effect → Slot

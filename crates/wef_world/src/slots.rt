@@ -1,7 +1,7 @@
 //! A declared source.
 
 ghost use Rattle.std.specs.Prelude.{◌≡◌, ◌≤◌, ◌<◌, true, is_some, IfOk, OnOk};
-ghost use Rattle.wef_event.specs.Unnumbered.{numbered};
+ghost use Rattle.wef_event.specs.Unnumbered.{plain_numbered};
 ghost use Rattle.wef_machine.specs.Arming as arming;
 ghost use Rattle.std.specs.declared.option.Option.TheVariants.{Some};
 
@@ -288,7 +288,7 @@ fn is_kept(armed: Option<Armed>) -> bool
 /// An event that a log took as the record of a number.
 fn record_of(event: &PlainEvent, number: u64) -> Result<Event, WorldFault>
     requires { number ≤ 9223372036854775807 }
-    ensures { IfOk result (λ event_with. numbered event.now number ≡ Some event_with) }
+    ensures { IfOk result (λ event_with. plain_numbered event.now number ≡ Some event_with) }
 {
     match event.numbered(number) {
         Ok(record) => Ok(record),

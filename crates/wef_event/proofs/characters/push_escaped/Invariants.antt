@@ -1,8 +1,10 @@
-use Rattle.std.proofs.Common.{◌≡◌, ◌++◌, drop}
-use Rattle.std.specs.List.{flat_map}
-use Rattle.wef_event.specs.Characters.{escape}
+use Rattle.std.proofs.Common.{◌≡◌, ◌++◌, IsUtf8}
+use Rattle.std.specs.Str.Iter.{chars_rest}
+use Rattle.wef_event.specs.Characters.{escaped}
 use Rattle.wef_event.proofs.characters.push_escaped.Given as goal
 
 abbrev pub invariant-loop-character : goal.invariant-loop-character
-invariant-loop-character l =
-    l.text ++ flat_map escape (drop l.character-index l.character-items) ≡ l.fn.text ++ flat_map escape l.character-items
+invariant-loop-character l = record {
+  utf8 : IsUtf8 (chars_rest l.character-iterator);
+  written : l.text ++ escaped (chars_rest l.character-iterator) ≡ l.fn.text ++ escaped l.fn.word;
+}

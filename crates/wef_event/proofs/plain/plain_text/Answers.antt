@@ -16,7 +16,6 @@ returns c = rw (
   c.in_ok-push_str-2.ensures.ok,
   c.in_ok-push_number.ensures.ok,
   c.in_ok-push_str.ensures.ok,
-  c.as_text.ensures.value,
   c.from.ensures,
   c.from-2.ensures,
   c.new-text.ensures,

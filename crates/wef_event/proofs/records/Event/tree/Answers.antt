@@ -1,0 +1,12 @@
+use Rattle.std.proofs.Common.{subst}
+use Rattle.wef_event.specs.Events.{Event, IsEventOf}
+use Rattle.wef_event.proofs.Made.{no_fault, the_tree}
+use Rattle.wef_event.proofs.records.Event.tree.Goals as goal
+
+pub unreachable-requires : goal.unreachable-requires
+unreachable-requires c = no_fault _ c.in-Err.fault c.self.invariant c.in_default.not-NoMemory (rw (c.as_bytes.ensures.value, c.as_str.ensures) at c.in-Err.ensures.tree)
+
+pub returns-in-Ok : goal.returns-in-Ok
+returns-in-Ok c =
+    subst (λ (event : Event). IsEventOf event c.in-Ok.node) c.self.view_is
+    (the_tree _ c.in-Ok.node c.self.invariant (rw (c.as_bytes.ensures.value, c.as_str.ensures) at c.in-Ok.ensures.tree))
