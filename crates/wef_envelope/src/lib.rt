@@ -5,6 +5,9 @@ ghost use Rattle.std.specs.Prelude.{◌≡◌, ◌+◌, ◌*◌, IfOk};
 ghost use Rattle.wef_envelope.specs.Faults.{fault_text};
 ghost use Rattle.wef_envelope.specs.Ids.{ids_agree};
 
+pub mod ids;
+
+pub use ids::Ids;
 use std::alloc::AllocError;
 use wef_base::Text;
 
@@ -16,7 +19,7 @@ pub struct MessageId {
 }
 
 impl MessageId {
-    /// The id's value at the message `seq` that an end sends after its start number `boot`. Two
+    /// The id's value at the message `seq` that an end sends after its boot number `boot`. Two
     /// pairs give two values. It takes no memory.
     pub fn of(boot: u64, seq: u64) -> u128
         ensures value { result ≡ boot * 18446744073709551616 + seq }

@@ -1,14 +1,16 @@
 -- How an end uses its store: it opens the store, reads, and makes at most one commit.
-use Rattle.std.specs.Prelude.{◌≡◌, ℕ, ◌≤◌, Bool, true, false, ◌⊎◌, is_none, List, [], ◌∷◌, Option, Some, None, Result, Ok, Err, IfSome, if◌then◌else◌}
+use Rattle.std.specs.Prelude.{◌≡◌, ℕ, ◌≤◌, Bool, true, false, ◌⊎◌, not, List, [], ◌∷◌, Some, Result, Ok, Err, IfSome, if◌then◌else◌}
 use Rattle.std.specs.List.{AllByRecursion}
 use Rattle.wef_base.specs.Counts.{Rose}
-use Rattle.wef_keeper.specs.Keeping.{Store, IsBeforeOrAfter, IsOneOf, Follows, Stays, outcome, raised}
+use Rattle.wef_keeper.specs.Keeping.{Store, IsBeforeOrAfter, IsOneOf, Follows, Stays, is_armed, outcome, raised}
 use Rattle.wef_keeper.specs.Rows.{Rows, applied, is_after}
 use Rattle.wef_keeper.specs.Sections.{is_under}
 use Rattle.wef_keeper.specs.declared.access.StoreFault.{StoreFault}
 use Rattle.wef_keeper.specs.declared.access.StoreFault.TheVariants.{NoMemory, Failed}
 use Rattle.wef_keeper.specs.declared.keeping.KeeperFault as the_keeper
 use Rattle.wef_keeper.specs.declared.keeping.KeeperFault.TheVariants as keeper
+use Rattle.wef_keeper.specs.declared.keeping.Plan.{Plan}
+use Rattle.wef_keeper.specs.declared.keeping.Plan.TheVariants.{Done}
 use Rattle.wef_keeper.specs.declared.keys.Change.{Change}
 use Rattle.wef_keeper.specs.declared.keys.Depth.{Depth}
 use Rattle.wef_keeper.specs.declared.keys.Key.{Key}
@@ -100,12 +102,12 @@ abbrev pub tries_with : List Change → ℕ → ℕ
 tries_with changes tries = if is_idle changes then tries else raised tries
 
 -- the plan after a list of changes is committed
-abbrev pub plan_with : List Change → Option Bool → Option Bool
-plan_with changes planned = if is_idle changes then planned else None
+abbrev pub plan_with : List Change → Plan → Plan
+plan_with changes planned = if is_idle changes then planned else Done
 
 -- whether a list of changes is committed by plan
-abbrev pub is_planned : List Change → Option Bool → Bool
-is_planned changes planned = if is_idle changes then true else is_none planned
+abbrev pub is_planned : List Change → Plan → Bool
+is_planned changes planned = if is_idle changes then true else not (is_armed planned)
 
 -- What a list of changes leaves, by the answer: on Ok the rows with all of it; after want of memory all is as before;
 -- after a failure an opening finds the rows before or the rows with all of it.
@@ -118,12 +120,12 @@ Leaves changes (Err Failed) before now =
     × (now.tries ≡ raised before.tries) × Rose before.faults now.faults
 
 -- what it leaves by plan: what is planned to fail does, and leaves what is planned
-abbrev pub LeavesPlanned : List Change → Option Bool → Result Unit StoreFault → Store → Store → Type 0
+abbrev pub LeavesPlanned : List Change → Plan → Result Unit StoreFault → Store → Store → Type 0
 LeavesPlanned changes planned (Ok done) before now =
     (is_planned changes planned ≡ true) × (now.plan ≡ Some (plan_with changes planned)) × (now.faults ≡ before.faults)
 LeavesPlanned changes planned (Err NoMemory) before now = Unit {0}
 LeavesPlanned changes planned (Err Failed) before now =
-    (is_planned changes planned ≡ false) × (now.plan ≡ Some None) × Follows before.rows now.rows (λ found after. after ≡ outcome planned changes found)
+    (is_planned changes planned ≡ false) × (now.plan ≡ Some Done) × Follows before.rows now.rows (λ found after. after ≡ outcome planned changes found)
 
 -- the rows in front of the first that isn't of the section
 abbrev pub front_rows : Depth → Key → List Row → List Row

@@ -6,6 +6,8 @@ use Rattle.wef_base.specs.Counts.{Rose}
 use Rattle.wef_keeper.specs.Rows.{Rows, applied, row_of}
 use Rattle.wef_keeper.specs.declared.keeping.KeeperFault.{KeeperFault}
 use Rattle.wef_keeper.specs.declared.keeping.KeeperFault.TheVariants.{NoMemory, Failed, InDoubt}
+use Rattle.wef_keeper.specs.declared.keeping.Plan.{Plan}
+use Rattle.wef_keeper.specs.declared.keeping.Plan.TheVariants.{Done, Fails}
 use Rattle.wef_keeper.specs.declared.keys.Change.{Change}
 use Rattle.wef_keeper.specs.declared.keys.Key.{Key}
 use Rattle.wef_keeper.specs.declared.keys.Row.{Row}
@@ -26,8 +28,8 @@ pub record Store : Type 0 where
   pub faults : ℕ
   -- whether the store was opened
   pub opened : Bool
-  -- where it is told, whether the next commit will fail, and then whether its changes are kept all the same
-  pub plan : Option (Option Bool)
+  -- what the next commit will do, where it is told
+  pub plan : Option Plan
 
 -- a fact of what is told; none where it isn't
 abbrev pub WhereTold : {A : Type 0} → Option A → (A → Type 0) → Type 0
@@ -136,22 +138,27 @@ tried (Err InDoubt) tries = tries
 abbrev pub IsBeforeOrAfter : List Change → Rows → Rows → Type 0
 IsBeforeOrAfter changes rows image = (image ≡ rows) ⊎ (image ≡ applied changes rows)
 
+-- whether the next commit will fail
+abbrev pub is_armed : Plan → Bool
+is_armed Done = false
+is_armed (Fails kept) = true
+
 -- a commit goes as planned: it doesn't fail, or isn't done; want of memory and doubt come before the plan
-abbrev pub FollowsPlan : {T : Type 0} → Option Bool → Result T KeeperFault → Type 0
-FollowsPlan None result = is_failed result ≡ false
-FollowsPlan (Some after) (Ok answer) = ⊥
-FollowsPlan (Some after) (Err fault) = Unit {0}
+abbrev pub FollowsPlan : {T : Type 0} → Plan → Result T KeeperFault → Type 0
+FollowsPlan Done result = is_failed result ≡ false
+FollowsPlan (Fails kept) (Ok answer) = ⊥
+FollowsPlan (Fails kept) (Err fault) = Unit {0}
 
 -- the rows that a commit leaves by its plan, once it has begun
-abbrev pub outcome : Option Bool → List Change → Rows → Rows
-outcome None changes rows = applied changes rows
-outcome (Some after) changes rows = cond after (applied changes rows) rows
+abbrev pub outcome : Plan → List Change → Rows → Rows
+outcome Done changes rows = applied changes rows
+outcome (Fails kept) changes rows = cond kept (applied changes rows) rows
 
 -- the plan after a commit with this answer: one that has begun uses it up, and the next isn't planned to fail
-abbrev pub plan_after : {T : Type 0} → Result T KeeperFault → Option (Option Bool) → Option (Option Bool)
-plan_after (Ok answer) plan = option_map (λ used. None) plan
+abbrev pub plan_after : {T : Type 0} → Result T KeeperFault → Option Plan → Option Plan
+plan_after (Ok answer) plan = option_map (λ used. Done) plan
 plan_after (Err NoMemory) plan = plan
-plan_after (Err Failed) plan = option_map (λ used. None) plan
+plan_after (Err Failed) plan = option_map (λ used. Done) plan
 plan_after (Err InDoubt) plan = plan
 
 -- whether there is doubt after an opening with this answer

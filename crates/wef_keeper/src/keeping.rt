@@ -37,6 +37,16 @@ impl From<AllocError> for KeeperFault {
     }
 }
 
+/// What the next commit of a store does, where that is told before.
+#[derive(Clone, Copy, Debug, PartialEq, Eq)]
+pub enum Plan {
+    /// It is done.
+    Done,
+
+    /// It fails. Its changes are kept all the same where `kept` is true.
+    Fails { kept: bool },
+}
+
 /// A store of rows. Its rows change by whole commits, and a commit that fails leaves doubt: either
 /// all of its changes were kept or none, and only an opening finds which.
 pub trait Keeper {

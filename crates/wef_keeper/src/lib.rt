@@ -12,7 +12,7 @@ mod paging;
 pub mod table;
 
 pub use access::StoreFault;
-pub use keeping::{Keeper, KeeperFault};
+pub use keeping::{Keeper, KeeperFault, Plan};
 pub use keys::{Cell, Change, Depth, Key, Row};
 pub use mem_keeper::MemKeeper;
 pub use table::Rows;

@@ -1,12 +1,14 @@
 //! A keeper in memory, which tells everything, and fails where it is told to.
 
-ghost use Rattle.std.specs.Prelude.{◌≡◌, if◌then◌else◌, ◌≤◌, true, false, is_some, ◌∷◌, [], refl, IfOk, OnOk, OnErr};
+ghost use Rattle.std.specs.Prelude.{◌≡◌, if◌then◌else◌, ◌≤◌, true, false, ◌∷◌, [], refl, IfOk, OnOk, OnErr};
 ghost use Rattle.std.specs.FinMap as finite;
-ghost use Rattle.std.specs.declared.option.Option.TheVariants.{Some, None};
+ghost use Rattle.std.specs.declared.option.Option.TheVariants.{Some};
 ghost use Rattle.std.proofs.Common.{rules};
 ghost use Rattle.wef_keeper.specs.Keeping.{outcome, raised, row_at};
+ghost use Rattle.wef_keeper.specs.Keeping as keeping;
+ghost use Rattle.wef_keeper.specs.declared.keeping.Plan.TheVariants.{Done, Fails};
 
-use crate::keeping::{Keeper, KeeperFault};
+use crate::keeping::{Keeper, KeeperFault, Plan};
 use crate::keys::{Change, Key, Row};
 use crate::paging::row_at;
 use crate::table::Rows;
@@ -16,11 +18,11 @@ use wef_base::List;
 /// Rows in memory. A commit fails only where it is armed to.
 ///
 /// After a failed commit the rows are those that the store kept: with the changes or without, as
-/// the commit was armed. So the end of the doubt takes no memory.
+/// the commit was planned. So the end of the doubt takes no memory.
 #[derive(Drop)]
 pub struct MemKeeper {
     rows: Rows,
-    armed: Option<bool>,
+    plan: Plan,
     in_doubt: bool,
     tries: u64,
     reads: u64,
@@ -30,11 +32,11 @@ pub struct MemKeeper {
 impl MemKeeper {
     /// A keeper without rows, not armed. It takes no memory.
     pub fn new(alloc: Global) -> MemKeeper
-        ensures { result ≡ record { rows = finite.empty; armed = None; in_doubt = false; tries = 0; reads = 0; faults = 0 } }
+        ensures { result ≡ record { rows = finite.empty; plan = Done; in_doubt = false; tries = 0; reads = 0; faults = 0 } }
     {
         MemKeeper {
             rows: Rows::new(alloc),
-            armed: None,
+            plan: Plan::Done,
             in_doubt: false,
             tries: 0,
             reads: 0,
@@ -42,19 +44,26 @@ impl MemKeeper {
         }
     }
 
-    /// Arms the next commit: it fails, and its changes are kept where `after` is true. An earlier
-    /// arming is replaced. A commit that is refused for want of memory or for doubt leaves it armed.
-    pub fn fail_next(&mut self, after: bool)
-        ensures { self.new ≡ record self.old { armed = Some after } }
+    /// Plans the next commit. An earlier plan is replaced. A commit that is refused for want of
+    /// memory or for doubt leaves the plan.
+    pub fn arrange(&mut self, plan: Plan)
+        ensures { self.new ≡ record self.old { plan = plan } }
     {
-        self.armed = Some(after);
+        self.plan = plan;
+    }
+
+    /// Arms the next commit: it fails, and its changes are kept where `after` is true.
+    pub fn fail_next(&mut self, after: bool)
+        ensures { self.new ≡ record self.old { plan = Fails after } }
+    {
+        self.arrange(Plan::Fails { kept: after });
     }
 
     /// Disarms the next commit.
     pub fn calm(&mut self)
-        ensures { self.new ≡ record self.old { armed = None } }
+        ensures { self.new ≡ record self.old { plan = Done } }
     {
-        self.armed = None;
+        self.arrange(Plan::Done);
     }
 
     /// Ends the doubt with the rows that stand, as a crash and a new start do. It takes no memory.
@@ -66,9 +75,12 @@ impl MemKeeper {
 
     /// Whether the next commit is armed.
     pub fn is_armed(&self) -> bool
-        ensures { result ≡ is_some self.now.armed }
+        ensures { result ≡ keeping.is_armed self.now.plan }
     {
-        self.armed.is_some()
+        match self.plan {
+            Plan::Done => false,
+            Plan::Fails { .. } => true,
+        }
     }
 
     /// Counts a read, which is refused in doubt.
@@ -100,7 +112,7 @@ impl Keeper for MemKeeper {
       reads = k.reads;
       faults = k.faults;
       opened = true;
-      plan = Some k.armed;
+      plan = Some k.plan;
     } };
 
     ghost tells_both = { λ k. refl };
@@ -128,11 +140,11 @@ impl Keeper for MemKeeper {
         if self.in_doubt {
             return Err(KeeperFault::InDoubt);
         }
-        if let Some(after) = self.armed {
-            apply_where(&mut self.rows, changes, after)?;
+        if let Plan::Fails { kept } = self.plan {
+            apply_where(&mut self.rows, changes, kept)?;
             self.count_try();
             self.faults = self.faults.saturating_add(1);
-            self.armed = None;
+            self.plan = Plan::Done;
             self.in_doubt = true;
             return Err(KeeperFault::Failed);
         }
@@ -157,12 +169,12 @@ fn found_row(rows: &Rows, key: &Key) -> Result<Option<Row>, AllocError>
     }
 }
 
-/// Applies the changes of a commit that fails, where it is armed to keep them.
-fn apply_where(rows: &mut Rows, changes: &List<Change>, after: bool) -> Result<(), AllocError>
-    ensures ok { OnOk result (rows.new ≡ outcome (Some after) changes.now rows.old) }
+/// Applies the changes of a commit that fails, where they are kept.
+fn apply_where(rows: &mut Rows, changes: &List<Change>, kept: bool) -> Result<(), AllocError>
+    ensures ok { OnOk result (rows.new ≡ outcome (Fails kept) changes.now rows.old) }
     ensures err { OnErr result (rows.new ≡ rows.old) }
 {
-    if after {
+    if kept {
         rows.apply(copied(rows.alloc(), changes)?)?;
     }
     Ok(())

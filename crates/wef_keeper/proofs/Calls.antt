@@ -1,0 +1,325 @@
+-- What each way in which a call may end means for the whole call: it opens its store, reads, and makes at most one commit.
+use Rattle.std.proofs.Common.{◌≡◌, ℕ, ◌≤◌, Bool, true, false, cond, refl, sym, ap, ◌∙◌, subst, arith, inl, inr}
+use Rattle.std.specs.List.{AllByRecursion}
+use Rattle.std.specs.Prelude.{Option, Some, None, Result, Ok, Err, IfSome, List, [], ◌∷◌, length, is_some, ◌⊎◌}
+use Rattle.wef_base.specs.Counts.{Rose}
+use Rattle.wef_keeper.specs.Access.{AnyOf, AnyRows, Finds, From, HasRead, IsReady, IsRefused, Leaves, LeavesPlanned, OpensAndReads, Reads, fails as store_fails, is_idle, is_planned, plan_with, tries_with}
+use Rattle.wef_keeper.specs.Calls.{AnswersFault, ByPlan, Did, Effect, FaultByPlan, FaultByTries, FaultReadied, IsCall, Looks, Makes, MayLeave, OfStore, OnFaultImages, Readied, TellsFault, WhereMade, fails, is_failure}
+use Rattle.wef_keeper.specs.Keeping.{Follows, IsBeforeOrAfter, IsOneOf, Stays, Store, outcome, raised}
+use Rattle.wef_keeper.specs.Rows.{Rows, applied}
+use Rattle.wef_keeper.specs.declared.access.StoreFault.{StoreFault}
+use Rattle.wef_keeper.specs.declared.access.StoreFault.TheVariants.{NoMemory, Failed}
+use Rattle.wef_keeper.specs.declared.keeping.Plan.{Plan}
+use Rattle.wef_keeper.specs.declared.keeping.Plan.TheVariants.{Done}
+use Rattle.wef_keeper.specs.declared.keys.Change.{Change}
+use Rattle.wef_keeper.proofs.ReadsOf.{only_opens, opens_reads}
+use Rattle.wef_keeper.proofs.Told.{follows_both, follows_self, follows_told, follows_with, told_any, told_both, told_map, told_still, told_swap}
+
+-- ---- what an opening found
+
+-- a fact of one of the images is a fact of any of them
+pub any_of : (Holds : Rows → Type 0) (images : List Rows) (rows : Rows) → IsOneOf images rows → Holds rows → AnyOf images Holds
+any_of Holds [] rows one holds = absurd one
+any_of Holds (image ∷ []) rows one holds = subst Holds one holds
+any_of Holds (image ∷ next ∷ images) rows one holds = elim one [ inl is ↦ inl (subst Holds is holds) | inr later ↦ inr (any_of Holds (next ∷ images) rows later holds) ]
+
+-- a fact of all rows
+any_at_all : (Holds : Rows → Type 0) → ((rows : Rows) → Holds rows) → (images : List Rows) → 1 ≤ length images → AnyOf images Holds
+any_at_all Holds all [] some = absurd (omega arith)
+any_at_all Holds all (image ∷ []) some = all image
+any_at_all Holds all (image ∷ next ∷ images) some = inl (all image)
+
+any_weaker : (P Q : Rows → Type 0) (images : List Rows) → ((rows : Rows) → P rows → Q rows) → AnyOf images P → AnyOf images Q
+any_weaker P Q [] gives any = any
+any_weaker P Q (image ∷ []) gives any = gives image any
+any_weaker P Q (image ∷ next ∷ images) gives any = elim any [ inl holds ↦ inl (gives image holds) | inr later ↦ inr (any_weaker P Q (next ∷ images) gives later) ]
+
+-- a fact of what a call found and left gives another
+pub from_weaker : (P Q : Rows → Rows → Type 0) (before now : Store) → ((found after : Rows) → P found after → Q found after) → From before now P → From before now Q
+from_weaker P Q before now gives from =
+    told_map before.images (λ old. IfSome now.rows (λ after. AnyOf old (λ found. P found after))) (λ old. IfSome now.rows (λ after. AnyOf old (λ found. Q found after)))
+    (λ old. told_map now.rows (λ after. AnyOf old (λ found. P found after)) (λ after. AnyOf old (λ found. Q found after)) (λ after. any_weaker (λ found. P found after) (λ found. Q found after) old (λ found. gives found after))) from
+
+-- what an opening may find
+abbrev pub HasImages : Store → Type 0
+HasImages store = IfSome store.images (λ left. (1 ≤ length left) × (length left ≤ 2))
+
+found_in : (images : Option (List Rows)) (mid now : Option Rows) (Holds : Rows → Rows → Type 0) → IfSome images (λ old. IfSome mid (IsOneOf old)) → Follows mid now Holds
+    → IfSome images (λ old. IfSome now (λ after. AnyOf old (λ found. Holds found after)))
+found_in None mid now Holds finds follows = tt
+found_in (Some old) mid None Holds finds follows = tt
+found_in (Some old) None (Some after) Holds finds follows = absurd follows
+found_in (Some old) (Some found) (Some after) Holds finds follows = any_of (λ found. Holds found after) old found finds follows
+
+-- what follows of the rows that an opening found is what the call did
+pub from_found : (before mid now : Store) (Holds : Rows → Rows → Type 0) → Finds before mid → Follows mid.rows now.rows Holds → From before now Holds
+from_found before mid now Holds finds follows = found_in before.images mid.rows now.rows Holds finds follows
+
+from_any : (images : Option (List Rows)) (now : Option Rows) (Told : Type 0) (Holds : Rows → Rows → Type 0) → IfSome images (λ left. (1 ≤ length left) × (length left ≤ 2)) → IfSome now (λ rows. Told)
+    → ((found after : Rows) → Told → Holds found after) → IfSome images (λ old. IfSome now (λ after. AnyOf old (λ found. Holds found after)))
+from_any None now Told Holds few told all = tt
+from_any (Some old) None Told Holds few told all = tt
+from_any (Some old) (Some after) Told Holds few told all = any_at_all (λ found. Holds found after) (λ found. all found after told) old few.0
+
+finds_in : (images : Option (List Rows)) (mid now : Option Rows) → IfSome images (λ old. IfSome mid (IsOneOf old)) → Stays mid now → IfSome images (λ old. IfSome now (IsOneOf old))
+finds_in images mid now finds stays = told_map images (λ old. IfSome mid (IsOneOf old)) (λ old. IfSome now (IsOneOf old)) (λ old finds. told_still mid now (IsOneOf old) stays finds) finds
+
+-- reads find what the opening found
+pub finds_still : (before mid now : Store) → Finds before mid → HasRead mid now → Finds before now
+finds_still before mid now finds read = finds_in before.images mid.rows now.rows finds read.1
+
+-- ---- images
+
+all_weaker : (P Q : Rows → Type 0) → ((rows : Rows) → P rows → Q rows) → (images : List Rows) → AllByRecursion P images → AllByRecursion Q images
+all_weaker P Q gives [] all = tt
+all_weaker P Q gives (image ∷ images) all = (gives image all.0, all_weaker P Q gives images all.1)
+
+-- after reads alone each image is one that was there
+narrow_images : {F : Type 0} (effect : Rows → Effect F) (images left : Option (List Rows)) → IfSome images (λ old. IfSome left (AllByRecursion (IsOneOf old)))
+    → IfSome images (λ old. IfSome left (AllByRecursion (λ image. AnyOf old (MayLeave effect image))))
+narrow_images effect None left narrows = tt
+narrow_images effect (Some old) None narrows = tt
+narrow_images effect (Some old) (Some all) narrows =
+    all_weaker (IsOneOf old) (λ image. AnyOf old (MayLeave effect image)) (λ image one. any_of (MayLeave effect image) old image one (inl refl)) all narrows
+
+-- after a failed commit it may be one with the changes
+left_images : {F : Type 0} (effect : Rows → Effect F) (changes : List Change) (images : Option (List Rows)) (mid : Option Rows) (left : Option (List Rows)) → IfSome images (λ old. IfSome mid (IsOneOf old))
+    → Follows mid left (λ found all. AllByRecursion (IsBeforeOrAfter changes found) all) → IfSome mid (λ rows. effect rows ≡ Ok changes)
+    → IfSome images (λ old. IfSome left (AllByRecursion (λ image. AnyOf old (MayLeave effect image))))
+left_images effect changes None mid left finds follows made = tt
+left_images effect changes (Some old) mid None finds follows made = tt
+left_images effect changes (Some old) None (Some all) finds follows made = absurd follows
+left_images {F = F} effect changes (Some old) (Some found) (Some all) finds follows made =
+    let makes : (image : Rows) → image ≡ applied changes found → Makes (effect found) found image = λ image is. subst (λ (e : Effect F). Makes e found image) (sym made) is in
+    all_weaker (IsBeforeOrAfter changes found) (λ image. AnyOf old (MayLeave effect image))
+    (λ image either. any_of (MayLeave effect image) old found finds (elim either [ inl is ↦ inl is | inr is ↦ inr (makes image is) ])) all follows
+
+-- ---- a call that is refused as it reads
+
+refused_answer : {F : Type 0} (kind : Option StoreFault) (fault : F) (effect : Effect F) (found : Rows) → TellsFault kind fault effect → AnswersFault kind fault effect found found
+refused_answer (Some NoMemory) fault effect found tells = refl
+refused_answer (Some Failed) fault effect found tells = tt
+refused_answer None fault effect found tells = (tells, refl)
+
+refused_images : {F : Type 0} (kind : Option StoreFault) (effect : Rows → Effect F) (before now : Store) → IfSome before.images (λ old. IfSome now.images (AllByRecursion (IsOneOf old))) → OnFaultImages kind effect before now
+refused_images (Some NoMemory) effect before now narrows = tt
+refused_images (Some Failed) effect before now narrows = narrow_images effect before.images now.images narrows
+refused_images None effect before now narrows = tt
+
+-- no read fails by plan over rows of their form
+refused_plan : {F : Type 0} (kind : Option StoreFault) (AreFormed : Rows → Type 0) (plan : Option Plan) (effect : Effect F) (found : Rows) (now : Store) → now.plan ≡ plan → IfSome plan (λ planned. AreFormed found → is_failure kind ≡ false)
+    → IfSome plan (λ planned. FaultByPlan kind AreFormed planned effect found found now)
+refused_plan kind AreFormed None effect found now same sure = tt
+refused_plan (Some NoMemory) AreFormed (Some planned) effect found now same sure = same
+refused_plan (Some Failed) AreFormed (Some planned) effect found now same sure = λ formed. let no : true ≡ false = sure formed in cc
+refused_plan None AreFormed (Some planned) effect found now same sure = same
+
+refused_tries : (kind : Option StoreFault) (before now : ℕ) → now ≡ before → FaultByTries kind before now
+refused_tries (Some NoMemory) before now same = same
+refused_tries (Some Failed) before now same = inl same
+refused_tries None before now same = same
+
+refused_ready : (kind : Option StoreFault) (now : Store) → IsReady now → FaultReadied kind now
+refused_ready (Some NoMemory) now ready = ready.1
+refused_ready (Some Failed) now ready = tt
+refused_ready None now ready = ready
+
+-- no commit began, and the rows are those that the opening found
+refused_call : {T F : Type 0} (of_store : OfStore F) (AreFormed : Rows → Type 0) (effect : Rows → Effect F) (value : Rows → T) (fault : F) (before now : Store) → Finds before now
+    → OpensAndReads AreFormed (is_failure (of_store fault)) before now → FaultReadied (of_store fault) now → IfSome now.rows (λ rows. TellsFault (of_store fault) fault (effect rows))
+    → IsCall of_store AreFormed effect value (Err fault) before now
+refused_call of_store AreFormed effect value fault before now finds opens ready tells =
+    let opened = opens.0 in
+    let kind = of_store fault in
+    let sure = told_swap before.plan now.rows (λ planned rows. AreFormed rows → is_failure kind ≡ false) opens.2 in
+    let did = λ (found after : Rows). Did of_store AreFormed effect value (Err fault) before now found after in
+    record {
+      did = from_found before now now did finds (follows_self now.rows did
+          (told_both now.rows (λ rows. TellsFault kind fault (effect rows)) (λ rows. IfSome before.plan (λ planned. AreFormed rows → is_failure kind ≡ false)) (λ rows. did rows rows) tells sure
+          (λ rows tells sure. record {
+            answer = refused_answer kind fault (effect rows) rows tells;
+            planned = refused_plan kind AreFormed before.plan (effect rows) rows now opened.2 sure;
+            tries = refused_tries kind before.tries now.tries opened.1;
+          })));
+      images = refused_images kind effect before now opened.0;
+      once = refused_tries kind before.tries now.tries opened.1;
+      cause = opens.1;
+      faults = opened.3;
+      ready = ready;
+    }
+
+-- a call that wants memory
+unmade_call : {T F : Type 0} (of_store : OfStore F) (AreFormed : Rows → Type 0) (effect : Rows → Effect F) (value : Rows → T) (fault : F) (before now : Store) → of_store fault ≡ Some NoMemory → Finds before now
+    → OpensAndReads AreFormed false before now → now.doubt ≡ false → IsCall of_store AreFormed effect value (Err fault) before now
+unmade_call of_store AreFormed effect value fault before now is finds opens calm =
+    refused_call of_store AreFormed effect value fault before now finds (subst (λ (kind : Option StoreFault). OpensAndReads AreFormed (is_failure kind) before now) (sym is) opens)
+    (subst (λ (kind : Option StoreFault). FaultReadied kind now) (sym is) calm)
+    (told_any now.rows (λ rows. TellsFault (of_store fault) fault (effect rows)) (λ rows. subst (λ (kind : Option StoreFault). TellsFault kind fault (effect rows)) (sym is) tt))
+
+-- ---- an opening that isn't done
+
+-- the store failed
+unfound_call : {T F : Type 0} (of_store : OfStore F) (AreFormed : Rows → Type 0) (effect : Rows → Effect F) (value : Rows → T) (fault : F) (before now : Store) → of_store fault ≡ Some Failed → HasImages before
+    → OpensAndReads AnyRows true before now → IsCall of_store AreFormed effect value (Err fault) before now
+unfound_call {T = T} of_store AreFormed effect value fault before now is few opens =
+    let opened = opens.0 in
+    let formed = only_opens AreFormed true before now opens in
+    let never = told_map now.rows (λ rows. IfSome before.plan (λ planned. AnyRows rows → true ≡ false)) (λ rows. IfSome before.plan (λ planned. ⊥))
+    (λ rows. told_map before.plan (λ planned. AnyRows rows → true ≡ false) (λ planned. ⊥) (λ planned no. let bad : true ≡ false = no tt in cc))
+    (told_swap before.plan now.rows (λ planned rows. AnyRows rows → true ≡ false) opens.2) in
+    record {
+      did = from_any before.images now.rows (IfSome before.plan (λ planned. ⊥)) (λ found after. Did of_store AreFormed effect value (Err fault) before now found after) few never
+          (λ found after never. record {
+            answer = subst (λ (kind : Option StoreFault). AnswersFault kind fault (effect found) found after) (sym is) tt;
+            planned = told_map before.plan (λ planned. ⊥) (λ planned. FaultByPlan (of_store fault) AreFormed planned (effect found) found after now) (λ planned no. absurd no) never;
+            tries = subst (λ (kind : Option StoreFault). FaultByTries kind before.tries now.tries) (sym is) (inl opened.1);
+          });
+      images = subst (λ (kind : Option StoreFault). OnFaultImages kind effect before now) (sym is) (narrow_images effect before.images now.images opened.0);
+      once = subst (λ (kind : Option StoreFault). FaultByTries kind before.tries now.tries) (sym is) (inl opened.1);
+      cause = subst (λ (kind : Option StoreFault). is_failure kind ≡ true → IfSome now.rows (λ rows. AreFormed rows → Rose before.faults now.faults)) (sym is) formed.1;
+      faults = opened.3;
+      ready = subst (λ (kind : Option StoreFault). FaultReadied kind now) (sym is) tt;
+    }
+
+-- ---- a call that commits
+
+once_idle : (idle : Bool) (before : ℕ) → ((cond idle before (raised before)) ≡ before) ⊎ ((cond idle before (raised before)) ≡ raised before)
+once_idle true before = inl refl
+once_idle false before = inr refl
+
+done_call : {T F : Type 0} (of_store : OfStore F) (AreFormed : Rows → Type 0) (effect : Rows → Effect F) (value : Rows → T) (changes : List Change) (answer : T) (before mid now : Store) → Finds before mid
+    → OpensAndReads AreFormed false before mid → IfSome mid.rows (λ rows. effect rows ≡ Ok changes) → IfSome mid.rows (λ rows. answer ≡ value rows)
+    → Leaves changes (Ok tt) mid now → IfSome mid.plan (λ planned. LeavesPlanned changes planned (Ok tt) mid now) → mid.faults ≤ now.faults → IsCall of_store AreFormed effect value (Ok answer) before now
+done_call {T = T} {F = F} of_store AreFormed effect value changes answer before mid now finds opens made answers leaves planned higher =
+    let opened = opens.0 in
+    let low : before.faults ≤ mid.faults = opened.3 in
+    let count : now.tries ≡ tries_with changes before.tries = leaves.2 ∙ ap (tries_with changes) opened.1 in
+    let goes : IfSome before.plan (λ planned. LeavesPlanned changes planned (Ok tt) mid now) = subst (λ (o : Option Plan). IfSome o (λ planned. LeavesPlanned changes planned (Ok tt) mid now)) opened.2 planned in
+    let told = told_both mid.rows (λ rows. effect rows ≡ Ok changes) (λ rows. answer ≡ value rows) (λ rows. (effect rows ≡ Ok changes) × (answer ≡ value rows)) made answers (λ rows made is. (made, is)) in
+    let did = λ (found after : Rows). Did of_store AreFormed effect value (Ok answer) before now found after in
+    record {
+      did = from_found before mid now did finds
+          (follows_with mid.rows now.rows (λ found after. after ≡ applied changes found) did (λ rows. (effect rows ≡ Ok changes) × (answer ≡ value rows)) leaves.1 told
+          (λ found after is told. record {
+            answer = (subst (λ (e : Effect F). Makes e found after) (sym told.0) is, told.1);
+            planned = told_map before.plan (λ planned. LeavesPlanned changes planned (Ok tt) mid now) (λ planned. ByPlan of_store AreFormed planned (Ok answer) (effect found) found after now)
+                (λ planned goes. subst (λ (e : Effect F). WhereMade e (λ made. (is_planned made planned ≡ true) × (now.plan ≡ Some (plan_with made planned)))) (sym told.0) (goes.0, goes.1)) goes;
+            tries = subst (λ (e : Effect F). WhereMade e (λ made. now.tries ≡ tries_with made before.tries)) (sym told.0) count;
+          }));
+      images = tt;
+      once = subst (λ (n : ℕ). (n ≡ before.tries) ⊎ (n ≡ raised before.tries)) (sym count) (once_idle (is_idle changes) before.tries);
+      cause = λ no. cc;
+      faults = omega arith;
+      ready = leaves.0;
+    }
+
+-- rows are told where images are, and those follow from what was told before
+follows_images : (mid : Option Rows) (left : Option (List Rows)) (now : Option Rows) (Holds : Rows → List Rows → Type 0) → is_some left ≡ is_some now → Follows mid left Holds → Follows mid now (λ found after. Unit {0})
+follows_images mid left None Holds both follows = tt
+follows_images mid None (Some after) Holds both follows = let no : false ≡ true = both in cc
+follows_images None (Some left) (Some after) Holds both follows = absurd follows
+follows_images (Some found) (Some left) (Some after) Holds both follows = tt
+
+failed_call : {T F : Type 0} (of_store : OfStore F) (AreFormed : Rows → Type 0) (effect : Rows → Effect F) (value : Rows → T) (fault : F) (changes : List Change) (before mid now : Store)
+    → of_store fault ≡ Some Failed → is_some now.images ≡ is_some now.rows → Finds before mid → OpensAndReads AreFormed false before mid → IfSome mid.rows (λ rows. effect rows ≡ Ok changes)
+    → Leaves changes (Err Failed) mid now → IfSome mid.plan (λ planned. LeavesPlanned changes planned (Err Failed) mid now) → mid.faults ≤ now.faults
+    → IsCall of_store AreFormed effect value (Err fault) before now
+failed_call {T = T} {F = F} of_store AreFormed effect value fault changes before mid now is both finds opens made leaves planned higher =
+    let opened = opens.0 in
+    let low : before.faults ≤ mid.faults = opened.3 in
+    let higher_than : Rose mid.faults now.faults = leaves.3 in
+    let rose : Rose before.faults now.faults = omega arith in
+    let count : now.tries ≡ raised before.tries = leaves.2 ∙ ap raised opened.1 in
+    let went : Plan → Rows → Rows → Type 0 = λ planned found after. (is_planned changes planned ≡ false) × (now.plan ≡ Some Done) × (after ≡ outcome planned changes found) in
+    let goes : IfSome before.plan (λ planned. LeavesPlanned changes planned (Err Failed) mid now) = subst (λ (o : Option Plan). IfSome o (λ planned. LeavesPlanned changes planned (Err Failed) mid now)) opened.2 planned in
+    let each = told_map before.plan (λ planned. LeavesPlanned changes planned (Err Failed) mid now) (λ planned. Follows mid.rows now.rows (went planned))
+    (λ planned goes. follows_both mid.rows now.rows (λ found after. after ≡ outcome planned changes found) (λ found after. after ≡ outcome planned changes found) (went planned) goes.2 goes.2 (λ found after left _. (goes.0, goes.1, left))) goes in
+    let follows = follows_told before.plan mid.rows now.rows went (follows_images mid.rows now.images now.rows (λ found all. AllByRecursion (IsBeforeOrAfter changes found) all) both leaves.1) each in
+    let did = λ (found after : Rows). Did of_store AreFormed effect value (Err fault) before now found after in
+    record {
+      did = from_found before mid now did finds
+          (follows_with mid.rows now.rows (λ found after. IfSome before.plan (λ planned. went planned found after)) did (λ rows. effect rows ≡ Ok changes) follows made
+          (λ found after went_so made. record {
+            answer = subst (λ (kind : Option StoreFault). AnswersFault kind fault (effect found) found after) (sym is) tt;
+            planned = told_map before.plan (λ planned. went planned found after) (λ planned. FaultByPlan (of_store fault) AreFormed planned (effect found) found after now)
+                (λ planned went_so. subst (λ (kind : Option StoreFault). FaultByPlan kind AreFormed planned (effect found) found after now) (sym is)
+                (λ formed. subst (λ (e : Effect F). WhereMade e (λ made. (is_planned made planned ≡ false) × (now.plan ≡ Some Done) × (after ≡ outcome planned made found))) (sym made) went_so)) went_so;
+            tries = subst (λ (kind : Option StoreFault). FaultByTries kind before.tries now.tries) (sym is) (inr count);
+          }));
+      images = subst (λ (kind : Option StoreFault). OnFaultImages kind effect before now) (sym is) (left_images effect changes before.images mid.rows now.images finds leaves.1 made);
+      once = subst (λ (kind : Option StoreFault). FaultByTries kind before.tries now.tries) (sym is) (inr count);
+      cause = λ _. told_any now.rows (λ rows. AreFormed rows → Rose before.faults now.faults) (λ rows formed. rose);
+      faults = omega arith;
+      ready = subst (λ (kind : Option StoreFault). FaultReadied kind now) (sym is) tt;
+    }
+
+-- ---- the whole call, by where it ends
+
+-- it isn't opened
+pub not_opened : {T F : Type 0} (of_store : OfStore F) (AreFormed : Rows → Type 0) (effect : Rows → Effect F) (value : Rows → T) (kind : StoreFault) (fault : F) (before now : Store) → of_store fault ≡ Some kind
+    → HasImages before → (store_fails {T = Unit {0}} (Err kind) ≡ false → Finds before now) → OpensAndReads AnyRows (store_fails {T = Unit {0}} (Err kind)) before now → IsRefused {T = Unit {0}} (Err kind) before.doubt
+    → IsCall of_store AreFormed effect value (Err fault) before now
+not_opened of_store AreFormed effect value NoMemory fault before now is few finds opens calm =
+    unmade_call of_store AreFormed effect value fault before now is (finds refl) (only_opens AreFormed false before now opens) (opens.0.6 calm)
+not_opened of_store AreFormed effect value Failed fault before now is few finds opens calm = unfound_call of_store AreFormed effect value fault before now is few opens
+
+-- it is refused as it reads
+pub refused : {T F : Type 0} (of_store : OfStore F) (AreFormed : Rows → Type 0) (effect : Rows → Effect F) (value : Rows → T) (fault : F) (before opened now : Store) → Finds before opened
+    → OpensAndReads AnyRows false before opened → Reads AreFormed (is_failure (of_store fault)) opened now → IfSome now.rows (λ rows. TellsFault (of_store fault) fault (effect rows))
+    → IsCall of_store AreFormed effect value (Err fault) before now
+refused of_store AreFormed effect value fault before opened now finds opens reads tells =
+    refused_call of_store AreFormed effect value fault before now (finds_still before opened now finds reads.0) (opens_reads AreFormed (is_failure (of_store fault)) before opened now opens.0 reads)
+    (refused_ready (of_store fault) now reads.0.0) tells
+
+-- its changes aren't committed
+pub not_committed : {T F : Type 0} (of_store : OfStore F) (AreFormed : Rows → Type 0) (effect : Rows → Effect F) (value : Rows → T) (kind : StoreFault) (fault : F) (changes : List Change) (before opened mid now : Store)
+    → of_store fault ≡ Some kind → is_some now.images ≡ is_some now.rows → Finds before opened → OpensAndReads AnyRows false before opened → Reads AreFormed false opened mid → IfSome mid.rows (λ rows. effect rows ≡ Ok changes)
+    → Leaves changes (Err kind) mid now → IfSome mid.plan (λ planned. LeavesPlanned changes planned (Err kind) mid now) → mid.faults ≤ now.faults → IsCall of_store AreFormed effect value (Err fault) before now
+not_committed of_store AreFormed effect value NoMemory fault changes before opened mid now is both finds opens reads made leaves planned higher =
+    let found = finds_still before opened mid finds reads.0 in
+    let mid_opens = opens_reads AreFormed false before opened mid opens.0 reads in
+    let read : Reads AreFormed false mid now = (
+      leaves,
+      (λ no. cc),
+      told_any mid.plan (λ planned. IfSome now.rows (λ rows. AreFormed rows → false ≡ false)) (λ planned. told_any now.rows (λ rows. AreFormed rows → false ≡ false) (λ rows formed. refl)),
+    ) in
+    unmade_call of_store AreFormed effect value fault before now is (finds_still before mid now found leaves) (opens_reads AreFormed false before mid now mid_opens.0 read) leaves.0.1
+not_committed of_store AreFormed effect value Failed fault changes before opened mid now is both finds opens reads made leaves planned higher =
+    failed_call of_store AreFormed effect value fault changes before mid now is both (finds_still before opened mid finds reads.0) (opens_reads AreFormed false before opened mid opens.0 reads) made leaves planned higher
+
+-- they are
+pub committed : {T F : Type 0} (of_store : OfStore F) (AreFormed : Rows → Type 0) (effect : Rows → Effect F) (value : Rows → T) (changes : List Change) (answer : T) (before opened mid now : Store)
+    → Finds before opened → OpensAndReads AnyRows false before opened → Reads AreFormed false opened mid → IfSome mid.rows (λ rows. effect rows ≡ Ok changes) → IfSome mid.rows (λ rows. answer ≡ value rows)
+    → Leaves changes (Ok tt) mid now → IfSome mid.plan (λ planned. LeavesPlanned changes planned (Ok tt) mid now) → mid.faults ≤ now.faults → IsCall of_store AreFormed effect value (Ok answer) before now
+committed of_store AreFormed effect value changes answer before opened mid now finds opens reads made answers leaves planned higher =
+    done_call of_store AreFormed effect value changes answer before mid now (finds_still before opened mid finds reads.0) (opens_reads AreFormed false before opened mid opens.0 reads) made answers leaves planned higher
+
+-- ---- a call that only reads
+
+readied : {T F : Type 0} (of_store : OfStore F) (result : Result T F) (now : Store) → IsReady now → Readied of_store result now
+readied of_store (Ok answer) now ready = ready
+readied of_store (Err fault) now ready = refused_ready (of_store fault) now ready
+
+-- it isn't opened
+pub not_looked : {T F : Type 0} (of_store : OfStore F) (AreFormed : Rows → Type 0) (kind : StoreFault) (fault : F) (before now : Store) → of_store fault ≡ Some kind
+    → (store_fails {T = Unit {0}} (Err kind) ≡ false → Finds before now) → OpensAndReads AnyRows (store_fails {T = Unit {0}} (Err kind)) before now → IsRefused {T = Unit {0}} (Err kind) before.doubt
+    → Looks {T = T} of_store AreFormed (Err fault) before now
+not_looked of_store AreFormed NoMemory fault before now is finds opens calm = record {
+  opened = subst (λ (kind : Option StoreFault). OpensAndReads AreFormed (is_failure kind) before now) (sym is) (only_opens AreFormed false before now opens);
+  found = λ _. finds refl;
+  ready = subst (λ (kind : Option StoreFault). FaultReadied kind now) (sym is) (opens.0.6 calm);
+}
+not_looked of_store AreFormed Failed fault before now is finds opens calm = record {
+  opened = subst (λ (kind : Option StoreFault). OpensAndReads AreFormed (is_failure kind) before now) (sym is) (only_opens AreFormed true before now opens);
+  found = λ no. let bad : true ≡ false = subst (λ (kind : Option StoreFault). is_failure kind ≡ false) is no in cc;
+  ready = subst (λ (kind : Option StoreFault). FaultReadied kind now) (sym is) tt;
+}
+
+-- it is opened, and then reads
+pub looked : {T F : Type 0} (of_store : OfStore F) (AreFormed : Rows → Type 0) (result : Result T F) (before opened now : Store) → Finds before opened → OpensAndReads AnyRows false before opened
+    → Reads AreFormed (fails of_store result) opened now → Looks of_store AreFormed result before now
+looked of_store AreFormed result before opened now finds opens reads = record {
+  opened = opens_reads AreFormed (fails of_store result) before opened now opens.0 reads;
+  found = λ _. finds_still before opened now finds reads.0;
+  ready = readied of_store result now reads.0.0;
+}
