@@ -10,8 +10,8 @@ use Rattle.std.specs.FinMap as finite
 use Rattle.std.specs.FinMap.{nat_cmp-IsAntisymmetric, slice_cmp-IsAntisymmetric}
 use Rattle.std.specs.Option.{option_map}
 use Rattle.std.specs.Ordering.{eq_by_cmp, is_eq, nat_cmp, ordering_then}
-use Rattle.wef_event.specs.Unnumbered.{plain_numbered_text}
-use Rattle.wef_event.specs.declared.unnumbered.PlainEvent.{PlainEvent}
+use Rattle.wef_event.specs.Events.{Event}
+use Rattle.wef_event.specs.Numbering.{numbered_text}
 use Rattle.wef_keeper.specs.Laws.{get-applied}
 use Rattle.wef_keeper.specs.Rows.{Rows, applied, cell_of, found_after, key_cmp, key_of}
 use Rattle.wef_keeper.specs.declared.keys.Cell.{Cell}
@@ -267,14 +267,14 @@ next_window rows all capacity boot c text some window =
     }
 
 -- writing keeps the rows a window
-pub extends : (rows rows' : Rows) (event : PlainEvent) (n : ℕ) → n ≡ last_of rows event.channel + 1 → rows' ≡ written rows event.channel (next_text rows event)
+pub extends : (rows rows' : Rows) (event : Event) (n : ℕ) → n ≡ last_of rows event.channel + 1 → rows' ≡ written rows event.channel (next_text rows event)
     → ExtendsHistory rows rows' event n
 extends rows rows' event n numbered wrote all capacity boot some begun window =
     let c = event.channel in
     let last = last_in rows all capacity boot window c in
-    let text = plain_numbered_text event n in
+    let text = numbered_text event n in
     let same : written rows c (next_text rows event) ≡ next_rows rows capacity all c text =
-    λ i. applied (write_changes (capacity_in rows all capacity boot begun window i) c (last i + 1) (plain_numbered_text event (sym numbered i))) rows in
+    λ i. applied (write_changes (capacity_in rows all capacity boot begun window i) c (last i + 1) (numbered_text event (sym numbered i))) rows in
     let is : next_rows rows capacity all c text ≡ rows' = sym (wrote ∙ same) in
     (numbered ∙ ap (λ k. k + 1) last, subst (λ (r : Rows). IsWindow r (extended all c text) capacity boot) is (next_window rows all capacity boot c text some window))
 
@@ -304,7 +304,7 @@ start_at rows capacity q kept e =
     get-applied (start_changes rows capacity) rows q
     ∙ ap (λ (cell : Option Cell). found_after (capacity_changes capacity cell ++ Put (record { key = boot_key; value = boot_of rows + 1; body = [] }) ∷ []) q (finite.get rows q)) e
 
--- a start leaves other rows than those of the capacity and the start number
+-- a start leaves other rows than those of the capacity and the boot number
 start_apart : (rows : Rows) (capacity : ℕ) (q : Key) → hits capacity_key q ≡ false → hits boot_key q ≡ false → finite.get (started rows capacity) q ≡ finite.get rows q
 start_apart rows capacity q no_capacity no_boot = start_at rows capacity q (finite.get rows capacity_key) refl ∙ by_cell (finite.get rows capacity_key) (finite.get rows q)
   where

@@ -1,5 +1,5 @@
 -- Rows of their form: each that is read is, and what is written leaves them so.
-use Rattle.std.proofs.Common.{◌≡◌, ℕ, ◌+◌, ◌-◌, ◌<◌, ◌≤◌, ◌==◌, nat_le, nat_lt, Bool, true, false, cond, ◌&&◌, List, [], ◌∷◌, ◌++◌, take, length, refl, ap, sym, ◌∙◌, subst, arith, if◌then◌else◌}
+use Rattle.std.proofs.Common.{◌≡◌, ℕ, ◌+◌, ◌-◌, ◌<◌, ◌≤◌, ◌==◌, nat_le, nat_lt, Bool, true, false, cond, ◌&&◌, ◌||◌, List, [], ◌∷◌, ◌++◌, take, length, refl, ap, sym, ◌∙◌, subst, arith, if◌then◌else◌}
 use Rattle.std.proofs.lemmas.Bool.{and_parts}
 use Rattle.std.proofs.lemmas.Bool.Decides.{nat_tests}
 use Rattle.std.proofs.lemmas.List.Elements.{All-head, All-tail, All-take, All-weaker}
@@ -9,6 +9,7 @@ use Rattle.std.specs.List.{All, AllByRecursion, list_all}
 use Rattle.std.specs.Option.{option_map}
 use Rattle.std.specs.Prelude.{Option, Some, None, IfSome}
 use Rattle.wef_base.specs.Names.{channel_name}
+use Rattle.wef_base.specs.declared.numbers.TheConstants.{MAX}
 use Rattle.wef_event.specs.Events.{is_event}
 use Rattle.wef_keeper.specs.Access.{IsBehind}
 use Rattle.wef_keeper.specs.Keeping.{row_at}
@@ -23,6 +24,7 @@ use Rattle.wef_keeper.specs.declared.keys.Depth.TheVariants.{Channel}
 use Rattle.wef_keeper.specs.declared.keys.Key.{Key}
 use Rattle.wef_keeper.specs.declared.keys.Row.{Row}
 use Rattle.wef_source_log.specs.Forms.{AreFormed, has_number, is_bare, is_boot, is_capacity, is_channel, is_formed, is_last, is_nameless, is_read, is_record, is_whole}
+use Rattle.wef_source_log.specs.declared.keys.TheConstants.{RECORD, LAST, CAPACITY, BOOT}
 use Rattle.wef_source_log.specs.Keys.{boot_key, capacity_key, last_key, record_key}
 use Rattle.wef_source_log.specs.Laws.{FormsStay}
 use Rattle.wef_source_log.specs.Windows.{boot_of, capacity_changes, capacity_of, last_of, start_changes, write_changes}
@@ -79,7 +81,7 @@ no_whole told key (Some row) ill is = no_row told key row ill is
 record_form : (c : List ℕ) (after : ℕ) (row : Row) → is_under Channel (record_key c after) row.key ≡ true → is_record row ≡ is_formed row
 unfolding is_formed
 record_form c after row under =
-    ap (λ (key : Key). if key.kind == 9 then is_record row else (if key.kind == 10 then is_last row else (if key.kind == 11 then is_capacity row else (if key.kind == 12 then is_boot row else true))))
+    ap (λ (key : Key). if key.kind == RECORD then is_record row else (if key.kind == LAST then is_last row else (if key.kind == CAPACITY then is_capacity row else (if key.kind == BOOT then is_boot row else true))))
     (sym (own_key c after row.key under))
 
 record_forms : (c : List ℕ) (after : ℕ) (rows : List Row) → AllByRecursion (IsBehind Channel (record_key c after)) rows → list_all is_record rows ≡ list_all is_formed rows
@@ -98,57 +100,61 @@ no_record (Some rows) n c after start page begins behind ill is = λ formed.
 -- ---- a number that stands
 
 -- what the kind of a row decides
-by_kind : (P : Type 0) (nine ten eleven twelve a b c d : Bool) → cond nine a (cond ten b (cond eleven c (cond twelve d true))) ≡ true
-    → (nine ≡ true → P) → (b ≡ true → P) → (c ≡ true → P) → (d ≡ true → P) → (nine ≡ false → ten ≡ false → eleven ≡ false → twelve ≡ false → P) → P
-by_kind P true ten eleven twelve a b c d e one two three four none = one refl
-by_kind P false true eleven twelve a b c d e one two three four none = two e
-by_kind P false false true twelve a b c d e one two three four none = three e
+by_kind : (P : Type 0) (first second third fourth a b c d : Bool) → cond first a (cond second b (cond third c (cond fourth d true))) ≡ true
+    → (first ≡ true → P) → (b ≡ true → P) → (c ≡ true → P) → (d ≡ true → P) → (first ≡ false → second ≡ false → third ≡ false → fourth ≡ false → P) → P
+by_kind P true second third fourth a b c d e one two three four none = one refl
+by_kind P false true third fourth a b c d e one two three four none = two e
+by_kind P false false true fourth a b c d e one two three four none = three e
 by_kind P false false false true a b c d e one two three four none = four e
 by_kind P false false false false a b c d e one two three four none = none refl refl refl refl
 
 within : (n m : ℕ) → nat_le n m ≡ true → n ≤ m
 within n m e = grind (arith, nat_tests, e)
 
-last_within : (row : Row) → is_last row ≡ true → row.value ≤ 9223372036854775807
+last_within : (row : Row) → is_last row ≡ true → row.value ≤ MAX
 last_within row e =
-    let outer = and_parts (is_nameless row.key && row.key.number == 0 && nat_le row.value 9223372036854775807 && length row.body == 0) (is_channel row.key.channel) e in
-    let inner = and_parts (is_nameless row.key && row.key.number == 0 && nat_le row.value 9223372036854775807) (length row.body == 0) outer.0 in
-    let value = and_parts (is_nameless row.key && row.key.number == 0) (nat_le row.value 9223372036854775807) inner.0 in
-    within row.value 9223372036854775807 value.1
+    let outer = and_parts (is_nameless row.key && row.key.number == 0 && nat_le row.value MAX && length row.body == 0) (is_channel row.key.channel) e in
+    let inner = and_parts (is_nameless row.key && row.key.number == 0 && nat_le row.value MAX) (length row.body == 0) outer.0 in
+    let value = and_parts (is_nameless row.key && row.key.number == 0) (nat_le row.value MAX) inner.0 in
+    within row.value MAX value.1
 
-capacity_within : (row : Row) → is_capacity row ≡ true → row.value ≤ 9223372036854775807
+capacity_within : (row : Row) → is_capacity row ≡ true → row.value ≤ MAX
 capacity_within row e =
     let parts = and_parts (is_bare row && nat_le 1 row.value) (nat_le row.value 1000000) e in
     below row.value (within row.value 1000000 parts.1)
   where
-    below : (n : ℕ) → n ≤ 1000000 → n ≤ 9223372036854775807
+    below : (n : ℕ) → n ≤ 1000000 → n ≤ MAX
     below n h = omega arith
 
-boot_within : (row : Row) → is_boot row ≡ true → row.value ≤ 9223372036854775807
-boot_within row e = within row.value 9223372036854775807 (and_parts (is_bare row) (nat_le row.value 9223372036854775807) e).1
+boot_within : (row : Row) → is_boot row ≡ true → row.value ≤ MAX
+boot_within row e = within row.value MAX (and_parts (is_bare row) (nat_le row.value MAX) e).1
 
-no_nine : (kind : ℕ) → (kind == 9) ≡ true → has_number kind ≡ true → ⊥
-no_nine kind e h = grind (arith, nat_tests, e, h)
+no_record_kind : (kind : ℕ) → (kind == RECORD) ≡ true → has_number kind ≡ true → ⊥
+no_record_kind kind e h = grind (arith, nat_tests, e, h)
 
-no_other : (kind : ℕ) → (kind == 10) ≡ false → (kind == 11) ≡ false → (kind == 12) ≡ false → has_number kind ≡ true → ⊥
-no_other kind ten eleven twelve h = grind (arith, nat_tests, ten, eleven, twelve, h)
+no_other_kind : (last capacity boot : Bool) → last ≡ false → capacity ≡ false → boot ≡ false → (last || capacity || boot) ≡ true → ⊥
+no_other_kind false false false a b c h = cc
+no_other_kind true capacity boot a b c h = cc
+no_other_kind false true boot a b c h = cc
+no_other_kind false false true a b c h = cc
 
-pub number_within : (row : Row) → is_formed row ≡ true → has_number row.key.kind ≡ true → row.value ≤ 9223372036854775807
+pub number_within : (row : Row) → is_formed row ≡ true → has_number row.key.kind ≡ true → row.value ≤ MAX
 unfolding is_formed
 number_within row formed number =
     let kind = row.key.kind in
-    by_kind (row.value ≤ 9223372036854775807) (kind == 9) (kind == 10) (kind == 11) (kind == 12) (is_record row) (is_last row) (is_capacity row) (is_boot row) formed
-    (λ nine. absurd (no_nine kind nine number)) (last_within row) (capacity_within row) (boot_within row) (λ nine ten eleven twelve. absurd (no_other kind ten eleven twelve number))
+    by_kind (row.value ≤ MAX) (kind == RECORD) (kind == LAST) (kind == CAPACITY) (kind == BOOT) (is_record row) (is_last row) (is_capacity row) (is_boot row) formed
+    (λ is. absurd (no_record_kind kind is number)) (last_within row) (capacity_within row) (boot_within row)
+    (λ first second third fourth. absurd (no_other_kind (kind == LAST) (kind == CAPACITY) (kind == BOOT) second third fourth number))
 
 -- so where a greater one was read, the rows aren't all of their form
-pub no_number : (told : Option Rows) (key : Key) (row : Row) → is_formed row ≡ true → has_number key.kind ≡ true → 9223372036854775807 < row.value → IfSome told (λ rows. Some row ≡ row_at key rows)
+pub no_number : (told : Option Rows) (key : Key) (row : Row) → is_formed row ≡ true → has_number key.kind ≡ true → MAX < row.value → IfSome told (λ rows. Some row ≡ row_at key rows)
     → IfSome told (λ rows. AreFormed rows → ⊥)
 no_number None key row well number above is = tt
 no_number (Some rows) key row well number above is = λ formed.
     let same = kind_of (finite.get rows key) is in
     over row.value (number_within row well (ap has_number same ∙ number)) above
   where
-    over : (n : ℕ) → n ≤ 9223372036854775807 → 9223372036854775807 < n → ⊥
+    over : (n : ℕ) → n ≤ MAX → MAX < n → ⊥
     over n h k = omega arith
 
     kind_of : (found : Option Cell) → Some row ≡ option_map (λ cell. row_of (key, cell)) found → row.key.kind ≡ key.kind
@@ -191,24 +197,24 @@ below_test n m h = grind (arith, nat_tests)
 kept_name : (c : List ℕ) → channel_name c ≡ Some c → is_channel c ≡ true
 kept_name c e = ap (λ (read : Option (List ℕ)). is_read read c) e ∙ nat_list_eq_equiv.refl c
 
-record_sound : (c text : List ℕ) (n : ℕ) → 1 ≤ n → n ≤ 9223372036854775807 → channel_name c ≡ Some c → is_event (record { channel = c; number = n; text = text }) ≡ true
+record_sound : (c text : List ℕ) (n : ℕ) → 1 ≤ n → n ≤ MAX → channel_name c ≡ Some c → is_event (record { channel = c; number = n; text = text }) ≡ true
     → IsSound (Put (record { key = record_key c n; value = 0; body = text }))
 unfolding is_formed
-record_sound c text n some within name event = λ i. true && below_test 1 n some i && below_test n 9223372036854775807 within i && kept_name c name i && true && event i
+record_sound c text n some within name event = λ i. true && below_test 1 n some i && below_test n MAX within i && kept_name c name i && true && event i
 
-last_sound : (c : List ℕ) (n : ℕ) → n ≤ 9223372036854775807 → channel_name c ≡ Some c → IsSound (Put (record { key = last_key c; value = n; body = [] }))
+last_sound : (c : List ℕ) (n : ℕ) → n ≤ MAX → channel_name c ≡ Some c → IsSound (Put (record { key = last_key c; value = n; body = [] }))
 unfolding is_formed
-last_sound c n within name = λ i. true && true && below_test n 9223372036854775807 within i && true && kept_name c name i
+last_sound c n within name = λ i. true && true && below_test n MAX within i && true && kept_name c name i
 
 capacity_sound : (n : ℕ) → 1 ≤ n → n ≤ 1000000 → IsSound (Put (record { key = capacity_key; value = n; body = [] }))
 unfolding is_formed
 capacity_sound n some within = λ i. true && below_test 1 n some i && below_test n 1000000 within i
 
-boot_sound : (n : ℕ) → n ≤ 9223372036854775807 → IsSound (Put (record { key = boot_key; value = n; body = [] }))
+boot_sound : (n : ℕ) → n ≤ MAX → IsSound (Put (record { key = boot_key; value = n; body = [] }))
 unfolding is_formed
-boot_sound n within = λ i. true && below_test n 9223372036854775807 within i
+boot_sound n within = λ i. true && below_test n MAX within i
 
-start_sound : (capacity n : ℕ) (kept : Option Cell) → 1 ≤ capacity → capacity ≤ 1000000 → n ≤ 9223372036854775807 → AreSound (capacity_changes capacity kept ++ Put (record { key = boot_key; value = n; body = [] }) ∷ [])
+start_sound : (capacity n : ℕ) (kept : Option Cell) → 1 ≤ capacity → capacity ≤ 1000000 → n ≤ MAX → AreSound (capacity_changes capacity kept ++ Put (record { key = boot_key; value = n; body = [] }) ∷ [])
 start_sound capacity n None some most within = (capacity_sound capacity some most, (boot_sound n within, tt))
 start_sound capacity n (Some cell) some most within = (boot_sound n within, tt)
 
@@ -216,11 +222,11 @@ leaving_sound : (full : Bool) (key : Key) → AreSound (if full then Delete key 
 leaving_sound true key = (tt, tt)
 leaving_sound false key = tt
 
-write_sound : (capacity n : ℕ) (c text : List ℕ) → 1 ≤ n → n ≤ 9223372036854775807 → channel_name c ≡ Some c → is_event (record { channel = c; number = n; text = text }) ≡ true
+write_sound : (capacity n : ℕ) (c text : List ℕ) → 1 ≤ n → n ≤ MAX → channel_name c ≡ Some c → is_event (record { channel = c; number = n; text = text }) ≡ true
     → AreSound (write_changes capacity c n text)
 write_sound capacity n c text some within name event = (record_sound c text n some within name event, (last_sound c n within name, leaving_sound (nat_lt capacity n) (record_key c (n - capacity))))
 
-next_within : (n : ℕ) → n < 9223372036854775807 → n + 1 ≤ 9223372036854775807
+next_within : (n : ℕ) → n < MAX → n + 1 ≤ MAX
 next_within n h = omega arith
 
 next_some : (n : ℕ) → 1 ≤ n + 1

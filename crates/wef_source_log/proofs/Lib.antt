@@ -1,9 +1,8 @@
 pub mod Cells
-pub mod Committed
 pub mod Contents
 pub mod Forming
+pub mod Looking
 pub mod Pages
-pub mod ReadsOf
 pub mod Stands
-pub mod Stores
+pub mod StoreFaults
 pub mod Writes

@@ -1,11 +1,13 @@
 -- The forms of a log's rows. A row of another form was spoilt in its store, and a call that reads it fails.
-use Rattle.std.specs.Prelude.{◌≡◌, ℕ, ◌==◌, nat_le, Bool, true, false, ◌&&◌, List, length, Option, Some, None, IfSome, if◌then◌else◌}
+use Rattle.std.specs.Prelude.{◌≡◌, ℕ, ◌==◌, nat_le, Bool, true, false, ◌&&◌, ◌||◌, List, length, Option, Some, None, IfSome, if◌then◌else◌}
 use Rattle.std.specs.FinMap as finite
 use Rattle.wef_base.specs.Names.{channel_name, same}
+use Rattle.wef_base.specs.declared.numbers.TheConstants.{MAX}
 use Rattle.wef_event.specs.Events.{is_event}
 use Rattle.wef_keeper.specs.Rows.{Rows, row_of}
 use Rattle.wef_keeper.specs.declared.keys.Key.{Key}
 use Rattle.wef_keeper.specs.declared.keys.Row.{Row}
+use Rattle.wef_source_log.specs.declared.keys.TheConstants.{RECORD, LAST, CAPACITY, BOOT}
 
 -- whether a text is the name that was read from it
 abbrev pub is_read : Option (List ℕ) → List ℕ → Bool
@@ -20,9 +22,9 @@ is_channel text = is_read (channel_name text) text
 abbrev pub is_nameless : Key → Bool
 is_nameless key = length key.sub == 0 && length key.source == 0
 
--- the key of a record: its number is from 1 to 2^63 - 1
+-- the key of a record: its number is from 1 to MAX
 abbrev pub is_record_key : Key → Bool
-is_record_key key = is_nameless key && nat_le 1 key.number && nat_le key.number 9223372036854775807 && is_channel key.channel
+is_record_key key = is_nameless key && nat_le 1 key.number && nat_le key.number MAX && is_channel key.channel
 
 -- a record: its body is the one text of an event, which says the channel and the number
 abbrev pub is_record : Row → Bool
@@ -30,7 +32,7 @@ is_record row = is_record_key row.key && row.value == 0 && is_event (record { ch
 
 -- the last number of a channel
 abbrev pub is_last : Row → Bool
-is_last row = is_nameless row.key && row.key.number == 0 && nat_le row.value 9223372036854775807 && length row.body == 0 && is_channel row.key.channel
+is_last row = is_nameless row.key && row.key.number == 0 && nat_le row.value MAX && length row.body == 0 && is_channel row.key.channel
 
 -- whether a row has a number alone
 abbrev pub is_bare : Row → Bool
@@ -40,17 +42,17 @@ is_bare row = is_nameless row.key && length row.key.channel == 0 && row.key.numb
 abbrev pub is_capacity : Row → Bool
 is_capacity row = is_bare row && nat_le 1 row.value && nat_le row.value 1000000
 
--- the start number
+-- the boot number
 abbrev pub is_boot : Row → Bool
-is_boot row = is_bare row && nat_le row.value 9223372036854775807
+is_boot row = is_bare row && nat_le row.value MAX
 
 -- whether a row is of its form; a row of another kind isn't the log's
 unfoldable pub is_formed : Row → Bool
 is_formed row =
-    if row.key.kind == 9 then is_record row
-    else (if row.key.kind == 10 then is_last row
-    else (if row.key.kind == 11 then is_capacity row
-    else (if row.key.kind == 12 then is_boot row
+    if row.key.kind == RECORD then is_record row
+    else (if row.key.kind == LAST then is_last row
+    else (if row.key.kind == CAPACITY then is_capacity row
+    else (if row.key.kind == BOOT then is_boot row
     else true)))
 
 -- each row that stands is of its form
@@ -64,4 +66,4 @@ is_whole (Some row) = is_formed row
 
 -- whether rows of a kind have a number
 abbrev pub has_number : ℕ → Bool
-has_number kind = nat_le 10 kind && nat_le kind 12
+has_number kind = kind == LAST || kind == CAPACITY || kind == BOOT

@@ -4,6 +4,7 @@ use Rattle.std.specs.Prelude.{◌≡◌, ℕ, ◌+◌, ◌-◌, ◌<◌, ◌≤�
 use Rattle.std.specs.FinMap as map
 use Rattle.wef_event.specs.Events.{Event, is_event}
 use Rattle.wef_base.specs.Names.{channel_name}
+use Rattle.wef_base.specs.declared.numbers.TheConstants.{MAX}
 use Rattle.wef_keeper.specs.Rows.{Rows}
 use Rattle.wef_source_log.specs.Forms.{AreFormed}
 use Rattle.wef_source_log.specs.Histories.{History, Histories, history}
@@ -32,7 +33,7 @@ pub record ReadsWindow (rows : Rows) (all : Histories) (capacity boot : ℕ) : T
 abbrev pub NothingIsEmpty : Type 0
 NothingIsEmpty = (capacity : ℕ) → IsWindow map.empty map.empty capacity 0
 
--- a start keeps the window, and its start number is one greater
+-- a start keeps the window, and its boot number is one greater
 abbrev pub StartsKeep : Type 0
 StartsKeep = (rows : Rows) (all : Histories) (capacity boot : ℕ) → IsWindow rows all capacity boot → IsWindow (started rows capacity) all capacity (boot + 1)
 
@@ -43,6 +44,6 @@ WindowsRead = (rows : Rows) (all : Histories) (capacity boot : ℕ) → 0 < boot
 -- Rows of their form stay so: where there is none, over a start, and over a write.
 pub record FormsStay : Type 0 where
   pub nothing : AreFormed map.empty
-  pub start : (rows : Rows) (capacity : ℕ) → AreFormed rows → boot_of rows < 9223372036854775807 → 1 ≤ capacity → capacity ≤ 1000000 → AreFormed (started rows capacity)
-  pub write : (rows : Rows) (c text : List ℕ) → AreFormed rows → last_of rows c < 9223372036854775807 → channel_name c ≡ Some c
+  pub start : (rows : Rows) (capacity : ℕ) → AreFormed rows → boot_of rows < MAX → 1 ≤ capacity → capacity ≤ 1000000 → AreFormed (started rows capacity)
+  pub write : (rows : Rows) (c text : List ℕ) → AreFormed rows → last_of rows c < MAX → channel_name c ≡ Some c
       → is_event (record { channel = c; number = last_of rows c + 1; text = text }) ≡ true → AreFormed (written rows c text)

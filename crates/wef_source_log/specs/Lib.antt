@@ -1,8 +1,8 @@
 pub mod Answers
-pub mod Calls
+pub mod Faults
 pub mod Forms
 pub mod Histories
 pub mod Keys
 pub mod Laws
-pub mod Ready
+pub mod Prepared
 pub mod Windows

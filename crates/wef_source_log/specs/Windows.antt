@@ -64,7 +64,7 @@ abbrev pub capacity_changes : ℕ → Option Cell → List Change
 capacity_changes capacity None = Put (record { key = capacity_key; value = capacity; body = [] }) ∷ []
 capacity_changes capacity (Some kept) = []
 
--- what starting a source changes: its start number is one greater, and a capacity is kept where none was
+-- what starting a source changes: its boot number is one greater, and a capacity is kept where none was
 abbrev pub start_changes : Rows → ℕ → List Change
 start_changes rows capacity =
     capacity_changes capacity (finite.get rows capacity_key) ++ Put (record { key = boot_key; value = boot_of rows + 1; body = [] }) ∷ []
@@ -99,8 +99,8 @@ record_cell capacity records n =
 abbrev pub capacity_cell : ℕ → ℕ → Option Cell
 capacity_cell capacity boot = if boot == 0 then None else Some (number_cell capacity)
 
--- The rows are the window of these histories: the start number, from the first start on the capacity, and for each
--- channel the last number and the records from the window's first on. Before the first start the start number is 0.
+-- The rows are the window of these histories: the boot number, from the first start on the capacity, and for each
+-- channel the last number and the records from the window's first on. Before the first start the boot number is 0.
 pub record IsWindow (rows : Rows) (all : Histories) (capacity boot : ℕ) : Type 0 where
   pub capacity_row : finite.get rows capacity_key ≡ capacity_cell capacity boot
   pub boot_row : finite.get rows boot_key ≡ last_cell boot

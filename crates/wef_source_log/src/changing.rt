@@ -1,13 +1,15 @@
-//! What the log's calls change, and how it is committed in a store that is ready.
+//! What the log's calls change, and how it is committed.
 
-ghost use Rattle.std.specs.Prelude.{◌≡◌, ◌+◌, ◌≤◌, ◌++◌, [], ◌∷◌, false, is_some, Option, IfOk, IfErr, IfSome, OnOk};
+ghost use Rattle.std.specs.Prelude.{◌≡◌, ◌≤◌, ◌++◌, [], ◌∷◌, false, is_some, Some, None, Option, IfOk, IfErr, IfSome, OnOk};
+ghost use Rattle.wef_event.specs.Numbering as numbering;
 ghost use Rattle.wef_keeper.specs.Access as access;
+ghost use Rattle.wef_keeper.specs.Calls.{IsCall, fails};
 ghost use Rattle.wef_keeper.specs.declared.keys.Cell as the_cell;
 ghost use Rattle.wef_source_log.specs.Answers as answers;
-ghost use Rattle.wef_source_log.specs.Calls.{Does, fails};
-ghost use Rattle.wef_source_log.specs.Forms as forms;
+ghost use Rattle.wef_source_log.specs.Faults.{log_store};
+ghost use Rattle.wef_source_log.specs.Forms.{AreFormed};
 ghost use Rattle.wef_source_log.specs.Keys as keys;
-ghost use Rattle.wef_source_log.specs.Ready.{DoesReady, Prepares};
+ghost use Rattle.wef_source_log.specs.Prepared.{Prepares, RefusesNumber};
 ghost use Rattle.wef_source_log.specs.Windows as windows;
 
 use crate::faults::LogFault;
@@ -16,7 +18,7 @@ use crate::reading::{boot_of, capacity_of, has_capacity, last_of};
 use std::alloc::{AllocError, Global};
 use wef_base::numbers::MAX;
 use wef_base::{ChannelName, List, Text};
-use wef_event::{Event, PlainEvent};
+use wef_event::{Event, EventFault};
 use wef_keeper::{Change, Keeper, Key, Row, access};
 
 /// What a call is about to commit, and the number that it answers.
@@ -26,22 +28,13 @@ pub struct Prepared {
     pub number: u64,
 }
 
-/// Opens the store, and starts the source.
+/// Starts the source: its boot number is one greater from now on, and a capacity is kept where none
+/// was. Answers the boot number.
 pub fn start_in<K: Keeper>(alloc: Global, keeper: &mut K, capacity: u64) -> Result<u64, LogFault>
-    ensures does { Does (λ found. answers.start_effect found capacity) (λ found. windows.boot_of found + 1) result (K.store keeper.old) (K.store keeper.new) }
-    ensures refusal { IfErr result answers.RefusesStart }
+    ensures call { IsCall log_store AreFormed (λ found. answers.start_effect found capacity) answers.next_boot result (K.store keeper.old) (K.store keeper.new) }
+    ensures listed { IfErr result answers.RefusesStart }
 {
     access::open(keeper)?;
-    start_ready(alloc, keeper, capacity)
-}
-
-/// Starts the source: its start number is one greater from now on, and a capacity is kept where none
-/// was. Answers the start number.
-fn start_ready<K: Keeper>(alloc: Global, keeper: &mut K, capacity: u64) -> Result<u64, LogFault>
-    requires { access.IsReady (K.store keeper.old) }
-    ensures does { DoesReady (λ found. answers.start_effect found capacity) (λ found. windows.boot_of found + 1) result (K.store keeper.old) (K.store keeper.new) }
-    ensures refusal { IfErr result answers.RefusesStart }
-{
     let prepared = prepared_start(alloc, keeper, capacity)?;
     access::commit(keeper, &prepared.changes)?;
     Ok(prepared.number)
@@ -53,10 +46,9 @@ fn prepared_start<K: Keeper>(
     capacity: u64,
 ) -> Result<Prepared, LogFault>
     requires { access.IsReady (K.store keeper.old) }
-    ensures prepared { IfSome (K.store keeper.new).rows (λ found. Prepares (answers.start_effect found capacity) (windows.boot_of found + 1) result) }
-    ensures some { IfOk result (λ prepared. access.is_idle prepared.changes ≡ false) }
-    ensures refusal { IfErr result answers.RefusesStart }
-    ensures reads { access.Reads forms.AreFormed (fails result) (K.store keeper.old) (K.store keeper.new) }
+    ensures prepared { IfSome (K.store keeper.new).rows (λ found. Prepares (answers.start_effect found capacity) (answers.next_boot found) result) }
+    ensures listed { IfErr result answers.RefusesStart }
+    ensures reads { access.Reads AreFormed (fails log_store result) (K.store keeper.old) (K.store keeper.new) }
 {
     let boot = boot_of(alloc, keeper)?;
     if boot >= MAX {
@@ -75,41 +67,31 @@ fn start_changes(
     capacity: u64,
     boot: u64,
 ) -> Result<List<Change>, AllocError>
-    ensures changes { IfOk result (λ changes. (cell : Option the_cell.Cell) → is_some cell ≡ is_kept
+    ensures { IfOk result (λ changes. (cell : Option the_cell.Cell) → is_some cell ≡ is_kept
         → changes ≡ windows.capacity_changes capacity cell ++ Change.Put (record { key = keys.boot_key; value = boot; body = [] }) ∷ []) }
-    ensures some { IfOk result (λ changes. access.is_idle changes ≡ false) }
 {
     let mut changes = List::new(alloc);
     if !is_kept {
-        push_number(&mut changes, capacity_key(alloc), capacity)?;
+        push_number_row(&mut changes, capacity_key(alloc), capacity)?;
     }
-    push_number(&mut changes, boot_key(alloc), boot)?;
+    push_number_row(&mut changes, boot_key(alloc), boot)?;
     Ok(changes)
 }
 
-/// Opens the store, and writes an event.
-pub fn write_in<K: Keeper>(keeper: &mut K, event: &PlainEvent) -> Result<u64, LogFault>
-    ensures { Does (λ found. answers.write_effect found event.now) (λ found. windows.last_of found event.now.channel + 1) result (K.store keeper.old) (K.store keeper.new) }
+/// Writes an event as the next record of its channel, and answers its number.
+pub fn write_in<K: Keeper>(keeper: &mut K, event: &Event) -> Result<u64, LogFault>
+    ensures { IsCall log_store AreFormed (λ found. answers.write_effect found event.now) (λ found. answers.next_number found event.now) result (K.store keeper.old) (K.store keeper.new) }
 {
     access::open(keeper)?;
-    write_ready(keeper, event)
-}
-
-/// Writes an event as the next record of its channel, and answers its number.
-fn write_ready<K: Keeper>(keeper: &mut K, event: &PlainEvent) -> Result<u64, LogFault>
-    requires { access.IsReady (K.store keeper.old) }
-    ensures { DoesReady (λ found. answers.write_effect found event.now) (λ found. windows.last_of found event.now.channel + 1) result (K.store keeper.old) (K.store keeper.new) }
-{
     let prepared = prepared_write(keeper, event)?;
     access::commit(keeper, &prepared.changes)?;
     Ok(prepared.number)
 }
 
-fn prepared_write<K: Keeper>(keeper: &mut K, event: &PlainEvent) -> Result<Prepared, LogFault>
+fn prepared_write<K: Keeper>(keeper: &mut K, event: &Event) -> Result<Prepared, LogFault>
     requires { access.IsReady (K.store keeper.old) }
-    ensures prepared { IfSome (K.store keeper.new).rows (λ found. Prepares (answers.write_effect found event.now) (windows.last_of found event.now.channel + 1) result) }
-    ensures some { IfOk result (λ prepared. access.is_idle prepared.changes ≡ false) }
-    ensures reads { access.Reads forms.AreFormed (fails result) (K.store keeper.old) (K.store keeper.new) }
+    ensures prepared { IfSome (K.store keeper.new).rows (λ found. Prepares (answers.write_effect found event.now) (answers.next_number found event.now) result) }
+    ensures reads { access.Reads AreFormed (fails log_store result) (K.store keeper.old) (K.store keeper.new) }
 {
     let last = last_of(keeper, &event.channel)?;
     if last >= MAX {
@@ -117,15 +99,33 @@ fn prepared_write<K: Keeper>(keeper: &mut K, event: &PlainEvent) -> Result<Prepa
     }
     let capacity = capacity_of(keeper, &event.channel)?;
     let number = last + 1;
-    let next = event.numbered(number)?;
+    let next = with_number(event, number)?;
     let changes = write_changes(capacity, next)?;
     Ok(Prepared { changes, number })
 }
 
+/// The event with its number. Numbering refuses nothing but what is too long then.
+fn with_number(event: &Event, number: u64) -> Result<Event, LogFault>
+    requires least { 1 ≤ number }
+    requires greatest { number ≤ MAX }
+    ensures numbered { IfOk result (λ next. numbering.numbered event.now number ≡ Some next) }
+    ensures channel { IfOk result (λ next. next.channel ≡ event.now.channel) }
+    ensures number { IfOk result (λ next. next.number ≡ number) }
+    ensures refusal { IfErr result (RefusesNumber (numbering.numbered event.now number)) }
+{
+    match event.with_number(number) {
+        Ok(next) => Ok(next),
+        Err(EventFault::NoMemory) => Err(LogFault::NoMemory),
+        Err(EventFault::TooLong) => Err(LogFault::TooLong),
+        Err(EventFault::BadEvent { .. } | EventFault::NoChannel | EventFault::NoRecordId) => {
+            unreachable!()
+        }
+    }
+}
+
 /// What a record changes as the last of its channel.
 fn write_changes(capacity: u64, next: Event) -> Result<List<Change>, AllocError>
-    ensures changes { IfOk result (λ changes. changes ≡ windows.write_changes capacity next.channel next.number next.text) }
-    ensures some { IfOk result (λ changes. access.is_idle changes ≡ false) }
+    ensures { IfOk result (λ changes. changes ≡ windows.write_changes capacity next.channel next.number next.text) }
 {
     let (channel, number, text) = next.into_parts();
     let mut changes = List::new(channel.as_text().alloc());
@@ -134,12 +134,13 @@ fn write_changes(capacity: u64, next: Event) -> Result<List<Change>, AllocError>
         value: 0,
         body: text,
     }))?;
-    push_number(&mut changes, last_key(&channel)?, number)?;
+    push_number_row(&mut changes, last_key(&channel)?, number)?;
     push_leaving(&mut changes, capacity, &channel, number)?;
     Ok(changes)
 }
 
-fn push_number(changes: &mut List<Change>, key: Key, number: u64) -> Result<(), AllocError>
+/// Puts the row of a number.
+fn push_number_row(changes: &mut List<Change>, key: Key, number: u64) -> Result<(), AllocError>
     ensures { OnOk result (changes.new ≡ changes.old ++ Change.Put (record { key = key; value = number; body = [] }) ∷ []) }
 {
     let body = Text::new(key.channel.alloc());

@@ -2,8 +2,7 @@
 
 use std::alloc::AllocError;
 use thiserror::Error;
-use wef_event::EventFault;
-use wef_keeper::access::StoreFault;
+use wef_keeper::StoreFault;
 
 /// Why the log refuses a call. Its rows are as before after each refusal but `Failed`.
 #[derive(Clone, Copy, Debug, PartialEq, Eq, Error)]
@@ -32,29 +31,11 @@ impl From<AllocError> for LogFault {
     }
 }
 
-impl From<EventFault> for LogFault {
-    ghost use Rattle.std.specs.Prelude.{◌≡◌};
-    ghost use Rattle.wef_source_log.specs.Answers.{log_fault};
-
-    ghost from_gives = { λ fault e. e ≡ log_fault fault };
-
-    fn from(fault: EventFault) -> LogFault {
-        match fault {
-            EventFault::NoMemory => LogFault::NoMemory,
-            EventFault::TooLong => LogFault::TooLong,
-            // The log makes events of plain words alone, and those are refused as too long at most.
-            EventFault::BadEvent { .. } | EventFault::NoChannel | EventFault::NoRecordId => {
-                LogFault::Failed
-            }
-        }
-    }
-}
-
 impl From<StoreFault> for LogFault {
     ghost use Rattle.std.specs.Prelude.{◌≡◌};
-    ghost use Rattle.wef_source_log.specs.Answers.{kept_fault};
+    ghost use Rattle.wef_source_log.specs.Faults.{log_fault};
 
-    ghost from_gives = { λ fault e. e ≡ kept_fault fault };
+    ghost from_gives = { λ fault e. e ≡ log_fault fault };
 
     fn from(fault: StoreFault) -> LogFault {
         match fault {

@@ -4,6 +4,7 @@ ghost use Rattle.std.specs.Prelude.{◌≡◌, ◌==◌, ◌&&◌, is_some, IfOk
 ghost use Rattle.wef_source_log.specs.Forms as forms;
 ghost use Rattle.wef_source_log.specs.Windows.{event_of_row};
 
+use crate::keys::{BOOT, CAPACITY, LAST, RECORD};
 use std::alloc::AllocError;
 use wef_base::numbers::MAX;
 use wef_base::{ChannelName, Text, ValueFault};
@@ -16,10 +17,10 @@ pub fn is_formed(row: &Row) -> Result<bool, AllocError>
     ensures { IfOk result (λ formed. formed ≡ forms.is_formed row.now) }
 {
     match row.key.kind {
-        9 => is_record(row),
-        10 => is_last(row),
-        11 => Ok(is_capacity(row)),
-        12 => Ok(is_boot(row)),
+        RECORD => is_record(row),
+        LAST => is_last(row),
+        CAPACITY => Ok(is_capacity(row)),
+        BOOT => Ok(is_boot(row)),
         _ => Ok(true),
     }
 }
@@ -32,8 +33,8 @@ fn is_record(row: &Row) -> Result<bool, AllocError>
 
 /// The event of a record. None where the row isn't a record.
 pub fn event_of(row: &Row) -> Result<Option<Event>, AllocError>
-    ensures some { IfOk result (λ found. is_some found ≡ forms.is_record row.now) }
-    ensures value { IfOk result (λ found. IfSome found (λ event. event ≡ event_of_row row.now.key.channel row.now)) }
+    ensures some { IfOk result (λ event. is_some event ≡ forms.is_record row.now) }
+    ensures value { IfOk result (λ event. IfSome event (λ event. event ≡ event_of_row row.now.key.channel row.now)) }
 {
     let Some(channel) = record_channel(row)? else {
         return Ok(None);
@@ -43,8 +44,8 @@ pub fn event_of(row: &Row) -> Result<Option<Event>, AllocError>
 
 /// The channel of a row that has a record's key and its value.
 fn record_channel(row: &Row) -> Result<Option<ChannelName>, AllocError>
-    ensures some { IfOk result (λ found. is_some found ≡ (forms.is_record_key row.now.key && row.now.value == 0)) }
-    ensures value { IfOk result (λ found. IfSome found (λ name. name ≡ row.now.key.channel)) }
+    ensures some { IfOk result (λ name. is_some name ≡ (forms.is_record_key row.now.key && row.now.value == 0)) }
+    ensures value { IfOk result (λ name. IfSome name (λ name. name ≡ row.now.key.channel)) }
 {
     let number = row.key.number;
     let formed = is_nameless(&row.key) && 1 <= number && number <= MAX && row.value == 0;
@@ -97,8 +98,8 @@ fn is_nameless(key: &Key) -> bool
 
 /// The channel's name that a text is. None where it doesn't read back as itself.
 fn channel_of(text: &Text) -> Result<Option<ChannelName>, AllocError>
-    ensures some { IfOk result (λ found. is_some found ≡ forms.is_channel text.now) }
-    ensures value { IfOk result (λ found. IfSome found (λ name. name ≡ text.now)) }
+    ensures some { IfOk result (λ name. is_some name ≡ forms.is_channel text.now) }
+    ensures value { IfOk result (λ name. IfSome name (λ name. name ≡ text.now)) }
 {
     match ChannelName::read(text) {
         Ok(name) if name.as_text() == text => Ok(Some(name)),

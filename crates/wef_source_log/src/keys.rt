@@ -7,18 +7,30 @@ use std::alloc::{AllocError, Global};
 use wef_base::{ChannelName, Text};
 use wef_keeper::Key;
 
+/// The kind of the row of a record.
+pub const RECORD: u8 = 9;
+
+/// The kind of the row of a channel's last number.
+pub const LAST: u8 = 10;
+
+/// The kind of the row of the capacity.
+pub const CAPACITY: u8 = 11;
+
+/// The kind of the row of the boot number.
+pub const BOOT: u8 = 12;
+
 /// The key of a record, by its number.
 pub fn record_key(channel: &ChannelName, number: u64) -> Result<Key, AllocError>
     ensures { IfOk result (λ key. key ≡ keys.record_key channel.now number) }
 {
-    channel_key(9, channel, number)
+    channel_key(RECORD, channel, number)
 }
 
 /// The key of a channel's last number.
 pub fn last_key(channel: &ChannelName) -> Result<Key, AllocError>
     ensures { IfOk result (λ key. key ≡ keys.last_key channel.now) }
 {
-    channel_key(10, channel, 0)
+    channel_key(LAST, channel, 0)
 }
 
 fn channel_key(kind: u8, channel: &ChannelName, number: u64) -> Result<Key, AllocError>
@@ -38,14 +50,14 @@ fn channel_key(kind: u8, channel: &ChannelName, number: u64) -> Result<Key, Allo
 pub fn capacity_key(alloc: Global) -> Key
     ensures { result ≡ keys.capacity_key }
 {
-    end_key(alloc, 11)
+    end_key(alloc, CAPACITY)
 }
 
-/// The key of the start number. It takes no memory.
+/// The key of the boot number. It takes no memory.
 pub fn boot_key(alloc: Global) -> Key
     ensures { result ≡ keys.boot_key }
 {
-    end_key(alloc, 12)
+    end_key(alloc, BOOT)
 }
 
 fn end_key(alloc: Global, kind: u8) -> Key

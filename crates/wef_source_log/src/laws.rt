@@ -2,7 +2,7 @@
 
 ghost use Rattle.wef_source_log.specs.Laws.{FormsStay, NothingIsEmpty, StartsKeep, WindowsRead};
 
-/// What a window's rows give: the capacity, the start number, and of each channel the last number,
+/// What a window's rows give: the capacity, the boot number, and of each channel the last number,
 /// the first one, and the records of its history from there on. No rows have the window of no
 /// history, and a start keeps the window.
 pub fn windows_read()

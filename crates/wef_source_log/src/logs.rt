@@ -1,14 +1,15 @@
 //! The log.
 
-ghost use Rattle.std.specs.Prelude.{◌≡◌, ◌+◌, ◌<◌, ◌≤◌, ◌++◌, take, false, is_some, IfOk, IfErr, IfSome, OnOk, MatchResult};
+ghost use Rattle.std.specs.Prelude.{◌≡◌, ◌<◌, ◌≤◌, ◌++◌, take, IfOk, IfErr, IfSome, MatchResult};
 ghost use Rattle.std.specs.List.{AllByRecursion};
-ghost use Rattle.std.specs.declared.option.Option.TheVariants.{None, Some};
 ghost use Rattle.wef_event.specs.Events as the_event;
 ghost use Rattle.wef_keeper.specs.Access as access;
+ghost use Rattle.wef_keeper.specs.Calls.{IsCall, Looks, fails};
+ghost use Rattle.wef_keeper.specs.Keeping as keeping;
+ghost use Rattle.wef_keeper.specs.declared.keeping.Plan.TheVariants.{Done, Fails};
 ghost use Rattle.wef_source_log.specs.Answers as answers;
-ghost use Rattle.wef_source_log.specs.Calls as calls;
-ghost use Rattle.wef_source_log.specs.Calls.{fails};
-ghost use Rattle.wef_source_log.specs.Forms as forms;
+ghost use Rattle.wef_source_log.specs.Faults.{log_store};
+ghost use Rattle.wef_source_log.specs.Forms.{AreFormed};
 ghost use Rattle.wef_source_log.specs.Windows as windows;
 
 use crate::changing::{start_in, write_in};
@@ -16,8 +17,8 @@ use crate::faults::LogFault;
 use crate::reading::{first_of, last_of, page_of};
 use std::alloc::Global;
 use wef_base::{ChannelName, List};
-use wef_event::{Event, PlainEvent};
-use wef_keeper::{Keeper, MemKeeper, access};
+use wef_event::Event;
+use wef_keeper::{Keeper, MemKeeper, Plan, access};
 
 /// A log that keeps the last records of each channel in a store.
 #[derive(Drop)]
@@ -27,16 +28,16 @@ pub struct Log<K> {
 }
 
 impl<K: Keeper> Log<K> {
-    /// Starts a source over its store: the start number is one greater from now on, and 1 at the
+    /// Starts a source over its store: the boot number is one greater from now on, and 1 at the
     /// first start. The first start keeps the capacity, from 1 to 1,000,000 records a channel; later
     /// ones leave it. Both stand in one commit. A refused start hands the store back.
     pub fn start(alloc: Global, keeper: K, capacity: u64) -> Result<Log<K>, (K, LogFault)>
         requires least { 1 ≤ capacity }
         requires greatest { capacity ≤ 1000000 }
-        ensures does { MatchResult result
-            (λ log. calls.Does (λ found. answers.start_effect found capacity) (λ found. windows.boot_of found + 1) (Ok log.boot) (K.store keeper) (K.store log.keeper))
-            (λ refused. calls.Does (λ found. answers.start_effect found capacity) (λ found. windows.boot_of found + 1) (Err refused.1) (K.store keeper) (K.store refused.0)) }
-        ensures refusal { IfErr result (λ refused. answers.RefusesStart refused.1) }
+        ensures call { MatchResult result
+            (λ log. IsCall log_store AreFormed (λ found. answers.start_effect found capacity) answers.next_boot (Ok log.boot) (K.store keeper) (K.store log.keeper))
+            (λ refused. IsCall log_store AreFormed (λ found. answers.start_effect found capacity) answers.next_boot (Err refused.1) (K.store keeper) (K.store refused.0)) }
+        ensures listed { IfErr result (λ refused. answers.RefusesStart refused.1) }
     {
         let mut keeper = keeper;
         match start_in(alloc, &mut keeper, capacity) {
@@ -45,7 +46,7 @@ impl<K: Keeper> Log<K> {
         }
     }
 
-    /// The start number. It takes no memory.
+    /// The boot number. It takes no memory.
     pub fn boot(&self) -> u64
         ensures { result ≡ self.now.boot }
     {
@@ -54,17 +55,9 @@ impl<K: Keeper> Log<K> {
 
     /// Writes an event as the next record of its channel, and answers its number. Where the window
     /// is full, its first record leaves it. All of it stands in one commit.
-    pub fn write(&mut self, event: &PlainEvent) -> Result<u64, LogFault>
-        ensures answer { access.From (K.store self.old.keeper) (K.store self.new.keeper) (λ found after. calls.Answers result (answers.write_effect found event.now) found after) }
-        ensures number { access.From (K.store self.old.keeper) (K.store self.new.keeper) (λ found after. IfOk result (λ n. n ≡ windows.last_of found event.now.channel + 1)) }
+    pub fn write(&mut self, event: &Event) -> Result<u64, LogFault>
+        ensures call { IsCall log_store AreFormed (λ found. answers.write_effect found event.now) (λ found. answers.next_number found event.now) result (K.store self.old.keeper) (K.store self.new.keeper) }
         ensures window { access.From (K.store self.old.keeper) (K.store self.new.keeper) (λ found after. IfOk result (answers.ExtendsHistory found after event.now)) }
-        ensures images { calls.OnImages result (λ found. answers.write_effect found event.now) (K.store self.old.keeper) (K.store self.new.keeper) }
-        ensures planned { IfSome (K.store self.old.keeper).plan (λ planned. access.From (K.store self.old.keeper) (K.store self.new.keeper)
-            (λ found after. calls.ByPlan planned result (answers.write_effect found event.now) found after (K.store self.new.keeper))) }
-        ensures tries { calls.ByTries result (K.store self.old.keeper).tries (K.store self.new.keeper).tries }
-        ensures cause { access.HasCause forms.AreFormed (fails result) (K.store self.old.keeper) (K.store self.new.keeper) }
-        ensures faults { (K.store self.old.keeper).faults ≤ (K.store self.new.keeper).faults }
-        ensures ready { OnOk result (access.IsReady (K.store self.new.keeper)) }
         ensures boot { self.new.boot ≡ self.old.boot }
     {
         write_in(&mut self.keeper, event)
@@ -74,8 +67,7 @@ impl<K: Keeper> Log<K> {
     pub fn first(&mut self, channel: &ChannelName) -> Result<u64, LogFault>
         ensures ok { IfSome (K.store self.new.keeper).rows (λ rows. IfOk result (λ number. number ≡ windows.first_of rows channel.now)) }
         ensures refusal { IfErr result answers.RefusesRead }
-        ensures reads { access.OpensAndReads forms.AreFormed (fails result) (K.store self.old.keeper) (K.store self.new.keeper) }
-        ensures ready { OnOk result (access.IsReady (K.store self.new.keeper)) }
+        ensures looks { Looks log_store AreFormed result (K.store self.old.keeper) (K.store self.new.keeper) }
         ensures boot { self.new.boot ≡ self.old.boot }
     {
         self.open()?;
@@ -86,8 +78,7 @@ impl<K: Keeper> Log<K> {
     pub fn last(&mut self, channel: &ChannelName) -> Result<u64, LogFault>
         ensures ok { IfSome (K.store self.new.keeper).rows (λ rows. IfOk result (λ number. number ≡ windows.last_of rows channel.now)) }
         ensures refusal { IfErr result answers.RefusesRead }
-        ensures reads { access.OpensAndReads forms.AreFormed (fails result) (K.store self.old.keeper) (K.store self.new.keeper) }
-        ensures ready { OnOk result (access.IsReady (K.store self.new.keeper)) }
+        ensures looks { Looks log_store AreFormed result (K.store self.old.keeper) (K.store self.new.keeper) }
         ensures boot { self.new.boot ≡ self.old.boot }
     {
         self.open()?;
@@ -108,8 +99,7 @@ impl<K: Keeper> Log<K> {
             ≡ page ++ windows.records_after rows channel.now (windows.last_number after page))) }
         ensures above { IfOk result (AllByRecursion (λ (event : the_event.Event). after < event.number)) }
         ensures refusal { IfErr result answers.RefusesRead }
-        ensures reads { access.OpensAndReads forms.AreFormed (fails result) (K.store self.old.keeper) (K.store self.new.keeper) }
-        ensures ready { OnOk result (access.IsReady (K.store self.new.keeper)) }
+        ensures looks { Looks log_store AreFormed result (K.store self.old.keeper) (K.store self.new.keeper) }
         ensures boot { self.new.boot ≡ self.old.boot }
     {
         self.open()?;
@@ -118,10 +108,8 @@ impl<K: Keeper> Log<K> {
 
     /// Opens the store.
     pub fn open(&mut self) -> Result<(), LogFault>
-        ensures ready { OnOk result (access.IsReady (K.store self.new.keeper)) }
-        ensures found { fails result ≡ false → access.Finds (K.store self.old.keeper) (K.store self.new.keeper) }
+        ensures looks { Looks log_store access.AnyRows result (K.store self.old.keeper) (K.store self.new.keeper) }
         ensures refusal { IfErr result answers.RefusesRead }
-        ensures opened { access.OpensAndReads access.AnyRows (fails result) (K.store self.old.keeper) (K.store self.new.keeper) }
         ensures boot { self.new.boot ≡ self.old.boot }
     {
         access::open(&mut self.keeper)?;
@@ -133,7 +121,7 @@ impl<K: Keeper> Log<K> {
         requires { access.IsReady (K.store self.old.keeper) }
         ensures ok { IfSome (K.store self.new.keeper).rows (λ rows. IfOk result (λ number. number ≡ windows.first_of rows channel.now)) }
         ensures refusal { IfErr result answers.RefusesRead }
-        ensures reads { access.Reads forms.AreFormed (fails result) (K.store self.old.keeper) (K.store self.new.keeper) }
+        ensures reads { access.Reads AreFormed (fails log_store result) (K.store self.old.keeper) (K.store self.new.keeper) }
         ensures boot { self.new.boot ≡ self.old.boot }
     {
         first_of(&mut self.keeper, channel)
@@ -144,7 +132,7 @@ impl<K: Keeper> Log<K> {
         requires { access.IsReady (K.store self.old.keeper) }
         ensures ok { IfSome (K.store self.new.keeper).rows (λ rows. IfOk result (λ number. number ≡ windows.last_of rows channel.now)) }
         ensures refusal { IfErr result answers.RefusesRead }
-        ensures reads { access.Reads forms.AreFormed (fails result) (K.store self.old.keeper) (K.store self.new.keeper) }
+        ensures reads { access.Reads AreFormed (fails log_store result) (K.store self.old.keeper) (K.store self.new.keeper) }
         ensures boot { self.new.boot ≡ self.old.boot }
     {
         last_of(&mut self.keeper, channel)
@@ -164,7 +152,7 @@ impl<K: Keeper> Log<K> {
             ≡ page ++ windows.records_after rows channel.now (windows.last_number after page))) }
         ensures above { IfOk result (AllByRecursion (λ (event : the_event.Event). after < event.number)) }
         ensures refusal { IfErr result answers.RefusesRead }
-        ensures reads { access.Reads forms.AreFormed (fails result) (K.store self.old.keeper) (K.store self.new.keeper) }
+        ensures reads { access.Reads AreFormed (fails log_store result) (K.store self.old.keeper) (K.store self.new.keeper) }
         ensures boot { self.new.boot ≡ self.old.boot }
     {
         page_of(&mut self.keeper, channel, after, max)
@@ -180,23 +168,30 @@ impl<K: Keeper> Log<K> {
 }
 
 impl Log<MemKeeper> {
+    /// Plans the next commit of the store.
+    pub fn arrange(&mut self, plan: Plan)
+        ensures { self.new ≡ record self.old { keeper = record self.old.keeper { plan = plan } } }
+    {
+        self.keeper.arrange(plan);
+    }
+
     /// Arms the next commit of the store: it fails, and its changes are kept where `after` is true.
     pub fn fail_next(&mut self, after: bool)
-        ensures { self.new ≡ record self.old { keeper = record self.old.keeper { armed = Some after } } }
+        ensures { self.new ≡ record self.old { keeper = record self.old.keeper { plan = Fails after } } }
     {
         self.keeper.fail_next(after);
     }
 
     /// Disarms the next commit of the store.
     pub fn calm(&mut self)
-        ensures { self.new ≡ record self.old { keeper = record self.old.keeper { armed = None } } }
+        ensures { self.new ≡ record self.old { keeper = record self.old.keeper { plan = Done } } }
     {
         self.keeper.calm();
     }
 
     /// Whether the next commit of the store is armed.
     pub fn is_armed(&self) -> bool
-        ensures { result ≡ is_some self.now.keeper.armed }
+        ensures { result ≡ keeping.is_armed self.now.keeper.plan }
     {
         self.keeper.is_armed()
     }

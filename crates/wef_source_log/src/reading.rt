@@ -4,9 +4,10 @@ ghost use Rattle.std.specs.Prelude.{◌≡◌, ◌<◌, ◌≤◌, ◌++◌, fal
 ghost use Rattle.std.specs.List.{AllByRecursion, list_all};
 ghost use Rattle.wef_event.specs.Events as the_event;
 ghost use Rattle.wef_keeper.specs.Access as access;
+ghost use Rattle.wef_keeper.specs.Calls.{fails};
 ghost use Rattle.wef_keeper.specs.Keeping.{row_at};
 ghost use Rattle.wef_source_log.specs.Answers as answers;
-ghost use Rattle.wef_source_log.specs.Calls.{fails};
+ghost use Rattle.wef_source_log.specs.Faults.{log_store};
 ghost use Rattle.wef_source_log.specs.Forms as forms;
 ghost use Rattle.wef_source_log.specs.Keys as keys;
 ghost use Rattle.wef_source_log.specs.Windows as windows;
@@ -24,32 +25,32 @@ use wef_keeper::{Depth, Keeper, Key, Row, access};
 pub fn formed_row<K: Keeper>(keeper: &mut K, key: &Key) -> Result<Option<Row>, LogFault>
     requires { access.IsReady (K.store keeper.old) }
     ensures row { IfSome (K.store keeper.new).rows (λ rows. IfOk result (λ row. row ≡ row_at key.now rows)) }
-    ensures formed { IfOk result (λ found. IfSome found (λ row. forms.is_formed row ≡ true)) }
+    ensures formed { IfOk result (λ row. IfSome row (λ row. forms.is_formed row ≡ true)) }
     ensures refusal { IfErr result answers.RefusesRead }
-    ensures reads { access.Reads forms.AreFormed (fails result) (K.store keeper.old) (K.store keeper.new) }
+    ensures reads { access.Reads forms.AreFormed (fails log_store result) (K.store keeper.old) (K.store keeper.new) }
 {
-    let found = access::row(keeper, key)?;
-    whole(found)
+    let row = access::row(keeper, key)?;
+    whole(row)
 }
 
 /// A row, or none. `Failed` where there is one that isn't of its form.
-fn whole(found: Option<Row>) -> Result<Option<Row>, LogFault>
-    ensures row { IfOk result (λ row. row ≡ found) }
-    ensures formed { IfOk result (λ row. forms.is_whole row ≡ true) }
-    ensures failed { fails result ≡ true → forms.is_whole found ≡ false }
+fn whole(row: Option<Row>) -> Result<Option<Row>, LogFault>
+    ensures row { IfOk result (λ whole. whole ≡ row) }
+    ensures formed { IfOk result (λ whole. forms.is_whole whole ≡ true) }
+    ensures failed { fails log_store result ≡ true → forms.is_whole row ≡ false }
     ensures refusal { IfErr result answers.RefusesRead }
 {
-    if !is_whole(&found)? {
+    if !is_whole(&row)? {
         return Err(LogFault::Failed);
     }
-    Ok(found)
+    Ok(row)
 }
 
 /// Whether a row, where there is one, is of its form.
-fn is_whole(found: &Option<Row>) -> Result<bool, AllocError>
-    ensures { IfOk result (λ whole. whole ≡ forms.is_whole found.now) }
+fn is_whole(row: &Option<Row>) -> Result<bool, AllocError>
+    ensures { IfOk result (λ whole. whole ≡ forms.is_whole row.now) }
 {
-    match found {
+    match row {
         Some(row) => is_formed(row),
         None => Ok(true),
     }
@@ -60,9 +61,9 @@ pub fn number_at<K: Keeper>(keeper: &mut K, key: &Key) -> Result<u64, LogFault>
     requires number { forms.has_number key.now.kind ≡ true }
     requires ready { access.IsReady (K.store keeper.old) }
     ensures number { IfSome (K.store keeper.new).rows (λ rows. IfOk result (λ number. number ≡ windows.number_at rows key.now)) }
-    ensures within { IfOk result (λ number. number ≤ 9223372036854775807) }
+    ensures within { IfOk result (λ number. number ≤ MAX) }
     ensures refusal { IfErr result answers.RefusesRead }
-    ensures reads { access.Reads forms.AreFormed (fails result) (K.store keeper.old) (K.store keeper.new) }
+    ensures reads { access.Reads forms.AreFormed (fails log_store result) (K.store keeper.old) (K.store keeper.new) }
 {
     let Some(row) = formed_row(keeper, key)? else {
         return Ok(0);
@@ -77,9 +78,9 @@ pub fn number_at<K: Keeper>(keeper: &mut K, key: &Key) -> Result<u64, LogFault>
 pub fn last_of<K: Keeper>(keeper: &mut K, channel: &ChannelName) -> Result<u64, LogFault>
     requires { access.IsReady (K.store keeper.old) }
     ensures number { IfSome (K.store keeper.new).rows (λ rows. IfOk result (λ number. number ≡ windows.last_of rows channel.now)) }
-    ensures within { IfOk result (λ number. number ≤ 9223372036854775807) }
+    ensures within { IfOk result (λ number. number ≤ MAX) }
     ensures refusal { IfErr result answers.RefusesRead }
-    ensures reads { access.Reads forms.AreFormed (fails result) (K.store keeper.old) (K.store keeper.new) }
+    ensures reads { access.Reads forms.AreFormed (fails log_store result) (K.store keeper.old) (K.store keeper.new) }
 {
     let key = last_key(channel)?;
     number_at(keeper, &key)
@@ -89,9 +90,9 @@ pub fn last_of<K: Keeper>(keeper: &mut K, channel: &ChannelName) -> Result<u64, 
 pub fn capacity_of<K: Keeper>(keeper: &mut K, channel: &ChannelName) -> Result<u64, LogFault>
     requires { access.IsReady (K.store keeper.old) }
     ensures number { IfSome (K.store keeper.new).rows (λ rows. IfOk result (λ number. number ≡ windows.capacity_of rows)) }
-    ensures within { IfOk result (λ number. number ≤ 9223372036854775807) }
+    ensures within { IfOk result (λ number. number ≤ MAX) }
     ensures refusal { IfErr result answers.RefusesRead }
-    ensures reads { access.Reads forms.AreFormed (fails result) (K.store keeper.old) (K.store keeper.new) }
+    ensures reads { access.Reads forms.AreFormed (fails log_store result) (K.store keeper.old) (K.store keeper.new) }
 {
     let key = capacity_key(channel.as_text().alloc());
     number_at(keeper, &key)
@@ -102,7 +103,7 @@ pub fn has_capacity<K: Keeper>(alloc: Global, keeper: &mut K) -> Result<bool, Lo
     requires { access.IsReady (K.store keeper.old) }
     ensures kept { IfSome (K.store keeper.new).rows (λ rows. IfOk result (λ kept. kept ≡ is_some (row_at keys.capacity_key rows))) }
     ensures refusal { IfErr result answers.RefusesRead }
-    ensures reads { access.Reads forms.AreFormed (fails result) (K.store keeper.old) (K.store keeper.new) }
+    ensures reads { access.Reads forms.AreFormed (fails log_store result) (K.store keeper.old) (K.store keeper.new) }
 {
     let key = capacity_key(alloc);
     is_kept(keeper, &key)
@@ -113,7 +114,7 @@ fn is_kept<K: Keeper>(keeper: &mut K, key: &Key) -> Result<bool, LogFault>
     requires { access.IsReady (K.store keeper.old) }
     ensures kept { IfSome (K.store keeper.new).rows (λ rows. IfOk result (λ kept. kept ≡ is_some (row_at key.now rows))) }
     ensures refusal { IfErr result answers.RefusesRead }
-    ensures reads { access.Reads forms.AreFormed (fails result) (K.store keeper.old) (K.store keeper.new) }
+    ensures reads { access.Reads forms.AreFormed (fails log_store result) (K.store keeper.old) (K.store keeper.new) }
 {
     Ok(formed_row(keeper, key)?.is_some())
 }
@@ -122,9 +123,9 @@ fn is_kept<K: Keeper>(keeper: &mut K, key: &Key) -> Result<bool, LogFault>
 pub fn boot_of<K: Keeper>(alloc: Global, keeper: &mut K) -> Result<u64, LogFault>
     requires { access.IsReady (K.store keeper.old) }
     ensures number { IfSome (K.store keeper.new).rows (λ rows. IfOk result (λ number. number ≡ windows.boot_of rows)) }
-    ensures within { IfOk result (λ number. number ≤ 9223372036854775807) }
+    ensures within { IfOk result (λ number. number ≤ MAX) }
     ensures refusal { IfErr result answers.RefusesRead }
-    ensures reads { access.Reads forms.AreFormed (fails result) (K.store keeper.old) (K.store keeper.new) }
+    ensures reads { access.Reads forms.AreFormed (fails log_store result) (K.store keeper.old) (K.store keeper.new) }
 {
     let key = boot_key(alloc);
     number_at(keeper, &key)
@@ -135,7 +136,7 @@ pub fn first_of<K: Keeper>(keeper: &mut K, channel: &ChannelName) -> Result<u64,
     requires { access.IsReady (K.store keeper.old) }
     ensures number { IfSome (K.store keeper.new).rows (λ rows. IfOk result (λ number. number ≡ windows.first_of rows channel.now)) }
     ensures refusal { IfErr result answers.RefusesRead }
-    ensures reads { access.Reads forms.AreFormed (fails result) (K.store keeper.old) (K.store keeper.new) }
+    ensures reads { access.Reads forms.AreFormed (fails log_store result) (K.store keeper.old) (K.store keeper.new) }
 {
     let capacity = capacity_of(keeper, channel)?;
     let last = last_of(keeper, channel)?;
@@ -144,7 +145,7 @@ pub fn first_of<K: Keeper>(keeper: &mut K, channel: &ChannelName) -> Result<u64,
 
 /// The first number of the window whose last number is this one.
 fn first_for(capacity: u64, last: u64) -> u64
-    requires { last ≤ 9223372036854775807 }
+    requires { last ≤ MAX }
     ensures { result ≡ windows.first_for capacity last }
 {
     if last < capacity {
@@ -167,7 +168,7 @@ pub fn page_of<K: Keeper>(
         ≡ page ++ windows.records_after rows channel.now (windows.last_number after page))) }
     ensures above { IfOk result (AllByRecursion (λ (event : the_event.Event). after < event.number)) }
     ensures refusal { IfErr result answers.RefusesRead }
-    ensures reads { access.Reads forms.AreFormed (fails result) (K.store keeper.old) (K.store keeper.new) }
+    ensures reads { access.Reads forms.AreFormed (fails log_store result) (K.store keeper.old) (K.store keeper.new) }
 {
     let rows = {
         let start = record_key(channel, after)?;
@@ -181,8 +182,8 @@ pub fn page_of<K: Keeper>(
 
 /// The events of records. None where a row isn't a record.
 fn events_of(alloc: Global, rows: &[Row]) -> Result<Option<List<Event>>, AllocError>
-    ensures some { IfOk result (λ found. is_some found ≡ list_all forms.is_record rows.now) }
-    ensures value { IfOk result (λ found. IfSome found (λ events. events ≡ map (λ row. windows.event_of_row row.key.channel row) rows.now)) }
+    ensures some { IfOk result (λ events. is_some events ≡ list_all forms.is_record rows.now) }
+    ensures value { IfOk result (λ events. IfSome events (λ events. events ≡ map (λ row. windows.event_of_row row.key.channel row) rows.now)) }
 {
     let mut events = List::new(alloc);
     for row in rows {

@@ -2,12 +2,12 @@ use Rattle.std.proofs.Common.{◌≡◌, ◌<◌, ◌++◌, rules, false, take, 
 use Rattle.std.specs.List.{AllByRecursion, list_all}
 use Rattle.wef_event.specs.Events.{Event}
 use Rattle.wef_keeper.specs.declared.keys.Row.{Row}
-use Rattle.wef_source_log.specs.Forms.{is_record}
+use Rattle.wef_keeper.proofs.ReadsOf.{ill_formed}
+use Rattle.wef_source_log.specs.Forms.{AreFormed, is_record}
 use Rattle.wef_source_log.specs.Windows.{event_of_row, last_number, records_after}
 use Rattle.wef_source_log.proofs.Contents.{records_above}
 use Rattle.wef_source_log.proofs.Forming.{no_record}
 use Rattle.wef_source_log.proofs.Pages.{is_told_page, is_told_rest, own_events}
-use Rattle.wef_source_log.proofs.ReadsOf.{ill_formed}
 use Rattle.wef_source_log.proofs.reading.page_of.Goals as goal
 
 -- the events are those of the channel's rows
@@ -40,5 +40,5 @@ pub returns-clause-reads : goal.returns-clause-reads
 returns-clause-reads g c =
     let ill : list_all is_record c.in_ok-rows.rows ≡ false = search rules in
     let store = g.K.Keeper.store c.section_page.new.keeper in
-    ill_formed (g.K.Keeper.store c.args.keeper.now) store c.in_ok-rows.ensures.reads.0
+    ill_formed AreFormed (g.K.Keeper.store c.args.keeper.now) store c.in_ok-rows.ensures.reads.0
     (no_record store.rows c.args.max c.args.channel.now c.args.after _ c.in_ok-rows.rows c.in_ok-start.ensures c.in_ok-rows.ensures.behind ill c.in_ok-rows.ensures.page)
