@@ -2,7 +2,7 @@
 //! so that both can be measured.
 #![tactic(auto)]
 
-ghost use Rattle.wef_tree.specs.Good.{IsGoodTree};
+ghost use Rattle.wef_xml.specs.Good.{IsGoodTree};
 
 use std::alloc::Global;
 use std::env;

@@ -1,7 +1,7 @@
 //! Trees, written out as `{namespace}name[attribute=value](child 'text')`, whose parts are left out
 //! where they are empty.
 
-ghost use Rattle.wef_tree.specs.Good.{IsGoodTree};
+ghost use Rattle.wef_xml.specs.Good.{IsGoodTree};
 
 use std::alloc::{AllocError, Global};
 use wef_base::{Attribute, Charset, Element, List, Namespace, Node, Text};

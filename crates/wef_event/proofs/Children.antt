@@ -7,9 +7,9 @@ use Rattle.wef_base.specs.declared.tree.Attribute.{Attribute}
 use Rattle.wef_base.specs.declared.tree.Element.{Element}
 use Rattle.wef_base.specs.declared.tree.Node.{Node, Chars, Element', Row_of-Node, end_of-Node, more_of-Node, items-the_row-Node, items_shown-the_row-Node-0, out-Node, Node-F}
 use Rattle.wef_base.specs.declared.tree.Node.TheVariants.{Element as Child, outs-Chars, outs-Element, outs-Element'}
-use Rattle.wef_tree.specs.Good.{AreGoodNodes, IsGoodElement, IsGoodNode, IsGoodRow, are_apart, is_text}
-use Rattle.wef_tree.proofs.GoodNodes.{good_child, is_no_text}
-use Rattle.wef_tree.proofs.GoodOpens.{one_name}
+use Rattle.wef_xml.specs.Good.{AreGoodNodes, IsGoodElement, IsGoodNode, IsGoodRow, are_apart, is_text}
+use Rattle.wef_xml.proofs.GoodNodes.{good_child, is_no_text}
+use Rattle.wef_tree_reading.proofs.GoodOpens.{one_name}
 use Rattle.wef_event.specs.Numbering.{changed_here, with_first_changed}
 use Rattle.wef_event.specs.Paths.{first_child, if_named, named}
 

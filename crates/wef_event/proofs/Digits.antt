@@ -13,8 +13,8 @@ use Rattle.wef_base.specs.Names.{is_space, trimmed, trimmed_characters, unless_l
 use Rattle.wef_base.specs.Numbers.{has_leading_zero, is_digit, is_numeral, number_within, plain_number}
 use Rattle.wef_base.specs.declared.numbers.TheConstants.{MAX}
 use Rattle.wef_base.proofs.Decimals.{plain_number-decimal}
-use Rattle.wef_tree.specs.Canonical.{text_char, text_of}
-use Rattle.wef_tree.specs.Good.{IsXmlText}
+use Rattle.wef_xml.specs.Canonical.{text_char, text_of}
+use Rattle.wef_xml.specs.Good.{IsXmlText}
 use Rattle.wef_event.specs.Paths.{number_of_digits, unless_zero}
 
 -- each of the ten

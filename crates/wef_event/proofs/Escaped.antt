@@ -6,7 +6,7 @@ use Rattle.std.proofs.Math.Utf8.{encode}
 use Rattle.std.proofs.StrCases.{chars_of_empty}
 use Rattle.std.proofs.lemmas.Str.{chars_past_char, encodes-append}
 use Rattle.wef_base.specs.Numbers.{is_digit}
-use Rattle.wef_tree.specs.Canonical.{text_char, text_of}
+use Rattle.wef_xml.specs.Canonical.{text_char, text_of}
 use Rattle.wef_event.specs.Characters.{escape, escaped}
 use Rattle.wef_event.proofs.Digits.{digits_encoded, digits_text_of}
 

@@ -10,10 +10,10 @@ use Rattle.wef_base.specs.Numbers.{is_numeral, number_within}
 use Rattle.wef_base.specs.declared.numbers.TheConstants.{MAX}
 use Rattle.wef_base.specs.declared.tree.Charset.TheVariants.{Utf8}
 use Rattle.wef_base.specs.declared.tree.Element.{Element}
-use Rattle.wef_tree.specs.Documents.{GivesTree, tree_of}
-use Rattle.wef_tree.specs.Good.{IsGoodTree}
-use Rattle.wef_tree.specs.declared.faults.TreeFault.{TreeFault}
-use Rattle.wef_tree.proofs.Functions.{is_given}
+use Rattle.wef_tree_reading.specs.Documents.{GivesTree, tree_of}
+use Rattle.wef_xml.specs.Good.{IsGoodTree}
+use Rattle.wef_xml.specs.declared.faults.TreeFault.{TreeFault}
+use Rattle.wef_tree_reading.proofs.Functions.{is_given}
 use Rattle.wef_tree.proofs.SpellsAgain.{spells_again}
 use Rattle.wef_event.specs.Events.{Event, HasTree, IsEventOf, event_in, event_limit, event_of, event_or_none, is_event, is_event_root, is_found, number_or, text_of_tree, unless_long, with_number_found}
 use Rattle.wef_event.specs.Paths.{channel_in, field_in, number_in, number_of_digits, text_inside, unless_zero}

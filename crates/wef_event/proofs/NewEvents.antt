@@ -11,8 +11,8 @@ use Rattle.wef_base.specs.declared.tree.Charset.TheVariants.{Utf8}
 use Rattle.wef_base.specs.declared.tree.Element.{Element}
 use Rattle.wef_base.specs.declared.tree.Node.{Node, Chars}
 use Rattle.wef_base.specs.declared.tree.Node.TheVariants.{Element as Child}
-use Rattle.wef_tree.specs.Documents.{tree_of}
-use Rattle.wef_tree.specs.Scopes.{is_empty}
+use Rattle.wef_tree_reading.specs.Documents.{tree_of}
+use Rattle.wef_xml.specs.Spaces.{is_empty}
 use Rattle.wef_event.specs.Events.{Event, event_limit, event_of, event_or_none, unless_long}
 use Rattle.wef_event.specs.Numbering.{changed_here, new_field, numbered, numbered_by, numbered_children, numbered_root, numbered_system, record_id, with_first_changed, with_number, with_only}
 use Rattle.wef_event.specs.PlainEvent.{MakesEvent, event_space, plain_text, plain_tree}

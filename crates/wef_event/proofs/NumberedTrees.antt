@@ -16,8 +16,8 @@ use Rattle.wef_base.specs.declared.numbers.TheConstants.{MAX}
 use Rattle.wef_base.specs.declared.tree.Element.{Element}
 use Rattle.wef_base.specs.declared.tree.Node.{Node, Chars}
 use Rattle.wef_base.specs.declared.tree.Node.TheVariants.{Element as Child}
-use Rattle.wef_tree.specs.Good.{AreGoodNodes, IsGoodElement, IsGoodText, IsGoodTree, IsXmlText}
-use Rattle.wef_tree.proofs.GoodOpens.{AreGoodChildren, with_good_child}
+use Rattle.wef_xml.specs.Good.{AreGoodNodes, IsGoodElement, IsGoodText, IsGoodTree, IsXmlText}
+use Rattle.wef_tree_reading.proofs.GoodOpens.{AreGoodChildren, with_good_child}
 use Rattle.wef_tree.proofs.GoodPrefixes.{plain_name_is}
 use Rattle.wef_event.specs.Events.{Event, Gives, IsEventOf, event_limit, event_of, event_or_none, number_or, text_of_tree, unless_long, with_number_found}
 use Rattle.wef_event.specs.Numbering.{NumberedEventsAreRead, new_field, numbered, numbered_by, numbered_children, numbered_root, numbered_system, record_id, with_first_changed, with_number, with_only}

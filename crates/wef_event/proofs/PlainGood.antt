@@ -15,9 +15,9 @@ use Rattle.wef_base.specs.declared.tree.Element.{Element}
 use Rattle.wef_base.specs.declared.tree.Node.{Node, Chars}
 use Rattle.wef_base.specs.declared.tree.Node.TheVariants.{Element as Child}
 use Rattle.wef_base.proofs.Kept.{name_allowed}
-use Rattle.wef_tree.specs.Good.{AreGoodNodes, IsGoodElement, IsGoodHead, IsGoodTree, IsLocalName, IsXmlText, are_apart}
-use Rattle.wef_tree.specs.Scopes.{is_empty}
-use Rattle.wef_tree.proofs.GoodNodes.{good_child, is_no_text}
+use Rattle.wef_xml.specs.Good.{AreGoodNodes, IsGoodElement, IsGoodHead, IsGoodTree, IsLocalName, IsXmlText, are_apart}
+use Rattle.wef_xml.specs.Spaces.{is_empty}
+use Rattle.wef_xml.proofs.GoodNodes.{good_child, is_no_text}
 use Rattle.wef_tree.proofs.GoodPrefixes.{plain_name_is, plain_text_is}
 use Rattle.wef_event.specs.PlainEvent.{event_space, only_text, plain_tree}
 use Rattle.wef_event.proofs.Digits.{decimal_digits, digits_text}

@@ -8,11 +8,11 @@ use Rattle.std.proofs.lemmas.Str.{encodes-append}
 use Rattle.wef_base.specs.declared.tree.Element.{Element}
 use Rattle.wef_base.specs.declared.tree.Node.{Node, Chars}
 use Rattle.wef_base.specs.declared.tree.Node.TheVariants.{Element as Child}
-use Rattle.wef_tree.specs.Canonical.{canonical, end_of, node_of, start_of, text_of}
-use Rattle.wef_tree.specs.Prefixes.{Scope, inside, is_soap, outermost, root_bindings, soap_space}
-use Rattle.wef_tree.specs.Scopes.{is_empty, is_xml_space, xml_space}
+use Rattle.wef_xml.specs.Canonical.{canonical, end_of, node_of, start_of, text_of}
+use Rattle.wef_xml.specs.Prefixes.{Scope, inside, is_soap, outermost, root_bindings, soap_space}
+use Rattle.wef_xml.specs.Spaces.{is_empty, is_xml_space, xml_space}
 use Rattle.wef_tree.proofs.EncodedAgain.{written8}
-use Rattle.wef_tree.proofs.WrittenNodes.{node_text}
+use Rattle.wef_tree_writing.proofs.WrittenNodes.{node_text}
 use Rattle.wef_event.specs.Characters.{escaped}
 use Rattle.wef_event.specs.Events.{text_of_tree}
 use Rattle.wef_event.specs.PlainEvent.{event_space, only_text, plain_text, plain_tree}

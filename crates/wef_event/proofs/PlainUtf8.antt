@@ -10,10 +10,10 @@ use Rattle.std.proofs.lemmas.Str.{IsUtf8-past_char, is_utf8-from_IsUtf8}
 use lib.Utf8.{encode}
 use Rattle.wef_base.specs.declared.tree.Charset.TheVariants.{Utf8}
 use Rattle.wef_base.specs.declared.tree.Element.{Element}
-use Rattle.wef_tree.specs.Canonical.{canonical, character_bytes}
-use Rattle.wef_tree.specs.Decoding.{decoded, joined, mark_length, utf8_mark, without_front, without_mark}
-use Rattle.wef_tree.specs.Fronts.{strip}
-use Rattle.wef_tree.specs.Good.{IsGoodTree}
+use Rattle.wef_xml.specs.Canonical.{canonical, character_bytes}
+use Rattle.wef_xml.specs.Decoding.{decoded, joined, mark_length, utf8_mark, without_front, without_mark}
+use Rattle.wef_xml.specs.Fronts.{strip}
+use Rattle.wef_xml.specs.Good.{IsGoodTree}
 use Rattle.wef_tree.proofs.PlainTexts.{canonical_plain, plain_scalars}
 use Rattle.wef_event.specs.Events.{text_of_tree}
 

@@ -6,9 +6,9 @@ use Rattle.std.specs.declared.result.Result.TheVariants.{Ok, Err}
 use Rattle.wef_base.specs.Names.{same}
 use Rattle.wef_base.specs.declared.tree.Charset.TheVariants.{Utf8}
 use Rattle.wef_base.specs.declared.tree.Element.{Element}
-use Rattle.wef_tree.specs.Documents.{tree_of}
-use Rattle.wef_tree.proofs.Functions.{is_given, is_spelt_by}
-use Rattle.wef_tree.proofs.Readings.{has_no_fault}
+use Rattle.wef_tree_reading.specs.Documents.{tree_of}
+use Rattle.wef_tree_reading.proofs.Functions.{is_given, is_spelt_by}
+use Rattle.wef_tree_reading.proofs.Readings.{has_no_fault}
 use Rattle.wef_event.specs.Events.{Event, event_in, event_limit, event_of, event_or_none, is_event, is_event_root, is_found, number_or, text_of_tree, with_number_found}
 use Rattle.wef_event.specs.Paths.{channel_in, number_in}
 use Rattle.wef_event.specs.Reading.{AsksForNoNumber, IsFaulty, ReadsEvent, Says}

@@ -2,7 +2,7 @@
 use Rattle.std.specs.Prelude.{ℕ, List, encode_utf8_all}
 use Rattle.std.specs.List.{flat_map}
 use Rattle.std.specs.Str.{chars}
-use Rattle.wef_tree.specs.Canonical.{text_char}
+use Rattle.wef_xml.specs.Canonical.{text_char}
 
 -- a character as it stands in text
 abbrev pub escape : ℕ → List ℕ

@@ -5,9 +5,9 @@ use Rattle.std.specs.declared.result.Result.TheVariants.{Ok, Err}
 use Rattle.wef_base.specs.Names.{same}
 use Rattle.wef_base.specs.declared.tree.Charset.TheVariants.{Utf8}
 use Rattle.wef_base.specs.declared.tree.Element.{Element}
-use Rattle.wef_tree.specs.Canonical.{canonical, encoded}
-use Rattle.wef_tree.specs.Documents.{tree_of}
-use Rattle.wef_tree.specs.Good.{IsGoodTree}
+use Rattle.wef_xml.specs.Canonical.{canonical, encoded}
+use Rattle.wef_tree_reading.specs.Documents.{tree_of}
+use Rattle.wef_xml.specs.Good.{IsGoodTree}
 use Rattle.wef_event.specs.Paths.{channel_in, number_in}
 use Rattle.wef_event.specs.declared.records.EventFault.{EventFault}
 use Rattle.wef_event.specs.declared.records.EventFault.TheVariants.{NoMemory, BadEvent, NoChannel, NoRecordId, TooLong}

@@ -7,7 +7,7 @@ use Rattle.wef_base.specs.declared.tree.Charset.TheVariants.{Utf8}
 use Rattle.wef_base.specs.declared.tree.Element.{Element}
 use Rattle.wef_base.specs.declared.tree.Node.{Node, Chars, out-Node, Node-F}
 use Rattle.wef_base.specs.declared.tree.Node.TheVariants.{Element as Child}
-use Rattle.wef_tree.specs.Documents.{tree_of}
+use Rattle.wef_tree_reading.specs.Documents.{tree_of}
 use Rattle.wef_event.specs.Events.{Event, IsEventOf, event_of, event_or_none, is_event}
 use Rattle.wef_event.specs.Paths.{first_child, named}
 use Rattle.wef_event.specs.declared.records.EventFault.{EventFault}

@@ -9,7 +9,7 @@ use Rattle.wef_base.specs.declared.numbers.TheConstants.{MAX}
 use Rattle.wef_base.specs.declared.tree.Element.{Element}
 use Rattle.wef_base.specs.declared.tree.Node.{Node, Chars}
 use Rattle.wef_base.specs.declared.tree.Node.TheVariants.{Element as Child}
-use Rattle.wef_tree.specs.Scopes.{is_empty}
+use Rattle.wef_xml.specs.Spaces.{is_empty}
 pub use Rattle.wef_event.specs.Characters.{escape, escaped}
 use Rattle.wef_event.specs.Events.{Event, IsEventOf, event_limit, is_event}
 use Rattle.wef_event.specs.declared.records.EventFault.{EventFault}

@@ -2,7 +2,7 @@
 
 ghost use Rattle.std.specs.Prelude.{◌≡◌, true, false, ◌&&◌, ◌==◌, is_some, IfErr, IfOk, IfSome};
 ghost use Rattle.wef_base.specs.Names.{same};
-ghost use Rattle.wef_tree.specs.Good.{IsGoodTree};
+ghost use Rattle.wef_xml.specs.Good.{IsGoodTree};
 ghost use Rattle.wef_event.specs.Events as events;
 ghost use Rattle.wef_event.specs.Events.{Gives, IsEventOf, is_event_root, number_or, text_of_tree};
 ghost use Rattle.wef_event.specs.Reading.{AsksForNoNumber, ReadsEvent, short_text};

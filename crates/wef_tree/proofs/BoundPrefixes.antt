@@ -6,12 +6,12 @@ use Rattle.std.specs.Cmp.Lexicographic.{nat_list_eq_equiv}
 use Rattle.std.proofs.lemmas.Bool.Decides.{nat_tests}
 use Rattle.std.proofs.lemmas.Str.{length-le-encodes}
 use Rattle.wef_base.specs.Names.{same}
-use Rattle.wef_tree.specs.Good.{IsLocalName}
-use Rattle.wef_tree.specs.Prefixes.{bound_by, prefix_of, unless_bound}
-use Rattle.wef_tree.specs.Scopes.{is_empty}
-use Rattle.wef_tree.specs.declared.bindings.Binding.{Binding}
-use Rattle.wef_tree.proofs.GoodOpens.{one_name}
-use Rattle.wef_tree.proofs.Inversions.{none_some, some_is}
+use Rattle.wef_xml.specs.Good.{IsLocalName}
+use Rattle.wef_xml.specs.Prefixes.{bound_by, prefix_of, unless_bound}
+use Rattle.wef_xml.specs.Spaces.{is_empty}
+use Rattle.wef_xml.specs.declared.bindings.Binding.{Binding}
+use Rattle.wef_tree_reading.proofs.GoodOpens.{one_name}
+use Rattle.wef_tree_reading.proofs.Inversions.{none_some, some_is}
 use Rattle.wef_tree.proofs.Spelled.{AreGoodBindings, IsGoodBinding, bound_at}
 
 -- each binding has a prefix of its own

@@ -7,13 +7,14 @@ use Rattle.std.specs.Ordering.{nat_cmp}
 use Rattle.std.specs.Cmp.Lexicographic.{nat_list_cmp_total, slice_cmp, texts_ties}
 use Rattle.std.specs.FinMap as map
 use Rattle.wef_base.specs.Names.{same}
-use Rattle.wef_tree.specs.Prefixes.{Scope, element_prefix, nine, prefix_of}
-use Rattle.wef_tree.specs.Scopes.{Declared, declared_by, is_empty, is_xml, is_xml_space, is_xmlns, may_declare, with_declaration}
-use Rattle.wef_tree.specs.declared.bindings.Binding.{Binding}
-use Rattle.wef_tree.specs.declared.tags.Given.{Given}
+use Rattle.wef_xml.specs.Prefixes.{Scope, element_prefix, nine, prefix_of}
+use Rattle.wef_tree_reading.specs.Scopes.{Declared, declared_by, may_declare, with_declaration}
+use Rattle.wef_xml.specs.Spaces.{is_empty, is_xml, is_xml_space, is_xmlns}
+use Rattle.wef_xml.specs.declared.bindings.Binding.{Binding}
+use Rattle.wef_tree_reading.specs.declared.tags.Given.{Given}
 use Rattle.wef_tree.proofs.BoundPrefixes.{AreDistinct, at_other, same_self, same_turned}
-use Rattle.wef_tree.proofs.GoodOpens.{one_name, or_right}
-use Rattle.wef_tree.proofs.Inversions.{none_some}
+use Rattle.wef_tree_reading.proofs.GoodOpens.{one_name, or_right}
+use Rattle.wef_tree_reading.proofs.Inversions.{none_some}
 use Rattle.wef_tree.proofs.Spelled.{AreGoodBindings, IsGoodBinding, bound_at, declaration_given, default_given}
 
 -- one more declaration, at each prefix

@@ -11,10 +11,10 @@ use Rattle.std.proofs.lemmas.Str.{chars-encodes, is_utf8-from_IsUtf8}
 use lib.Utf8.{scalar, encode, next}
 use Rattle.wef_base.specs.declared.tree.Charset.{Charset}
 use Rattle.wef_base.specs.declared.tree.Charset.TheVariants.{Utf8, Utf16}
-use Rattle.wef_tree.specs.Canonical.{character_bytes, encoded, unit_bytes}
-use Rattle.wef_tree.specs.Decoding.{decoded, decoded8, decoded16, is_high, is_low, joined, line_ends, mark_length, pair_of, unit, utf8_mark, without_front}
-use Rattle.wef_tree.specs.Fronts.{strip}
-use Rattle.wef_tree.specs.declared.utf16.ByteOrder.TheVariants.{LittleEndian}
+use Rattle.wef_xml.specs.Canonical.{character_bytes, encoded, unit_bytes}
+use Rattle.wef_xml.specs.Decoding.{decoded, decoded8, decoded16, is_high, is_low, joined, line_ends, mark_length, pair_of, unit, utf8_mark, without_front}
+use Rattle.wef_xml.specs.Fronts.{strip}
+use Rattle.wef_xml.specs.declared.utf16.ByteOrder.TheVariants.{LittleEndian}
 
 -- UTF-8
 

@@ -7,11 +7,11 @@ use Rattle.std.specs.Option.{option_to_list}
 use Rattle.std.proofs.lemmas.List.Folds.{list_any-append}
 use Rattle.wef_base.specs.Names.{same}
 use Rattle.wef_base.specs.declared.tree.Attribute.{Attribute}
-use Rattle.wef_tree.specs.Prefixes.{bound_by, needs_prefix, new_bindings, new_spaces, outer_prefixes, prefix_of, with_space}
-use Rattle.wef_tree.specs.Scopes.{is_empty, is_xml_space}
-use Rattle.wef_tree.specs.declared.bindings.Binding.{Binding}
+use Rattle.wef_xml.specs.Prefixes.{bound_by, needs_prefix, new_bindings, new_spaces, outer_prefixes, prefix_of, with_space}
+use Rattle.wef_xml.specs.Spaces.{is_empty, is_xml_space}
+use Rattle.wef_xml.specs.declared.bindings.Binding.{Binding}
 use Rattle.wef_tree.proofs.BoundPrefixes.{AreDistinct, has_space, newly, same_self, still}
-use Rattle.wef_tree.proofs.GoodOpens.{one_name, or_right}
+use Rattle.wef_tree_reading.proofs.GoodOpens.{one_name, or_right}
 use Rattle.wef_tree.proofs.NewPrefixes.{letter_free, new_distinct, spaces_bound, taken_free}
 use Rattle.wef_tree.proofs.Spelled.{bound_at}
 

@@ -8,10 +8,10 @@ use Rattle.std.proofs.lemmas.Bool.Decides.{nat_tests}
 use Rattle.std.proofs.lemmas.Map.Steps.{le-length_from_below}
 use Rattle.std.proofs.lemmas.List.{length-map}
 use Rattle.wef_base.specs.Names.{same}
-use Rattle.wef_tree.specs.Prefixes.{bindings_from, in_digits, next_free, numbered_prefix}
+use Rattle.wef_xml.specs.Prefixes.{bindings_from, in_digits, next_free, numbered_prefix}
 use Rattle.wef_tree.proofs.BoundPrefixes.{AreDistinct, has_space, never, same_turned}
-use Rattle.wef_tree.proofs.Digits.{digits_are_value, some_digit}
-use Rattle.wef_tree.proofs.GoodOpens.{one_name, or_right}
+use Rattle.wef_tree_writing.proofs.Digits.{digits_are_value, some_digit}
+use Rattle.wef_tree_reading.proofs.GoodOpens.{one_name, or_right}
 use Rattle.wef_tree.proofs.Spelled.{bound_at}
 
 number_of : List ℕ → ℕ

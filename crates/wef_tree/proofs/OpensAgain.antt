@@ -10,19 +10,20 @@ use Rattle.std.specs.FinMap as map
 use Rattle.std.proofs.lemmas.Bool.Decides.{nat_tests}
 use Rattle.wef_base.specs.Names.{same}
 use Rattle.wef_base.specs.declared.tree.Attribute.{Attribute}
-use Rattle.wef_tree.specs.Building.{has_room, opened, opened_with}
-use Rattle.wef_tree.specs.Good.{IsGoodAttribute, AreGoodAttributes, IsGoodHead, IsXmlText, differ_behind}
-use Rattle.wef_tree.specs.Prefixes.{Scope, attribute_prefix, bound_by, element_prefix, inside, new_bindings, nine, prefix_of}
-use Rattle.wef_tree.specs.Scopes.{Declared, attribute_one, attribute_space, attributes_by, declare_one, declared_by, declared_outside, declares, in_scope, is_attribute, is_empty, is_xml, is_xml_space, is_xmlns, undeclared, with_attribute, xml_space}
-use Rattle.wef_tree.specs.declared.bindings.Binding.{Binding}
-use Rattle.wef_tree.specs.declared.building.Builder.{Builder}
-use Rattle.wef_tree.specs.declared.stack.Open.{Open}
-use Rattle.wef_tree.specs.declared.tags.Given.{Given}
+use Rattle.wef_tree_reading.specs.Building.{has_room, opened, opened_with}
+use Rattle.wef_xml.specs.Good.{IsGoodAttribute, AreGoodAttributes, IsGoodHead, IsXmlText, differ_behind}
+use Rattle.wef_xml.specs.Prefixes.{Scope, attribute_prefix, bound_by, element_prefix, inside, new_bindings, nine, prefix_of}
+use Rattle.wef_tree_reading.specs.Scopes.{Declared, attribute_one, attribute_space, attributes_by, declare_one, declared_by, declared_outside, declares, in_scope, undeclared, with_attribute}
+use Rattle.wef_xml.specs.Spaces.{is_attribute, is_empty, is_xml, is_xml_space, is_xmlns, xml_space}
+use Rattle.wef_xml.specs.declared.bindings.Binding.{Binding}
+use Rattle.wef_tree_reading.specs.declared.building.Builder.{Builder}
+use Rattle.wef_tree_reading.specs.declared.stack.Open.{Open}
+use Rattle.wef_tree_reading.specs.declared.tags.Given.{Given}
 use Rattle.wef_tree.proofs.BoundPrefixes.{AreDistinct, AreLetters, bound_good, bound_letter, has_space, inside_bound, name_some, never, none_empty, prefix_good, prefix_letter, unchanged}
 use Rattle.wef_tree.proofs.DeclaredAgain.{DeclaresThese, default_alone, default_declared, defaults, get_more, these_declared}
-use Rattle.wef_tree.proofs.GoodOpens.{front_true, last_true, one_name}
+use Rattle.wef_tree_reading.proofs.GoodOpens.{front_true, last_true, one_name}
 use Rattle.wef_tree.proofs.GoodPrefixes.{bound_by_good, new_are_good, nine_are_good}
-use Rattle.wef_tree.proofs.Inversions.{none_some, some_is}
+use Rattle.wef_tree_reading.proofs.Inversions.{none_some, some_is}
 use Rattle.wef_tree.proofs.NewBindings.{AreNew, IsOneOf, has_prefix, new_are}
 use Rattle.wef_tree.proofs.Spelled.{Agrees, AreGoodBindings, IsGoodBinding, OpenedAgain, Opens, attribute_given, bound_at, declaration_given, default_given, spelled, spelled_name}
 

@@ -11,11 +11,11 @@ use Rattle.wef_base.specs.Names.{same}
 use Rattle.wef_base.specs.declared.tree.Attribute.{Attribute}
 use Rattle.wef_base.specs.declared.tree.Element.{Element}
 use Rattle.wef_base.specs.declared.tree.Node.{Node, Chars, Element', Row_of-Node, end_of-Node, more_of-Node}
-use Rattle.wef_tree.specs.Canonical.{assigned, attribute_of, canonical, declaration_of, default_of, end_of, name_of, node_of, row_of, start_of, text_char, text_of, value_char, value_of}
-use Rattle.wef_tree.specs.Good.{AreGoodAttributes, AreGoodNodes, IsGoodAttribute, IsGoodHead, IsGoodNode, IsGoodRow, IsGoodTree, IsLocalName, IsXmlText}
-use Rattle.wef_tree.specs.Names.{is_name_char, is_name_start}
-use Rattle.wef_tree.specs.Prefixes.{Scope, attribute_prefix, element_prefix, inside, is_soap, new_bindings, nine, outermost, root_bindings}
-use Rattle.wef_tree.specs.declared.bindings.Binding.{Binding}
+use Rattle.wef_xml.specs.Canonical.{assigned, attribute_of, canonical, declaration_of, default_of, end_of, name_of, node_of, row_of, start_of, text_char, text_of, value_char, value_of}
+use Rattle.wef_xml.specs.Good.{AreGoodAttributes, AreGoodNodes, IsGoodAttribute, IsGoodHead, IsGoodNode, IsGoodRow, IsGoodTree, IsLocalName, IsXmlText}
+use Rattle.wef_xml.specs.Letters.{is_name_char, is_name_start}
+use Rattle.wef_xml.specs.Prefixes.{Scope, attribute_prefix, element_prefix, inside, is_soap, new_bindings, nine, outermost, root_bindings}
+use Rattle.wef_xml.specs.declared.bindings.Binding.{Binding}
 use Rattle.wef_tree.proofs.EncodedAgain.{has_no_cr}
 use Rattle.wef_tree.proofs.GoodPrefixes.{attribute_prefix_good, bound_by_good, element_prefix_good, new_are_good, nine_are_good}
 use Rattle.wef_tree.proofs.Spelled.{AreGoodBindings, IsGoodBinding}

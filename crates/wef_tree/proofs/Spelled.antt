@@ -4,21 +4,22 @@ use Rattle.std.specs.Prelude.{Option, Some, None, is_some, unwrap_or, codes, if�
 use Rattle.std.specs.Option.{option_or}
 use Rattle.wef_base.specs.Names.{same}
 use Rattle.wef_base.specs.declared.tree.Attribute.{Attribute}
-use Rattle.wef_tree.specs.Building.{has_room, is_outside, opened}
-use Rattle.wef_tree.specs.Canonical.{end_of, start_of, text_of}
-use Rattle.wef_tree.specs.Good.{IsGoodHead, IsLocalName, IsXmlText}
-use Rattle.wef_tree.specs.Pieces.{piece_at}
-use Rattle.wef_tree.specs.Prefixes.{Scope, attribute_prefix, element_prefix, inside, new_bindings, nine, prefix_of}
-use Rattle.wef_tree.specs.Scopes.{declared_outside, is_empty, is_xml, is_xml_space, is_xmlns}
-use Rattle.wef_tree.specs.Spelling.{Leads}
-use Rattle.wef_tree.specs.declared.bindings.Binding.{Binding}
-use Rattle.wef_tree.specs.declared.building.Builder.{Builder}
-use Rattle.wef_tree.specs.declared.names.Name.{Name}
-use Rattle.wef_tree.specs.declared.pieces.Piece.{Piece}
-use Rattle.wef_tree.specs.declared.pieces.Piece.TheVariants.{Start, End}
-use Rattle.wef_tree.specs.declared.stack.Open.{Open}
-use Rattle.wef_tree.specs.declared.tags.Given.{Given}
-use Rattle.wef_tree.specs.declared.tags.Tag.{Tag}
+use Rattle.wef_tree_reading.specs.Building.{has_room, is_outside, opened}
+use Rattle.wef_xml.specs.Canonical.{end_of, start_of, text_of}
+use Rattle.wef_xml.specs.Good.{IsGoodHead, IsLocalName, IsXmlText}
+use Rattle.wef_tree_reading.specs.Pieces.{piece_at}
+use Rattle.wef_xml.specs.Prefixes.{Scope, attribute_prefix, element_prefix, inside, new_bindings, nine, prefix_of}
+use Rattle.wef_tree_reading.specs.Scopes.{declared_outside}
+use Rattle.wef_xml.specs.Spaces.{is_empty, is_xml, is_xml_space, is_xmlns}
+use Rattle.wef_tree_reading.specs.Spelling.{Leads}
+use Rattle.wef_xml.specs.declared.bindings.Binding.{Binding}
+use Rattle.wef_tree_reading.specs.declared.building.Builder.{Builder}
+use Rattle.wef_tree_reading.specs.declared.names.Name.{Name}
+use Rattle.wef_tree_reading.specs.declared.pieces.Piece.{Piece}
+use Rattle.wef_tree_reading.specs.declared.pieces.Piece.TheVariants.{Start, End}
+use Rattle.wef_tree_reading.specs.declared.stack.Open.{Open}
+use Rattle.wef_tree_reading.specs.declared.tags.Given.{Given}
+use Rattle.wef_tree_reading.specs.declared.tags.Tag.{Tag}
 
 -- the name of an element, as it is spelt
 abbrev pub spelled_name : Scope → List ℕ → List ℕ → Name

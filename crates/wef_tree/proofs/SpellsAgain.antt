@@ -4,13 +4,13 @@ use Rattle.std.specs.declared.result.Result.TheVariants.{Ok}
 use Rattle.wef_base.specs.declared.tree.Charset.{Charset}
 use Rattle.wef_base.specs.declared.tree.Charset.TheVariants.{Utf8}
 use Rattle.wef_base.specs.declared.tree.Element.{Element}
-use Rattle.wef_tree.specs.Canonical.{canonical, encoded}
-use Rattle.wef_tree.specs.Decoding.{decoded}
+use Rattle.wef_xml.specs.Canonical.{canonical, encoded}
+use Rattle.wef_xml.specs.Decoding.{decoded}
 use Rattle.wef_tree.specs.Laws.{HasOneTree, ReadsBack}
-use Rattle.wef_tree.specs.Spelling.{Spells, TextSpells}
+use Rattle.wef_tree_reading.specs.Spelling.{Spells, TextSpells}
 use Rattle.wef_tree.proofs.EncodedAgain.{encoded_again, line_ends_kept}
 use Rattle.wef_tree.proofs.PlainTexts.{ArePlain, canonical_plain, plain_has_no_cr, plain_scalars}
-use Rattle.wef_tree.proofs.Readings.{has_one_root}
+use Rattle.wef_tree_reading.proofs.Readings.{has_one_root}
 use Rattle.wef_tree.proofs.TreesAgain.{behind_first, root_again}
 
 -- the text of a tree begins with a tag

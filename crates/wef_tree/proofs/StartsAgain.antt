@@ -8,18 +8,19 @@ use Rattle.std.proofs.lemmas.Bool.Decides.{nat_tests}
 use Rattle.std.proofs.lemmas.Str.{chars-encodes}
 use Rattle.wef_base.specs.Names.{is_space, same, without_start}
 use Rattle.wef_base.specs.declared.tree.Attribute.{Attribute}
-use Rattle.wef_tree.specs.Canonical.{assigned, attribute_of, declaration_of, default_of, name_of, value_of}
-use Rattle.wef_tree.specs.Fronts.{behind, strip}
-use Rattle.wef_tree.specs.Good.{AreGoodAttributes, IsGoodAttribute, IsLocalName, IsXmlText}
-use Rattle.wef_tree.specs.Names.{is_name_char, is_name_start, name_after, name_at, name_tail, plain_name_at, with_front}
-use Rattle.wef_tree.specs.Pieces.{closed_tag, comment_tail, declaration_tail, markup_at, piece_at, section_tail}
-use Rattle.wef_tree.specs.Prefixes.{Scope, attribute_prefix, element_prefix, inside, new_bindings}
-use Rattle.wef_tree.specs.Tags.{end_tag_at, ends_tag, given_at, givens_in, givens_on, spaced_turn, tag_at, tag_turn, with_attributes, with_givens, with_value}
-use Rattle.wef_tree.specs.declared.bindings.Binding.{Binding}
-use Rattle.wef_tree.specs.declared.names.Name.{Name}
-use Rattle.wef_tree.specs.declared.pieces.Piece.{Piece}
-use Rattle.wef_tree.specs.declared.pieces.Piece.TheVariants.{Comment, Declaration, End, Section, Start}
-use Rattle.wef_tree.specs.declared.tags.Given.{Given}
+use Rattle.wef_xml.specs.Canonical.{assigned, attribute_of, declaration_of, default_of, name_of, value_of}
+use Rattle.wef_xml.specs.Fronts.{behind, strip}
+use Rattle.wef_xml.specs.Good.{AreGoodAttributes, IsGoodAttribute, IsLocalName, IsXmlText}
+use Rattle.wef_xml.specs.Letters.{is_name_char, is_name_start}
+use Rattle.wef_tree_reading.specs.Names.{name_after, name_at, name_tail, plain_name_at, with_front}
+use Rattle.wef_tree_reading.specs.Pieces.{closed_tag, comment_tail, declaration_tail, markup_at, piece_at, section_tail}
+use Rattle.wef_xml.specs.Prefixes.{Scope, attribute_prefix, element_prefix, inside, new_bindings}
+use Rattle.wef_tree_reading.specs.Tags.{end_tag_at, ends_tag, given_at, givens_in, givens_on, spaced_turn, tag_at, tag_turn, with_attributes, with_givens, with_value}
+use Rattle.wef_xml.specs.declared.bindings.Binding.{Binding}
+use Rattle.wef_tree_reading.specs.declared.names.Name.{Name}
+use Rattle.wef_tree_reading.specs.declared.pieces.Piece.{Piece}
+use Rattle.wef_tree_reading.specs.declared.pieces.Piece.TheVariants.{Comment, Declaration, End, Section, Start}
+use Rattle.wef_tree_reading.specs.declared.tags.Given.{Given}
 use Rattle.wef_tree.proofs.GoodPrefixes.{attribute_prefix_good, bound_by_good, element_prefix_good, new_are_good, plain_is, xmlns_is_name}
 use Rattle.wef_tree.proofs.Spelled.{AreGoodBindings, EndAgain, IsGoodBinding, StartAgain, attribute_given, declaration_given, default_given}
 use Rattle.wef_tree.proofs.TextsAgain.{name_chars, value_again}

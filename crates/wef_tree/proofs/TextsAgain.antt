@@ -10,18 +10,19 @@ use Rattle.std.proofs.lemmas.Bool.Decides.{nat_tests}
 use Rattle.std.proofs.lemmas.Str.{chars-encodes}
 use Rattle.wef_base.specs.Characters.{is_xml_char}
 use Rattle.wef_base.specs.Names.{is_space}
-use Rattle.wef_tree.specs.Building.{is_outside, taken}
-use Rattle.wef_tree.specs.Canonical.{text_char, value_char, value_of}
-use Rattle.wef_tree.specs.Fronts.{strip}
-use Rattle.wef_tree.specs.Good.{IsLocalName, IsXmlText}
-use Rattle.wef_tree.specs.Names.{is_name_char, is_name_start, with_front}
-use Rattle.wef_tree.specs.Pieces.{markup_at, piece_at}
-use Rattle.wef_tree.specs.References.{reference_at}
-use Rattle.wef_tree.specs.Spelling.{Leads}
-use Rattle.wef_tree.specs.Tags.{value_in, value_on, value_turn}
-use Rattle.wef_tree.specs.declared.building.Builder.{Builder}
-use Rattle.wef_tree.specs.declared.pieces.Piece.{Piece}
-use Rattle.wef_tree.specs.declared.pieces.Piece.TheVariants.{Letter, Reference}
+use Rattle.wef_tree_reading.specs.Building.{is_outside, taken}
+use Rattle.wef_xml.specs.Canonical.{text_char, value_char, value_of}
+use Rattle.wef_xml.specs.Fronts.{strip}
+use Rattle.wef_xml.specs.Good.{IsLocalName, IsXmlText}
+use Rattle.wef_xml.specs.Letters.{is_name_char, is_name_start}
+use Rattle.wef_tree_reading.specs.Names.{with_front}
+use Rattle.wef_tree_reading.specs.Pieces.{markup_at, piece_at}
+use Rattle.wef_tree_reading.specs.References.{reference_at}
+use Rattle.wef_tree_reading.specs.Spelling.{Leads}
+use Rattle.wef_tree_reading.specs.Tags.{value_in, value_on, value_turn}
+use Rattle.wef_tree_reading.specs.declared.building.Builder.{Builder}
+use Rattle.wef_tree_reading.specs.declared.pieces.Piece.{Piece}
+use Rattle.wef_tree_reading.specs.declared.pieces.Piece.TheVariants.{Letter, Reference}
 use Rattle.wef_tree.proofs.Spelled.{TextAgain}
 
 -- characters

@@ -1,23 +1,8 @@
 //! Laws of reading and writing, each the contract of a function that does nothing.
 
-ghost use Rattle.wef_tree.specs.Documents.{IsSpelt};
-ghost use Rattle.wef_tree.specs.Laws.{GoesOnToTheFault, HasNoFault, HasOneFault, HasOneRoot, HasOneTree, IsDecoded, IsLongest, ReadsBack};
+ghost use Rattle.wef_tree.specs.Laws.{HasOneTree, ReadsBack};
 
-/// What bytes spell is one root, or they have one fault: never two of these.
-pub fn reading_is_one()
-    ensures root { HasOneRoot }
-    ensures no_fault { HasNoFault }
-    ensures charset { IsDecoded }
-    ensures fault { HasOneFault }
-    ensures spelt { IsSpelt }
-{}
-
-/// The fault is where the longest list of good pieces ends: each other one that begins the text is
-/// a beginning of it.
-pub fn faults_are_at_the_longest()
-    ensures goes_on { GoesOnToTheFault }
-    ensures longest { IsLongest }
-{}
+pub use wef_tree_reading::laws::{faults_are_at_the_longest, reading_is_one};
 
 /// What is written for a good tree is read as this tree, in both charsets. So a tree has one text,
 /// and a text is that of one tree.

@@ -1,5 +1,5 @@
 use Rattle.std.proofs.Common.{sym, subst}
-use Rattle.wef_tree.specs.Good.{IsGoodTree}
+use Rattle.wef_xml.specs.Good.{IsGoodTree}
 use Rattle.wef_event.proofs.NumberedTrees.{IsNumbered, is_numbered, numbered_good}
 use Rattle.wef_event.proofs.records.Event.with_number.Goals as goal
 

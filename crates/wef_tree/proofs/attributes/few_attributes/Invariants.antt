@@ -1,6 +1,0 @@
-use Rattle.std.proofs.Common.{◌≡◌, []}
-use Rattle.wef_tree.specs.Scopes.{attributes_by}
-use Rattle.wef_tree.proofs.attributes.few_attributes.Given as goal
-
-abbrev pub invariant-loop-one : goal.invariant-loop-one
-invariant-loop-one l = attributes_by l.own l.around l.attributes l.one-iterator.rest.items ≡ attributes_by l.own l.around [] l.fn.given

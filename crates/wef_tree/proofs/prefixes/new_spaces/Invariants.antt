@@ -1,6 +1,0 @@
-use Rattle.std.proofs.Common.{◌≡◌, [], drop}
-use Rattle.wef_tree.specs.Prefixes.{new_spaces}
-use Rattle.wef_tree.proofs.prefixes.new_spaces.Given as goal
-
-abbrev pub invariant-loop-attribute : goal.invariant-loop-attribute
-invariant-loop-attribute l = new_spaces l.bound l.spaces (drop l.attribute-index l.attributes) ≡ new_spaces l.bound [] l.attributes

@@ -1,6 +1,0 @@
-use Rattle.std.proofs.Common.{◌≡◌, ◌++◌, drop}
-use Rattle.wef_tree.specs.Prefixes.{outer_prefixes}
-use Rattle.wef_tree.proofs.prefixes.outer_prefixes.Given as goal
-
-abbrev pub invariant-loop-attribute : goal.invariant-loop-attribute
-invariant-loop-attribute l = l.prefixes ++ outer_prefixes l.bound (drop l.attribute-index l.attributes) ≡ outer_prefixes l.bound l.attributes

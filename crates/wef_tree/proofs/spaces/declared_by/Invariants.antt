@@ -1,7 +1,0 @@
-use Rattle.std.proofs.Common.{◌≡◌, drop}
-use Rattle.std.specs.FinMap as map
-use Rattle.wef_tree.specs.Scopes.{declared_by}
-use Rattle.wef_tree.proofs.spaces.declared_by.Given as goal
-
-abbrev pub invariant-loop-one : goal.invariant-loop-one
-invariant-loop-one l = declared_by l.own (drop l.one-index l.given) ≡ declared_by map.empty l.given

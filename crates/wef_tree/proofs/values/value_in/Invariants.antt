@@ -1,9 +1,0 @@
-use Rattle.std.proofs.Common.{◌≡◌, ◌-◌, length}
-use Rattle.std.specs.Option.{option_map}
-use Rattle.wef_tree.specs.Names.{with_front}
-use Rattle.wef_tree.specs.Tags.{value_in}
-use Rattle.wef_tree.proofs.values.value_in.Given as goal
-
-abbrev pub invariant-loop-turn : goal.invariant-loop-turn
-invariant-loop-turn l =
-    option_map (with_front l.value) (value_in (length l.text - l._turn) l.quote l.rest) ≡ value_in (length l.text) l.quote l.text

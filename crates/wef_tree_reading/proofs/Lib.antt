@@ -1,0 +1,12 @@
+pub mod Expanded
+pub mod Functions
+pub mod GoodOpens
+pub mod GoodPieces
+pub mod GoodTrees
+pub mod Inversions
+pub mod Maps
+pub mod Readings
+pub mod Shorter
+pub mod Stacks
+pub mod Turns
+pub mod Walks

@@ -1,0 +1,11 @@
+pub mod Building
+pub mod Documents
+pub mod ExpandedNames
+pub mod Laws
+pub mod Names
+pub mod Pieces
+pub mod Reads
+pub mod References
+pub mod Scopes
+pub mod Spelling
+pub mod Tags

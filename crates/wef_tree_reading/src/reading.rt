@@ -1,0 +1,120 @@
+//! Reading a document: piece by piece, until the text ends or no piece is good.
+
+ghost use Rattle.std.specs.Prelude.{◌≡◌, length, IfOk};
+ghost use Rattle.wef_tree_reading.specs.Documents.{GivesTree, tree_of};
+ghost use Rattle.wef_xml.specs.Good.{IsGoodTree};
+ghost use Rattle.wef_tree_reading.specs.Spelling.{ReadsText, ReadsTree, Steps, fault_at, is_tag, kind_by};
+
+use crate::building::{Builder, GREATEST_DEPTH};
+use crate::faults::{FaultKind, Halt, Stop};
+use crate::pieces::{Piece, piece_at};
+use std::alloc::Global;
+use wef_base::{Charset, Element};
+use wef_xml::TreeFault;
+use wef_xml::decoding::decode;
+use wef_xml::fronts::strip;
+use wef_xml::line_ends::join_line_ends;
+use wef_xml::places::place;
+
+/// Reads a document (XML 1.0 with Namespaces in XML 1.0), without document types and processing
+/// instructions. It takes time and memory in proportion to the bytes, but for a logarithm, whatever
+/// they are.
+pub fn read_tree(alloc: Global, bytes: &[u8], charset: Charset) -> Result<Element, TreeFault>
+    ensures read { ReadsTree charset bytes.now result }
+    ensures good { IfOk result (λ root. IsGoodTree root) }
+    ensures tree { GivesTree result (tree_of charset bytes.now) }
+{
+    read_document(alloc, bytes, charset)
+}
+
+fn read_document(alloc: Global, bytes: &[u8], charset: Charset) -> Result<Element, TreeFault>
+    ensures { ReadsTree charset bytes.now result }
+{
+    let decoded = decode(alloc, charset, bytes)?;
+    let characters = decoded.as_slice();
+    let joined = join_line_ends(alloc, characters)?;
+    let text = joined.as_slice();
+    match read_text(alloc, text) {
+        Ok(root) => Ok(root),
+        Err(Stop::NoMemory) => Err(TreeFault::NoMemory),
+        Err(Stop::Fault { kind, left }) => {
+            let at = place(charset, bytes, characters, text.len() - left);
+            Err(fault_at(kind, at))
+        }
+    }
+}
+
+fn fault_at(kind: FaultKind, at: usize) -> TreeFault
+    ensures { result ≡ fault_at kind at }
+{
+    match kind {
+        FaultKind::Xml => TreeFault::BadXml { at },
+        FaultKind::Deep => TreeFault::TooDeep { at },
+        FaultKind::Refused => TreeFault::Refused { at },
+    }
+}
+
+/// Reads a text whose line ends are one.
+fn read_text(alloc: Global, text: &[char]) -> Result<Element, Stop>
+    ensures { ReadsText text.now result }
+{
+    let mut builder = Builder::new(alloc);
+    let mut rest = text;
+    while !rest.is_empty() {
+        rest = step(alloc, &mut builder, rest)?;
+    }
+    let Builder { root, .. } = builder;
+    match root {
+        Some(root) => Ok(root),
+        None => Err(Stop::Fault {
+            kind: FaultKind::Xml,
+            left: 0,
+        }),
+    }
+}
+
+/// Takes the first piece of a text, and gives what is behind it.
+fn step<'a>(alloc: Global, builder: &mut Builder, text: &'a [char]) -> Result<&'a [char], Stop>
+    ensures { Steps builder.old builder.new text.now result }
+{
+    let depth = builder.depth();
+    let (piece, behind) = match piece_at(alloc, text) {
+        Ok(read) => read,
+        Err(Halt::NoMemory) => return Err(Stop::NoMemory),
+        Err(Halt::Bad) => return Err(stop_at(text, false, depth)),
+    };
+    let is_tag = is_tag(&piece);
+    match builder.take_piece(alloc, piece) {
+        Ok(()) => Ok(behind),
+        Err(Halt::NoMemory) => Err(Stop::NoMemory),
+        Err(Halt::Bad) => Err(stop_at(text, is_tag, depth)),
+    }
+}
+
+fn is_tag(piece: &Piece) -> bool
+    ensures { result ≡ is_tag piece.now }
+{
+    matches!(piece, Piece::Start(_) | Piece::Empty(_))
+}
+
+/// The fault of a text whose first piece isn't good; `is_tag`: a whole tag stands there.
+fn stop_at(text: &[char], is_tag: bool, depth: usize) -> Stop
+    ensures { result ≡ Stop.Fault (kind_by text.now is_tag depth) (length text.now) }
+{
+    Stop::Fault {
+        kind: kind_of(text, is_tag, depth),
+        left: text.len(),
+    }
+}
+
+fn kind_of(text: &[char], is_tag: bool, depth: usize) -> FaultKind
+    ensures { result ≡ kind_by text.now is_tag depth }
+{
+    if strip(b"<!DOCTYPE", text).is_some() || strip(b"<?", text).is_some() {
+        return FaultKind::Refused;
+    }
+    if is_tag && depth >= GREATEST_DEPTH {
+        return FaultKind::Deep;
+    }
+    FaultKind::Xml
+}

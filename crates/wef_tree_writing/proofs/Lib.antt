@@ -1,0 +1,5 @@
+pub mod Bound
+pub mod Digits
+pub mod Numbering
+pub mod Written
+pub mod WrittenNodes

@@ -1,0 +1,11 @@
+//! Writing trees as documents, each in one way.
+#![tactic(auto)]
+
+mod bindings;
+mod escaping;
+mod markup;
+mod prefixes;
+mod soap;
+mod writing;
+
+pub use writing::write_tree;

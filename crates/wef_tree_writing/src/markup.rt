@@ -1,0 +1,115 @@
+//! Tags and attributes as they are written.
+
+ghost use Rattle.std.specs.Prelude.{◌≡◌, ◌++◌, Some, OnOk, codes};
+ghost use Rattle.std.specs.List.{flat_map};
+ghost use Rattle.std.specs.Option.{option_copied};
+ghost use Rattle.wef_xml.specs.Canonical.{assigned, attribute_of, declaration_of, name_of};
+ghost use Rattle.wef_tree_writing.specs.Markup.{default_declaration};
+
+use crate::bindings::Bindings;
+use crate::escaping::{push_ascii, push_characters, push_value};
+use crate::prefixes::attribute_prefix;
+use std::alloc::AllocError;
+use wef_base::{Attribute, List, Namespace, Text};
+use wef_xml::Binding;
+
+/// Appends a name with its prefix, if it has one.
+pub fn push_name(out: &mut List<char>, prefix: Option<&str>, local: &Text) -> Result<(), AllocError>
+    ensures { OnOk result (out.new ≡ out.old ++ name_of (option_copied prefix.entry) local.now) }
+{
+    match prefix {
+        None => push_characters(out, local.as_str()),
+        Some(prefix) => push_prefixed(out, prefix, local),
+    }
+}
+
+fn push_prefixed(out: &mut List<char>, prefix: &str, local: &Text) -> Result<(), AllocError>
+    ensures { OnOk result (out.new ≡ out.old ++ name_of (Some prefix.now) local.now) }
+{
+    push_characters(out, prefix)?;
+    out.push(':')?;
+    push_characters(out, local.as_str())
+}
+
+/// Appends the declaration of a default namespace, unless the element has a prefix or this one is in
+/// force.
+pub fn push_default(
+    out: &mut List<char>,
+    has_prefix: bool,
+    default: &Namespace,
+    space: &Namespace,
+) -> Result<(), AllocError>
+    ensures { OnOk result (out.new ≡ out.old ++ default_declaration has_prefix default.now space.now) }
+{
+    if has_prefix {
+        return Ok(());
+    }
+    if *default == *space {
+        return Ok(());
+    }
+    push_default_declaration(out, space)
+}
+
+fn push_default_declaration(out: &mut List<char>, space: &Namespace) -> Result<(), AllocError>
+    ensures { OnOk result (out.new ≡ out.old ++ (codes " xmlns" ++ assigned space.now)) }
+{
+    push_ascii(out, b" xmlns")?;
+    push_assigned(out, space.as_text())
+}
+
+/// Appends the declarations of prefixes.
+pub fn push_declarations(out: &mut List<char>, bindings: &[Binding]) -> Result<(), AllocError>
+    ensures { OnOk result (out.new ≡ out.old ++ flat_map declaration_of bindings.now) }
+{
+    for binding in bindings {
+        push_declaration(out, binding)?;
+    }
+    Ok(())
+}
+
+fn push_declaration(out: &mut List<char>, binding: &Binding) -> Result<(), AllocError>
+    ensures { OnOk result (out.new ≡ out.old ++ declaration_of binding.now) }
+{
+    push_ascii(out, b" xmlns:")?;
+    push_characters(out, binding.prefix.as_str())?;
+    push_assigned(out, binding.space.as_text())
+}
+
+/// Appends attributes, each behind a space.
+pub fn push_attributes(
+    out: &mut List<char>,
+    bound: &Bindings,
+    attributes: &[Attribute],
+) -> Result<(), AllocError>
+    ensures { OnOk result (out.new ≡ out.old ++ flat_map (attribute_of bound.now) attributes.now) }
+{
+    for attribute in attributes {
+        push_attribute(out, bound, attribute)?;
+    }
+    Ok(())
+}
+
+fn push_attribute(
+    out: &mut List<char>,
+    bound: &Bindings,
+    attribute: &Attribute,
+) -> Result<(), AllocError>
+    ensures { OnOk result (out.new ≡ out.old ++ attribute_of bound.now attribute.now) }
+{
+    out.push(' ')?;
+    push_name(
+        out,
+        attribute_prefix(bound, &attribute.space),
+        &attribute.name,
+    )?;
+    push_assigned(out, &attribute.value)
+}
+
+/// Appends an equals sign and a value in its quotes.
+fn push_assigned(out: &mut List<char>, value: &Text) -> Result<(), AllocError>
+    ensures { OnOk result (out.new ≡ out.old ++ assigned value.now) }
+{
+    push_ascii(out, b"=\"")?;
+    push_value(out, value.as_str())?;
+    out.push('"')
+}

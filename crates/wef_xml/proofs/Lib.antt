@@ -1,0 +1,2 @@
+pub mod GoodNodes
+pub mod Utf8

@@ -1,0 +1,9 @@
+pub mod Canonical
+pub mod Decodes
+pub mod Decoding
+pub mod Digests
+pub mod Fronts
+pub mod Good
+pub mod Letters
+pub mod Prefixes
+pub mod Spaces

@@ -1,0 +1,65 @@
+//! Characters as bytes.
+
+ghost use Rattle.std.specs.Prelude.{◌≡◌, ◌<◌, ◌++◌, encode_utf8, IfOk, OnOk};
+ghost use Rattle.wef_base.specs.declared.tree.Charset.TheVariants.{Utf16};
+ghost use Rattle.wef_xml.specs.Canonical.{character_bytes, encoded, unit_bytes, written_mark};
+
+use std::alloc::{AllocError, Global};
+use wef_base::{Bytes, Charset};
+
+/// The bytes of characters, behind the byte order mark of the charset.
+pub fn encode(alloc: Global, charset: Charset, characters: &[char]) -> Result<Bytes, AllocError>
+    ensures { IfOk result (λ bytes. bytes ≡ encoded charset characters.now) }
+{
+    let mut bytes = Bytes::new(alloc);
+    push_mark(&mut bytes, charset)?;
+    for character in characters {
+        push_character(&mut bytes, charset, *character)?;
+    }
+    Ok(bytes)
+}
+
+fn push_mark(bytes: &mut Bytes, charset: Charset) -> Result<(), AllocError>
+    ensures { OnOk result (bytes.new ≡ bytes.old ++ written_mark charset) }
+{
+    match charset {
+        Charset::Utf8 => Ok(()),
+        Charset::Utf16 => bytes.extend(&[0xFF, 0xFE]),
+    }
+}
+
+fn push_character(bytes: &mut Bytes, charset: Charset, character: char) -> Result<(), AllocError>
+    ensures { OnOk result (bytes.new ≡ bytes.old ++ character_bytes charset character) }
+{
+    match charset {
+        Charset::Utf8 => push_utf8(bytes, character),
+        Charset::Utf16 => push_utf16(bytes, character),
+    }
+}
+
+fn push_utf8(bytes: &mut Bytes, character: char) -> Result<(), AllocError>
+    ensures { OnOk result (bytes.new ≡ bytes.old ++ encode_utf8 character) }
+{
+    let mut buffer = [0; 4];
+    bytes.extend(character.encode_utf8(&mut buffer).as_bytes())
+}
+
+fn push_utf16(bytes: &mut Bytes, character: char) -> Result<(), AllocError>
+    ensures { OnOk result (bytes.new ≡ bytes.old ++ character_bytes Utf16 character) }
+{
+    let code = u32::from(character);
+    if code < 0x1_0000 {
+        return push_unit(bytes, code);
+    }
+    push_unit(bytes, 0xD800 + (code - 0x1_0000) / 1024)?;
+    push_unit(bytes, 0xDC00 + (code - 0x1_0000) % 1024)
+}
+
+/// Appends a unit, the low byte first.
+fn push_unit(bytes: &mut Bytes, unit: u32) -> Result<(), AllocError>
+    requires { unit < 0x10000 }
+    ensures { OnOk result (bytes.new ≡ bytes.old ++ unit_bytes unit) }
+{
+    bytes.push((unit % 256) as u8)?;
+    bytes.push((unit / 256) as u8)
+}
