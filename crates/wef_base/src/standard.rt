@@ -18,7 +18,7 @@ pub struct StdSource {
 }
 
 impl StdSource {
-    /// The stream of this process. Nothing was read or written through it yet.
+    /// The stream of this process. Nothing was read through it yet.
     pub fn new(rt: HostRuntime) -> StdSource {
         StdSource {
             input: rt.stdin().lock(),
@@ -56,10 +56,24 @@ pub struct StdSink {
     faults: u64,
 }
 
+/// The standard error stream.
+#[derive(Clone, Copy)]
+pub struct StdErr {
+    rt: HostRuntime,
+    faults: u64,
+}
+
 impl StdSink {
-    /// The stream of this process. Nothing was read or written through it yet.
+    /// The stream of this process. Nothing was written through it yet.
     pub fn new(rt: HostRuntime) -> StdSink {
         StdSink { rt, faults: 0 }
+    }
+}
+
+impl StdErr {
+    /// The stream of this process. Nothing was written through it yet.
+    pub fn new(rt: HostRuntime) -> StdErr {
+        StdErr { rt, faults: 0 }
     }
 }
 
@@ -72,20 +86,6 @@ impl Sink for StdSink {
 
     fn write(&mut self, piece: &[u8]) -> Result<usize, IoFailed> {
         taken(self.rt.write_some(piece), piece, &mut self.faults)
-    }
-}
-
-/// The standard error stream.
-#[derive(Clone, Copy)]
-pub struct StdErr {
-    rt: HostRuntime,
-    faults: u64,
-}
-
-impl StdErr {
-    /// The stream of this process. Nothing was read or written through it yet.
-    pub fn new(rt: HostRuntime) -> StdErr {
-        StdErr { rt, faults: 0 }
     }
 }
 

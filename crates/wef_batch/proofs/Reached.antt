@@ -42,7 +42,7 @@ lt_holds : (m n : ℕ) → nat_lt m n ≡ true → m < n
 lt_holds m n e = grind (arith, nat_tests)
 
 -- what holds of each channel of a list holds of one that is in it
-holds_in : (p : List ℕ → Bool) (channels : List (List ℕ)) (c : List ℕ) → list_all p channels ≡ true → is_in channels c ≡ true → p c ≡ true
+pub holds_in : (p : List ℕ → Bool) (channels : List (List ℕ)) (c : List ℕ) → list_all p channels ≡ true → is_in channels c ≡ true → p c ≡ true
 holds_in p [] c all here = absurd (subst T (sym here) tt)
 holds_in p (d ∷ channels) c all here =
     let parts = both_true (p d) (list_all p channels) all in

@@ -28,11 +28,11 @@ equal Greater e = cc
 one_name : (q c : List ℕ) → eq_by_cmp order q c ≡ true → q ≡ c
 one_name q c e = exact_bytes q c (equal (order q c) e)
 
-both : (a b : Bool) → T (a && b) → T a × T b
+pub both : (a b : Bool) → T (a && b) → T a × T b
 both true b p = (tt, p)
 both false b p = absurd p
 
-less : (r : Ordering) → T (is_lt r) → r ≡ Less
+pub less : (r : Ordering) → T (is_lt r) → r ≡ Less
 less Less p = refl
 less Equal p = absurd p
 less Greater p = absurd p

@@ -3,14 +3,14 @@
 ghost use Rattle.std.specs.Prelude.{◌≡◌, ◌++◌, Some, IfOk, OnOk};
 ghost use Rattle.std.specs.Option.{option_and_then, option_copied};
 ghost use Rattle.std.specs.Str.{IsUtf8};
-ghost use Rattle.wef_base.specs.Words.{decoded};
+ghost use Rattle.wef_base.specs.Words.{decoded, parts};
 ghost use Rattle.wef_eventing.specs.Addresses.{AddressesReadBack, AreNames, last_piece, piece_before_last, segment};
 ghost use Rattle.wef_eventing.specs.Addresses as spec;
 
 use percent_encoding::{AsciiSet, NON_ALPHANUMERIC, ascii_set, utf8_percent_encode};
 use std::alloc::{AllocError, Global};
 use wef_base::words::{decode, split};
-use wef_base::{Bytes, SourceName, SubId, Text, ValueFault};
+use wef_base::{Bytes, List, SourceName, SubId, Text, ValueFault};
 
 /// The bytes that a segment shows escaped, beside those past ASCII: all but the unreserved
 /// characters (RFC 3986, section 2.3).
@@ -62,9 +62,8 @@ fn push_segment(address: &mut Text, name: &Text) -> Result<(), AllocError>
 pub fn subscription_in(address: &Text) -> Result<Option<SubId>, AllocError>
     ensures { IfOk result (λ sub. sub ≡ spec.subscription_in address.now) }
 {
-    let alloc = address.alloc();
-    let pieces = split(alloc, address.as_str().as_bytes(), b'/')?;
-    let Some(text) = decoded_piece(alloc, before_last(pieces.as_slice()))? else {
+    let pieces = pieces_of(address)?;
+    let Some(text) = decoded_piece(address.alloc(), before_last(pieces.as_slice()))? else {
         return Ok(None);
     };
     match SubId::read(&text) {
@@ -80,9 +79,8 @@ pub fn subscription_in(address: &Text) -> Result<Option<SubId>, AllocError>
 pub fn source_in(address: &Text) -> Result<Option<SourceName>, AllocError>
     ensures { IfOk result (λ source. source ≡ spec.source_in address.now) }
 {
-    let alloc = address.alloc();
-    let pieces = split(alloc, address.as_str().as_bytes(), b'/')?;
-    let Some(text) = decoded_piece(alloc, last(pieces.as_slice()))? else {
+    let pieces = pieces_of(address)?;
+    let Some(text) = decoded_piece(address.alloc(), last(pieces.as_slice()))? else {
         return Ok(None);
     };
     match SourceName::read(&text) {
@@ -90,6 +88,13 @@ pub fn source_in(address: &Text) -> Result<Option<SourceName>, AllocError>
         Err(ValueFault::BadName) => Ok(None),
         Err(_) => Err(AllocError),
     }
+}
+
+/// The pieces of an address around its slashes.
+fn pieces_of(address: &Text) -> Result<List<Bytes>, AllocError>
+    ensures { IfOk result (λ pieces. pieces ≡ parts 47 address.now) }
+{
+    split(address.alloc(), address.as_str().as_bytes(), b'/')
 }
 
 fn last(pieces: &[Bytes]) -> Option<&Bytes>
