@@ -5,4 +5,5 @@ pub mod Histories
 pub mod Keys
 pub mod Laws
 pub mod Prepared
+pub mod State
 pub mod Windows

@@ -78,8 +78,17 @@ fn start_changes(
     Ok(changes)
 }
 
-/// Writes an event as the next record of its channel, and answers its number.
+/// Writes an event as the next record of its channel, and answers its number. Where the rows are the
+/// window of histories, they are that of the longer ones.
 pub fn write_in<K: Keeper>(keeper: &mut K, event: &Event) -> Result<u64, LogFault>
+    ensures call { IsCall log_store AreFormed (λ found. answers.write_effect found event.now) (λ found. answers.next_number found event.now) result (K.store keeper.old) (K.store keeper.new) }
+    ensures window { access.From (K.store keeper.old) (K.store keeper.new) (λ found after. IfOk result (answers.ExtendsHistory found after event.now)) }
+{
+    write_next(keeper, event)
+}
+
+/// As `write_in`, by the rows alone.
+fn write_next<K: Keeper>(keeper: &mut K, event: &Event) -> Result<u64, LogFault>
     ensures { IsCall log_store AreFormed (λ found. answers.write_effect found event.now) (λ found. answers.next_number found event.now) result (K.store keeper.old) (K.store keeper.new) }
 {
     access::open(keeper)?;

@@ -14,17 +14,30 @@ ghost use Rattle.wef_source_log.specs.Windows as windows;
 
 use crate::changing::{start_in, write_in};
 use crate::faults::LogFault;
-use crate::reading::{first_of, last_of, page_of};
+use crate::reading::{first_of, last_of, open_in, page_of};
 use std::alloc::Global;
+use std::marker::Model;
 use wef_base::{ChannelName, List};
 use wef_event::Event;
-use wef_keeper::{Keeper, MemKeeper, Plan, access};
+use wef_keeper::{Keeper, MemKeeper, Plan};
 
 /// A log that keeps the last records of each channel in a store.
 #[derive(Drop)]
 pub struct Log<K> {
     keeper: K,
     boot: u64,
+}
+
+impl<K> Model for Log<K> {
+    ghost use Rattle.std.specs.Prelude.{ℕ, refl};
+    ghost use Rattle.std.specs.Coded.{code_by, coded_ℕ, coded×};
+    ghost use Rattle.wef_source_log.specs.State.{LogState};
+
+    ghost Value = { LogState K };
+
+    ghost coded = { code_by (K × ℕ) (coded× K.code coded_ℕ) (λ log. (log.keeper, log.boot)) (λ p. record { keeper = p.0; boot = p.1 }) (λ _. refl) };
+
+    ghost view = { λ log. record { keeper = log.keeper; boot = log.boot } };
 }
 
 impl<K: Keeper> Log<K> {
@@ -112,8 +125,7 @@ impl<K: Keeper> Log<K> {
         ensures refusal { IfErr result answers.RefusesRead }
         ensures boot { self.new.boot ≡ self.old.boot }
     {
-        access::open(&mut self.keeper)?;
-        Ok(())
+        open_in(&mut self.keeper)
     }
 
     /// As `first`, in a store that is ready.

@@ -1,10 +1,10 @@
-//! How the log's rows are read in a store that is ready. Each row that is read is tested.
+//! How the log's store is opened, and its rows are read in one that is ready. Each row that is read is tested.
 
 ghost use Rattle.std.specs.Prelude.{◌≡◌, ◌<◌, ◌≤◌, ◌++◌, false, true, take, map, is_some, IfOk, IfErr, IfSome};
 ghost use Rattle.std.specs.List.{AllByRecursion, list_all};
 ghost use Rattle.wef_event.specs.Events as the_event;
 ghost use Rattle.wef_keeper.specs.Access as access;
-ghost use Rattle.wef_keeper.specs.Calls.{fails};
+ghost use Rattle.wef_keeper.specs.Calls.{Looks, fails};
 ghost use Rattle.wef_keeper.specs.Keeping.{row_at};
 ghost use Rattle.wef_source_log.specs.Answers as answers;
 ghost use Rattle.wef_source_log.specs.Faults.{log_store};
@@ -20,6 +20,15 @@ use wef_base::numbers::MAX;
 use wef_base::{ChannelName, List};
 use wef_event::Event;
 use wef_keeper::{Depth, Keeper, Key, Row, access};
+
+/// Opens the store.
+pub fn open_in<K: Keeper>(keeper: &mut K) -> Result<(), LogFault>
+    ensures looks { Looks log_store access.AnyRows result (K.store keeper.old) (K.store keeper.new) }
+    ensures refusal { IfErr result answers.RefusesRead }
+{
+    access::open(keeper)?;
+    Ok(())
+}
 
 /// The row of a key, or none where there is none. `Failed` where it isn't of its form.
 pub fn formed_row<K: Keeper>(keeper: &mut K, key: &Key) -> Result<Option<Row>, LogFault>

@@ -1,16 +1,12 @@
-use Rattle.std.specs.Prelude.{IfOk}
-use Rattle.wef_keeper.specs.Calls.{Did}
-use Rattle.wef_keeper.proofs.Calls.{from_weaker}
-use Rattle.wef_source_log.specs.Answers.{ExtendsHistory, next_number, write_effect}
+use Rattle.std.proofs.Common.{subst}
+use Rattle.wef_keeper.specs.Calls.{IsCall}
+use Rattle.wef_source_log.specs.Answers.{next_number, write_effect}
 use Rattle.wef_source_log.specs.Faults.{log_store}
 use Rattle.wef_source_log.specs.Forms.{AreFormed}
-use Rattle.wef_source_log.proofs.Writes.{extends_window}
 use Rattle.wef_source_log.proofs.logs.Log.write.Goals as goal
 
-pub returns-clause-window : goal.returns-clause-window
-returns-clause-window g c =
+pub returns-clause-call : goal.returns-clause-call
+returns-clause-call g c =
     let event = c.args.event.now in
-    let before = g.K.Keeper.store c.args.self.now.keeper in
-    let now = g.K.Keeper.store c.write_in.new.keeper in
-    from_weaker (Did log_store AreFormed (λ rows. write_effect rows event) (λ rows. next_number rows event) c.write_in.result before now) (λ found after. IfOk c.write_in.result (ExtendsHistory found after event))
-    before now (λ found after did. extends_window c.write_in.result event found after did.answer) c.write_in.ensures.did
+    subst (λ keeper. IsCall log_store AreFormed (λ rows. write_effect rows event) (λ rows. next_number rows event) c.write_in.result (g.K.Keeper.store keeper) (g.K.Keeper.store c.write_in.new.keeper))
+    (λ i. (c.self.view_is i).keeper) c.write_in.ensures.call
