@@ -1,5 +1,5 @@
 -- Batches that words make have items, numbers and channels as batches have.
-use Rattle.std.proofs.Common.{◌≡◌, ℕ, ◌+◌, Bool, true, false, ◌&&◌, ◌||◌, cond, List, [], ◌∷◌, Ordering, length, refl, ap, sym, ◌∙◌, arith, max, nat_lt, length-append}
+use Rattle.std.proofs.Common.{◌≡◌, ℕ, ◌+◌, Bool, true, false, ◌&&◌, ◌||◌, cond, List, [], ◌∷◌, Ordering, length, refl, ap, sym, subst, ◌∙◌, arith, max, nat_lt, length-append}
 use Rattle.std.specs.Prelude.{◌==◌, Option, Some, None, codes, is_some, not, unwrap_or}
 use Rattle.std.specs.Cmp.Lexicographic.{slice_cmp}
 use Rattle.std.specs.FinMap as map
@@ -28,6 +28,7 @@ use Rattle.wef_replay.specs.PlainEvents.{IsPlainItem}
 use Rattle.wef_replay.specs.Values.{channel_word, number_word}
 use Rattle.wef_replay.specs.declared.batches.BatchWord.{BatchWord}
 use Rattle.wef_replay.specs.declared.batches.BatchWord.TheVariants.{Item, Reach, Ack}
+use Rattle.wef_replay.proofs.Cuts.{HasFirst, has_first}
 use Rattle.wef_replay.proofs.Gifts.{AllOf, all_of-if, all_of-map, all_of-tested, all_of-then}
 use Rattle.wef_replay.proofs.GoodNames.{decoded_is_text, good-channel, kept_channel}
 use Rattle.wef_replay.proofs.GoodNumbers.{count_from_between, good-number, is_count-max, of_record}
@@ -197,17 +198,16 @@ good-batch_words word words =
 
 -- ---- batches that are kept as words
 
-none_is_said : are_words empty_batch ≡ false
-none_is_said = ap (λ n. (not (0 == 0) || not (n == 0) || false) && list_all is_item [] && list_all is_reach (map.entries empty_batch.to)) none
+-- what words spell is within the limits
+pub good-spelled : (text : List ℕ) → is_some (read_words empty_batch (parts 32 text)) ≡ true → true ≡ are_words (spelled (parts 32 text))
+good-spelled text some = sym (by (read_words empty_batch (parts 32 text)) good some)
   where
-    none : length (map.entries empty_batch.to) ≡ 0
-    none = sym (map.len-entries empty_batch.to) ∙ map.len-empty (slice_cmp nat_cmp) ℕ
+    found : HasFirst 32 text
+    found = has_first 32 text
 
--- what words spell says anything where there are words, and is within the limits then
-pub good-spelled : (words : List (List ℕ)) → is_some (read_words empty_batch words) ≡ true → not (length words == 0) ≡ are_words (spelled words)
-good-spelled [] some = sym none_is_said
-good-spelled (word ∷ words) some = more_than_none (length (word ∷ words)) (length words) (omega arith) ∙ sym (by (read_words empty_batch (word ∷ words)) (good-batch_words word words) some)
-  where
+    good : AllOf AreGoodWords (read_words empty_batch (parts 32 text))
+    good = subst (λ words. AllOf AreGoodWords (read_words empty_batch words)) (sym found.are) (good-batch_words found.first found.more)
+
     by : (given : Option batch.Batch) → AllOf AreGoodWords given → is_some given ≡ true → are_words (unwrap_or given empty_batch) ≡ true
     by None good some = absurd (false≢true some)
     by (Some b) good some = good.0

@@ -14,7 +14,7 @@ use Rattle.wef_event.specs.declared.unnumbered.PlainEvent.{PlainEvent}
 use Rattle.wef_query.specs.Queries.{all_events_of}
 use Rattle.wef_replay.specs.BatchWords.{empty_batch, greatest, read_words}
 use Rattle.wef_replay.specs.Good.{are_all, asks_for_all, fits_always, is_channel, is_end, is_line, is_no_collector, is_source, is_subscription}
-use Rattle.wef_replay.specs.Grammar.{all_of, ask_line, back_line, batch_line, calm_line, crash_line, deliver_line, does_nothing, end_line, event_if_xml, event_words, fail_line, failure_line_of, fitting_event, if_fits, line_of_words, lost_line, meaning, poll_line, print_line, show_line, source_line, source_line_of, stop_line, subscribe_line, subscribe_numbers, write_line}
+use Rattle.wef_replay.specs.Grammar.{all_of, ask_line, back_line, batch_line, calm_line, crash_line, deliver_line, does_nothing, end_line, event_if_xml, event_words, fail_line, failure_line_of, fitting_event, if_fits, line_of_words, lost_line, meaning, other_line, poll_line, print_line, show_line, source_line, source_line_of, stop_line, subscribe_line, subscribe_numbers, write_line}
 use Rattle.wef_replay.specs.PlainEvents.{HasPlainEvents}
 use Rattle.wef_replay.specs.Reading.{with_first}
 use Rattle.wef_replay.specs.Values.{after_word, channel_word, channel_words, end_word, number_word, sending_source_word, source_word, subscription_word}
@@ -237,14 +237,17 @@ good-source_line_of kind words =
     (all_of-if IsGoodLine (same kind (codes "deliver")) _ _ (good-deliver_line words)
     (all_of-if IsGoodLine (same kind (codes "back")) _ _ (good-back_line words) (good-failure_line_of kind words)))))))
 
-good-line_of_words : (words : List (List ℕ)) → AllOf IsGoodLine (line_of_words words)
-good-line_of_words [] = tt
-good-line_of_words (kind ∷ words) =
+good-other_line : (words : List (List ℕ)) → AllOf IsGoodLine (other_line words)
+good-other_line [] = tt
+good-other_line (kind ∷ words) =
     all_of-if IsGoodLine (same kind (codes "subscribe")) _ _ (good-subscribe_line words)
     (all_of-if IsGoodLine (same kind (codes "end")) _ _ (good-end_line words)
-    (all_of-if IsGoodLine (same kind (codes "batch")) _ _ (good-batch_line words)
     (all_of-if IsGoodLine (same kind (codes "show")) _ _ (good-show_line words)
-    (all_of-if IsGoodLine (same kind (codes "print")) _ _ (good-print_line words) (good-source_line_of kind words)))))
+    (all_of-if IsGoodLine (same kind (codes "print")) _ _ (good-print_line words) (good-source_line_of kind words))))
+
+good-line_of_words : (words : List (List ℕ)) → AllOf IsGoodLine (line_of_words words)
+good-line_of_words [] = tt
+good-line_of_words (kind ∷ words) = all_of-if IsGoodLine (same kind (codes "batch")) _ _ (good-batch_line words) (good-other_line (kind ∷ words))
 
 pub good-meaning : (text : List ℕ) → AllOf (AllOf IsGoodLine) (meaning text)
 good-meaning text =

@@ -1,4 +1,6 @@
 pub mod Among
+pub mod BatchLines
+pub mod Cuts
 pub mod Fitting
 pub mod Following
 pub mod Gifts

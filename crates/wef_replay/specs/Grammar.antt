@@ -49,9 +49,12 @@ abbrev pub end_line : List (List ℕ) → Option Line
 end_line (sub ∷ []) = option_map (λ u. End u) (subscription_word sub)
 end_line _ = None
 
+abbrev pub batch_of_source : List ℕ → List ℕ → List (List ℕ) → Option Line
+batch_of_source sub source words =
+    option_and_then (λ u. option_and_then (λ s. option_map (λ b. Batch u s b) (read_words empty_batch words)) (sending_source_word source)) (subscription_word sub)
+
 abbrev pub batch_line : List (List ℕ) → Option Line
-batch_line (sub ∷ source ∷ word ∷ words) =
-    option_and_then (λ u. option_and_then (λ s. option_map (λ b. Batch u s b) (read_words empty_batch (word ∷ words))) (sending_source_word source)) (subscription_word sub)
+batch_line (sub ∷ source ∷ word ∷ words) = batch_of_source sub source (word ∷ words)
 batch_line _ = None
 
 abbrev pub source_line : List (List ℕ) → Option Line
@@ -145,15 +148,19 @@ source_line_of kind words =
     else (if same kind (codes "deliver") then deliver_line words
     else (if same kind (codes "back") then back_line words else failure_line_of kind words))))))
 
+-- a line that is no batch, by its first word
+abbrev pub other_line : List (List ℕ) → Option Line
+other_line [] = None
+other_line (kind ∷ words) =
+    if same kind (codes "subscribe") then subscribe_line words
+    else (if same kind (codes "end") then end_line words
+    else (if same kind (codes "show") then show_line words
+    else (if same kind (codes "print") then print_line words else source_line_of kind words)))
+
 -- the line that words make, by their first
 abbrev pub line_of_words : List (List ℕ) → Option Line
 line_of_words [] = None
-line_of_words (kind ∷ words) =
-    if same kind (codes "subscribe") then subscribe_line words
-    else (if same kind (codes "end") then end_line words
-    else (if same kind (codes "batch") then batch_line words
-    else (if same kind (codes "show") then show_line words
-    else (if same kind (codes "print") then print_line words else source_line_of kind words))))
+line_of_words (kind ∷ words) = if same kind (codes "batch") then batch_line words else other_line (kind ∷ words)
 
 -- a line without words, or a comment
 abbrev pub does_nothing : List ℕ → Bool

@@ -1,10 +1,12 @@
-//! The words of a batch.
+//! The words of a batch, parted by one space.
 
-ghost use Rattle.std.specs.Prelude.{◌≡◌, IsTrue, IfOk, OnOk};
+ghost use Rattle.std.specs.Prelude.{◌≡◌, is_some, IsTrue, IfOk, OnOk};
 ghost use Rattle.wef_base.specs.Characters.{is_xml_text};
+ghost use Rattle.wef_base.specs.Words.{parts};
 ghost use Rattle.wef_replay.specs.Reading.{Gives};
 ghost use Rattle.wef_replay.specs.BatchWords.{empty_batch, added, batch_word, colon_joined, data_word, event_word, dropped_word, long_word, loose_word, reach_word, word_of, read_words};
 
+use crate::cutting::Parts;
 use crate::values::{LineFault, channel_of, is_word, number_of, text_of};
 use std::alloc::{AllocError, Global};
 use wef_base::numbers::MAX;
@@ -26,16 +28,38 @@ pub enum BatchWord {
     Ack,
 }
 
+/// Whether words make a batch. One of them is read at a time, and its event is let go.
+pub fn is_batch(alloc: Global, words: &[u8]) -> Result<bool, AllocError>
+    ensures { IfOk result (λ is. is ≡ is_some (read_words empty_batch (parts 32 words.now))) }
+{
+    for word in Parts::of(words, b' ') {
+        if !is_batch_word(alloc, word)? {
+            return Ok(false);
+        }
+    }
+    Ok(true)
+}
+
+fn is_batch_word(alloc: Global, word: &[u8]) -> Result<bool, AllocError>
+    ensures { IfOk result (λ is. is ≡ is_some (batch_word word.now)) }
+{
+    match word_of(alloc, word) {
+        Ok(_) => Ok(true),
+        Err(LineFault::NoMemory) => Err(AllocError),
+        Err(LineFault::NotUnderstood) => Ok(false),
+    }
+}
+
 /// The batch that words make, in order.
-pub fn batch_of(alloc: Global, words: &[Bytes]) -> Result<Batch, LineFault>
-    ensures { Gives result (read_words empty_batch words.now) }
+pub fn batch_of(alloc: Global, words: &[u8]) -> Result<Batch, LineFault>
+    ensures { Gives result (read_words empty_batch (parts 32 words.now)) }
 {
     let mut batch = Batch {
         items: List::new(alloc),
         to: Bookmark::new(alloc),
         ack_wanted: false,
     };
-    for word in words {
+    for word in Parts::of(words, b' ') {
         add(&mut batch, word_of(alloc, word)?)?;
     }
     Ok(batch)
@@ -56,10 +80,10 @@ fn add(batch: &mut Batch, word: BatchWord) -> Result<(), AllocError>
     Ok(())
 }
 
-fn word_of(alloc: Global, word: &Bytes) -> Result<BatchWord, LineFault>
+fn word_of(alloc: Global, word: &[u8]) -> Result<BatchWord, LineFault>
     ensures { Gives result (batch_word word.now) }
 {
-    let pieces = split(alloc, word.as_slice(), b':')?;
+    let pieces = split(alloc, word, b':')?;
     word_of_pieces(alloc, pieces.as_slice())
 }
 

@@ -1,9 +1,12 @@
 //! The lines of a schedule, read word by word.
 
 ghost use Rattle.std.specs.Prelude.{◌≡◌};
-ghost use Rattle.wef_replay.specs.Grammar.{ask_line, back_line, batch_line, calm_line, crash_line, deliver_line, does_nothing, end_line, event_words, fail_line, failure_line_of, fitting_event, line_of_words, lost_line, meaning, poll_line, print_line, show_line, source_line, source_line_of, stop_line, subscribe_line, subscribe_numbers, write_line};
+ghost use Rattle.wef_base.specs.Words.{parts};
+ghost use Rattle.wef_replay.specs.Grammar.{ask_line, back_line, batch_line, batch_of_source, calm_line, crash_line, deliver_line, does_nothing, end_line, event_words, fail_line, failure_line_of, fitting_event, line_of_words, lost_line, meaning, other_line, poll_line, print_line, show_line, source_line, source_line_of, stop_line, subscribe_line, subscribe_numbers, write_line};
+ghost use Rattle.wef_replay.specs.Parts.{parts_behind};
 ghost use Rattle.wef_replay.specs.Reading.{Gives};
 
+use crate::cutting::cut;
 use crate::lines::Line;
 use crate::spelled::SpelledBatch;
 use crate::values::{
@@ -27,8 +30,7 @@ pub fn read_line(alloc: Global, text: &[u8]) -> Result<Option<Line>, LineFault>
     if does_nothing(text) {
         return Ok(None);
     }
-    let words = split(alloc, text, b' ')?;
-    Ok(Some(line_of(alloc, words.as_slice())?))
+    Ok(Some(line_of(alloc, text)?))
 }
 
 fn does_nothing(text: &[u8]) -> bool
@@ -40,13 +42,25 @@ fn does_nothing(text: &[u8]) -> bool
     }
 }
 
-fn line_of(alloc: Global, words: &[Bytes]) -> Result<Line, LineFault>
-    ensures { Gives result (line_of_words words.now) }
+/// A line that does something. A batch, which may have many words, isn't cut into them.
+fn line_of(alloc: Global, text: &[u8]) -> Result<Line, LineFault>
+    ensures { Gives result (line_of_words (parts 32 text.now)) }
+{
+    let (kind, words) = cut(text, b' ');
+    if kind == "batch".as_bytes() {
+        return batch_line_of(alloc, words);
+    }
+    let words = split(alloc, text, b' ')?;
+    other_line_of(alloc, words.as_slice())
+}
+
+/// A line that is no batch.
+fn other_line_of(alloc: Global, words: &[Bytes]) -> Result<Line, LineFault>
+    ensures { Gives result (other_line words.now) }
 {
     match words {
         [kind, words @ ..] if is_word(kind, "subscribe") => subscribe_of(alloc, words),
         [kind, words @ ..] if is_word(kind, "end") => ended_of(alloc, words),
-        [kind, words @ ..] if is_word(kind, "batch") => batch_line_of(alloc, words),
         [kind, words @ ..] if is_word(kind, "show") => show_of(words),
         [kind, words @ ..] if is_word(kind, "print") => print_of(alloc, words),
         [kind, words @ ..] => source_line_of(alloc, kind, words),
@@ -149,18 +163,34 @@ fn ended_of(alloc: Global, words: &[Bytes]) -> Result<Line, LineFault>
     }
 }
 
-fn batch_line_of(alloc: Global, words: &[Bytes]) -> Result<Line, LineFault>
-    ensures { Gives result (batch_line words.now) }
+/// The line of a batch, by the words behind its first.
+fn batch_line_of(alloc: Global, words: Option<&[u8]>) -> Result<Line, LineFault>
+    ensures { Gives result (batch_line (parts_behind 32 words.entry)) }
 {
-    match words {
-        [sub, source, _, ..] => {
-            let sub = subscription_of(alloc, sub)?;
-            let source = sending_source_of(alloc, source)?;
-            let batch = SpelledBatch::read(alloc, &words[2..])?;
-            Ok(Line::Batch { sub, source, batch })
-        }
-        _ => Err(LineFault::NotUnderstood),
-    }
+    let Some(words) = words else {
+        return Err(LineFault::NotUnderstood);
+    };
+    let (sub, Some(words)) = cut(words, b' ') else {
+        return Err(LineFault::NotUnderstood);
+    };
+    let (source, Some(words)) = cut(words, b' ') else {
+        return Err(LineFault::NotUnderstood);
+    };
+    batch_of_source(alloc, sub, source, words)
+}
+
+fn batch_of_source(
+    alloc: Global,
+    sub: &[u8],
+    source: &[u8],
+    words: &[u8],
+) -> Result<Line, LineFault>
+    ensures { Gives result (batch_of_source sub.now source.now (parts 32 words.now)) }
+{
+    let sub = subscription_of(alloc, &Bytes::from_slice(alloc, sub)?)?;
+    let source = sending_source_of(alloc, &Bytes::from_slice(alloc, source)?)?;
+    let batch = SpelledBatch::read(alloc, words)?;
+    Ok(Line::Batch { sub, source, batch })
 }
 
 fn declared_of(alloc: Global, words: &[Bytes]) -> Result<Line, LineFault>

@@ -2,6 +2,7 @@
 #![tactic(auto)]
 
 mod batches;
+mod cutting;
 mod grammar;
 mod judging_lines;
 pub mod laws;

@@ -7,6 +7,7 @@ ghost use Rattle.wef_replay.specs.PlainEvents.{HasPlainEvents};
 ghost use Rattle.wef_replay.specs.Reading.{Gives};
 ghost use Rattle.wef_replay.specs.Schedule.{ReadsSchedule, meaning_after, schedule_of};
 
+use crate::cutting::Parts;
 use crate::grammar::read_line;
 use crate::lines::Line;
 use crate::naming::NamedSources;
@@ -14,7 +15,6 @@ use crate::values::LineFault;
 use std::alloc::{AllocError, Global};
 use thiserror::Error;
 use wef_base::List;
-use wef_base::words::split;
 
 /// The greatest schedule, in bytes: 16 MiB.
 pub const SCHEDULE_LIMIT: usize = 16_777_216;
@@ -61,13 +61,12 @@ fn read_lines(alloc: Global, bytes: &[u8]) -> Result<List<Line>, ScheduleFault>
     if bytes.len() > SCHEDULE_LIMIT {
         return Err(ScheduleFault::TooLong);
     }
-    let texts = split(alloc, bytes, b'\n')?;
     let mut lines = List::new(alloc);
     let mut names = NamedSources::new(alloc);
     let mut number = 0u64;
-    for text in texts.as_slice() {
+    for text in Parts::of(bytes, b'\n') {
         number += 1;
-        match read_next(alloc, &names, text.as_slice()) {
+        match read_next(alloc, &names, text) {
             Ok(Some(line)) => {
                 names.note(&line)?;
                 lines.push(line)?;

@@ -1,27 +1,30 @@
 //! Batches, kept as the words that spell them.
 
-ghost use Rattle.std.specs.Prelude.{◌≡◌, ◌==◌, length, IfOk};
+ghost use Rattle.std.specs.Prelude.{◌≡◌, IfOk};
+ghost use Rattle.wef_base.specs.Words.{parts};
 ghost use Rattle.wef_replay.specs.BatchWords.{empty_batch, read_words};
 ghost use Rattle.wef_replay.specs.Good.{are_words};
 ghost use Rattle.wef_replay.specs.Reading.{Gives};
 
-use crate::batches::batch_of;
+use crate::batches::{batch_of, is_batch};
 use crate::values::LineFault;
 use std::alloc::{AllocError, Global};
 use std::marker::Model;
-use wef_base::{Bytes, List};
+use wef_base::Bytes;
 use wef_batch::Batch;
 
 /// The batch of a line. It is kept as the words that spell it, and its events are made only where
-/// the line is done: an event with its tree takes some hundred times as much as its word.
+/// the line is done: an event takes many times as much as its word.
 #[derive(Debug, Drop)]
 pub struct SpelledBatch {
-    words: List<Bytes>,
+    /// The words, parted by one space.
+    words: Bytes,
 }
 
 impl Model for SpelledBatch {
     ghost use Rattle.std.specs.Prelude.{◌≡◌, true, is_some};
     ghost use Rattle.wef_batch.specs.declared.items.Batch as batch;
+    ghost use Rattle.wef_base.specs.Words.{parts};
     ghost use Rattle.wef_batch.specs.contracts.items.Batch as contracts;
     ghost use Rattle.wef_replay.specs.BatchWords.{empty_batch, read_words, spelled};
 
@@ -29,19 +32,21 @@ impl Model for SpelledBatch {
 
     ghost coded = { contracts.the_row.coded };
 
-    ghost view = { λ b. spelled b.words };
+    ghost view = { λ b. spelled (parts 32 b.words) };
 
-    ghost invariant = { λ b. is_some (read_words empty_batch b.words) ≡ true };
+    ghost invariant = { λ b. is_some (read_words empty_batch (parts 32 b.words)) ≡ true };
 }
 
 impl SpelledBatch {
-    /// The batch that words spell, in order.
-    pub(crate) fn read(alloc: Global, words: &[Bytes]) -> Result<SpelledBatch, LineFault>
-        ensures { Gives result (read_words empty_batch words.now) }
+    /// The batch that words spell, in order. It costs a copy of their bytes.
+    pub(crate) fn read(alloc: Global, words: &[u8]) -> Result<SpelledBatch, LineFault>
+        ensures { Gives result (read_words empty_batch (parts 32 words.now)) }
     {
-        let _batch = batch_of(alloc, words)?;
+        if !is_batch(alloc, words)? {
+            return Err(LineFault::NotUnderstood);
+        }
         Ok(SpelledBatch {
-            words: copied(alloc, words)?,
+            words: Bytes::from_slice(alloc, words)?,
         })
     }
 
@@ -56,21 +61,12 @@ impl SpelledBatch {
         }
     }
 
-    /// Whether the batch says anything: what it says is within the limits of a schedule, which its
-    /// type promises.
+    /// Whether the batch says anything, and what it says is within the limits of a schedule, all of
+    /// which its type promises.
     pub(crate) fn has_word(&self) -> bool
         ensures { result ≡ are_words self.now }
     {
-        !self.words.is_empty()
+        let _kept = self.words.len();
+        true
     }
-}
-
-fn copied(alloc: Global, words: &[Bytes]) -> Result<List<Bytes>, AllocError>
-    ensures { IfOk result (λ copies. copies ≡ words.now) }
-{
-    let mut copies = List::new(alloc);
-    for word in words {
-        copies.push(Bytes::from_slice(alloc, word.as_slice())?)?;
-    }
-    Ok(copies)
 }

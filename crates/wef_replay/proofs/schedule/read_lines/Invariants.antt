@@ -1,12 +1,12 @@
-use Rattle.std.proofs.Common.{◌≡◌, ◌+◌, ◌++◌, drop}
+use Rattle.std.proofs.Common.{◌≡◌, ◌+◌, ◌++◌, length}
 use Rattle.wef_replay.specs.Good.{no_names}
+use Rattle.wef_replay.specs.Parts.{parts_left}
 use Rattle.wef_replay.specs.Schedule.{first_bad, lines_of, texts_of}
 use Rattle.wef_replay.proofs.schedule.read_lines.Given as goal
 
 abbrev pub invariant-loop-text : goal.invariant-loop-text
 invariant-loop-text l = record {
-  texts : l.text-items ≡ texts_of l.bytes;
-  read : l.lines ++ lines_of l.names (drop l.text-index l.text-items) ≡ lines_of no_names l.text-items;
-  good : first_bad l.names (l.number + 1) (drop l.text-index l.text-items) ≡ first_bad no_names 1 l.text-items;
-  counted : l.number ≡ l.text-index;
+  read : l.lines ++ lines_of l.names (parts_left l.text-iterator) ≡ lines_of no_names (texts_of l.bytes);
+  good : first_bad l.names (l.number + 1) (parts_left l.text-iterator) ≡ first_bad no_names 1 (texts_of l.bytes);
+  counted : l.number + length (parts_left l.text-iterator) ≡ length (texts_of l.bytes);
 }

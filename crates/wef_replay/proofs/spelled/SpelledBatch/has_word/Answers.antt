@@ -1,8 +1,8 @@
-use Rattle.std.proofs.Common.{ap, ◌∙◌}
-use Rattle.std.specs.Prelude.{not}
+use Rattle.std.proofs.Common.{ap, sym, ◌∙◌}
+use Rattle.wef_base.specs.Words.{parts}
 use Rattle.wef_replay.specs.Good.{are_words}
 use Rattle.wef_replay.proofs.GoodBatches.{good-spelled}
 use Rattle.wef_replay.proofs.spelled.SpelledBatch.has_word.Goals as goal
 
 pub returns : goal.returns
-returns c = ap not c.is_empty.ensures ∙ good-spelled c.self.inside.words c.self.invariant ∙ ap are_words c.self.view_is
+returns c = good-spelled c.self.inside.words c.self.invariant ∙ ap are_words c.self.view_is
