@@ -18,6 +18,7 @@ use Rattle.wef_base.specs.Words.{decoded, parts, utf8}
 use Rattle.wef_base.specs.declared.names.Letters.TheVariants.{Small}
 use Rattle.wef_base.proofs.Decimals.{plain_number-decimal}
 use Rattle.wef_base.proofs.Kept.{name_kept}
+use Rattle.wef_base.specs.declared.numbers.TheConstants.{MAX}
 use Rattle.wef_batch.specs.Reach.{last_after, last_in, later, loose_sum, reach, reach_of, span_in}
 use Rattle.wef_batch.specs.WellFormed.{follows, is_above, is_at_least, is_in_order, is_listed, is_well_formed, rises}
 use Rattle.wef_batch.specs.declared.items.Batch.{Batch}
@@ -118,35 +119,35 @@ subscription_sound : (u body : List ℕ) (value : ℕ) → value ≤ 1 → is_su
 unfolding is_formed is_subscription_row
 subscription_sound u body value small name reads = λ i. name i && true && true && true && le_tested value 1 small i && reads i
 
-bookmark_sound : (u s c : List ℕ) (t : ℕ) → AreNames u s c → t ≤ 9223372036854775807 → IsSound (put (bookmark_key u s c) t [])
+bookmark_sound : (u s c : List ℕ) (t : ℕ) → AreNames u s c → t ≤ MAX → IsSound (put (bookmark_key u s c) t [])
 unfolding is_formed is_bookmark_row
-bookmark_sound u s c t names within = λ i. names i && true && le_tested t 9223372036854775807 within i && true
+bookmark_sound u s c t names within = λ i. names i && true && le_tested t MAX within i && true
 
-held_sound : (u s c text : List ℕ) (n : ℕ) → AreNames u s c → n ≤ 9223372036854775807 → is_event (record { channel = c; number = n; text = text }) ≡ true
+held_sound : (u s c text : List ℕ) (n : ℕ) → AreNames u s c → n ≤ MAX → is_event (record { channel = c; number = n; text = text }) ≡ true
     → IsSound (put (held_key u s c n) 0 text)
 unfolding is_formed is_held_row
-held_sound u s c text n names within event = λ i. names i && le_tested n 9223372036854775807 within i && true && event i
+held_sound u s c text n names within event = λ i. names i && le_tested n MAX within i && true && event i
 
-mark_sound : (u s c : List ℕ) (first last : ℕ) → AreNames u s c → first ≤ last → last ≤ 9223372036854775807 → IsSound (put (mark_key u s c first) last [])
+mark_sound : (u s c : List ℕ) (first last : ℕ) → AreNames u s c → first ≤ last → last ≤ MAX → IsSound (put (mark_key u s c first) last [])
 unfolding is_formed is_mark_row
-mark_sound u s c first last names order within = λ i. names i && le_tested first last order i && le_tested last 9223372036854775807 within i && true
+mark_sound u s c first last names order within = λ i. names i && le_tested first last order i && le_tested last MAX within i && true
 
-digits_read : (sum : ℕ) → sum ≤ 9223372036854775807 → is_some (plain_number 9223372036854775807 (decimal sum)) ≡ true
-digits_read sum within = ap (λ (read : Option ℕ). is_some read) (plain_number-decimal 9223372036854775807 sum within (omega arith))
+digits_read : (sum : ℕ) → sum ≤ MAX → is_some (plain_number MAX (decimal sum)) ≡ true
+digits_read sum within = ap (λ (read : Option ℕ). is_some read) (plain_number-decimal MAX sum within (omega arith))
 
-loose_sound : (u s c : List ℕ) (first last sum : ℕ) → AreNames u s c → first ≤ last → last ≤ 9223372036854775807 → sum ≤ 9223372036854775807
+loose_sound : (u s c : List ℕ) (first last sum : ℕ) → AreNames u s c → first ≤ last → last ≤ MAX → sum ≤ MAX
     → IsSound (put (loose_key u s c first) last (decimal sum))
 unfolding is_formed is_loose_row
 loose_sound u s c first last sum names order within few =
-    λ i. names i && le_tested first last order i && le_tested last 9223372036854775807 within i && digits_read sum few i
+    λ i. names i && le_tested first last order i && le_tested last MAX within i && digits_read sum few i
 
 heard_sound : (u s : List ℕ) (now : ℕ) → is_subscription_name u ≡ true → is_source_name s ≡ true → now ≤ 253402300799999 → IsSound (put (heard_key u s) now [])
 unfolding is_formed is_heard_row
 heard_sound u s now name source moment = λ i. (name i && source i) && true && true && le_tested now 253402300799999 moment i && true
 
-boot_sound : (n : ℕ) → n ≤ 9223372036854775807 → IsSound (put boot_key n [])
+boot_sound : (n : ℕ) → n ≤ MAX → IsSound (put boot_key n [])
 unfolding is_formed is_boot_row
-boot_sound n within = λ i. true && true && true && true && le_tested n 9223372036854775807 within i && true
+boot_sound n within = λ i. true && true && true && true && le_tested n MAX within i && true
 
 -- ---- the subscription that a live name leads to
 
@@ -261,8 +262,8 @@ kept_channels u body about e = words_channels u (parts 32 body) about e
 
 -- an item's numbers, in a channel, and its event
 abbrev IsWithin : List ℕ → Item → Type 0
-IsWithin c (Event event) = (event.number ≤ 9223372036854775807) × (is_event event ≡ true)
-IsWithin c (Dropped channel first last) = (same channel c ≡ true → first ≤ last) × (last ≤ 9223372036854775807)
+IsWithin c (Event event) = (event.number ≤ MAX) × (is_event event ≡ true)
+IsWithin c (Dropped channel first last) = (same channel c ≡ true → first ≤ last) × (last ≤ MAX)
 IsWithin c (Loose count) = Unit {0}
 
 span_ends : (previous : Option ℕ) (t : Bool) (first last : ℕ) → follows previous (if t then Some (first, last) else None) ≡ true → t ≡ true → first ≤ last
@@ -300,9 +301,9 @@ item_sound u s c b names (Loose count) within = tt
 -- a number, where there is one, is such as records have
 abbrev IsNumberOrNone : Option ℕ → Type 0
 IsNumberOrNone None = Unit {0}
-IsNumberOrNone (Some n) = n ≤ 9223372036854775807
+IsNumberOrNone (Some n) = n ≤ MAX
 
-later_within : (previous : Option ℕ) (t : Bool) (first last : ℕ) → IsNumberOrNone previous → last ≤ 9223372036854775807 → IsNumberOrNone (later previous (if t then Some (first, last) else None))
+later_within : (previous : Option ℕ) (t : Bool) (first last : ℕ) → IsNumberOrNone previous → last ≤ MAX → IsNumberOrNone (later previous (if t then Some (first, last) else None))
 later_within previous true first last before within = within
 later_within previous false first last before within = before
 
@@ -318,15 +319,15 @@ last_within c previous (item ∷ items) before numbers = last_within c (later pr
 reach_within : (c : List ℕ) (batch : Batch) → IsSoundBatch batch → IsNumberOrNone (reach c batch)
 reach_within c batch numbers = by (finite.get batch.to c) (numbers.to c)
   where
-    by : (to : Option ℕ) → ((n : ℕ) → to ≡ Some n → n ≤ 9223372036854775807) → IsNumberOrNone (reach_of to (last_in c batch.items))
+    by : (to : Option ℕ) → ((n : ℕ) → to ≡ Some n → n ≤ MAX) → IsNumberOrNone (reach_of to (last_in c batch.items))
     by None each = last_within c None batch.items tt numbers.items
     by (Some n) each = each n refl
 
-loose_changes_sound : (u s c : List ℕ) (b t sum : ℕ) → AreNames u s c → b < t → t ≤ 9223372036854775807 → sum ≤ 9223372036854775807 → AreSound (loose_changes u s c b t sum)
+loose_changes_sound : (u s c : List ℕ) (b t sum : ℕ) → AreNames u s c → b < t → t ≤ MAX → sum ≤ MAX → AreSound (loose_changes u s c b t sum)
 loose_changes_sound u s c b t sum names above within few =
     sound-if (nat_lt 0 sum) (put (loose_key u s c (b + 1)) t (decimal sum)) (λ _. loose_sound u s c (b + 1) t sum names (next_within b t above) within few)
 
-move_sound : (u s c : List ℕ) (b t sum : ℕ) → AreNames u s c → t ≤ 9223372036854775807 → sum ≤ 9223372036854775807 → AreSound (move_changes u s c b t sum)
+move_sound : (u s c : List ℕ) (b t sum : ℕ) → AreNames u s c → t ≤ MAX → sum ≤ MAX → AreSound (move_changes u s c b t sum)
 move_sound u s c b t sum names within few = by (nat_lt b t) (lt_holds b t)
   where
     by : (test : Bool) → (test ≡ true → b < t) → AreSound (if test then loose_changes u s c b t sum ++ put (bookmark_key u s c) t [] ∷ [] else [])
@@ -334,7 +335,7 @@ move_sound u s c b t sum names within few = by (nat_lt b t) (lt_holds b t)
         sound-append (loose_changes u s c b t sum) (put (bookmark_key u s c) t [] ∷ []) (loose_changes_sound u s c b t sum names (above refl) within few) (bookmark_sound u s c t names within, tt)
     by false above = tt
 
-reach_sound : (u s c : List ℕ) (b : ℕ) (batch : Batch) (reached : Option ℕ) → AreNames u s c → AllByRecursion (IsWithin c) batch.items → loose_sum batch.items ≤ 9223372036854775807
+reach_sound : (u s c : List ℕ) (b : ℕ) (batch : Batch) (reached : Option ℕ) → AreNames u s c → AllByRecursion (IsWithin c) batch.items → loose_sum batch.items ≤ MAX
     → IsNumberOrNone reached → AreSound (reach_changes u s c b batch reached)
 reach_sound u s c b batch None names items few within = tt
 reach_sound u s c b batch (Some t) names items few within =
@@ -351,7 +352,7 @@ all_ready batch (c ∷ channels) names e =
     let both = and_parts (is_in_order batch c) (list_all (is_in_order batch) channels) e in
     ((names.0, both.0), all_ready batch channels names.1 both.1)
 
-channel_sound : (rows : Rows) (u s : List ℕ) (batch : Batch) → is_subscription_name u ≡ true → is_source_name s ≡ true → IsSoundBatch batch → loose_sum batch.items ≤ 9223372036854775807
+channel_sound : (rows : Rows) (u s : List ℕ) (batch : Batch) → is_subscription_name u ≡ true → is_source_name s ≡ true → IsSoundBatch batch → loose_sum batch.items ≤ MAX
     → (c : List ℕ) → IsReady batch c → AreSound (channel_changes rows u s batch c)
 channel_sound rows u s batch name source numbers few c ready =
     let order = and_parts (rises c None batch.items) (is_at_least (finite.get batch.to c) (last_in c batch.items)) ready.1 in
@@ -361,18 +362,18 @@ channel_sound rows u s batch name source numbers few c ready =
 batch_sound : (rows : Rows) (u s : List ℕ) (channels : List (List ℕ)) (batch : Batch) (now : ℕ) → is_subscription_name u ≡ true → is_source_name s ≡ true → AllByRecursion IsChannel channels
     → is_well_formed channels batch ≡ true → IsSoundBatch batch → now ≤ 253402300799999 → AreSound (batch_changes rows u s channels batch now)
 batch_sound rows u s channels batch now name source names formed numbers moment =
-    let outer = and_parts (list_all (is_listed channels) batch.items && list_all (is_in_order batch) channels) (nat_le (loose_sum batch.items) 9223372036854775807) formed in
+    let outer = and_parts (list_all (is_listed channels) batch.items && list_all (is_in_order batch) channels) (nat_le (loose_sum batch.items) MAX) formed in
     let inner = and_parts (list_all (is_listed channels) batch.items) (list_all (is_in_order batch) channels) outer.0 in
-    let few = le_holds (loose_sum batch.items) 9223372036854775807 outer.1 in
+    let few = le_holds (loose_sum batch.items) MAX outer.1 in
     sound-append (flat_map (channel_changes rows u s batch) channels) (heard_changes rows u s now)
     (sound-flat_map (IsReady batch) (channel_changes rows u s batch) channels (channel_sound rows u s batch name source numbers few) (all_ready batch channels names inner.1))
     (sound-if (is_later now (finite.get rows (heard_key u s))) (put (heard_key u s) now []) (λ _. heard_sound u s now name source moment))
 
 -- ---- the law
 
-start_formed : (rows : Rows) → nat_lt (boot_of rows) 9223372036854775807 ≡ true → AreFormed rows → AreFormed (finite.insert rows boot_key (record { value = boot_of rows + 1; body = [] }))
+start_formed : (rows : Rows) → nat_lt (boot_of rows) MAX ≡ true → AreFormed rows → AreFormed (finite.insert rows boot_key (record { value = boot_of rows + 1; body = [] }))
 start_formed rows left formed =
-    formed_applied (put boot_key (boot_of rows + 1) [] ∷ []) rows (boot_sound (boot_of rows + 1) (next_within (boot_of rows) 9223372036854775807 (lt_holds (boot_of rows) 9223372036854775807 left)), tt) formed
+    formed_applied (put boot_key (boot_of rows + 1) [] ∷ []) rows (boot_sound (boot_of rows + 1) (next_within (boot_of rows) MAX (lt_holds (boot_of rows) MAX left)), tt) formed
 
 take_formed : (rows : Rows) (u s : List ℕ) (about : Subscription) (batch : Batch) (now : ℕ) → standing rows u ≡ Live about → is_source_name s ≡ true → is_well_formed (channels_read about) batch ≡ true
     → IsSoundBatch batch → now ≤ 253402300799999 → AreFormed rows → AreFormed (taken rows u s (channels_read about) batch now)

@@ -1,6 +1,5 @@
 pub mod Batches
 pub mod Channels
-pub mod Commits
 pub mod Forming
 pub mod FormsStay
 pub mod HeldPages
@@ -8,9 +7,8 @@ pub mod Hits
 pub mod ListedThere
 pub mod Live
 pub mod Moving
+pub mod OfStore
 pub mod OwnKeys
 pub mod Pages
-pub mod ReadsOf
 pub mod Sources
-pub mod Stands
 pub mod Taking

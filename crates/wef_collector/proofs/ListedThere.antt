@@ -11,6 +11,7 @@ use Rattle.wef_base.specs.Words.{parts}
 use Rattle.wef_eventing.specs.Kept.{channels_from, from_words, made_of, number_between, read_kept}
 use Rattle.wef_eventing.specs.Subscriptions.{all_events}
 use Rattle.wef_eventing.specs.declared.subscriptions.Subscription.{Subscription}
+use Rattle.wef_keeper.proofs.Stands.{Stands, rows_stand}
 use Rattle.wef_keeper.specs.Rows.{Rows, rows_after}
 use Rattle.wef_keeper.specs.Sections.{is_under}
 use Rattle.wef_keeper.specs.declared.keys.Depth.TheVariants.{Kind}
@@ -21,7 +22,6 @@ use Rattle.wef_collector.specs.Listing.{listed_by, listed_of}
 use Rattle.wef_collector.specs.Standing.{standing, standing_by, standing_of, subscription_rows}
 use Rattle.wef_collector.specs.There.{HaveOwnKeys, ListedAreThere, standing_as}
 use Rattle.wef_collector.specs.declared.listing.Listed.{Listed}
-use Rattle.wef_collector.proofs.Stands.{Stands, rows_stand}
 
 -- ---- a kept subscription has the name that it was read by
 

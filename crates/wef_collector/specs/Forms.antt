@@ -1,25 +1,28 @@
 -- The form of the collector's rows, by their kind. A row that is read and isn't of its form counts as a failed call.
-use Rattle.std.specs.Prelude.{◌≡◌, ℕ, ◌==◌, nat_le, Bool, true, false, ◌&&◌, List, length, Option, Some, None, is_some, IfSome, if◌then◌else◌}
-use Rattle.std.specs.FinMap as map
+use Rattle.std.specs.Prelude.{◌≡◌, ℕ, ◌==◌, nat_le, Bool, true, false, ◌&&◌, List, length, Option, Some, None, is_some, if◌then◌else◌}
 use Rattle.wef_base.specs.Names.{channel_name, source_name, subscription_name}
 use Rattle.wef_base.specs.Numbers.{plain_number}
+use Rattle.wef_base.specs.declared.numbers.TheConstants.{MAX}
 use Rattle.wef_event.specs.Events.{is_event}
 use Rattle.wef_eventing.specs.Kept.{read_kept}
-use Rattle.wef_keeper.specs.Rows.{Rows, row_of}
+use Rattle.wef_keeper.specs.Forms.{ArePassed}
+use Rattle.wef_keeper.specs.Rows.{Rows}
 use Rattle.wef_keeper.specs.declared.keys.Key.{Key}
 use Rattle.wef_keeper.specs.declared.keys.Row.{Row}
 use Rattle.wef_collector.specs.Bookmarks.{is_one}
+use Rattle.wef_collector.specs.declared.forms.TheConstants.{LAST_MOMENT}
+use Rattle.wef_collector.specs.declared.keys.TheConstants.{BOOKMARK, BOOT, HEARD, HELD, LOOSE, MARK, SUBSCRIPTION}
 
 abbrev pub is_empty : List ℕ → Bool
 is_empty text = length text == 0
 
 -- a number of records: at most 2^63 - 1
 abbrev pub is_number : ℕ → Bool
-is_number n = nat_le n 9223372036854775807
+is_number n = nat_le n MAX
 
 -- a moment: at most the last millisecond of the year 9999
 abbrev pub is_moment : ℕ → Bool
-is_moment n = nat_le n 253402300799999
+is_moment n = nat_le n LAST_MOMENT
 
 -- names that read back as themselves
 abbrev pub is_subscription_name : List ℕ → Bool
@@ -70,7 +73,7 @@ is_mark_row row = names_channel row.key && nat_le row.key.number row.value && is
 -- its body is the digits of a count
 unfoldable pub is_loose_row : Row → Bool
 is_loose_row row =
-    names_channel row.key && nat_le row.key.number row.value && is_number row.value && is_some (plain_number 9223372036854775807 row.body)
+    names_channel row.key && nat_le row.key.number row.value && is_number row.value && is_some (plain_number MAX row.body)
 
 unfoldable pub is_heard_row : Row → Bool
 is_heard_row row = names_source row.key && is_empty row.key.channel && row.key.number == 0 && is_moment row.value && is_empty row.body
@@ -82,14 +85,14 @@ is_boot_row row =
 -- whether a row is of the form of its kind; rows of other kinds aren't the collector's
 unfoldable pub is_formed : Row → Bool
 is_formed row =
-    if row.key.kind == 1 then is_subscription_row row else
-    if row.key.kind == 2 then is_bookmark_row row else
-    if row.key.kind == 3 then is_held_row row else
-    if row.key.kind == 4 then is_mark_row row else
-    if row.key.kind == 5 then is_loose_row row else
-    if row.key.kind == 6 then is_heard_row row else
-    if row.key.kind == 8 then is_boot_row row else true
+    if row.key.kind == SUBSCRIPTION then is_subscription_row row else
+    if row.key.kind == BOOKMARK then is_bookmark_row row else
+    if row.key.kind == HELD then is_held_row row else
+    if row.key.kind == MARK then is_mark_row row else
+    if row.key.kind == LOOSE then is_loose_row row else
+    if row.key.kind == HEARD then is_heard_row row else
+    if row.key.kind == BOOT then is_boot_row row else true
 
 -- each row that stands is of its form
 unfoldable pub AreFormed : Rows → Type 0
-AreFormed rows = (key : Key) → IfSome (map.get rows key) (λ cell. is_formed (row_of (key, cell)) ≡ true)
+AreFormed rows = ArePassed is_formed rows

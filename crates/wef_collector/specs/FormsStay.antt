@@ -2,6 +2,7 @@
 use Rattle.std.specs.Prelude.{◌≡◌, ℕ, ◌+◌, ◌≤◌, nat_lt, true, List, [], Some}
 use Rattle.std.specs.FinMap as map
 use Rattle.std.specs.List.{AllByRecursion}
+use Rattle.wef_base.specs.declared.numbers.TheConstants.{MAX}
 use Rattle.wef_batch.specs.WellFormed.{is_well_formed}
 use Rattle.wef_batch.specs.declared.items.Batch.{Batch}
 use Rattle.wef_batch.specs.declared.items.Item.{Item}
@@ -20,20 +21,20 @@ use Rattle.wef_collector.specs.declared.standings.Standing.TheVariants.{Live}
 
 -- an item's event is the one that its text says, and its numbers are such as records have
 abbrev pub IsSoundItem : Item → Type 0
-IsSoundItem (Event event) = (event.number ≤ 9223372036854775807) × (is_event event ≡ true)
-IsSoundItem (Dropped channel first last) = last ≤ 9223372036854775807
+IsSoundItem (Event event) = (event.number ≤ MAX) × (is_event event ≡ true)
+IsSoundItem (Dropped channel first last) = last ≤ MAX
 IsSoundItem (Loose count) = Unit {0}
 
 -- The events of a batch are those that their texts say, and its numbers are such as records have.
 pub record IsSoundBatch (batch : Batch) : Type 0 where
   pub items : AllByRecursion IsSoundItem batch.items
-  pub to : (c : List ℕ) (n : ℕ) → map.get batch.to c ≡ Some n → n ≤ 9223372036854775807
+  pub to : (c : List ℕ) (n : ℕ) → map.get batch.to c ≡ Some n → n ≤ MAX
 
 -- Rows of their form stay so, whatever the collector does: it begins without a row, and is started, a subscription is
 -- added and ends, and a batch is taken.
 pub record FormsStay : Type 0 where
   pub nothing : AreFormed map.empty
-  pub start : (rows : Rows) → nat_lt (boot_of rows) 9223372036854775807 ≡ true → AreFormed rows
+  pub start : (rows : Rows) → nat_lt (boot_of rows) MAX ≡ true → AreFormed rows
       → AreFormed (map.insert rows boot_key (record { value = boot_of rows + 1; body = [] }))
   pub add : (rows : Rows) (s : Subscription) → is_subscription_name s.name ≡ true → read_kept s.name (kept_words s) ≡ Some s → AreFormed rows
       → AreFormed (added_rows rows s)

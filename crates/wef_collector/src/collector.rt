@@ -1,18 +1,23 @@
 //! The collector.
 
-ghost use Rattle.std.specs.Prelude.{◌≡◌, ◌≤◌, ◌++◌, true, take, is_some, Some, None, Ok, Err, IfOk, IfErr, IfSome, OnOk};
+ghost use Rattle.std.specs.Prelude.{◌≡◌, ◌≤◌, [], ◌++◌, true, take, Some, Ok, Err, IfOk, IfErr, IfSome, OnOk};
+ghost use Rattle.wef_envelope.specs.Ids.{next_id, with_drawn};
 ghost use Rattle.wef_eventing.specs.Subscriptions.{IsAllEvents};
-ghost use Rattle.wef_keeper.specs.Access as access;
+ghost use Rattle.wef_keeper.specs.Calls.{IsCall, Looks};
+ghost use Rattle.wef_keeper.specs.declared.keeping.Plan.TheVariants.{Done, Fails};
+ghost use Rattle.wef_keeper.specs.Keeping.{is_armed};
 ghost use Rattle.wef_collector.specs.Answers as answers;
 ghost use Rattle.wef_collector.specs.Bookmarks.{bookmark_of};
+ghost use Rattle.wef_collector.specs.Boots.{ids_begun};
 ghost use Rattle.wef_collector.specs.Calls as calls;
-ghost use Rattle.wef_collector.specs.Faults.{fails};
+ghost use Rattle.wef_collector.specs.Faults.{collector_store};
 ghost use Rattle.wef_collector.specs.Forms.{AreFormed};
 ghost use Rattle.wef_collector.specs.Held as held;
 ghost use Rattle.wef_collector.specs.Listing.{listed};
 ghost use Rattle.wef_collector.specs.Offers.{offers};
 ghost use Rattle.wef_collector.specs.Report.{report};
 ghost use Rattle.wef_collector.specs.Standing as standings;
+ghost use Rattle.wef_collector.specs.declared.faults.CollectorFault.TheVariants.{NoMemory};
 ghost use Rattle.wef_collector.specs.declared.standings.Standing.TheVariants.{Live};
 
 use crate::bookmarks::bookmark_of;
@@ -27,10 +32,11 @@ use std::alloc::Global;
 use wef_base::{ChannelName, List, SourceName, SubId, Text};
 use wef_batch::Batch;
 use wef_bookmark::Bookmark;
+use wef_envelope::{Ids, MessageId};
 use wef_event::Event;
 use wef_eventing::{Offer, Subscription};
 use wef_keeper::access::{commit, open};
-use wef_keeper::{Keeper, MemKeeper};
+use wef_keeper::{Keeper, MemKeeper, Plan};
 
 /// Keeps subscriptions, and for each subscription and source the events that were delivered,
 /// together with a bookmark: how far the source was served in each channel.
@@ -40,36 +46,56 @@ use wef_keeper::{Keeper, MemKeeper};
 #[derive(Drop)]
 pub struct Collector<K> {
     keeper: K,
+    ids: Ids,
     alloc: Global,
 }
 
 impl<K: Keeper> Collector<K> {
-    /// A collector over what a keeper keeps. It raises the boot number by one. Where that is refused
-    /// the keeper is handed back.
+    /// A collector over what a keeper keeps. It raises the boot number by one, and draws its ids with
+    /// the raised one. Where that is refused the keeper is handed back.
     pub fn start(alloc: Global, keeper: K) -> Result<Collector<K>, (K, CollectorFault)>
-        ensures ok { IfOk result (λ c. calls.IsCall calls.boot_effect (Ok tt) (K.store keeper) (K.store c.keeper)) }
-        ensures refusal { IfErr result (λ refused. calls.IsCall calls.boot_effect (Err refused.1) (K.store keeper) (K.store refused.0)) }
+        ensures ok { IfOk result (λ c. IsCall collector_store AreFormed calls.boot_effect ids_begun (Ok c.ids) (K.store keeper) (K.store c.keeper)) }
+        ensures refusal { IfErr result (λ refused. IsCall collector_store AreFormed calls.boot_effect ids_begun (Err refused.1) (K.store keeper) (K.store refused.0)) }
         ensures listed { IfErr result (λ refused. calls.OfStart refused.1) }
     {
         let mut keeper = keeper;
         match raise_boot(&mut keeper, alloc) {
-            Ok(()) => Ok(Collector { keeper, alloc }),
+            Ok(ids) => Ok(Collector { keeper, ids, alloc }),
             Err(fault) => Err((keeper, fault)),
         }
+    }
+
+    /// Draws the id of a message that the collector sends. The store isn't asked.
+    pub fn draw(&mut self) -> Result<MessageId, CollectorFault>
+        ensures id { IfOk result (λ id. id ≡ record { value = Some (next_id self.old.ids); text = [] }) }
+        ensures drawn { OnOk result (self.new.ids ≡ with_drawn 1 self.old.ids) }
+        ensures refusal { IfErr result (λ fault. (fault ≡ NoMemory) × (self.new.ids ≡ self.old.ids)) }
+        ensures keeper { self.new.keeper ≡ self.old.keeper }
+    {
+        let value = self.ids.draw();
+        Ok(MessageId {
+            value: Some(value),
+            text: Text::new(self.alloc),
+        })
     }
 
     /// The keeper, with all that is kept.
     pub fn into_keeper(self) -> K
         ensures { result ≡ self.keeper }
     {
-        let Collector { keeper, alloc: _ } = self;
+        let Collector {
+            keeper,
+            ids: _,
+            alloc: _,
+        } = self;
         keeper
     }
 
     /// Adds a subscription.
     pub fn add(&mut self, subscription: &Subscription) -> Result<(), CollectorFault>
-        ensures call { calls.IsCall (λ rows. calls.add_effect rows subscription.now) result (K.store self.old.keeper) (K.store self.new.keeper) }
+        ensures call { IsCall collector_store AreFormed (λ rows. calls.add_effect rows subscription.now) (λ _. tt) result (K.store self.old.keeper) (K.store self.new.keeper) }
         ensures listed { IfErr result calls.OfAdd }
+        ensures ids { self.new.ids ≡ self.old.ids }
         ensures live { OnOk result (IfSome (K.store self.new.keeper).rows (λ rows. IsAllEvents subscription.now → standings.standing rows subscription.now.name ≡ Live subscription.now)) }
     {
         open(&mut self.keeper)?;
@@ -80,8 +106,9 @@ impl<K: Keeper> Collector<K> {
 
     /// Ends a subscription. What was kept for it stays.
     pub fn end(&mut self, sub: &SubId) -> Result<(), CollectorFault>
-        ensures call { calls.IsCall (λ rows. calls.end_effect rows sub.now) result (K.store self.old.keeper) (K.store self.new.keeper) }
+        ensures call { IsCall collector_store AreFormed (λ rows. calls.end_effect rows sub.now) (λ _. tt) result (K.store self.old.keeper) (K.store self.new.keeper) }
         ensures listed { IfErr result calls.OfEnd }
+        ensures ids { self.new.ids ≡ self.old.ids }
     {
         open(&mut self.keeper)?;
         let changes = end_changes(&mut self.keeper, self.alloc, sub)?;
@@ -99,8 +126,9 @@ impl<K: Keeper> Collector<K> {
         batch: &Batch,
         now: u64,
     ) -> Result<(), CollectorFault>
-        ensures call { calls.IsCall (λ rows. calls.take_effect rows sub.now source.now batch.now now) result (K.store self.old.keeper) (K.store self.new.keeper) }
+        ensures call { IsCall collector_store AreFormed (λ rows. calls.take_effect rows sub.now source.now batch.now now) (λ _. tt) result (K.store self.old.keeper) (K.store self.new.keeper) }
         ensures listed { IfErr result calls.OfTake }
+        ensures ids { self.new.ids ≡ self.old.ids }
     {
         open(&mut self.keeper)?;
         let changes = take_changes(&mut self.keeper, self.alloc, sub, source, batch, now)?;
@@ -109,11 +137,12 @@ impl<K: Keeper> Collector<K> {
     }
 
     /// A live subscription.
+    #[tactic(auto, using(wef_keeper::proofs::Calls::looks_by))]
     pub fn state(&mut self, sub: &SubId) -> Result<Subscription, CollectorFault>
         ensures ok { IfSome (K.store self.new.keeper).rows (λ rows. IfOk result (λ subscription. standings.standing rows sub.now ≡ Live subscription)) }
         ensures refusal { IfErr result (λ fault. answers.RefusesName fault (K.store self.new.keeper).rows sub.now) }
-        ensures reads { access.OpensAndReads AreFormed (fails result) (K.store self.old.keeper) (K.store self.new.keeper) }
-        ensures ready { OnOk result (access.IsReady (K.store self.new.keeper)) }
+        ensures looks { Looks collector_store AreFormed result (K.store self.old.keeper) (K.store self.new.keeper) }
+        ensures ids { self.new.ids ≡ self.old.ids }
     {
         open(&mut self.keeper)?;
         live_in(&mut self.keeper, sub)
@@ -121,6 +150,7 @@ impl<K: Keeper> Collector<K> {
 
     /// The first `max` events that are held of a source's channel with numbers above one, by number;
     /// also of a subscription that has ended. The rest are those above the page's last number.
+    #[tactic(auto, using(wef_keeper::proofs::Calls::looks_by))]
     pub fn held_page(
         &mut self,
         sub: &SubId,
@@ -135,8 +165,8 @@ impl<K: Keeper> Collector<K> {
         ensures rest { IfSome (K.store self.new.keeper).rows (λ rows. IfOk result (λ page. held.held_after rows sub.now source.now channel.now after
             ≡ page ++ held.held_after rows sub.now source.now channel.now (held.last_number after page))) }
         ensures refusal { IfErr result (λ fault. answers.RefusesUnknown fault (K.store self.new.keeper).rows sub.now) }
-        ensures reads { access.OpensAndReads AreFormed (fails result) (K.store self.old.keeper) (K.store self.new.keeper) }
-        ensures ready { OnOk result (access.IsReady (K.store self.new.keeper)) }
+        ensures looks { Looks collector_store AreFormed result (K.store self.old.keeper) (K.store self.new.keeper) }
+        ensures ids { self.new.ids ≡ self.old.ids }
     {
         open(&mut self.keeper)?;
         known_in(&mut self.keeper, sub)?;
@@ -144,11 +174,12 @@ impl<K: Keeper> Collector<K> {
     }
 
     /// All subscriptions, live or ended, in the order of their names.
+    #[tactic(auto, using(wef_keeper::proofs::Calls::looks_by))]
     pub fn list(&mut self) -> Result<List<Listed>, CollectorFault>
         ensures ok { IfSome (K.store self.new.keeper).rows (λ rows. IfOk result (λ list. list ≡ listed rows)) }
         ensures refusal { IfErr result answers.IsOfStore }
-        ensures reads { access.OpensAndReads AreFormed (fails result) (K.store self.old.keeper) (K.store self.new.keeper) }
-        ensures ready { OnOk result (access.IsReady (K.store self.new.keeper)) }
+        ensures looks { Looks collector_store AreFormed result (K.store self.old.keeper) (K.store self.new.keeper) }
+        ensures ids { self.new.ids ≡ self.old.ids }
     {
         open(&mut self.keeper)?;
         Ok(list_subscriptions(&mut self.keeper, self.alloc)?)
@@ -157,6 +188,7 @@ impl<K: Keeper> Collector<K> {
     /// The offers to a source that asks: one for each live subscription that the sources begin, in
     /// the order of names. Each goes on from the bookmark that is kept for the source, and its
     /// batches come to the host.
+    #[tactic(auto, using(wef_keeper::proofs::Calls::looks_by))]
     pub fn offers(
         &mut self,
         source: &SourceName,
@@ -164,20 +196,21 @@ impl<K: Keeper> Collector<K> {
     ) -> Result<List<Offer>, CollectorFault>
         ensures ok { IfSome (K.store self.new.keeper).rows (λ rows. IfOk result (λ list. list ≡ offers rows source.now host.now)) }
         ensures refusal { IfErr result answers.IsOfStore }
-        ensures reads { access.OpensAndReads AreFormed (fails result) (K.store self.old.keeper) (K.store self.new.keeper) }
-        ensures ready { OnOk result (access.IsReady (K.store self.new.keeper)) }
+        ensures looks { Looks collector_store AreFormed result (K.store self.old.keeper) (K.store self.new.keeper) }
+        ensures ids { self.new.ids ≡ self.old.ids }
     {
         open(&mut self.keeper)?;
         Ok(offers_to(&mut self.keeper, self.alloc, source, host)?)
     }
 
     /// How far a source was served for a subscription; also for one that has ended.
+    #[tactic(auto, using(wef_keeper::proofs::Calls::looks_by))]
     pub fn bookmark(&mut self, sub: &SubId, source: &SourceName) -> Result<Bookmark, CollectorFault>
         ensures known { IfSome (K.store self.new.keeper).rows (λ rows. OnOk result (answers.is_known (standings.standing rows sub.now) ≡ true)) }
         ensures ok { IfSome (K.store self.new.keeper).rows (λ rows. IfOk result (λ bookmark. bookmark ≡ bookmark_of rows sub.now source.now)) }
         ensures refusal { IfErr result (λ fault. answers.RefusesUnknown fault (K.store self.new.keeper).rows sub.now) }
-        ensures reads { access.OpensAndReads AreFormed (fails result) (K.store self.old.keeper) (K.store self.new.keeper) }
-        ensures ready { OnOk result (access.IsReady (K.store self.new.keeper)) }
+        ensures looks { Looks collector_store AreFormed result (K.store self.old.keeper) (K.store self.new.keeper) }
+        ensures ids { self.new.ids ≡ self.old.ids }
     {
         open(&mut self.keeper)?;
         known_in(&mut self.keeper, sub)?;
@@ -185,45 +218,54 @@ impl<K: Keeper> Collector<K> {
     }
 
     /// The report of all that is kept.
+    #[tactic(auto, using(wef_keeper::proofs::Calls::looks_by))]
     pub fn report(&mut self) -> Result<Text, CollectorFault>
         ensures ok { IfSome (K.store self.new.keeper).rows (λ rows. IfOk result (λ text. text ≡ report rows)) }
         ensures refusal { IfErr result answers.IsOfStore }
-        ensures reads { access.OpensAndReads AreFormed (fails result) (K.store self.old.keeper) (K.store self.new.keeper) }
-        ensures ready { OnOk result (access.IsReady (K.store self.new.keeper)) }
+        ensures looks { Looks collector_store AreFormed result (K.store self.old.keeper) (K.store self.new.keeper) }
+        ensures ids { self.new.ids ≡ self.old.ids }
     {
         open(&mut self.keeper)?;
         Ok(report(&mut self.keeper, self.alloc)?)
     }
 }
 
-fn raise_boot<K: Keeper>(keeper: &mut K, alloc: Global) -> Result<(), CollectorFault>
-    ensures call { calls.IsCall calls.boot_effect result (K.store keeper.old) (K.store keeper.new) }
+/// Raises the boot number by one, and answers the ids that begin with it.
+fn raise_boot<K: Keeper>(keeper: &mut K, alloc: Global) -> Result<Ids, CollectorFault>
+    ensures call { IsCall collector_store AreFormed calls.boot_effect ids_begun result (K.store keeper.old) (K.store keeper.new) }
     ensures listed { IfErr result calls.OfStart }
 {
     open(keeper)?;
-    let changes = boot_changes(keeper, alloc)?;
-    commit(keeper, &changes)?;
-    Ok(())
+    let starting = boot_changes(keeper, alloc)?;
+    commit(keeper, &starting.changes)?;
+    Ok(starting.ids)
 }
 
 impl Collector<MemKeeper> {
+    /// Plans the keeper's next commit. An earlier plan is replaced.
+    pub fn arrange(&mut self, plan: Plan)
+        ensures { self.new ≡ record self.old { keeper = record self.old.keeper { plan = plan } } }
+    {
+        self.keeper.arrange(plan);
+    }
+
     /// Arms the keeper's next commit: it fails, and its changes are kept where `after` is true.
     pub fn fail_next(&mut self, after: bool)
-        ensures { self.new ≡ record self.old { keeper = record self.old.keeper { armed = Some after } } }
+        ensures { self.new ≡ record self.old { keeper = record self.old.keeper { plan = Fails after } } }
     {
         self.keeper.fail_next(after);
     }
 
     /// Disarms the keeper's next commit.
     pub fn calm(&mut self)
-        ensures { self.new ≡ record self.old { keeper = record self.old.keeper { armed = None } } }
+        ensures { self.new ≡ record self.old { keeper = record self.old.keeper { plan = Done } } }
     {
         self.keeper.calm();
     }
 
     /// Whether the keeper's next commit is armed.
     pub fn is_armed(&self) -> bool
-        ensures { result ≡ is_some self.now.keeper.armed }
+        ensures { result ≡ is_armed self.now.keeper.plan }
     {
         self.keeper.is_armed()
     }

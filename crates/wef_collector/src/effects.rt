@@ -1,15 +1,16 @@
 //! What the collector's calls change, or why they are refused.
 
-ghost use Rattle.std.specs.Prelude.{◌≡◌, [], ◌∷◌, IfErr, IfOk, IfSome};
+ghost use Rattle.std.specs.Prelude.{◌≡◌, [], ◌∷◌, Ok, IfErr, IfOk, IfSome};
 ghost use Rattle.std.specs.FinMap as map;
 ghost use Rattle.wef_eventing.specs.Kept.{read_kept};
 ghost use Rattle.wef_eventing.specs.Kept as kept;
 ghost use Rattle.wef_eventing.specs.Subscriptions.{IsAllEvents};
 ghost use Rattle.wef_keeper.specs.Access as access;
+ghost use Rattle.wef_keeper.specs.Calls.{Tells, TellsFault, fails};
 ghost use Rattle.wef_collector.specs.Answers as answers;
-ghost use Rattle.wef_collector.specs.Boots.{boot_of};
+ghost use Rattle.wef_collector.specs.Boots.{boot_of, ids_begun};
 ghost use Rattle.wef_collector.specs.Calls as calls;
-ghost use Rattle.wef_collector.specs.Faults.{fails};
+ghost use Rattle.wef_collector.specs.Faults.{collector_store};
 ghost use Rattle.wef_collector.specs.Forms.{AreFormed};
 ghost use Rattle.wef_collector.specs.Keys as keys;
 ghost use Rattle.wef_collector.specs.Standing as standings;
@@ -25,6 +26,7 @@ use std::alloc::{AllocError, Global};
 use wef_base::numbers::MAX;
 use wef_base::{List, SourceName, SubId, Text};
 use wef_batch::{Batch, judge};
+use wef_envelope::Ids;
 use wef_eventing::{Subscription, kept_words};
 use wef_keeper::{Change, Depth, Keeper, Key, Row, StoreFault};
 use wef_query::channels;
@@ -39,10 +41,10 @@ pub fn add_changes<K: Keeper>(
     subscription: &Subscription,
 ) -> Result<List<Change>, CollectorFault>
     requires { access.IsReady (K.store keeper.old) }
-    ensures effect { IfSome (K.store keeper.new).rows (λ rows. calls.Tells result (calls.add_effect rows subscription.now)) }
+    ensures effect { IfSome (K.store keeper.new).rows (λ rows. Tells collector_store result (calls.add_effect rows subscription.now)) }
     ensures reads_back { IfOk result (λ _. IsAllEvents subscription.now → read_kept subscription.now.name (kept.kept_words subscription.now) ≡ Some subscription.now) }
     ensures listed { IfErr result calls.OfAdd }
-    ensures reads { access.Reads AreFormed (fails result) (K.store keeper.old) (K.store keeper.new) }
+    ensures reads { access.Reads AreFormed (fails collector_store result) (K.store keeper.old) (K.store keeper.new) }
 {
     if is_there(keeper, &subscription.name)? {
         return Err(CollectorFault::Exists);
@@ -89,9 +91,9 @@ pub fn end_changes<K: Keeper>(
     sub: &SubId,
 ) -> Result<List<Change>, CollectorFault>
     requires { access.IsReady (K.store keeper.old) }
-    ensures effect { IfSome (K.store keeper.new).rows (λ rows. calls.Tells result (calls.end_effect rows sub.now)) }
+    ensures effect { IfSome (K.store keeper.new).rows (λ rows. Tells collector_store result (calls.end_effect rows sub.now)) }
     ensures listed { IfErr result calls.OfEnd }
-    ensures reads { access.Reads AreFormed (fails result) (K.store keeper.old) (K.store keeper.new) }
+    ensures reads { access.Reads AreFormed (fails collector_store result) (K.store keeper.old) (K.store keeper.new) }
 {
     live_in(keeper, sub)?;
     let key = subscription_key(sub)?;
@@ -130,9 +132,9 @@ pub fn take_changes<K: Keeper>(
     now: u64,
 ) -> Result<List<Change>, CollectorFault>
     requires { access.IsReady (K.store keeper.old) }
-    ensures effect { IfSome (K.store keeper.new).rows (λ rows. calls.Tells result (calls.take_effect rows sub.now source.now batch.now now)) }
+    ensures effect { IfSome (K.store keeper.new).rows (λ rows. Tells collector_store result (calls.take_effect rows sub.now source.now batch.now now)) }
     ensures listed { IfErr result calls.OfTake }
-    ensures reads { access.Reads AreFormed (fails result) (K.store keeper.old) (K.store keeper.new) }
+    ensures reads { access.Reads AreFormed (fails collector_store result) (K.store keeper.old) (K.store keeper.new) }
 {
     let subscription = live_in(keeper, sub)?;
     live_changes(keeper, alloc, sub, source, &subscription, batch, now)
@@ -149,9 +151,9 @@ fn live_changes<K: Keeper>(
     now: u64,
 ) -> Result<List<Change>, CollectorFault>
     requires { access.IsReady (K.store keeper.old) }
-    ensures effect { IfSome (K.store keeper.new).rows (λ rows. calls.Tells result (calls.take_by (Live subscription.now) rows sub.now source.now batch.now now)) }
+    ensures effect { IfSome (K.store keeper.new).rows (λ rows. Tells collector_store result (calls.take_by (Live subscription.now) rows sub.now source.now batch.now now)) }
     ensures listed { IfErr result calls.OfTake }
-    ensures reads { access.Reads AreFormed (fails result) (K.store keeper.old) (K.store keeper.new) }
+    ensures reads { access.Reads AreFormed (fails collector_store result) (K.store keeper.old) (K.store keeper.new) }
 {
     let channels = channels(alloc, &subscription.query)?;
     if !judge(batch, channels.as_slice()) {
@@ -160,21 +162,31 @@ fn live_changes<K: Keeper>(
     Ok(batch_changes(keeper, sub, source, channels.as_slice(), batch, now)?)
 }
 
+/// What a start commits, and the ids that it begins with.
+#[derive(Drop)]
+pub struct Starting {
+    pub changes: List<Change>,
+    pub ids: Ids,
+}
+
 /// The boot number rises by one, below the greatest.
-pub fn boot_changes<K: Keeper>(
-    keeper: &mut K,
-    alloc: Global,
-) -> Result<List<Change>, CollectorFault>
+pub fn boot_changes<K: Keeper>(keeper: &mut K, alloc: Global) -> Result<Starting, CollectorFault>
     requires { access.IsReady (K.store keeper.old) }
-    ensures effect { IfSome (K.store keeper.new).rows (λ rows. calls.Tells result (calls.boot_effect rows)) }
+    ensures effect { IfSome (K.store keeper.new).rows (λ rows. IfOk result (λ starting. calls.boot_effect rows ≡ Ok starting.changes)) }
+    ensures ids { IfSome (K.store keeper.new).rows (λ rows. IfOk result (λ starting. starting.ids ≡ ids_begun rows)) }
+    ensures refusal { IfSome (K.store keeper.new).rows (λ rows. IfErr result (λ fault. TellsFault (collector_store fault) fault (calls.boot_effect rows))) }
     ensures listed { IfErr result calls.OfStart }
-    ensures reads { access.Reads AreFormed (fails result) (K.store keeper.old) (K.store keeper.new) }
+    ensures reads { access.Reads AreFormed (fails collector_store result) (K.store keeper.old) (K.store keeper.new) }
 {
     let boot = boot_in(keeper, alloc)?;
     if boot >= MAX {
         return Err(CollectorFault::Full);
     }
-    Ok(one_put(alloc, boot_key(alloc), boot + 1, Text::new(alloc))?)
+    let raised = boot + 1;
+    Ok(Starting {
+        changes: one_put(alloc, boot_key(alloc), raised, Text::new(alloc))?,
+        ids: Ids::of_boot(raised),
+    })
 }
 
 /// The boot number, 0 where none is kept.

@@ -5,6 +5,7 @@ ghost use Rattle.std.specs.List.{list_all};
 ghost use Rattle.wef_collector.specs.Forms as spec;
 ghost use Rattle.wef_collector.specs.Held.{own_event};
 
+use crate::keys::{BOOKMARK, BOOT, HEARD, HELD, LOOSE, MARK, SUBSCRIPTION};
 use std::alloc::AllocError;
 use wef_base::numbers::{MAX, read_plain_number};
 use wef_base::{ChannelName, SourceName, SubId, Text, ValueFault};
@@ -33,13 +34,13 @@ pub fn is_formed(row: &Row) -> Result<bool, AllocError>
     ensures { IfOk result (λ formed. formed ≡ spec.is_formed row.now) }
 {
     match row.key.kind {
-        1 => is_subscription(row),
-        2 => is_bookmark(row),
-        3 => is_held(row),
-        4 => is_mark(row),
-        5 => is_loose(row),
-        6 => is_heard(row),
-        8 => Ok(is_boot(row)),
+        SUBSCRIPTION => is_subscription(row),
+        BOOKMARK => is_bookmark(row),
+        HELD => is_held(row),
+        MARK => is_mark(row),
+        LOOSE => is_loose(row),
+        HEARD => is_heard(row),
+        BOOT => Ok(is_boot(row)),
         _ => Ok(true),
     }
 }

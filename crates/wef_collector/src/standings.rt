@@ -3,8 +3,9 @@
 ghost use Rattle.std.specs.Prelude.{◌≡◌, true, IfErr, IfOk, IfSome, OnOk};
 ghost use Rattle.std.specs.FinMap as map;
 ghost use Rattle.wef_keeper.specs.Access as access;
+ghost use Rattle.wef_keeper.specs.Calls.{fails};
 ghost use Rattle.wef_collector.specs.Answers as answers;
-ghost use Rattle.wef_collector.specs.Faults.{fails};
+ghost use Rattle.wef_collector.specs.Faults.{collector_store};
 ghost use Rattle.wef_collector.specs.Forms.{AreFormed};
 ghost use Rattle.wef_collector.specs.Keys.{subscription_key};
 ghost use Rattle.wef_collector.specs.Standing as spec;
@@ -32,7 +33,7 @@ pub fn live_in<K: Keeper>(keeper: &mut K, sub: &SubId) -> Result<Subscription, C
     requires { access.IsReady (K.store keeper.old) }
     ensures ok { IfSome (K.store keeper.new).rows (λ rows. IfOk result (λ subscription. spec.standing rows sub.now ≡ Standing.Live subscription)) }
     ensures refusal { IfErr result (λ fault. answers.RefusesName fault (K.store keeper.new).rows sub.now) }
-    ensures reads { access.Reads AreFormed (fails result) (K.store keeper.old) (K.store keeper.new) }
+    ensures reads { access.Reads AreFormed (fails collector_store result) (K.store keeper.old) (K.store keeper.new) }
 {
     match standing_in(keeper, sub)? {
         Standing::Live(subscription) => Ok(subscription),
@@ -46,7 +47,7 @@ pub fn known_in<K: Keeper>(keeper: &mut K, sub: &SubId) -> Result<(), CollectorF
     requires { access.IsReady (K.store keeper.old) }
     ensures ok { IfSome (K.store keeper.new).rows (λ rows. OnOk result (answers.is_known (spec.standing rows sub.now) ≡ true)) }
     ensures refusal { IfErr result (λ fault. answers.RefusesUnknown fault (K.store keeper.new).rows sub.now) }
-    ensures reads { access.Reads AreFormed (fails result) (K.store keeper.old) (K.store keeper.new) }
+    ensures reads { access.Reads AreFormed (fails collector_store result) (K.store keeper.old) (K.store keeper.new) }
 {
     match standing_in(keeper, sub)? {
         Standing::Unknown => Err(CollectorFault::NoSubscription),

@@ -296,6 +296,11 @@ committed of_store AreFormed effect value changes answer before opened mid now f
 
 -- ---- a call that only reads
 
+-- the parts of what it does, each for itself
+pub looks_by : {T F : Type 0} (of_store : OfStore F) (AreFormed : Rows → Type 0) (result : Result T F) (before now : Store) → OpensAndReads AreFormed (fails of_store result) before now
+    → (fails of_store result ≡ false → Finds before now) → Readied of_store result now → Looks of_store AreFormed result before now
+looks_by of_store AreFormed result before now opened found ready = record { opened = opened; found = found; ready = ready }
+
 readied : {T F : Type 0} (of_store : OfStore F) (result : Result T F) (now : Store) → IsReady now → Readied of_store result now
 readied of_store (Ok answer) now ready = ready
 readied of_store (Err fault) now ready = refused_ready (of_store fault) now ready

@@ -1,8 +1,10 @@
 pub mod ByPages
 pub mod Calls
+pub mod Forming
 mod Live
 pub mod Openings
 mod Pages
 mod Places
 pub mod ReadsOf
+pub mod Stands
 pub mod Told

@@ -1,9 +1,11 @@
 use Rattle.std.proofs.Common.{◌≡◌, subst, sym}
-use Rattle.wef_collector.specs.Calls.{Tells, take_by, take_effect}
+use Rattle.wef_keeper.proofs.Told.{told_both, told_still}
+use Rattle.wef_keeper.specs.Calls.{Tells}
+use Rattle.wef_collector.specs.Calls.{take_by, take_effect}
+use Rattle.wef_collector.specs.Faults.{collector_store}
 use Rattle.wef_collector.specs.Standing.{standing}
 use Rattle.wef_collector.specs.declared.standings.Standing.{Standing}
 use Rattle.wef_collector.specs.declared.standings.Standing.TheVariants.{Live}
-use Rattle.wef_collector.proofs.ReadsOf.{still_told, told_both}
 use Rattle.wef_collector.proofs.effects.take_changes.Goals as goal
 
 pub returns-clause-effect : goal.returns-clause-effect
@@ -15,7 +17,7 @@ returns-clause-effect g c =
     let before = g.K.Keeper.store c.live_in.new.keeper in
     let now = g.K.Keeper.store c.live_changes.new.keeper in
     let made = c.live_changes.result in
-    let live = still_told before.rows now.rows (λ rows. standing rows u ≡ Live s) c.live_changes.ensures.reads.0.1 c.in_ok-subscription.ensures.ok in
-    told_both now.rows (λ rows. standing rows u ≡ Live s) (λ rows. Tells made (take_by (Live s) rows u source batch c.args.now)) (λ rows. Tells made (take_effect rows u source batch c.args.now))
+    let live = told_still before.rows now.rows (λ rows. standing rows u ≡ Live s) c.live_changes.ensures.reads.0.1 c.in_ok-subscription.ensures.ok in
+    told_both now.rows (λ rows. standing rows u ≡ Live s) (λ rows. Tells collector_store made (take_by (Live s) rows u source batch c.args.now)) (λ rows. Tells collector_store made (take_effect rows u source batch c.args.now))
     live c.live_changes.ensures.effect
-    (λ rows live tells. subst (λ (found : Standing). Tells made (take_by found rows u source batch c.args.now)) (sym live) tells)
+    (λ rows live tells. subst (λ (found : Standing). Tells collector_store made (take_by found rows u source batch c.args.now)) (sym live) tells)

@@ -3,11 +3,13 @@ use Rattle.wef_event.specs.Events.{Event}
 use Rattle.wef_keeper.specs.Access.{fails}
 use Rattle.wef_keeper.specs.Sections.{last_key, rows_under}
 use Rattle.wef_keeper.specs.declared.keys.Depth.TheVariants.{Channel}
+use Rattle.wef_keeper.proofs.ReadsOf.{may_be_ill}
+use Rattle.wef_collector.specs.Forms.{AreFormed}
+use Rattle.wef_keeper.proofs.Told.{told_ok}
 use Rattle.wef_collector.specs.Held.{held_after, last_number, own_event}
 use Rattle.wef_collector.specs.Keys.{held_key}
 use Rattle.wef_collector.proofs.Forming.{no_page}
 use Rattle.wef_collector.proofs.HeldPages.{held_as_formed, is_page, is_rest, own_events}
-use Rattle.wef_collector.proofs.ReadsOf.{may_be_ill, told_ok}
 use Rattle.wef_collector.proofs.held.held_page.Goals as goal
 
 pub returns-clause-reads : goal.returns-clause-reads
@@ -19,7 +21,7 @@ returns-clause-reads g c =
     let as_formed = held_as_formed c.args.sub.now c.args.source.now c.args.channel.now c.args.after start page begins behind in
     let now = g.K.Keeper.store c.section_page.new.keeper in
     let items = c.as_slice.ensures in
-    may_be_ill (fails c.events_of.result) (g.K.Keeper.store c.args.keeper.now) now c.in_ok-page.ensures.reads
+    may_be_ill AreFormed (fails c.events_of.result) (g.K.Keeper.store c.args.keeper.now) now c.in_ok-page.ensures.reads
     (λ failed. no_page now.rows c.args.max Channel start page (sym as_formed ∙ rw items at (c.events_of.ensures.failed failed)) c.in_ok-page.ensures.page)
 
 pub returns-clause-page : goal.returns-clause-page

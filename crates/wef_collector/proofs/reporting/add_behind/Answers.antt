@@ -5,10 +5,10 @@ use Rattle.wef_keeper.specs.Sections.{last_key, rows_under}
 use Rattle.wef_keeper.specs.declared.keys.Depth.TheVariants.{Channel}
 use Rattle.wef_keeper.specs.declared.keys.Key.{Key}
 use Rattle.wef_keeper.specs.declared.keys.Row.{Row}
+use Rattle.wef_keeper.proofs.Told.{told_both, told_still}
 use Rattle.wef_collector.specs.Report.{last_row_number, span_of}
 use Rattle.wef_collector.specs.Runs.{runs_from, runs_text}
 use Rattle.wef_collector.proofs.Channels.{last_is, numbered, page_rises}
-use Rattle.wef_collector.proofs.ReadsOf.{still_told, told_both}
 use Rattle.wef_collector.proofs.reporting.add_behind.Goals as goal
 
 pub returns-then-is_last-clause-text : goal.returns-then-is_last-clause-text
@@ -23,7 +23,7 @@ returns-then-is_last-clause-text g c =
     let short : length page < 256 = omega arith in
     let text_of = λ (xs : List Row). writer.text ++ runs_text (runs_from writer.running (map (span_of c.args.spans) xs)) in
     let whole_text = λ (rows : Rows). c.args.writer.now.text ++ runs_text (runs_from c.args.writer.now.running (map (span_of c.args.spans) (rows_under Channel c.args.after.now rows))) in
-    let done = still_told before.rows now.rows (λ rows. text_of (rows_under Channel after rows) ≡ whole_text rows) c.in_ok-page.ensures.reads.0.1 c.loop-page.invariant.rest in
+    let done = told_still before.rows now.rows (λ rows. text_of (rows_under Channel after rows) ≡ whole_text rows) c.in_ok-page.ensures.reads.0.1 c.loop-page.invariant.rest in
     let told = rw c.as_slice.ensures at (c.in_ok-add_page.ensures []) in
     let whole = told_both now.rows (λ rows. page ≡ take 256 (rows_under Channel after rows)) (λ rows. rows_under Channel after rows ≡ page ++ rows_under Channel (last_key after page) rows)
     (λ rows. rows_under Channel after rows ≡ page) c.in_ok-page.ensures.page c.in_ok-page.ensures.rest (λ rows is splits. last_page 256 _ page _ is splits short) in
@@ -43,7 +43,7 @@ loop-page-preserved g c =
     let next = numbered after c.last_number-after.result in
     let number : c.last_number-after.result ≡ last_row_number after.number page = c.last_number-after.ensures ∙ ap (last_row_number after.number) c.as_slice-in-loop-page.ensures in
     let is_next : next ≡ last_key after page = ap (numbered after) number ∙ sym (last_is after page c.in_ok-page.ensures.behind) in
-    let done = still_told before.rows now.rows (λ rows. text_of (rows_under Channel after rows) ≡ whole_text rows) c.in_ok-page.ensures.reads.0.1 c.loop-page.invariant.rest in
+    let done = told_still before.rows now.rows (λ rows. text_of (rows_under Channel after rows) ≡ whole_text rows) c.in_ok-page.ensures.reads.0.1 c.loop-page.invariant.rest in
     let told = λ (rest : List Row). rw c.as_slice.ensures at (c.in_ok-add_page.ensures rest) in
     record {
       read = search rules;

@@ -1,6 +1,7 @@
 -- Each row of a section stands in the rows.
 use Rattle.std.proofs.Common.{◌≡◌, Bool, true, false, cond, T, ◌&&◌, List, [], ◌∷◌, refl, ap, ◌∙◌}
 use Rattle.std.proofs.lemmas.List.Elements.{All-nil, All-cons, All-head, All-tail, All-filter, All-map, All-weaker}
+use Rattle.std.specs.Cmp.{tied_itself}
 use Rattle.std.specs.FinMap as finite
 use Rattle.std.specs.FinMap.Entries.{below_all, find, is_sorted}
 use Rattle.std.specs.List.{All, filter}
@@ -14,7 +15,6 @@ use Rattle.wef_keeper.specs.declared.keys.Cell.{Cell}
 use Rattle.wef_keeper.specs.declared.keys.Depth.{Depth}
 use Rattle.wef_keeper.specs.declared.keys.Key.{Key}
 use Rattle.wef_keeper.specs.declared.keys.Row.{Row}
-use Rattle.wef_collector.proofs.Hits.{hits_self}
 
 -- a row stands at its key
 abbrev pub Stands : Rows → Row → Type 0
@@ -58,7 +58,7 @@ entries_found [] h = All-nil (Found [])
 entries_found (e ∷ es) h =
     let above = first (below_all key_cmp e.0 es) (is_sorted key_cmp es) h in
     let rest = second (below_all key_cmp e.0 es) (is_sorted key_cmp es) h in
-    All-cons (Found (e ∷ es)) e es (ap (λ (b : Bool). cond b (Some e.1) (find key_cmp e.0 es)) (hits_self e.0)) (found_behind e.0 e.1 es es above (entries_found es rest))
+    All-cons (Found (e ∷ es)) e es (ap (λ (b : Bool). cond b (Some e.1) (find key_cmp e.0 es)) (ap is_eq (tied_itself key_cmp_total e.0))) (found_behind e.0 e.1 es es above (entries_found es rest))
 
 -- ---- so does each row of a section
 
