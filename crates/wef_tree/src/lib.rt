@@ -5,5 +5,5 @@ pub mod laws;
 
 pub use wef_base::{Attribute, Charset, Element, Namespace, Node};
 pub use wef_tree_reading::read_tree;
-pub use wef_tree_writing::write_tree;
+pub use wef_tree_writing::{write_tree, write_tree_within};
 pub use wef_xml::TreeFault;

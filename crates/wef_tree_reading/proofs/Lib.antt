@@ -4,6 +4,7 @@ pub mod GoodOpens
 pub mod GoodPieces
 pub mod GoodTrees
 pub mod Inversions
+pub mod LineEnds
 pub mod Maps
 pub mod Readings
 pub mod Shorter

@@ -94,14 +94,13 @@ fn few_attributes(
 {
     let mut attributes = List::new(alloc);
     for one in given.into_vec() {
-        take_one_of_few(alloc, own, around, &mut attributes, one)?;
+        take_one_of_few(own, around, &mut attributes, one)?;
     }
     Ok(without_digests(alloc, attributes)?)
 }
 
 /// Adds an attribute, unless it is a declaration.
 fn take_one_of_few(
-    alloc: Global,
     own: &Declarations,
     around: &Stack,
     attributes: &mut List<Resolved>,
@@ -112,7 +111,7 @@ fn take_one_of_few(
     if declared_prefix(&given.name).is_some() {
         return Ok(());
     }
-    let space = attribute_space(alloc, own, around, &given.name.prefix)?;
+    let space = attribute_space(own, around, &given.name.prefix)?;
     add_one_of_few(attributes, given, space)
 }
 
@@ -153,14 +152,13 @@ fn many_attributes(
     let mut attributes = List::new(alloc);
     let mut names = BTreeSet::new(alloc);
     for one in given.into_vec() {
-        take_one_of_many(alloc, own, around, &mut attributes, &mut names, one)?;
+        take_one_of_many(own, around, &mut attributes, &mut names, one)?;
     }
     Ok(attributes)
 }
 
 /// Adds an attribute, unless it is a declaration.
 fn take_one_of_many(
-    alloc: Global,
     own: &Declarations,
     around: &Stack,
     attributes: &mut List<Attribute>,
@@ -174,7 +172,7 @@ fn take_one_of_many(
     if declared_prefix(&given.name).is_some() {
         return Ok(());
     }
-    let space = attribute_space(alloc, own, around, &given.name.prefix)?;
+    let space = attribute_space(own, around, &given.name.prefix)?;
     add_one_of_many(attributes, names, given, space)
 }
 

@@ -1,6 +1,6 @@
 //! Putting pieces together.
 
-ghost use Rattle.std.specs.Prelude.{◌≡◌, ◌==◌, [], length, codes, encode_utf8, OnOk};
+ghost use Rattle.std.specs.Prelude.{◌≡◌, ◌==◌, [], length, codes, encode_utf8, IfOk, OnOk};
 ghost use Rattle.wef_tree_reading.specs.Building.{element_of, ended, entered, flushed, has_room, is_outside, nothing, opened, passed, placed, same_name, taken, with_letter, with_more};
 ghost use Rattle.wef_xml.specs.Good.{greatest_depth};
 ghost use Rattle.wef_tree_reading.specs.Reads.{Gives, Takes};
@@ -32,16 +32,16 @@ pub struct Builder {
 }
 
 impl Builder {
-    /// Before the first piece. It takes no memory.
-    pub fn new(alloc: Global) -> Builder
-        ensures { result ≡ nothing }
+    /// Before the first piece.
+    pub fn new(alloc: Global) -> Result<Builder, AllocError>
+        ensures { IfOk result (λ builder. builder ≡ nothing) }
     {
-        Builder {
+        Ok(Builder {
             begun: false,
-            around: Stack::new(alloc),
+            around: Stack::new(alloc)?,
             text: Text::new(alloc),
             root: None,
-        }
+        })
     }
 
     /// How many elements are open.
@@ -161,7 +161,7 @@ impl Builder {
             return Err(Halt::Bad);
         }
         let declared = declared_by(alloc, tag.given.as_slice())?;
-        let space = in_scope(alloc, &declared, &self.around, &tag.name.prefix)?.into_space();
+        let space = in_scope(&declared, &self.around, &tag.name.prefix)?.into_space();
         let attributes = attributes_by(alloc, &declared, &self.around, tag.given)?;
         Ok(Open {
             name: tag.name,

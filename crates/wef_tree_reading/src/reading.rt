@@ -1,6 +1,9 @@
 //! Reading a document: piece by piece, until the text ends or no piece is good.
 
-ghost use Rattle.std.specs.Prelude.{◌≡◌, length, IfOk};
+ghost use Rattle.std.specs.Prelude.{◌≡◌, ◌==◌, false, length, IfOk};
+ghost use Rattle.std.specs.List.{list_any};
+ghost use Rattle.std.specs.declared.result.Result.TheVariants.{Ok};
+ghost use Rattle.wef_xml.specs.Decoding.{decoded, line_ends};
 ghost use Rattle.wef_tree_reading.specs.Documents.{GivesTree, tree_of};
 ghost use Rattle.wef_xml.specs.Good.{IsGoodTree};
 ghost use Rattle.wef_tree_reading.specs.Spelling.{ReadsText, ReadsTree, Steps, fault_at, is_tag, kind_by};
@@ -27,13 +30,38 @@ pub fn read_tree(alloc: Global, bytes: &[u8], charset: Charset) -> Result<Elemen
     read_document(alloc, bytes, charset)
 }
 
+#[tactic(auto, using(crate::proofs::LineEnds::as_they_stand))]
 fn read_document(alloc: Global, bytes: &[u8], charset: Charset) -> Result<Element, TreeFault>
     ensures { ReadsTree charset bytes.now result }
 {
     let decoded = decode(alloc, charset, bytes)?;
     let characters = decoded.as_slice();
+    if !has_return(characters) {
+        return read_characters(alloc, charset, bytes, characters, characters);
+    }
     let joined = join_line_ends(alloc, characters)?;
-    let text = joined.as_slice();
+    read_characters(alloc, charset, bytes, characters, joined.as_slice())
+}
+
+/// Whether a carriage return is among characters. Without one their line ends are one as they stand.
+fn has_return(characters: &[char]) -> bool
+    ensures { result ≡ list_any (λ c. c == 13) characters.now }
+{
+    characters.contains(&'\r')
+}
+
+/// Reads the text of a document; `characters`: those that its bytes are.
+fn read_characters(
+    alloc: Global,
+    charset: Charset,
+    bytes: &[u8],
+    characters: &[char],
+    text: &[char],
+) -> Result<Element, TreeFault>
+    requires decoded { decoded charset bytes.now ≡ Ok characters.now }
+    requires joined { text.now ≡ line_ends false characters.now }
+    ensures { ReadsTree charset bytes.now result }
+{
     match read_text(alloc, text) {
         Ok(root) => Ok(root),
         Err(Stop::NoMemory) => Err(TreeFault::NoMemory),
@@ -58,7 +86,9 @@ fn fault_at(kind: FaultKind, at: usize) -> TreeFault
 fn read_text(alloc: Global, text: &[char]) -> Result<Element, Stop>
     ensures { ReadsText text.now result }
 {
-    let mut builder = Builder::new(alloc);
+    let Ok(mut builder) = Builder::new(alloc) else {
+        return Err(Stop::NoMemory);
+    };
     let mut rest = text;
     while !rest.is_empty() {
         rest = step(alloc, &mut builder, rest)?;

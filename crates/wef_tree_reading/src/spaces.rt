@@ -14,7 +14,7 @@ use crate::tags::Given;
 use std::alloc::Global;
 use wef_base::{Namespace, Text};
 use wef_xml::digests::Digested;
-use wef_xml::spaces::{is_xml, is_xml_space, is_xmlns, no_space, xml_space};
+use wef_xml::spaces::{is_xml, is_xml_space, is_xmlns};
 
 /// The declarations that a tag's attributes make. The others are passed over.
 pub fn declared_by(alloc: Global, given: &[Given]) -> Result<Declarations, Halt>
@@ -78,16 +78,11 @@ fn may_declare(prefix: &Text, space: &Text) -> bool
 }
 
 /// The namespace that a prefix stands for in a tag with these declarations, inside these elements.
-pub fn in_scope(
-    alloc: Global,
-    own: &Declarations,
-    around: &Stack,
-    prefix: &Text,
-) -> Result<Digested, Halt>
+pub fn in_scope(own: &Declarations, around: &Stack, prefix: &Text) -> Result<Digested, Halt>
     ensures { Gives result (in_scope own.now around.now prefix.now) }
 {
     if is_xml(prefix) {
-        return Ok(Digested::new(xml_space(alloc)?));
+        return Ok(around.xml_space()?);
     }
     if let Some(space) = own.get(prefix) {
         return Ok(space.clone()?);
@@ -98,20 +93,15 @@ pub fn in_scope(
     if !prefix.is_empty() {
         return Err(Halt::Bad);
     }
-    Ok(Digested::new(no_space(alloc)?))
+    Ok(around.no_space()?)
 }
 
 /// The namespace of an attribute with this prefix.
-pub fn attribute_space(
-    alloc: Global,
-    own: &Declarations,
-    around: &Stack,
-    prefix: &Text,
-) -> Result<Digested, Halt>
+pub fn attribute_space(own: &Declarations, around: &Stack, prefix: &Text) -> Result<Digested, Halt>
     ensures { Gives result (attribute_space own.now around.now prefix.now) }
 {
     if prefix.is_empty() {
-        return Ok(Digested::new(no_space(alloc)?));
+        return Ok(around.no_space()?);
     }
-    in_scope(alloc, own, around, prefix)
+    in_scope(own, around, prefix)
 }

@@ -1,6 +1,6 @@
 //! The elements that are open.
 
-ghost use Rattle.std.specs.Prelude.{◌≡◌, ◌==◌, [], ◌∷◌, length, MatchOption, OnOk, OnErr};
+ghost use Rattle.std.specs.Prelude.{◌≡◌, ◌==◌, [], ◌∷◌, length, MatchOption, IfOk, OnOk, OnErr};
 ghost use Rattle.std.specs.Option.{option_copied};
 
 use crate::names::Name;
@@ -9,6 +9,7 @@ use std::alloc::{AllocError, Global};
 use std::marker::Model;
 use wef_base::{Attribute, List, Namespace, Node, Text};
 use wef_xml::digests::Digested;
+use wef_xml::spaces::{no_space, xml_space};
 
 /// An element whose end tag hasn't come.
 #[derive(Drop)]
@@ -21,36 +22,59 @@ pub struct Open {
     pub children: List<Node>,
 }
 
-/// The open elements, which contracts see with the innermost first.
+/// The open elements, which contracts see with the innermost first. Around them stand the namespaces
+/// that nobody declares, one of each for all elements and attributes to share.
 #[derive(Drop)]
 pub struct Stack {
     items: Vec<Open>,
+    none: Digested,
+    xml: Digested,
 }
 
 impl Model for Stack {
-    ghost use Rattle.std.specs.Prelude.{List, reverse};
+    ghost use Rattle.std.specs.Prelude.{◌≡◌, [], List, reverse};
     ghost use Rattle.std.specs.Coded.{coded_list};
     ghost use Rattle.wef_tree_reading.specs.declared.stack.Open.{Open};
     ghost use Rattle.wef_tree_reading.specs.contracts.stack.Open as element;
+    ghost use Rattle.wef_xml.specs.Spaces.{xml_space};
 
     ghost Value = { List Open };
 
     ghost coded = { coded_list element.the_row.coded };
 
     ghost view = { λ s. reverse s.items.items };
+
+    ghost invariant = { λ s. (s.none ≡ []) × (s.xml ≡ xml_space) };
 }
 
 impl Stack {
     ghost use Rattle.wef_tree_reading.specs.Scopes.{declared_outside};
     ghost use Rattle.wef_tree_reading.specs.Building.{with_child};
+    ghost use Rattle.wef_xml.specs.Spaces.{xml_space};
 
-    /// No element. It takes no memory.
-    pub fn new(alloc: Global) -> Stack
-        ensures { result ≡ [] }
+    /// No element.
+    pub fn new(alloc: Global) -> Result<Stack, AllocError>
+        ensures { IfOk result (λ stack. stack ≡ []) }
     {
-        Stack {
+        Ok(Stack {
             items: Vec::new(alloc),
-        }
+            none: Digested::new(no_space(alloc)?),
+            xml: Digested::new(xml_space(alloc)?),
+        })
+    }
+
+    /// No namespace.
+    pub fn no_space(&self) -> Result<Digested, AllocError>
+        ensures { IfOk result (λ space. space ≡ []) }
+    {
+        self.none.clone()
+    }
+
+    /// The namespace of the prefix `xml`.
+    pub fn xml_space(&self) -> Result<Digested, AllocError>
+        ensures { IfOk result (λ space. space ≡ xml_space) }
+    {
+        self.xml.clone()
     }
 
     /// How many elements are open.

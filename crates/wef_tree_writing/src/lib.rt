@@ -8,4 +8,4 @@ mod prefixes;
 mod soap;
 mod writing;
 
-pub use writing::write_tree;
+pub use writing::{write_tree, write_tree_within};

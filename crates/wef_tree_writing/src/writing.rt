@@ -1,11 +1,11 @@
 //! Writing a tree as a document, in the one way in which it is written.
 
-ghost use Rattle.std.specs.Prelude.{◌≡◌, ◌++◌, [], ◌∷◌, length, is_some, IfOk, IfErr, OnOk};
-ghost use Rattle.wef_xml.specs.Canonical.{canonical, element_text, encoded, end_of, name_of, node_of, start_of};
+ghost use Rattle.std.specs.Prelude.{◌≡◌, ◌++◌, ◌≤◌, [], ◌∷◌, length, is_some, IfOk, IfErr, OnOk};
+ghost use Rattle.wef_xml.specs.Canonical.{bytes_of, canonical, element_text, encoded, end_of, name_of, node_of, start_of, text_of, unless_longer, written_mark};
 ghost use Rattle.wef_xml.specs.Good.{IsGoodTree};
-ghost use Rattle.wef_tree_writing.specs.Markup.{default_declaration, scope_of};
 ghost use Rattle.wef_xml.specs.Prefixes.{element_prefix, inside, new_bindings, outermost, root_bindings};
 ghost use Rattle.wef_xml.specs.declared.faults.TreeFault.TheVariants.{NoMemory};
+ghost use Rattle.wef_tree_writing.specs.Markup.{IsPast, IsTooLong, default_declaration, scope_of};
 
 use crate::bindings::Bindings;
 use crate::escaping::{push_ascii, push_text};
@@ -13,10 +13,29 @@ use crate::markup::{push_attributes, push_declarations, push_default, push_name}
 use crate::prefixes::{element_prefix, new_bindings};
 use crate::soap::{RootPrefixes, root_bindings};
 use std::alloc::{AllocError, Global};
-use wef_base::{Bytes, Charset, Element, List, Namespace, Node};
-use wef_xml::encoding::encode;
+use wef_base::{Bytes, Charset, Element, List, Namespace, Node, Text};
+use wef_xml::encoding::{push_characters, push_mark};
 use wef_xml::spaces::no_space;
 use wef_xml::{Binding, TreeFault};
+
+/// Why a document isn't written to its end.
+#[derive(Clone, Copy)]
+pub enum Stop {
+    NoMemory,
+    /// It has more bytes than it may have.
+    TooLong,
+}
+
+impl From<AllocError> for Stop {
+    ghost use Rattle.std.specs.Prelude.{◌≡◌};
+    ghost use Rattle.wef_tree_writing.specs.declared.writing.Stop.TheVariants.{NoMemory};
+
+    ghost from_gives = { λ _ e. e ≡ NoMemory };
+
+    fn from(_error: AllocError) -> Stop {
+        Stop::NoMemory
+    }
+}
 
 /// Writes a tree that documents say, in its one text: elements have a start tag and an end tag, and
 /// nothing stands between them but their children. UTF-8 has no byte order mark, UTF-16 is
@@ -28,46 +47,90 @@ pub fn write_tree(alloc: Global, root: &Element, charset: Charset) -> Result<Byt
     ensures value { IfOk result (λ bytes. bytes ≡ encoded charset (canonical root.now)) }
     ensures err { IfErr result (λ fault. fault ≡ NoMemory) }
 {
-    let document = write_document(alloc, root)?;
-    Ok(encode(alloc, charset, document.as_slice())?)
+    // No memory holds more bytes than this.
+    match write_document(alloc, root, charset, usize::MAX) {
+        Ok(bytes) => Ok(bytes),
+        Err(_) => Err(TreeFault::NoMemory),
+    }
 }
 
-/// The characters of a tree's document.
-fn write_document(alloc: Global, root: &Element) -> Result<List<char>, AllocError>
-    ensures { IfOk result (λ document. document ≡ canonical root.now) }
+/// Writes a tree as `write_tree` does, where its text has at most so many bytes; none where it has
+/// more. It stops at the first tag or text that ends past the limit, so it takes the time of a text
+/// of that length, and the memory of the limit and of one tag or text.
+pub fn write_tree_within(
+    alloc: Global,
+    root: &Element,
+    charset: Charset,
+    limit: usize,
+) -> Result<Option<Bytes>, TreeFault>
+    requires { IsGoodTree root.now }
+    ensures value { IfOk result (λ found. found ≡ unless_longer limit (encoded charset (canonical root.now))) }
+    ensures err { IfErr result (λ fault. fault ≡ NoMemory) }
 {
-    let mut writer = Writer::new(alloc, &root.space)?;
-    writer.write_root(root)?;
-    let Writer { out, .. } = writer;
-    Ok(out)
+    match write_document(alloc, root, charset, limit) {
+        Ok(bytes) => Ok(Some(bytes)),
+        Err(Stop::TooLong) => Ok(None),
+        Err(Stop::NoMemory) => Err(TreeFault::NoMemory),
+    }
 }
 
-/// A document that is being written.
+/// The bytes of a tree's document, where they are at most so many.
+fn write_document(
+    alloc: Global,
+    root: &Element,
+    charset: Charset,
+    limit: usize,
+) -> Result<Bytes, Stop>
+    ensures bytes { IfOk result (λ bytes. bytes ≡ encoded charset (canonical root.now)) }
+    ensures within { IfOk result (λ bytes. length bytes ≤ limit) }
+    ensures past { IfErr result (λ stop. IsTooLong stop limit (encoded charset (canonical root.now))) }
+{
+    let mut writer = Writer::new(alloc, &root.space, charset, limit)?;
+    writer.write_root(root)?;
+    let Writer { bytes, .. } = writer;
+    Ok(bytes)
+}
+
+/// A document that is being written, piece by piece: a piece is a tag, or a text between two tags.
 #[derive(Drop)]
 struct Writer {
     alloc: Global,
-    out: List<char>,
+    charset: Charset,
+    /// How many bytes the document may have.
+    limit: usize,
+    bytes: Bytes,
     root: RootPrefixes,
     bound: Bindings,
 }
 
 impl Writer {
     /// Nothing, inside a root of this namespace.
-    fn new(alloc: Global, space: &Namespace) -> Result<Writer, AllocError>
-        ensures { IfOk result (λ w. (w.out ≡ []) × (scope_of w [] ≡ outermost space.now)) }
+    fn new(
+        alloc: Global,
+        space: &Namespace,
+        charset: Charset,
+        limit: usize,
+    ) -> Result<Writer, AllocError>
+        ensures { IfOk result (λ w. (w.bytes ≡ written_mark charset) × (w.charset ≡ charset) × (w.limit ≡ limit) × (scope_of w [] ≡ outermost space.now)) }
     {
+        let mut bytes = Bytes::new(alloc);
+        push_mark(&mut bytes, charset)?;
         let mut bound = Bindings::new(alloc);
         bound.extend(root_bindings(alloc, space)?)?;
         Ok(Writer {
             alloc,
-            out: List::new(alloc),
+            charset,
+            limit,
+            bytes,
             root: RootPrefixes::new(alloc, space)?,
             bound,
         })
     }
 
-    fn write_root(&mut self, root: &Element) -> Result<(), AllocError>
-        ensures { OnOk result (self.new ≡ record self.old { out = self.old.out ++ element_text (root_bindings root.now.space) (scope_of self.old []) root.now }) }
+    fn write_root(&mut self, root: &Element) -> Result<(), Stop>
+        ensures written { OnOk result (self.new ≡ record self.old { bytes = self.old.bytes ++ bytes_of self.old.charset (element_text (root_bindings root.now.space) (scope_of self.old []) root.now) }) }
+        ensures within { OnOk result (length self.new.bytes ≤ self.old.limit) }
+        ensures past { IfErr result (λ stop. IsPast stop self.old (element_text (root_bindings root.now.space) (scope_of self.old []) root.now)) }
     {
         let first = root_bindings(self.alloc, &root.space)?;
         self.write_element(first.as_slice(), &no_space(self.alloc)?, root)
@@ -75,11 +138,13 @@ impl Writer {
 
     /// Writes a node inside this default namespace.
     #[cycle(writing)]
-    fn write_node(&mut self, default: &Namespace, node: &Node) -> Result<(), AllocError>
-        ensures { OnOk result (self.new ≡ record self.old { out = self.old.out ++ node_of node.now (scope_of self.old default.now) }) }
+    fn write_node(&mut self, default: &Namespace, node: &Node) -> Result<(), Stop>
+        ensures written { OnOk result (self.new ≡ record self.old { bytes = self.old.bytes ++ bytes_of self.old.charset (node_of node.now (scope_of self.old default.now)) }) }
+        ensures within { OnOk result (length self.new.bytes ≤ self.old.limit) }
+        ensures past { IfErr result (λ stop. IsPast stop self.old (node_of node.now (scope_of self.old default.now))) }
     {
         match node {
-            Node::Chars(text) => push_text(&mut self.out, text.as_str()),
+            Node::Chars(text) => self.write_text(text),
             Node::Element(element) => self.write_element(&[], default, element),
         }
     }
@@ -92,8 +157,10 @@ impl Writer {
         first: &[Binding],
         default: &Namespace,
         element: &Element,
-    ) -> Result<(), AllocError>
-        ensures { OnOk result (self.new ≡ record self.old { out = self.old.out ++ element_text first.now (scope_of self.old default.now) element.now }) }
+    ) -> Result<(), Stop>
+        ensures written { OnOk result (self.new ≡ record self.old { bytes = self.old.bytes ++ bytes_of self.old.charset (element_text first.now (scope_of self.old default.now) element.now) }) }
+        ensures within { OnOk result (length self.new.bytes ≤ self.old.limit) }
+        ensures past { IfErr result (λ stop. IsPast stop self.old (element_text first.now (scope_of self.old default.now) element.now)) }
     {
         let count = self.write_start(first, default, element)?;
         let inner = self.inner_default(default, &element.space);
@@ -104,39 +171,92 @@ impl Writer {
         self.write_end(element)
     }
 
+    /// Writes a text between two tags.
+    fn write_text(&mut self, text: &Text) -> Result<(), Stop>
+        ensures written { OnOk result (self.new ≡ record self.old { bytes = self.old.bytes ++ bytes_of self.old.charset (text_of text.now) }) }
+        ensures within { OnOk result (length self.new.bytes ≤ self.old.limit) }
+        ensures past { IfErr result (λ stop. IsPast stop self.old (text_of text.now)) }
+    {
+        let mut piece = List::new(self.alloc);
+        push_text(&mut piece, text.as_str())?;
+        self.put(piece.as_slice())
+    }
+
     /// Writes a start tag, whose own bindings stay in force. It gives how many these are.
     fn write_start(
         &mut self,
         first: &[Binding],
         default: &Namespace,
         element: &Element,
-    ) -> Result<usize, AllocError>
+    ) -> Result<usize, Stop>
         ensures count { IfOk result (λ count. count ≡ length (new_bindings self.old.bound element.now.attributes)) }
         ensures written { let e = element.now in let scope = scope_of self.old default.now in
-            OnOk result (self.new ≡ record self.old { out = self.old.out ++ start_of first.now scope e.space e.name e.attributes; bound = (inside scope e.space e.attributes).bound }) }
+            OnOk result (self.new ≡ record self.old { bytes = self.old.bytes ++ bytes_of self.old.charset (start_of first.now scope e.space e.name e.attributes); bound = (inside scope e.space e.attributes).bound }) }
+        ensures past { let e = element.now in IfErr result (λ stop. IsPast stop self.old (start_of first.now (scope_of self.old default.now) e.space e.name e.attributes)) }
     {
-        let attributes = element.attributes.as_slice();
-        let own = new_bindings(self.alloc, &self.bound, attributes)?;
+        let own = new_bindings(self.alloc, &self.bound, element.attributes.as_slice())?;
         let count = own.len();
-        push_opening(&mut self.out, &self.root, default, element)?;
-        push_declarations(&mut self.out, first)?;
-        push_declarations(&mut self.out, own.as_slice())?;
-        self.bound.extend(own)?;
-        push_attributes(&mut self.out, &self.bound, attributes)?;
-        self.out.push('>')?;
+        let tag = self.start_tag(first, default, element, own)?;
+        self.put(tag.as_slice())?;
         Ok(count)
     }
 
-    fn write_end(&mut self, element: &Element) -> Result<(), AllocError>
-        ensures { OnOk result (self.new ≡ record self.old { out = self.old.out ++ end_of (scope_of self.old []) element.now.space element.now.name }) }
+    /// The start tag of an element with these bindings of its own, which come into force.
+    fn start_tag(
+        &mut self,
+        first: &[Binding],
+        default: &Namespace,
+        element: &Element,
+        own: List<Binding>,
+    ) -> Result<List<char>, AllocError>
+        requires { own ≡ new_bindings self.old.bound element.now.attributes }
+        ensures tag { let e = element.now in IfOk result (λ tag. tag ≡ start_of first.now (scope_of self.old default.now) e.space e.name e.attributes) }
+        ensures bound { let e = element.now in OnOk result (self.new ≡ record self.old { bound = (inside (scope_of self.old default.now) e.space e.attributes).bound }) }
     {
-        push_ascii(&mut self.out, b"</")?;
+        let mut start = List::new(self.alloc);
+        push_opening(&mut start, &self.root, default, element)?;
+        push_declarations(&mut start, first)?;
+        push_declarations(&mut start, own.as_slice())?;
+        self.bound.extend(own)?;
+        push_attributes(&mut start, &self.bound, element.attributes.as_slice())?;
+        start.push('>')?;
+        Ok(start)
+    }
+
+    fn write_end(&mut self, element: &Element) -> Result<(), Stop>
+        ensures written { OnOk result (self.new ≡ record self.old { bytes = self.old.bytes ++ bytes_of self.old.charset (end_of (scope_of self.old []) element.now.space element.now.name) }) }
+        ensures within { OnOk result (length self.new.bytes ≤ self.old.limit) }
+        ensures past { IfErr result (λ stop. IsPast stop self.old (end_of (scope_of self.old []) element.now.space element.now.name)) }
+    {
+        let tag = self.end_tag(element)?;
+        self.put(tag.as_slice())
+    }
+
+    fn end_tag(&self, element: &Element) -> Result<List<char>, AllocError>
+        ensures { IfOk result (λ tag. tag ≡ end_of (scope_of self.now []) element.now.space element.now.name) }
+    {
+        let mut tag = List::new(self.alloc);
+        push_ascii(&mut tag, b"</")?;
         push_name(
-            &mut self.out,
+            &mut tag,
             element_prefix(&self.root, &element.space),
             &element.name,
         )?;
-        self.out.push('>')
+        tag.push('>')?;
+        Ok(tag)
+    }
+
+    /// Writes a piece, unless the document has too many bytes with it.
+    fn put(&mut self, piece: &[char]) -> Result<(), Stop>
+        ensures written { OnOk result (self.new ≡ record self.old { bytes = self.old.bytes ++ bytes_of self.old.charset piece.now }) }
+        ensures within { OnOk result (length self.new.bytes ≤ self.old.limit) }
+        ensures past { IfErr result (λ stop. IsPast stop self.old piece.now) }
+    {
+        push_characters(&mut self.bytes, self.charset, piece)?;
+        if self.bytes.len() > self.limit {
+            return Err(Stop::TooLong);
+        }
+        Ok(())
     }
 
     /// The default namespace inside an element of this namespace.

@@ -1,6 +1,6 @@
 -- The one text of a tree. Each element has a start tag and an end tag, attributes keep their order and stand behind the
 -- declarations, and nothing is added. Texts are in characters here, since a document is.
-use Rattle.std.specs.Prelude.{ℕ, ◌==◌, nat_lt, ◌+◌, ◌-◌, ◌/◌, ◌%◌, ◌||◌, is_some, List, [], ◌∷◌, ◌++◌, encode_utf8, Option, Some, None, codes, if◌then◌else◌}
+use Rattle.std.specs.Prelude.{ℕ, ◌==◌, nat_lt, ◌+◌, ◌-◌, ◌/◌, ◌%◌, ◌||◌, is_some, List, [], ◌∷◌, ◌++◌, length, encode_utf8, Option, Some, None, codes, if◌then◌else◌}
 use Rattle.std.specs.List.{flat_map}
 use Rattle.std.specs.Str.{chars}
 use Rattle.wef_base.specs.Names.{same}
@@ -103,5 +103,13 @@ written_mark Utf8 = []
 written_mark Utf16 = 0xFF ∷ 0xFE ∷ []
 
 -- characters in bytes
+abbrev pub bytes_of : Charset → List ℕ → List ℕ
+bytes_of charset cs = flat_map (character_bytes charset) cs
+
+-- characters in bytes, behind the mark
 abbrev pub encoded : Charset → List ℕ → List ℕ
-encoded charset cs = written_mark charset ++ flat_map (character_bytes charset) cs
+encoded charset cs = written_mark charset ++ bytes_of charset cs
+
+-- bytes, where they are at most so many
+abbrev pub unless_longer : ℕ → List ℕ → Option (List ℕ)
+unless_longer limit bytes = if nat_lt limit (length bytes) then None else Some bytes

@@ -1,31 +1,34 @@
 //! Characters as bytes.
 
-ghost use Rattle.std.specs.Prelude.{◌≡◌, ◌<◌, ◌++◌, encode_utf8, IfOk, OnOk};
+ghost use Rattle.std.specs.Prelude.{◌≡◌, ◌<◌, ◌++◌, encode_utf8, OnOk};
 ghost use Rattle.wef_base.specs.declared.tree.Charset.TheVariants.{Utf16};
-ghost use Rattle.wef_xml.specs.Canonical.{character_bytes, encoded, unit_bytes, written_mark};
+ghost use Rattle.wef_xml.specs.Canonical.{bytes_of, character_bytes, unit_bytes, written_mark};
 
-use std::alloc::{AllocError, Global};
+use std::alloc::AllocError;
 use wef_base::{Bytes, Charset};
 
-/// The bytes of characters, behind the byte order mark of the charset.
-pub fn encode(alloc: Global, charset: Charset, characters: &[char]) -> Result<Bytes, AllocError>
-    ensures { IfOk result (λ bytes. bytes ≡ encoded charset characters.now) }
-{
-    let mut bytes = Bytes::new(alloc);
-    push_mark(&mut bytes, charset)?;
-    for character in characters {
-        push_character(&mut bytes, charset, *character)?;
-    }
-    Ok(bytes)
-}
-
-fn push_mark(bytes: &mut Bytes, charset: Charset) -> Result<(), AllocError>
+/// Appends the byte order mark of a charset.
+pub fn push_mark(bytes: &mut Bytes, charset: Charset) -> Result<(), AllocError>
     ensures { OnOk result (bytes.new ≡ bytes.old ++ written_mark charset) }
 {
     match charset {
         Charset::Utf8 => Ok(()),
         Charset::Utf16 => bytes.extend(&[0xFF, 0xFE]),
     }
+}
+
+/// Appends characters.
+pub fn push_characters(
+    bytes: &mut Bytes,
+    charset: Charset,
+    characters: &[char],
+) -> Result<(), AllocError>
+    ensures { OnOk result (bytes.new ≡ bytes.old ++ bytes_of charset characters.now) }
+{
+    for character in characters {
+        push_character(bytes, charset, *character)?;
+    }
+    Ok(())
 }
 
 fn push_character(bytes: &mut Bytes, charset: Charset, character: char) -> Result<(), AllocError>

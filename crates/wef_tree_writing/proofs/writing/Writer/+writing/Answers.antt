@@ -1,16 +1,65 @@
-use Rattle.std.proofs.Common.{◌≡◌, OnOk, subst}
+use Rattle.std.proofs.Common.{rules, ◌≡◌, ◌∷◌, ◌∙◌, OnOk, ap, drop, suc, subst, sym}
+use Rattle.std.proofs.Math.Seq.{drop-cons}
 use Rattle.wef_tree_writing.specs.declared.writing.Writer.{Writer}
-use Rattle.wef_tree_writing.proofs.WrittenNodes.{element_written, node_text}
+use Rattle.wef_tree_writing.proofs.WrittenNodes.{Inside, element_written, node_text, past_child, past_end_of, past_start}
 use Rattle.wef_tree_writing.proofs.writing.Writer.+writing.Goals as goal
 
-pub write_node-returns-in-Element : goal.write_node-returns-in-Element
-write_node-returns-in-Element t c = rw (node_text _ c.in-Element.element _ c.in-Element.is) c.write_element.ensures
+pub write_node-returns-in-Element-clause-written : goal.write_node-returns-in-Element-clause-written
+write_node-returns-in-Element-clause-written t c = rw (node_text _ c.in-Element.element _ c.in-Element.is) c.write_element.ensures.written
 
-pub write_element-returns : goal.write_element-returns
-write_element-returns t c =
+pub write_node-returns-in-Element-clause-past : goal.write_node-returns-in-Element-clause-past
+write_node-returns-in-Element-clause-past t c = rw (node_text _ c.in-Element.element _ c.in-Element.is) c.write_element.ensures.past
+
+pub write_element-returns-in_err-count-clause-past : goal.write_element-returns-in_err-count-clause-past
+write_element-returns-in_err-count-clause-past t c =
+    search (rules, past_start c.in_err-count.field-0.0 c.args.self.now c.args.first.now c.args.default.now c.args.element.now c.in_err-count.ensures.past)
+
+pub write_element-returns-in_err-write_node-clause-past : goal.write_element-returns-in_err-write_node-clause-past
+write_element-returns-in_err-write_node-clause-past t c =
+    let is : Inside c.args.self.now c.write_start.new.self c.loop-child.self c.args.first.now c.args.default.now _ c.args.element.now c.loop-child.child-index _ =
+    record {
+      started = c.in_ok-count.ensures.written;
+      inner_is = c.inner_default-inner.ensures;
+      all = c.as_slice-child-items.ensures;
+      written = c.loop-child.invariant.written;
+      kept = c.loop-child.invariant.kept;
+    } in
+    let items = c.as_slice-child-items.result.now in
+    let index = c.loop-child.child-index in
+    let child = c.child-item.result in
+    let next : drop index items ≡ child ∷ drop (suc index) items =
+    drop-cons items index child c.loop-child-test.true ∙ ap (λ n. n ∷ drop (suc index) items) (sym c.child-item.is) in
+    search (
+      rules,
+      past_child c.in_err-write_node.field-0.0 c.args.self.now c.write_start.new.self c.loop-child.self c.args.first.now c.args.default.now
+          c.inner_default-inner.result.now c.args.element.now index items child (drop (suc index) items) is next c.in_err-write_node.ensures.past,
+    )
+
+pub write_element-returns-clause-written : goal.write_element-returns-clause-written
+write_element-returns-clause-written t c =
     let P : Writer → Type 0 = λ w. OnOk c.write_end.result (c.write_end.new.self ≡ w) in
+    let is : Inside c.args.self.now c.write_start.new.self c.loop-child.self c.args.first.now c.args.default.now _ c.args.element.now c.loop-child.child-index _ =
+    record {
+      started = c.in_ok-count.ensures.written;
+      inner_is = c.inner_default-inner.ensures;
+      all = c.as_slice-child-items.ensures;
+      written = c.loop-child.invariant.written;
+      kept = c.loop-child.invariant.kept;
+    } in
     subst P
     (element_written c.args.self.now c.write_start.new.self c.loop-child.self c.args.first.now _ c.args.default.now _ c.args.element.now _ _ _
-    c.in_ok-count.ensures.count c.in_ok-count.ensures.written c.inner_default-inner.ensures c.as_slice-child-items.ensures c.loop-child-test.false
-    c.loop-child.invariant.written c.loop-child.invariant.kept c.leave.ensures)
-    c.write_end.ensures
+    c.in_ok-count.ensures.count is c.loop-child-test.false c.leave.ensures)
+    c.write_end.ensures.written
+
+pub write_element-returns-clause-past : goal.write_element-returns-clause-past
+write_element-returns-clause-past t c =
+    let is : Inside c.args.self.now c.write_start.new.self c.loop-child.self c.args.first.now c.args.default.now _ c.args.element.now c.loop-child.child-index _ =
+    record {
+      started = c.in_ok-count.ensures.written;
+      inner_is = c.inner_default-inner.ensures;
+      all = c.as_slice-child-items.ensures;
+      written = c.loop-child.invariant.written;
+      kept = c.loop-child.invariant.kept;
+    } in
+    past_end_of c.write_end.result c.args.self.now c.write_start.new.self c.loop-child.self c.args.first.now c.leave.new.self c.args.default.now _ c.args.element.now
+    c.loop-child.child-index _ is c.loop-child-test.false c.write_end.ensures.past
