@@ -9,7 +9,6 @@ use Rattle.wef_batch.specs.declared.items.Batch as batch
 use Rattle.wef_replay.specs.BatchWords.{added, batch_word, read_words}
 use Rattle.wef_replay.specs.Grammar.{batch_line, batch_of_source, line_of_words, other_line}
 use Rattle.wef_replay.specs.declared.batches.BatchWord.{BatchWord}
-use Rattle.wef_replay.specs.declared.lines.Line.{Line}
 use Rattle.wef_replay.proofs.Cuts.{has_first}
 
 -- ---- the first word

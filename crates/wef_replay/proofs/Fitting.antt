@@ -3,9 +3,9 @@ use Rattle.std.proofs.Common.{◌≡◌, Bool, true, false, cond, refl, ap, ◌�
 use Rattle.std.specs.Prelude.{Some, None, is_some}
 use Rattle.std.proofs.Math.Bool.{Bool-set}
 use Rattle.wef_base.specs.Characters.{is_xml_text}
+use Rattle.wef_base.specs.declared.numbers.TheConstants.{MAX}
 use Rattle.wef_event.specs.Unnumbered.{plain_numbered}
 use Rattle.wef_event.specs.declared.unnumbered.PlainEvent.{PlainEvent}
-use Rattle.wef_replay.specs.BatchWords.{greatest}
 use Rattle.wef_replay.specs.Grammar.{event_if_xml, fitting_event, if_fits}
 
 -- a word of XML Chars makes this event, where it fits
@@ -17,5 +17,5 @@ event_of event = by (is_xml_text event.word) refl event.characters
     by false e no_way = cc
 
 -- an event that fits is made of its parts
-pub event_is_made : (event : PlainEvent) → is_some (plain_numbered event greatest) ≡ true → fitting_event event.channel event.id event.level event.word ≡ Some event
+pub event_is_made : (event : PlainEvent) → is_some (plain_numbered event MAX) ≡ true → fitting_event event.channel event.id event.level event.word ≡ Some event
 event_is_made event fits = event_of event ∙ ap (λ (b : Bool). cond b (Some event) None) fits

@@ -15,6 +15,7 @@ use Rattle.std.proofs.lemmas.List.Elements.{All-nil, All-push}
 use Rattle.std.proofs.lemmas.List.Folds.{list_all-append}
 use Rattle.wef_base.specs.Names.{channel_name, same}
 use Rattle.wef_base.specs.Words.{decoded, parts}
+use Rattle.wef_base.specs.declared.numbers.TheConstants.{MAX}
 use Rattle.wef_batch.specs.declared.items.Batch as batch
 use Rattle.wef_batch.specs.declared.items.Item.TheVariants as item
 use Rattle.wef_bookmark.specs.Order.{Marks, number_at, raised}
@@ -22,7 +23,7 @@ use Rattle.wef_base.specs.Characters.{is_xml_text}
 use Rattle.wef_event.specs.PlainEvent.{plain_event, plain_text}
 use Rattle.wef_event.specs.Events.{Event, is_event}
 use Rattle.wef_event.proofs.PlainTrees.{plain_is_read}
-use Rattle.wef_replay.specs.BatchWords.{added, batch_word, colon_joined, data_word, dropped_word, empty_batch, event_word, greatest, if_word, if_xml_text, is_nothing, loose_word, reach_word, read_words, spelled, word_of}
+use Rattle.wef_replay.specs.BatchWords.{added, batch_word, colon_joined, data_word, dropped_word, empty_batch, event_word, if_word, if_xml_text, is_nothing, loose_word, reach_word, read_words, spelled, word_of}
 use Rattle.wef_replay.specs.Good.{are_words, has_word, is_channel, is_count, is_item, is_number, is_one, is_reach}
 use Rattle.wef_replay.specs.PlainEvents.{IsPlainItem}
 use Rattle.wef_replay.specs.Values.{channel_word, number_word}
@@ -73,23 +74,23 @@ good-plain_event c n word channel number characters = by (nat_lt 1048576 (length
 good-event_word : (channel number piece : List ℕ) (more : List (List ℕ)) → AllOf IsGoodWord (event_word channel number piece more)
 good-event_word channel number piece more =
     all_of-then (λ c. is_channel c ≡ true) IsGoodWord _ (channel_word channel) (good-channel channel) (λ c is_c.
-    all_of-then (λ n. is_number n ≡ true) IsGoodWord _ (number_word 1 greatest number) (good-number 1 greatest number) (λ n is_n.
+    all_of-then (λ n. is_number n ≡ true) IsGoodWord _ (number_word 1 MAX number) (good-number 1 MAX number) (λ n is_n.
     all_of-then IsXmlWord IsGoodWord _ (data_word piece more) (good-data_word piece more) (λ word characters.
     all_of-map (λ (event : Event). IsGoodWord (Item (item.Event event))) IsGoodWord _ (plain_event c n 0 0 word) (good-plain_event c n word is_c is_n characters) (λ event h. h))))
 
 good-dropped_word : (channel first last : List ℕ) → AllOf IsGoodWord (dropped_word channel first last)
 good-dropped_word channel first last =
     all_of-then (λ c. is_channel c ≡ true) IsGoodWord _ (channel_word channel) (good-channel channel) (λ c is_c.
-    all_of-then (λ n. is_number n ≡ true) IsGoodWord _ (number_word 1 greatest first) (good-number 1 greatest first) (λ a is_a.
-    all_of-map (λ n. is_number n ≡ true) IsGoodWord _ (number_word 1 greatest last) (good-number 1 greatest last) (λ b is_b. (λ i. is_c i && is_a i && is_b i, tt))))
+    all_of-then (λ n. is_number n ≡ true) IsGoodWord _ (number_word 1 MAX first) (good-number 1 MAX first) (λ a is_a.
+    all_of-map (λ n. is_number n ≡ true) IsGoodWord _ (number_word 1 MAX last) (good-number 1 MAX last) (λ b is_b. (λ i. is_c i && is_a i && is_b i, tt))))
 
 good-loose_word : (count : List ℕ) → AllOf IsGoodWord (loose_word count)
-good-loose_word count = all_of-map _ IsGoodWord (λ n. Item (item.Loose n)) (number_word 0 greatest count) (good-number 0 greatest count) (λ n h. (count_from_between n h, tt))
+good-loose_word count = all_of-map _ IsGoodWord (λ n. Item (item.Loose n)) (number_word 0 MAX count) (good-number 0 MAX count) (λ n h. (count_from_between n h, tt))
 
 good-reach_word : (channel number : List ℕ) → AllOf IsGoodWord (reach_word channel number)
 good-reach_word channel number =
     all_of-then (λ c. is_channel c ≡ true) IsGoodWord _ (channel_word channel) (good-channel channel) (λ c is_c.
-    all_of-map _ IsGoodWord (λ n. Reach c n) (number_word 0 greatest number) (good-number 0 greatest number) (λ n h. and_from (is_channel c) (is_count n) is_c (count_from_between n h)))
+    all_of-map _ IsGoodWord (λ n. Reach c n) (number_word 0 MAX number) (good-number 0 MAX number) (λ n h. and_from (is_channel c) (is_count n) is_c (count_from_between n h)))
 
 good-if_word : (kind word : List ℕ) (given : Option BatchWord) → AllOf IsGoodWord given → AllOf IsGoodWord (if_word kind word given)
 good-if_word kind word given h = all_of-if IsGoodWord (same kind word) given None h tt

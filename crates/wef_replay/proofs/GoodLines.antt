@@ -9,10 +9,11 @@ use Rattle.std.proofs.lemmas.Bool.Decides.{nat_tests}
 use Rattle.wef_base.specs.Names.{same}
 use Rattle.wef_base.specs.Words.{decoded, parts}
 use Rattle.wef_base.specs.Characters.{is_xml_text}
+use Rattle.wef_base.specs.declared.numbers.TheConstants.{MAX}
 use Rattle.wef_event.specs.Unnumbered.{plain_numbered}
 use Rattle.wef_event.specs.declared.unnumbered.PlainEvent.{PlainEvent}
 use Rattle.wef_query.specs.Queries.{all_events_of}
-use Rattle.wef_replay.specs.BatchWords.{empty_batch, greatest, read_words}
+use Rattle.wef_replay.specs.BatchWords.{empty_batch, read_words}
 use Rattle.wef_replay.specs.Good.{are_all, asks_for_all, fits_always, is_channel, is_end, is_line, is_no_collector, is_source, is_subscription}
 use Rattle.wef_replay.specs.Grammar.{all_of, ask_line, back_line, batch_line, calm_line, crash_line, deliver_line, does_nothing, end_line, event_if_xml, event_words, fail_line, failure_line_of, fitting_event, if_fits, line_of_words, lost_line, meaning, other_line, poll_line, print_line, show_line, source_line, source_line_of, stop_line, subscribe_line, subscribe_numbers, write_line}
 use Rattle.wef_replay.specs.PlainEvents.{HasPlainEvents}
@@ -108,7 +109,7 @@ good-source_line (a ∷ b ∷ c ∷ more) = tt
 
 good-if_fits : (event : PlainEvent) → is_channel event.channel ≡ true → is_utf8 event.word ≡ true → AllOf (λ event. fits_always event ≡ true) (if_fits event)
 good-if_fits event channel text =
-    all_of-tested (λ (event : PlainEvent). fits_always event ≡ true) (is_some (plain_numbered event greatest)) event (λ fits. λ i. channel i && text i && fits i)
+    all_of-tested (λ (event : PlainEvent). fits_always event ≡ true) (is_some (plain_numbered event MAX)) event (λ fits. λ i. channel i && text i && fits i)
 
 good-event_if_xml : (c : List ℕ) (i l : ℕ) (w : List ℕ) (b : Bool) (e : is_xml_text w ≡ b) → is_channel c ≡ true → is_utf8 w ≡ true → AllOf (λ event. fits_always event ≡ true) (event_if_xml c i l w b e)
 good-event_if_xml c i l w true e channel text = good-if_fits (record { channel = c; id = i; level = l; word = w; characters = e }) channel text
@@ -155,12 +156,12 @@ good-lost_line (a ∷ b ∷ c ∷ more) = tt
 
 good-deliver_line : (words : List (List ℕ)) → AllOf IsGoodLine (deliver_line words)
 good-deliver_line [] = tt
-good-deliver_line (number ∷ []) = all_of-map _ IsGoodLine (λ n. Deliver n) (number_word 0 greatest number) (good-number 0 greatest number) (λ n h. (count_from_between n h, tt))
+good-deliver_line (number ∷ []) = all_of-map _ IsGoodLine (λ n. Deliver n) (number_word 0 MAX number) (good-number 0 MAX number) (λ n h. (count_from_between n h, tt))
 good-deliver_line (a ∷ b ∷ more) = tt
 
 good-back_line : (words : List (List ℕ)) → AllOf IsGoodLine (back_line words)
 good-back_line [] = tt
-good-back_line (number ∷ []) = all_of-map _ IsGoodLine (λ n. Back n) (number_word 0 greatest number) (good-number 0 greatest number) (λ n h. (count_from_between n h, tt))
+good-back_line (number ∷ []) = all_of-map _ IsGoodLine (λ n. Back n) (number_word 0 MAX number) (good-number 0 MAX number) (λ n h. (count_from_between n h, tt))
 good-back_line (a ∷ b ∷ more) = tt
 
 -- ---- what is printed

@@ -4,6 +4,7 @@ use Rattle.std.specs.Prelude.{None, not}
 use Rattle.std.proofs.lemmas.Bool.{and_from, and_parts}
 use Rattle.std.proofs.lemmas.Bool.Decides.{nat_tests}
 use Rattle.wef_base.specs.Numbers.{has_leading_zero, is_numeral, number_within, plain_number, value_from}
+use Rattle.wef_base.specs.declared.numbers.TheConstants.{MAX}
 use Rattle.wef_replay.specs.Good.{is_between, is_count, is_number}
 use Rattle.wef_replay.specs.Values.{at_least, number_word}
 use Rattle.wef_replay.proofs.Gifts.{AllOf, all_of-if, all_of-tested, all_of-then}
@@ -20,17 +21,17 @@ good-number least greatest word =
     (λ n most. all_of-tested (λ n. is_between least greatest n ≡ true) (nat_le least n) n (λ e. and_from (nat_le least n) (nat_le n greatest) e most))
 
 -- the number of a record is within its limits
-pub of_record : (n : ℕ) → is_number n ≡ true → (1 ≤ n) × (n ≤ 9223372036854775807)
+pub of_record : (n : ℕ) → is_number n ≡ true → (1 ≤ n) × (n ≤ MAX)
 of_record n h = (least n h, most n h)
   where
     least : (n : ℕ) → is_number n ≡ true → 1 ≤ n
     least n h = grind (arith, nat_tests, h)
 
-    most : (n : ℕ) → is_number n ≡ true → n ≤ 9223372036854775807
+    most : (n : ℕ) → is_number n ≡ true → n ≤ MAX
     most n h = grind (arith, nat_tests, h)
 
 -- a number from 0 on has no least
-pub count_from_between : (n : ℕ) → is_between 0 9223372036854775807 n ≡ true → is_count n ≡ true
+pub count_from_between : (n : ℕ) → is_between 0 MAX n ≡ true → is_count n ≡ true
 count_from_between n h = (and_parts (nat_le 0 n) (is_count n) h).1
 
 pub is_count-max : (m n : ℕ) → is_count m ≡ true → is_count n ≡ true → is_count (max m n) ≡ true

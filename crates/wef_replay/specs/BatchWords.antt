@@ -11,6 +11,7 @@ use Rattle.std.specs.List.{flat_map}
 use Rattle.std.specs.Option.{option_and_then, option_map}
 use Rattle.wef_base.specs.Names.{same}
 use Rattle.wef_base.specs.Words.{parts, decoded}
+use Rattle.wef_base.specs.declared.numbers.TheConstants.{MAX}
 use Rattle.wef_bookmark.specs.Order.{raised}
 use Rattle.wef_batch.specs.declared.items.Batch as batch
 use Rattle.wef_batch.specs.declared.items.Item.TheVariants as item
@@ -19,10 +20,6 @@ use Rattle.wef_event.specs.PlainEvent.{plain_event}
 use Rattle.wef_replay.specs.Values.{channel_word, number_word}
 use Rattle.wef_replay.specs.declared.batches.BatchWord.{BatchWord}
 use Rattle.wef_replay.specs.declared.batches.BatchWord.TheVariants.{Item, Reach, Ack}
-
--- the greatest number of a record, and of every count
-abbrev pub greatest : ℕ
-greatest = 9223372036854775807
 
 -- a piece and those that follow it, each behind a colon
 abbrev pub colon_joined : List ℕ → List (List ℕ) → List ℕ
@@ -38,17 +35,17 @@ data_word first more = option_and_then if_xml_text (decoded (colon_joined first 
 abbrev pub event_word : List ℕ → List ℕ → List ℕ → List (List ℕ) → Option BatchWord
 event_word channel number first more =
     option_and_then (λ c. option_and_then (λ n. option_and_then (λ d.
-    option_map (λ event. Item (item.Event event)) (plain_event c n 0 0 d)) (data_word first more)) (number_word 1 greatest number)) (channel_word channel)
+    option_map (λ event. Item (item.Event event)) (plain_event c n 0 0 d)) (data_word first more)) (number_word 1 MAX number)) (channel_word channel)
 
 abbrev pub dropped_word : List ℕ → List ℕ → List ℕ → Option BatchWord
 dropped_word channel first last =
-    option_and_then (λ c. option_and_then (λ a. option_map (λ b. Item (item.Dropped c a b)) (number_word 1 greatest last)) (number_word 1 greatest first)) (channel_word channel)
+    option_and_then (λ c. option_and_then (λ a. option_map (λ b. Item (item.Dropped c a b)) (number_word 1 MAX last)) (number_word 1 MAX first)) (channel_word channel)
 
 abbrev pub loose_word : List ℕ → Option BatchWord
-loose_word count = option_map (λ n. Item (item.Loose n)) (number_word 0 greatest count)
+loose_word count = option_map (λ n. Item (item.Loose n)) (number_word 0 MAX count)
 
 abbrev pub reach_word : List ℕ → List ℕ → Option BatchWord
-reach_word channel number = option_and_then (λ c. option_map (λ n. Reach c n) (number_word 0 greatest number)) (channel_word channel)
+reach_word channel number = option_and_then (λ c. option_map (λ n. Reach c n) (number_word 0 MAX number)) (channel_word channel)
 
 abbrev pub if_word : List ℕ → List ℕ → Option BatchWord → Option BatchWord
 if_word kind word given = if same kind word then given else None

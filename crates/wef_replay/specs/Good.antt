@@ -15,6 +15,7 @@ use Rattle.std.specs.FinMap as map
 use Rattle.std.specs.List.{list_all, list_any}
 use Rattle.std.specs.Str.{is_utf8}
 use Rattle.wef_base.specs.Names.{channel_name, same, source_name, subscription_name}
+use Rattle.wef_base.specs.declared.numbers.TheConstants.{MAX}
 use Rattle.wef_batch.specs.declared.items.Batch as batch
 use Rattle.wef_batch.specs.declared.items.Item.{Item}
 use Rattle.wef_batch.specs.declared.items.Item.TheVariants as item
@@ -32,11 +33,11 @@ is_between least greatest number = nat_le least number && nat_le number greatest
 
 -- a number of a record
 abbrev pub is_number : ℕ → Bool
-is_number number = is_between 1 9223372036854775807 number
+is_number number = is_between 1 MAX number
 
 -- a count, or how far a channel is read
 abbrev pub is_count : ℕ → Bool
-is_count number = nat_le number 9223372036854775807
+is_count number = nat_le number MAX
 
 -- whether a reader gave just this name
 abbrev pub is_one : List ℕ → Option (List ℕ) → Bool
@@ -91,7 +92,7 @@ is_end (end.Source s) = is_source s && is_no_collector s
 
 -- an event whose text fits with every number of a record
 abbrev pub fits_always : PlainEvent → Bool
-fits_always event = is_channel event.channel && is_utf8 event.word && is_some (plain_numbered event 9223372036854775807)
+fits_always event = is_channel event.channel && is_utf8 event.word && is_some (plain_numbered event MAX)
 
 -- whether a line has values of the kinds that lines have
 abbrev pub is_line : Line → Bool

@@ -22,11 +22,12 @@ use Rattle.std.specs.Str.{is_utf8}
 use Rattle.wef_base.specs.Names.{same}
 use Rattle.wef_base.specs.Words.{parts, decoded}
 use Rattle.wef_base.specs.Characters.{is_xml_text}
+use Rattle.wef_base.specs.declared.numbers.TheConstants.{MAX}
 use Rattle.wef_event.specs.Unnumbered.{plain_numbered}
 use Rattle.wef_event.specs.declared.unnumbered.PlainEvent.{PlainEvent}
 use Rattle.wef_query.specs.declared.QueryList.{QueryList}
 use Rattle.wef_query.specs.Queries.{all_events_of}
-use Rattle.wef_replay.specs.BatchWords.{read_words, empty_batch, greatest}
+use Rattle.wef_replay.specs.BatchWords.{read_words, empty_batch}
 use Rattle.wef_replay.specs.Values.{subscription_word, source_word, channel_word, sending_source_word, end_word, after_word, number_word, channel_words}
 use Rattle.wef_replay.specs.declared.lines.Line.{Line}
 use Rattle.wef_replay.specs.declared.lines.Line.TheVariants.{Subscribe, End, Batch, Source, Write, Ask, Poll, Deliver, Back, Lost, Show, Print, Crash, Fail, Stop, Calm}
@@ -63,7 +64,7 @@ source_line _ = None
 
 -- an event that fits with every number of a record
 abbrev pub if_fits : PlainEvent → Option PlainEvent
-if_fits event = if is_some (plain_numbered event greatest) then Some event else None
+if_fits event = if is_some (plain_numbered event MAX) then Some event else None
 
 -- the event of a word, where XML allows each of its characters
 abbrev pub event_if_xml : List ℕ → ℕ → ℕ → (word : List ℕ) → (is : Bool) → is_xml_text word ≡ is → Option PlainEvent
@@ -97,11 +98,11 @@ lost_line (source ∷ sub ∷ []) = option_and_then (λ s. option_map (λ u. Los
 lost_line _ = None
 
 abbrev pub deliver_line : List (List ℕ) → Option Line
-deliver_line (number ∷ []) = option_map (λ n. Deliver n) (number_word 0 greatest number)
+deliver_line (number ∷ []) = option_map (λ n. Deliver n) (number_word 0 MAX number)
 deliver_line _ = None
 
 abbrev pub back_line : List (List ℕ) → Option Line
-back_line (number ∷ []) = option_map (λ n. Back n) (number_word 0 greatest number)
+back_line (number ∷ []) = option_map (λ n. Back n) (number_word 0 MAX number)
 back_line _ = None
 
 abbrev pub show_line : List (List ℕ) → Option Line

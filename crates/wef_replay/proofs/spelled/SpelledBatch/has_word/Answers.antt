@@ -1,5 +1,4 @@
-use Rattle.std.proofs.Common.{ap, sym, ◌∙◌}
-use Rattle.wef_base.specs.Words.{parts}
+use Rattle.std.proofs.Common.{ap, ◌∙◌}
 use Rattle.wef_replay.specs.Good.{are_words}
 use Rattle.wef_replay.proofs.GoodBatches.{good-spelled}
 use Rattle.wef_replay.proofs.spelled.SpelledBatch.has_word.Goals as goal
