@@ -5,10 +5,11 @@ pub mod Channels
 pub mod Covering
 pub mod Cuts
 pub mod Drafts
+pub mod FirstChanged
 pub mod Fitting
+pub mod Handed
 pub mod InOrder
 pub mod Items
-pub mod Logged
 pub mod Placements
 pub mod Places
 pub mod Polling

@@ -1,12 +1,16 @@
 -- A poll of the session of a name.
-use Rattle.std.proofs.Common.{◌≡◌, ℕ, zero, suc, drop, ◌+◌, ◌<◌, cond, true, false, List, [], ◌∷◌, get_or, length, set, refl, sym, subst, ◌∙◌, Some, None}
-use Rattle.std.specs.Prelude.{is_some, nat_lt}
+use Rattle.std.proofs.Common.{◌≡◌, ℕ, zero, suc, drop, ◌+◌, ◌<◌, cond, true, false, List, [], ◌∷◌, get_or, length, set, refl, ap, sym, subst, ◌∙◌, Some, None}
+use Rattle.std.specs.Prelude.{Option, Ok, Err, is_none, is_some, nat_lt}
 use Rattle.std.specs.FinMap as map
 use Rattle.std.proofs.lemmas.List.Elements.{All-set}
 use Rattle.wef_bookmark.specs.Order.{Marks, number_at, raised}
+use Rattle.wef_keeper.specs.Calls.{Looks}
+use Rattle.wef_keeper.specs.Keeping.{Store}
 use Rattle.wef_keeper.specs.Rows.{Rows}
-use Rattle.wef_source.specs.Answers.{MayRefusePoll, Polls, PollsIn, RefusesPoll, Sends, WhereThere}
+use Rattle.wef_source_log.specs.Forms.{AreFormed}
+use Rattle.wef_source.specs.Answers.{MayRefusePoll, Polls, PollsIn, RefusesPoll, Sends, SendsFrom, WhereThere, may_send}
 use Rattle.wef_source.specs.Building.{with_reach}
+use Rattle.wef_source.specs.Faults.{source_store}
 use Rattle.wef_source.specs.Machine.{End, is_idle, sent}
 use Rattle.wef_source.specs.Prepared.{Draws, MayRefuseToPrepare, Prepares, RefusesToPrepare}
 use Rattle.wef_source.specs.Serving.{AreKept, HasAll, IsCovered}
@@ -49,15 +53,45 @@ polls_send rows before end u now s delivery outstanding ss same found name prepa
     subst (λ o. PollsIn rows end (record before { drawn = before.drawn + 1; sessions = ss }) o now (Send delivery)) (sym found) (prepared.0, prepared.1, prepared.2, made)
 
 -- the same, whatever the rows are
-pub sends_next : (before end : End) (u : List ℕ) (now : ℕ) (s : Session) (delivery : Delivery) (outstanding : Outstanding) (ss : List Session) → before ≡ end → Draws end s delivery outstanding
-    → ss ≡ with_changed (is_named u) (sending outstanding now) before.sessions → Sends end (record before { drawn = before.drawn + 1; sessions = ss }) u now (Send delivery)
-sends_next before end u now s delivery outstanding ss same draws changed = (
-  draws.0,
-  draws.1,
-  (λ k. record before { drawn = before.drawn + 1; sessions = changed k })
-      ∙ (λ k. record (same k) { drawn = (same k).drawn + 1; sessions = with_changed (is_named u) (sending outstanding now) (same k).sessions })
-      ∙ (λ k. record end { drawn = end.drawn + 1; sessions = with_changed (is_named u) (sending (draws.2 k) now) end.sessions }),
-)
+pub sends_next : (before end : End) (u : List ℕ) (now : ℕ) (s : Session) (delivery : Delivery) (outstanding : Outstanding) (ss : List Session) → before ≡ end → session_of end.sessions u ≡ Some s
+    → Draws end s delivery outstanding → ss ≡ with_changed (is_named u) (sending outstanding now) before.sessions → Sends end (record before { drawn = before.drawn + 1; sessions = ss }) u now (Send delivery)
+sends_next before end u now s delivery outstanding ss same found draws changed =
+    let made =
+    (λ k. record before { drawn = before.drawn + 1; sessions = changed k })
+    ∙ (λ k. record (same k) { drawn = (same k).drawn + 1; sessions = with_changed (is_named u) (sending outstanding now) (same k).sessions })
+    ∙ (λ k. record end { drawn = end.drawn + 1; sessions = with_changed (is_named u) (sending (draws.3 k) now) end.sessions })
+    in
+    subst (λ o. WhereThere o (λ session. SendsFrom end (record before { drawn = before.drawn + 1; sessions = ss }) session u now (Send delivery))) (sym found) (draws.0, draws.1, draws.2, made)
+
+-- a poll that sends nothing
+pub sends_nothing : (end : End) (u : List ℕ) (now : ℕ) (s : Session) → session_of end.sessions u ≡ Some s → Sends end end u now Nothing
+sends_nothing end u now s found = subst (λ o. WhereThere o (λ session. SendsFrom end end session u now Nothing)) (sym found) refl
+
+-- ---- whether the session that a poll finds awaits an answer
+
+none_there : (outstanding : Option Outstanding) → is_none outstanding ≡ true → is_some outstanding ≡ false
+none_there None e = refl
+none_there (Some outstanding) e = cc
+
+none_free : (outstanding : Option Outstanding) → is_some outstanding ≡ false → is_none outstanding ≡ true
+none_free None e = refl
+none_free (Some outstanding) e = cc
+
+some_there : (outstanding : Option Outstanding) → is_none outstanding ≡ false → is_some outstanding ≡ true
+some_there None e = cc
+some_there (Some outstanding) e = refl
+
+pub awaits_nothing : (end : End) (u : List ℕ) (s : Session) → session_of end.sessions u ≡ Some s → may_send (session_of end.sessions u) ≡ true → is_some s.outstanding ≡ false
+awaits_nothing end u s found may = none_there s.outstanding (sym (ap may_send found) ∙ may)
+
+pub awaits : (end : End) (u : List ℕ) (s : Session) → session_of end.sessions u ≡ Some s → may_send (session_of end.sessions u) ≡ false → is_some s.outstanding ≡ true
+awaits end u s found may = some_there s.outstanding (sym (ap may_send found) ∙ may)
+
+pub may_send_there : (end : End) (u : List ℕ) (s : Session) → session_of end.sessions u ≡ Some s → is_some s.outstanding ≡ false → may_send (session_of end.sessions u) ≡ true
+may_send_there end u s found idle = ap may_send found ∙ none_free s.outstanding idle
+
+pub never_sends : (A : Type 0) (end : End) (u : List ℕ) → session_of end.sessions u ≡ None → may_send (session_of end.sessions u) ≡ true → A
+never_sends A end u none may = let bad : false ≡ true = sym (ap may_send none) ∙ may in cc
 
 -- ---- what a batch reads is of channels that the positions have
 
@@ -87,11 +121,19 @@ sent_kept u now ss k s t outstanding kept within read has made changed =
     }
 
 -- a poll that is refused while it prepares
-pub may_refuse : (end : End) (u : List ℕ) (fault : SourceFault) → is_some (session_of end.sessions u) ≡ true → MayRefuseToPrepare end fault → MayRefusePoll fault end u
-may_refuse end u NoMemory there h = there
-may_refuse end u Failed there h = there
-may_refuse end u Full there h = absurd h
-may_refuse end u TooLong there h = absurd h
-may_refuse end u NotAsked there h = absurd h
-may_refuse end u UnknownSubscription there h = absurd h
-may_refuse end u Spent there h = (there, h)
+pub may_refuse : (end : End) (u : List ℕ) (fault : SourceFault) → may_send (session_of end.sessions u) ≡ true → MayRefuseToPrepare end fault → MayRefusePoll fault end u
+may_refuse end u NoMemory may h = may
+may_refuse end u Failed may h = may
+may_refuse end u Full may h = absurd h
+may_refuse end u TooLong may h = absurd h
+may_refuse end u NotAsked may h = absurd h
+may_refuse end u UnknownSubscription may h = absurd h
+may_refuse end u Spent may h = (may, h)
+
+-- ---- what a poll reads is what its session reads
+
+pub looks_done : {S T : Type 0} (first : S) (second : T) (before now : Store) → Looks source_store AreFormed (Ok first) before now → Looks source_store AreFormed (Ok second) before now
+looks_done first second before now looks = record { opened = looks.opened; found = looks.found; ready = looks.ready }
+
+pub looks_refused : {S T : Type 0} (fault : SourceFault) (before now : Store) → Looks {T = S} source_store AreFormed (Err fault) before now → Looks {T = T} source_store AreFormed (Err fault) before now
+looks_refused fault before now looks = record { opened = looks.opened; found = looks.found; ready = looks.ready }

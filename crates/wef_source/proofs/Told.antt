@@ -7,6 +7,7 @@ use Rattle.wef_keeper.proofs.Openings.{all_one}
 use Rattle.wef_keeper.specs.Access.{HasRead, IsReady, OpensAndReads, Reads}
 use Rattle.wef_keeper.specs.Keeping.{IsOneOf, Stays, Store}
 use Rattle.wef_keeper.specs.Rows.{Rows}
+use Rattle.wef_keeper.specs.declared.keeping.Plan.{Plan}
 use Rattle.wef_source_log.specs.Forms.{AreFormed}
 use Rattle.wef_source_log.specs.Windows.{last_number}
 
@@ -37,7 +38,7 @@ stays_twice before mid None first second = tt
 stays_twice before None (Some told) first second = cc
 stays_twice before (Some old) (Some told) first second = cc
 
-counts_twice : (plan next : Option (Option Bool)) (a b c : ℕ) → next ≡ plan → IfSome plan (λ planned. b ≡ a) → IfSome next (λ planned. c ≡ b) → IfSome plan (λ planned. c ≡ a)
+counts_twice : (plan next : Option Plan) (a b c : ℕ) → next ≡ plan → IfSome plan (λ planned. b ≡ a) → IfSome next (λ planned. c ≡ b) → IfSome plan (λ planned. c ≡ a)
 counts_twice None next a b c e h k = tt
 counts_twice (Some planned) None a b c e h k = cc
 counts_twice (Some planned) (Some same) a b c e h k = k ∙ h
@@ -62,7 +63,7 @@ reads_after failed before mid now h k = (
   read_twice before mid now h k.0,
   λ e. if_told (λ (rows : Rows). AreFormed rows → Rose mid.faults now.faults) (λ (rows : Rows). AreFormed rows → Rose before.faults now.faults) now.rows
       (λ rows rose formed. rose_later before.faults mid.faults now.faults h.5 (rose formed)) (k.1 e),
-  subst (λ (plan : Option (Option Bool)). IfSome plan (λ planned. IfSome now.rows (λ rows. AreFormed rows → failed ≡ false))) h.4 k.2,
+  subst (λ (plan : Option Plan). IfSome plan (λ planned. IfSome now.rows (λ rows. AreFormed rows → failed ≡ false))) h.4 k.2,
 )
   where
     rose_later : (a b c : ℕ) → a ≤ b → Rose b c → Rose a c
@@ -74,7 +75,7 @@ stays_itself : {A : Type 0} (told : Option A) → Stays told told
 stays_itself None = tt
 stays_itself (Some told) = refl
 
-counts_itself : (plan : Option (Option Bool)) (n : ℕ) → IfSome plan (λ planned. n ≡ n)
+counts_itself : (plan : Option Plan) (n : ℕ) → IfSome plan (λ planned. n ≡ n)
 counts_itself None n = tt
 counts_itself (Some planned) n = refl
 
@@ -95,11 +96,11 @@ opens_itself AreFormed store =
     same : (n : ℕ) → n ≤ n
     same n = omega arith
 
-    counted : (plan : Option (Option Bool)) → IfSome plan (λ planned. store.faults ≡ store.faults)
+    counted : (plan : Option Plan) → IfSome plan (λ planned. store.faults ≡ store.faults)
     counted None = tt
     counted (Some planned) = refl
 
-    sure : (plan : Option (Option Bool)) (told : Option Rows) → IfSome plan (λ planned. IfSome told (λ rows. AreFormed rows → false ≡ false))
+    sure : (plan : Option Plan) (told : Option Rows) → IfSome plan (λ planned. IfSome told (λ rows. AreFormed rows → false ≡ false))
     sure None told = tt
     sure (Some planned) None = tt
     sure (Some planned) (Some rows) = λ formed. refl

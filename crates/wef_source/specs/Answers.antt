@@ -1,12 +1,10 @@
 -- What the calls of a source answer, by what it holds as the call begins.
-use Rattle.std.specs.Prelude.{◌≡◌, ℕ, ◌+◌, Bool, true, false, List, [], length, is_some, Option, Some, None, Result, Ok, Err}
+use Rattle.std.specs.Prelude.{◌≡◌, ℕ, ◌+◌, Bool, true, false, List, [], length, is_none, is_some, Option, Some, None}
 use Rattle.wef_bookmark.specs.Order.{Marks}
 use Rattle.wef_envelope.specs.Ids.{ids_agree}
 use Rattle.wef_envelope.specs.declared.MessageId.{MessageId}
 use Rattle.wef_eventing.specs.declared.bodies.Offer.{Offer}
 use Rattle.wef_keeper.specs.Rows.{Rows}
-use Rattle.wef_source_log.specs.declared.faults.LogFault as the_log_fault
-use Rattle.wef_source_log.specs.declared.faults.LogFault.TheVariants as log_faults
 use Rattle.wef_source.specs.Machine.{End, acknowledged_in, adopted, asked, delivery_of, is_idle, is_spent, lost_in, next_id, refused_in, sent}
 use Rattle.wef_source.specs.Sessions.{is_named, sending, session_of, waiting, with_changed}
 use Rattle.wef_source.specs.declared.faults.SourceFault.{SourceFault}
@@ -18,28 +16,6 @@ use Rattle.wef_source.specs.declared.messages.Poll.TheVariants as polls
 use Rattle.wef_source.specs.declared.messages.Reply as reply
 use Rattle.wef_source.specs.declared.messages.Reply.TheVariants as replies
 use Rattle.wef_source.specs.declared.sessions.Session.{Session}
-
--- a fault of the log, as the source's
-abbrev pub source_fault : the_log_fault.LogFault → SourceFault
-source_fault log_faults.NoMemory = NoMemory
-source_fault log_faults.Full = Full
-source_fault log_faults.TooLong = TooLong
-source_fault log_faults.Failed = Failed
-
--- a refusal of a source's log, by what the source answers; the log gives no other
-abbrev pub logged_fault : SourceFault → the_log_fault.LogFault
-logged_fault NoMemory = log_faults.NoMemory
-logged_fault Failed = log_faults.Failed
-logged_fault Full = log_faults.Full
-logged_fault TooLong = log_faults.TooLong
-logged_fault NotAsked = log_faults.Failed
-logged_fault UnknownSubscription = log_faults.Failed
-logged_fault Spent = log_faults.Failed
-
--- the log's answer, by the source's
-abbrev pub logged : {T : Type 0} → Result T SourceFault → Result T the_log_fault.LogFault
-logged (Ok answer) = Ok answer
-logged (Err fault) = Err (logged_fault fault)
 
 -- the log's refusals
 abbrev pub RefusesLog : SourceFault → Type 0
@@ -71,17 +47,6 @@ RefusesRead NotAsked = ⊥
 RefusesRead UnknownSubscription = ⊥
 RefusesRead Spent = ⊥
 
--- whether a call failed in the store
-abbrev pub fails : {T : Type 0} → Result T SourceFault → Bool
-fails (Ok answer) = false
-fails (Err NoMemory) = false
-fails (Err Failed) = true
-fails (Err Full) = false
-fails (Err TooLong) = false
-fails (Err NotAsked) = false
-fails (Err UnknownSubscription) = false
-fails (Err Spent) = false
-
 -- An ask draws the next id.
 abbrev pub Asks : End → End → MessageId → Type 0
 Asks end end' id = (is_spent end ≡ false) × (id ≡ record { value = Some (next_id end); text = [] }) × (end' ≡ asked end)
@@ -102,6 +67,11 @@ RefusesAdopt NoMemory end relates = Unit {0}
 RefusesAdopt NotAsked end relates = ids_agree end.ask relates.value ≡ false
 RefusesAdopt _ end relates = ⊥
 
+-- a fact of a session that is there
+abbrev pub WhereThere : Option Session → (Session → Type 0) → Type 0
+WhereThere None P = ⊥
+WhereThere (Some session) P = P session
+
 -- A session sends what is built for it from the rows; it says Nothing exactly where a reply is outstanding or there is
 -- no item.
 abbrev pub PollsSession : Rows → End → End → Session → ℕ → poll.Poll → Type 0
@@ -116,11 +86,6 @@ PollsIn rows end end' (Some session) now answer = PollsSession rows end end' ses
 -- A poll asks the session of the name.
 abbrev pub Polls : Rows → End → End → List ℕ → ℕ → poll.Poll → Type 0
 Polls rows end end' u now answer = PollsIn rows end end' (session_of end.sessions u) now answer
-
--- a fact of a session that is there
-abbrev pub WhereThere : Option Session → (Session → Type 0) → Type 0
-WhereThere None P = ⊥
-WhereThere (Some session) P = P session
 
 -- `UnknownSubscription` comes exactly where no session has the name, `Spent` exactly where the session has something to
 -- send and no id is left. `Failed` has its cause in the store.
@@ -138,19 +103,29 @@ sent_to end u to now = record end {
   sessions = with_changed (is_named u) (sending (record { id = next_id end; to = to }) now) end.sessions;
 }
 
--- What a poll does to what is remembered, also where the rows aren't told: what it sends has the next id, and its
--- session awaits the answer.
-abbrev pub Sends : End → End → List ℕ → ℕ → poll.Poll → Type 0
-Sends end end' u now polls.Nothing = end' ≡ end
-Sends end end' u now (polls.Send delivery) =
-    (is_spent end ≡ false) × (delivery.id ≡ record { value = Some (next_id end); text = [] }) × (end' ≡ sent_to end u delivery.batch.to now)
+-- whether the session of a name is there and awaits no answer; only then a poll uses the store
+abbrev pub may_send : Option Session → Bool
+may_send None = false
+may_send (Some session) = is_none session.outstanding
 
--- a poll's refusals, also where the rows aren't told
+-- What a poll of a session does to what is remembered, also where the rows aren't told: what it sends has the next id,
+-- and comes where no answer was outstanding; the session awaits the answer then.
+abbrev pub SendsFrom : End → End → Session → List ℕ → ℕ → poll.Poll → Type 0
+SendsFrom end end' session u now polls.Nothing = end' ≡ end
+SendsFrom end end' session u now (polls.Send delivery) =
+    (is_some session.outstanding ≡ false) × (is_spent end ≡ false) × (delivery.id ≡ record { value = Some (next_id end); text = [] })
+    × (end' ≡ sent_to end u delivery.batch.to now)
+
+-- in every answer the session of the name is there
+abbrev pub Sends : End → End → List ℕ → ℕ → poll.Poll → Type 0
+Sends end end' u now answer = WhereThere (session_of end.sessions u) (λ session. SendsFrom end end' session u now answer)
+
+-- a poll's refusals, also where the rows aren't told: each but for an unknown name comes where no answer is outstanding
 abbrev pub MayRefusePoll : SourceFault → End → List ℕ → Type 0
-MayRefusePoll NoMemory end u = is_some (session_of end.sessions u) ≡ true
-MayRefusePoll Failed end u = is_some (session_of end.sessions u) ≡ true
+MayRefusePoll NoMemory end u = may_send (session_of end.sessions u) ≡ true
+MayRefusePoll Failed end u = may_send (session_of end.sessions u) ≡ true
 MayRefusePoll UnknownSubscription end u = session_of end.sessions u ≡ None
-MayRefusePoll Spent end u = (is_some (session_of end.sessions u) ≡ true) × (is_spent end ≡ true)
+MayRefusePoll Spent end u = (may_send (session_of end.sessions u) ≡ true) × (is_spent end ≡ true)
 MayRefusePoll _ end u = ⊥
 
 -- the session that waits for the answer to an id, where the id has a value

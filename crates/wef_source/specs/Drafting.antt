@@ -18,13 +18,13 @@ offered None d i =
     then record d { items = d.items ++ i ∷ []; items_left = d.items_left - 1; bytes_left = d.bytes_left - cost i }
     else record d { left = Some i }
 
-abbrev pub taken : Draft → Item → Draft
-taken d i = offered d.left d i
+abbrev pub with_item : Draft → Item → Draft
+with_item d i = offered d.left d i
 
 -- a draft to which items are offered, one after the other
-abbrev pub taken_all : Draft → List Item → Draft
-taken_all d [] = d
-taken_all d (i ∷ is) = taken_all (taken d i) is
+abbrev pub with_items : Draft → List Item → Draft
+with_items d [] = d
+with_items d (i ∷ is) = with_items (with_item d i) is
 
 -- how far a channel is read where an item is left: up to that item, where it is of the channel
 abbrev pub stop_at : List ℕ → Option Item → Option ℕ

@@ -1,6 +1,8 @@
 pub mod Answers
 pub mod Building
+pub mod Calls
 pub mod Drafting
+pub mod Faults
 pub mod Fits
 pub mod Laws
 pub mod Machine
@@ -8,4 +10,5 @@ pub mod Placing
 pub mod Prepared
 pub mod Serving
 pub mod Sessions
+pub mod State
 pub mod Wanted

@@ -9,7 +9,7 @@ use Rattle.wef_source.specs.Sessions.{acknowledged, is_named, sending, settled, 
 use Rattle.wef_source.specs.declared.messages.Delivery.{Delivery}
 use Rattle.wef_source.specs.declared.sessions.Session.{Session}
 
--- What a source remembers while it runs: its start number, how many ids it drew since that start, the id of the last
+-- What a source remembers while it runs: its boot number, how many ids it drew since that start, the id of the last
 -- ask that wasn't answered, and its sessions. The rows of its log outlive it.
 pub record End : Type 0 where
   pub boot : ℕ
@@ -29,7 +29,7 @@ most_drawn = 18446744073709551615
 abbrev pub is_spent : End → Bool
 is_spent end = nat_le most_drawn end.drawn
 
--- the id that a source draws next: its start number, and the count of the ids drawn since
+-- the id that a source draws next: its boot number, and the count of the ids drawn since
 abbrev pub next_id : End → ℕ
 next_id end = end.boot * 18446744073709551616 + (end.drawn + 1)
 

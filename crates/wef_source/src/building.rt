@@ -4,8 +4,10 @@ ghost use Rattle.std.specs.Prelude.{◌≡◌, true, IfOk, IfErr, IfSome, OnOk};
 ghost use Rattle.std.specs.FinMap as map;
 ghost use Rattle.std.specs.Option.{option_to_list};
 ghost use Rattle.wef_keeper.specs.Access as access;
+ghost use Rattle.wef_keeper.specs.Calls.{fails};
 ghost use Rattle.wef_source_log.specs.Forms.{AreFormed};
-ghost use Rattle.wef_source.specs.Answers.{RefusesRead, WantsMemory, fails};
+ghost use Rattle.wef_source.specs.Answers.{RefusesRead, WantsMemory};
+ghost use Rattle.wef_source.specs.Faults.{source_store};
 ghost use Rattle.wef_source.specs.Building as spec;
 ghost use Rattle.wef_source.specs.Drafting as drafting;
 ghost use Rattle.wef_source.specs.Serving.{HasAll, HasEach, IsCovered};
@@ -33,7 +35,7 @@ pub fn built<K: Keeper>(
     ensures ok { IfSome (K.store log.new.keeper).rows (λ rows. IfOk result (λ batch. batch ≡ spec.built rows session.now)) }
     ensures covered { IfOk result (λ batch. HasAll session.now.positions batch.to) }
     ensures refusal { IfErr result RefusesRead }
-    ensures reads { access.Reads AreFormed (fails result) (K.store log.old.keeper) (K.store log.new.keeper) }
+    ensures reads { access.Reads AreFormed (fails source_store result) (K.store log.old.keeper) (K.store log.new.keeper) }
 {
     let channels = channels(alloc, &session.query)?;
     built_from(alloc, log, session, channels.as_slice())
@@ -52,7 +54,7 @@ fn built_from<K: Keeper>(
     ensures ok { IfSome (K.store log.new.keeper).rows (λ rows. IfOk result (λ batch. batch ≡ spec.built rows session.now)) }
     ensures covered { IfOk result (λ batch. HasAll session.now.positions batch.to) }
     ensures refusal { IfErr result RefusesRead }
-    ensures reads { access.Reads AreFormed (fails result) (K.store log.old.keeper) (K.store log.new.keeper) }
+    ensures reads { access.Reads AreFormed (fails source_store result) (K.store log.old.keeper) (K.store log.new.keeper) }
 {
     let mut draft = Draft::new(alloc, session.max_items, room_of(session));
     let to = filled(alloc, log, session, channels, &mut draft)?;
@@ -79,12 +81,12 @@ fn filled<K: Keeper>(
 ) -> Result<Bookmark, SourceFault>
     requires covered { HasEach session.now.positions channels.now }
     requires ready { access.IsReady (K.store log.old.keeper) }
-    ensures draft { IfSome (K.store log.new.keeper).rows (λ rows. OnOk result (draft.new ≡ drafting.taken_all draft.old (spec.candidates_in rows session.now channels.now))) }
+    ensures draft { IfSome (K.store log.new.keeper).rows (λ rows. OnOk result (draft.new ≡ drafting.with_items draft.old (spec.candidates_in rows session.now channels.now))) }
     ensures to { IfSome (K.store log.new.keeper).rows (λ rows. IfOk result (λ to. to
         ≡ spec.with_reaches session.now.positions map.empty (spec.reaches rows channels.now (option_to_list draft.new.left)))) }
     ensures covered { IfOk result (HasAll session.now.positions) }
     ensures refusal { IfErr result RefusesRead }
-    ensures reads { access.Reads AreFormed (fails result) (K.store log.old.keeper) (K.store log.new.keeper) }
+    ensures reads { access.Reads AreFormed (fails source_store result) (K.store log.old.keeper) (K.store log.new.keeper) }
 {
     draft.take_channels(log, session, channels)?;
     reached(alloc, log, session, channels, &draft.left)
@@ -103,7 +105,7 @@ fn reached<K: Keeper>(
     ensures ok { IfSome (K.store log.new.keeper).rows (λ rows. IfOk result (λ to. to ≡ spec.with_reaches session.now.positions map.empty (spec.reaches rows channels.now (option_to_list left.now)))) }
     ensures covered { IfOk result (HasAll session.now.positions) }
     ensures refusal { IfErr result RefusesRead }
-    ensures reads { access.Reads AreFormed (fails result) (K.store log.old.keeper) (K.store log.new.keeper) }
+    ensures reads { access.Reads AreFormed (fails source_store result) (K.store log.old.keeper) (K.store log.new.keeper) }
 {
     let mut to = Bookmark::new(alloc);
     for channel in channels {

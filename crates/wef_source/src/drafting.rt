@@ -3,8 +3,10 @@
 ghost use Rattle.std.specs.Prelude.{◌≡◌, ◌∷◌, [], is_some, Some, None, IfErr, IfSome, OnOk};
 ghost use Rattle.std.specs.List.{filter_map};
 ghost use Rattle.wef_keeper.specs.Access as access;
+ghost use Rattle.wef_keeper.specs.Calls.{fails};
 ghost use Rattle.wef_source_log.specs.Forms.{AreFormed};
-ghost use Rattle.wef_source.specs.Answers.{RefusesRead, fails};
+ghost use Rattle.wef_source.specs.Answers.{RefusesRead};
+ghost use Rattle.wef_source.specs.Faults.{source_store};
 ghost use Rattle.wef_source.specs.Building as building;
 ghost use Rattle.wef_source.specs.Drafting as spec;
 ghost use Rattle.wef_source_log.specs.Windows as windows;
@@ -57,7 +59,7 @@ impl Draft {
 
     /// Takes an item, where it fits and all before it did.
     pub fn take(&mut self, item: Item) -> Result<(), AllocError>
-        ensures { OnOk result (self.new ≡ spec.taken self.old item) }
+        ensures { OnOk result (self.new ≡ spec.with_item self.old item) }
     {
         if self.left.is_some() {
             return Ok(());
@@ -68,7 +70,7 @@ impl Draft {
     /// Takes an item where it fits, and all before it did.
     fn take_next(&mut self, item: Item) -> Result<(), AllocError>
         requires { self.old.left ≡ None }
-        ensures { OnOk result (self.new ≡ spec.taken self.old item) }
+        ensures { OnOk result (self.new ≡ spec.with_item self.old item) }
     {
         let bytes = cost(&item);
         if self.items_left == 0 || bytes > self.bytes_left {
@@ -95,9 +97,9 @@ impl Draft {
         channels: &[ChannelName],
     ) -> Result<(), SourceFault>
         requires { access.IsReady (K.store log.old.keeper) }
-        ensures ok { IfSome (K.store log.new.keeper).rows (λ rows. OnOk result (self.new ≡ spec.taken_all self.old (building.candidates_in rows session.now channels.now))) }
+        ensures ok { IfSome (K.store log.new.keeper).rows (λ rows. OnOk result (self.new ≡ spec.with_items self.old (building.candidates_in rows session.now channels.now))) }
         ensures refusal { IfErr result RefusesRead }
-        ensures reads { access.Reads AreFormed (fails result) (K.store log.old.keeper) (K.store log.new.keeper) }
+        ensures reads { access.Reads AreFormed (fails source_store result) (K.store log.old.keeper) (K.store log.new.keeper) }
     {
         for channel in channels {
             self.take_channel(log, session, channel)?;
@@ -114,9 +116,9 @@ impl Draft {
         channel: &ChannelName,
     ) -> Result<(), SourceFault>
         requires { access.IsReady (K.store log.old.keeper) }
-        ensures ok { IfSome (K.store log.new.keeper).rows (λ rows. OnOk result (self.new ≡ spec.taken_all self.old (building.channel_candidates rows session.now channel.now))) }
+        ensures ok { IfSome (K.store log.new.keeper).rows (λ rows. OnOk result (self.new ≡ spec.with_items self.old (building.channel_candidates rows session.now channel.now))) }
         ensures refusal { IfErr result RefusesRead }
-        ensures reads { access.Reads AreFormed (fails result) (K.store log.old.keeper) (K.store log.new.keeper) }
+        ensures reads { access.Reads AreFormed (fails source_store result) (K.store log.old.keeper) (K.store log.new.keeper) }
     {
         let position = session.positions.at(channel);
         self.take_unread(log, channel, position)?;
@@ -131,9 +133,9 @@ impl Draft {
         position: u64,
     ) -> Result<(), SourceFault>
         requires { access.IsReady (K.store log.old.keeper) }
-        ensures ok { IfSome (K.store log.new.keeper).rows (λ rows. OnOk result (self.new ≡ spec.taken_all self.old (building.unread rows channel.now position))) }
+        ensures ok { IfSome (K.store log.new.keeper).rows (λ rows. OnOk result (self.new ≡ spec.with_items self.old (building.unread rows channel.now position))) }
         ensures refusal { IfErr result RefusesRead }
-        ensures reads { access.Reads AreFormed (fails result) (K.store log.old.keeper) (K.store log.new.keeper) }
+        ensures reads { access.Reads AreFormed (fails source_store result) (K.store log.old.keeper) (K.store log.new.keeper) }
     {
         let first = log.first_ready(channel)?;
         if first.saturating_sub(position) <= 1 {
@@ -158,9 +160,9 @@ impl Draft {
     ) -> Result<(), SourceFault>
         requires { access.IsReady (K.store log.old.keeper) }
         ensures ok { IfSome (K.store log.new.keeper).rows (λ rows. OnOk result (self.new
-            ≡ spec.taken_all self.old (filter_map (building.item_of query.now room) (records_after rows channel.now position)))) }
+            ≡ spec.with_items self.old (filter_map (building.item_of query.now room) (records_after rows channel.now position)))) }
         ensures refusal { IfErr result RefusesRead }
-        ensures reads { access.Reads AreFormed (fails result) (K.store log.old.keeper) (K.store log.new.keeper) }
+        ensures reads { access.Reads AreFormed (fails source_store result) (K.store log.old.keeper) (K.store log.new.keeper) }
     {
         let mut after = position;
         while !self.is_full() {
@@ -176,7 +178,7 @@ impl Draft {
 
     /// Takes what a record gives.
     fn take_event(&mut self, query: &QueryList, room: u64, event: Event) -> Result<(), AllocError>
-        ensures { OnOk result (self.new ≡ spec.taken_all self.old (filter_map (building.item_of query.now room) (event ∷ []))) }
+        ensures { OnOk result (self.new ≡ spec.with_items self.old (filter_map (building.item_of query.now room) (event ∷ []))) }
     {
         if !selected(query, &event.channel) {
             return Ok(());
@@ -191,7 +193,7 @@ impl Draft {
         room: u64,
         events: List<Event>,
     ) -> Result<(), AllocError>
-        ensures { OnOk result (self.new ≡ spec.taken_all self.old (filter_map (building.item_of query.now room) events)) }
+        ensures { OnOk result (self.new ≡ spec.with_items self.old (filter_map (building.item_of query.now room) events)) }
     {
         for event in events.into_vec() {
             self.take_event(query, room, event)?;

@@ -39,7 +39,7 @@ impl From<AllocError> for SourceFault {
 
 impl From<LogFault> for SourceFault {
     ghost use Rattle.std.specs.Prelude.{◌≡◌};
-    ghost use Rattle.wef_source.specs.Answers.{source_fault};
+    ghost use Rattle.wef_source.specs.Faults.{source_fault};
 
     ghost from_gives = { λ fault e. e ≡ source_fault fault };
 

@@ -3,10 +3,11 @@
 ghost use Rattle.std.specs.Prelude.{◌≡◌, [], false, true, is_some, Some, IfOk, IfErr, IfSome, OnOk, OnErr};
 ghost use Rattle.wef_envelope.specs.Ids.{ids_agree};
 ghost use Rattle.wef_keeper.specs.Access as access;
+ghost use Rattle.wef_keeper.specs.Calls.{Looks, fails};
 ghost use Rattle.wef_query.specs.Order.{IsInOrder};
 ghost use Rattle.wef_source_log.specs.Forms.{AreFormed};
 ghost use Rattle.wef_source.specs.Answers as answers;
-ghost use Rattle.wef_source.specs.Answers.{fails};
+ghost use Rattle.wef_source.specs.Faults.{source_store};
 ghost use Rattle.wef_source.specs.Machine as machine;
 ghost use Rattle.wef_source.specs.Prepared.{MayDraw, MayRefuseToPrepare, Prepares, RefusesToPrepare};
 ghost use Rattle.wef_source.specs.Serving.{IsCovered};
@@ -31,7 +32,7 @@ use wef_source_log::Log;
 /// What a source remembers: the ids that it drew, its ask, and its sessions.
 #[derive(Drop)]
 pub struct Memory {
-    /// The start number, with which its ids begin.
+    /// The boot number, with which its ids begin.
     boot: u64,
     /// How many ids were drawn since the start.
     drawn: u64,
@@ -75,7 +76,7 @@ impl Memory {
         }
     }
 
-    /// The start number.
+    /// The boot number.
     pub fn boot(&self) -> u64
         ensures { result ≡ self.now.boot }
     {
@@ -139,7 +140,9 @@ impl Memory {
         ensures sends { IfOk result (answers.Sends self.old self.new sub.now now) }
         ensures listed { IfErr result (λ fault. answers.MayRefusePoll fault self.old sub.now) }
         ensures err { OnErr result (self.new ≡ self.old) }
-        ensures reads { access.OpensAndReads AreFormed (fails result) (K.store log.old.keeper) (K.store log.new.keeper) }
+        ensures looks { answers.may_send (the_sessions.session_of self.old.sessions sub.now) ≡ true → Looks source_store AreFormed result (K.store log.old.keeper) (K.store log.new.keeper) }
+        ensures untouched { answers.may_send (the_sessions.session_of self.old.sessions sub.now) ≡ false → log.new ≡ log.old }
+        ensures reads { access.OpensAndReads AreFormed (fails source_store result) (K.store log.old.keeper) (K.store log.new.keeper) }
     {
         let Some(place) = place_of_name(self.sessions.as_slice(), sub) else {
             return Err(SourceFault::UnknownSubscription);
@@ -215,7 +218,10 @@ impl Memory {
         ensures refusal { IfSome (K.store log.new.keeper).rows (λ rows. IfErr result (RefusesToPrepare rows self.now session.now)) }
         ensures draws { IfOk result (MayDraw self.now session.now) }
         ensures listed { IfErr result (MayRefuseToPrepare self.now) }
-        ensures reads { access.OpensAndReads AreFormed (fails result) (K.store log.old.keeper) (K.store log.new.keeper) }
+        ensures looks { is_some session.now.outstanding ≡ false → Looks source_store AreFormed result (K.store log.old.keeper) (K.store log.new.keeper) }
+        ensures untouched { is_some session.now.outstanding ≡ true → log.new ≡ log.old }
+        ensures idle { OnErr result (is_some session.now.outstanding ≡ false) }
+        ensures reads { access.OpensAndReads AreFormed (fails source_store result) (K.store log.old.keeper) (K.store log.new.keeper) }
     {
         if session.outstanding.is_some() {
             return Ok(None);
@@ -237,7 +243,7 @@ impl Memory {
         ensures refusal { IfSome (K.store log.new.keeper).rows (λ rows. IfErr result (RefusesToPrepare rows self.now session.now)) }
         ensures draws { IfOk result (MayDraw self.now session.now) }
         ensures listed { IfErr result (MayRefuseToPrepare self.now) }
-        ensures reads { access.Reads AreFormed (fails result) (K.store log.old.keeper) (K.store log.new.keeper) }
+        ensures reads { access.Reads AreFormed (fails source_store result) (K.store log.old.keeper) (K.store log.new.keeper) }
     {
         let batch = built(self.alloc, log, session)?;
         if batch.items.is_empty() {
@@ -262,7 +268,7 @@ impl Memory {
         ensures awaited { IfOk result (λ prepared. prepared.1 ≡ record { id = machine.next_id self.now; to = batch.to }) }
         ensures left { IfOk result (λ prepared. machine.is_spent self.now ≡ false) }
         ensures refusal { IfErr result (MayRefuseToPrepare self.now) }
-        ensures unread { fails result ≡ false }
+        ensures unread { fails source_store result ≡ false }
     {
         let outstanding = self.awaited(&batch.to)?;
         let delivery = addressed(self.alloc, session, outstanding.id, batch)?;
@@ -274,7 +280,7 @@ impl Memory {
         ensures ok { IfOk result (λ outstanding. outstanding ≡ record { id = machine.next_id self.now; to = to.now }) }
         ensures left { IfOk result (λ outstanding. machine.is_spent self.now ≡ false) }
         ensures refusal { IfErr result (MayRefuseToPrepare self.now) }
-        ensures unread { fails result ≡ false }
+        ensures unread { fails source_store result ≡ false }
     {
         let id = self.next_id()?;
         Ok(Outstanding {

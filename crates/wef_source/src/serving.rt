@@ -38,7 +38,7 @@ fn waits_for(session: &Session, id: u128) -> bool
 /// Has the first session of a name wait for nothing, and answers whether there is one.
 pub fn settle_named(sessions: &mut Vec<Session>, sub: &SubId) -> bool
     requires { AreKept sessions.old.items }
-    ensures found { result ≡ is_some (spec.session_of sessions.old.items sub.now) }
+    ensures there { result ≡ is_some (spec.session_of sessions.old.items sub.now) }
     ensures changed { sessions.new.items ≡ spec.with_changed (spec.is_named sub.now) spec.settled sessions.old.items }
     ensures absent { result ≡ false → sessions.new.items ≡ sessions.old.items }
     ensures kept { AreKept sessions.new.items }
@@ -54,7 +54,7 @@ pub fn settle_named(sessions: &mut Vec<Session>, sub: &SubId) -> bool
 /// there is one.
 fn settle_waiting(sessions: &mut Vec<Session>, id: u128) -> bool
     requires { AreKept sessions.old.items }
-    ensures found { result ≡ is_some (spec.waiting sessions.old.items id) }
+    ensures there { result ≡ is_some (spec.waiting sessions.old.items id) }
     ensures changed { sessions.new.items ≡ spec.with_changed (spec.waits_for id) spec.settled sessions.old.items }
     ensures absent { result ≡ false → sessions.new.items ≡ sessions.old.items }
     ensures kept { AreKept sessions.new.items }
@@ -70,7 +70,7 @@ fn settle_waiting(sessions: &mut Vec<Session>, id: u128) -> bool
 /// whether there is one.
 pub fn move_waiting(sessions: &mut Vec<Session>, id: u128) -> bool
     requires { AreKept sessions.old.items }
-    ensures found { result ≡ is_some (spec.waiting sessions.old.items id) }
+    ensures there { result ≡ is_some (spec.waiting sessions.old.items id) }
     ensures changed { sessions.new.items ≡ spec.with_changed (spec.waits_for id) spec.acknowledged sessions.old.items }
     ensures absent { result ≡ false → sessions.new.items ≡ sessions.old.items }
     ensures kept { AreKept sessions.new.items }
@@ -86,7 +86,7 @@ pub fn move_waiting(sessions: &mut Vec<Session>, id: u128) -> bool
 /// where the collector doesn't know it any more, and answers whether there is one.
 pub fn refuse_waiting(sessions: &mut Vec<Session>, id: u128, fault: &FaultName) -> bool
     requires { AreKept sessions.old.items }
-    ensures found { result ≡ is_some (spec.waiting sessions.old.items id) }
+    ensures there { result ≡ is_some (spec.waiting sessions.old.items id) }
     ensures changed { sessions.new.items ≡ (if is_unreachable fault.now
         then spec.without (spec.waits_for id) sessions.old.items
         else spec.with_changed (spec.waits_for id) spec.settled sessions.old.items) }
@@ -102,7 +102,7 @@ pub fn refuse_waiting(sessions: &mut Vec<Session>, id: u128, fault: &FaultName) 
 /// Ends the first session that waits for the answer to an id, and answers whether there is one.
 fn end_waiting(sessions: &mut Vec<Session>, id: u128) -> bool
     requires { AreKept sessions.old.items }
-    ensures found { result ≡ is_some (spec.waiting sessions.old.items id) }
+    ensures there { result ≡ is_some (spec.waiting sessions.old.items id) }
     ensures changed { sessions.new.items ≡ spec.without (spec.waits_for id) sessions.old.items }
     ensures absent { result ≡ false → sessions.new.items ≡ sessions.old.items }
     ensures kept { AreKept sessions.new.items }

@@ -1,15 +1,16 @@
 //! The source end.
 
-ghost use Rattle.std.specs.Prelude.{◌≡◌, ◌+◌, ◌≤◌, is_some, IfOk, IfErr, IfSome, OnOk, OnErr, MatchResult};
-ghost use Rattle.std.specs.declared.option.Option.TheVariants.{None, Some};
+ghost use Rattle.std.specs.Prelude.{◌≡◌, ◌≤◌, true, false, IfOk, IfErr, IfSome, OnOk, OnErr, MatchResult};
 ghost use Rattle.wef_keeper.specs.Access as access;
+ghost use Rattle.wef_keeper.specs.Calls.{IsCall, Looks, fails};
+ghost use Rattle.wef_keeper.specs.Keeping as keeping;
+ghost use Rattle.wef_keeper.specs.declared.keeping.Plan.TheVariants.{Done, Fails};
 ghost use Rattle.wef_query.specs.Order.{IsInOrder};
-ghost use Rattle.wef_source_log.specs.Answers as log_answers;
-ghost use Rattle.wef_source_log.specs.Calls as calls;
+ghost use Rattle.wef_source_log.specs.Answers.{ExtendsHistory, next_boot, next_number};
 ghost use Rattle.wef_source_log.specs.Forms.{AreFormed};
-ghost use Rattle.wef_source_log.specs.Windows as windows;
 ghost use Rattle.wef_source.specs.Answers as answers;
-ghost use Rattle.wef_source.specs.Answers.{fails, logged};
+ghost use Rattle.wef_source.specs.Calls.{start_effect, write_effect};
+ghost use Rattle.wef_source.specs.Faults.{source_answer, source_store};
 ghost use Rattle.wef_source.specs.Machine as machine;
 ghost use Rattle.wef_source.specs.Sessions as the_sessions;
 
@@ -17,11 +18,12 @@ use crate::faults::SourceFault;
 use crate::memories::Memory;
 use crate::messages::{Moved, Poll, Reply};
 use std::alloc::Global;
+use std::marker::Model;
 use wef_base::{List, SourceName, SubId};
 use wef_envelope::MessageId;
-use wef_event::PlainEvent;
+use wef_event::Event;
 use wef_eventing::Offer;
-use wef_keeper::{Keeper, MemKeeper};
+use wef_keeper::{Keeper, MemKeeper, Plan};
 use wef_source_log::{Log, LogFault};
 
 /// Writes events into its log, asks a collector for subscriptions, and sends it the events that they
@@ -31,6 +33,21 @@ pub struct SourceEnd<K> {
     log: Log<K>,
     name: SourceName,
     memory: Memory,
+}
+
+impl<K> Model for SourceEnd<K> {
+    ghost use Rattle.std.specs.Prelude.{ℕ, List, refl};
+    ghost use Rattle.std.specs.Coded.{code_by, coded_ℕ, coded_list, coded×};
+    ghost use Rattle.wef_source.specs.Machine.{End};
+    ghost use Rattle.wef_source.specs.State.{SourceState};
+    ghost use Rattle.wef_source.specs.contracts.memories.Memory as the_memory;
+
+    ghost Value = { SourceState K };
+
+    ghost coded = { code_by (K × (List ℕ × End)) (coded× K.code (coded× (coded_list coded_ℕ) the_memory.the_row.coded))
+        (λ end. (end.keeper, (end.name, end.memory))) (λ p. record { keeper = p.0; name = p.1.0; memory = p.1.1 }) (λ _. refl) };
+
+    ghost view = { λ end. record { keeper = end.log.keeper; name = end.name; memory = end.memory } };
 }
 
 impl<K: Keeper> SourceEnd<K> {
@@ -44,12 +61,12 @@ impl<K: Keeper> SourceEnd<K> {
     ) -> Result<SourceEnd<K>, (K, SourceFault)>
         requires least { 1 ≤ capacity }
         requires greatest { capacity ≤ 1000000 }
-        ensures does { MatchResult result
-            (λ end. calls.Does (λ found. log_answers.start_effect found capacity) (λ found. windows.boot_of found + 1) (Ok end.memory.boot) (K.store keeper) (K.store end.log.keeper))
-            (λ refused. calls.Does (λ found. log_answers.start_effect found capacity) (λ found. windows.boot_of found + 1) (Err (answers.logged_fault refused.1)) (K.store keeper) (K.store refused.0)) }
-        ensures memory { IfOk result (λ end. end.memory ≡ machine.start_of end.log.boot) }
+        ensures call { MatchResult result
+            (λ end. IsCall source_store AreFormed (λ found. start_effect found capacity) next_boot (Ok end.memory.boot) (K.store keeper) (K.store end.keeper))
+            (λ refused. IsCall source_store AreFormed (λ found. start_effect found capacity) next_boot (Err refused.1) (K.store keeper) (K.store refused.0)) }
+        ensures memory { IfOk result (λ end. end.memory ≡ machine.start_of end.memory.boot) }
         ensures name { IfOk result (λ end. end.name ≡ name) }
-        ensures refusal { IfErr result (λ refused. answers.RefusesStart refused.1) }
+        ensures listed { IfErr result (λ refused. answers.RefusesStart refused.1) }
     {
         match Log::start(alloc, keeper, capacity) {
             Ok(log) => {
@@ -60,7 +77,7 @@ impl<K: Keeper> SourceEnd<K> {
         }
     }
 
-    /// The start number.
+    /// The boot number.
     pub fn boot(&self) -> u64
         ensures { result ≡ self.now.memory.boot }
     {
@@ -75,17 +92,9 @@ impl<K: Keeper> SourceEnd<K> {
     }
 
     /// Writes an event as the next record of its channel, and answers its number.
-    pub fn write(&mut self, event: &PlainEvent) -> Result<u64, SourceFault>
-        ensures answer { access.From (K.store self.old.log.keeper) (K.store self.new.log.keeper) (λ found after. calls.Answers (logged result) (log_answers.write_effect found event.now) found after) }
-        ensures number { access.From (K.store self.old.log.keeper) (K.store self.new.log.keeper) (λ found after. IfOk result (λ n. n ≡ windows.last_of found event.now.channel + 1)) }
-        ensures window { access.From (K.store self.old.log.keeper) (K.store self.new.log.keeper) (λ found after. IfOk result (log_answers.ExtendsHistory found after event.now)) }
-        ensures images { calls.OnImages (logged result) (λ found. log_answers.write_effect found event.now) (K.store self.old.log.keeper) (K.store self.new.log.keeper) }
-        ensures planned { IfSome (K.store self.old.log.keeper).plan (λ planned. access.From (K.store self.old.log.keeper) (K.store self.new.log.keeper)
-            (λ found after. calls.ByPlan planned (logged result) (log_answers.write_effect found event.now) found after (K.store self.new.log.keeper))) }
-        ensures tries { calls.ByTries (logged result) (K.store self.old.log.keeper).tries (K.store self.new.log.keeper).tries }
-        ensures cause { access.HasCause AreFormed (fails result) (K.store self.old.log.keeper) (K.store self.new.log.keeper) }
-        ensures faults { (K.store self.old.log.keeper).faults ≤ (K.store self.new.log.keeper).faults }
-        ensures ready { OnOk result (access.IsReady (K.store self.new.log.keeper)) }
+    pub fn write(&mut self, event: &Event) -> Result<u64, SourceFault>
+        ensures call { IsCall source_store AreFormed (λ found. write_effect found event.now) (λ found. next_number found event.now) result (K.store self.old.keeper) (K.store self.new.keeper) }
+        ensures window { access.From (K.store self.old.keeper) (K.store self.new.keeper) (λ found after. IfOk result (ExtendsHistory found after event.now)) }
         ensures listed { IfErr result answers.RefusesLog }
         ensures memory { self.new.memory ≡ self.old.memory }
         ensures name { self.new.name ≡ self.old.name }
@@ -98,7 +107,7 @@ impl<K: Keeper> SourceEnd<K> {
         ensures ok { IfOk result (answers.Asks self.old.memory self.new.memory) }
         ensures refusal { IfErr result (λ fault. answers.RefusesAsk fault self.old.memory) }
         ensures err { OnErr result (self.new.memory ≡ self.old.memory) }
-        ensures log { self.new.log ≡ self.old.log }
+        ensures keeper { self.new.keeper ≡ self.old.keeper }
         ensures name { self.new.name ≡ self.old.name }
     {
         self.memory.ask()
@@ -116,7 +125,7 @@ impl<K: Keeper> SourceEnd<K> {
         ensures ok { IfOk result (answers.Adopts self.old.memory self.new.memory relates.now offers.now now) }
         ensures refusal { IfErr result (λ fault. answers.RefusesAdopt fault self.old.memory relates.now) }
         ensures err { OnErr result (self.new.memory ≡ self.old.memory) }
-        ensures log { self.new.log ≡ self.old.log }
+        ensures keeper { self.new.keeper ≡ self.old.keeper }
         ensures name { self.new.name ≡ self.old.name }
     {
         self.memory.adopt(relates, offers, now)
@@ -132,13 +141,16 @@ impl<K: Keeper> SourceEnd<K> {
     }
 
     /// What a session has to send at a moment: a batch, unless the answer to one is outstanding or there is none.
+    /// The store is used only where no answer is outstanding.
     pub fn poll(&mut self, sub: &SubId, now: u64) -> Result<Poll, SourceFault>
-        ensures ok { IfSome (K.store self.new.log.keeper).rows (λ rows. IfOk result (answers.Polls rows self.old.memory self.new.memory sub.now now)) }
-        ensures refusal { IfSome (K.store self.new.log.keeper).rows (λ rows. IfErr result (λ fault. answers.RefusesPoll fault rows self.old.memory sub.now)) }
+        ensures ok { IfSome (K.store self.new.keeper).rows (λ rows. IfOk result (answers.Polls rows self.old.memory self.new.memory sub.now now)) }
+        ensures refusal { IfSome (K.store self.new.keeper).rows (λ rows. IfErr result (λ fault. answers.RefusesPoll fault rows self.old.memory sub.now)) }
         ensures sends { IfOk result (answers.Sends self.old.memory self.new.memory sub.now now) }
         ensures listed { IfErr result (λ fault. answers.MayRefusePoll fault self.old.memory sub.now) }
         ensures err { OnErr result (self.new.memory ≡ self.old.memory) }
-        ensures reads { access.OpensAndReads AreFormed (fails result) (K.store self.old.log.keeper) (K.store self.new.log.keeper) }
+        ensures looks { answers.may_send (the_sessions.session_of self.old.memory.sessions sub.now) ≡ true → Looks source_store AreFormed result (K.store self.old.keeper) (K.store self.new.keeper) }
+        ensures untouched { answers.may_send (the_sessions.session_of self.old.memory.sessions sub.now) ≡ false → self.new.keeper ≡ self.old.keeper }
+        ensures reads { access.OpensAndReads AreFormed (fails source_store result) (K.store self.old.keeper) (K.store self.new.keeper) }
         ensures name { self.new.name ≡ self.old.name }
     {
         self.memory.poll(&mut self.log, sub, now)
@@ -149,7 +161,7 @@ impl<K: Keeper> SourceEnd<K> {
         ensures ok { IfOk result (answers.Answers self.old.memory self.new.memory relates.now reply.now) }
         ensures refusal { IfErr result (λ fault. answers.RefusesAnswer fault self.old.memory relates.now) }
         ensures err { OnErr result (self.new.memory ≡ self.old.memory) }
-        ensures log { self.new.log ≡ self.old.log }
+        ensures keeper { self.new.keeper ≡ self.old.keeper }
         ensures name { self.new.name ≡ self.old.name }
     {
         self.memory.on_reply(relates, reply)
@@ -160,7 +172,7 @@ impl<K: Keeper> SourceEnd<K> {
         ensures ok { OnOk result (answers.Loses self.old.memory self.new.memory sub.now) }
         ensures refusal { IfErr result (λ fault. answers.RefusesLost fault self.old.memory sub.now) }
         ensures err { OnErr result (self.new.memory ≡ self.old.memory) }
-        ensures log { self.new.log ≡ self.old.log }
+        ensures keeper { self.new.keeper ≡ self.old.keeper }
         ensures name { self.new.name ≡ self.old.name }
     {
         self.memory.on_lost(sub)
@@ -168,7 +180,7 @@ impl<K: Keeper> SourceEnd<K> {
 
     /// The store, as it stands. What is remembered is lost.
     pub fn into_keeper(self) -> K
-        ensures { result ≡ self.log.keeper }
+        ensures { result ≡ self.keeper }
     {
         let SourceEnd {
             log,
@@ -180,27 +192,30 @@ impl<K: Keeper> SourceEnd<K> {
 }
 
 impl SourceEnd<MemKeeper> {
+    /// Plans the next commit of the store.
+    pub fn arrange(&mut self, plan: Plan)
+        ensures { self.new ≡ record self.old { keeper = record self.old.keeper { plan = plan } } }
+    {
+        self.log.arrange(plan);
+    }
+
     /// Arms the next commit of the store: it fails, and its changes are kept where `after` is true.
     pub fn fail_next(&mut self, after: bool)
-        ensures log { self.new.log ≡ record self.old.log { keeper = record self.old.log.keeper { armed = Some after } } }
-        ensures memory { self.new.memory ≡ self.old.memory }
-        ensures name { self.new.name ≡ self.old.name }
+        ensures { self.new ≡ record self.old { keeper = record self.old.keeper { plan = Fails after } } }
     {
         self.log.fail_next(after);
     }
 
     /// Disarms the next commit of the store.
     pub fn calm(&mut self)
-        ensures log { self.new.log ≡ record self.old.log { keeper = record self.old.log.keeper { armed = None } } }
-        ensures memory { self.new.memory ≡ self.old.memory }
-        ensures name { self.new.name ≡ self.old.name }
+        ensures { self.new ≡ record self.old { keeper = record self.old.keeper { plan = Done } } }
     {
         self.log.calm();
     }
 
     /// Whether the next commit of the store is armed.
     pub fn is_armed(&self) -> bool
-        ensures { result ≡ is_some self.now.log.keeper.armed }
+        ensures { result ≡ keeping.is_armed self.now.keeper.plan }
     {
         self.log.is_armed()
     }
@@ -208,7 +223,7 @@ impl SourceEnd<MemKeeper> {
 
 /// A log's answer, as the source's.
 fn handed(answer: Result<u64, LogFault>) -> Result<u64, SourceFault>
-    ensures logged { logged result ≡ answer }
+    ensures answer { result ≡ source_answer answer }
     ensures listed { IfErr result answers.RefusesLog }
 {
     Ok(answer?)

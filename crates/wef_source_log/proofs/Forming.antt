@@ -11,6 +11,7 @@ use Rattle.std.specs.Prelude.{Option, Some, None, IfSome}
 use Rattle.wef_base.specs.Names.{channel_name}
 use Rattle.wef_base.specs.declared.numbers.TheConstants.{MAX}
 use Rattle.wef_event.specs.Events.{is_event}
+use Rattle.wef_keeper.proofs.Forming as forming
 use Rattle.wef_keeper.specs.Access.{IsBehind}
 use Rattle.wef_keeper.specs.Keeping.{row_at}
 use Rattle.wef_keeper.specs.Laws.{get-changed}
@@ -30,52 +31,12 @@ use Rattle.wef_source_log.specs.Laws.{FormsStay}
 use Rattle.wef_source_log.specs.Windows.{boot_of, capacity_changes, capacity_of, last_of, start_changes, write_changes}
 use Rattle.wef_source_log.proofs.Cells.{hits, tie}
 use Rattle.wef_source_log.proofs.Pages.{own_key}
-use Rattle.wef_source_log.proofs.Stands.{Stands, rows_stand}
 
-IsFormed : Row → Type 0
-IsFormed row = is_formed row ≡ true
-
--- a row that stands is of its form
-pub formed_where : (rows : Rows) (row : Row) → AreFormed rows → Stands rows row → is_formed row ≡ true
-unfolding AreFormed
-formed_where rows row formed stands =
-    let holds = formed row.key in
-    subst (λ (found : Option Cell). IfSome found (λ cell. is_formed (row_of (row.key, cell)) ≡ true)) stands holds
-
--- the row of a key
-pub formed_at : (rows : Rows) (key : Key) (row : Row) → AreFormed rows → Some row ≡ row_at key rows → is_formed row ≡ true
-unfolding AreFormed
-formed_at rows key row formed is = by (finite.get rows key) is (formed key)
-  where
-    by : (found : Option Cell) → Some row ≡ option_map (λ cell. row_of (key, cell)) found → IfSome found (λ cell. is_formed (row_of (key, cell)) ≡ true) → is_formed row ≡ true
-    by None is holds = cc
-    by (Some cell) is holds =
-        let same : row ≡ row_of (key, cell) = cc in
-        ap is_formed same ∙ holds
-
-all_pass : (rows : List Row) → All IsFormed rows → list_all is_formed rows ≡ true
-unfolding IsFormed
-all_pass [] all = refl
-all_pass (row ∷ rows) all = λ i. All-head IsFormed row rows all i && all_pass rows (All-tail IsFormed row rows all) i
-
-section_formed : (depth : Depth) (after : Key) (rows : Rows) → AreFormed rows → All IsFormed (rows_under depth after rows)
-unfolding IsFormed
-section_formed depth after rows formed =
-    All-weaker (Stands rows) IsFormed (λ row stands. formed_where rows row formed stands) (rows_under depth after rows) (rows_stand depth after rows)
-
--- and those of a page
-pub formed_front : (n : ℕ) (depth : Depth) (after : Key) (rows : Rows) (page : List Row) → AreFormed rows → page ≡ take n (rows_under depth after rows) → list_all is_formed page ≡ true
-formed_front n depth after rows page formed is =
-    ap (list_all is_formed) is ∙ all_pass (take n (rows_under depth after rows)) (All-take IsFormed n (rows_under depth after rows) (section_formed depth after rows formed))
-
--- so rows of which an ill-formed one was read aren't all of their form
-pub no_row : (told : Option Rows) (key : Key) (row : Row) → is_formed row ≡ false → IfSome told (λ rows. Some row ≡ row_at key rows) → IfSome told (λ rows. AreFormed rows → ⊥)
-no_row None key row ill is = tt
-no_row (Some rows) key row ill is = λ formed. let well = formed_at rows key row formed is in cc
-
+-- rows of which an ill-formed one was read aren't all of their form
 pub no_whole : (told : Option Rows) (key : Key) (found : Option Row) → is_whole found ≡ false → IfSome told (λ rows. found ≡ row_at key rows) → IfSome told (λ rows. AreFormed rows → ⊥)
+unfolding AreFormed
 no_whole told key None ill is = let bad : ⊥ = cc in absurd bad
-no_whole told key (Some row) ill is = no_row told key row ill is
+no_whole told key (Some row) ill is = forming.no_row is_formed told key row ill is
 
 -- a row with the key of a record is of its form where it is a record
 record_form : (c : List ℕ) (after : ℕ) (row : Row) → is_under Channel (record_key c after) row.key ≡ true → is_record row ≡ is_formed row
@@ -91,9 +52,10 @@ record_forms c after (row ∷ rows) behind = λ i. record_form c after row behin
 -- so where a row of a page isn't a record, the rows aren't all of their form
 pub no_record : (told : Option Rows) (n : ℕ) (c : List ℕ) (after : ℕ) (start : Key) (page : List Row) → start ≡ record_key c after → AllByRecursion (IsBehind Channel start) page
     → list_all is_record page ≡ false → IfSome told (λ rows. page ≡ take n (rows_under Channel start rows)) → IfSome told (λ rows. AreFormed rows → ⊥)
+unfolding AreFormed
 no_record None n c after start page begins behind ill is = tt
 no_record (Some rows) n c after start page begins behind ill is = λ formed.
-    let well = formed_front n Channel start rows page formed is in
+    let well = forming.formed_front is_formed n Channel start rows page formed is in
     let same = record_forms c after page (subst (λ (key : Key). AllByRecursion (IsBehind Channel key) page) begins behind) in
     cc
 

@@ -3,6 +3,5 @@ pub mod Contents
 pub mod Forming
 pub mod Looking
 pub mod Pages
-pub mod Stands
 pub mod StoreFaults
 pub mod Writes

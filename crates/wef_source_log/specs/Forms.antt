@@ -1,10 +1,10 @@
 -- The forms of a log's rows. A row of another form was spoilt in its store, and a call that reads it fails.
-use Rattle.std.specs.Prelude.{◌≡◌, ℕ, ◌==◌, nat_le, Bool, true, false, ◌&&◌, ◌||◌, List, length, Option, Some, None, IfSome, if◌then◌else◌}
-use Rattle.std.specs.FinMap as finite
+use Rattle.std.specs.Prelude.{ℕ, ◌==◌, nat_le, Bool, true, false, ◌&&◌, ◌||◌, List, length, Option, Some, None, if◌then◌else◌}
 use Rattle.wef_base.specs.Names.{channel_name, same}
 use Rattle.wef_base.specs.declared.numbers.TheConstants.{MAX}
 use Rattle.wef_event.specs.Events.{is_event}
-use Rattle.wef_keeper.specs.Rows.{Rows, row_of}
+use Rattle.wef_keeper.specs.Forms.{ArePassed}
+use Rattle.wef_keeper.specs.Rows.{Rows}
 use Rattle.wef_keeper.specs.declared.keys.Key.{Key}
 use Rattle.wef_keeper.specs.declared.keys.Row.{Row}
 use Rattle.wef_source_log.specs.declared.keys.TheConstants.{RECORD, LAST, CAPACITY, BOOT}
@@ -57,7 +57,7 @@ is_formed row =
 
 -- each row that stands is of its form
 unfoldable pub AreFormed : Rows → Type 0
-AreFormed rows = (key : Key) → IfSome (finite.get rows key) (λ cell. is_formed (row_of (key, cell)) ≡ true)
+AreFormed rows = ArePassed is_formed rows
 
 -- whether a row, where there is one, is of its form
 abbrev pub is_whole : Option Row → Bool

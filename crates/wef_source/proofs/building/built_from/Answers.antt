@@ -3,7 +3,7 @@ use Rattle.std.specs.FinMap as map
 use Rattle.std.specs.Option.{option_to_list}
 use Rattle.wef_keeper.specs.Rows.{Rows}
 use Rattle.wef_source.specs.Building.{built, candidates_in, reaches, room_of, with_reaches}
-use Rattle.wef_source.specs.Drafting.{empty_draft, taken_all}
+use Rattle.wef_source.specs.Drafting.{empty_draft, with_items}
 use Rattle.wef_source.specs.Serving.{HasEach}
 use Rattle.wef_source.specs.declared.drafting.Draft.{Draft}
 use Rattle.wef_source.proofs.Drafts.{built_by}
@@ -23,13 +23,13 @@ returns-clause-ok g c =
     let start = empty_draft session.max_items (room_of session.max_bytes) in
     let begins : c.new-draft.result ≡ start = c.new-draft.ensures ∙ ap (empty_draft session.max_items) c.room_of.ensures in
     both_told
-    (λ (rows : Rows). draft ≡ taken_all c.new-draft.result (candidates_in rows session channels))
+    (λ (rows : Rows). draft ≡ with_items c.new-draft.result (candidates_in rows session channels))
     (λ (rows : Rows). to ≡ with_reaches session.positions map.empty (reaches rows channels (option_to_list draft.left)))
     (λ (rows : Rows). c.batch_of.result ≡ built rows session)
     (g.K.Keeper.store c.filled.new.log.keeper).rows
     (λ rows taken read.
     c.batch_of.ensures
     ∙ built_by rows session draft to
-    (taken ∙ ap (λ (d : Draft). taken_all d (candidates_in rows session channels)) begins ∙ ap (λ cs. taken_all start (candidates_in rows session cs)) c.requires.channels)
+    (taken ∙ ap (λ (d : Draft). with_items d (candidates_in rows session channels)) begins ∙ ap (λ cs. with_items start (candidates_in rows session cs)) c.requires.channels)
     (read ∙ ap (λ cs. with_reaches session.positions map.empty (reaches rows cs (option_to_list draft.left))) c.requires.channels))
     c.in_ok-to.ensures.draft c.in_ok-to.ensures.to

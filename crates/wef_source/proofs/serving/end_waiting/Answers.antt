@@ -7,8 +7,8 @@ use Rattle.wef_source.proofs.InOrder.{without_in_order}
 use Rattle.wef_source.proofs.Places.{first_nowhere, is_there, within_at, without_at, without_nowhere}
 use Rattle.wef_source.proofs.serving.end_waiting.Goals as goal
 
-pub returns-in_default-clause-found : goal.returns-in_default-clause-found
-returns-in_default-clause-found c =
+pub returns-in_default-clause-there : goal.returns-in_default-clause-there
+returns-in_default-clause-there c =
     let none : position (waits_for c.args.id) c.args.sessions.now.items ≡ None = cc in
     sym (ap is_some (first_nowhere (waits_for c.args.id) c.args.sessions.now.items none))
 
@@ -17,8 +17,8 @@ returns-in_default-clause-changed c =
     let none : position (waits_for c.args.id) c.args.sessions.now.items ≡ None = cc in
     sym (without_nowhere (waits_for c.args.id) c.args.sessions.now.items none)
 
-pub returns-clause-found : goal.returns-clause-found
-returns-clause-found c =
+pub returns-clause-there : goal.returns-clause-there
+returns-clause-there c =
     let at : position (waits_for c.args.id) c.args.sessions.now.items ≡ Some c.in-Some.place = cc in
     sym (is_there (waits_for c.args.id) c.args.sessions.now.items c.in-Some.place c.remove-ended.result at)
 

@@ -1,7 +1,7 @@
 use Rattle.std.proofs.Common.{◌≡◌, suc, ◌+◌, ◌∷◌, ◌<◌, ◌∙◌, add-one, ap, drop, drop-cons, length, sym, arith}
 use Rattle.wef_keeper.specs.Rows.{Rows}
 use Rattle.wef_source.specs.Building.{candidates_in, channel_candidates}
-use Rattle.wef_source.specs.Drafting.{taken_all}
+use Rattle.wef_source.specs.Drafting.{with_items}
 use Rattle.wef_source.proofs.Drafts.{channel_taken}
 use Rattle.wef_source.proofs.Told.{read_twice, told_since}
 use Rattle.wef_source.proofs.drafting.Draft.take_channels.Goals as goal
@@ -24,9 +24,9 @@ loop-channel-preserved g c =
     record {
       read = read_twice start mid now c.loop-channel.invariant.read c.in_ok-take_channel.ensures.reads.0;
       rest = told_since
-          (λ (rows : Rows). taken_all draft (candidates_in rows session (drop index all)) ≡ taken_all before (candidates_in rows session all))
-          (λ (rows : Rows). next ≡ taken_all draft (channel_candidates rows session c.channel-item.result))
-          (λ (rows : Rows). taken_all next (candidates_in rows session (drop (index + 1) all)) ≡ taken_all before (candidates_in rows session all))
+          (λ (rows : Rows). with_items draft (candidates_in rows session (drop index all)) ≡ with_items before (candidates_in rows session all))
+          (λ (rows : Rows). next ≡ with_items draft (channel_candidates rows session c.channel-item.result))
+          (λ (rows : Rows). with_items next (candidates_in rows session (drop (index + 1) all)) ≡ with_items before (candidates_in rows session all))
           mid.rows now.rows c.in_ok-take_channel.ensures.reads.0.1
           (λ rows kept took. channel_taken rows session draft next c.channel-item.result (drop (index + 1) all) (drop index all) took parts ∙ kept)
           c.loop-channel.invariant.rest c.in_ok-take_channel.ensures.ok;

@@ -1,9 +1,9 @@
 use Rattle.std.proofs.Common.{◌≡◌}
 use Rattle.std.specs.List.{filter_map}
 use Rattle.wef_source.specs.Building.{item_of}
-use Rattle.wef_source.specs.Drafting.{taken_all}
+use Rattle.wef_source.specs.Drafting.{with_items}
 use Rattle.wef_source.proofs.drafting.Draft.take_events.Given as goal
 
 abbrev pub invariant-loop-event : goal.invariant-loop-event
 invariant-loop-event l =
-    taken_all l.self (filter_map (item_of l.query l.room) l.event-iterator.rest.items) ≡ taken_all l.fn.self (filter_map (item_of l.query l.room) l.fn.events)
+    with_items l.self (filter_map (item_of l.query l.room) l.event-iterator.rest.items) ≡ with_items l.fn.self (filter_map (item_of l.query l.room) l.fn.events)

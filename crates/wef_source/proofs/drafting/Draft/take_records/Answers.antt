@@ -2,7 +2,7 @@ use Rattle.std.proofs.Common.{◌≡◌, ◌<◌, ◌==◌, ◌++◌, ◌∙◌,
 use Rattle.std.specs.List.{filter_map}
 use Rattle.wef_keeper.specs.Rows.{Rows}
 use Rattle.wef_source.specs.Building.{item_of}
-use Rattle.wef_source.specs.Drafting.{taken_all}
+use Rattle.wef_source.specs.Drafting.{with_items}
 use Rattle.wef_source_log.specs.Windows.{last_number, records_after}
 use Rattle.wef_source.proofs.Drafts.{page_taken, taken_full}
 use Rattle.wef_source.proofs.Told.{if_told, last_above, read_twice, told_since}
@@ -20,9 +20,9 @@ loop-log-preserved g c =
     record {
       read = read_twice start mid now c.loop-log.invariant.read c.in_ok-page.ensures.reads.0;
       rest = told_since
-          (λ (rows : Rows). taken_all c.loop-log.self (filter_map item (records_after rows channel c.loop-log.after)) ≡ taken_all c.args.self.now (filter_map item (records_after rows channel c.args.position)))
+          (λ (rows : Rows). with_items c.loop-log.self (filter_map item (records_after rows channel c.loop-log.after)) ≡ with_items c.args.self.now (filter_map item (records_after rows channel c.args.position)))
           (λ (rows : Rows). records_after rows channel c.loop-log.after ≡ page ++ records_after rows channel (last_number c.loop-log.after page))
-          (λ (rows : Rows). taken_all c.take_events.new.self (filter_map item (records_after rows channel c.last_number-after.result)) ≡ taken_all c.args.self.now (filter_map item (records_after rows channel c.args.position)))
+          (λ (rows : Rows). with_items c.take_events.new.self (filter_map item (records_after rows channel c.last_number-after.result)) ≡ with_items c.args.self.now (filter_map item (records_after rows channel c.args.position)))
           mid.rows now.rows c.in_ok-page.ensures.reads.0.1
           (λ rows before splits.
           page_taken item c.loop-log.self c.take_events.new.self page (records_after rows channel c.last_number-after.result) (records_after rows channel c.loop-log.after) c.in_ok-take_events.ensures
@@ -45,7 +45,7 @@ returns-clause-ok g c =
     let now = g.K.Keeper.store c.loop-log.log.keeper in
     let item = item_of c.args.query.now c.args.room in
     if_told
-    (λ (rows : Rows). taken_all c.loop-log.self (filter_map item (records_after rows channel c.loop-log.after)) ≡ taken_all c.args.self.now (filter_map item (records_after rows channel c.args.position)))
-    (λ (rows : Rows). c.loop-log.self ≡ taken_all c.args.self.now (filter_map item (records_after rows channel c.args.position)))
+    (λ (rows : Rows). with_items c.loop-log.self (filter_map item (records_after rows channel c.loop-log.after)) ≡ with_items c.args.self.now (filter_map item (records_after rows channel c.args.position)))
+    (λ (rows : Rows). c.loop-log.self ≡ with_items c.args.self.now (filter_map item (records_after rows channel c.args.position)))
     now.rows (λ rows rest. sym (taken_full c.loop-log.self (filter_map item (records_after rows channel c.loop-log.after)) (sym c.loop-log-test.ensures)) ∙ rest)
     c.loop-log.invariant.rest

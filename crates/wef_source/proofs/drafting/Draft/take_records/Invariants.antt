@@ -2,15 +2,15 @@ use Rattle.std.proofs.Common.{◌≡◌, ◌-◌, IfSome}
 use Rattle.std.specs.List.{filter_map}
 use Rattle.wef_keeper.specs.Access.{HasRead}
 use Rattle.wef_source.specs.Building.{item_of}
-use Rattle.wef_source.specs.Drafting.{taken_all}
+use Rattle.wef_source.specs.Drafting.{with_items}
 use Rattle.wef_source_log.specs.Windows.{records_after}
 use Rattle.wef_source.proofs.drafting.Draft.take_records.Given as goal
 
 abbrev pub invariant-loop-log : goal.invariant-loop-log
 invariant-loop-log g l = record {
   read : HasRead (g.K.Keeper.store l.fn.log.keeper) (g.K.Keeper.store l.log.keeper);
-  rest : IfSome (g.K.Keeper.store l.log.keeper).rows (λ rows. taken_all l.self (filter_map (item_of l.query l.room) (records_after rows l.channel l.after))
-      ≡ taken_all l.fn.self (filter_map (item_of l.query l.room) (records_after rows l.channel l.position)));
+  rest : IfSome (g.K.Keeper.store l.log.keeper).rows (λ rows. with_items l.self (filter_map (item_of l.query l.room) (records_after rows l.channel l.after))
+      ≡ with_items l.fn.self (filter_map (item_of l.query l.room) (records_after rows l.channel l.position)));
 }
 
 abbrev pub decreases-loop-log : goal.decreases-loop-log

@@ -1,21 +1,24 @@
 use Rattle.std.proofs.Common.{◌≡◌, ◌+◌, ◌<◌, ◌∙◌, ap, arith, sym, subst, set, Some, None}
-use Rattle.std.specs.Prelude.{is_some}
+use Rattle.std.specs.Prelude.{Err}
 use Rattle.std.specs.List.{position}
 use Rattle.std.specs.Cmp.Lexicographic.{same_text}
 use Rattle.std.proofs.lemmas.Result.{err_from_is_err_and}
+use Rattle.wef_keeper.specs.Calls.{Looks}
 use Rattle.wef_keeper.specs.Rows.{Rows}
 use Rattle.wef_source_log.specs.Forms.{AreFormed}
 use Rattle.wef_source.specs.Answers.{Polls, RefusesPoll}
+use Rattle.wef_source.specs.Faults.{source_store}
 use Rattle.wef_source.specs.Machine.{End, is_spent, most_drawn}
 use Rattle.wef_source.specs.Prepared.{MayDraw, Prepares, RefusesToPrepare}
 use Rattle.wef_source.specs.Serving.{HasAll}
 use Rattle.wef_source.specs.Sessions.{is_named, sending, session_of}
+use Rattle.wef_source.specs.declared.faults.SourceFault.TheVariants.{UnknownSubscription}
 use Rattle.wef_source.specs.declared.messages.Poll.TheVariants.{Nothing, Send}
 use Rattle.wef_source.specs.declared.sessions.Session.{Session}
 use Rattle.wef_source.proofs.Cases.{le_fails}
 use Rattle.wef_source.proofs.Covering.{read_covered}
 use Rattle.wef_source.proofs.Places.{changed_at, first_at, first_nowhere, passes_at, same_session, within_at}
-use Rattle.wef_source.proofs.Polling.{may_refuse, polls_nothing, polls_send, refuses_poll, sends_next, sent_kept}
+use Rattle.wef_source.proofs.Polling.{awaits, awaits_nothing, looks_done, looks_refused, may_refuse, may_send_there, never_sends, polls_nothing, polls_send, refuses_poll, sends_next, sends_nothing, sent_kept}
 use Rattle.wef_source.proofs.Told.{any_told, if_told, opens_itself}
 use Rattle.wef_source.proofs.memories.Memory.poll.Goals as goal
 
@@ -56,7 +59,7 @@ returns-in_err-delivery-clause-listed g c =
     let at : position (is_named u) c.self.inside.sessions.items ≡ Some c.in-Some.place = cc in
     let found = ap (λ (e : End). session_of e.sessions u) (sym c.self.view_is) ∙ first_at (is_named u) c.self.inside.sessions.items c.in-Some.place c.index.result.now at c.index.ensures in
     let p = err_from_is_err_and c.from_residual.result c.from_residual.ensures.1 in
-    rw (p.1, p.2) (may_refuse c.args.self.now u c.in_err-delivery.field-0.0 (ap is_some found) c.in_err-delivery.ensures.listed)
+    rw (p.1, p.2) (may_refuse c.args.self.now u c.in_err-delivery.field-0.0 (may_send_there c.args.self.now u c.index.result.now found c.in_err-delivery.ensures.idle) c.in_err-delivery.ensures.listed)
 
 pub returns-in_default-2-clause-ok : goal.returns-in_default-2-clause-ok
 returns-in_default-2-clause-ok g c =
@@ -74,22 +77,23 @@ invariant_of-self g c =
     let changed = changed_at (is_named c.args.sub.now) (sending c.in-Some-2.outstanding c.args.now) c.self.inside.sessions.items c.in-Some.place c.index_mut.result.now c.send.new.session at c.index_mut.ensures.value c.send.ensures in
     sent_kept c.args.sub.now c.args.now c.self.inside.sessions.items c.in-Some.place c.index_mut.result.now c.send.new.session c.in-Some-2.outstanding
     c.self.invariant (within_at (is_named c.args.sub.now) c.self.inside.sessions.items c.in-Some.place at) c.index_mut.ensures.value
-    (subst (λ (s : Session). HasAll s.positions c.in-Some-2.outstanding.to) one draws.3) c.send.ensures changed
+    (subst (λ (s : Session). HasAll s.positions c.in-Some-2.outstanding.to) one draws.4) c.send.ensures changed
 
 pub overflow_add-self : goal.overflow_add-self
 overflow_add-self g c =
     let draws = subst (MayDraw c.args.self.now c.index.result.now) c.in-Some-2.is c.in_ok-delivery.ensures.draws in
-    let below : c.self.inside.drawn < most_drawn = le_fails most_drawn c.self.inside.drawn (ap is_spent c.self.view_is ∙ draws.0) in
+    let below : c.self.inside.drawn < most_drawn = le_fails most_drawn c.self.inside.drawn (ap is_spent c.self.view_is ∙ draws.1) in
     omega arith
 
 pub returns-clause-sends : goal.returns-clause-sends
 returns-clause-sends g c =
     let u = c.args.sub.now in
     let at : position (is_named u) c.self.inside.sessions.items ≡ Some c.in-Some.place = cc in
+    let found = ap (λ (e : End). session_of e.sessions u) (sym c.self.view_is) ∙ first_at (is_named u) c.self.inside.sessions.items c.in-Some.place c.index.result.now at c.index.ensures in
     let before : End = record { boot = c.self.inside.boot; drawn = c.self.inside.drawn; ask = c.self.inside.ask; sessions = c.self.inside.sessions.items } in
     let draws = subst (MayDraw c.args.self.now c.index.result.now) c.in-Some-2.is c.in_ok-delivery.ensures.draws in
     let changed = changed_at (is_named u) (sending c.in-Some-2.outstanding c.args.now) c.self.inside.sessions.items c.in-Some.place c.index_mut.result.now c.send.new.session at c.index_mut.ensures.value c.send.ensures in
-    sends_next before c.args.self.now u c.args.now c.index.result.now c.in-Some-2.delivery c.in-Some-2.outstanding (set c.self.inside.sessions.items c.in-Some.place c.send.new.session) c.self.view_is draws changed
+    sends_next before c.args.self.now u c.args.now c.index.result.now c.in-Some-2.delivery c.in-Some-2.outstanding (set c.self.inside.sessions.items c.in-Some.place c.send.new.session) c.self.view_is found draws changed
 
 pub returns-clause-ok : goal.returns-clause-ok
 returns-clause-ok g c =
@@ -108,3 +112,62 @@ returns-clause-ok g c =
     (g.K.Keeper.store c.prepared.new.log.keeper).rows
     (λ rows h. polls_send rows before end u c.args.now s delivery outstanding ss c.self.view_is found name (subst (Prepares rows end s) c.in-Some-2.is h) changed)
     c.in_ok-delivery.ensures.ok
+
+-- ---- what it does with the store
+
+pub returns-in_default-clause-looks : goal.returns-in_default-clause-looks
+returns-in_default-clause-looks g c =
+    let u = c.args.sub.now in
+    let none : position (is_named u) c.self.inside.sessions.items ≡ None = cc in
+    let nowhere = ap (λ (e : End). session_of e.sessions u) (sym c.self.view_is) ∙ first_nowhere (is_named u) c.self.inside.sessions.items none in
+    never_sends (Looks source_store AreFormed (Err UnknownSubscription) (g.K.Keeper.store c.args.log.now.keeper) (g.K.Keeper.store c.args.log.now.keeper)) c.args.self.now u nowhere
+
+pub returns-in_err-delivery-clause-looks : goal.returns-in_err-delivery-clause-looks
+returns-in_err-delivery-clause-looks g c =
+    let u = c.args.sub.now in
+    let at : position (is_named u) c.self.inside.sessions.items ≡ Some c.in-Some.place = cc in
+    let found = ap (λ (e : End). session_of e.sessions u) (sym c.self.view_is) ∙ first_at (is_named u) c.self.inside.sessions.items c.in-Some.place c.index.result.now at c.index.ensures in
+    let p = err_from_is_err_and c.from_residual.result c.from_residual.ensures.1 in
+    rw (p.1, p.2) (λ may. looks_refused c.in_err-delivery.field-0.0 (g.K.Keeper.store c.args.log.now.keeper) (g.K.Keeper.store c.prepared.new.log.keeper) (c.in_err-delivery.ensures.looks (awaits_nothing c.args.self.now u c.index.result.now found may)))
+
+pub returns-in_err-delivery-clause-untouched : goal.returns-in_err-delivery-clause-untouched
+returns-in_err-delivery-clause-untouched g c =
+    let u = c.args.sub.now in
+    let at : position (is_named u) c.self.inside.sessions.items ≡ Some c.in-Some.place = cc in
+    let found = ap (λ (e : End). session_of e.sessions u) (sym c.self.view_is) ∙ first_at (is_named u) c.self.inside.sessions.items c.in-Some.place c.index.result.now at c.index.ensures in
+    λ may. c.in_err-delivery.ensures.untouched (awaits c.args.self.now u c.index.result.now found may)
+
+pub returns-in_default-2-clause-looks : goal.returns-in_default-2-clause-looks
+returns-in_default-2-clause-looks g c =
+    let u = c.args.sub.now in
+    let at : position (is_named u) c.self.inside.sessions.items ≡ Some c.in-Some.place = cc in
+    let found = ap (λ (e : End). session_of e.sessions u) (sym c.self.view_is) ∙ first_at (is_named u) c.self.inside.sessions.items c.in-Some.place c.index.result.now at c.index.ensures in
+    λ may. looks_done c.in_ok-delivery.field-0 Nothing (g.K.Keeper.store c.args.log.now.keeper) (g.K.Keeper.store c.prepared.new.log.keeper) (c.in_ok-delivery.ensures.looks (awaits_nothing c.args.self.now u c.index.result.now found may))
+
+pub returns-in_default-2-clause-untouched : goal.returns-in_default-2-clause-untouched
+returns-in_default-2-clause-untouched g c =
+    let u = c.args.sub.now in
+    let at : position (is_named u) c.self.inside.sessions.items ≡ Some c.in-Some.place = cc in
+    let found = ap (λ (e : End). session_of e.sessions u) (sym c.self.view_is) ∙ first_at (is_named u) c.self.inside.sessions.items c.in-Some.place c.index.result.now at c.index.ensures in
+    λ may. c.in_ok-delivery.ensures.untouched (awaits c.args.self.now u c.index.result.now found may)
+
+pub returns-in_default-2-clause-sends : goal.returns-in_default-2-clause-sends
+returns-in_default-2-clause-sends g c =
+    let u = c.args.sub.now in
+    let at : position (is_named u) c.self.inside.sessions.items ≡ Some c.in-Some.place = cc in
+    let found = ap (λ (e : End). session_of e.sessions u) (sym c.self.view_is) ∙ first_at (is_named u) c.self.inside.sessions.items c.in-Some.place c.index.result.now at c.index.ensures in
+    sends_nothing c.args.self.now u c.args.now c.index.result.now found
+
+pub returns-clause-looks : goal.returns-clause-looks
+returns-clause-looks g c =
+    let u = c.args.sub.now in
+    let at : position (is_named u) c.self.inside.sessions.items ≡ Some c.in-Some.place = cc in
+    let found = ap (λ (e : End). session_of e.sessions u) (sym c.self.view_is) ∙ first_at (is_named u) c.self.inside.sessions.items c.in-Some.place c.index.result.now at c.index.ensures in
+    λ may. looks_done c.in_ok-delivery.field-0 (Send c.in-Some-2.delivery) (g.K.Keeper.store c.args.log.now.keeper) (g.K.Keeper.store c.prepared.new.log.keeper) (c.in_ok-delivery.ensures.looks (awaits_nothing c.args.self.now u c.index.result.now found may))
+
+pub returns-clause-untouched : goal.returns-clause-untouched
+returns-clause-untouched g c =
+    let u = c.args.sub.now in
+    let at : position (is_named u) c.self.inside.sessions.items ≡ Some c.in-Some.place = cc in
+    let found = ap (λ (e : End). session_of e.sessions u) (sym c.self.view_is) ∙ first_at (is_named u) c.self.inside.sessions.items c.in-Some.place c.index.result.now at c.index.ensures in
+    λ may. c.in_ok-delivery.ensures.untouched (awaits c.args.self.now u c.index.result.now found may)

@@ -1,11 +1,26 @@
-use Rattle.std.proofs.Common.{◌≡◌, ℕ, ◌+◌, ◌∙◌, ap, subst, sym, Ok}
-use Rattle.wef_source_log.specs.Answers.{start_effect}
-use Rattle.wef_source_log.specs.Calls.{Does}
-use Rattle.wef_source_log.specs.Windows.{boot_of}
+use Rattle.std.proofs.Common.{◌≡◌, ◌∙◌, ap, subst, sym, ℕ}
+use Rattle.std.specs.Prelude.{Ok, Err}
+use Rattle.wef_keeper.specs.Calls.{IsCall}
+use Rattle.wef_source_log.specs.Answers as log
+use Rattle.wef_source_log.specs.Forms.{AreFormed}
+use Rattle.wef_source.specs.Calls.{start_effect}
+use Rattle.wef_source.specs.Faults.{source_store}
 use Rattle.wef_source.specs.Machine.{End}
+use Rattle.wef_source.specs.declared.faults.SourceFault.{SourceFault}
+use Rattle.wef_source.proofs.Handed.{handed}
 use Rattle.wef_source.proofs.source.SourceEnd.start.Goals as goal
 
-pub returns-in-Ok-clause-does : goal.returns-in-Ok-clause-does
-returns-in-Ok-clause-does g c =
+pub returns-in-Ok-clause-call : goal.returns-in-Ok-clause-call
+returns-in-Ok-clause-call g c =
+    let before = g.K.Keeper.store c.args.keeper in
+    let now = g.K.Keeper.store c.in-Ok.log.keeper in
     let boot : c.new-memory.result.boot ≡ c.in-Ok.log.boot = ap (λ (end : End). end.boot) c.new-memory.ensures ∙ c.boot.ensures in
-    subst (λ (n : ℕ). Does (λ found. start_effect found c.args.capacity) (λ found. boot_of found + 1) (Ok n) (g.K.Keeper.store c.args.keeper) (g.K.Keeper.store c.in-Ok.log.keeper)) (sym boot) c.in-Ok.ensures.does
+    subst (λ (n : ℕ). IsCall source_store AreFormed (λ rows. start_effect rows c.args.capacity) log.next_boot (Ok n) before now) (sym boot)
+    (handed (λ rows. log.start_effect rows c.args.capacity) log.next_boot (Ok c.in-Ok.log.boot) before now c.in-Ok.ensures.call)
+
+pub returns-in-Err-clause-call : goal.returns-in-Err-clause-call
+returns-in-Err-clause-call g c =
+    let before = g.K.Keeper.store c.args.keeper in
+    let now = g.K.Keeper.store c.in-Err.keeper in
+    subst (λ (fault : SourceFault). IsCall source_store AreFormed (λ rows. start_effect rows c.args.capacity) log.next_boot (Err fault) before now) (sym c.from.ensures)
+    (handed (λ rows. log.start_effect rows c.args.capacity) log.next_boot (Err c.in-Err.fault) before now c.in-Err.ensures.call)

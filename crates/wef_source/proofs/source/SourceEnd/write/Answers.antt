@@ -1,32 +1,30 @@
-use Rattle.std.proofs.Common.{◌≡◌, ◌+◌, IfOk}
+use Rattle.std.proofs.Common.{subst}
+use Rattle.std.specs.Prelude.{IfOk}
+use Rattle.wef_keeper.specs.Access.{From}
+use Rattle.wef_keeper.specs.Calls.{IsCall}
+use Rattle.wef_keeper.proofs.Calls.{from_weaker}
+use Rattle.wef_source_log.specs.Answers as log
 use Rattle.wef_source_log.specs.Answers.{ExtendsHistory}
-use Rattle.wef_source_log.specs.Windows.{last_of}
-use Rattle.wef_source_log.proofs.Stores.{from_weaker}
-use Rattle.wef_source.proofs.Logged.{if_logged}
+use Rattle.wef_source_log.specs.Forms.{AreFormed}
+use Rattle.wef_source.specs.Calls.{write_effect}
+use Rattle.wef_source.specs.Faults.{source_answer, source_store}
+use Rattle.wef_source.proofs.Handed.{handed, if_handed}
 use Rattle.wef_source.proofs.source.SourceEnd.write.Goals as goal
 
-pub returns-clause-answer : goal.returns-clause-answer
-returns-clause-answer g c = rw c.handed.ensures.logged c.write.ensures.answer
-
-pub returns-clause-images : goal.returns-clause-images
-returns-clause-images g c = rw c.handed.ensures.logged c.write.ensures.images
-
-pub returns-clause-planned : goal.returns-clause-planned
-returns-clause-planned g c = rw c.handed.ensures.logged c.write.ensures.planned
-
-pub returns-clause-tries : goal.returns-clause-tries
-returns-clause-tries g c = rw c.handed.ensures.logged c.write.ensures.tries
-
-pub returns-clause-number : goal.returns-clause-number
-returns-clause-number g c =
+pub returns-clause-call : goal.returns-clause-call
+returns-clause-call g c =
     let event = c.args.event.now in
-    from_weaker (λ found after. IfOk c.write.result (λ n. n ≡ last_of found event.channel + 1)) (λ found after. IfOk c.handed.result (λ n. n ≡ last_of found event.channel + 1))
-    (g.K.Keeper.store c.args.self.now.log.keeper) (g.K.Keeper.store c.write.new.self.keeper)
-    (λ found after h. if_logged c.handed.result c.write.result (λ n. n ≡ last_of found event.channel + 1) c.handed.ensures.logged h) c.write.ensures.number
+    let now = g.K.Keeper.store c.write.new.self.keeper in
+    rw c.handed.ensures.answer
+    (subst (λ keeper. IsCall source_store AreFormed (λ rows. write_effect rows event) (λ rows. log.next_number rows event) (source_answer c.write.result) (g.K.Keeper.store keeper) now) (λ i. (c.self.view_is i).keeper)
+    (handed (λ rows. log.write_effect rows event) (λ rows. log.next_number rows event) c.write.result (g.K.Keeper.store c.self.inside.log.keeper) now c.write.ensures.call))
 
 pub returns-clause-window : goal.returns-clause-window
 returns-clause-window g c =
     let event = c.args.event.now in
-    from_weaker (λ found after. IfOk c.write.result (ExtendsHistory found after event)) (λ found after. IfOk c.handed.result (ExtendsHistory found after event))
-    (g.K.Keeper.store c.args.self.now.log.keeper) (g.K.Keeper.store c.write.new.self.keeper)
-    (λ found after h. if_logged c.handed.result c.write.result (ExtendsHistory found after event) c.handed.ensures.logged h) c.write.ensures.window
+    let before = g.K.Keeper.store c.self.inside.log.keeper in
+    let now = g.K.Keeper.store c.write.new.self.keeper in
+    rw c.handed.ensures.answer
+    (subst (λ keeper. From (g.K.Keeper.store keeper) now (λ found after. IfOk (source_answer c.write.result) (ExtendsHistory found after event))) (λ i. (c.self.view_is i).keeper)
+    (from_weaker (λ found after. IfOk c.write.result (ExtendsHistory found after event)) (λ found after. IfOk (source_answer c.write.result) (ExtendsHistory found after event)) before now
+    (λ found after extends. if_handed c.write.result (ExtendsHistory found after event) extends) c.write.ensures.window))
