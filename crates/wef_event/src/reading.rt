@@ -12,7 +12,7 @@ use crate::plain::EVENT_LIMIT;
 use crate::records::{Event, EventFault};
 use std::alloc::AllocError;
 use wef_base::{ChannelName, Charset, Element, Text};
-use wef_tree::{TreeFault, read_tree, write_tree};
+use wef_tree::{TreeFault, read_tree, write_tree_within};
 
 /// Reads an event from its text, which is a document (XML 1.0) whose root is called Event. Its
 /// channel and its number stand in the fields Channel and EventRecordID of its System, whatever the
@@ -146,12 +146,12 @@ fn text_of(node: &Element) -> Result<Option<Text>, AllocError>
     ensures { IfOk result (λ found. found ≡ short_text (text_of_tree node.now)) }
 {
     let alloc = node.name.alloc();
-    let Ok(bytes) = write_tree(alloc, node, Charset::Utf8) else {
+    let Ok(found) = write_tree_within(alloc, node, Charset::Utf8, EVENT_LIMIT) else {
         return Err(AllocError);
     };
-    if bytes.len() > EVENT_LIMIT {
+    let Some(bytes) = found else {
         return Ok(None);
-    }
+    };
     let Ok(text) = std::str::from_utf8(bytes.as_slice()) else {
         unreachable!()
     };
