@@ -4,11 +4,15 @@ use Rattle.std.proofs.lemmas.Map.Lookups.{exact_bytes}
 use Rattle.std.specs.Prelude.{Option, None, Ok, Err, is_some}
 use Rattle.std.specs.Cmp.Lexicographic.{nat_list_cmp_total, slice_cmp, texts_ties}
 use Rattle.std.specs.FinMap.{empty, get-empty, get-insert}
+use Rattle.std.specs.Option.{option_map}
 use Rattle.std.specs.Ordering.{eq_by_cmp, is_eq, match_ordering, nat_cmp}
 use Rattle.std.specs.declared.cmp.Ordering.TheVariants.{Less, Equal, Greater}
 use Rattle.wef_base.specs.Names.{same}
-use Rattle.wef_event.specs.declared.unnumbered.PlainEvent.{PlainEvent}
+use Rattle.wef_event.specs.Events.{Event}
+use Rattle.wef_event.specs.Unnumbered.{new_event}
+use Rattle.wef_keeper.specs.Calls.{Effect}
 use Rattle.wef_collector.specs.Calls.{add_effect, end_effect}
+use Rattle.wef_envelope.specs.declared.ids.Ids.{Ids}
 use Rattle.wef_query.specs.Order.{with_name}
 use Rattle.wef_replay.specs.Alike.{AreAlike}
 use Rattle.wef_replay.specs.Good.{AreGood, Names, allows, has_end, is_among, is_line, no_names, noted}
@@ -19,21 +23,22 @@ use Rattle.wef_replay.specs.declared.lines.Line.TheVariants.{Subscribe, End, Bat
 use Rattle.wef_source.specs.Machine as machine
 use Rattle.wef_source.specs.Sessions.{session_of}
 use Rattle.wef_source.specs.declared.sessions.Session.{Session}
-use Rattle.wef_source_log.specs.Answers.{Effect, write_effect}
+use Rattle.wef_source_log.specs.Answers.{write_effect}
+use Rattle.wef_source_log.specs.declared.faults.LogFault.{LogFault}
 use Rattle.wef_machine.specs.Admitting.{GoodLinesAreAdmitted}
-use Rattle.wef_machine.specs.Arming.{is_done}
 use Rattle.wef_machine.specs.Collecting as collecting
-use Rattle.wef_machine.specs.Collecting.{after_call, at_collector, opening}
+use Rattle.wef_machine.specs.Collecting.{at_collector, reply_id, with_reply}
 use Rattle.wef_machine.specs.Deliveries.{after_ack, after_fault, after_offers, answer_with, deliver_message, delivery_effect, end_at, events_at, message_at, number_back, offers_at, taken_by, with_answer}
-use Rattle.wef_machine.specs.Sources as sources
-use Rattle.wef_machine.specs.Sources.{ask_at, at_slot, at_source, crash_slot, lost_at, poll_at, poll_in, slot_opened, where_runs, write_at, write_by}
-use Rattle.wef_machine.specs.States.{Collector, Slot, State, arm_of, declared_names, names_of, slot_of, start, with_arm, with_collector, with_foreign, with_message, with_slot}
-use Rattle.wef_machine.specs.Steps.{AreAdmitted, arm_step, batch_at, crash_step, end_at as ended_at, step, subscribe_at, subscription_of, unchanged}
+use Rattle.wef_machine.specs.Sources.{ask_at, at_declared, at_source, lost_at, poll_at, poll_in, slot_opened, write_at, write_by}
+use Rattle.wef_machine.specs.Places.{Place, after_call, armed_with, crashed}
+use Rattle.wef_machine.specs.States.{Collector, Slot, State, calmed_slot, declared_names, names_of, slot_of, start, with_collector, with_foreign, with_message, with_slot}
+use Rattle.wef_machine.specs.Steps.{AreAdmitted, arm_step, batch_at, calm_step, crash_step, end_at as ended_at, step, subscribe_at, subscription_of, unchanged}
 use Rattle.wef_machine.specs.declared.arming.Armed.{Armed}
 use Rattle.wef_machine.specs.declared.messages.Message.{Message}
 use Rattle.wef_machine.specs.declared.messages.Message.TheVariants as sent
-use Rattle.wef_machine.proofs.Declared.{among_declared, first_or_rest}
-use Rattle.wef_machine.proofs.Moves.{slot_put}
+use Rattle.wef_machine.proofs.CollectorSteps.{at_collector_any}
+use Rattle.wef_machine.proofs.Declared.{among_declared, calmed_at, first_or_rest}
+use Rattle.wef_machine.proofs.SourceSteps.{at_source_any}
 
 -- ---- steps that give no name
 
@@ -64,9 +69,6 @@ same_both x y z h k = record { declared = λ q. k.declared q ∙ h.declared q; f
 same_message : (old new : State) (message : Message) → HasSameSources old new → HasSameSources old (with_message new message)
 same_message old new message h = record { declared = h.declared; foreign = h.foreign }
 
-same_arm : (old new : State) (s : List ℕ) (armed : Option Armed) → HasSameSources old new → HasSameSources old (with_arm new s armed)
-same_arm old new s armed h = record { declared = h.declared; foreign = h.foreign }
-
 same_collector : (old new : State) (collector : Collector) → HasSameSources old new → HasSameSources old (with_collector new collector)
 same_collector old new collector h = record { declared = h.declared; foreign = h.foreign }
 
@@ -75,34 +77,27 @@ same_either old true x y hx hy = hx
 same_either old false x y hx hy = hy
 
 -- what is done at the collector declares nothing
-same_at_collector : (state : State) (change : State → State) → ((now : State) → HasSameSources now (change now)) → HasSameSources state (at_collector state change)
+same_at_collector : (state : State) (change : Ids → State → State) → ((ids : Ids) (now : State) → HasSameSources now (change ids now)) → HasSameSources state (at_collector state change)
 same_at_collector state change h =
-    same_either state (is_done (opening state.collector)) (change (collecting.with_opened state)) (collecting.with_opened state)
-    (same_both state (collecting.with_opened state) (change (collecting.with_opened state)) (same_collector state state _ (same_itself state)) (h (collecting.with_opened state)))
-    (same_collector state state _ (same_itself state))
+    let opened_same = same_collector state state _ (same_itself state) in
+    at_collector_any state change (HasSameSources state) opened_same
+    (λ ids runs. same_both state (collecting.with_opened state) (change ids (collecting.with_opened state)) opened_same (h ids (collecting.with_opened state)))
+
+same_reply : (old new : State) (count : ℕ) (message : Message) → HasSameSources old new → HasSameSources old (with_reply count new message)
+same_reply old new count message h = record { declared = h.declared; foreign = h.foreign }
 
 same_answer : (old new : State) (answer : Option Message) → HasSameSources old new → HasSameSources old (with_answer new answer)
 same_answer old new None h = h
-same_answer old new (Some message) h = same_message old new message h
+same_answer old new (Some message) h = same_reply old new 1 message h
 
 -- what is done at a source that is there keeps it there
 abbrev Keeps : List ℕ → (State → Slot → machine.End → State) → Type 0
 Keeps s change = (now : State) (slot : Slot) (end : machine.End) → slot_of now s ≡ Some slot → HasSameSources now (change now slot end)
 
 same_at_source : (state : State) (s : List ℕ) (change : State → Slot → machine.End → State) → Keeps s change → HasSameSources state (at_source state s change)
-same_at_source state s change h = by (slot_of state s) refl
-  where
-    runs : (now : State) (slot : Slot) (end : Option machine.End) → slot_of now s ≡ Some slot → HasSameSources now (where_runs now slot end change)
-    runs now slot None there = same_itself now
-    runs now slot (Some end) there = h now slot end there
-
-    by : (found : Option Slot) → slot_of state s ≡ found → HasSameSources state (at_slot state s found change)
-    by None e = same_itself state
-    by (Some slot) e =
-        let new = slot_opened (arm_of state s) slot in
-        same_both state (sources.with_opened state s slot) (where_runs (sources.with_opened state s slot) new new.end change)
-        (same_arm state (with_slot state s new) s _ (same_slot state s slot new e))
-        (runs (sources.with_opened state s slot) new new.end (slot_put state.sources s new))
+same_at_source state s change h = at_source_any state s change (HasSameSources state) (HasSameSources state) (same_itself state)
+    (λ slot there. same_slot state s slot (slot_opened slot) there) (λ now same. same)
+    (λ now slot end same opened there runs. same_both state now (change now slot end) same (h now slot end there))
 
 keeps_end : (s : List ℕ) (change : machine.End → machine.End) → Keeps s (end_at s change)
 keeps_end s change now slot end there = same_slot now s slot _ there
@@ -110,11 +105,11 @@ keeps_end s change now slot end there = same_slot now s slot _ there
 keeps_lost : (s u : List ℕ) → Keeps s (lost_at s u)
 keeps_lost s u now slot end there = same_slot now s slot _ there
 
-keeps_write : (s : List ℕ) (event : PlainEvent) → Keeps s (write_at s event)
-keeps_write s event now slot end there = by (write_effect slot.rows event)
+keeps_write : (s : List ℕ) (event : Event) → Keeps s (write_at s event)
+keeps_write s event now slot end there = by (write_effect slot.place.rows event)
   where
-    by : (effect : Effect) → HasSameSources now (write_by now s slot end event effect)
-    by (Ok changes) = same_arm now (with_slot now s _) s _ (same_slot now s slot _ there)
+    by : (effect : Effect LogFault) → HasSameSources now (write_by now s slot event effect)
+    by (Ok changes) = same_slot now s slot _ there
     by (Err fault) = same_itself now
 
 keeps_ask : (s : List ℕ) → Keeps s (ask_at s)
@@ -127,33 +122,44 @@ keeps_poll s u now slot end there = by (session_of end.sessions u)
     by : (session : Option Session) → HasSameSources now (poll_in s now slot end session)
     by None = same_itself now
     by (Some session) =
-        same_either now (machine.is_idle slot.rows session) _ _ (same_itself now)
+        same_either now (machine.is_idle slot.place.rows session) _ _ (same_itself now)
         (same_either now (machine.is_spent end) _ _ (same_itself now) (same_message now _ _ (same_slot now s slot _ there)))
 
 same_taken : (state : State) (message : Message) → HasSameSources state (taken_by state message)
-same_taken state (sent.Ask s id) = same_at_collector state (offers_at s id) (λ now. same_message now now _ (same_itself now))
-same_taken state (sent.Offers s relates given) = same_at_source state s _ (keeps_end s (λ end. after_offers end relates given))
+same_taken state (sent.Ask s id) = same_at_collector state (offers_at s id) (λ ids now. same_reply now now _ _ (same_itself now))
+same_taken state (sent.Offers s id relates given) = same_at_source state s _ (keeps_end s (λ end. after_offers end relates given state.moment))
 same_taken state (sent.Events s delivery) =
-    same_at_collector state (events_at s delivery) (λ now. same_answer now _ (answer_with now (delivery_effect now.collector.rows delivery) s delivery)
+    same_at_collector state (events_at s delivery) (λ ids now. same_answer now _ (answer_with now (delivery_effect now.collector.rows delivery now.moment) s (reply_id ids) delivery)
     (same_collector now now _ (same_itself now)))
-same_taken state (sent.Ack s relates) = same_at_source state s _ (keeps_end s (λ end. after_ack end relates))
-same_taken state (sent.Fault s relates fault) = same_at_source state s _ (keeps_end s (λ end. after_fault end relates fault))
+same_taken state (sent.Ack s id relates) = same_at_source state s _ (keeps_end s (λ end. after_ack end relates))
+same_taken state (sent.Fault s id relates fault) = same_at_source state s _ (keeps_end s (λ end. after_fault end relates fault))
 
 same_delivered : (state : State) (message : Option Message) → HasSameSources state (deliver_message state message)
 same_delivered state None = same_itself state
 same_delivered state (Some message) = same_taken state message
 
-same_crashed : (state : State) (end : EndName) → HasSameSources state (crash_step state end)
-same_crashed state ends.Collector = same_collector state state _ (same_itself state)
-same_crashed state (ends.Source s) = by (slot_of state s) refl
+-- what is done to a source's end leaves it declared
+same_at_declared : (state : State) (s : List ℕ) (change : Place machine.End → Place machine.End) → HasSameSources state (at_declared state s change (slot_of state s))
+same_at_declared state s change = by (slot_of state s) refl
   where
-    by : (found : Option Slot) → slot_of state s ≡ found → HasSameSources state (crash_slot state s found)
+    by : (found : Option Slot) → slot_of state s ≡ found → HasSameSources state (at_declared state s change found)
     by None e = same_itself state
     by (Some slot) e = same_slot state s slot _ e
 
+same_crashed : (state : State) (end : EndName) → HasSameSources state (crash_step state end)
+same_crashed state ends.Collector = same_collector state state _ (same_itself state)
+same_crashed state (ends.Source s) = same_at_declared state s crashed
+
 same_armed : (state : State) (end : EndName) (armed : Armed) → HasSameSources state (arm_step state end armed)
 same_armed state ends.Collector armed = same_collector state state _ (same_itself state)
-same_armed state (ends.Source s) armed = same_arm state state s (Some armed) (same_itself state)
+same_armed state (ends.Source s) armed = same_at_declared state s (λ place. armed_with place armed)
+
+some_calmed : (o : Option Slot) → is_some (option_map calmed_slot o) ≡ is_some o
+some_calmed None = refl
+some_calmed (Some slot) = refl
+
+same_calm : (state : State) → HasSameSources state (calm_step state)
+same_calm state = record { declared = λ s. ap is_some (calmed_at state.sources s) ∙ some_calmed (slot_of state s); foreign = refl }
 
 -- ---- each line leaves the names that it gave
 
@@ -193,19 +199,19 @@ leaves_names : (line : Line) (state : State) (names : Names) → AreAlike (names
 leaves_names (Source s capacity) state names alike = record { declared = one_declared state names s _ alike; foreign = alike.foreign }
 leaves_names (Batch u s b) state names alike =
     same_names (with_foreign state s) (step (Batch u s b) state) (noted (Batch u s b) names)
-    (same_at_collector (with_foreign state s) (batch_at u s b) (λ now. same_collector now now _ (same_itself now)))
+    (same_at_collector (with_foreign state s) (λ ids. batch_at u s b) (λ ids now. same_collector now now _ (same_itself now)))
     (record {
       declared = alike.declared;
       foreign = λ q. one_foreign state.foreign s q ∙ ap (λ (t : Bool). same q s || t) (alike.foreign q);
     })
 leaves_names (Subscribe u items bytes beat query) state names alike =
     same_names state (step (Subscribe u items bytes beat query) state) names
-    (same_at_collector state (subscribe_at (subscription_of u items bytes beat query))
-    (λ now. same_collector now now (after_call now.collector (add_effect now.collector.rows (subscription_of u items bytes beat query))) (same_itself now))) alike
+    (same_at_collector state (λ ids. subscribe_at (subscription_of u items bytes beat query))
+    (λ ids now. same_collector now now (after_call now.collector (add_effect now.collector.rows (subscription_of u items bytes beat query))) (same_itself now))) alike
 leaves_names (End u) state names alike =
     same_names state (step (End u) state) names
-    (same_at_collector state (ended_at u) (λ now. same_collector now now (after_call now.collector (end_effect now.collector.rows u)) (same_itself now))) alike
-leaves_names (Write s event) state names alike = same_names state (step (Write s event) state) names (same_at_source state s (write_at s event) (keeps_write s event)) alike
+    (same_at_collector state (λ ids. ended_at u) (λ ids now. same_collector now now (after_call now.collector (end_effect now.collector.rows u)) (same_itself now))) alike
+leaves_names (Write s plain) state names alike = same_names state (step (Write s plain) state) names (same_at_source state s (write_at s (new_event plain)) (keeps_write s (new_event plain))) alike
 leaves_names (Ask s) state names alike = same_names state (step (Ask s) state) names (same_at_source state s (ask_at s) (keeps_ask s)) alike
 leaves_names (Poll s u) state names alike = same_names state (step (Poll s u) state) names (same_at_source state s (poll_at s u) (keeps_poll s u)) alike
 leaves_names (Deliver k) state names alike = same_names state (step (Deliver k) state) names (same_delivered state (message_at state k)) alike
@@ -214,9 +220,9 @@ leaves_names (Lost s u) state names alike = same_names state (step (Lost s u) st
 leaves_names (Crash end) state names alike = same_names state (step (Crash end) state) names (same_crashed state end) alike
 leaves_names (Fail end after) state names alike = same_names state (step (Fail end after) state) names (same_armed state end _) alike
 leaves_names (Stop end after) state names alike = same_names state (step (Stop end after) state) names (same_armed state end _) alike
-leaves_names Calm state names alike = same_names state (step Calm state) names (record { declared = λ q. refl; foreign = refl }) alike
-leaves_names Show state names alike = same_names state (step Show state) names (same_at_collector state unchanged (λ now. same_itself now)) alike
-leaves_names (Print u s c) state names alike = same_names state (step (Print u s c) state) names (same_at_collector state unchanged (λ now. same_itself now)) alike
+leaves_names Calm state names alike = same_names state (step Calm state) names (same_calm state) alike
+leaves_names Show state names alike = same_names state (step Show state) names (same_at_collector state (λ ids. unchanged) (λ ids now. same_itself now)) alike
+leaves_names (Print u s c) state names alike = same_names state (step (Print u s c) state) names (same_at_collector state (λ ids. unchanged) (λ ids now. same_itself now)) alike
 
 -- ---- so each good line is admitted
 

@@ -1,6 +1,6 @@
 -- What the collector does keeps what is kept: it is opened, subscriptions begin and end, and batches come; also where a
 -- commit fails, whatever it leaves.
-use Rattle.std.proofs.Common.{◌≡◌, ◌≢◌, ℕ, ◌+◌, ◌≤◌, Bool, true, false, ◌&&◌, cond, List, [], ◌∷◌, ◌++◌, refl, ap, sym, ◌∙◌, subst, nat_lt, arith}
+use Rattle.std.proofs.Common.{◌≡◌, ◌≢◌, ℕ, ◌+◌, ◌≤◌, Bool, true, false, ◌&&◌, cond, List, [], ◌∷◌, ◌++◌, refl, ap, sym, ◌∙◌, subst, nat_lt}
 use Rattle.std.proofs.lemmas.Bool.{and_parts, cond_both}
 use Rattle.std.proofs.lemmas.Option.{none-some, same_Some}
 use Rattle.std.specs.Prelude.{Option, Some, None, Ok, Err}
@@ -20,8 +20,11 @@ use Rattle.wef_collector.specs.Taken.{batch_changes, put, taken}
 use Rattle.wef_collector.specs.declared.faults.CollectorFault.TheVariants as faults
 use Rattle.wef_collector.specs.declared.standings.Standing as state_of
 use Rattle.wef_collector.specs.declared.standings.Standing.TheVariants as stands
+use Rattle.wef_envelope.specs.Ids.{ids_of_boot}
 use Rattle.wef_envelope.specs.declared.FaultName.{FaultName}
 use Rattle.wef_envelope.specs.declared.FaultName.TheVariants.{InvalidMessage, DestinationUnreachable, InternalError}
+use Rattle.wef_envelope.specs.declared.MessageId.{MessageId}
+use Rattle.wef_envelope.specs.declared.ids.Ids.{Ids}
 use Rattle.wef_eventing.specs.Kept.{kept_words, read_kept}
 use Rattle.wef_eventing.specs.declared.subscriptions.Subscription.{Subscription}
 use Rattle.wef_keeper.specs.Rows.{Rows, applied}
@@ -30,12 +33,13 @@ use Rattle.wef_keeper.specs.declared.keys.Change.{Change}
 use Rattle.wef_replay.specs.Good.{is_among, is_source, is_subscription}
 use Rattle.wef_source_log.specs.Histories.{history}
 use Rattle.wef_source.specs.declared.messages.Delivery.{Delivery}
-use Rattle.wef_machine.specs.Arming.{committed, fate, is_done}
-use Rattle.wef_machine.specs.Collecting.{at_collector, commits, opening, starts, with_call, with_opened}
+use Rattle.wef_machine.specs.Arming.{committed, fate}
+use Rattle.wef_machine.specs.Collecting.{at_collector, collector_opened, reply_id, where_runs, with_call, with_opened, with_reply}
 use Rattle.wef_machine.specs.Deliveries.{BatchEffect, answer_by, batch_effect_by, effect_at, events_at, events_by, with_answer}
-use Rattle.wef_machine.specs.Kept.{IsAcknowledged, IsChannelKept, IsDelivery, IsKept, IsPairKept, IsWorldKept, WasSent}
-use Rattle.wef_machine.specs.Safe.{IsPairSafe, IsUntouched, about_of, subscription_at}
-use Rattle.wef_machine.specs.States.{Collector, Slot, State, moment, slot_of, with_collector, with_foreign, with_message}
+use Rattle.wef_machine.specs.Kept.{IsAckKept, IsChannelKept, IsDelivery, IsKept, IsPairKept, IsWorldKept}
+use Rattle.wef_machine.specs.Places.{commits, opened_by, starts}
+use Rattle.wef_machine.specs.Safe.{IsPairSafe, IsUntouched, WasSent, about_of, settings_of, subscription_at}
+use Rattle.wef_machine.specs.States.{Slot, State, slot_of, with_collector, with_foreign}
 use Rattle.wef_machine.specs.Steps.{batch_at, end_at, subscribe_at}
 use Rattle.wef_machine.specs.declared.arming.Armed.{Armed}
 use Rattle.wef_machine.specs.declared.arming.Fate.{Fate}
@@ -57,7 +61,7 @@ other_name a b other e = not_both (subst (λ (x : List ℕ). same a x ≡ true) 
 
 -- a world is kept with other rows
 abbrev KeptWith : State → Rows → Type 0
-KeptWith state rows = IsWorldKept rows state.foreign state.sources state.messages
+KeptWith state rows = IsWorldKept rows state.foreign state.sources state.messages state.moment
 
 -- ---- commits
 
@@ -96,15 +100,19 @@ booted_kept lower state kept room =
     (subst (λ (o : Option Subscription). IsPairKept state.collector.rows u s c o (slot_of state s)) (sym (subscription_by_booting state.collector.rows cell u)) (kept.pairs u s c apart)))
     kept.apart (keys_by_booting state.collector.rows cell kept.keys) (lower.formed_booted state.collector.rows room kept.formed)
 
-starts_kept : Lower → (state : State) → IsKept state → IsKept (with_collector state (starts state.collector (boot_effect state.collector.rows)))
-starts_kept lower state kept =
-    cond_both (nat_lt (boot_of state.collector.rows) 9223372036854775807) (Ok (put boot_key (boot_of state.collector.rows + 1) [] ∷ [])) (Err faults.Full) (λ (effect : Effect). IsKept (with_collector state (starts state.collector effect)))
+starts_kept : Lower → (state : State) (ids : Ids) → IsKept state → IsKept (with_collector state (starts state.collector ids (boot_effect state.collector.rows)))
+starts_kept lower state ids kept =
+    cond_both (nat_lt (boot_of state.collector.rows) 9223372036854775807) (Ok (put boot_key (boot_of state.collector.rows + 1) [] ∷ [])) (Err faults.Full)
+    (λ (effect : Effect). IsKept (with_collector state (starts state.collector ids effect)))
     (λ room. called_kept state (put boot_key (boot_of state.collector.rows + 1) [] ∷ []) kept (booted_kept lower state kept room)) (λ full. kept)
 
 pub opened_kept : Lower → (state : State) → IsKept state → IsKept (with_opened state)
-opened_kept lower state kept =
-    cond_both state.collector.runs state.collector (starts state.collector (boot_effect state.collector.rows)) (λ (c : Collector). IsKept (with_collector state c)) (λ _. kept)
-    (λ _. starts_kept lower state kept)
+opened_kept lower state kept = by_memory state.collector.memory
+  where
+    by_memory : (memory : Option Ids) →
+        IsKept (with_collector state (opened_by state.collector (ids_of_boot (boot_of state.collector.rows + 1)) (boot_effect state.collector.rows) memory))
+    by_memory None = starts_kept lower state (ids_of_boot (boot_of state.collector.rows + 1)) kept
+    by_memory (Some ids) = kept
 
 -- What an opening leaves as it is.
 pub record IsOpened (before after : State) : Type 0 where
@@ -112,12 +120,21 @@ pub record IsOpened (before after : State) : Type 0 where
   pub sources : after.sources ≡ before.sources
   pub messages : after.messages ≡ before.messages
 
+-- what holds of the opened collector, and of what a line does there, holds of what the line does
+pub at_collector_any : (state : State) (change : Ids → State → State) (Q : State → Type 0) → Q (with_opened state) →
+    ((ids : Ids) → (with_opened state).collector.memory ≡ Some ids → Q (change ids (with_opened state))) → Q (at_collector state change)
+at_collector_any state change Q closed done = by_memory (collector_opened state.collector).memory refl
+  where
+    by_memory : (memory : Option Ids) → (collector_opened state.collector).memory ≡ memory → Q (where_runs (with_opened state) memory change)
+    by_memory None runs = closed
+    by_memory (Some ids) runs = done ids runs
+
 -- what a line does at the collector keeps all where it does so once the collector is open
-pub at_collector_keeps : Lower → (state : State) (change : State → State) → IsKept state → ((now : State) → IsKept now → IsOpened state now → IsKept (change now)) →
-    IsKept (at_collector state change)
+pub at_collector_keeps : Lower → (state : State) (change : Ids → State → State) → IsKept state →
+    ((now : State) (ids : Ids) → IsKept now → IsOpened state now → IsKept (change ids now)) → IsKept (at_collector state change)
 at_collector_keeps lower state change kept keeps =
-    cond_both (is_done (opening state.collector)) (change (with_opened state)) (with_opened state) IsKept
-    (λ _. keeps (with_opened state) (opened_kept lower state kept) (record { foreign = refl; sources = refl; messages = refl })) (λ _. opened_kept lower state kept)
+    let open_kept = opened_kept lower state kept in
+    at_collector_any state change IsKept open_kept (λ ids runs. keeps (with_opened state) ids open_kept (record { foreign = refl; sources = refl; messages = refl }))
 
 -- ---- subscriptions
 
@@ -186,26 +203,26 @@ pub is_foreign : (state : State) (s : List ℕ) → IsForeign (with_foreign stat
 is_foreign state s r apart e = other_name r s (not_among_with state.foreign s r apart).1 (sym e)
 
 foreign_taken : Lower → (state : State) (u s : List ℕ) (about : Subscription) (batch : Batch) → IsKept state → IsForeign state s → is_source s ≡ true → IsSoundBatch batch →
-    standing state.collector.rows u ≡ stands.Live about → is_well_formed (channels_read about) batch ≡ true → KeptWith state (taken state.collector.rows u s (channels_read about) batch moment)
+    standing state.collector.rows u ≡ stands.Live about → is_well_formed (channels_read about) batch ≡ true → KeptWith state (taken state.collector.rows u s (channels_read about) batch state.moment)
 foreign_taken lower state u s about batch kept foreign source sound live good =
     let channels = channels_read about in
-    let rows = taken state.collector.rows u s channels batch moment in
-    kept_rows state rows state.foreign kept (taking_grows state.collector.rows u s channels batch moment)
+    let rows = taken state.collector.rows u s channels batch state.moment in
+    kept_rows state rows state.foreign kept (taking_grows state.collector.rows u s channels batch state.moment)
     (λ v r c apart.
-    alike_pair rows state.collector.rows v r c (subscription_at rows v) (slot_of state r) (taking_spares_source state.collector.rows u s channels batch moment v r c (foreign r apart))
-    (subst (λ (o : Option Subscription). IsPairKept state.collector.rows v r c o (slot_of state r)) (sym (subscription_by_taking state.collector.rows u s channels batch moment v)) (kept.pairs v r c apart)))
-    kept.apart (keys_by_taking state.collector.rows u s channels batch moment kept.keys)
-    (lower.formed_taken state.collector.rows u s about batch moment live source good sound (omega arith) kept.formed)
+    alike_pair rows state.collector.rows v r c (subscription_at rows v) (slot_of state r) (taking_spares_source state.collector.rows u s channels batch state.moment v r c (foreign r apart))
+    (subst (λ (o : Option Subscription). IsPairKept state.collector.rows v r c o (slot_of state r)) (sym (subscription_by_taking state.collector.rows u s channels batch state.moment v)) (kept.pairs v r c apart)))
+    kept.apart (keys_by_taking state.collector.rows u s channels batch state.moment kept.keys)
+    (lower.formed_taken state.collector.rows u s about batch state.moment live source good sound kept.soon kept.formed)
 
 pub batch_keeps : Lower → (state : State) (u s : List ℕ) (batch : Batch) → IsKept state → IsForeign state s → is_source s ≡ true → IsSoundBatch batch → IsKept (batch_at u s batch state)
 unfolding taken
 batch_keeps lower state u s batch kept foreign source sound = by_standing (standing state.collector.rows u) refl
   where
-    by_standing : (found : state_of.Standing) → standing state.collector.rows u ≡ found → IsKept (with_call state (batch_effect_by state.collector.rows u s batch found))
+    by_standing : (found : state_of.Standing) → standing state.collector.rows u ≡ found → IsKept (with_call state (batch_effect_by state.collector.rows u s batch state.moment found))
     by_standing stands.Unknown e = kept
     by_standing (stands.Ended about) e = kept
     by_standing (stands.Live about) e =
-        let changes : List Change = batch_changes state.collector.rows u s (channels_read about) batch moment in
+        let changes : List Change = batch_changes state.collector.rows u s (channels_read about) batch state.moment in
         let effect : BatchEffect = Ok changes in
         cond_both (is_well_formed (channels_read about) batch) effect (Err InvalidMessage) (λ (x : BatchEffect). IsKept (with_call state x))
         (λ good. called_kept state changes kept (foreign_taken lower state u s about batch kept foreign source sound e good)) (λ bad. kept)
@@ -215,102 +232,109 @@ batch_keeps lower state u s batch kept foreign source sound = by_standing (stand
 -- the pair that a fitting batch is for
 served_pair : (state : State) (u s c : List ℕ) (slot : Slot) (delivery : Delivery) → IsKept state → slot_of state s ≡ Some slot →
     (is : IsDelivery state.collector.rows s slot delivery) → is.u ≡ u → is_in (channels_read is.about) c ≡ true →
-    IsPairKept (taken state.collector.rows u s (channels_read is.about) delivery.batch moment) u s c (subscription_at state.collector.rows u) (slot_of state s)
+    IsPairKept (taken state.collector.rows u s (channels_read is.about) delivery.batch state.moment) u s c (subscription_at state.collector.rows u) (slot_of state s)
 served_pair state u s c slot delivery kept there is at listed =
     let known : subscription_at state.collector.rows u ≡ Some is.about = ap (subscription_at state.collector.rows) (sym at) ∙ is.known in
     let before : IsChannelKept state.collector.rows u s c is.about slot (is_in (channels_read is.about) c) =
     subst (λ (x : Option Subscription × Option Slot). IsPairKept state.collector.rows u s c x.0 x.1) (λ i. (known i, there i)) (kept.pairs u s c (kept.apart s slot there)) in
-    let safe : IsPairSafe state.collector.rows u s c is.about (history slot.histories c) slot.capacity = subst (IsChannelKept state.collector.rows u s c is.about slot) listed before in
-    let rows = taken state.collector.rows u s (channels_read is.about) delivery.batch moment in
-    let after = fitting_batches_are_safe state.collector.rows u s c is.about slot.histories slot.capacity is.above delivery.batch moment listed safe is.fits
+    let safe : IsPairSafe state.collector.rows u s c 0 (settings_of is.about) (history slot.histories c) slot.capacity = subst (IsChannelKept state.collector.rows u s c is.about slot) listed before in
+    let rows = taken state.collector.rows u s (channels_read is.about) delivery.batch state.moment in
+    let after = fitting_batches_are_safe state.collector.rows u s c 0 is.about slot.histories slot.capacity is.above delivery.batch state.moment listed safe is.fits
     (subst (λ (v : List ℕ). number_at is.above c ≤ bookmark_at state.collector.rows v s c) at (is.behind c)) in
     subst (λ (x : Option Subscription × Option Slot). IsPairKept rows u s c x.0 x.1) (λ i. (sym known i, sym there i))
     (subst (IsChannelKept rows u s c is.about slot) (sym listed) after.0)
 
 taken_kept : Lower → (state : State) (s : List ℕ) (slot : Slot) (delivery : Delivery) → IsKept state → slot_of state s ≡ Some slot →
     (is : IsDelivery state.collector.rows s slot delivery) → standing state.collector.rows is.u ≡ stands.Live is.about → is_well_formed (channels_read is.about) delivery.batch ≡ true →
-    KeptWith state (taken state.collector.rows is.u s (channels_read is.about) delivery.batch moment)
+    KeptWith state (taken state.collector.rows is.u s (channels_read is.about) delivery.batch state.moment)
 taken_kept lower state s slot delivery kept there is live good =
-    kept_rows state rows state.foreign kept (taking_grows state.collector.rows is.u s (channels_read is.about) delivery.batch moment)
+    kept_rows state rows state.foreign kept (taking_grows state.collector.rows is.u s (channels_read is.about) delivery.batch state.moment)
     (λ v r c apart.
-    subst (λ (o : Option Subscription). IsPairKept rows v r c o (slot_of state r)) (sym (subscription_by_taking state.collector.rows is.u s (channels_read is.about) delivery.batch moment v))
+    subst (λ (o : Option Subscription). IsPairKept rows v r c o (slot_of state r)) (sym (subscription_by_taking state.collector.rows is.u s (channels_read is.about) delivery.batch state.moment v))
     (by_pair v r c apart (is_served is.u s (channels_read is.about) v r c) refl))
-    kept.apart (keys_by_taking state.collector.rows is.u s (channels_read is.about) delivery.batch moment kept.keys)
-    (lower.formed_taken state.collector.rows is.u s is.about delivery.batch moment live (kept.sources s slot there).name good is.sound (omega arith) kept.formed)
+    kept.apart (keys_by_taking state.collector.rows is.u s (channels_read is.about) delivery.batch state.moment kept.keys)
+    (lower.formed_taken state.collector.rows is.u s is.about delivery.batch state.moment live (kept.sources s slot there).name good is.sound kept.soon kept.formed)
   where
     rows : Rows
-    rows = taken state.collector.rows is.u s (channels_read is.about) delivery.batch moment
+    rows = taken state.collector.rows is.u s (channels_read is.about) delivery.batch state.moment
 
     by_pair : (v r c : List ℕ) → is_among state.foreign r ≡ false → (t : Bool) → is_served is.u s (channels_read is.about) v r c ≡ t →
-        IsPairKept (taken state.collector.rows is.u s (channels_read is.about) delivery.batch moment) v r c (subscription_at state.collector.rows v) (slot_of state r)
+        IsPairKept (taken state.collector.rows is.u s (channels_read is.about) delivery.batch state.moment) v r c (subscription_at state.collector.rows v) (slot_of state r)
     by_pair v r c apart true e =
         let parts = and_parts (same is.u v) (same s r && is_in (channels_read is.about) c) e in
         let more = and_parts (same s r) (is_in (channels_read is.about) c) parts.1 in
-        subst (λ (x : List ℕ × List ℕ). IsPairKept (taken state.collector.rows is.u s (channels_read is.about) delivery.batch moment) x.0 x.1 c (subscription_at state.collector.rows x.0) (slot_of state x.1))
+        subst (λ (x : List ℕ × List ℕ). IsPairKept (taken state.collector.rows is.u s (channels_read is.about) delivery.batch state.moment) x.0 x.1 c (subscription_at state.collector.rows x.0) (slot_of state x.1))
         (λ i. (one_name is.u v parts.0 i, one_name s r more.0 i)) (served_pair state is.u s c slot delivery kept there is refl more.1)
     by_pair v r c apart false e =
-        alike_pair (taken state.collector.rows is.u s (channels_read is.about) delivery.batch moment) state.collector.rows v r c (subscription_at state.collector.rows v) (slot_of state r)
-        (taking_spares state.collector.rows is.u s (channels_read is.about) delivery.batch moment v r c e) (kept.pairs v r c apart)
+        alike_pair (taken state.collector.rows is.u s (channels_read is.about) delivery.batch state.moment) state.collector.rows v r c (subscription_at state.collector.rows v) (slot_of state r)
+        (taking_spares state.collector.rows is.u s (channels_read is.about) delivery.batch state.moment v r c e) (kept.pairs v r c apart)
 
 -- what the collector left of a batch that it took, and its acknowledgement
-acked_kept : (state : State) (rows : Rows) (after : State) (s : List ℕ) (slot : Slot) (delivery : Delivery) → (is : IsDelivery state.collector.rows s slot delivery) →
+acked_kept : (state : State) (after : State) (s : List ℕ) (slot : Slot) (id : MessageId) (delivery : Delivery) → (is : IsDelivery state.collector.rows s slot delivery) →
     WasSent state.messages (Events s delivery) → IsKept after → after.messages ≡ state.messages →
-    after.collector.rows ≡ taken state.collector.rows is.u s (channels_read is.about) delivery.batch moment → IsKept (with_message after (Ack s delivery.id))
-acked_kept state rows after s slot delivery is was kept same_messages left =
+    after.collector.rows ≡ taken state.collector.rows is.u s (channels_read is.about) delivery.batch state.moment → IsKept (with_reply 1 after (Ack s id delivery.id))
+acked_kept state after s slot id delivery is was kept same_messages left =
     let channels = channels_read is.about in
-    let taken_rows = taken state.collector.rows is.u s channels delivery.batch moment in
-    kept_reply after (Ack s delivery.id) kept refl
-    (subst (λ (x : Rows × List Message). IsAcknowledged x.0 (x.1 ++ Ack s delivery.id ∷ []) s delivery.id) (λ i. (sym left i, sym same_messages i)) (record {
-      delivery = delivery;
-      was_sent = sent_before state.messages (Ack s delivery.id) (Events s delivery) was;
-      id = refl;
-      u = is.u;
-      about = is.about;
-      known = subscription_by_taking state.collector.rows is.u s channels delivery.batch moment is.u ∙ is.known;
-      to_subscription = is.to_subscription;
-      to_source = is.to_source;
-      reached = taking_reaches state.collector.rows is.u s channels delivery.batch moment;
-      behind = taking_covers state.collector.rows is.u s channels delivery.batch moment is.fits.others;
+    kept_reply after (Ack s id delivery.id) kept refl
+    (subst (λ (x : Rows × List Message). IsAckKept x.0 (x.1 ++ Ack s id delivery.id ∷ []) s delivery.id) (λ i. (sym left i, sym same_messages i)) (record {
+      is = record {
+        delivery = delivery;
+        was_sent = sent_before state.messages (Ack s id delivery.id) (Events s delivery) was;
+        id = refl;
+        u = is.u;
+        about = is.about;
+        known = subscription_by_taking state.collector.rows is.u s channels delivery.batch state.moment is.u ∙ is.known;
+        to_subscription = is.to_subscription;
+        to_source = is.to_source;
+        reached = taking_reaches state.collector.rows is.u s channels delivery.batch state.moment;
+      };
+      behind = taking_covers state.collector.rows is.u s channels delivery.batch state.moment is.fits.others;
     }))
 
 -- the collector's answer that it didn't take a batch
-fault_kept : (state : State) (s : List ℕ) (delivery : Delivery) (fault : FaultName) → IsKept state → IsKept (with_message state (Fault s delivery.id fault))
-fault_kept state s delivery fault kept = kept_reply state (Fault s delivery.id fault) kept refl tt
+fault_kept : (state : State) (s : List ℕ) (id : MessageId) (delivery : Delivery) (fault : FaultName) → IsKept state → IsKept (with_reply 1 state (Fault s id delivery.id fault))
+fault_kept state s id delivery fault kept = kept_reply state (Fault s id delivery.id fault) kept refl tt
 
-pub events_keep : Lower → (state : State) (s : List ℕ) (slot : Slot) (delivery : Delivery) → IsKept state → slot_of state s ≡ Some slot → WasSent state.messages (Events s delivery) →
-    IsDelivery state.collector.rows s slot delivery → IsKept (events_at s delivery state)
+-- a batch of a delivery changes the rows so
+abbrev delivered_changes : (state : State) (s : List ℕ) (slot : Slot) (delivery : Delivery) → IsDelivery state.collector.rows s slot delivery → List Change
+delivered_changes state s slot delivery is = batch_changes state.collector.rows is.u s (channels_read is.about) delivery.batch state.moment
+
+pub events_keep : Lower → (state : State) (s : List ℕ) (slot : Slot) (ids : Ids) (delivery : Delivery) → IsKept state → slot_of state s ≡ Some slot → WasSent state.messages (Events s delivery) →
+    IsDelivery state.collector.rows s slot delivery → IsKept (events_at s delivery ids state)
 unfolding taken
-events_keep lower state s slot delivery kept there was is =
-    subst (λ (x : Option (List ℕ) × Option (List ℕ)). IsKept (events_by state (effect_at state.collector.rows x.0 x.1 delivery.batch) s delivery))
+events_keep lower state s slot ids delivery kept there was is =
+    subst (λ (x : Option (List ℕ) × Option (List ℕ)). IsKept (events_by state (effect_at state.collector.rows x.0 x.1 delivery.batch state.moment) s (reply_id ids) delivery))
     (λ i. (sym is.to_subscription i, sym is.to_source i)) (by_standing (standing state.collector.rows is.u) refl)
   where
-    changes : List Change
-    changes = batch_changes state.collector.rows is.u s (channels_read is.about) delivery.batch moment
+    id : MessageId
+    id = reply_id ids
 
-    by_fate : IsKept (with_collector state (commits state.collector (batch_changes state.collector.rows is.u s (channels_read is.about) delivery.batch moment))) →
-        (how : Fate) → fate state.collector.armed (batch_changes state.collector.rows is.u s (channels_read is.about) delivery.batch moment) ≡ how →
-        IsKept (with_answer (with_collector state (commits state.collector (batch_changes state.collector.rows is.u s (channels_read is.about) delivery.batch moment))) (answer_by how s delivery))
-    by_fate after Done e =
-        cond_both delivery.batch.ack_wanted (Some (Ack s delivery.id)) None
-        (λ (answer : Option Message). IsKept (with_answer (with_collector state (commits state.collector (batch_changes state.collector.rows is.u s (channels_read is.about) delivery.batch moment))) answer))
-        (λ _. acked_kept state state.collector.rows (with_collector state (commits state.collector (batch_changes state.collector.rows is.u s (channels_read is.about) delivery.batch moment))) s slot delivery is was after refl
-        (done_leaves state.collector.armed (batch_changes state.collector.rows is.u s (channels_read is.about) delivery.batch moment) state.collector.rows e)) (λ _. after)
-    by_fate after Failed e = fault_kept (with_collector state (commits state.collector (batch_changes state.collector.rows is.u s (channels_read is.about) delivery.batch moment))) s delivery InternalError after
-    by_fate after Stopped e = after
+    after : State
+    after = with_collector state (commits state.collector (delivered_changes state s slot delivery is))
+
+    by_fate : IsKept (with_collector state (commits state.collector (delivered_changes state s slot delivery is))) →
+        (how : Fate) → fate state.collector.armed (delivered_changes state s slot delivery is) ≡ how →
+        IsKept (with_answer (with_collector state (commits state.collector (delivered_changes state s slot delivery is))) (answer_by how s (reply_id ids) delivery))
+    by_fate kept_after Done e =
+        cond_both delivery.batch.ack_wanted (Some (Ack s id delivery.id)) None (λ (answer : Option Message). IsKept (with_answer after answer))
+        (λ _. acked_kept state after s slot id delivery is was kept_after refl (done_leaves state.collector.armed (delivered_changes state s slot delivery is) state.collector.rows e)) (λ _. kept_after)
+    by_fate kept_after Failed e = fault_kept after s id delivery InternalError kept_after
+    by_fate kept_after Stopped e = kept_after
 
     by_form : standing state.collector.rows is.u ≡ stands.Live is.about →
-        IsKept (events_by state (batch_effect_by state.collector.rows is.u s delivery.batch (stands.Live is.about)) s delivery)
+        IsKept (events_by state (batch_effect_by state.collector.rows is.u s delivery.batch state.moment (stands.Live is.about)) s (reply_id ids) delivery)
     by_form live =
-        let effect : BatchEffect = Ok (batch_changes state.collector.rows is.u s (channels_read is.about) delivery.batch moment) in
-        cond_both (is_well_formed (channels_read is.about) delivery.batch) effect (Err InvalidMessage) (λ (x : BatchEffect). IsKept (events_by state x s delivery))
-        (λ good. by_fate (called_kept state (batch_changes state.collector.rows is.u s (channels_read is.about) delivery.batch moment) kept (taken_kept lower state s slot delivery kept there is live good))
-        (fate state.collector.armed (batch_changes state.collector.rows is.u s (channels_read is.about) delivery.batch moment)) refl)
-        (λ bad. fault_kept state s delivery InvalidMessage kept)
+        let effect : BatchEffect = Ok (delivered_changes state s slot delivery is) in
+        cond_both (is_well_formed (channels_read is.about) delivery.batch) effect (Err InvalidMessage) (λ (x : BatchEffect). IsKept (events_by state x s id delivery))
+        (λ good. by_fate (called_kept state (delivered_changes state s slot delivery is) kept (taken_kept lower state s slot delivery kept there is live good))
+        (fate state.collector.armed (delivered_changes state s slot delivery is)) refl)
+        (λ bad. fault_kept state s id delivery InvalidMessage kept)
 
-    by_standing : (found : state_of.Standing) → standing state.collector.rows is.u ≡ found → IsKept (events_by state (batch_effect_by state.collector.rows is.u s delivery.batch found) s delivery)
-    by_standing stands.Unknown e = fault_kept state s delivery DestinationUnreachable kept
-    by_standing (stands.Ended about) e = fault_kept state s delivery DestinationUnreachable kept
+    by_standing : (found : state_of.Standing) → standing state.collector.rows is.u ≡ found →
+        IsKept (events_by state (batch_effect_by state.collector.rows is.u s delivery.batch state.moment found) s (reply_id ids) delivery)
+    by_standing stands.Unknown e = fault_kept state s id delivery DestinationUnreachable kept
+    by_standing (stands.Ended about) e = fault_kept state s id delivery DestinationUnreachable kept
     by_standing (stands.Live about) e =
         let same_about : is.about ≡ about = same_Some is.about about (sym is.known ∙ ap about_of e) in
-        subst (λ (x : Subscription). IsKept (events_by state (batch_effect_by state.collector.rows is.u s delivery.batch (stands.Live x)) s delivery)) same_about
+        subst (λ (x : Subscription). IsKept (events_by state (batch_effect_by state.collector.rows is.u s delivery.batch state.moment (stands.Live x)) s id delivery)) same_about
         (by_form (e ∙ ap (λ (x : Subscription). stands.Live x) (sym same_about)))

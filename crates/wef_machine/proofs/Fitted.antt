@@ -1,5 +1,5 @@
 -- The events that are held after a batch that fits, by number.
-use Rattle.std.proofs.Common.{◌≡◌, ℕ, ◌<◌, ◌==◌, Bool, true, false, not, ◌&&◌, ◌||◌, cond, List, [], ◌∷◌, ◌++◌, map, refl, ap, sym, ◌∙◌, subst, Option, Some, None, nat_lt, nat_le, arith}
+use Rattle.std.proofs.Common.{◌≡◌, ℕ, ◌<◌, ◌≤◌, ◌==◌, Bool, true, false, not, ◌&&◌, ◌||◌, cond, List, [], ◌∷◌, ◌++◌, map, refl, ap, sym, ◌∙◌, subst, Option, Some, None, nat_lt, nat_le, arith}
 use Rattle.std.proofs.lemmas.Bool.Decides.{nat_tests}
 use Rattle.std.proofs.lemmas.Bool.{and_parts}
 use Rattle.std.specs.FinMap as finite
@@ -23,6 +23,7 @@ use Rattle.wef_source.specs.Fits.{event_at, is_event_at, text_of}
 use Rattle.wef_source.specs.Wanted.{EndBy, Range, in_ranges, selected_at, wanted}
 use Rattle.wef_source_log.specs.Histories.{History}
 use Rattle.wef_machine.specs.Safe.{wanted_events}
+use Rattle.wef_machine.proofs.Spared.{and_no}
 use Rattle.wef_machine.proofs.Numbered.{above_zero, find_numbered, lt_is, numbered, numbered_sorted, own_row, rows_numbered}
 use Rattle.wef_machine.proofs.Ranges.{after_last, clip, follow_later, follows_parts, in_clip, in_none_past, in_ranges-append}
 use Rattle.wef_machine.proofs.WantedEvents.{event_of, texts_are, texts_were}
@@ -134,30 +135,39 @@ unfolding texts_of
 find_text rows u s c n = find_bodies n (numbered 3 u s c 0 rows) ∙ ap text_in (find_numbered 3 u s c 0 rows n)
 
 -- what is held is what is wanted where it is so number by number
-pub held_are : (query : QueryList) (c : List ℕ) (records : History) (t : ℕ) (ranges : List Range) (rows : Rows) (u s : List ℕ) →
-    ((n : ℕ) → text_in (cond (nat_lt 0 n) (finite.get rows (held_key u s c n)) None) ≡ wanted query c records t ranges n) → held_after rows u s c 0 ≡ wanted_events query c records t ranges
+pub held_are : (query : QueryList) (c : List ℕ) (records : History) (start t : ℕ) (ranges : List Range) (rows : Rows) (u s : List ℕ) →
+    ((n : ℕ) → text_in (cond (nat_lt 0 n) (finite.get rows (held_key u s c n)) None) ≡ wanted query c records start t ranges n) → held_after rows u s c 0 ≡ wanted_events query c records start t ranges
 unfolding texts_of
-held_are query c records t ranges rows u s same =
+held_are query c records start t ranges rows u s same =
     held_texts rows u s c
-    ∙ texts_are query c records t ranges (texts_of rows u s c) (subst T (sym (sorted_bodies (numbered 3 u s c 0 rows))) (numbered_sorted 3 u s c 0 rows))
+    ∙ texts_are query c records start t ranges (texts_of rows u s c) (subst T (sym (sorted_bodies (numbered 3 u s c 0 rows))) (numbered_sorted 3 u s c 0 rows))
     (λ n. find_text rows u s c n ∙ same n)
 
 -- and then it is so number by number
-pub held_were : (query : QueryList) (c : List ℕ) (records : History) (t : ℕ) (ranges : List Range) (rows : Rows) (u s : List ℕ) → held_after rows u s c 0 ≡ wanted_events query c records t ranges →
-    (n : ℕ) → text_in (cond (nat_lt 0 n) (finite.get rows (held_key u s c n)) None) ≡ wanted query c records t ranges n
-held_were query c records t ranges rows u s same n =
-    sym (find_text rows u s c n) ∙ texts_were query c records t ranges (texts_of rows u s c) (sym (held_texts rows u s c) ∙ same) n
+pub held_were : (query : QueryList) (c : List ℕ) (records : History) (start t : ℕ) (ranges : List Range) (rows : Rows) (u s : List ℕ) → held_after rows u s c 0 ≡ wanted_events query c records start t ranges →
+    (n : ℕ) → text_in (cond (nat_lt 0 n) (finite.get rows (held_key u s c n)) None) ≡ wanted query c records start t ranges n
+held_were query c records start t ranges rows u s same n =
+    sym (find_text rows u s c n) ∙ texts_were query c records start t ranges (texts_of rows u s c) (sym (held_texts rows u s c) ∙ same) n
 
 -- ---- what is wanted above the bookmark, and up to it
 
-le_past : (b t n : ℕ) → nat_lt b n ≡ true → nat_le n t ≡ nat_le n (max b t)
-le_past b t n e = grind (arith, nat_tests)
+le_up : (b t n : ℕ) → nat_lt b n ≡ true → nat_le n t ≡ nat_le n (max b t)
+le_up b t n e = grind (arith, nat_tests)
+
+lt_too : (start b n : ℕ) → start ≤ b → nat_lt b n ≡ true → nat_lt start n ≡ true
+lt_too start b n le e = grind (arith, nat_tests)
+
+le_past : (start b t n : ℕ) → start ≤ b → nat_lt b n ≡ true → (nat_lt b n && nat_le n t) ≡ (nat_lt start n && nat_le n (max b t))
+le_past start b t n le e = λ i. (e ∙ sym (lt_too start b n le e)) i && le_up b t n e i
 
 le_within : (b t n : ℕ) → nat_lt b n ≡ false → nat_le n b ≡ nat_le n (max b t)
 le_within b t n e = grind (arith, nat_tests)
 
-not_within : (b n : ℕ) → nat_lt b n ≡ true → nat_le n b ≡ false
-not_within b n e = grind (arith, nat_tests)
+not_up : (b n : ℕ) → nat_lt b n ≡ true → nat_le n b ≡ false
+not_up b n e = grind (arith, nat_tests)
+
+not_within : (start b n : ℕ) → nat_lt b n ≡ true → (nat_lt start n && nat_le n b) ≡ false
+not_within start b n e = ap (λ (t : Bool). nat_lt start n && t) (not_up b n e) ∙ and_no (nat_lt start n)
 
 pub in_joined : (b : ℕ) (marks dropped : List Range) (n : ℕ) → in_ranges (marks ++ clip b dropped) n ≡ in_ranges marks n || (nat_lt b n && in_ranges dropped n)
 in_joined b marks dropped n = in_ranges-append marks (clip b dropped) n ∙ ap (λ (t : Bool). in_ranges marks n || t) (in_clip b dropped n)
@@ -167,22 +177,22 @@ or_no true = refl
 or_no false = refl
 
 -- above the bookmark the batch's reach and its dropped ranges decide
-wanted_above : (query : QueryList) (c : List ℕ) (records : History) (b t : ℕ) (marks dropped : List Range) (n : ℕ) → EndBy b marks → nat_lt b n ≡ true →
-    wanted query c records t dropped n ≡ wanted query c records (max b t) (marks ++ clip b dropped) n
-wanted_above query c records b t marks dropped n ends is =
+wanted_above : (query : QueryList) (c : List ℕ) (records : History) (start b t : ℕ) (marks dropped : List Range) (n : ℕ) → start ≤ b → EndBy b marks → nat_lt b n ≡ true →
+    wanted query c records b t dropped n ≡ wanted query c records start (max b t) (marks ++ clip b dropped) n
+wanted_above query c records start b t marks dropped n le ends is =
     let free : in_ranges marks n ≡ false = in_none_past b marks n ends (lt_is b n is) in
     let joined : in_ranges (marks ++ clip b dropped) n ≡ in_ranges dropped n = in_joined b marks dropped n ∙ (λ i. free i || (is i && in_ranges dropped n)) in
-    λ i. cond (le_past b t n is i && not (sym joined i)) (selected_at query c records n) None
+    λ i. cond (le_past start b t n le is i && not (sym joined i)) (selected_at query c records n) None
 
 -- up to it the marks that were there do
-wanted_within : (query : QueryList) (c : List ℕ) (records : History) (b t : ℕ) (marks dropped : List Range) (n : ℕ) → nat_lt b n ≡ false →
-    wanted query c records b marks n ≡ wanted query c records (max b t) (marks ++ clip b dropped) n
-wanted_within query c records b t marks dropped n is =
+wanted_within : (query : QueryList) (c : List ℕ) (records : History) (start b t : ℕ) (marks dropped : List Range) (n : ℕ) → nat_lt b n ≡ false →
+    wanted query c records start b marks n ≡ wanted query c records start (max b t) (marks ++ clip b dropped) n
+wanted_within query c records start b t marks dropped n is =
     let joined : in_ranges (marks ++ clip b dropped) n ≡ in_ranges marks n = in_joined b marks dropped n ∙ ap (λ (x : Bool). in_ranges marks n || (x && in_ranges dropped n)) is ∙ or_no (in_ranges marks n) in
-    λ i. cond (le_within b t n is i && not (sym joined i)) (selected_at query c records n) None
+    λ i. cond (nat_lt start n && le_within b t n is i && not (sym joined i)) (selected_at query c records n) None
 
-unwanted_past : (query : QueryList) (c : List ℕ) (records : History) (b : ℕ) (marks : List Range) (n : ℕ) → nat_lt b n ≡ true → wanted query c records b marks n ≡ None
-unwanted_past query c records b marks n is = ap (λ (t : Bool). cond (t && not (in_ranges marks n)) (selected_at query c records n) None) (not_within b n is)
+unwanted_past : (query : QueryList) (c : List ℕ) (records : History) (start b : ℕ) (marks : List Range) (n : ℕ) → nat_lt b n ≡ true → wanted query c records start b marks n ≡ None
+unwanted_past query c records start b marks n is = ap (λ (t : Bool). cond (t && not (in_ranges marks n)) (selected_at query c records n) None) (not_within start b n is)
 
 no_cell : (cell : Option Cell) → text_in cell ≡ None → cell ≡ None
 no_cell None e = refl
@@ -192,18 +202,33 @@ text_back : (text : Option (List ℕ)) → text_in (option_or (option_map text_c
 text_back None = refl
 text_back (Some text) = refl
 
--- what a batch that fits leaves of a number is what is wanted of it
-pub held_step : (query : QueryList) (c : List ℕ) (records : History) (b t : ℕ) (marks dropped : List Range) (n : ℕ) (event : Option (List ℕ)) (cell : Option Cell) → EndBy b marks →
-    (b < n → event ≡ wanted query c records t dropped n) → text_in (cond (nat_lt 0 n) cell None) ≡ wanted query c records b marks n →
-    text_in (cond (nat_lt 0 n) (cond (nat_lt b n) (option_or (option_map text_cell event) cell) cell) None) ≡ wanted query c records (max b t) (marks ++ clip b dropped) n
-held_step query c records b t marks dropped n event cell ends fits old =
-    elim (nat_lt b n) as (λ x. nat_lt b n ≡ x → text_in (cond (nat_lt 0 n) (cond x (option_or (option_map text_cell event) cell) cell) None) ≡ wanted query c records (max b t) (marks ++ clip b dropped) n) [
+lt_true : (a n : ℕ) → a < n → nat_lt a n ≡ true
+lt_true a n h = grind (arith, nat_tests)
+
+both_above : (a b n : ℕ) → a < n → b < n → nat_lt a n ≡ nat_lt b n
+both_above a b n e f = lt_true a n e ∙ sym (lt_true b n f)
+
+-- what is wanted of a number above two starts is the same
+wanted_between : (query : QueryList) (c : List ℕ) (records : History) (start start' t : ℕ) (ranges : List Range) (n : ℕ) → start < n → start' < n →
+    wanted query c records start t ranges n ≡ wanted query c records start' t ranges n
+wanted_between query c records start start' t ranges n above above' =
+    ap (λ (b : Bool). cond (b && nat_le n t && not (in_ranges ranges n)) (selected_at query c records n) None) (both_above start start' n above above')
+
+-- what a batch that fits above a start leaves of a number is what is wanted of it
+pub held_step : (query : QueryList) (c : List ℕ) (records : History) (start from b t : ℕ) (marks dropped : List Range) (n : ℕ) (event : Option (List ℕ)) (cell : Option Cell) → start ≤ b → from ≤ b →
+    EndBy b marks → (from < n → event ≡ wanted query c records from t dropped n) → text_in (cond (nat_lt 0 n) cell None) ≡ wanted query c records start b marks n →
+    text_in (cond (nat_lt 0 n) (cond (nat_lt b n) (option_or (option_map text_cell event) cell) cell) None) ≡ wanted query c records start (max b t) (marks ++ clip b dropped) n
+held_step query c records start from b t marks dropped n event cell begun le ends fits old =
+    elim (nat_lt b n) as (λ x. nat_lt b n ≡ x →
+    text_in (cond (nat_lt 0 n) (cond x (option_or (option_map text_cell event) cell) cell) None) ≡ wanted query c records start (max b t) (marks ++ clip b dropped) n) [
       | true ↦ λ is.
           let positive = above_zero b n is in
-          let none : cell ≡ None = no_cell cell (ap (λ (x : Bool). text_in (cond x cell None)) (sym positive) ∙ old ∙ unwanted_past query c records b marks n is) in
+          let above : b < n = lt_is b n is in
+          let none : cell ≡ None = no_cell cell (ap (λ (x : Bool). text_in (cond x cell None)) (sym positive) ∙ old ∙ unwanted_past query c records start b marks n is) in
           (λ i. text_in (cond (positive i) (option_or (option_map text_cell event) (none i)) None))
           ∙ text_back event
-          ∙ fits (lt_is b n is)
-          ∙ wanted_above query c records b t marks dropped n ends is
-      | false ↦ λ is. old ∙ wanted_within query c records b t marks dropped n is
+          ∙ fits (omega arith)
+          ∙ wanted_between query c records from b t dropped n (omega arith) above
+          ∙ wanted_above query c records start b t marks dropped n begun ends is
+      | false ↦ λ is. old ∙ wanted_within query c records start b t marks dropped n is
     ] refl

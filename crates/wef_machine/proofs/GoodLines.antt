@@ -1,12 +1,12 @@
 -- What a good line says: its subscription reads back from the words that keep it, its batch is sound, and its event may be
 -- written.
-use Rattle.std.proofs.Common.{◌≡◌, ℕ, ◌<◌, ◌≤◌, ◌==◌, Bool, true, false, not, ◌&&◌, cond, List, [], ◌∷◌, length, map, nat_le, refl, ap, sym, ◌∙◌, subst, arith}
+use Rattle.std.proofs.Common.{◌≡◌, ℕ, ◌<◌, ◌≤◌, ◌==◌, Bool, true, false, not, ◌&&◌, cond, List, [], ◌∷◌, length, map, nat_le, nat_lt, refl, ap, sym, ◌∙◌, subst, arith}
 use Rattle.std.proofs.lemmas.Bool.{and_parts}
 use Rattle.std.proofs.lemmas.Bool.Decides.{nat_tests}
 use Rattle.std.proofs.lemmas.List.Elements.{All-nil, All-cons}
 use Rattle.std.proofs.lemmas.Option.{none-some, same_Some}
 use Rattle.std.proofs.lemmas.Str.{IsUtf8-from_is_utf8}
-use Rattle.std.specs.Prelude.{Some, is_some}
+use Rattle.std.specs.Prelude.{Option, None, Some, is_some}
 use Rattle.std.specs.Cmp.Lexicographic.{slice_cmp}
 use Rattle.std.specs.FinMap as finite
 use Rattle.std.specs.List.{All, AllByRecursion, list_all}
@@ -16,8 +16,12 @@ use Rattle.wef_base.specs.Names.{channel_name}
 use Rattle.wef_batch.specs.declared.items.Batch.{Batch}
 use Rattle.wef_batch.specs.declared.items.Item.{Item}
 use Rattle.wef_batch.specs.declared.items.Item.TheVariants as item
-use Rattle.wef_event.specs.Events.{is_event}
-use Rattle.wef_event.specs.Unnumbered.{plain_numbered}
+use Rattle.wef_base.specs.declared.tree.Element.{Element}
+use Rattle.wef_event.proofs.NewEvents.{new_fits}
+use Rattle.wef_event.proofs.PlainTrees.{plain_of_tree}
+use Rattle.wef_event.specs.Events.{Event, IsEventOf, event_limit, is_event}
+use Rattle.wef_event.specs.PlainEvent.{plain_tree}
+use Rattle.wef_event.specs.Unnumbered.{new_event, plain_numbered, plain_numbered_text}
 use Rattle.wef_event.specs.declared.unnumbered.PlainEvent.{PlainEvent}
 use Rattle.wef_eventing.proofs.Back.{reads_back}
 use Rattle.wef_eventing.specs.Kept.{HasKeptName, kept_words, read_kept}
@@ -143,19 +147,30 @@ sound_batch u s b e =
 
 -- ---- a write
 
--- An event may be written: its channel is a name as it is kept, and its words are texts.
-pub record IsWritable (event : PlainEvent) : Type 0 where
+-- An event may be written: its channel is a name as it is kept, and it is the event of a tree.
+pub record IsWritable (event : Event) : Type 0 where
   pub named : channel_name event.channel ≡ Some event.channel
-  pub channel : is_utf8 event.channel ≡ true
-  pub word : is_utf8 event.word ≡ true
+  pub node : Element
+  pub is : IsEventOf event node
 
-pub writable : (s : List ℕ) (event : PlainEvent) → is_line (lines.Write s event) ≡ true → IsWritable event
-writable s event e =
-    let fits = (and_parts (is_source s) (fits_always event) e).1 in
-    let outer = and_parts (is_channel event.channel && is_utf8 event.word) (is_some (plain_numbered event 9223372036854775807)) fits in
-    let inner = and_parts (is_channel event.channel) (is_utf8 event.word) outer.0 in
+-- the event of plain words that isn't too long is the new one
+new_is : (plain : PlainEvent) → is_some (plain_numbered plain 0) ≡ true → plain_numbered plain 0 ≡ Some (new_event plain)
+new_is plain fits = by_length (nat_lt event_limit (length (plain_numbered_text plain 0))) fits
+  where
+    by_length : (b : Bool) → is_some (cond b None (Some (new_event plain))) ≡ true → ◌≡◌ {A = Option Event} (cond b None (Some (new_event plain))) (Some (new_event plain))
+    by_length true e = cc
+    by_length false e = refl
+
+pub writable : (s : List ℕ) (plain : PlainEvent) → is_line (lines.Write s plain) ≡ true → IsWritable (new_event plain)
+writable s plain e =
+    let fits = (and_parts (is_source s) (fits_always plain) e).1 in
+    let outer = and_parts (is_channel plain.channel && is_utf8 plain.word) (is_some (plain_numbered plain 9223372036854775807)) fits in
+    let inner = and_parts (is_channel plain.channel) (is_utf8 plain.word) outer.0 in
+    let named = kept_channel plain.channel inner.0 in
+    let channel = (and_parts (is_utf8 plain.channel) (is_one plain.channel (channel_name plain.channel)) inner.0).0 in
     record {
-      named = kept_channel event.channel inner.0;
-      channel = (and_parts (is_utf8 event.channel) (is_one event.channel (channel_name event.channel)) inner.0).0;
-      word = inner.1;
+      named = named;
+      node = plain_tree plain.channel 0 plain.id plain.level plain.word;
+      is = plain_of_tree plain.channel plain.word 0 plain.id plain.level (new_event plain) named channel inner.1 plain.characters (omega arith)
+          (new_is plain (new_fits plain 9223372036854775807 (omega arith) outer.1));
     }

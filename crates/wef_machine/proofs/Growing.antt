@@ -19,8 +19,8 @@ use Rattle.wef_source.specs.Machine.{End}
 use Rattle.wef_source.specs.declared.messages.Delivery.{Delivery}
 use Rattle.wef_source.specs.declared.sessions.Outstanding.{Outstanding}
 use Rattle.wef_source.specs.declared.sessions.Session.{Session}
-use Rattle.wef_machine.specs.Kept.{AreTerms, IsAcknowledged, IsBehind, IsDelivery, IsMessageKept, IsOffered, IsReached, IsRunningKept, IsServed, IsSourceKept, WaitsFor, WasDrawn, WasSent, WhereDeclared, last_id}
-use Rattle.wef_machine.specs.Safe.{subscription_at}
+use Rattle.wef_machine.specs.Kept.{AreTerms, IsAckKept, IsBehind, IsDelivery, IsMessageKept, IsOffered, IsRunningKept, IsServed, IsSourceKept, WaitsFor, WasDrawn, WhereDeclared, last_id}
+use Rattle.wef_machine.specs.Safe.{IsReached, WasSent, subscription_at}
 use Rattle.wef_machine.specs.States.{Slot, Slots}
 use Rattle.wef_machine.specs.declared.messages.Message.{Message}
 use Rattle.wef_machine.specs.declared.messages.Message.TheVariants.{Ask, Offers, Events, Ack, Fault}
@@ -41,7 +41,7 @@ pub record HistoriesGrow (all all' : Histories) : Type 0 where
 pub record SlotGrows (slot slot' : Slot) : Type 0 where
   pub capacity : slot.capacity ≡ slot'.capacity
   pub histories : HistoriesGrow slot.histories slot'.histories
-  pub drawn : last_id slot slot.end ≤ last_id slot' slot'.end
+  pub drawn : last_id slot slot.place.memory ≤ last_id slot' slot'.place.memory
 
 abbrev pub SourcesGrow : Slots → Slots → Type 0
 SourcesGrow sources sources' = (s : List ℕ) (slot : Slot) → finite.get sources s ≡ Some slot → WhereDeclared (finite.get sources' s) (SlotGrows slot)
@@ -74,7 +74,7 @@ channel_longer : (query : QueryList) (max_bytes : ℕ) (c : List ℕ) (records m
 channel_longer query max_bytes c records more capacity b items None fits = tt
 channel_longer query max_bytes c records more capacity b items (Some t) fits = record {
   within = omega (arith, length-append records more, fits.within);
-  exact = λ n above. fits.exact n above ∙ sym (wanted_longer query c records more t (ranges_in c items) fits.within n);
+  exact = λ n above. fits.exact n above ∙ sym (wanted_longer query c records more b t (ranges_in c items) fits.within n);
   lost = λ n is. lost_longer query max_bytes c records more capacity n (fits.lost n is);
 }
 
@@ -151,7 +151,7 @@ source_grows rows rows' messages messages' s slot grows more kept = record {
   window = kept.window;
   formed = kept.formed;
   events = kept.events;
-  running = running_grows rows rows' messages messages' s slot slot.end grows more kept.running;
+  running = running_grows rows rows' messages messages' s slot slot.place.memory grows more kept.running;
 }
 
 drawn_grows : (slot slot' : Slot) (id : Option ℕ) → SlotGrows slot slot' → WasDrawn slot id → WasDrawn slot' id
@@ -175,19 +175,23 @@ delivery_grows rows rows' s slot slot' delivery grows more is = record {
 }
 
 acknowledged_grows : (rows rows' : Rows) (messages messages' : List Message) (s : List ℕ) (relates : MessageId) → RowsGrow rows rows' → MessagesGrow messages messages' →
-    IsAcknowledged rows messages s relates → IsAcknowledged rows' messages' s relates
-acknowledged_grows rows rows' messages messages' s relates grows more is = record {
-  delivery = is.delivery;
-  was_sent = more _ is.was_sent;
-  id = is.id;
-  u = is.u;
-  about = is.about;
-  known = grows.known is.u is.about is.known;
-  to_subscription = is.to_subscription;
-  to_source = is.to_source;
-  reached = reached_grows rows rows' is.u s is.about is.delivery.batch grows is.reached;
-  behind = behind_grows rows rows' is.u s is.delivery.batch.to grows is.behind;
-}
+    IsAckKept rows messages s relates → IsAckKept rows' messages' s relates
+acknowledged_grows rows rows' messages messages' s relates grows more kept =
+    let is = kept.is in
+    record {
+      is = record {
+        delivery = is.delivery;
+        was_sent = more _ is.was_sent;
+        id = is.id;
+        u = is.u;
+        about = is.about;
+        known = grows.known is.u is.about is.known;
+        to_subscription = is.to_subscription;
+        to_source = is.to_source;
+        reached = reached_grows rows rows' is.u s is.about is.delivery.batch grows is.reached;
+      };
+      behind = behind_grows rows rows' is.u s is.delivery.batch.to grows kept.behind;
+    }
 
 -- a fact of a declared source that stays while the source grows
 declared_grows : (o o' : Option Slot) (P Q : Slot → Type 0) → ((slot : Slot) → o ≡ Some slot → WhereDeclared o' (SlotGrows slot)) →
@@ -205,11 +209,11 @@ pub message_grows : (rows rows' : Rows) (sources sources' : Slots) (messages mes
 message_grows rows rows' sources sources' messages messages' (Ask s id) grows wider more is =
     declared_grows (finite.get sources s) (finite.get sources' s) (λ slot. WasDrawn slot id.value) (λ slot. WasDrawn slot id.value) (wider s)
     (λ slot slot' sg. drawn_grows slot slot' id.value sg) is
-message_grows rows rows' sources sources' messages messages' (Offers s relates offers) grows wider more is =
+message_grows rows rows' sources sources' messages messages' (Offers s id relates offers) grows wider more is =
     all_map (λ (offer : Offer). IsOffered rows s offer.subscribe) (λ (offer : Offer). IsOffered rows' s offer.subscribe)
     (λ offer. offered_grows rows rows' s offer.subscribe grows) offers is
 message_grows rows rows' sources sources' messages messages' (Events s delivery) grows wider more is =
     declared_grows (finite.get sources s) (finite.get sources' s) (λ slot. IsDelivery rows s slot delivery) (λ slot. IsDelivery rows' s slot delivery) (wider s)
     (λ slot slot' sg. delivery_grows rows rows' s slot slot' delivery grows sg) is
-message_grows rows rows' sources sources' messages messages' (Ack s relates) grows wider more is = acknowledged_grows rows rows' messages messages' s relates grows more is
-message_grows rows rows' sources sources' messages messages' (Fault s relates fault) grows wider more is = tt
+message_grows rows rows' sources sources' messages messages' (Ack s id relates) grows wider more is = acknowledged_grows rows rows' messages messages' s relates grows more is
+message_grows rows rows' sources sources' messages messages' (Fault s id relates fault) grows wider more is = tt

@@ -1,6 +1,7 @@
 pub mod Admitted
 pub mod CollectorSteps
 pub mod Declared
+pub mod Drawn
 pub mod Fitted
 pub mod FittingNumbers
 pub mod Given
@@ -17,6 +18,7 @@ pub mod Names
 pub mod Numbered
 pub mod Offering
 pub mod Ranges
+pub mod Risen
 pub mod RowMoves
 pub mod SaidEvents
 pub mod Schedules

@@ -13,9 +13,8 @@ use Rattle.wef_collector.specs.Keys.{boot_key}
 use Rattle.wef_collector.specs.Standing.{standing}
 use Rattle.wef_collector.specs.Taken.{taken}
 use Rattle.wef_collector.specs.declared.standings.Standing.TheVariants.{Live}
-use Rattle.wef_event.specs.Events.{is_event}
-use Rattle.wef_event.specs.PlainEvent.{PlainEventsAreRead}
-use Rattle.wef_event.specs.declared.unnumbered.PlainEvent.{PlainEvent}
+use Rattle.wef_event.specs.Events.{Event, is_event}
+use Rattle.wef_event.specs.Numbering.{NumberedEventsAreRead}
 use Rattle.wef_eventing.specs.Kept.{kept_words, read_kept}
 use Rattle.wef_eventing.specs.declared.subscriptions.Subscription.{Subscription}
 use Rattle.wef_keeper.specs.Rows.{Rows}
@@ -44,21 +43,21 @@ pub record Lower : Type 0 where
   -- a log's rows keep their form and their window
   pub log_empty : (capacity : ℕ) → IsWindow map.empty map.empty capacity 0
   pub log_starts : (rows : Rows) (all : Histories) (capacity boot : ℕ) → IsWindow rows all capacity boot → IsWindow (started rows capacity) all capacity (boot + 1)
-  pub log_extends : (rows : Rows) (event : PlainEvent) (all : Histories) (capacity boot : ℕ) → 0 < capacity → 0 < boot → IsWindow rows all capacity boot →
+  pub log_extends : (rows : Rows) (event : Event) (all : Histories) (capacity boot : ℕ) → 0 < capacity → 0 < boot → IsWindow rows all capacity boot →
       IsWindow (written rows event.channel (next_text rows event)) (extended all event.channel (next_text rows event)) capacity boot
   pub log_boot_is : (rows : Rows) (all : Histories) (capacity boot : ℕ) → IsWindow rows all capacity boot → windows.boot_of rows ≡ boot
   pub log_formed_empty : log.AreFormed map.empty
   pub log_formed_started : (rows : Rows) (capacity : ℕ) → 0 < capacity → capacity ≤ 1000000 → is_boot_full rows ≡ false → log.AreFormed rows →
       log.AreFormed (started rows capacity)
-  pub log_formed_written : (rows : Rows) (event : PlainEvent) → is_full rows event.channel ≡ false → channel_name event.channel ≡ Some event.channel →
+  pub log_formed_written : (rows : Rows) (event : Event) → is_full rows event.channel ≡ false → channel_name event.channel ≡ Some event.channel →
       is_event (record { channel = event.channel; number = last_of rows event.channel + 1; text = next_text rows event }) ≡ true → log.AreFormed rows → log.AreFormed (written rows event.channel (next_text rows event))
   -- a channel's history is no longer than numbers go
   pub log_lengths : (rows : Rows) (all : Histories) (capacity boot : ℕ) (c : List ℕ) → IsWindow rows all capacity boot → log.AreFormed rows →
       length (history all c) ≤ 9223372036854775807
   -- what a window's rows give is what its histories say
   pub log_reads : WindowsRead
-  -- a plain event with a number is the one that its text says
-  pub plain_events : PlainEventsAreRead
+  -- an event with a number is the one that its text says
+  pub numbered_events : NumberedEventsAreRead
   -- what is built fits
   pub built_fits : (rows : Rows) (all : Histories) (capacity boot : ℕ) (session : Session) (b : Marks) → 0 < capacity → 0 < boot → IsWindow rows all capacity boot →
       AreWithin session.positions all → IsAtMost session.positions b → Fits session.query session.max_bytes all capacity b (built rows session)

@@ -8,7 +8,7 @@ use Rattle.std.specs.Option.{option_map}
 use Rattle.std.specs.Str.{is_utf8}
 use Rattle.wef_collector.proofs.FormsStay.{forms_stay as collector_forms}
 use Rattle.wef_collector.specs.Forms.{is_source_name, is_subscription_name}
-use Rattle.wef_event.proofs.PlainTrees.{plain_is_read}
+use Rattle.wef_event.proofs.NumberedTrees.{numbered_is_read}
 use Rattle.wef_keeper.specs.Rows.{Rows, row_of}
 use Rattle.wef_keeper.specs.declared.keys.Cell.{Cell}
 use Rattle.wef_replay.specs.Good.{is_source, is_subscription}
@@ -63,6 +63,6 @@ lower = record {
       let most = last_within rows c formed in
       omega arith;
   log_reads = windows_read;
-  plain_events = plain_is_read;
+  numbered_events = numbered_is_read;
   built_fits = built_fit windows_read;
 }

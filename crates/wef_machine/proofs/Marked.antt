@@ -141,7 +141,7 @@ or_twice None x = refl
 or_twice (Some cell) x = refl
 
 -- what a batch that reaches a channel leaves at the mark of a number
-marks_by_taking : (rows : Rows) (u s : List ℕ) (channels : List (List ℕ)) (batch : Batch) (now : ℕ) (c : List ℕ) (t n : ℕ) → is_in channels c ≡ true → reach c batch ≡ Some t →
+pub marks_by_taking : (rows : Rows) (u s : List ℕ) (channels : List (List ℕ)) (batch : Batch) (now : ℕ) (c : List ℕ) (t n : ℕ) → is_in channels c ≡ true → reach c batch ≡ Some t →
     AreRising (bookmark_at rows u s c) (clip (bookmark_at rows u s c) (ranges_in c batch.items)) →
     finite.get (taken rows u s channels batch now) (mark_key u s c n)
     ≡ option_or (find nat_cmp n (as_cells (clip (bookmark_at rows u s c) (ranges_in c batch.items)))) (finite.get rows (mark_key u s c n))
@@ -188,10 +188,10 @@ joined_find b k n old new cell rising ends above found =
     or_none (Some cell) = refl
 
 -- the marks after a batch: those that were there, and what is new above the bookmark
-pub marks_after : (rows : Rows) (u s : List ℕ) (channels : List (List ℕ)) (batch : Batch) (now : ℕ) (c : List ℕ) (t : ℕ) → is_in channels c ≡ true → reach c batch ≡ Some t →
-    AreRising 0 (marks_of rows u s c) → EndBy (bookmark_at rows u s c) (marks_of rows u s c) → AreRising (bookmark_at rows u s c) (clip (bookmark_at rows u s c) (ranges_in c batch.items)) →
+pub marks_after : (rows : Rows) (u s : List ℕ) (channels : List (List ℕ)) (batch : Batch) (now : ℕ) (c : List ℕ) (start t : ℕ) → is_in channels c ≡ true → reach c batch ≡ Some t →
+    start ≤ bookmark_at rows u s c → AreRising start (marks_of rows u s c) → EndBy (bookmark_at rows u s c) (marks_of rows u s c) → AreRising (bookmark_at rows u s c) (clip (bookmark_at rows u s c) (ranges_in c batch.items)) →
     marks_of (taken rows u s channels batch now) u s c ≡ marks_of rows u s c ++ clip (bookmark_at rows u s c) (ranges_in c batch.items)
-marks_after rows u s channels batch now c t listed reached rising ends above =
+marks_after rows u s channels batch now c start t listed reached begun rising ends above =
     let b = bookmark_at rows u s c in
     let ranges = clip b (ranges_in c batch.items) in
     let old = numbered 4 u s c 0 rows in
@@ -199,13 +199,23 @@ marks_after rows u s channels batch now c t listed reached rising ends above =
     let after = taken rows u s channels batch now in
     let old_is : marks_of rows u s c ≡ map range_of old = marks_numbered rows u s c in
     let both : map range_of (old ++ new) ≡ marks_of rows u s c ++ ranges = map-append range_of old new ∙ (λ i. sym old_is i ++ ranges_back ranges i) in
-    let sorted : T (is_sorted nat_cmp (old ++ new)) = rising_sorted 0 (old ++ new) (subst (AreRising 0) (sym both) (rising-append 0 b (marks_of rows u s c) ranges (omega arith) rising ends above)) in
+    let sorted : T (is_sorted nat_cmp (old ++ new)) = rising_sorted start (old ++ new) (subst (AreRising start) (sym both) (rising-append start b (marks_of rows u s c) ranges begun rising ends above)) in
     marks_numbered after u s c
     ∙ ap (map range_of) (same_numbers (numbered 4 u s c 0 after) (old ++ new) (numbered_sorted 4 u s c 0 after) sorted
     (λ n. find_numbered 4 u s c 0 after n
     ∙ ap (λ (cell : Option Cell). cond (nat_lt 0 n) cell None) (marks_by_taking rows u s channels batch now c t n listed reached above)
-    ∙ joined_find b 0 n old new (finite.get rows (mark_key u s c n)) (subst (AreRising 0) old_is rising) (subst (EndBy b) old_is ends) (subst (AreRising b) (sym (ranges_back ranges)) above) (find_numbered 4 u s c 0 rows n)))
+    ∙ joined_find b start n old new (finite.get rows (mark_key u s c n)) (subst (AreRising start) old_is rising) (subst (EndBy b) old_is ends) (subst (AreRising b) (sym (ranges_back ranges)) above) (find_numbered 4 u s c 0 rows n)))
     ∙ both
+
+-- and at number 0 none, where none was there
+pub no_mark_by_taking : (rows : Rows) (u s : List ℕ) (channels : List (List ℕ)) (batch : Batch) (now : ℕ) (c : List ℕ) (t : ℕ) → is_in channels c ≡ true → reach c batch ≡ Some t →
+    AreRising (bookmark_at rows u s c) (clip (bookmark_at rows u s c) (ranges_in c batch.items)) → finite.get rows (mark_key u s c 0) ≡ None →
+    finite.get (taken rows u s channels batch now) (mark_key u s c 0) ≡ None
+no_mark_by_taking rows u s channels batch now c t listed reached above none =
+    let b = bookmark_at rows u s c in
+    let new = as_cells (clip b (ranges_in c batch.items)) in
+    marks_by_taking rows u s channels batch now c t 0 listed reached above
+    ∙ (λ i. option_or (find_above 0 b new (omega arith) (rising_below b b new (omega arith) (subst (AreRising b) (sym (ranges_back (clip b (ranges_in c batch.items)))) above)) i) (none i))
 
 -- ---- loose records
 

@@ -6,6 +6,7 @@ use Rattle.std.specs.Cmp.{eq_by_cmp_equiv}
 use Rattle.std.specs.Cmp.Lexicographic.{slice_cmp, nat_list_cmp_total}
 use Rattle.std.specs.FinMap as finite
 use Rattle.std.specs.FinMap.{nat_cmp-IsAntisymmetric, slice_cmp-IsAntisymmetric}
+use Rattle.std.specs.Option.{option_map}
 use Rattle.std.specs.Ordering.{eq_by_cmp, is_eq, nat_cmp}
 use Rattle.std.specs.declared.cmp.Ordering.{Ordering}
 use Rattle.std.specs.declared.cmp.Ordering.TheVariants.{Less, Equal, Greater}
@@ -17,15 +18,15 @@ use Rattle.wef_keeper.specs.declared.keys.Cell.{Cell}
 use Rattle.wef_keeper.specs.declared.keys.Key.{Key}
 use Rattle.wef_replay.specs.Good.{is_among}
 use Rattle.wef_source_log.specs.Histories.{history}
-use Rattle.wef_machine.specs.Kept.{IsChannelKept, IsDelivery, IsKept, IsMessageKept, IsPairKept, IsRowKey, IsSourceKept, IsWorldKept, WasDrawn, WasSent, WhereDeclared, last_id, request_id, source_of}
-use Rattle.wef_machine.specs.Safe.{IsPairSafe, IsUntouched, subscription_at}
+use Rattle.wef_machine.specs.Kept.{AreInOrder, IsChannelKept, IsDelivery, IsDrawnBefore, IsKept, IsMessageKept, IsPairKept, IsRowKey, IsSourceKept, IsWorldKept, WasDrawn, WhereDeclared, last_id, request_id, source_of}
+use Rattle.wef_machine.specs.Safe.{IsPairSafe, IsUntouched, WasSent, settings_of, subscription_at}
 use Rattle.wef_machine.specs.States.{Slot, Slots, State, slot_of, with_message, with_slot}
 use Rattle.wef_collector.specs.Forms.{AreFormed}
 use Rattle.wef_machine.specs.declared.messages.Message.{Message}
 use Rattle.wef_machine.specs.declared.messages.Message.TheVariants.{Ask, Offers, Events, Ack, Fault}
 use Rattle.wef_machine.proofs.Growing.{MessagesGrow, RowsGrow, SlotGrows, SourcesGrow, message_grows, same_messages, same_rows, same_sources, source_grows}
 use Rattle.wef_machine.proofs.Sent.{sent_before, sent_split}
-use Rattle.wef_machine.proofs.Takes.{SameViews, safe_alike, safe_longer, safe_untouched, untouched_alike}
+use Rattle.wef_machine.proofs.Takes.{SameRows, safe_alike, safe_longer, safe_untouched, untouched_alike}
 
 -- ---- declared sources
 
@@ -38,6 +39,11 @@ declared_is o slot P e holds = subst (λ (x : Option Slot). WhereDeclared x P) (
 pub declared_map : (o : Option Slot) (P Q : Slot → Type 0) → ((slot : Slot) → P slot → Q slot) → WhereDeclared o P → WhereDeclared o Q
 declared_map None P Q gives holds = holds
 declared_map (Some slot) P Q gives holds = gives slot holds
+
+-- what holds of what each value is mapped to holds of what a value was mapped to
+pub from_mapped : {X Y : Type 0} (f : X → Y) (o : Option X) (y : Y) (P : Y → Type 0) → option_map f o ≡ Some y → ((x : X) → o ≡ Some x → P (f x)) → P y
+from_mapped f None y P e gives = absurd (none-some y e)
+from_mapped f (Some x) y P e gives = subst P (same_Some (f x) y e) (gives x refl)
 
 tie : (r : Ordering) → is_eq r ≡ true → r ≡ Equal
 tie Less e = cc
@@ -66,7 +72,7 @@ slot_put sources s slot =
 -- ---- pairs
 
 untouched_channel : (rows : Rows) (u s c : List ℕ) (about : Subscription) (slot : Slot) (reads : Bool) → IsUntouched rows u s c → IsChannelKept rows u s c about slot reads
-untouched_channel rows u s c about slot true blank = safe_untouched rows u s c about (history slot.histories c) slot.capacity blank
+untouched_channel rows u s c about slot true blank = safe_untouched rows u s c (settings_of about) (history slot.histories c) slot.capacity blank
 untouched_channel rows u s c about slot false blank = blank
 
 -- where nothing is kept, all is well whoever is there
@@ -75,13 +81,13 @@ untouched_pair rows u s c None slot blank = blank
 untouched_pair rows u s c (Some about) None blank = blank
 untouched_pair rows u s c (Some about) (Some slot) blank = untouched_channel rows u s c about slot (is_in (channels_read about) c) blank
 
-alike_channel : (after before : Rows) (u s c : List ℕ) (about : Subscription) (slot : Slot) (reads : Bool) → SameViews after before u s c →
+alike_channel : (after before : Rows) (u s c : List ℕ) (about : Subscription) (slot : Slot) (reads : Bool) → SameRows after before u s c →
     IsChannelKept before u s c about slot reads → IsChannelKept after u s c about slot reads
-alike_channel after before u s c about slot true same kept = safe_alike after before u s c about (history slot.histories c) slot.capacity same kept
+alike_channel after before u s c about slot true same kept = safe_alike after before u s c 0 (settings_of about) (history slot.histories c) slot.capacity same kept
 alike_channel after before u s c about slot false same kept = untouched_alike after before u s c same kept
 
 -- rows with the same views keep the same
-pub alike_pair : (after before : Rows) (u s c : List ℕ) (about : Option Subscription) (slot : Option Slot) → SameViews after before u s c →
+pub alike_pair : (after before : Rows) (u s c : List ℕ) (about : Option Subscription) (slot : Option Slot) → SameRows after before u s c →
     IsPairKept before u s c about slot → IsPairKept after u s c about slot
 alike_pair after before u s c None slot same kept = untouched_alike after before u s c same kept
 alike_pair after before u s c (Some about) None same kept = untouched_alike after before u s c same kept
@@ -91,12 +97,12 @@ grown_channel : (rows : Rows) (u s c : List ℕ) (about : Subscription) (old new
     IsChannelKept rows u s c about old reads → IsChannelKept rows u s c about new reads
 grown_channel rows u s c about old new true grows kept =
     let longer = grows.histories.channels c in
-    subst (λ (capacity : ℕ). IsPairSafe rows u s c about (history new.histories c) capacity) grows.capacity
-    (safe_longer rows u s c about (history old.histories c) (history new.histories c) longer.0 old.capacity longer.1 kept)
+    subst (λ (capacity : ℕ). IsPairSafe rows u s c 0 (settings_of about) (history new.histories c) capacity) grows.capacity
+    (safe_longer rows u s c 0 (settings_of about) (history old.histories c) (history new.histories c) longer.0 old.capacity longer.1 kept)
 grown_channel rows u s c about old new false grows kept = kept
 
 -- a source that wrote more keeps what is kept of it well
-grown_pair : (rows : Rows) (u s c : List ℕ) (about : Option Subscription) (old new : Slot) → SlotGrows old new →
+pub grown_pair : (rows : Rows) (u s c : List ℕ) (about : Option Subscription) (old new : Slot) → SlotGrows old new →
     IsPairKept rows u s c about (Some old) → IsPairKept rows u s c about (Some new)
 grown_pair rows u s c None old new grows kept = kept
 grown_pair rows u s c (Some about) old new grows kept = grown_channel rows u s c about old new (is_in (channels_read about) c) grows kept
@@ -108,30 +114,38 @@ abbrev pub AreOne : List Message → Type 0
 AreOne messages = (m n : Message) (id : ℕ) → WasSent messages m → WasSent messages n → source_of m ≡ source_of n →
     request_id m ≡ Some id → request_id n ≡ Some id → m ≡ n
 
-requests_with : (messages : List Message) (n : Message) → AreOne messages →
-    ((m : Message) (id : ℕ) → WasSent messages m → source_of m ≡ source_of n → request_id m ≡ Some id → request_id n ≡ Some id → ⊥) →
-    AreOne (messages ++ n ∷ [])
-requests_with messages n one fresh a b id was_a was_b same e f =
-    elim (sent_split messages n a was_a) [
-      | inl old_a ↦ elim (sent_split messages n b was_b) [
-        | inl old_b ↦ one a b id old_a old_b same e f
-        | inr is_b ↦ absurd (fresh a id old_a (same ∙ ap source_of (sym is_b)) e (ap request_id is_b ∙ f))
-      ]
-      | inr is_a ↦ elim (sent_split messages n b was_b) [
-        | inl old_b ↦ absurd (fresh b id old_b (sym same ∙ ap source_of (sym is_a)) f (ap request_id is_a ∙ e))
-        | inr is_b ↦ sym is_a ∙ is_b
-      ]
-    ]
+below_itself : (n : ℕ) → n < n → ⊥
+below_itself n h = omega arith
+
+-- where later requests have greater ids, no two have the same
+pub are_one : (messages : List Message) → AreInOrder IsDrawnBefore messages → AreOne messages
+are_one [] order m n id was_m was_n same e f = absurd was_m
+are_one (x ∷ messages) order m n id (inl is_m) (inl is_n) same e f = sym is_m ∙ is_n
+are_one (x ∷ messages) order m n id (inl is_m) (inr was_n) same e f = absurd (below_itself id (order.0 n was_n id id (ap source_of is_m ∙ same) (ap request_id is_m ∙ e) f))
+are_one (x ∷ messages) order m n id (inr was_m) (inl is_n) same e f = absurd (below_itself id (order.0 m was_m id id (ap source_of is_n ∙ sym same) (ap request_id is_n ∙ f) e))
+are_one (x ∷ messages) order m n id (inr was_m) (inr was_n) same e f = are_one messages order.1 m n id was_m was_n same e f
+
+-- one more message, to which those before it are so related
+pub ordered_with : (IsBefore : Message → Message → Type 0) (messages : List Message) (n : Message) → AreInOrder IsBefore messages → ((m : Message) → WasSent messages m → IsBefore m n) →
+    AreInOrder IsBefore (messages ++ n ∷ [])
+ordered_with IsBefore [] n order before = (λ m was. absurd was, tt)
+ordered_with IsBefore (x ∷ messages) n order before = (
+  λ m was. elim (sent_split messages n m was) [
+    | inl old ↦ order.0 m old
+    | inr is ↦ subst (IsBefore x) is (before x (inl refl))
+  ],
+  ordered_with IsBefore messages n order.1 (λ m was. before m (inr was)),
+)
 
 -- a request that is kept has an id that its source drew
 drawn_before : (rows : Rows) (sources : Slots) (messages : List Message) (m : Message) (id : ℕ) → IsMessageKept rows sources messages m → request_id m ≡ Some id →
     WhereDeclared (finite.get sources (source_of m)) (λ slot. WasDrawn slot (Some id))
 drawn_before rows sources messages (Ask s given) id is e = subst (λ (i : Option ℕ). WhereDeclared (finite.get sources s) (λ slot. WasDrawn slot i)) e is
-drawn_before rows sources messages (Offers s relates offers) id is e = absurd (none-some id e)
+drawn_before rows sources messages (Offers s own relates offers) id is e = absurd (none-some id e)
 drawn_before rows sources messages (Events s delivery) id is e =
     declared_map (finite.get sources s) (λ slot. IsDelivery rows s slot delivery) (λ slot. WasDrawn slot (Some id)) (λ slot sent. subst (WasDrawn slot) e sent.drawn) is
-drawn_before rows sources messages (Ack s relates) id is e = absurd (none-some id e)
-drawn_before rows sources messages (Fault s relates fault) id is e = absurd (none-some id e)
+drawn_before rows sources messages (Ack s own relates) id is e = absurd (none-some id e)
+drawn_before rows sources messages (Fault s own relates fault) id is e = absurd (none-some id e)
 
 -- ---- the changes
 
@@ -140,7 +154,7 @@ pub kept_rows : (state : State) (rows : Rows) (foreign : List (List ℕ)) → Is
     ((u s c : List ℕ) → is_among foreign s ≡ false → IsPairKept rows u s c (subscription_at rows u) (slot_of state s)) →
     ((s : List ℕ) (slot : Slot) → slot_of state s ≡ Some slot → is_among foreign s ≡ false) →
     ((key : Key) (cell : Cell) → finite.get rows key ≡ Some cell → IsRowKey key) → AreFormed rows →
-    IsWorldKept rows foreign state.sources state.messages
+    IsWorldKept rows foreign state.sources state.messages state.moment
 kept_rows state rows foreign kept grows pairs apart keys formed = record {
   pairs = pairs;
   apart = apart;
@@ -151,6 +165,7 @@ kept_rows state rows foreign kept grows pairs apart keys formed = record {
       message_grows state.collector.rows rows state.sources state.sources state.messages state.messages m grows (same_sources state.sources) (same_messages state.messages)
       (kept.messages m was);
   requests = kept.requests;
+  soon = kept.soon;
 }
 
 -- A source is one that is further from now on, and messages are sent.
@@ -161,7 +176,7 @@ record IsSourceMove (state : State) (s : List ℕ) (slot : Slot) (messages : Lis
   pub source : IsSourceKept state.collector.rows messages s slot
   pub more : MessagesGrow state.messages messages
   pub new : (m : Message) → WasSent messages m → WasSent state.messages m ⊎ IsMessageKept state.collector.rows (finite.insert state.sources s slot) messages m
-  pub one : AreOne messages
+  pub order : AreInOrder IsDrawnBefore messages
 
 move_widens : (state : State) (s : List ℕ) (slot : Slot) → ((old : Slot) → slot_of state s ≡ Some old → SlotGrows old slot) → SourcesGrow state.sources (finite.insert state.sources s slot)
 move_widens state s slot wider r old e =
@@ -169,7 +184,7 @@ move_widens state s slot wider r old e =
     (same_sources state.sources r old e)
 
 kept_source : (state : State) (s : List ℕ) (slot : Slot) (messages : List Message) → IsKept state → IsSourceMove state s slot messages →
-    IsWorldKept state.collector.rows state.foreign (finite.insert state.sources s slot) messages
+    IsWorldKept state.collector.rows state.foreign (finite.insert state.sources s slot) messages state.moment
 kept_source state s slot messages kept move = record {
   pairs = λ u r c other.
       put_there state.sources s slot r (λ o. IsPairKept state.collector.rows u r c (subscription_at state.collector.rows u) o)
@@ -188,7 +203,8 @@ kept_source state s slot messages kept move = record {
         (move_widens state s slot move.wider) move.more (kept.messages m before)
     | inr is ↦ is
   ];
-  requests = move.one;
+  requests = move.order;
+  soon = kept.soon;
 }
 
 -- a source that is declared
@@ -202,7 +218,7 @@ kept_declared state s slot kept none apart source = kept_source state s slot sta
   source = source;
   more = same_messages state.messages;
   new = λ m was. inl was;
-  one = kept.requests;
+  order = kept.requests;
 })
   where
     blank : (u c : List ℕ) (about : Option Subscription) → IsPairKept state.collector.rows u s c about None → IsUntouched state.collector.rows u s c
@@ -220,17 +236,17 @@ kept_slot state s old new kept there grows source = kept_source state s new stat
   source = source;
   more = same_messages state.messages;
   new = λ m was. inl was;
-  one = kept.requests;
+  order = kept.requests;
 })
 
-past : (id last : ℕ) → id ≤ last → last < id → ⊥
-past id last e f = omega arith
+below_fresh : (first last id : ℕ) → first ≤ last → last < id → first < id
+below_fresh first last id h k = omega arith
 
 -- a declared source draws an id, and sends its request
 pub kept_draw : (state : State) (s : List ℕ) (old new : Slot) (m : Message) (id : ℕ) → IsKept state → slot_of state s ≡ Some old → SlotGrows old new →
     IsSourceKept state.collector.rows (state.messages ++ m ∷ []) s new →
     IsMessageKept state.collector.rows (finite.insert state.sources s new) (state.messages ++ m ∷ []) m →
-    source_of m ≡ s → request_id m ≡ Some id → last_id old old.end < id → IsKept (with_message (with_slot state s new) m)
+    source_of m ≡ s → request_id m ≡ Some id → last_id old old.place.memory < id → IsKept (with_message (with_slot state s new) m)
 kept_draw state s old new m id kept there grows source is from drawn fresh = kept_source state s new (state.messages ++ m ∷ []) kept (record {
   apart = kept.apart s old there;
   pairs = λ u c. grown_pair state.collector.rows u s c (subscription_at state.collector.rows u) old new grows
@@ -242,11 +258,11 @@ kept_draw state s old new m id kept there grows source is from drawn fresh = kep
     | inl before ↦ inl before
     | inr e ↦ inr (subst (IsMessageKept state.collector.rows (finite.insert state.sources s new) (state.messages ++ m ∷ [])) e is)
   ];
-  one = requests_with state.messages m kept.requests (λ n given was same e f.
-      let at : given ≡ id = same_Some given id (sym f ∙ drawn) in
-      let before = declared_at (finite.get state.sources (source_of n)) old (λ slot. WasDrawn slot (Some given))
-      (ap (finite.get state.sources) (same ∙ from) ∙ there) (drawn_before state.collector.rows state.sources state.messages n given (kept.messages n was) e) in
-      past id (last_id old old.end) (subst (λ (k : ℕ). k ≤ last_id old old.end) at before) fresh);
+  order = ordered_with IsDrawnBefore state.messages m kept.requests (λ n was first second same e f.
+      let at : second ≡ id = same_Some second id (sym f ∙ drawn) in
+      let before = declared_at (finite.get state.sources (source_of n)) old (λ slot. WasDrawn slot (Some first))
+      (ap (finite.get state.sources) (same ∙ from) ∙ there) (drawn_before state.collector.rows state.sources state.messages n first (kept.messages n was) e) in
+      subst (λ (k : ℕ). first < k) (sym at) (below_fresh first (last_id old old.place.memory) id before fresh));
 })
 
 none_is : (o : Option ℕ) (id : ℕ) → o ≡ None → o ≡ Some id → ⊥
@@ -267,5 +283,6 @@ kept_reply state m kept none is = record {
         (same_sources state.sources) (sent_before state.messages m) (kept.messages n before)
     | inr e ↦ subst (IsMessageKept state.collector.rows state.sources (state.messages ++ m ∷ [])) e is
   ];
-  requests = requests_with state.messages m kept.requests (λ n id was same e f. none_is (request_id m) id none f);
+  requests = ordered_with IsDrawnBefore state.messages m kept.requests (λ n was first second same e f. absurd (none_is (request_id m) second none f));
+  soon = kept.soon;
 }

@@ -1,5 +1,5 @@
 -- The rows of a section by number: a list in order that answers as the rows do.
-use Rattle.std.proofs.Common.{◌≡◌, ℕ, ◌<◌, ◌≤◌, ◌==◌, Bool, true, false, ◌&&◌, cond, List, [], ◌∷◌, ◌++◌, map, arith, nat_le, refl, ap, sym, ◌∙◌, subst, Option, Some, None, nat_lt, nat_eq}
+use Rattle.std.proofs.Common.{◌≡◌, ℕ, ◌<◌, ◌≤◌, ◌==◌, Bool, true, false, ◌&&◌, cond, List, [], ◌∷◌, ◌++◌, length, map, arith, nat_le, refl, ap, sym, ◌∙◌, subst, Option, Some, None, nat_lt, nat_eq}
 use Rattle.std.specs.Cmp.{nat_cmp_total, nat_eq_equiv, tied_itself, unsigned_ties}
 use Rattle.std.specs.Cmp.Lexicographic.{nat_list_cmp_total, nat_list_eq_equiv, pointwise, bytes_decides}
 use Rattle.std.specs.FinMap as finite
@@ -16,6 +16,7 @@ use Rattle.wef_collector.specs.Keys.{key}
 use Rattle.wef_keeper.specs.Rows.{Rows, is_after, key_cmp, key_cmp_exact, row_of}
 use Rattle.wef_keeper.specs.Sections.{is_under, rows_under}
 use Rattle.wef_keeper.specs.declared.keys.Cell.{Cell}
+use Rattle.wef_keeper.specs.declared.keys.Depth.{Depth}
 use Rattle.wef_keeper.specs.declared.keys.Depth.TheVariants.{Channel}
 use Rattle.wef_keeper.specs.declared.keys.Key.{Key}
 use Rattle.wef_keeper.specs.declared.keys.Row.{Row}
@@ -210,3 +211,17 @@ same_section k u s c m after before same =
     let lists = same_numbers (numbered k u s c m after) (numbered k u s c m before) (numbered_sorted k u s c m after) (numbered_sorted k u s c m before)
     (λ n. find_numbered k u s c m after n ∙ ap (λ (cell : Option Cell). cond (nat_lt m n) cell None) (same n) ∙ sym (find_numbered k u s c m before n)) in
     rows_numbered k u s c m after ∙ ap (map (own_row k u s c)) lists ∙ sym (rows_numbered k u s c m before)
+
+-- ---- no rows
+
+no_items : {X : Type 0} (xs : List X) → length xs ≡ 0 → xs ≡ []
+no_items [] e = refl
+no_items (x ∷ xs) e = absurd (omega arith)
+
+no_entries : finite.entries {K = Key} {X = Cell} {R = key_cmp} finite.empty ≡ []
+no_entries = no_items _ (sym (finite.len-entries {K = Key} {X = Cell} {R = key_cmp} finite.empty) ∙ finite.len-empty key_cmp Cell)
+
+-- no row stands where there is none
+pub no_rows : (depth : Depth) (after : Key) → rows_under depth after finite.empty ≡ []
+no_rows depth after =
+    ap (λ (entries : List (Key × Cell)). filter (λ (row : Row). is_under depth after row.key) (map row_of (filter (λ (e : Key × Cell). is_after after e.0) entries))) no_entries

@@ -31,6 +31,7 @@ use Rattle.wef_collector.specs.Standing.{standing}
 use Rattle.wef_collector.specs.declared.listing.Listed.{Listed}
 use Rattle.wef_collector.specs.declared.standings.Standing.TheVariants.{Ended, Live}
 use Rattle.wef_eventing.proofs.AddressesBack.{addresses_read_back}
+use Rattle.wef_eventing.specs.Addresses.{delivery_address, source_in, subscription_in}
 use Rattle.wef_eventing.specs.declared.bodies.Offer.{Offer}
 use Rattle.wef_keeper.specs.Rows.{Rows, cell_of_row, is_after, key_cmp, key_cmp_total, row_of, rows_after}
 use Rattle.wef_keeper.specs.Sections.{is_under, rows_under}
@@ -200,35 +201,49 @@ all_listed rows keys =
 
 -- ---- offers
 
-offer_is : (rows : Rows) (s host : List ℕ) → AreRowKeys rows → is_source s ≡ true → (l : Listed) (offer : Offer) → IsListed rows l → offer_of rows s host l ≡ Some offer →
-    IsOffered rows s offer.subscribe
-offer_is rows s host keys good l offer is e = by_test (is_offered l) e
+-- what holds of the offer of each listed subscription holds of all that is offered to a source
+all_made : (rows : Rows) (s host : List ℕ) (P : Offer → Type 0) → AreRowKeys rows → ((l : Listed) → IsListed rows l → P (offer_made rows s host l.subscription)) → AllByRecursion P (offers rows s host)
+all_made rows s host P keys holds =
+    all_filter_map (IsListed rows) P (offer_of rows s host) (λ l offer is e. by_test l offer is (is_offered l) e) (listed rows) (all_listed rows keys)
   where
-    own : IsOffered rows s (offer_made rows s host l.subscription).subscribe
-    own =
-        let about = l.subscription in
-        let name = reads_subscription about.name is.name in
-        let source = reads_source s good in
-        let back = addresses_read_back host about.name s name.0 name.1 source.0 source.1 in
-        record {
-          u = about.name;
-          terms = record {
-            about = about;
-            known = is.known;
-            to_subscription = back.0;
-            to_source = back.1;
-            query_is = refl;
-            max_items_is = refl;
-            max_bytes_is = refl;
-          };
-          from = bookmark_behind rows about.name s keys;
-        }
+    by_test : (l : Listed) (offer : Offer) → IsListed rows l → (t : Bool) → cond t (Some (offer_made rows s host l.subscription)) None ≡ Some offer → P offer
+    by_test l offer is true made = subst P (same_Some (offer_made rows s host l.subscription) offer made) (holds l is)
+    by_test l offer is false made = absurd (none-some offer made)
 
-    by_test : (t : Bool) → cond t (Some (offer_made rows s host l.subscription)) None ≡ Some offer → IsOffered rows s offer.subscribe
-    by_test true made = subst (λ (o : Offer). IsOffered rows s o.subscribe) (same_Some (offer_made rows s host l.subscription) offer made) own
-    by_test false made = absurd (none-some offer made)
+-- the address of an offer leads to its subscription and to the source
+abbrev LeadsBack : List ℕ → List ℕ → List ℕ → Type 0
+LeadsBack host u s = (subscription_in (delivery_address host u s) ≡ Some u) × (source_in (delivery_address host u s) ≡ Some s)
+
+leads_back : (rows : Rows) (s host : List ℕ) → is_source s ≡ true → (l : Listed) → IsListed rows l → LeadsBack host l.subscription.name s
+leads_back rows s host good l is =
+    let name = reads_subscription l.subscription.name is.name in
+    let source = reads_source s good in
+    let back = addresses_read_back host l.subscription.name s name.0 name.1 source.0 source.1 in
+    (back.0, back.1)
 
 -- all that is offered to a source is offered well
 pub all_offers : (rows : Rows) (s host : List ℕ) → AreRowKeys rows → is_source s ≡ true → AllByRecursion (λ (offer : Offer). IsOffered rows s offer.subscribe) (offers rows s host)
-all_offers rows s host keys good =
-    all_filter_map (IsListed rows) (λ (offer : Offer). IsOffered rows s offer.subscribe) (offer_of rows s host) (offer_is rows s host keys good) (listed rows) (all_listed rows keys)
+all_offers rows s host keys good = all_made rows s host (λ (offer : Offer). IsOffered rows s offer.subscribe) keys (λ l is.
+    let back = leads_back rows s host good l is in
+    record {
+      u = l.subscription.name;
+      terms = record {
+        about = l.subscription;
+        known = is.known;
+        to_subscription = back.0;
+        to_source = back.1;
+        query_is = refl;
+        max_items_is = refl;
+        max_bytes_is = refl;
+      };
+      from = bookmark_behind rows l.subscription.name s keys;
+    })
+
+-- an offer begins at the bookmark that the rows have
+abbrev pub BeginsAtRows : Rows → List ℕ → Offer → Type 0
+BeginsAtRows rows s offer = (u : List ℕ) → subscription_in offer.subscribe.notify_to ≡ Some u → offer.subscribe.from ≡ bookmark_of rows u s
+
+pub all_begin : (rows : Rows) (s host : List ℕ) → AreRowKeys rows → is_source s ≡ true → AllByRecursion (BeginsAtRows rows s) (offers rows s host)
+all_begin rows s host keys good = all_made rows s host (BeginsAtRows rows s) keys (λ l is u leads.
+    let back = leads_back rows s host good l is in
+    ap (λ (v : List ℕ). bookmark_of rows v s) (same_Some l.subscription.name u (sym back.0 ∙ leads)))

@@ -64,12 +64,13 @@ in_none_past t (r ∷ rs) n h p = let end = h.0 in neither (nat_le r.0 n) (nat_l
 
 -- ---- ranges in order
 
+-- ranges above a number are above a lower one
+pub rising_above : (j k : ℕ) (rs : List Range) → j ≤ k → AreRising k rs → AreRising j rs
+rising_above j k [] le h = tt
+rising_above j k (r ∷ rs) le h = let first = h.0 in (omega arith, h.1, h.2)
+
 pub rising-append : (k b : ℕ) (rs ss : List Range) → k ≤ b → AreRising k rs → EndBy b rs → AreRising b ss → AreRising k (rs ++ ss)
-rising-append k b [] ss le rising ends after = lower k b ss le after
-  where
-    lower : (j k : ℕ) (rs : List Range) → j ≤ k → AreRising k rs → AreRising j rs
-    lower j k [] le h = tt
-    lower j k (r ∷ rs) le h = let first = h.0 in (omega arith, h.1, h.2)
+rising-append k b [] ss le rising ends after = rising_above k b ss le after
 rising-append k b (r ∷ rs) ss le rising ends after = (rising.0, rising.1, rising-append r.1 b rs ss ends.0 rising.2 ends.1 after)
 
 pub ends-append : (t : ℕ) (rs ss : List Range) → EndBy t rs → EndBy t ss → EndBy t (rs ++ ss)

@@ -29,7 +29,7 @@ use Rattle.wef_machine.specs.Kept.{IsBehind, IsRowKey}
 use Rattle.wef_machine.specs.Safe.{about_of, subscription_at}
 use Rattle.wef_machine.proofs.Growing.{RowsGrow}
 use Rattle.wef_machine.proofs.Spared.{IsMissed, spared}
-use Rattle.wef_machine.proofs.Takes.{adding_spares, booting_spares, standing_by_booting, bookmark_moved, ending_spares, others_by_adding, others_by_ending, standing_by_ending, standing_by_taking}
+use Rattle.wef_machine.proofs.Takes.{adding_spares, bookmark_alike, booting_spares, kind_apart, standing_by_booting, bookmark_moved, ending_spares, others_by_adding, others_by_ending, standing_by_ending, standing_by_taking}
 
 abbrev pub AreRowKeys : Rows → Type 0
 AreRowKeys rows = (key : Key) (cell : Cell) → finite.get rows key ≡ Some cell → IsRowKey key
@@ -46,9 +46,6 @@ taking_grows rows u s channels batch now = record {
   bookmarks = λ v r c. bookmark_never_falls rows u s channels ((batch, now) ∷ []) v r c;
 }
 
-other_kind : (k q : Key) → (k.kind ≡ q.kind → ⊥) → hits k q ≡ false
-other_kind k q other = refuted _ (λ hit. other (ap (λ (x : Key). x.kind) (one_key k q hit)))
-
 other_number : (k q : Key) → (k.kind ≡ q.kind → k.number ≡ q.number → ⊥) → hits k q ≡ false
 other_number k q other = refuted _ (λ hit. other (ap (λ (x : Key). x.kind) (one_key k q hit)) (ap (λ (x : Key). x.number) (one_key k q hit)))
 
@@ -59,15 +56,15 @@ too_great n kind small great e = omega arith
 missed : (u s d : List ℕ) (q : Key) → q.kind ≤ 2 → (q.kind ≡ 2 → q.number ≡ 0 → ⊥) → IsMissed u s d q
 missed u s d q small numbered = record {
   bookmark = other_number (bookmark_key u s d) q (λ kind number. numbered (sym kind) (sym number));
-  held = λ n. other_kind (held_key u s d n) q (too_great 3 q.kind small (omega arith));
-  marks = λ n. other_kind (mark_key u s d n) q (too_great 4 q.kind small (omega arith));
-  loose = λ n. other_kind (loose_key u s d n) q (too_great 5 q.kind small (omega arith));
+  held = λ n. kind_apart (held_key u s d n) q (too_great 3 q.kind small (omega arith));
+  marks = λ n. kind_apart (mark_key u s d n) q (too_great 4 q.kind small (omega arith));
+  loose = λ n. kind_apart (loose_key u s d n) q (too_great 5 q.kind small (omega arith));
 }
 
 same_by_taking : (rows : Rows) (u s : List ℕ) (channels : List (List ℕ)) (batch : Batch) (now : ℕ) (q : Key) → q.kind ≤ 2 → (q.kind ≡ 2 → q.number ≡ 0 → ⊥) →
     finite.get (taken rows u s channels batch now) q ≡ finite.get rows q
 same_by_taking rows u s channels batch now q small numbered =
-    spared rows u s channels batch now q (λ d listed. missed u s d q small numbered) (other_kind (heard_key u s) q (too_great 6 q.kind small (omega arith)))
+    spared rows u s channels batch now q (λ d listed. missed u s d q small numbered) (kind_apart (heard_key u s) q (too_great 6 q.kind small (omega arith)))
 
 number_or : (n : ℕ) → (n == 0 ≡ false → n ≡ 0) → n ≡ 0
 number_or n other = by_test (n == 0) refl
@@ -146,7 +143,7 @@ adding_grows rows about none = record {
   known = λ v other e.
       subscription_by_adding rows about v
       (λ is. none-some other (sym (unknown rows about.name none) ∙ ap (subscription_at rows) is ∙ e)) ∙ e;
-  bookmarks = λ u s c. let same_number = (adding_spares rows about u s c).bookmark in omega arith;
+  bookmarks = λ u s c. let same_number = bookmark_alike (added_rows rows about) rows u s c (adding_spares rows about u s c) in omega arith;
 }
 
 pub subscription_by_ending : (rows : Rows) (u : List ℕ) (about : Subscription) (v : List ℕ) → standing rows u ≡ is.Live about →
@@ -162,7 +159,7 @@ subscription_by_ending rows u about v live = by_name (same u v) refl
 pub ending_grows : (rows : Rows) (u : List ℕ) (about : Subscription) → standing rows u ≡ is.Live about → RowsGrow rows (ended_rows rows u)
 ending_grows rows u about live = record {
   known = λ v other e. subscription_by_ending rows u about v live ∙ e;
-  bookmarks = λ v s c. let same_number = (ending_spares rows u v s c).bookmark in omega arith;
+  bookmarks = λ v s c. let same_number = bookmark_alike (ended_rows rows u) rows v s c (ending_spares rows u v s c) in omega arith;
 }
 
 -- the name of a subscription that is there is a good one
@@ -191,5 +188,5 @@ subscription_by_booting rows cell v = ap about_of (standing_by_booting rows cell
 pub booting_grows : (rows : Rows) (cell : Cell) → RowsGrow rows (finite.insert rows boot_key cell)
 booting_grows rows cell = record {
   known = λ v about e. subscription_by_booting rows cell v ∙ e;
-  bookmarks = λ v s c. let same_number = (booting_spares rows cell v s c).bookmark in omega arith;
+  bookmarks = λ v s c. let same_number = bookmark_alike (finite.insert rows boot_key cell) rows v s c (booting_spares rows cell v s c) in omega arith;
 }

@@ -10,9 +10,7 @@ use Rattle.wef_batch.specs.declared.items.Item.{Item}
 use Rattle.wef_batch.specs.declared.items.Item.TheVariants as item
 use Rattle.wef_bookmark.specs.Order.{number_at}
 use Rattle.wef_event.specs.Events.{Event, is_event}
-use Rattle.wef_event.specs.PlainEvent.{PlainEventsAreRead}
-use Rattle.wef_event.specs.Unnumbered.{plain_numbered, plain_numbered_text}
-use Rattle.wef_event.specs.declared.unnumbered.PlainEvent.{PlainEvent}
+use Rattle.wef_event.specs.Numbering.{NumberedEventsAreRead, numbered, numbered_text, text_or_nothing}
 use Rattle.wef_keeper.specs.Rows.{Rows}
 use Rattle.wef_query.specs.Selected.{is_selected}
 use Rattle.wef_query.specs.declared.QueryList.{QueryList}
@@ -83,21 +81,26 @@ written_events all c text events last d =
 
 -- ---- a write
 
-made_is : (b : Bool) (event : Event) → is_none (cond b None (Some event)) ≡ false → ◌≡◌ {A = Option Event} (cond b None (Some event)) (Some event)
-made_is true event e = cc
-made_is false event e = refl
-
 below : (n : ℕ) → nat_le 9223372036854775807 n ≡ false → n < 9223372036854775807
 below n e = grind (arith, nat_tests, e)
 
+-- the event that an event with a number is
+made : (event : Event) (n : ℕ) (o : Option Event) → is_none o ≡ false → ((new : Event) → o ≡ Some new → (is_event new ≡ true) × (new.channel ≡ event.channel) × (new.number ≡ n)) →
+    IsText event.channel n (text_or_nothing o)
+made event n None some read = absurd (none_there some)
+  where
+    none_there : true ≡ false → ⊥
+    none_there e = cc
+made event n (Some new) some read =
+    let says = read new refl in
+    subst (λ (x : List ℕ × ℕ). IsText x.0 x.1 new.text) (λ i. (says.1 i, says.2 i)) says.0
+
 -- an event with the next number is the one that its text says
-pub numbered_said : PlainEventsAreRead → (event : PlainEvent) (last : ℕ) → IsWritable event → nat_le 9223372036854775807 last ≡ false → is_none (plain_numbered event (last + 1)) ≡ false
-    → IsText event.channel (last + 1) (plain_numbered_text event (last + 1))
+pub numbered_said : NumberedEventsAreRead → (event : Event) (last : ℕ) → IsWritable event → nat_le 9223372036854775807 last ≡ false → is_none (numbered event (last + 1)) ≡ false
+    → IsText event.channel (last + 1) (numbered_text event (last + 1))
 numbered_said read event last good room fits =
-    let made : Event = record { channel = event.channel; number = last + 1; text = plain_numbered_text event (last + 1) } in
     let within = below last room in
-    read event.channel event.word (last + 1) event.id event.level made good.named good.channel good.word event.characters (omega arith) (omega arith)
-    (made_is (nat_lt 1048576 (length (plain_numbered_text event (last + 1)))) made fits)
+    made event (last + 1) (numbered event (last + 1)) fits (λ new e. read event new good.node (last + 1) good.is (omega arith) (omega arith) e)
 
 -- ---- what is built
 

@@ -3,7 +3,7 @@ use Rattle.std.proofs.Common.{◌≡◌, ℕ, zero, suc, ◌-◌, ◌==◌, Bool
 use Rattle.std.specs.Prelude.{Option, Some, None, slice_get, ◌⊎◌}
 use Rattle.std.specs.List.{AllByRecursion, cons_option, filter_map}
 use Rattle.wef_machine.specs.Deliveries.{message_at}
-use Rattle.wef_machine.specs.Kept.{WasSent}
+use Rattle.wef_machine.specs.Safe.{WasSent}
 use Rattle.wef_machine.specs.States.{State}
 use Rattle.wef_machine.specs.declared.messages.Message.{Message}
 

@@ -21,7 +21,8 @@ use Rattle.wef_source.specs.Sessions.{acknowledged, first_where, is_outstanding,
 use Rattle.wef_source.specs.declared.messages.Delivery.{Delivery}
 use Rattle.wef_source.specs.declared.sessions.Outstanding.{Outstanding}
 use Rattle.wef_source.specs.declared.sessions.Session.{Session}
-use Rattle.wef_machine.specs.Kept.{AreTerms, IsAcknowledged, IsBehind, IsOffered, IsServed, WaitsFor}
+use Rattle.wef_machine.specs.Kept.{AreTerms, IsAckKept, IsBehind, IsOffered, IsServed, WaitsFor}
+use Rattle.wef_machine.specs.Safe.{IsAcknowledged, WasSent}
 use Rattle.wef_machine.specs.declared.messages.Message.{Message}
 use Rattle.wef_machine.specs.declared.messages.Message.TheVariants.{Events}
 use Rattle.wef_machine.proofs.Moves.{AreOne}
@@ -52,7 +53,7 @@ all_placed P Less new s ss rest is_new is all all' = (is_new, (is, all))
 all_placed P Equal new s ss rest is_new is all all' = (is_new, all)
 all_placed P Greater new s ss rest is_new is all all' = (is, all')
 
-all_with_session : (P : Session → Type 0) (ss : List Session) (new : Session) → P new → AllByRecursion P ss → AllByRecursion P (with_session ss new)
+pub all_with_session : (P : Session → Type 0) (ss : List Session) (new : Session) → P new → AllByRecursion P ss → AllByRecursion P (with_session ss new)
 all_with_session P [] new is_new all = (is_new, tt)
 all_with_session P (s ∷ ss) new is_new all =
     all_placed P (slice_cmp nat_cmp new.name s.name) new s ss (with_session ss new) is_new all.0 all.1 (all_with_session P ss new is_new all.1)
@@ -95,7 +96,7 @@ raised_by_none b c q = raised_number b c 0 q ∙ either (same q c) (number_at b 
     either true n = omega arith
     either false n = refl
 
-with_channels_number : (b : Marks) (cs : List (List ℕ)) (q : List ℕ) → number_at (with_channels b cs) q ≡ number_at b q
+pub with_channels_number : (b : Marks) (cs : List (List ℕ)) (q : List ℕ) → number_at (with_channels b cs) q ≡ number_at b q
 with_channels_number b [] q = refl
 with_channels_number b (c ∷ cs) q = with_channels_number (raised b c 0) cs q ∙ raised_by_none b c q
 
@@ -130,7 +131,7 @@ all_offered rows messages s now ss (offer ∷ offers) are all =
 pub settled_served : (rows : Rows) (messages : List Message) (s : List ℕ) (session : Session) → IsServed rows messages s session → IsServed rows messages s (settled session)
 settled_served rows messages s session served = record { terms = served.terms; positions = served.positions; outstanding = tt }
 
-equal_numbers : (a b : ℕ) → a == b ≡ true → a ≡ b
+pub equal_numbers : (a b : ℕ) → a == b ≡ true → a ≡ b
 equal_numbers a b e = grind (arith, nat_tests, e)
 
 one_delivery : (s : List ℕ) (a b : Delivery) → ◌≡◌ {A = Message} (Events s a) (Events s b) → a ≡ b
@@ -146,25 +147,31 @@ joined_behind rows u s a b behind more c =
     let second = more c in
     omega arith
 
+-- the delivery that a session waits for is the one that an acknowledgement of its id is for
+pub acknowledged_delivery : (rows : Rows) (messages : List Message) (s : List ℕ) (relates : MessageId) (id own : ℕ) (delivery : Delivery) → AreOne messages → (is : IsAcknowledged rows messages s relates) →
+    WasSent messages (Events s delivery) → delivery.id.value ≡ Some own → own ≡ id → relates.value ≡ Some id → delivery ≡ is.delivery
+acknowledged_delivery rows messages s relates id own delivery one is was drawn same at =
+    one_delivery s delivery is.delivery
+    (one (Events s delivery) (Events s is.delivery) id was is.was_sent refl (drawn ∙ ap Some same) (ap (λ (i : MessageId). i.value) (sym is.id) ∙ at))
+
 -- an acknowledgement of what a session waits for moves it no further than what is kept
 pub acknowledged_served : (rows : Rows) (messages : List Message) (s : List ℕ) (relates : MessageId) (id : ℕ) (session : Session) → AreOne messages →
-    IsAcknowledged rows messages s relates → relates.value ≡ Some id → waits_for id session ≡ true → IsServed rows messages s session →
+    IsAckKept rows messages s relates → relates.value ≡ Some id → waits_for id session ≡ true → IsServed rows messages s session →
     IsServed rows messages s (acknowledged session)
-acknowledged_served rows messages s relates id session one is at waits served = by_outstanding session.outstanding waits served.outstanding
+acknowledged_served rows messages s relates id session one kept at waits served = by_outstanding session.outstanding waits served.outstanding
   where
     by_outstanding : (o : Option Outstanding) → is_outstanding id o ≡ true → WaitsFor messages s session.notify_to o → IsServed rows messages s (moved_by o session)
     by_outstanding None passes waited = absurd (false_true passes)
     by_outstanding (Some outstanding) passes waited =
+        let is = kept.is in
         let own : outstanding.id ≡ id = equal_numbers outstanding.id id passes in
-        let same_message = one (Events s waited.0) (Events s is.delivery) id waited.1 is.was_sent refl (waited.2 ∙ ap Some own)
-        (ap (λ (i : MessageId). i.value) (sym is.id) ∙ at) in
-        let delivery : waited.0 ≡ is.delivery = one_delivery s waited.0 is.delivery same_message in
+        let delivery : waited.0 ≡ is.delivery = acknowledged_delivery rows messages s relates id outstanding.id waited.0 one is waited.1 waited.2 own at in
         let leads = ap (λ (d : Delivery). subscription_in d.notify_to) (sym delivery) ∙ ap subscription_in waited.3 ∙ served.terms.to_subscription in
         let to : is.delivery.batch.to ≡ outstanding.to = ap (λ (d : Delivery). d.batch.to) (sym delivery) ∙ sym waited.4 in
         let path : is.u ≡ session.name = same_Some is.u session.name (sym is.to_subscription ∙ leads) in
         record {
           terms = served.terms;
           positions = joined_behind rows session.name s session.positions outstanding.to served.positions
-              (subst (λ (x : List ℕ × Marks). IsBehind rows x.0 s x.1) (λ i. (path i, to i)) is.behind);
+              (subst (λ (x : List ℕ × Marks). IsBehind rows x.0 s x.1) (λ i. (path i, to i)) kept.behind);
           outstanding = tt;
         }

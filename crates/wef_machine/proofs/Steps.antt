@@ -1,39 +1,36 @@
 -- Every step of a good schedule keeps what is kept, and what is kept is safe.
-use Rattle.std.proofs.Common.{◌≡◌, ℕ, ◌≤◌, Bool, true, false, not, ◌&&◌, List, [], ◌∷◌, length, nat_le, refl, ap, sym, ◌∙◌, subst, arith}
+use Rattle.std.proofs.Common.{◌≡◌, ℕ, ◌≤◌, Bool, true, false, not, ◌&&◌, List, [], ◌∷◌, nat_le, refl, ap, sym, ◌∙◌, subst, arith}
 use Rattle.std.proofs.lemmas.Option.{none-some}
 use Rattle.std.proofs.lemmas.Bool.{and_parts}
 use Rattle.std.proofs.lemmas.Bool.Decides.{nat_tests}
-use Rattle.std.specs.Prelude.{Option, Some, None, map, unwrap_or}
+use Rattle.std.specs.Prelude.{Option, Some, None, unwrap_or}
 use Rattle.std.specs.Cmp.Lexicographic.{slice_cmp}
 use Rattle.std.specs.FinMap as finite
-use Rattle.std.specs.List.{AllByRecursion, filter}
+use Rattle.std.specs.List.{AllByRecursion}
 use Rattle.std.specs.Option.{option_map}
 use Rattle.std.specs.Ordering.{nat_cmp}
 use Rattle.wef_batch.specs.WellFormed.{is_in}
 use Rattle.wef_collector.specs.Answers.{channels_read}
-use Rattle.wef_collector.specs.Held.{event_of_row}
-use Rattle.wef_collector.specs.Keys.{bookmark_key, held_key, loose_key, mark_key, subscription_key}
+use Rattle.wef_collector.specs.Keys.{subscription_key}
 use Rattle.wef_collector.specs.Offers.{offers}
 use Rattle.wef_collector.specs.Standing.{standing_of}
+use Rattle.wef_event.specs.Unnumbered.{new_event}
 use Rattle.wef_eventing.specs.declared.subscriptions.Subscription.{Subscription}
-use Rattle.wef_keeper.specs.Rows.{is_after, key_cmp, row_of}
-use Rattle.wef_keeper.specs.Sections.{is_under, rows_under}
+use Rattle.wef_keeper.specs.Rows.{key_cmp}
 use Rattle.wef_keeper.specs.declared.keys.Cell.{Cell}
-use Rattle.wef_keeper.specs.declared.keys.Depth.{Depth}
-use Rattle.wef_keeper.specs.declared.keys.Depth.TheVariants.{Channel}
-use Rattle.wef_keeper.specs.declared.keys.Key.{Key}
-use Rattle.wef_keeper.specs.declared.keys.Row.{Row}
 use Rattle.wef_replay.specs.Good.{are_all, are_limits, is_among, is_between, is_line, is_no_collector, is_source, is_subscription}
 use Rattle.wef_replay.specs.declared.lines.Line.{Line}
 use Rattle.wef_replay.specs.declared.lines.Line.TheVariants.{Subscribe, End, Batch, Source, Write, Ask, Poll, Deliver, Back, Lost, Crash, Fail, Stop, Calm, Show, Print}
 use Rattle.wef_replay.specs.declared.lines.EndName.{EndName}
 use Rattle.wef_replay.specs.declared.lines.EndName.TheVariants as ends
+use Rattle.wef_source_log.specs.Histories.{history}
 use Rattle.wef_source_log.specs.Keys.{boot_key}
 use Rattle.wef_source_log.specs.Windows.{IsWindow, boot_of}
+use Rattle.wef_machine.specs.Collecting.{reply_id}
 use Rattle.wef_machine.specs.Deliveries.{deliver_message, deliver_step, events_at, message_at, number_back, offers_at, taken_by}
-use Rattle.wef_machine.specs.Kept.{IsChannelKept, IsDelivery, IsKept, IsPairKept, WasDrawn, WasSent, WhereDeclared}
-use Rattle.wef_machine.specs.Laws.{KeptIsSafe, SchedulesAreKept, SchedulesAreSafe, StartIsKept, StepsKeep}
-use Rattle.wef_machine.specs.Safe.{IsSafe, IsUntouched, about_of, range_of_row, subscription_at}
+use Rattle.wef_machine.specs.Kept.{IsChannelKept, IsDelivery, IsKept, IsPairKept, WasDrawn, WhereDeclared}
+use Rattle.wef_machine.specs.Laws.{IsStateSafe, KeptIsSafe, SchedulesAreKept, SchedulesAreSafe, StartIsKept, StepsKeep, written_by}
+use Rattle.wef_machine.specs.Safe.{IsPairSafe, IsUntouched, WasSent, Written, about_of, settings_of, subscription_at}
 use Rattle.wef_machine.specs.Sources.{declared_slot}
 use Rattle.wef_machine.specs.States.{Slot, State, declared_names, host, slot_of, start, with_foreign, with_slot}
 use Rattle.wef_machine.specs.Steps.{AreAdmitted, arm_step, batch_at, crash_step, end_at, states_from, step, subscribe_at, subscription_of, unchanged}
@@ -43,33 +40,17 @@ use Rattle.wef_machine.specs.declared.messages.Message.TheVariants as sent
 use Rattle.wef_machine.proofs.CollectorSteps.{at_collector_keeps, batch_keeps, end_keeps, events_keep, foreign_kept, is_foreign, subscribe_keeps}
 use Rattle.wef_machine.proofs.GoodLines.{all_events, names_source, sound_batch, writable}
 use Rattle.wef_machine.proofs.Lower.{Lower}
-use Rattle.wef_machine.proofs.Moves.{kept_declared, kept_reply}
+use Rattle.wef_machine.proofs.Moves.{from_mapped, kept_declared, kept_reply}
 use Rattle.wef_machine.proofs.Names.{undeclared}
 use Rattle.wef_machine.proofs.Offering.{all_offers}
 use Rattle.wef_machine.proofs.Sent.{all_map, sent_by_number}
 use Rattle.wef_machine.proofs.SaidEvents.{no_events}
-use Rattle.wef_machine.proofs.SourceSteps.{ack_keeps, ask_keeps, crash_keeps, fault_keeps, lost_keeps, offers_keep, poll_keeps, write_keeps}
+use Rattle.wef_machine.proofs.SourceSteps.{ack_keeps, arm_keeps, ask_keeps, calm_keeps, crash_keeps, fault_keeps, lost_keeps, offers_keep, poll_keeps, write_keeps}
 
 -- ---- a world in which nothing has happened
 
-no_items : {X : Type 0} (xs : List X) → length xs ≡ 0 → xs ≡ []
-no_items [] e = refl
-no_items (x ∷ xs) e = absurd (omega arith)
-
-no_entries : finite.entries {K = Key} {X = Cell} {R = key_cmp} finite.empty ≡ []
-no_entries = no_items _ (sym (finite.len-entries {K = Key} {X = Cell} {R = key_cmp} finite.empty) ∙ finite.len-empty key_cmp Cell)
-
-no_rows : (depth : Depth) (after : Key) → rows_under depth after finite.empty ≡ []
-no_rows depth after =
-    ap (λ (entries : List (Key × Cell)). filter (λ (row : Row). is_under depth after row.key) (map row_of (filter (λ (e : Key × Cell). is_after after e.0) entries))) no_entries
-
 untouched_start : (u s c : List ℕ) → IsUntouched finite.empty u s c
-untouched_start u s c = record {
-  bookmark = ap (λ (o : Option Cell). unwrap_or (option_map (λ (cell : Cell). cell.value) o) 0) (finite.get-empty key_cmp (bookmark_key u s c));
-  held = ap (map (event_of_row c)) (no_rows Channel (held_key u s c 0));
-  marks = ap (map range_of_row) (no_rows Channel (mark_key u s c 0));
-  loose = no_rows Channel (loose_key u s c 0);
-}
+untouched_start u s c q is = finite.get-empty key_cmp q
 
 nowhere : (s : List ℕ) (slot : Slot) → slot_of start s ≡ Some slot → ⊥
 nowhere s slot e = none-some slot (sym (finite.get-empty (slice_cmp nat_cmp) s) ∙ e)
@@ -84,27 +65,28 @@ start_is_kept lower = record {
   formed = lower.formed_empty;
   sources = λ s slot e. absurd (nowhere s slot e);
   messages = λ m was. absurd was;
-  requests = λ m n id was_m was_n same e f. absurd was_m;
+  requests = tt;
+  soon = omega arith;
 }
 
 -- ---- deliveries
 
-of_declared : (o : Option Slot) (P : Slot → Type 0) (Q : Type 0) → WhereDeclared o P → ((slot : Slot) → o ≡ Some slot → P slot → Q) → Q
+pub of_declared : (o : Option Slot) (P : Slot → Type 0) (Q : Type 0) → WhereDeclared o P → ((slot : Slot) → o ≡ Some slot → P slot → Q) → Q
 of_declared None P Q holds gives = absurd holds
 of_declared (Some slot) P Q holds gives = gives slot refl holds
 
 taken_keeps : Lower → (state : State) (m : Message) → IsKept state → WasSent state.messages m → IsKept (taken_by state m)
-taken_keeps lower state (sent.Ask s id) kept was = at_collector_keeps lower state (offers_at s id) kept (λ now kept_now opened.
+taken_keeps lower state (sent.Ask s id) kept was = at_collector_keeps lower state (offers_at s id) kept (λ now ids kept_now opened.
     let was_now : WasSent now.messages (sent.Ask s id) = subst (λ (ms : List Message). WasSent ms (sent.Ask s id)) (sym opened.messages) was in
-    of_declared (slot_of now s) (λ (slot : Slot). WasDrawn slot id.value) (IsKept (offers_at s id now)) (kept_now.messages (sent.Ask s id) was_now) (λ slot there drawn.
-    kept_reply now (sent.Offers s id (offers now.collector.rows s host)) kept_now refl (all_offers now.collector.rows s host kept_now.keys (kept_now.sources s slot there).name)))
-taken_keeps lower state (sent.Offers s relates given) kept was = offers_keep lower state s relates given kept (kept.messages (sent.Offers s relates given) was)
-taken_keeps lower state (sent.Events s delivery) kept was = at_collector_keeps lower state (events_at s delivery) kept (λ now kept_now opened.
+    of_declared (slot_of now s) (λ (slot : Slot). WasDrawn slot id.value) (IsKept (offers_at s id ids now)) (kept_now.messages (sent.Ask s id) was_now) (λ slot there drawn.
+    kept_reply now (sent.Offers s (reply_id ids) id (offers now.collector.rows s host)) kept_now refl (all_offers now.collector.rows s host kept_now.keys (kept_now.sources s slot there).name)))
+taken_keeps lower state (sent.Offers s id relates given) kept was = offers_keep lower state s relates given kept (kept.messages (sent.Offers s id relates given) was)
+taken_keeps lower state (sent.Events s delivery) kept was = at_collector_keeps lower state (events_at s delivery) kept (λ now ids kept_now opened.
     let was_now : WasSent now.messages (sent.Events s delivery) = subst (λ (ms : List Message). WasSent ms (sent.Events s delivery)) (sym opened.messages) was in
-    of_declared (slot_of now s) (λ (slot : Slot). IsDelivery now.collector.rows s slot delivery) (IsKept (events_at s delivery now)) (kept_now.messages (sent.Events s delivery) was_now)
-    (λ slot there is. events_keep lower now s slot delivery kept_now there was_now is))
-taken_keeps lower state (sent.Ack s relates) kept was = ack_keeps lower state s relates kept (kept.messages (sent.Ack s relates) was)
-taken_keeps lower state (sent.Fault s relates fault) kept was = fault_keeps lower state s relates fault kept
+    of_declared (slot_of now s) (λ (slot : Slot). IsDelivery now.collector.rows s slot delivery) (IsKept (events_at s delivery ids now)) (kept_now.messages (sent.Events s delivery) was_now)
+    (λ slot there is. events_keep lower now s slot ids delivery kept_now there was_now is))
+taken_keeps lower state (sent.Ack s id relates) kept was = ack_keeps lower state s relates kept (kept.messages (sent.Ack s id relates) was)
+taken_keeps lower state (sent.Fault s id relates fault) kept was = fault_keeps lower state s relates fault kept
 
 deliver_keeps : Lower → (state : State) (k : ℕ) → IsKept state → IsKept (deliver_step state k)
 deliver_keeps lower state k kept = by_message (message_at state k) refl
@@ -149,20 +131,20 @@ crash_keeps_end state (ends.Source s) kept = crash_keeps state s kept
 
 arm_keeps_end : (state : State) (end : EndName) (armed : Armed) → IsKept state → IsKept (arm_step state end armed)
 arm_keeps_end state ends.Collector armed kept = kept
-arm_keeps_end state (ends.Source s) armed kept = kept
+arm_keeps_end state (ends.Source s) armed kept = arm_keeps state s armed kept
 
 pub steps_keep : Lower → StepsKeep
 steps_keep lower state (Subscribe u items bytes beat query) kept good =
     let line = (and_parts (is_line (Subscribe u items bytes beat query)) true good).0 in
     let limits = and_parts (is_subscription u && are_limits items bytes beat) (are_all query.items) line in
     let name = (and_parts (is_subscription u) (are_limits items bytes beat) limits.0).0 in
-    at_collector_keeps lower state (subscribe_at (subscription_of u items bytes beat query)) kept (λ now kept_now opened.
+    at_collector_keeps lower state (λ ids. subscribe_at (subscription_of u items bytes beat query)) kept (λ now ids kept_now opened.
     subscribe_keeps lower now (subscription_of u items bytes beat query) kept_now name (all_events u items bytes beat query line))
-steps_keep lower state (End u) kept good = at_collector_keeps lower state (end_at u) kept (λ now kept_now opened. end_keeps lower now u kept_now)
+steps_keep lower state (End u) kept good = at_collector_keeps lower state (λ ids. end_at u) kept (λ now ids kept_now opened. end_keeps lower now u kept_now)
 steps_keep lower state (Batch u s b) kept good =
     let parts = and_parts (is_line (Batch u s b)) (not (is_among (declared_names state) s)) good in
     let none = undeclared state s (not_true (is_among (declared_names state) s) parts.1) in
-    at_collector_keeps lower (with_foreign state s) (batch_at u s b) (foreign_kept state s kept none) (λ now kept_now opened.
+    at_collector_keeps lower (with_foreign state s) (λ ids. batch_at u s b) (foreign_kept state s kept none) (λ now ids kept_now opened.
     batch_keeps lower now u s b kept_now (λ r apart. is_foreign state s r (subst (λ (names : List (List ℕ)). is_among names r ≡ false) opened.foreign apart))
     (names_source u s b parts.0) (sound_batch u s b parts.0))
 steps_keep lower state (Source s capacity) kept good =
@@ -171,8 +153,8 @@ steps_keep lower state (Source s capacity) kept good =
     let name = (and_parts (is_source s) (is_no_collector s) line.0).0 in
     let new = and_parts (not (is_among (declared_names state) s)) (not (is_among state.foreign s)) parts.1 in
     declared_kept lower state s capacity kept name line.1 (not_true (is_among (declared_names state) s) new.0) (not_true (is_among state.foreign s) new.1)
-steps_keep lower state (Write s event) kept good =
-    write_keeps lower state s event kept (writable s event (and_parts (is_line (Write s event)) (is_among (declared_names state) s) good).0)
+steps_keep lower state (Write s plain) kept good =
+    write_keeps lower state s (new_event plain) kept (writable s plain (and_parts (is_line (Write s plain)) (is_among (declared_names state) s) good).0)
 steps_keep lower state (Ask s) kept good = ask_keeps lower state s kept
 steps_keep lower state (Poll s u) kept good = poll_keeps lower state s u kept
 steps_keep lower state (Deliver k) kept good = deliver_keeps lower state k kept
@@ -181,9 +163,9 @@ steps_keep lower state (Lost s u) kept good = lost_keeps lower state s u kept
 steps_keep lower state (Crash end) kept good = crash_keeps_end state end kept
 steps_keep lower state (Fail end after) kept good = arm_keeps_end state end (record { after = after; stops = false }) kept
 steps_keep lower state (Stop end after) kept good = arm_keeps_end state end (record { after = after; stops = true }) kept
-steps_keep lower state Calm kept good = kept
-steps_keep lower state Show kept good = at_collector_keeps lower state unchanged kept (λ now kept_now opened. kept_now)
-steps_keep lower state (Print u s c) kept good = at_collector_keeps lower state unchanged kept (λ now kept_now opened. kept_now)
+steps_keep lower state Calm kept good = calm_keeps state kept
+steps_keep lower state Show kept good = at_collector_keeps lower state (λ ids. unchanged) kept (λ now ids kept_now opened. kept_now)
+steps_keep lower state (Print u s c) kept good = at_collector_keeps lower state (λ ids. unchanged) kept (λ now ids kept_now opened. kept_now)
 
 -- ---- what is kept is safe
 
@@ -195,8 +177,13 @@ channel_at state u s c about slot reads kept known there is =
 
 pub kept_is_safe : KeptIsSafe
 kept_is_safe state kept = record {
-  pairs = λ u s c about slot known there listed. channel_at state u s c about slot true kept known there listed;
-  others = λ u s c about slot known there other. channel_at state u s c about slot false kept known there other;
+  pairs = λ u s c about source known there listed.
+      from_mapped written_by (slot_of state s) source (λ (w : Written). IsPairSafe state.collector.rows u s c 0 (settings_of about) (history w.histories c) w.capacity) there
+      (λ slot is. channel_at state u s c about slot true kept known is listed);
+  others = λ u s c about source known there other.
+      from_mapped written_by (slot_of state s) source (λ (w : Written). IsUntouched state.collector.rows u s c) there
+      (λ slot is. channel_at state u s c about slot false kept known is other);
+  acknowledged = λ s id relates was. (kept.messages (sent.Ack s id relates) was).is;
 }
 
 -- ---- schedules
@@ -209,4 +196,4 @@ pub schedules_are_kept : Lower → SchedulesAreKept
 schedules_are_kept lower lines admitted = all_kept lower start lines (start_is_kept lower) admitted
 
 pub schedules_are_safe : Lower → SchedulesAreSafe
-schedules_are_safe lower lines admitted = all_map IsKept IsSafe kept_is_safe (states_from start lines) (schedules_are_kept lower lines admitted)
+schedules_are_safe lower lines admitted = all_map IsKept IsStateSafe kept_is_safe (states_from start lines) (schedules_are_kept lower lines admitted)

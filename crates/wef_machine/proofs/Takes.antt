@@ -1,5 +1,5 @@
 -- What is kept of a pair after a batch, after a subscription begins or ends, and once more is written.
-use Rattle.std.proofs.Common.{◌≡◌, ◌≢◌, ℕ, ◌≤◌, ◌==◌, Bool, true, false, ◌&&◌, ◌||◌, cond, List, [], ◌++◌, length, map, refl, ap, sym, ◌∙◌, subst, Option, Some, None, nat_lt, arith, inl, inr, ◌⊎◌, length-append}
+use Rattle.std.proofs.Common.{◌≡◌, ◌≢◌, ℕ, ◌<◌, ◌≤◌, ◌==◌, Bool, true, false, ◌&&◌, ◌||◌, cond, List, [], ◌++◌, length, map, refl, ap, sym, ◌∙◌, subst, Option, Some, None, nat_lt, arith, inl, inr, ◌⊎◌, length-append}
 use Rattle.std.specs.FinMap as finite
 use Rattle.std.specs.Option.{option_map}
 use Rattle.std.specs.Prelude.{max, unwrap_or}
@@ -10,8 +10,8 @@ use Rattle.wef_batch.specs.WellFormed.{is_in, is_well_formed}
 use Rattle.wef_bookmark.specs.Order.{number_at}
 use Rattle.wef_collector.specs.Answers.{added_rows, channels_read, ended_rows}
 use Rattle.wef_collector.specs.Bookmarks.{bookmark_at}
-use Rattle.wef_collector.specs.Held.{event_of_row, held_after, loose_rows}
-use Rattle.wef_collector.specs.Keys.{bookmark_key, boot_key, held_key, loose_key, mark_key, subscription_key}
+use Rattle.wef_collector.specs.Held.{event_of_row, held_after}
+use Rattle.wef_collector.specs.Keys.{bookmark_key, boot_key, heard_key, held_key, key, loose_key, mark_key, subscription_key}
 use Rattle.wef_collector.specs.Laws.{moved}
 use Rattle.wef_collector.specs.Standing.{kept_body, standing, standing_by, standing_of}
 use Rattle.wef_collector.specs.Taken.{reach_changes, taken}
@@ -26,79 +26,94 @@ use Rattle.wef_eventing.proofs.Back.{reads_back}
 use Rattle.wef_eventing.specs.Kept.{HasKeptName, kept_words, read_kept}
 use Rattle.wef_eventing.specs.Subscriptions.{IsAllEvents}
 use Rattle.wef_eventing.specs.declared.subscriptions.Subscription.{Subscription}
-use Rattle.wef_keeper.specs.Rows.{Rows, found_after, key_cmp_total}
+use Rattle.wef_keeper.specs.Rows.{Rows, found_after, key_cmp, key_cmp_total}
 use Rattle.wef_keeper.specs.declared.keys.Cell.{Cell}
+use Rattle.wef_keeper.specs.declared.keys.Depth.TheVariants.{Channel}
 use Rattle.wef_keeper.specs.declared.keys.Key.{Key}
 use Rattle.wef_query.specs.declared.QueryList.{QueryList}
 use Rattle.wef_source.specs.Building.{room_of}
 use Rattle.wef_source.specs.Fits.{FitsChannel, FitsUpTo, event_at, ranges_in}
-use Rattle.wef_source.specs.Wanted.{AreRising, EndBy, IsLost, Range, in_ranges, is_too_large}
+use Rattle.wef_source.specs.Wanted.{AreRising, EndBy, IsLost, Range, Settings, in_ranges, is_too_large}
 use Rattle.wef_source_log.specs.Histories.{History, history}
 use Rattle.wef_machine.specs.Laws.{FittingBatchesAreSafe}
-use Rattle.wef_machine.specs.Safe.{IsPairSafe, IsUntouched, marks_of, range_of_row, wanted_events}
+use Rattle.wef_machine.specs.Safe.{IsPairKey, IsPairSafe, IsUntouched, marks_of, range_of_row, settings_of, wanted_events}
 use Rattle.wef_machine.proofs.Fitted.{held_after_is, held_are, held_step, held_were, in_joined, text_in}
 use Rattle.wef_machine.proofs.InOrder.{in_order, ranges_reached}
-use Rattle.wef_machine.proofs.Marked.{marks_after, reach_loose}
-use Rattle.wef_machine.proofs.Numbered.{same_section}
+use Rattle.wef_machine.proofs.Marked.{marks_after, no_mark_by_taking, reach_loose}
+use Rattle.wef_machine.proofs.Numbered.{no_rows, same_section}
 use Rattle.wef_machine.proofs.Ranges.{clip, clip_ends, clip_rises, ends-append, ends_later, ranges_rise, rising-append}
-use Rattle.wef_machine.proofs.Spared.{IsMissed, and_no, missed_apart, missed_channel, spared, touched, unreached}
+use Rattle.wef_machine.proofs.Spared.{and_no, missed_apart, missed_channel, spared, touched, unreached}
 use Rattle.wef_machine.proofs.WantedEvents.{events_alike, nothing_wanted, selected_longer, wanted_longer}
 
 -- Of a source's channel the same is kept for a subscription in some rows as in others.
-pub record SameViews (after before : Rows) (u s c : List ℕ) : Type 0 where
-  pub bookmark : bookmark_at after u s c ≡ bookmark_at before u s c
-  pub held : held_after after u s c 0 ≡ held_after before u s c 0
-  pub marks : marks_of after u s c ≡ marks_of before u s c
-  pub loose : loose_rows after u s c ≡ loose_rows before u s c
-
--- what is safe by its bookmark and its marks
-safe_with : (rows : Rows) (u s c : List ℕ) (about : Subscription) (records : History) (capacity : ℕ) (b : ℕ) (ranges : List Range) →
-    bookmark_at rows u s c ≡ b → marks_of rows u s c ≡ ranges → b ≤ length records → held_after rows u s c 0 ≡ wanted_events about.query c records b ranges →
-    AreRising 0 ranges → EndBy b ranges → ((n : ℕ) → in_ranges ranges n ≡ true → IsLost about.query about.max_bytes c records capacity n) → loose_rows rows u s c ≡ [] →
-    IsPairSafe rows u s c about records capacity
-safe_with rows u s c about records capacity b ranges bookmark marks within held rising below lost loose = record {
-  within = subst (λ (x : ℕ). x ≤ length records) (sym bookmark) within;
-  held = held ∙ (λ i. wanted_events about.query c records (sym bookmark i) (sym marks i));
-  rising = subst (AreRising 0) (sym marks) rising;
-  below = subst (λ (x : ℕ × List Range). EndBy x.0 x.1) (λ i. (sym bookmark i, sym marks i)) below;
-  lost = λ n inside. lost n (ap (λ (rs : List Range). in_ranges rs n) (sym marks) ∙ inside);
-  no_loose = loose;
-}
-
--- where the same is kept, as much is safe
-pub safe_alike : (after before : Rows) (u s c : List ℕ) (about : Subscription) (records : History) (capacity : ℕ) →
-    SameViews after before u s c → IsPairSafe before u s c about records capacity → IsPairSafe after u s c about records capacity
-safe_alike after before u s c about records capacity same safe =
-    safe_with after u s c about records capacity (bookmark_at before u s c) (marks_of before u s c) same.bookmark same.marks
-    safe.within (same.held ∙ safe.held) safe.rising safe.below safe.lost (same.loose ∙ safe.no_loose)
-
--- and as much is untouched
-pub untouched_alike : (after before : Rows) (u s c : List ℕ) → SameViews after before u s c → IsUntouched before u s c → IsUntouched after u s c
-untouched_alike after before u s c same none = record {
-  bookmark = same.bookmark ∙ none.bookmark;
-  held = same.held ∙ none.held;
-  marks = same.marks ∙ none.marks;
-  loose = same.loose ∙ none.loose;
-}
-
--- Keys of a pair at which the same stands.
-record SameKeys (after before : Rows) (u s c : List ℕ) : Type 0 where
-  bookmark : finite.get after (bookmark_key u s c) ≡ finite.get before (bookmark_key u s c)
-  held : (n : ℕ) → finite.get after (held_key u s c n) ≡ finite.get before (held_key u s c n)
-  marks : (n : ℕ) → finite.get after (mark_key u s c n) ≡ finite.get before (mark_key u s c n)
-  loose : (n : ℕ) → finite.get after (loose_key u s c n) ≡ finite.get before (loose_key u s c n)
+abbrev pub SameRows : Rows → Rows → List ℕ → List ℕ → List ℕ → Type 0
+SameRows after before u s c = (q : Key) → IsPairKey u s c q → finite.get after q ≡ finite.get before q
 
 number_of : Option Cell → ℕ
 number_of cell = unwrap_or (option_map (λ (k : Cell). k.value) cell) 0
 
-same_views : (after before : Rows) (u s c : List ℕ) → SameKeys after before u s c → SameViews after before u s c
+pair_key : (kind : ℕ) (u s c : List ℕ) (n : ℕ) → 2 ≤ kind → kind ≤ 5 → IsPairKey u s c (key kind u s c n)
+pair_key kind u s c n least greatest = record { least = least; greatest = greatest; sub = refl; source = refl; channel = refl }
+
+pub bookmark_alike : (after before : Rows) (u s c : List ℕ) → SameRows after before u s c → bookmark_at after u s c ≡ bookmark_at before u s c
 unfolding number_of
-same_views after before u s c same = record {
-  bookmark = ap number_of same.bookmark;
-  held = ap (map (event_of_row c)) (same_section 3 u s c 0 after before same.held);
-  marks = ap (map range_of_row) (same_section 4 u s c 0 after before same.marks);
-  loose = same_section 5 u s c 0 after before same.loose;
+bookmark_alike after before u s c same = ap number_of (same (bookmark_key u s c) (pair_key 2 u s c 0 (omega arith) (omega arith)))
+
+held_alike : (after before : Rows) (u s c : List ℕ) → SameRows after before u s c → held_after after u s c 0 ≡ held_after before u s c 0
+held_alike after before u s c same = ap (map (event_of_row c)) (same_section 3 u s c 0 after before (λ n. same (held_key u s c n) (pair_key 3 u s c n (omega arith) (omega arith))))
+
+marks_alike : (after before : Rows) (u s c : List ℕ) → SameRows after before u s c → marks_of after u s c ≡ marks_of before u s c
+marks_alike after before u s c same = ap (map range_of_row) (same_section 4 u s c 0 after before (λ n. same (mark_key u s c n) (pair_key 4 u s c n (omega arith) (omega arith))))
+
+-- where nothing is kept, the same is kept as in no rows
+untouched_alone : (rows : Rows) (u s c : List ℕ) → IsUntouched rows u s c → SameRows rows finite.empty u s c
+untouched_alone rows u s c none q is = none q is ∙ sym (finite.get-empty key_cmp q)
+
+pub untouched_bookmark : (rows : Rows) (u s c : List ℕ) → IsUntouched rows u s c → bookmark_at rows u s c ≡ 0
+unfolding number_of
+untouched_bookmark rows u s c none = bookmark_alike rows finite.empty u s c (untouched_alone rows u s c none) ∙ ap number_of (finite.get-empty key_cmp (bookmark_key u s c))
+
+-- what is safe by its bookmark and its marks
+safe_with : (rows : Rows) (u s c : List ℕ) (start : ℕ) (settings : Settings) (records : History) (capacity : ℕ) (b : ℕ) (ranges : List Range) →
+    bookmark_at rows u s c ≡ b → marks_of rows u s c ≡ ranges → start ≤ b → b ≤ length records → held_after rows u s c 0 ≡ wanted_events settings.query c records start b ranges →
+    AreRising start ranges → EndBy b ranges → ((n : ℕ) → in_ranges ranges n ≡ true → IsLost settings.query settings.max_bytes c records capacity n) →
+    finite.get rows (held_key u s c 0) ≡ None → finite.get rows (mark_key u s c 0) ≡ None → ((n : ℕ) → finite.get rows (loose_key u s c n) ≡ None) →
+    IsPairSafe rows u s c start settings records capacity
+safe_with rows u s c start settings records capacity b ranges bookmark marks begun within held rising below lost event mark loose = record {
+  begun = subst (λ (x : ℕ). start ≤ x) (sym bookmark) begun;
+  within = subst (λ (x : ℕ). x ≤ length records) (sym bookmark) within;
+  held = held ∙ (λ i. wanted_events settings.query c records start (sym bookmark i) (sym marks i));
+  rising = subst (AreRising start) (sym marks) rising;
+  below = subst (λ (x : ℕ × List Range). EndBy x.0 x.1) (λ i. (sym bookmark i, sym marks i)) below;
+  lost = λ n inside. lost n (ap (λ (rs : List Range). in_ranges rs n) (sym marks) ∙ inside);
+  no_first_event = event;
+  no_first_mark = mark;
+  no_loose = loose;
 }
+
+-- where the same is kept, as much is safe
+pub safe_alike : (after before : Rows) (u s c : List ℕ) (start : ℕ) (settings : Settings) (records : History) (capacity : ℕ) →
+    SameRows after before u s c → IsPairSafe before u s c start settings records capacity → IsPairSafe after u s c start settings records capacity
+safe_alike after before u s c start settings records capacity same safe =
+    safe_with after u s c start settings records capacity (bookmark_at before u s c) (marks_of before u s c) (bookmark_alike after before u s c same) (marks_alike after before u s c same)
+    safe.begun safe.within (held_alike after before u s c same ∙ safe.held) safe.rising safe.below safe.lost
+    (same (held_key u s c 0) (pair_key 3 u s c 0 (omega arith) (omega arith)) ∙ safe.no_first_event)
+    (same (mark_key u s c 0) (pair_key 4 u s c 0 (omega arith) (omega arith)) ∙ safe.no_first_mark)
+    (λ n. same (loose_key u s c n) (pair_key 5 u s c n (omega arith) (omega arith)) ∙ safe.no_loose n)
+
+-- and as much is untouched
+pub untouched_alike : (after before : Rows) (u s c : List ℕ) → SameRows after before u s c → IsUntouched before u s c → IsUntouched after u s c
+untouched_alike after before u s c same none q is = same q is ∙ none q is
+
+-- a key of another kind than those of a pair is none of them
+pub kind_apart : (k q : Key) → (k.kind ≡ q.kind → ⊥) → hits k q ≡ false
+kind_apart k q other = refuted _ (λ hit. other (ap (λ (x : Key). x.kind) (one_key k q hit)))
+
+unlike : (m n : ℕ) → m < n → m ≡ n → ⊥
+unlike m n less e = omega arith
+
+heard_apart : (u s v r c : List ℕ) (q : Key) → IsPairKey v r c q → hits (heard_key u s) q ≡ false
+heard_apart u s v r c q is = kind_apart (heard_key u s) q (λ same_kind. unlike q.kind 6 (let most = is.greatest in omega arith) (sym same_kind))
 
 -- whether a batch of a subscription and a source may change what is kept of a channel
 abbrev pub is_served : List ℕ → List ℕ → List (List ℕ) → List ℕ → List ℕ → List ℕ → Bool
@@ -121,35 +136,31 @@ not_served u s channels v r c d here apart =
 
 -- a batch leaves what is kept of every other subscription, source and channel
 pub taking_spares : (rows : Rows) (u s : List ℕ) (channels : List (List ℕ)) (batch : Batch) (now : ℕ) (v r c : List ℕ) →
-    is_served u s channels v r c ≡ false → SameViews (taken rows u s channels batch now) rows v r c
-taking_spares rows u s channels batch now v r c apart =
-    let missed : (q : Key) → q.sub ≡ v → q.source ≡ r → q.channel ≡ c → (d : List ℕ) → is_in channels d ≡ true → IsMissed u s d q =
-    λ q sub source channel d here. missed_apart u s d q (ap (λ (k : List ℕ × List ℕ × List ℕ). same u k.0 && (same s k.1 && same d k.2)) (λ i. (sub i, source i, channel i)) ∙ not_served u s channels v r c d here apart) in
-    same_views (taken rows u s channels batch now) rows v r c (record {
-      bookmark = spared rows u s channels batch now (bookmark_key v r c) (missed (bookmark_key v r c) refl refl refl) refl;
-      held = λ n. spared rows u s channels batch now (held_key v r c n) (missed (held_key v r c n) refl refl refl) refl;
-      marks = λ n. spared rows u s channels batch now (mark_key v r c n) (missed (mark_key v r c n) refl refl refl) refl;
-      loose = λ n. spared rows u s channels batch now (loose_key v r c n) (missed (loose_key v r c n) refl refl refl) refl;
-    })
+    is_served u s channels v r c ≡ false → SameRows (taken rows u s channels batch now) rows v r c
+taking_spares rows u s channels batch now v r c apart q is =
+    spared rows u s channels batch now q
+    (λ d here. missed_apart u s d q (ap (λ (k : List ℕ × List ℕ × List ℕ). same u k.0 && (same s k.1 && same d k.2)) (λ i. (is.sub i, is.source i, is.channel i))
+    ∙ not_served u s channels v r c d here apart))
+    (heard_apart u s v r c q is)
 
 other_name : (a b : List ℕ) → (a ≢ b) → same a b ≡ false
 other_name a b other = refuted (same a b) (λ is. other (one_name a b is))
 
 -- of another subscription
 pub taking_spares_sub : (rows : Rows) (u s : List ℕ) (channels : List (List ℕ)) (batch : Batch) (now : ℕ) (v r c : List ℕ) →
-    (u ≢ v) → SameViews (taken rows u s channels batch now) rows v r c
+    (u ≢ v) → SameRows (taken rows u s channels batch now) rows v r c
 taking_spares_sub rows u s channels batch now v r c other =
     taking_spares rows u s channels batch now v r c (ap (λ (t : Bool). t && (same s r && is_in channels c)) (other_name u v other))
 
 -- of another source
 pub taking_spares_source : (rows : Rows) (u s : List ℕ) (channels : List (List ℕ)) (batch : Batch) (now : ℕ) (v r c : List ℕ) →
-    (s ≢ r) → SameViews (taken rows u s channels batch now) rows v r c
+    (s ≢ r) → SameRows (taken rows u s channels batch now) rows v r c
 taking_spares_source rows u s channels batch now v r c other =
     taking_spares rows u s channels batch now v r c (ap (λ (t : Bool). same u v && (t && is_in channels c)) (other_name s r other) ∙ and_no (same u v))
 
 -- of another channel
 pub taking_spares_channel : (rows : Rows) (u s : List ℕ) (channels : List (List ℕ)) (batch : Batch) (now : ℕ) (v r c : List ℕ) →
-    is_in channels c ≡ false → SameViews (taken rows u s channels batch now) rows v r c
+    is_in channels c ≡ false → SameRows (taken rows u s channels batch now) rows v r c
 taking_spares_channel rows u s channels batch now v r c other =
     taking_spares rows u s channels batch now v r c
     (ap (λ (t : Bool). same u v && (same s r && t)) other ∙ ap (λ (t : Bool). same u v && t) (and_no (same s r)) ∙ and_no (same u v))
@@ -169,23 +180,18 @@ untouched_by_taking rows u s channels batch now c other none =
 
 -- ---- a subscription that begins or ends
 
--- a row of a subscription is none of a pair
-putting_spares : (rows : Rows) (v : List ℕ) (cell : Cell) (u s c : List ℕ) → SameViews (finite.insert rows (subscription_key v) cell) rows u s c
-putting_spares rows v cell u s c = same_views (finite.insert rows (subscription_key v) cell) rows u s c (record {
-  bookmark = finite.get-insert key_cmp_total rows (subscription_key v) cell (bookmark_key u s c);
-  held = λ n. finite.get-insert key_cmp_total rows (subscription_key v) cell (held_key u s c n);
-  marks = λ n. finite.get-insert key_cmp_total rows (subscription_key v) cell (mark_key u s c n);
-  loose = λ n. finite.get-insert key_cmp_total rows (subscription_key v) cell (loose_key u s c n);
-})
+-- a row at a key that is none of a pair
+putting_spares : (rows : Rows) (k : Key) (cell : Cell) (u s c : List ℕ) → ((q : Key) → IsPairKey u s c q → q.kind ≡ k.kind → ⊥) → SameRows (finite.insert rows k cell) rows u s c
+putting_spares rows k cell u s c other q is =
+    finite.get-insert key_cmp_total rows k cell q ∙ ap (λ (t : Bool). cond t (Some cell) (finite.get rows q)) (kind_apart q k (other q is))
 
--- a boot number says nothing of a pair
-pub booting_spares : (rows : Rows) (cell : Cell) (u s c : List ℕ) → SameViews (finite.insert rows boot_key cell) rows u s c
-booting_spares rows cell u s c = same_views (finite.insert rows boot_key cell) rows u s c (record {
-  bookmark = finite.get-insert key_cmp_total rows boot_key cell (bookmark_key u s c);
-  held = λ n. finite.get-insert key_cmp_total rows boot_key cell (held_key u s c n);
-  marks = λ n. finite.get-insert key_cmp_total rows boot_key cell (mark_key u s c n);
-  loose = λ n. finite.get-insert key_cmp_total rows boot_key cell (loose_key u s c n);
-})
+-- a row of a subscription says nothing of a pair
+subscribing_spares : (rows : Rows) (v : List ℕ) (cell : Cell) (u s c : List ℕ) → SameRows (finite.insert rows (subscription_key v) cell) rows u s c
+subscribing_spares rows v cell u s c = putting_spares rows (subscription_key v) cell u s c (λ q is same_kind. unlike 1 q.kind (let least = is.least in omega arith) (sym same_kind))
+
+-- nor does a boot number
+pub booting_spares : (rows : Rows) (cell : Cell) (u s c : List ℕ) → SameRows (finite.insert rows boot_key cell) rows u s c
+booting_spares rows cell u s c = putting_spares rows boot_key cell u s c (λ q is same_kind. unlike q.kind 8 (let most = is.greatest in omega arith) same_kind)
 
 -- nor of a subscription
 pub standing_by_booting : (rows : Rows) (cell : Cell) (v : List ℕ) → standing (finite.insert rows boot_key cell) v ≡ standing rows v
@@ -206,12 +212,12 @@ put_others rows v w cell other =
     ∙ ap (λ (t : Bool). cond t (Some cell) (finite.get rows (subscription_key w))) missed)
 
 -- a new subscription changes nothing that is kept of a pair
-pub adding_spares : (rows : Rows) (about : Subscription) (u s c : List ℕ) → SameViews (added_rows rows about) rows u s c
-adding_spares rows about u s c = putting_spares rows about.name (record { value = 0; body = kept_words about }) u s c
+pub adding_spares : (rows : Rows) (about : Subscription) (u s c : List ℕ) → SameRows (added_rows rows about) rows u s c
+adding_spares rows about u s c = subscribing_spares rows about.name (record { value = 0; body = kept_words about }) u s c
 
 -- nor does one that ends
-pub ending_spares : (rows : Rows) (v u s c : List ℕ) → SameViews (ended_rows rows v) rows u s c
-ending_spares rows v u s c = putting_spares rows v (record { value = 1; body = kept_body (finite.get rows (subscription_key v)) }) u s c
+pub ending_spares : (rows : Rows) (v u s c : List ℕ) → SameRows (ended_rows rows v) rows u s c
+ending_spares rows v u s c = subscribing_spares rows v (record { value = 1; body = kept_body (finite.get rows (subscription_key v)) }) u s c
 
 -- what stands for a new subscription: what its words read as
 pub standing_read : (rows : Rows) (about : Subscription) → standing (added_rows rows about) about.name ≡ standing_by 0 (read_kept about.name (kept_words about))
@@ -268,38 +274,42 @@ lost_longer query max_bytes c records more capacity n lost =
     )
 
 -- what is safe stays so when more is written
-pub safe_longer : (rows : Rows) (u s c : List ℕ) (about : Subscription) (records records' more : History) (capacity : ℕ) → records' ≡ records ++ more →
-    IsPairSafe rows u s c about records capacity → IsPairSafe rows u s c about records' capacity
-safe_longer rows u s c about records records' more capacity longer safe =
-    subst (λ (all : History). IsPairSafe rows u s c about all capacity) (sym longer)
+pub safe_longer : (rows : Rows) (u s c : List ℕ) (start : ℕ) (settings : Settings) (records records' more : History) (capacity : ℕ) → records' ≡ records ++ more →
+    IsPairSafe rows u s c start settings records capacity → IsPairSafe rows u s c start settings records' capacity
+safe_longer rows u s c start settings records records' more capacity longer safe =
+    subst (λ (all : History). IsPairSafe rows u s c start settings all capacity) (sym longer)
     (record {
+      begun = safe.begun;
       within = let within = safe.within in omega (arith, length-append {A = List ℕ});
-      held = safe.held ∙ events_alike about.query c records (records ++ more) (bookmark_at rows u s c) (bookmark_at rows u s c) (marks_of rows u s c) (marks_of rows u s c)
-          (λ n. sym (wanted_longer about.query c records more (bookmark_at rows u s c) (marks_of rows u s c) safe.within n));
+      held = safe.held ∙ events_alike settings.query c records (records ++ more) start (bookmark_at rows u s c) (bookmark_at rows u s c) (marks_of rows u s c) (marks_of rows u s c)
+          (λ n. sym (wanted_longer settings.query c records more start (bookmark_at rows u s c) (marks_of rows u s c) safe.within n));
       rising = safe.rising;
       below = safe.below;
-      lost = λ n inside. lost_longer about.query about.max_bytes c records more capacity n (safe.lost n inside);
+      lost = λ n inside. lost_longer settings.query settings.max_bytes c records more capacity n (safe.lost n inside);
+      no_first_event = safe.no_first_event;
+      no_first_mark = safe.no_first_mark;
       no_loose = safe.no_loose;
     })
 
--- nothing kept is safe, whatever the query and the history
-pub safe_untouched : (rows : Rows) (u s c : List ℕ) (about : Subscription) (records : History) (capacity : ℕ) →
-    IsUntouched rows u s c → IsPairSafe rows u s c about records capacity
-safe_untouched rows u s c about records capacity none =
-    safe_with rows u s c about records capacity 0 [] none.bookmark none.marks (omega arith) (none.held ∙ sym (nothing_wanted about.query c records)) tt tt
-    (λ n inside. absurd (not_both inside refl)) none.loose
+-- nothing kept is safe for a pair that begins with the first record, whatever the query and the history
+pub safe_untouched : (rows : Rows) (u s c : List ℕ) (settings : Settings) (records : History) (capacity : ℕ) →
+    IsUntouched rows u s c → IsPairSafe rows u s c 0 settings records capacity
+safe_untouched rows u s c settings records capacity none =
+    let alone = untouched_alone rows u s c none in
+    safe_with rows u s c 0 settings records capacity 0 [] (untouched_bookmark rows u s c none)
+    (marks_alike rows finite.empty u s c alone ∙ ap (map range_of_row) (no_rows Channel (mark_key u s c 0))) (omega arith) (omega arith)
+    (held_alike rows finite.empty u s c alone ∙ ap (map (event_of_row c)) (no_rows Channel (held_key u s c 0)) ∙ sym (nothing_wanted settings.query c records 0)) tt tt
+    (λ n inside. absurd (not_both inside refl))
+    (none (held_key u s c 0) (pair_key 3 u s c 0 (omega arith) (omega arith))) (none (mark_key u s c 0) (pair_key 4 u s c 0 (omega arith) (omega arith)))
+    (λ n. none (loose_key u s c n) (pair_key 5 u s c n (omega arith) (omega arith)))
 
 -- ---- a batch that fits
 
 -- one that doesn't reach a channel leaves it as it is
-unreached_views : (rows : Rows) (u s : List ℕ) (channels : List (List ℕ)) (batch : Batch) (now : ℕ) (c : List ℕ) → is_in channels c ≡ true → reach c batch ≡ None →
-    SameViews (taken rows u s channels batch now) rows u s c
-unreached_views rows u s channels batch now c listed none = same_views (taken rows u s channels batch now) rows u s c (record {
-  bookmark = unreached rows u s channels batch now c (bookmark_key u s c) listed none (missed_channel u s c (bookmark_key u s c) refl) refl;
-  held = λ n. unreached rows u s channels batch now c (held_key u s c n) listed none (missed_channel u s c (held_key u s c n) refl) refl;
-  marks = λ n. unreached rows u s channels batch now c (mark_key u s c n) listed none (missed_channel u s c (mark_key u s c n) refl) refl;
-  loose = λ n. unreached rows u s channels batch now c (loose_key u s c n) listed none (missed_channel u s c (loose_key u s c n) refl) refl;
-})
+unreached_rows : (rows : Rows) (u s : List ℕ) (channels : List (List ℕ)) (batch : Batch) (now : ℕ) (c : List ℕ) → is_in channels c ≡ true → reach c batch ≡ None →
+    SameRows (taken rows u s channels batch now) rows u s c
+unreached_rows rows u s channels batch now c listed none q is =
+    unreached rows u s channels batch now c q listed none (missed_channel u s c q is.channel) (heard_apart u s u s c q is)
 
 -- a listed channel's bookmark after a batch
 pub bookmark_moved : (rows : Rows) (u s : List ℕ) (channels : List (List ℕ)) (batch : Batch) (now : ℕ) (c : List ℕ) → is_in channels c ≡ true →
@@ -318,10 +328,10 @@ and_second : (a b : Bool) → (a && b) ≡ true → b ≡ true
 and_second true b e = e
 and_second false b e = cc
 
-reached_safe : (rows : Rows) (u s c : List ℕ) (about : Subscription) (records : History) (capacity b : ℕ) (batch : Batch) (now t : ℕ) → is_in (channels_read about) c ≡ true →
-    IsPairSafe rows u s c about records capacity → is_well_formed (channels_read about) batch ≡ true → loose_sum batch.items ≡ 0 → b ≤ bookmark_at rows u s c → reach c batch ≡ Some t →
-    FitsUpTo about.query about.max_bytes c records capacity b batch.items t → IsPairSafe (taken rows u s (channels_read about) batch now) u s c about records capacity
-reached_safe rows u s c about records capacity b batch now t listed safe formed none le reached fits =
+reached_safe : (rows : Rows) (u s c : List ℕ) (start : ℕ) (about : Subscription) (records : History) (capacity b : ℕ) (batch : Batch) (now t : ℕ) → is_in (channels_read about) c ≡ true →
+    IsPairSafe rows u s c start (settings_of about) records capacity → is_well_formed (channels_read about) batch ≡ true → loose_sum batch.items ≡ 0 → b ≤ bookmark_at rows u s c → reach c batch ≡ Some t →
+    FitsUpTo about.query about.max_bytes c records capacity b batch.items t → IsPairSafe (taken rows u s (channels_read about) batch now) u s c start (settings_of about) records capacity
+reached_safe rows u s c start about records capacity b batch now t listed safe formed none le reached fits =
     let channels = channels_read about in
     let after = taken rows u s channels batch now in
     let kept = bookmark_at rows u s c in
@@ -330,38 +340,40 @@ reached_safe rows u s c about records capacity b batch now t listed safe formed 
     let rises = in_order channels batch c formed listed in
     let above : AreRising kept (clip kept dropped) = clip_rises kept 0 kept dropped (omega arith) (ranges_rise c None batch.items rises) in
     let ends : EndBy t (clip kept dropped) = clip_ends kept t dropped (ranges_reached channels batch c t formed listed reached) in
+    let begun : start ≤ kept = safe.begun in
     let size : kept ≤ length records = safe.within in
     let reaches : t ≤ length records = fits.within in
-    safe_with after u s c about records capacity (max kept t) (marks ++ clip kept dropped)
+    safe_with after u s c start (settings_of about) records capacity (max kept t) (marks ++ clip kept dropped)
     (bookmark_moved rows u s channels batch now c listed ∙ ap (moved kept) reached)
-    (marks_after rows u s channels batch now c t listed reached safe.rising safe.below above)
-    (omega arith)
-    (held_are about.query c records (max kept t) (marks ++ clip kept dropped) after u s
+    (marks_after rows u s channels batch now c start t listed reached begun safe.rising safe.below above)
+    (omega arith) (omega arith)
+    (held_are about.query c records start (max kept t) (marks ++ clip kept dropped) after u s
     (λ n. ap (λ (cell : Option Cell). text_in (cond (nat_lt 0 n) cell None))
     (held_by_taking rows u s channels batch now c n listed ∙ held_after_is c kept n None batch.items (finite.get rows (held_key u s c n)) rises)
-    ∙ held_step about.query c records kept t marks dropped n (event_at c n batch.items) (finite.get rows (held_key u s c n)) safe.below
-    (λ h. fits.exact n (omega arith)) (held_were about.query c records kept marks rows u s safe.held n)))
-    (rising-append 0 kept marks (clip kept dropped) (omega arith) safe.rising safe.below above)
+    ∙ held_step about.query c records start b kept t marks dropped n (event_at c n batch.items) (finite.get rows (held_key u s c n)) begun le safe.below
+    (fits.exact n) (held_were about.query c records start kept marks rows u s safe.held n)))
+    (rising-append start kept marks (clip kept dropped) begun safe.rising safe.below above)
     (ends-append (max kept t) marks (clip kept dropped) (ends_later kept (max kept t) marks (omega arith) safe.below) (ends_later t (max kept t) (clip kept dropped) (omega arith) ends))
     (λ n inside. elim (or_either (in_ranges marks n) (nat_lt kept n && in_ranges dropped n) (sym (in_joined kept marks dropped n) ∙ inside)) [
       | inl old ↦ safe.lost n old
       | inr new ↦ fits.lost n (and_second (nat_lt kept n) (in_ranges dropped n) new)
     ])
-    (same_section 5 u s c 0 after rows
+    (held_by_taking rows u s channels batch now c 0 listed ∙ held_after_is c kept 0 None batch.items (finite.get rows (held_key u s c 0)) rises ∙ safe.no_first_event)
+    (no_mark_by_taking rows u s channels batch now c t listed reached above safe.no_first_mark)
     (λ n. touched rows u s channels batch now c (loose_key u s c n) (λ cell. cell) listed (missed_channel u s c (loose_key u s c n) refl) refl
-    (λ cell. ap (λ r. found_after (reach_changes u s c kept batch r) (loose_key u s c n) cell) reached ∙ reach_loose u s c kept t n batch cell none) (λ x. refl))
-    ∙ safe.no_loose)
+    (λ cell. ap (λ r. found_after (reach_changes u s c kept batch r) (loose_key u s c n) cell) reached ∙ reach_loose u s c kept t n batch cell none) (λ x. refl)
+    ∙ safe.no_loose n)
 
-by_reach : (rows : Rows) (u s c : List ℕ) (about : Subscription) (records : History) (capacity b : ℕ) (batch : Batch) (now : ℕ) (reached : Option ℕ) → is_in (channels_read about) c ≡ true →
-    IsPairSafe rows u s c about records capacity → is_well_formed (channels_read about) batch ≡ true → loose_sum batch.items ≡ 0 → b ≤ bookmark_at rows u s c → reach c batch ≡ reached →
-    FitsChannel about.query about.max_bytes c records capacity b batch.items reached → IsPairSafe (taken rows u s (channels_read about) batch now) u s c about records capacity
-by_reach rows u s c about records capacity b batch now None listed safe formed none le reached fits =
-    safe_alike (taken rows u s (channels_read about) batch now) rows u s c about records capacity (unreached_views rows u s (channels_read about) batch now c listed reached) safe
-by_reach rows u s c about records capacity b batch now (Some t) listed safe formed none le reached fits =
-    reached_safe rows u s c about records capacity b batch now t listed safe formed none le reached fits
+by_reach : (rows : Rows) (u s c : List ℕ) (start : ℕ) (about : Subscription) (records : History) (capacity b : ℕ) (batch : Batch) (now : ℕ) (reached : Option ℕ) → is_in (channels_read about) c ≡ true →
+    IsPairSafe rows u s c start (settings_of about) records capacity → is_well_formed (channels_read about) batch ≡ true → loose_sum batch.items ≡ 0 → b ≤ bookmark_at rows u s c → reach c batch ≡ reached →
+    FitsChannel about.query about.max_bytes c records capacity b batch.items reached → IsPairSafe (taken rows u s (channels_read about) batch now) u s c start (settings_of about) records capacity
+by_reach rows u s c start about records capacity b batch now None listed safe formed none le reached fits =
+    safe_alike (taken rows u s (channels_read about) batch now) rows u s c start (settings_of about) records capacity (unreached_rows rows u s (channels_read about) batch now c listed reached) safe
+by_reach rows u s c start about records capacity b batch now (Some t) listed safe formed none le reached fits =
+    reached_safe rows u s c start about records capacity b batch now t listed safe formed none le reached fits
 
 pub fitting_batches_are_safe : FittingBatchesAreSafe
-fitting_batches_are_safe rows u s c about all capacity b batch now listed safe fits le = (
-  by_reach rows u s c about (history all c) capacity (number_at b c) batch now (reach c batch) listed safe fits.well_formed fits.no_loose le refl (fits.channels c listed),
+fitting_batches_are_safe rows u s c start about all capacity b batch now listed safe fits le = (
+  by_reach rows u s c start about (history all c) capacity (number_at b c) batch now (reach c batch) listed safe fits.well_formed fits.no_loose le refl (fits.channels c listed),
   bookmark_moved rows u s (channels_read about) batch now c listed,
 )

@@ -1,5 +1,6 @@
 -- What is wanted of a history, by number.
 use Rattle.std.proofs.Common.{◌≡◌, ℕ, ◌+◌, ◌-◌, ◌<◌, ◌≤◌, ◌==◌, Bool, true, false, not, ◌&&◌, cond, List, [], ◌∷◌, ◌++◌, length, map, refl, ap, sym, ◌∙◌, subst, Option, Some, None, nat_lt, nat_le, arith, length-append, ◌⊎◌, inl, inr}
+use Rattle.std.proofs.lemmas.Bool.{and_parts}
 use Rattle.std.proofs.lemmas.Bool.Decides.{nat_tests}
 use Rattle.std.proofs.lemmas.List.{get_or_append_left}
 use Rattle.std.proofs.lemmas.Option.{slice_get_past, slice_get-get_or}
@@ -30,9 +31,6 @@ at_first first n le e = grind (arith, nat_tests)
 
 at_zero : (n : ℕ) → nat_lt 0 n ≡ false → n ≡ 0
 at_zero n e = grind (arith, nat_tests)
-
-past_zero : (n : ℕ) → nat_lt 0 n ≡ true → nat_le n 0 ≡ false
-past_zero n e = grind (arith, nat_tests)
 
 below_length : (n size : ℕ) → n ≤ size → n == 0 ≡ false → n - 1 < size
 below_length n size le e = grind (arith, nat_tests)
@@ -87,50 +85,50 @@ no_text records n (inr h) =
     let past : slice_get records (n - 1) ≡ None = slice_get_past records (n - 1) (omega arith) in
     elim (n == 0) as (λ t. cond t None (slice_get records (n - 1)) ≡ None) [ true ↦ refl | false ↦ past ]
 
-unwanted : (query : QueryList) (c : List ℕ) (records : History) (t : ℕ) (ranges : List Range) (n : ℕ) → (n ≡ 0) ⊎ (length records < n) → wanted query c records t ranges n ≡ None
-unwanted query c records t ranges n out =
-    ap (λ o. cond (nat_le n t && not (in_ranges ranges n)) (option_and_then (selected_text query c) o) None) (no_text records n out)
-    ∙ elim (nat_le n t && not (in_ranges ranges n)) as (λ b. cond b (option_and_then (selected_text query c) None) None ≡ None) [ true ↦ refl | false ↦ refl ]
+unwanted : (query : QueryList) (c : List ℕ) (records : History) (start t : ℕ) (ranges : List Range) (n : ℕ) → (n ≡ 0) ⊎ (length records < n) → wanted query c records start t ranges n ≡ None
+unwanted query c records start t ranges n out =
+    ap (λ o. cond (nat_lt start n && nat_le n t && not (in_ranges ranges n)) (option_and_then (selected_text query c) o) None) (no_text records n out)
+    ∙ elim (nat_lt start n && nat_le n t && not (in_ranges ranges n)) as (λ b. cond b (option_and_then (selected_text query c) None) None ≡ None) [ true ↦ refl | false ↦ refl ]
 
 -- the texts that are wanted, by number
-abbrev pub wanted_texts : QueryList → List ℕ → History → ℕ → List Range → List (ℕ × List ℕ)
-wanted_texts query c records t ranges = picked (wanted query c records t ranges) 1 records
+abbrev pub wanted_texts : QueryList → List ℕ → History → ℕ → ℕ → List Range → List (ℕ × List ℕ)
+wanted_texts query c records start t ranges = picked (wanted query c records start t ranges) 1 records
 
 abbrev pub event_of : List ℕ → ℕ × List ℕ → Event
 event_of c e = event_with c e.0 e.1
 
-pub find_wanted : (query : QueryList) (c : List ℕ) (records : History) (t : ℕ) (ranges : List Range) (n : ℕ) → find nat_cmp n (wanted_texts query c records t ranges) ≡ wanted query c records t ranges n
-find_wanted query c records t ranges n =
-    elim (nat_lt 0 n) as (λ b. nat_lt 0 n ≡ b → find nat_cmp n (wanted_texts query c records t ranges) ≡ wanted query c records t ranges n) [
+pub find_wanted : (query : QueryList) (c : List ℕ) (records : History) (start t : ℕ) (ranges : List Range) (n : ℕ) → find nat_cmp n (wanted_texts query c records start t ranges) ≡ wanted query c records start t ranges n
+find_wanted query c records start t ranges n =
+    elim (nat_lt 0 n) as (λ b. nat_lt 0 n ≡ b → find nat_cmp n (wanted_texts query c records start t ranges) ≡ wanted query c records start t ranges n) [
       | true ↦ λ is.
           let above : 0 < n = lt_is 0 n is in
-          find_picked (wanted query c records t ranges) 1 records n (omega arith) (λ h. unwanted query c records t ranges n (inr (omega arith)))
+          find_picked (wanted query c records start t ranges) 1 records n (omega arith) (λ h. unwanted query c records start t ranges n (inr (omega arith)))
       | false ↦ λ is.
           let zero_is : n ≡ 0 = at_zero n is in
-          find_above n 0 (wanted_texts query c records t ranges) (omega arith) (picked_above (wanted query c records t ranges) 0 1 records (omega arith))
-          ∙ sym (unwanted query c records t ranges n (inl zero_is))
+          find_above n 0 (wanted_texts query c records start t ranges) (omega arith) (picked_above (wanted query c records start t ranges) 0 1 records (omega arith))
+          ∙ sym (unwanted query c records start t ranges n (inl zero_is))
     ] refl
 
-events_map : (query : QueryList) (c : List ℕ) (records : History) (t : ℕ) (ranges : List Range) (first : ℕ) (texts : List (List ℕ)) →
-    filter_map (wanted_event query c records t ranges) (numbers_from first texts) ≡ map (event_of c) (picked (wanted query c records t ranges) first texts)
-events_map query c records t ranges first [] = refl
-events_map query c records t ranges first (text ∷ texts) =
-    elim (wanted query c records t ranges first) as (λ o. cons_option (option_map (event_with c first) o) (filter_map (wanted_event query c records t ranges) (numbers_from (first + 1) texts))
-    ≡ map (event_of c) (cons_option (option_map (λ x. (first, x)) o) (picked (wanted query c records t ranges) (first + 1) texts))) [
-      | None ↦ events_map query c records t ranges (first + 1) texts
-      | Some x ↦ ap (λ es. event_with c first x ∷ es) (events_map query c records t ranges (first + 1) texts)
+events_map : (query : QueryList) (c : List ℕ) (records : History) (start t : ℕ) (ranges : List Range) (first : ℕ) (texts : List (List ℕ)) →
+    filter_map (wanted_event query c records start t ranges) (numbers_from first texts) ≡ map (event_of c) (picked (wanted query c records start t ranges) first texts)
+events_map query c records start t ranges first [] = refl
+events_map query c records start t ranges first (text ∷ texts) =
+    elim (wanted query c records start t ranges first) as (λ o. cons_option (option_map (event_with c first) o) (filter_map (wanted_event query c records start t ranges) (numbers_from (first + 1) texts))
+    ≡ map (event_of c) (cons_option (option_map (λ x. (first, x)) o) (picked (wanted query c records start t ranges) (first + 1) texts))) [
+      | None ↦ events_map query c records start t ranges (first + 1) texts
+      | Some x ↦ ap (λ es. event_with c first x ∷ es) (events_map query c records start t ranges (first + 1) texts)
     ]
 
-pub events_texts : (query : QueryList) (c : List ℕ) (records : History) (t : ℕ) (ranges : List Range) → wanted_events query c records t ranges ≡ map (event_of c) (wanted_texts query c records t ranges)
-events_texts query c records t ranges = events_map query c records t ranges 1 records
+pub events_texts : (query : QueryList) (c : List ℕ) (records : History) (start t : ℕ) (ranges : List Range) → wanted_events query c records start t ranges ≡ map (event_of c) (wanted_texts query c records start t ranges)
+events_texts query c records start t ranges = events_map query c records start t ranges 1 records
 
 -- texts that are the wanted ones, number by number, are the wanted ones
-pub texts_are : (query : QueryList) (c : List ℕ) (records : History) (t : ℕ) (ranges : List Range) (texts : List (ℕ × List ℕ)) → T (is_sorted nat_cmp texts) →
-    ((n : ℕ) → find nat_cmp n texts ≡ wanted query c records t ranges n) → map (event_of c) texts ≡ wanted_events query c records t ranges
-texts_are query c records t ranges texts sorted same =
-    ap (map (event_of c)) (same_numbers texts (wanted_texts query c records t ranges) sorted (picked_sorted (wanted query c records t ranges) 1 records)
-    (λ n. same n ∙ sym (find_wanted query c records t ranges n)))
-    ∙ sym (events_texts query c records t ranges)
+pub texts_are : (query : QueryList) (c : List ℕ) (records : History) (start t : ℕ) (ranges : List Range) (texts : List (ℕ × List ℕ)) → T (is_sorted nat_cmp texts) →
+    ((n : ℕ) → find nat_cmp n texts ≡ wanted query c records start t ranges n) → map (event_of c) texts ≡ wanted_events query c records start t ranges
+texts_are query c records start t ranges texts sorted same =
+    ap (map (event_of c)) (same_numbers texts (wanted_texts query c records start t ranges) sorted (picked_sorted (wanted query c records start t ranges) 1 records)
+    (λ n. same n ∙ sym (find_wanted query c records start t ranges n)))
+    ∙ sym (events_texts query c records start t ranges)
 
 text_of_event : Event → ℕ × List ℕ
 text_of_event event = (event.number, event.text)
@@ -141,29 +139,36 @@ texts_back c [] = refl
 texts_back c (e ∷ es) = ap (λ rest. e ∷ rest) (texts_back c es)
 
 -- and back
-pub texts_were : (query : QueryList) (c : List ℕ) (records : History) (t : ℕ) (ranges : List Range) (texts : List (ℕ × List ℕ)) →
-    map (event_of c) texts ≡ wanted_events query c records t ranges → (n : ℕ) → find nat_cmp n texts ≡ wanted query c records t ranges n
-texts_were query c records t ranges texts same n =
-    let lists : texts ≡ wanted_texts query c records t ranges =
-    sym (texts_back c texts) ∙ ap (map text_of_event) (same ∙ events_texts query c records t ranges) ∙ texts_back c (wanted_texts query c records t ranges) in
-    ap (find nat_cmp n) lists ∙ find_wanted query c records t ranges n
+pub texts_were : (query : QueryList) (c : List ℕ) (records : History) (start t : ℕ) (ranges : List Range) (texts : List (ℕ × List ℕ)) →
+    map (event_of c) texts ≡ wanted_events query c records start t ranges → (n : ℕ) → find nat_cmp n texts ≡ wanted query c records start t ranges n
+texts_were query c records start t ranges texts same n =
+    let lists : texts ≡ wanted_texts query c records start t ranges =
+    sym (texts_back c texts) ∙ ap (map text_of_event) (same ∙ events_texts query c records start t ranges) ∙ texts_back c (wanted_texts query c records start t ranges) in
+    ap (find nat_cmp n) lists ∙ find_wanted query c records start t ranges n
 
 -- what is wanted of two histories is the same where each number's is
-pub events_alike : (query : QueryList) (c : List ℕ) (records records' : History) (t t' : ℕ) (ranges ranges' : List Range) →
-    ((n : ℕ) → wanted query c records t ranges n ≡ wanted query c records' t' ranges' n) → wanted_events query c records t ranges ≡ wanted_events query c records' t' ranges'
-events_alike query c records records' t t' ranges ranges' same =
-    events_texts query c records t ranges
-    ∙ texts_are query c records' t' ranges' (wanted_texts query c records t ranges) (picked_sorted (wanted query c records t ranges) 1 records)
-    (λ n. find_wanted query c records t ranges n ∙ same n)
+pub events_alike : (query : QueryList) (c : List ℕ) (records records' : History) (start t t' : ℕ) (ranges ranges' : List Range) →
+    ((n : ℕ) → wanted query c records start t ranges n ≡ wanted query c records' start t' ranges' n) → wanted_events query c records start t ranges ≡ wanted_events query c records' start t' ranges'
+events_alike query c records records' start t t' ranges ranges' same =
+    events_texts query c records start t ranges
+    ∙ texts_are query c records' start t' ranges' (wanted_texts query c records start t ranges) (picked_sorted (wanted query c records start t ranges) 1 records)
+    (λ n. find_wanted query c records start t ranges n ∙ same n)
 
-pub nothing_wanted : (query : QueryList) (c : List ℕ) (records : History) → wanted_events query c records 0 [] ≡ []
-nothing_wanted query c records = sym (texts_are query c records 0 [] [] tt (λ n. sym (none n)))
+-- nothing is both above a number and up to it
+not_up : (start n : ℕ) → nat_lt start n ≡ true → nat_le n start ≡ false
+not_up start n e = grind (arith, nat_tests)
+
+none_between : (start n : ℕ) → (nat_lt start n && nat_le n start) ≡ false
+none_between start n = elim (nat_lt start n) as (λ t. nat_lt start n ≡ t → (t && nat_le n start) ≡ false) [
+  | true ↦ λ is. not_up start n is
+  | false ↦ λ _. refl
+] refl
+
+pub nothing_wanted : (query : QueryList) (c : List ℕ) (records : History) (start : ℕ) → wanted_events query c records start start [] ≡ []
+nothing_wanted query c records start = sym (texts_are query c records start start [] [] tt (λ n. sym (none n)))
   where
-    none : (n : ℕ) → wanted query c records 0 [] n ≡ None
-    none n = elim (nat_lt 0 n) as (λ b. nat_lt 0 n ≡ b → wanted query c records 0 [] n ≡ None) [
-      | true ↦ λ is. ap (λ (b : Bool). cond (b && true) (selected_at query c records n) None) (past_zero n is)
-      | false ↦ λ is. unwanted query c records 0 [] n (inl (at_zero n is))
-    ] refl
+    none : (n : ℕ) → wanted query c records start start [] n ≡ None
+    none n = ap (λ (b : Bool). cond (b && true) (selected_at query c records n) None) (none_between start n)
 
 -- ---- longer histories
 
@@ -178,12 +183,13 @@ kept_text records more n le =
           ∙ sym (slice_get-get_or records (n - 1) [] within)
     ] refl
 
-pub wanted_longer : (query : QueryList) (c : List ℕ) (records more : History) (t : ℕ) (ranges : List Range) → t ≤ length records → (n : ℕ) →
-    wanted query c (records ++ more) t ranges n ≡ wanted query c records t ranges n
+pub wanted_longer : (query : QueryList) (c : List ℕ) (records more : History) (start t : ℕ) (ranges : List Range) → t ≤ length records → (n : ℕ) →
+    wanted query c (records ++ more) start t ranges n ≡ wanted query c records start t ranges n
 wanted_longer query c records more t ranges le n =
-    elim (nat_le n t) as (λ b. nat_le n t ≡ b → cond (b && not (in_ranges ranges n)) (selected_at query c (records ++ more) n) None ≡ cond (b && not (in_ranges ranges n)) (selected_at query c records n) None) [
+    elim (nat_lt start n && nat_le n t) as (λ b. (nat_lt start n && nat_le n t) ≡ b →
+    cond (b && not (in_ranges ranges n)) (selected_at query c (records ++ more) n) None ≡ cond (b && not (in_ranges ranges n)) (selected_at query c records n) None) [
       | true ↦ λ is.
-          let within : n ≤ t = le_is n t is in
+          let within : n ≤ t = le_is n t (and_parts (nat_lt start n) (nat_le n t) is).1 in
           ap (λ o. cond (not (in_ranges ranges n)) (option_and_then (selected_text query c) o) None) (kept_text records more n (omega arith))
       | false ↦ λ is. refl
     ] refl

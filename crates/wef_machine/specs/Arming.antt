@@ -1,16 +1,18 @@
 -- Commits that go as a schedule arranged, and what they leave.
 use Rattle.std.specs.Prelude.{Bool, true, false, List, [], ◌∷◌, Option, Some, None, if◌then◌else◌}
-use Rattle.std.specs.Option.{option_map}
 use Rattle.wef_keeper.specs.Keeping.{outcome}
 use Rattle.wef_keeper.specs.Rows.{Rows}
+use Rattle.wef_keeper.specs.declared.keeping.Plan.{Plan}
+use Rattle.wef_keeper.specs.declared.keeping.Plan.TheVariants as plans
 use Rattle.wef_keeper.specs.declared.keys.Change.{Change}
 use Rattle.wef_machine.specs.declared.arming.Armed.{Armed}
 use Rattle.wef_machine.specs.declared.arming.Fate.{Fate}
 use Rattle.wef_machine.specs.declared.arming.Fate.TheVariants.{Done, Failed, Stopped}
 
--- whether the next commit fails, and then whether its changes are kept all the same
-abbrev pub plan_of : Option Armed → Option Bool
-plan_of armed = option_map (λ (a : Armed). a.after) armed
+-- what the next commit does
+abbrev pub plan_of : Option Armed → Plan
+plan_of None = plans.Done
+plan_of (Some a) = plans.Fails a.after
 
 -- how the next commit goes
 abbrev pub fate_of : Option Armed → Fate

@@ -1,6 +1,6 @@
 -- Deliveries: what the end that a message is for makes of it, what it answers, and what is printed. Any message may be
 -- delivered at any time, and again.
-use Rattle.std.specs.Prelude.{ℕ, ◌-◌, ◌%◌, ◌==◌, List, length, slice_get, is_some, Option, Some, None, Result, Ok, Err, codes, if◌then◌else◌}
+use Rattle.std.specs.Prelude.{ℕ, ◌+◌, ◌-◌, ◌%◌, ◌==◌, List, length, slice_get, is_some, Option, Some, None, Ok, Err, codes, if◌then◌else◌}
 use Rattle.wef_batch.specs.declared.items.Batch.{Batch}
 use Rattle.wef_batch.specs.WellFormed.{is_well_formed}
 use Rattle.wef_collector.specs.Answers.{channels_read}
@@ -13,36 +13,37 @@ use Rattle.wef_envelope.specs.Ids.{ids_agree}
 use Rattle.wef_envelope.specs.declared.FaultName.{FaultName}
 use Rattle.wef_envelope.specs.declared.FaultName.TheVariants.{InvalidMessage, DestinationUnreachable, InternalError}
 use Rattle.wef_envelope.specs.declared.MessageId.{MessageId}
+use Rattle.wef_envelope.specs.declared.ids.Ids.{Ids}
 use Rattle.wef_eventing.specs.Addresses.{source_in, subscription_in}
 use Rattle.wef_eventing.specs.declared.bodies.Offer.{Offer}
+use Rattle.wef_keeper.specs.Calls.{Effect}
 use Rattle.wef_keeper.specs.Rows.{Rows}
-use Rattle.wef_keeper.specs.declared.keys.Change.{Change}
 use Rattle.wef_source.specs.Answers.{waiting_for}
 use Rattle.wef_source.specs.Machine.{End, acknowledged_in, adopted, refused_in}
 use Rattle.wef_source.specs.declared.messages.Delivery.{Delivery}
 use Rattle.wef_machine.specs.Arming.{fate}
-use Rattle.wef_machine.specs.Collecting.{at_collector, with_call, print_at_collector}
+use Rattle.wef_machine.specs.Collecting.{at_collector, print_at_collector, reply_id, with_call, with_reply}
 use Rattle.wef_machine.specs.Printed.{adopted_word, answered_line, fate_word, fault_answer, no_message_line, took_line}
 use Rattle.wef_machine.specs.Sources.{at_source, print_at_slot}
-use Rattle.wef_machine.specs.States.{Slot, State, host, moment, next_number, slot_of, with_end, with_message}
+use Rattle.wef_machine.specs.States.{Slot, State, host, next_number, slot_of, with_end}
 use Rattle.wef_machine.specs.declared.arming.Fate.{Fate}
 use Rattle.wef_machine.specs.declared.arming.Fate.TheVariants.{Done, Failed, Stopped}
 use Rattle.wef_machine.specs.declared.messages.Message.{Message}
 use Rattle.wef_machine.specs.declared.messages.Message.TheVariants as sent
 
--- what a batch for a subscription and of a source does: the changes that are committed, or the fault that answers it
+-- what a batch for a subscription and of a source does at a moment: the changes that are committed, or the fault that answers it
 abbrev pub BatchEffect : Type 0
-BatchEffect = Result (List Change) FaultName
+BatchEffect = Effect FaultName
 
 -- Nobody subscribed by the name, or it has ended; or the batch isn't well-formed.
-abbrev pub batch_effect_by : Rows → List ℕ → List ℕ → Batch → state_of.Standing → BatchEffect
-batch_effect_by rows u s batch is.Unknown = Err DestinationUnreachable
-batch_effect_by rows u s batch (is.Ended old) = Err DestinationUnreachable
-batch_effect_by rows u s batch (is.Live about) =
-    if is_well_formed (channels_read about) batch then Ok (batch_changes rows u s (channels_read about) batch moment) else Err InvalidMessage
+abbrev pub batch_effect_by : Rows → List ℕ → List ℕ → Batch → ℕ → state_of.Standing → BatchEffect
+batch_effect_by rows u s batch now is.Unknown = Err DestinationUnreachable
+batch_effect_by rows u s batch now (is.Ended old) = Err DestinationUnreachable
+batch_effect_by rows u s batch now (is.Live about) =
+    if is_well_formed (channels_read about) batch then Ok (batch_changes rows u s (channels_read about) batch now) else Err InvalidMessage
 
-abbrev pub batch_effect : Rows → List ℕ → List ℕ → Batch → BatchEffect
-batch_effect rows u s batch = batch_effect_by rows u s batch (standing rows u)
+abbrev pub batch_effect : Rows → List ℕ → List ℕ → Batch → ℕ → BatchEffect
+batch_effect rows u s batch now = batch_effect_by rows u s batch now (standing rows u)
 
 -- the fault that answers a batch of a source whose address leads to none
 abbrev pub sourceless : state_of.Standing → FaultName
@@ -51,28 +52,29 @@ sourceless (is.Ended old) = DestinationUnreachable
 sourceless (is.Live about) = InvalidMessage
 
 -- what a delivery to an address does: it may lead to no subscription, or to no source
-abbrev pub effect_at : Rows → Option (List ℕ) → Option (List ℕ) → Batch → BatchEffect
-effect_at rows None s batch = Err DestinationUnreachable
-effect_at rows (Some u) None batch = Err (sourceless (standing rows u))
-effect_at rows (Some u) (Some s) batch = batch_effect rows u s batch
+abbrev pub effect_at : Rows → Option (List ℕ) → Option (List ℕ) → Batch → ℕ → BatchEffect
+effect_at rows None s batch now = Err DestinationUnreachable
+effect_at rows (Some u) None batch now = Err (sourceless (standing rows u))
+effect_at rows (Some u) (Some s) batch now = batch_effect rows u s batch now
 
-abbrev pub delivery_effect : Rows → Delivery → BatchEffect
-delivery_effect rows delivery = effect_at rows (subscription_in delivery.notify_to) (source_in delivery.notify_to) delivery.batch
+abbrev pub delivery_effect : Rows → Delivery → ℕ → BatchEffect
+delivery_effect rows delivery now = effect_at rows (subscription_in delivery.notify_to) (source_in delivery.notify_to) delivery.batch now
 
--- the collector's answer to a batch that it commits, where it is committed: none where none is asked for
-abbrev pub answer_done : List ℕ → Delivery → Option Message
-answer_done s delivery = if delivery.batch.ack_wanted then Some (sent.Ack s delivery.id) else None
+-- the collector's answer, which has an id of its own, to a batch that it commits, where it is committed: none where none
+-- is asked for
+abbrev pub answer_done : List ℕ → MessageId → Delivery → Option Message
+answer_done s id delivery = if delivery.batch.ack_wanted then Some (sent.Ack s id delivery.id) else None
 
 -- its answer by how the commit went: nobody answers where the collector was stopped in it
-abbrev pub answer_by : Fate → List ℕ → Delivery → Option Message
-answer_by Done s delivery = answer_done s delivery
-answer_by Failed s delivery = Some (sent.Fault s delivery.id InternalError)
-answer_by Stopped s delivery = None
+abbrev pub answer_by : Fate → List ℕ → MessageId → Delivery → Option Message
+answer_by Done s id delivery = answer_done s id delivery
+answer_by Failed s id delivery = Some (sent.Fault s id delivery.id InternalError)
+answer_by Stopped s id delivery = None
 
 -- its answer to a delivery
-abbrev pub answer_with : State → BatchEffect → List ℕ → Delivery → Option Message
-answer_with state (Ok changes) s delivery = answer_by (fate state.collector.armed changes) s delivery
-answer_with state (Err fault) s delivery = Some (sent.Fault s delivery.id fault)
+abbrev pub answer_with : State → BatchEffect → List ℕ → MessageId → Delivery → Option Message
+answer_with state (Ok changes) s id delivery = answer_by (fate state.collector.armed changes) s id delivery
+answer_with state (Err fault) s id delivery = Some (sent.Fault s id delivery.id fault)
 
 -- the word for a batch that is committed
 abbrev pub batch_word : Batch → Fate → List ℕ
@@ -85,10 +87,10 @@ abbrev pub answer_word : State → BatchEffect → Batch → List ℕ
 answer_word state (Ok changes) batch = batch_word batch (fate state.collector.armed changes)
 answer_word state (Err fault) batch = fault_answer fault
 
--- the world with an answer, where there is one
+-- the world with an answer, where there is one: it has an id that is drawn for it
 abbrev pub with_answer : State → Option Message → State
 with_answer state None = state
-with_answer state (Some message) = with_message state message
+with_answer state (Some message) = with_reply 1 state message
 
 -- what is printed of message k, by the word for it and the number of the answer, where there is one
 abbrev pub took_text : ℕ → List ℕ → Option Message → ℕ → List ℕ
@@ -96,37 +98,40 @@ took_text k word None j = took_line k word
 took_text k word (Some answer) j = answered_line k word j
 
 -- an open collector takes a delivery of a source with this effect
-abbrev pub events_by : State → BatchEffect → List ℕ → Delivery → State
-events_by state effect s delivery = with_answer (with_call state effect) (answer_with state effect s delivery)
+abbrev pub events_by : State → BatchEffect → List ℕ → MessageId → Delivery → State
+events_by state effect s id delivery = with_answer (with_call state effect) (answer_with state effect s id delivery)
 
-abbrev pub events_at : List ℕ → Delivery → State → State
-events_at s delivery state = events_by state (delivery_effect state.collector.rows delivery) s delivery
+abbrev pub events_at : List ℕ → Delivery → Ids → State → State
+events_at s delivery ids state = events_by state (delivery_effect state.collector.rows delivery state.moment) s (reply_id ids) delivery
 
-abbrev pub events_text_by : State → BatchEffect → ℕ → List ℕ → Delivery → List ℕ
-events_text_by state effect k s delivery =
-    took_text k (answer_word state effect delivery.batch) (answer_with state effect s delivery) (next_number state)
+abbrev pub events_text_by : State → BatchEffect → ℕ → List ℕ → MessageId → Delivery → List ℕ
+events_text_by state effect k s id delivery =
+    took_text k (answer_word state effect delivery.batch) (answer_with state effect s id delivery) (next_number state)
 
-abbrev pub events_text : ℕ → List ℕ → Delivery → State → List ℕ
-events_text k s delivery state = events_text_by state (delivery_effect state.collector.rows delivery) k s delivery
+abbrev pub events_text : ℕ → List ℕ → Delivery → Ids → State → List ℕ
+events_text k s delivery ids state = events_text_by state (delivery_effect state.collector.rows delivery state.moment) k s (reply_id ids) delivery
 
--- an open collector takes an ask of a source
-abbrev pub offers_at : List ℕ → MessageId → State → State
-offers_at s id state = with_message state (sent.Offers s id (offers state.collector.rows s host))
+-- an open collector takes an ask of a source: the answer has an id, and each of its offers one behind it
+abbrev pub offers_with : State → List ℕ → MessageId → MessageId → List Offer → State
+offers_with state s id relates given = with_reply (length given + 1) state (sent.Offers s id relates given)
 
-abbrev pub offers_text : ℕ → State → List ℕ
-offers_text k state = answered_line k (codes "offers") (next_number state)
+abbrev pub offers_at : List ℕ → MessageId → Ids → State → State
+offers_at s relates ids state = offers_with state s (reply_id ids) relates (offers state.collector.rows s host)
+
+abbrev pub offers_text : ℕ → Ids → State → List ℕ
+offers_text k ids state = answered_line k (codes "offers") (next_number state)
 
 -- what is printed of message k where its end can't be opened
 abbrev pub closed_text : ℕ → Fate → List ℕ
 closed_text k fate = took_line k (fate_word fate)
 
--- a source takes offers
-abbrev pub after_offers : End → MessageId → List Offer → End
-after_offers end relates given = if ids_agree end.ask relates.value then adopted end given moment else end
+-- a source takes offers at a moment
+abbrev pub after_offers : End → MessageId → List Offer → ℕ → End
+after_offers end relates given now = if ids_agree end.ask relates.value then adopted end given now else end
 
-abbrev pub offers_word : End → MessageId → List Offer → List ℕ
-offers_word end relates given =
-    if ids_agree end.ask relates.value then adopted_word (length (adopted end given moment).sessions) else codes "not-asked"
+abbrev pub offers_word : End → MessageId → List Offer → ℕ → List ℕ
+offers_word end relates given now =
+    if ids_agree end.ask relates.value then adopted_word (length (adopted end given now).sessions) else codes "not-asked"
 
 -- a source takes an acknowledgement of an id
 abbrev pub acknowledged_by : End → Option ℕ → End
@@ -165,18 +170,18 @@ source_text state k s word (Some slot) = print_at_slot state s (Some slot) (clos
 -- the world after the delivery of a message
 abbrev pub taken_by : State → Message → State
 taken_by state (sent.Ask s id) = at_collector state (offers_at s id)
-taken_by state (sent.Offers s relates given) = at_source state s (end_at s (λ end. after_offers end relates given))
+taken_by state (sent.Offers s id relates given) = at_source state s (end_at s (λ end. after_offers end relates given state.moment))
 taken_by state (sent.Events s delivery) = at_collector state (events_at s delivery)
-taken_by state (sent.Ack s relates) = at_source state s (end_at s (λ end. after_ack end relates))
-taken_by state (sent.Fault s relates fault) = at_source state s (end_at s (λ end. after_fault end relates fault))
+taken_by state (sent.Ack s id relates) = at_source state s (end_at s (λ end. after_ack end relates))
+taken_by state (sent.Fault s id relates fault) = at_source state s (end_at s (λ end. after_fault end relates fault))
 
 -- what is printed of it, by its number
 abbrev pub taken_text : State → ℕ → Message → List ℕ
 taken_text state k (sent.Ask s id) = print_at_collector state (closed_text k) (offers_text k)
-taken_text state k (sent.Offers s relates given) = source_text state k s (λ end. offers_word end relates given) (slot_of state s)
+taken_text state k (sent.Offers s id relates given) = source_text state k s (λ end. offers_word end relates given state.moment) (slot_of state s)
 taken_text state k (sent.Events s delivery) = print_at_collector state (closed_text k) (events_text k s delivery)
-taken_text state k (sent.Ack s relates) = source_text state k s (λ end. ack_word end relates) (slot_of state s)
-taken_text state k (sent.Fault s relates fault) = source_text state k s (λ end. fault_word end relates) (slot_of state s)
+taken_text state k (sent.Ack s id relates) = source_text state k s (λ end. ack_word end relates) (slot_of state s)
+taken_text state k (sent.Fault s id relates fault) = source_text state k s (λ end. fault_word end relates) (slot_of state s)
 
 -- the message of a number
 abbrev pub message_at : State → ℕ → Option Message

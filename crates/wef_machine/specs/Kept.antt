@@ -3,9 +3,7 @@
 use Rattle.std.specs.Prelude.{◌≡◌, ℕ, ◌+◌, ◌*◌, ◌≤◌, ◌<◌, Bool, true, false, List, [], ◌∷◌, Option, Some, None, ◌⊎◌}
 use Rattle.std.specs.FinMap as finite
 use Rattle.std.specs.List.{AllByRecursion}
-use Rattle.wef_batch.specs.Reach.{reach}
 use Rattle.wef_batch.specs.WellFormed.{is_in}
-use Rattle.wef_batch.specs.declared.items.Batch.{Batch}
 use Rattle.wef_bookmark.specs.Order.{Marks, number_at}
 use Rattle.wef_collector.specs.Answers.{channels_read}
 use Rattle.wef_collector.specs.Bookmarks.{bookmark_at}
@@ -30,15 +28,10 @@ use Rattle.wef_source.specs.Fits.{Fits}
 use Rattle.wef_source.specs.declared.messages.Delivery.{Delivery}
 use Rattle.wef_source.specs.declared.sessions.Outstanding.{Outstanding}
 use Rattle.wef_source.specs.declared.sessions.Session.{Session}
-use Rattle.wef_machine.specs.Safe.{IsPairSafe, IsUntouched, subscription_at}
+use Rattle.wef_machine.specs.Safe.{IsAcknowledged, IsPairSafe, IsUntouched, WasSent, settings_of, subscription_at}
 use Rattle.wef_machine.specs.States.{Slot, Slots, State}
 use Rattle.wef_machine.specs.declared.messages.Message.{Message}
 use Rattle.wef_machine.specs.declared.messages.Message.TheVariants.{Ask, Offers, Events, Ack, Fault}
-
--- a message is one of those that were sent
-abbrev pub WasSent : List Message → Message → Type 0
-WasSent [] m = ⊥
-WasSent (sent ∷ messages) m = (sent ≡ m) ⊎ WasSent messages m
 
 -- a fact of a declared source
 abbrev pub WhereDeclared : Option Slot → (Slot → Type 0) → Type 0
@@ -48,10 +41,6 @@ WhereDeclared (Some slot) P = P slot
 -- a bookmark is in no channel further than what is kept of a subscription and a source
 abbrev pub IsBehind : Rows → List ℕ → List ℕ → Marks → Type 0
 IsBehind rows u s b = (c : List ℕ) → number_at b c ≤ bookmark_at rows u s c
-
--- each channel that a subscription reads is kept of a source at least as far as a batch reads it
-abbrev pub IsReached : Rows → List ℕ → List ℕ → Subscription → Batch → Type 0
-IsReached rows u s about batch = (c : List ℕ) (t : ℕ) → is_in (channels_read about) c ≡ true → reach c batch ≡ Some t → t ≤ bookmark_at rows u s c
 
 -- The terms on which a source serves a subscription are the subscription's own.
 pub record AreTerms (rows : Rows) (u s address : List ℕ) (query : QueryList) (max_items max_bytes : ℕ) : Type 0 where
@@ -86,9 +75,9 @@ pub record IsServed (rows : Rows) (messages : List Message) (s : List ℕ) (sess
   pub positions : IsBehind rows session.name s session.positions
   pub outstanding : WaitsFor messages s session.notify_to session.outstanding
 
--- What a source remembers while it runs: its start number is the kept one, and it serves subscriptions.
+-- What a source remembers while it runs: its boot number is the kept one, and it serves subscriptions.
 pub record IsEndKept (rows : Rows) (messages : List Message) (s : List ℕ) (slot : Slot) (end : End) : Type 0 where
-  pub boot : end.boot ≡ boot_of slot.rows
+  pub boot : end.boot ≡ boot_of slot.place.rows
   pub drawn : end.drawn ≤ most_drawn
   pub sessions : AllByRecursion (IsServed rows messages s) end.sessions
 
@@ -102,23 +91,23 @@ pub record IsSourceKept (rows : Rows) (messages : List Message) (s : List ℕ) (
   pub name : is_source s ≡ true
   pub capacity : 0 < slot.capacity
   pub greatest : slot.capacity ≤ 1000000
-  pub window : IsWindow slot.rows slot.histories slot.capacity (boot_of slot.rows)
+  pub window : IsWindow slot.place.rows slot.histories slot.capacity (boot_of slot.place.rows)
   -- each row of the store is of its form
-  pub formed : log.AreFormed slot.rows
+  pub formed : log.AreFormed slot.place.rows
   -- each text that was ever written is that of an event
   pub events : AreEvents slot.histories
-  pub running : IsRunningKept rows messages s slot slot.end
+  pub running : IsRunningKept rows messages s slot slot.place.memory
 
 -- the greatest id that a source drew, or may have drawn: where it runs, the last one since its start; else the last one
--- that its start number allows
+-- that its boot number allows
 abbrev pub last_id : Slot → Option End → ℕ
-last_id slot None = boot_of slot.rows * 18446744073709551616 + most_drawn
+last_id slot None = boot_of slot.place.rows * 18446744073709551616 + most_drawn
 last_id slot (Some end) = end.boot * 18446744073709551616 + end.drawn
 
 -- An id is one that a source drew, since its last start or before.
 abbrev pub WasDrawn : Slot → Option ℕ → Type 0
 WasDrawn slot None = ⊥
-WasDrawn slot (Some id) = id ≤ last_id slot slot.end
+WasDrawn slot (Some id) = id ≤ last_id slot slot.place.memory
 
 -- A delivery of a source goes to a subscription that is there. Its batch is sound, the events at or below the bookmark
 -- among it, and fits above a bookmark that is at most at what is kept.
@@ -134,48 +123,47 @@ pub record IsDelivery (rows : Rows) (s : List ℕ) (slot : Slot) (delivery : Del
   pub sound : IsSoundBatch delivery.batch
   pub drawn : WasDrawn slot delivery.id.value
 
--- An acknowledgement is for a delivery of its source to a subscription that is there, and all that the batch reads of the
--- subscription's channels is kept.
-pub record IsAcknowledged (rows : Rows) (messages : List Message) (s : List ℕ) (relates : MessageId) : Type 0 where
-  pub delivery : Delivery
-  pub was_sent : WasSent messages (Events s delivery)
-  pub id : relates ≡ delivery.id
-  pub u : List ℕ
-  pub about : Subscription
-  pub known : subscription_at rows u ≡ Some about
-  pub to_subscription : subscription_in delivery.notify_to ≡ Some u
-  pub to_source : source_in delivery.notify_to ≡ Some s
-  pub reached : IsReached rows u s about delivery.batch
-  -- in no channel, of the subscription or not, is the batch's bookmark further than what is kept
-  pub behind : IsBehind rows u s delivery.batch.to
+-- What is acknowledged is kept; and in no channel, of the subscription or not, is the batch's bookmark further than that.
+pub record IsAckKept (rows : Rows) (messages : List Message) (s : List ℕ) (relates : MessageId) : Type 0 where
+  pub is : IsAcknowledged rows messages s relates
+  pub behind : IsBehind rows is.u s is.delivery.batch.to
 
 -- What is true of a message that was ever sent. A fault says nothing that could do harm.
 abbrev pub IsMessageKept : Rows → Slots → List Message → Message → Type 0
 IsMessageKept rows sources messages (Ask s id) = WhereDeclared (finite.get sources s) (λ slot. WasDrawn slot id.value)
-IsMessageKept rows sources messages (Offers s relates offers) = AllByRecursion (λ (offer : Offer). IsOffered rows s offer.subscribe) offers
+IsMessageKept rows sources messages (Offers s id relates offers) = AllByRecursion (λ (offer : Offer). IsOffered rows s offer.subscribe) offers
 IsMessageKept rows sources messages (Events s delivery) = WhereDeclared (finite.get sources s) (λ slot. IsDelivery rows s slot delivery)
-IsMessageKept rows sources messages (Ack s relates) = IsAcknowledged rows messages s relates
-IsMessageKept rows sources messages (Fault s relates fault) = Unit {0}
+IsMessageKept rows sources messages (Ack s id relates) = IsAckKept rows messages s relates
+IsMessageKept rows sources messages (Fault s id relates fault) = Unit {0}
 
 -- the source that a message is of or for
 abbrev pub source_of : Message → List ℕ
 source_of (Ask s id) = s
-source_of (Offers s relates offers) = s
+source_of (Offers s id relates offers) = s
 source_of (Events s delivery) = s
-source_of (Ack s relates) = s
-source_of (Fault s relates fault) = s
+source_of (Ack s id relates) = s
+source_of (Fault s id relates fault) = s
 
--- the value of a request's id
+-- the value of a request's id; an answer is no request
 abbrev pub request_id : Message → Option ℕ
 request_id (Ask s id) = id.value
-request_id (Offers s relates offers) = None
+request_id (Offers s id relates offers) = None
 request_id (Events s delivery) = delivery.id.value
-request_id (Ack s relates) = None
-request_id (Fault s relates fault) = None
+request_id (Ack s id relates) = None
+request_id (Fault s id relates fault) = None
+
+-- a relation of each message to each that was sent after it
+abbrev pub AreInOrder : (Message → Message → Type 0) → List Message → Type 0
+AreInOrder IsBefore [] = Unit {0}
+AreInOrder IsBefore (m ∷ messages) = ((n : Message) → WasSent messages n → IsBefore m n) × AreInOrder IsBefore messages
+
+-- of two requests of one source the later has the greater id
+abbrev pub IsDrawnBefore : Message → Message → Type 0
+IsDrawnBefore m n = (first second : ℕ) → source_of m ≡ source_of n → request_id m ≡ Some first → request_id n ≡ Some second → first < second
 
 -- what is kept of a channel, by whether the subscription reads it
 abbrev pub IsChannelKept : Rows → List ℕ → List ℕ → List ℕ → Subscription → Slot → Bool → Type 0
-IsChannelKept rows u s c about slot true = IsPairSafe rows u s c about (history slot.histories c) slot.capacity
+IsChannelKept rows u s c about slot true = IsPairSafe rows u s c 0 (settings_of about) (history slot.histories c) slot.capacity
 IsChannelKept rows u s c about slot false = IsUntouched rows u s c
 
 -- what is kept of a source's channel for a name, by the subscription of that name and the declared source, where they are
@@ -193,8 +181,9 @@ pub record IsRowKey (key : Key) : Type 0 where
   pub bookmark : key.kind ≡ 2 → key.number ≡ 0
 
 -- What is kept of a world, by the rows that stand in the collector's store, the names of foreign sources, the declared
--- sources, and all messages that were ever sent. Whether the collector runs, and what is armed, says nothing of it.
-pub record IsWorldKept (rows : Rows) (foreign : List (List ℕ)) (slots : Slots) (all : List Message) : Type 0 where
+-- sources, all messages that were ever sent, and the moment. Whether the collector runs, which ids it drew, and what is
+-- armed, says nothing of it.
+pub record IsWorldKept (rows : Rows) (foreign : List (List ℕ)) (slots : Slots) (all : List Message) (moment : ℕ) : Type 0 where
   -- of every source that no `batch` line named, what is kept is safe; nothing is kept of what isn't there
   pub pairs : (u s c : List ℕ) → is_among foreign s ≡ false → IsPairKept rows u s c (subscription_at rows u) (finite.get slots s)
   -- a declared source was named by no `batch` line
@@ -206,9 +195,10 @@ pub record IsWorldKept (rows : Rows) (foreign : List (List ℕ)) (slots : Slots)
   pub sources : (s : List ℕ) (slot : Slot) → finite.get slots s ≡ Some slot → IsSourceKept rows all s slot
   -- each message that was ever sent may be delivered
   pub messages : (m : Message) → WasSent all m → IsMessageKept rows slots all m
-  -- two requests of one source with one id are one message
-  pub requests : (m n : Message) (id : ℕ) → WasSent all m → WasSent all n → source_of m ≡ source_of n →
-      request_id m ≡ Some id → request_id n ≡ Some id → m ≡ n
+  -- no source's request has the id of another one
+  pub requests : AreInOrder IsDrawnBefore all
+  -- the moment is one that a row may keep
+  pub soon : moment ≤ 253402300799999
 
 abbrev pub IsKept : State → Type 0
-IsKept state = IsWorldKept state.collector.rows state.foreign state.sources state.messages
+IsKept state = IsWorldKept state.collector.rows state.foreign state.sources state.messages state.moment

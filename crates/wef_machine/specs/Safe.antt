@@ -1,22 +1,33 @@
--- When what is kept is safe: nothing is lost, doubled, out of order or made up.
-use Rattle.std.specs.Prelude.{◌≡◌, ℕ, ◌+◌, ◌≤◌, true, false, List, [], ◌∷◌, length, map, Option, Some, None}
+-- When what is kept is safe: nothing is lost, doubled, out of order or made up, and what was acknowledged is kept. It is
+-- said of the rows that stand in the collector's store, of what each declared source wrote, and of all messages that
+-- were ever sent.
+use Rattle.std.specs.Prelude.{◌≡◌, ℕ, ◌+◌, ◌≤◌, true, false, List, [], ◌∷◌, length, map, Option, Some, None, ◌⊎◌}
+use Rattle.std.specs.FinMap as finite
 use Rattle.std.specs.List.{filter_map}
 use Rattle.std.specs.Option.{option_map}
+use Rattle.wef_batch.specs.Reach.{reach}
 use Rattle.wef_batch.specs.WellFormed.{is_in}
+use Rattle.wef_batch.specs.declared.items.Batch.{Batch}
 use Rattle.wef_collector.specs.Answers.{channels_read}
 use Rattle.wef_collector.specs.Bookmarks.{bookmark_at}
-use Rattle.wef_collector.specs.Held.{held_after, loose_rows, mark_rows}
+use Rattle.wef_collector.specs.Held.{held_after, mark_rows}
+use Rattle.wef_collector.specs.Keys.{held_key, loose_key, mark_key}
 use Rattle.wef_collector.specs.Standing.{standing}
 use Rattle.wef_collector.specs.declared.standings.Standing as state_of
 use Rattle.wef_collector.specs.declared.standings.Standing.TheVariants as is
+use Rattle.wef_envelope.specs.declared.MessageId.{MessageId}
 use Rattle.wef_event.specs.Events.{Event}
+use Rattle.wef_eventing.specs.Addresses.{source_in, subscription_in}
 use Rattle.wef_eventing.specs.declared.subscriptions.Subscription.{Subscription}
 use Rattle.wef_keeper.specs.Rows.{Rows}
+use Rattle.wef_keeper.specs.declared.keys.Key.{Key}
 use Rattle.wef_keeper.specs.declared.keys.Row.{Row}
 use Rattle.wef_query.specs.declared.QueryList.{QueryList}
-use Rattle.wef_source_log.specs.Histories.{History, history}
-use Rattle.wef_source.specs.Wanted.{AreRising, EndBy, IsLost, Range, in_ranges, wanted}
-use Rattle.wef_machine.specs.States.{Slot, State, slot_of}
+use Rattle.wef_source_log.specs.Histories.{Histories, History, history}
+use Rattle.wef_source.specs.Wanted.{AreRising, EndBy, IsLost, Range, Settings, in_ranges, wanted}
+use Rattle.wef_source.specs.declared.messages.Delivery.{Delivery}
+use Rattle.wef_machine.specs.declared.messages.Message.{Message}
+use Rattle.wef_machine.specs.declared.messages.Message.TheVariants.{Ack, Events}
 
 -- the subscription of a name, live or ended
 abbrev pub about_of : state_of.Standing → Option Subscription
@@ -43,35 +54,78 @@ abbrev pub event_with : List ℕ → ℕ → List ℕ → Event
 event_with c n text = record { channel = c; number = n; text = text }
 
 -- what is wanted of a number, as an event
-abbrev pub wanted_event : QueryList → List ℕ → History → ℕ → List Range → ℕ → Option Event
-wanted_event query c records t ranges n = option_map (event_with c n) (wanted query c records t ranges n)
+abbrev pub wanted_event : QueryList → List ℕ → History → ℕ → ℕ → List Range → ℕ → Option Event
+wanted_event query c records start t ranges n = option_map (event_with c n) (wanted query c records start t ranges n)
 
--- all that is wanted of a channel's history up to a number, but for some ranges, in the order of numbers
-abbrev pub wanted_events : QueryList → List ℕ → History → ℕ → List Range → List Event
-wanted_events query c records t ranges = filter_map (wanted_event query c records t ranges) (numbers_from 1 records)
+-- all that is wanted of a channel's history above a start and up to a number, but for some ranges, in the order of numbers
+abbrev pub wanted_events : QueryList → List ℕ → History → ℕ → ℕ → List Range → List Event
+wanted_events query c records start t ranges = filter_map (wanted_event query c records start t ranges) (numbers_from 1 records)
 
--- What is kept of a source's channel for a subscription is safe: up to the bookmark, the events that are held are just
--- those that the query selects, each once and in order, but for those under marks; marks share no number and lie within
--- the bookmark; and what is under a mark was overwritten or is too large.
-pub record IsPairSafe (rows : Rows) (u s c : List ℕ) (about : Subscription) (records : History) (capacity : ℕ) : Type 0 where
+-- what a subscription settles of its batches
+abbrev pub settings_of : Subscription → Settings
+settings_of about = record { query = about.query; max_bytes = about.max_bytes }
+
+-- What is kept of a source's channel for a subscription is safe: above the start and up to the bookmark, the events that
+-- are held are just those that the query selects, each once and in order, but for those under marks; marks share no number
+-- and lie between the start and the bookmark; and what is under a mark was overwritten or is too large.
+pub record IsPairSafe (rows : Rows) (u s c : List ℕ) (start : ℕ) (settings : Settings) (records : History) (capacity : ℕ) : Type 0 where
+  pub begun : start ≤ bookmark_at rows u s c
   pub within : bookmark_at rows u s c ≤ length records
-  pub held : held_after rows u s c 0 ≡ wanted_events about.query c records (bookmark_at rows u s c) (marks_of rows u s c)
-  pub rising : AreRising 0 (marks_of rows u s c)
+  pub held : held_after rows u s c 0 ≡ wanted_events settings.query c records start (bookmark_at rows u s c) (marks_of rows u s c)
+  pub rising : AreRising start (marks_of rows u s c)
   pub below : EndBy (bookmark_at rows u s c) (marks_of rows u s c)
-  pub lost : (n : ℕ) → in_ranges (marks_of rows u s c) n ≡ true → IsLost about.query about.max_bytes c records capacity n
-  pub no_loose : loose_rows rows u s c ≡ []
+  pub lost : (n : ℕ) → in_ranges (marks_of rows u s c) n ≡ true → IsLost settings.query settings.max_bytes c records capacity n
+  -- no event and no mark stands at number 0, and no loose record is counted
+  pub no_first_event : finite.get rows (held_key u s c 0) ≡ None
+  pub no_first_mark : finite.get rows (mark_key u s c 0) ≡ None
+  pub no_loose : (n : ℕ) → finite.get rows (loose_key u s c n) ≡ None
 
--- Nothing is kept of a source's channel.
-pub record IsUntouched (rows : Rows) (u s c : List ℕ) : Type 0 where
-  pub bookmark : bookmark_at rows u s c ≡ 0
-  pub held : held_after rows u s c 0 ≡ []
-  pub marks : marks_of rows u s c ≡ []
-  pub loose : loose_rows rows u s c ≡ []
+-- A key is one of those at which what is kept of a source's channel for a subscription stands: its bookmark, events, marks
+-- and counts of loose records.
+pub record IsPairKey (u s c : List ℕ) (key : Key) : Type 0 where
+  pub least : 2 ≤ key.kind
+  pub greatest : key.kind ≤ 5
+  pub sub : key.sub ≡ u
+  pub source : key.source ≡ s
+  pub channel : key.channel ≡ c
 
--- Of every subscription that is there, live or ended, of every declared source and every channel of the
--- subscription, what is kept is safe; of other channels of a declared source nothing is kept.
-pub record IsSafe (state : State) : Type 0 where
-  pub pairs : (u s c : List ℕ) (about : Subscription) (slot : Slot) → subscription_at state.collector.rows u ≡ Some about → slot_of state s ≡ Some slot →
-      is_in (channels_read about) c ≡ true → IsPairSafe state.collector.rows u s c about (history slot.histories c) slot.capacity
-  pub others : (u s c : List ℕ) (about : Subscription) (slot : Slot) → subscription_at state.collector.rows u ≡ Some about → slot_of state s ≡ Some slot →
-      is_in (channels_read about) c ≡ false → IsUntouched state.collector.rows u s c
+-- Nothing is kept of a source's channel: no such row stands.
+abbrev pub IsUntouched : Rows → List ℕ → List ℕ → List ℕ → Type 0
+IsUntouched rows u s c = (key : Key) → IsPairKey u s c key → finite.get rows key ≡ None
+
+-- a message is one of those that were sent
+abbrev pub WasSent : List Message → Message → Type 0
+WasSent [] m = ⊥
+WasSent (sent ∷ messages) m = (sent ≡ m) ⊎ WasSent messages m
+
+-- each channel that a subscription reads is kept of a source at least as far as a batch reads it
+abbrev pub IsReached : Rows → List ℕ → List ℕ → Subscription → Batch → Type 0
+IsReached rows u s about batch = (c : List ℕ) (t : ℕ) → is_in (channels_read about) c ≡ true → reach c batch ≡ Some t → t ≤ bookmark_at rows u s c
+
+-- An acknowledgement of an id is for a delivery that its source sent, to a subscription that is there, live or ended, and
+-- all that the batch reads of the subscription's channels is kept.
+pub record IsAcknowledged (rows : Rows) (messages : List Message) (s : List ℕ) (relates : MessageId) : Type 0 where
+  pub delivery : Delivery
+  pub was_sent : WasSent messages (Events s delivery)
+  pub id : relates ≡ delivery.id
+  pub u : List ℕ
+  pub about : Subscription
+  pub known : subscription_at rows u ≡ Some about
+  pub to_subscription : subscription_in delivery.notify_to ≡ Some u
+  pub to_source : source_in delivery.notify_to ≡ Some s
+  pub reached : IsReached rows u s about delivery.batch
+
+-- A source as the promise sees it: how many records of a channel its log keeps, and all that it ever wrote.
+pub record Written : Type 0 where
+  pub capacity : ℕ
+  pub histories : Histories
+
+-- Of every subscription that is there, live or ended, of every declared source and every channel of the subscription,
+-- what is kept is safe; of other channels of a declared source nothing is kept; and every batch that was acknowledged is
+-- kept. Each pair begins with a source's first record.
+pub record IsSafe (rows : Rows) (declared : List ℕ → Option Written) (messages : List Message) : Type 0 where
+  pub pairs : (u s c : List ℕ) (about : Subscription) (source : Written) → subscription_at rows u ≡ Some about → declared s ≡ Some source →
+      is_in (channels_read about) c ≡ true → IsPairSafe rows u s c 0 (settings_of about) (history source.histories c) source.capacity
+  pub others : (u s c : List ℕ) (about : Subscription) (source : Written) → subscription_at rows u ≡ Some about → declared s ≡ Some source →
+      is_in (channels_read about) c ≡ false → IsUntouched rows u s c
+  pub acknowledged : (s : List ℕ) (id relates : MessageId) → WasSent messages (Ack s id relates) → IsAcknowledged rows messages s relates

@@ -1,6 +1,5 @@
 -- What a schedule does: a step for each line, from a world in which nothing has happened, and what the line prints before it.
-use Rattle.std.specs.Prelude.{◌≡◌, ℕ, Bool, true, false, List, [], ◌∷◌, ◌++◌, Some, None, Ok, Err, codes}
-use Rattle.std.specs.FinMap as finite
+use Rattle.std.specs.Prelude.{◌≡◌, ℕ, Bool, true, false, List, [], ◌∷◌, ◌++◌, Ok, Err, codes}
 use Rattle.wef_batch.specs.declared.items.Batch as batch
 use Rattle.wef_collector.specs.Calls.{Effect, add_effect, end_effect}
 use Rattle.wef_collector.specs.Held.{held_after}
@@ -10,6 +9,7 @@ use Rattle.wef_collector.specs.declared.faults.CollectorFault as the_collector_f
 use Rattle.wef_collector.specs.declared.faults.CollectorFault.TheVariants as collector_faults
 use Rattle.wef_collector.specs.declared.standings.Standing as state
 use Rattle.wef_collector.specs.declared.standings.Standing.TheVariants as is
+use Rattle.wef_event.specs.Unnumbered.{new_event}
 use Rattle.wef_eventing.specs.declared.subscriptions.Subscription.{Subscription}
 use Rattle.wef_eventing.specs.declared.subscriptions.SubKind.TheVariants.{BySource}
 use Rattle.wef_keeper.specs.Rows.{Rows}
@@ -23,8 +23,9 @@ use Rattle.wef_machine.specs.Arming.{fate}
 use Rattle.wef_machine.specs.Collecting.{at_collector, print_at_collector, with_call}
 use Rattle.wef_machine.specs.Deliveries.{answer_word, batch_effect, deliver_printed, deliver_step, number_back}
 use Rattle.wef_machine.specs.Printed.{name_line, batch_text, collector_name, events_text, fate_line, fate_word}
-use Rattle.wef_machine.specs.Sources.{ask_printed, ask_step, crash_slot, declared_slot, fate_text, lost_printed, lost_step, poll_printed, poll_step, write_printed, write_step}
-use Rattle.wef_machine.specs.States.{State, names_of, slot_of, start, with_arm, with_collector, with_foreign, with_slot}
+use Rattle.wef_machine.specs.Places.{armed_with, calmed, crashed}
+use Rattle.wef_machine.specs.Sources.{ask_printed, ask_step, at_declared, declared_slot, fate_text, lost_printed, lost_step, poll_printed, poll_step, write_printed, write_step}
+use Rattle.wef_machine.specs.States.{State, calmed_slots, names_of, slot_of, start, with_collector, with_foreign, with_slot}
 use Rattle.wef_machine.specs.declared.arming.Armed.{Armed}
 use Rattle.wef_machine.specs.declared.arming.Fate.{Fate}
 
@@ -76,10 +77,10 @@ end_text u state = end_text_by state u (end_effect state.collector.rows u)
 
 -- an open collector takes a foreign source's batch
 abbrev pub batch_at : List ℕ → List ℕ → batch.Batch → State → State
-batch_at u s b state = with_call state (batch_effect state.collector.rows u s b)
+batch_at u s b state = with_call state (batch_effect state.collector.rows u s b state.moment)
 
 abbrev pub batch_line : List ℕ → List ℕ → batch.Batch → State → List ℕ
-batch_line u s b state = batch_text u s (answer_word state (batch_effect state.collector.rows u s b) b)
+batch_line u s b state = batch_text u s (answer_word state (batch_effect state.collector.rows u s b state.moment) b)
 
 -- an open collector reports what is held
 abbrev pub print_text_by : Rows → List ℕ → List ℕ → List ℕ → state.Standing → List ℕ
@@ -106,8 +107,8 @@ closed_batch u s fate = batch_text u s (fate_word fate)
 
 -- an end that crashes: it doesn't run any more, and its store stays
 abbrev pub crash_step : State → the_end.EndName → State
-crash_step state ends.Collector = with_collector state (record state.collector { runs = false })
-crash_step state (ends.Source s) = crash_slot state s (slot_of state s)
+crash_step state ends.Collector = with_collector state (crashed state.collector)
+crash_step state (ends.Source s) = at_declared state s crashed (slot_of state s)
 
 -- the name of an end
 abbrev pub end_name : the_end.EndName → List ℕ
@@ -116,20 +117,20 @@ end_name (ends.Source s) = s
 
 -- an end whose next commit is armed
 abbrev pub arm_step : State → the_end.EndName → Armed → State
-arm_step state ends.Collector armed = with_collector state (record state.collector { armed = Some armed })
-arm_step state (ends.Source s) armed = with_arm state s (Some armed)
+arm_step state ends.Collector armed = with_collector state (armed_with state.collector armed)
+arm_step state (ends.Source s) armed = at_declared state s (λ place. armed_with place armed) (slot_of state s)
 
 -- nothing is armed any more
 abbrev pub calm_step : State → State
-calm_step state = record state { collector = record state.collector { armed = None }; arms = finite.empty }
+calm_step state = record state { collector = calmed state.collector; sources = calmed_slots state.sources }
 
 -- the state after a line
 abbrev pub step : Line → State → State
-step (Subscribe u items bytes beat query) state = at_collector state (subscribe_at (subscription_of u items bytes beat query))
-step (End u) state = at_collector state (end_at u)
-step (Batch u s b) state = at_collector (with_foreign state s) (batch_at u s b)
+step (Subscribe u items bytes beat query) state = at_collector state (λ ids. subscribe_at (subscription_of u items bytes beat query))
+step (End u) state = at_collector state (λ ids. end_at u)
+step (Batch u s b) state = at_collector (with_foreign state s) (λ ids. batch_at u s b)
 step (Source s capacity) state = with_slot state s (declared_slot capacity)
-step (Write s event) state = write_step state s event
+step (Write s plain) state = write_step state s (new_event plain)
 step (Ask s) state = ask_step state s
 step (Poll s u) state = poll_step state s u
 step (Deliver k) state = deliver_step state k
@@ -139,16 +140,16 @@ step (Crash end) state = crash_step state end
 step (Fail end after) state = arm_step state end (record { after = after; stops = false })
 step (Stop end after) state = arm_step state end (record { after = after; stops = true })
 step Calm state = calm_step state
-step Show state = at_collector state unchanged
-step (Print u s c) state = at_collector state unchanged
+step Show state = at_collector state (λ ids. unchanged)
+step (Print u s c) state = at_collector state (λ ids. unchanged)
 
 -- what a line prints, by the state before it
 abbrev pub printed_by : Line → State → List ℕ
-printed_by (Subscribe u items bytes beat query) state = print_at_collector state closed_line (subscribe_text (subscription_of u items bytes beat query))
-printed_by (End u) state = print_at_collector state closed_line (end_text u)
-printed_by (Batch u s b) state = print_at_collector (with_foreign state s) (closed_batch u s) (batch_line u s b)
+printed_by (Subscribe u items bytes beat query) state = print_at_collector state closed_line (λ ids. subscribe_text (subscription_of u items bytes beat query))
+printed_by (End u) state = print_at_collector state closed_line (λ ids. end_text u)
+printed_by (Batch u s b) state = print_at_collector (with_foreign state s) (closed_batch u s) (λ ids. batch_line u s b)
 printed_by (Source s capacity) state = []
-printed_by (Write s event) state = write_printed state s event
+printed_by (Write s plain) state = write_printed state s (new_event plain)
 printed_by (Ask s) state = ask_printed state s
 printed_by (Poll s u) state = poll_printed state s u
 printed_by (Deliver k) state = deliver_printed state k
@@ -158,8 +159,8 @@ printed_by (Crash end) state = name_line (codes "crashed") (end_name end)
 printed_by (Fail end after) state = []
 printed_by (Stop end after) state = []
 printed_by Calm state = []
-printed_by Show state = print_at_collector state closed_line show_text
-printed_by (Print u s c) state = print_at_collector state closed_line (print_text u s c)
+printed_by Show state = print_at_collector state closed_line (λ ids. show_text)
+printed_by (Print u s c) state = print_at_collector state closed_line (λ ids. print_text u s c)
 
 -- the state before each line, and the one after the last
 abbrev pub states_from : State → List Line → List State

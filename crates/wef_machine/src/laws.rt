@@ -1,6 +1,8 @@
 //! What a schedule promises beside its steps, as contracts.
 
 ghost use Rattle.wef_machine.specs.Admitting.{GoodLinesAreAdmitted};
+ghost use Rattle.wef_machine.specs.Drawing.{ReplyIdsRise, RequestIdsRise};
+ghost use Rattle.wef_machine.specs.Rising.{SessionsRise};
 ghost use Rattle.wef_machine.specs.Laws.{AcknowledgementIsGiven, BookmarksNeverFall, DeliveriesAreAcknowledged, FittingBatchesAreSafe, KeptIsSafe, SchedulesAreKept, SchedulesAreSafe, StartIsKept, StepsKeep, SubscriptionsStay};
 
 /// A well-formed batch for a live subscription that asks for an acknowledgement gets it, unless its
@@ -25,10 +27,24 @@ pub fn steps_keep()
 /// Whatever a good schedule does, what the collector holds of each declared source is, up to the
 /// bookmark, just what the subscription selects of all that the source wrote, each record once and in
 /// order, but for records that are marked as dropped; and only records that were overwritten or are
-/// too large are marked (`safe`). Every batch that was acknowledged lies within that bookmark (`kept`).
+/// too large are marked; and every batch that was acknowledged lies within that bookmark (`safe`). So it
+/// is because of what is kept all along (`kept`).
 pub fn law_safe()
     ensures kept { SchedulesAreKept }
     ensures safe { SchedulesAreSafe }
+{}
+
+/// Whatever a good schedule does, no end draws an id twice: the ids of each source's requests, and those
+/// of the collector's replies, rise in the order in which they were sent, over crashes too.
+pub fn no_id_is_drawn_twice()
+    ensures requests { RequestIdsRise }
+    ensures replies { ReplyIdsRise }
+{}
+
+/// Where each session stands began at a bookmark that was committed, and rose by acknowledged batches
+/// alone; and each batch that was sent lies above where its session stood.
+pub fn sessions_rise()
+    ensures { SessionsRise }
 {}
 
 /// Whatever a line does, each subscription that was added stays, and no bookmark falls.

@@ -5,7 +5,8 @@ use wef_envelope::{FaultName, MessageId};
 use wef_eventing::Offer;
 use wef_source::Delivery;
 
-/// A message. Each is from or to a source; the other end is the collector.
+/// A message. Each is from or to a source; the other end is the collector. `id` is its own, drawn by
+/// the end that sends it, and `relates` the id of the request that it answers.
 #[derive(Debug)]
 pub enum Message {
     /// The source asks for its subscriptions.
@@ -17,6 +18,7 @@ pub enum Message {
     /// The collector's answer to an ask.
     Offers {
         source: SourceName,
+        id: MessageId,
         relates: MessageId,
         offers: List<Offer>,
     },
@@ -30,12 +32,14 @@ pub enum Message {
     /// The collector's answer that it kept a batch.
     Ack {
         source: SourceName,
+        id: MessageId,
         relates: MessageId,
     },
 
     /// The collector's answer that it didn't keep a batch.
     Fault {
         source: SourceName,
+        id: MessageId,
         relates: MessageId,
         name: FaultName,
     },
@@ -48,6 +52,7 @@ impl Drop for Message {
             Message::Ask { source: _, id: _ } => {}
             Message::Offers {
                 source: _,
+                id: _,
                 relates: _,
                 offers: _,
             } => {}
@@ -57,10 +62,12 @@ impl Drop for Message {
             } => {}
             Message::Ack {
                 source: _,
+                id: _,
                 relates: _,
             } => {}
             Message::Fault {
                 source: _,
+                id: _,
                 relates: _,
                 name: _,
             } => {}

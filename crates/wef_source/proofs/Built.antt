@@ -1,5 +1,5 @@
 -- The batches that sources build fit.
-use Rattle.std.proofs.Common.{◌≡◌, ℕ, ◌≤◌, true, ◌&&◌, List, ◌++◌, length, refl, ap, sym, subst, ◌∙◌, Some, None, nat_le}
+use Rattle.std.proofs.Common.{◌≡◌, ℕ, ◌≤◌, Bool, true, false, ◌&&◌, List, ◌++◌, length, refl, ap, sym, subst, ◌∙◌, Some, None, nat_le}
 use Rattle.std.specs.Prelude.{Option}
 use Rattle.std.specs.FinMap as map
 use Rattle.std.specs.List.{filter_map}
@@ -15,16 +15,16 @@ use Rattle.wef_source_log.specs.Histories.{Histories, History, history}
 use Rattle.wef_source_log.specs.Laws.{ReadsWindow, WindowsRead}
 use Rattle.wef_source_log.specs.Windows.{last_of}
 use Rattle.wef_source.specs.Building.{built, built_items, built_to, channel_candidates, candidates, item_of, left_items, room_of, session_channels}
-use Rattle.wef_source.specs.Fits.{FitsChannel, FitsUpTo}
+use Rattle.wef_source.specs.Fits.{FitsChannel, FitsUpTo, event_at, ranges_in}
 use Rattle.wef_source.specs.Laws.{AreWithin, BuiltBatchesFit}
 use Rattle.wef_source.specs.Wanted.{in_ranges, wanted}
 use Rattle.wef_source.specs.declared.sessions.Session.{Session}
 use Rattle.wef_source.proofs.Candidates.{channel_says, skipped}
 use Rattle.wef_source.proofs.Cases.{and_true}
-use Rattle.wef_source.proofs.Channels.{AreApart, AreOwn, front_listed, front_not_loose, holds_of_all, in_order_apart, ordered_of, own-append, own_among}
+use Rattle.wef_source.proofs.Channels.{AreApart, AreOwn, front_listed, front_not_loose, holds_of_all, in_order_apart, ordered_of, own-append, own_among, own_none}
 use Rattle.wef_source.proofs.Cuts.{Says, cut_fits}
 use Rattle.wef_source.proofs.Fitting.{parts}
-use Rattle.wef_source.proofs.Items.{Ordered, ordered_front, own, own-event_at, own-last, own-ranges, own-rises, reached, rises_own}
+use Rattle.wef_source.proofs.Items.{Ordered, no_event_below, no_range_below, ordered_front, own, own-event_at, own-last, own-ranges, own-rises, reached, rises_own}
 use Rattle.wef_source.proofs.Reaches.{Stops, stops, stops_above, to_has_no_other, to_is}
 
 -- ---- one channel
@@ -34,7 +34,7 @@ from_own : (query : QueryList) (max_bytes : ℕ) (c : List ℕ) (records : Histo
     → FitsUpTo query max_bytes c records capacity b (own c items) t → FitsUpTo query max_bytes c records capacity b items t
 from_own query max_bytes c records capacity b t items fits = record {
   within = fits.within;
-  exact = λ n over. sym (own-event_at c n items) ∙ fits.exact n over ∙ ap (λ ranges. wanted query c records t ranges n) (own-ranges c items);
+  exact = λ n over. sym (own-event_at c n items) ∙ fits.exact n over ∙ ap (λ ranges. wanted query c records b t ranges n) (own-ranges c items);
   lost = λ n dropped. fits.lost n (ap (λ ranges. in_ranges ranges n) (own-ranges c items) ∙ dropped);
 }
 
@@ -153,3 +153,28 @@ built_fit read rows all capacity boot session b some begun window within up =
           channel_fits session.query session.max_bytes c (history all c) capacity (number_at session.positions c) (number_at b c) (built_items rows session) (own c (left_items rows session)) (map.get (built_to rows session) c)
           (own_say rows all capacity session c of here) (up c) (own_stops rows all capacity session c of here);
     }
+
+-- What is built for a session says nothing of a channel at or below where the session stands in it.
+pub record SaysAbove (b : ℕ) (c : List ℕ) (items : List Item) : Type 0 where
+  pub no_event : (n : ℕ) → n ≤ b → event_at c n items ≡ None
+  pub no_range : (n : ℕ) → n ≤ b → in_ranges (ranges_in c items) n ≡ false
+
+pub built_above : (rows : Rows) (all : Histories) (capacity boot : ℕ) (session : Session) → ReadsWindow rows all capacity boot → AreWithin session.positions all → (c : List ℕ)
+    → SaysAbove (number_at session.positions c) c (built rows session).items
+unfolding built
+built_above rows all capacity boot session reads within c = by_channel (is_in (session_channels session) c) refl
+  where
+    of : Building rows all capacity session
+    of = building rows all capacity boot session reads within
+
+    ordered : Ordered c (number_at session.positions c) (own c (built_items rows session)) → SaysAbove (number_at session.positions c) c (built_items rows session)
+    ordered o = record {
+      no_event = λ n low. sym (own-event_at c n (built_items rows session)) ∙ no_event_below c (number_at session.positions c) n (own c (built_items rows session)) o low;
+      no_range = λ n low. ap (λ ranges. in_ranges ranges n) (sym (own-ranges c (built_items rows session)))
+          ∙ no_range_below c (number_at session.positions c) n (own c (built_items rows session)) o low;
+    }
+
+    by_channel : (t : Bool) → is_in (session_channels session) c ≡ t → SaysAbove (number_at session.positions c) c (built_items rows session)
+    by_channel true here = ordered (own_ordered rows all capacity session c of here)
+    by_channel false none = ordered (subst (Ordered c (number_at session.positions c)) (sym (own_none (session_channels session) c (built_items rows session)
+        (front_listed (channel_candidates rows session) (session_channels session) (built_items rows session) (left_items rows session) of.all_own of.parts) none)) tt)

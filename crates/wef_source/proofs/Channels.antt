@@ -124,6 +124,24 @@ front_listed g cs front back own_items parts =
     (both_true (list_all (is_listed cs) front) (list_all (is_listed cs) back)
     (sym (list_all-append (is_listed cs) front back) ∙ ap (list_all (is_listed cs)) parts ∙ listed_some g cs cs own_items (λ c here. here))).0
 
+-- where no channel is the one, nothing of it is said
+unlisted : (cs : List (List ℕ)) (c d : List ℕ) → is_in cs d ≡ true → is_in cs c ≡ false → same d c ≡ false
+unlisted cs c d here none = elim (same d c) as (λ t. same d c ≡ t → t ≡ false) [
+  | true ↦ λ is. sym here ∙ ap (is_in cs) (one_name d c is) ∙ none
+  | false ↦ λ _. refl
+] refl
+
+unlisted_item : (cs : List (List ℕ)) (c : List ℕ) (item : Item) → is_listed cs item ≡ true → is_in cs c ≡ false → is_of c item ≡ false
+unlisted_item cs c (Event event) here none = unlisted cs c event.channel here none
+unlisted_item cs c (Dropped channel first last) here none = unlisted cs c channel here none
+unlisted_item cs c (Loose count) here none = refl
+
+pub own_none : (cs : List (List ℕ)) (c : List ℕ) (items : List Item) → list_all (is_listed cs) items ≡ true → is_in cs c ≡ false → own c items ≡ []
+own_none cs c [] all none = refl
+own_none cs c (item ∷ items) all none =
+    let parts = both_true (is_listed cs item) (list_all (is_listed cs) items) all in
+    ap (λ t. cond t (item ∷ own c items) (own c items)) (unlisted_item cs c item parts.0 none) ∙ own_none cs c items parts.1 none
+
 loose-append : (front back : List Item) → loose_sum (front ++ back) ≡ loose_sum front + loose_sum back
 loose-append [] back = omega arith
 loose-append (item ∷ front) back = let rest = loose-append front back in omega arith

@@ -1,5 +1,6 @@
 -- A front part of what is to be said of a channel fits up to where it goes.
-use Rattle.std.proofs.Common.{◌≡◌, ℕ, ◌<◌, ◌≤◌, Bool, true, false, not, ◌&&◌, ◌||◌, cond, List, ◌++◌, length, refl, ap, sym, ◌∙◌, None, arith, nat_le}
+use Rattle.std.proofs.Common.{◌≡◌, ℕ, ◌<◌, ◌≤◌, Bool, true, false, not, ◌&&◌, ◌||◌, cond, List, ◌++◌, length, refl, ap, sym, ◌∙◌, None, arith, nat_le, nat_lt}
+use Rattle.std.proofs.lemmas.Bool.Decides.{nat_tests}
 use Rattle.std.specs.Prelude.{Option}
 use Rattle.wef_batch.specs.declared.items.Item.{Item}
 use Rattle.wef_query.specs.declared.QueryList.{QueryList}
@@ -32,6 +33,9 @@ or_none : (a b : Bool) → b ≡ false → (a || b) ≡ a
 or_none true b e = refl
 or_none false b e = e
 
+is_above : (b n : ℕ) → b < n → nat_lt b n ≡ true
+is_above b n over = grind (arith, nat_tests)
+
 -- items that a row begins with fit up to a number that they don't pass, and that the rest of the row is above
 pub cut_fits : (query : QueryList) (max_bytes : ℕ) (c : List ℕ) (records : History) (capacity p b t : ℕ) (front back : List Item)
     → Says query max_bytes c records capacity p (front ++ back) → ItemsEndBy t front → Ordered c t back → t ≤ length records → p ≤ b
@@ -47,6 +51,7 @@ cut_fits query max_bytes c records capacity p b t front back says ends above wit
       ∙ ap (λ x. cond x None (selected_at query c records n)) (in_ranges-append c n front back ∙ or_none _ _ (no_range_below c t n back above reached))
       ∙ turned (in_ranges (ranges_in c front) n) (selected_at query c records n))
       (λ _ past. no_event_above c t n front ends (le_fails n t past))
-      refl;
+      refl
+      ∙ ap (λ x. cond (x && nat_le n t && not (in_ranges (ranges_in c front) n)) (selected_at query c records n) None) (sym (is_above b n over));
   lost = λ n dropped. says.lost n (in_ranges-append c n front back ∙ or_first _ _ dropped);
 }

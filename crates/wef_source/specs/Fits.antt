@@ -44,7 +44,7 @@ ranges_in c (item ∷ items) = with_range c item (ranges_in c items)
 -- Items fit a channel's history above a number, up to a reach.
 pub record FitsUpTo (query : QueryList) (max_bytes : ℕ) (c : List ℕ) (records : History) (capacity b : ℕ) (items : List Item) (t : ℕ) : Type 0 where
   pub within : t ≤ length records
-  pub exact : (n : ℕ) → b < n → event_at c n items ≡ wanted query c records t (ranges_in c items) n
+  pub exact : (n : ℕ) → b < n → event_at c n items ≡ wanted query c records b t (ranges_in c items) n
   pub lost : (n : ℕ) → in_ranges (ranges_in c items) n ≡ true → IsLost query max_bytes c records capacity n
 
 -- Where items don't reach a channel there is nothing to fit.

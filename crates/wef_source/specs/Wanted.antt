@@ -8,6 +8,11 @@ use Rattle.wef_query.specs.declared.QueryList.{QueryList}
 use Rattle.wef_source_log.specs.Histories.{History, text_at}
 use Rattle.wef_source.specs.Building.{room_of}
 
+-- What a subscription settles of its batches: which records are sent, and how many bytes a batch may have.
+pub record Settings : Type 0 where
+  pub query : QueryList
+  pub max_bytes : ℕ
+
 -- a range of numbers, from the first to the last
 abbrev pub Range : Type 0
 Range = ℕ × ℕ
@@ -35,9 +40,9 @@ selected_text query c text = if is_selected query.items c then Some text else No
 abbrev pub selected_at : QueryList → List ℕ → History → ℕ → Option (List ℕ)
 selected_at query c records n = option_and_then (selected_text query c) (text_at records n)
 
--- what is wanted of a number, up to a number and but for some ranges
-abbrev pub wanted : QueryList → List ℕ → History → ℕ → List Range → ℕ → Option (List ℕ)
-wanted query c records t ranges n = if nat_le n t && not (in_ranges ranges n) then selected_at query c records n else None
+-- what is wanted of a number, above a start, up to a number and but for some ranges
+abbrev pub wanted : QueryList → List ℕ → History → ℕ → ℕ → List Range → ℕ → Option (List ℕ)
+wanted query c records start t ranges n = if nat_lt start n && nat_le n t && not (in_ranges ranges n) then selected_at query c records n else None
 
 -- whether a selected record's event costs more than the room
 abbrev pub is_too_large : QueryList → ℕ → List ℕ → ℕ → Option (List ℕ) → Bool
