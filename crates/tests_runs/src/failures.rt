@@ -54,6 +54,31 @@ fn a_second_write_that_fails(rt: HostRuntime) -> Result<(), Fail> {
     Ok(())
 }
 
+/// A text, so many times.
+fn repeated(alloc: Global, text: &str, times: usize) -> Result<Bytes, AllocError> {
+    let mut whole = Bytes::new(alloc);
+    for _ in 0..times {
+        whole.extend(text.as_bytes())?;
+    }
+    Ok(whole)
+}
+
+/// Output is written by some 64 KiB. The second such write fails, and what the first wrote stays.
+#[test]
+fn output_that_fails_in_the_middle(rt: HostRuntime) -> Result<(), Fail> {
+    let alloc = rt.alloc();
+    let schedule = repeated(alloc, "show\n", 20_000)?;
+    let reads = List::new(alloc);
+    let writes = List::from(vec![in alloc; 2u64]?);
+    let ran = ran(alloc, "replay", schedule.as_slice(), reads, writes)?;
+    let written = repeated(alloc, "end\n", 16_384)?;
+    assert_eq!(rt; ran.status, 5);
+    assert_eq!(rt; ran.err.taken(), b"output failed\n".as_slice());
+    assert_eq!(rt; ran.out.taken(), written.as_slice());
+    assert_eq!(rt; ran.out.refused(), 0);
+    Ok(())
+}
+
 /// A schedule in which one source writes 9 events; each of its lines comes to a commit, or to none.
 const LINES: [&str; 30] = [
     "subscribe base 2 512000 900000 all application\n",

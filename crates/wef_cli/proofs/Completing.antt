@@ -19,7 +19,7 @@ was_good out (Err e) h = absurd h
 pub complete : EndsAsCalledFor
 complete ends.Done input out bytes ended told reads writes = inl (was_good out (schedule_of bytes) (told_at input.before bytes (λ b. WroteTrail out (schedule_of b)) told ended.1))
 complete ends.BadCommand input out bytes ended told reads writes = absurd ended
-complete (ends.BadLine k) input out bytes ended told reads writes = inl (sym (ap ending_for (told_at input.before bytes (IsBadAt k) told ended.1)))
+complete (ends.BadLine k) input out bytes ended told reads writes = inl (sym (ap ending_for (told_at input.before bytes (IsBadAt k) told ended.0.1)))
 complete ends.TooLong input out bytes ended told reads writes = inl (sym (ap ending_for (told_at input.before bytes IsTooLong told ended.0)))
 complete ends.InputFailed input out bytes ended told reads writes = absurd (reads ended.0)
 complete ends.OutputFailed input out bytes ended told reads writes = absurd (writes ended.0)

@@ -1,3 +1,4 @@
 pub mod Completing
+pub mod LinesDone
 pub mod TooLong
 pub mod Written

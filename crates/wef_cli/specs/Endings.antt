@@ -1,6 +1,6 @@
 -- How a run ends: the status and the message of each ending, and what the ending says of the words, of what was
 -- read and of what was written.
-use Rattle.std.specs.Prelude.{◌≡◌, ◌⊎◌, ℕ, Bool, true, false, List, [], ◌∷◌, ◌++◌, Option, IfSome, Result, codes}
+use Rattle.std.specs.Prelude.{◌≡◌, ◌⊎◌, ℕ, List, [], ◌∷◌, ◌++◌, Option, Some, None, IfSome, Result, codes}
 use Rattle.std.specs.declared.result.Result.TheVariants.{Ok, Err}
 use Rattle.std.specs.Fmt.{decimal}
 use Rattle.std.specs.Io.KnownBytes.{Appends, Keeps, IsAtEnd}
@@ -12,6 +12,8 @@ use Rattle.wef_replay.specs.declared.schedule.ScheduleFault.TheVariants as fault
 use Rattle.wef_machine.specs.Laws.{AreKept, AreSafe}
 use Rattle.wef_machine.specs.Steps.{trail}
 use Rattle.wef_cli.specs.Streams.{WritesPart}
+use Rattle.wef_cli.specs.declared.command.Command.{Command}
+use Rattle.wef_cli.specs.declared.command.Command.TheVariants.{Replay}
 use Rattle.wef_cli.specs.declared.ending.Ending.{Ending}
 use Rattle.wef_cli.specs.declared.ending.Ending.TheVariants.{Done, BadCommand, BadLine, TooLong, InputFailed, OutputFailed, NoMemory}
 
@@ -80,6 +82,11 @@ abbrev pub WrotePart : Told → Result (List Line) fault.ScheduleFault → Type 
 WrotePart out (Ok lines) = WritesPart out.before out.after (trail lines)
 WrotePart out (Err e) = ⊥
 
+-- What is written is a front part of the trail of a good schedule, and nothing of any other.
+abbrev pub WroteAtMost : Told → Result (List Line) fault.ScheduleFault → Type 0
+WroteAtMost out (Ok lines) = WritesPart out.before out.after (trail lines)
+WroteAtMost out (Err e) = IsUnwritten out
+
 -- what a schedule's bytes are
 abbrev pub IsBadAt : ℕ → List ℕ → Type 0
 IsBadAt k bytes = schedule_of bytes ≡ Err (faults.BadLine k)
@@ -87,19 +94,32 @@ IsBadAt k bytes = schedule_of bytes ≡ Err (faults.BadLine k)
 abbrev pub IsTooLong : List ℕ → Type 0
 IsTooLong bytes = schedule_of bytes ≡ Err faults.TooLong
 
--- What the endings of `replay` say.
+-- The input is at its end, and what was read is a schedule of these lines.
+abbrev pub HasLines : List Line → Told → Type 0
+HasLines lines input = IsAtEnd input.after × IfSome input.before (λ bytes. schedule_of bytes ≡ Ok lines)
+
+-- Why a run of `replay` ends before its schedule is checked whole; want of memory is free.
+abbrev pub EndsReading : Ending → Told → Type 0
+EndsReading (BadLine k) input = IsAtEnd input.after × IfSome input.before (IsBadAt k)
+EndsReading TooLong input = IfSome input.before IsTooLong
+EndsReading InputFailed input = HasFailed input
+EndsReading NoMemory input = Unit {0}
+EndsReading _ input = ⊥
+
+-- What the endings of `replay` say. Where the schedule isn't good or the input failed, nothing is written; where memory is
+-- wanting or the output failed, a front part of the trail is; a run that is done wrote the whole trail.
 abbrev pub ReplayEnds : Ending → Told → Told → Type 0
 ReplayEnds Done input out = IsAtEnd input.after × IfSome input.before (λ bytes. WroteTrail out (schedule_of bytes))
 ReplayEnds BadCommand input out = ⊥
-ReplayEnds (BadLine k) input out = IsAtEnd input.after × IfSome input.before (IsBadAt k) × IsUnwritten out
-ReplayEnds TooLong input out = IfSome input.before IsTooLong × IsUnwritten out
-ReplayEnds InputFailed input out = HasFailed input × IsUnwritten out
+ReplayEnds (BadLine k) input out = EndsReading (BadLine k) input × IsUnwritten out
+ReplayEnds TooLong input out = EndsReading TooLong input × IsUnwritten out
+ReplayEnds InputFailed input out = EndsReading InputFailed input × IsUnwritten out
 ReplayEnds OutputFailed input out = HasFailed out × IsAtEnd input.after × IfSome input.before (λ bytes. WrotePart out (schedule_of bytes))
-ReplayEnds NoMemory input out = IsUnwritten out
+ReplayEnds NoMemory input out = IfSome input.before (λ bytes. WroteAtMost out (schedule_of bytes))
 
 -- What the ending of a run says: `BadCommand` comes exactly where the words are no command line, and then nothing
 -- was read or written.
-abbrev pub RunEnds : Bool → Ending → Told → Told → Type 0
-RunEnds false BadCommand input out = Keeps input.before input.after × IsUnwritten out
-RunEnds false _ input out = ⊥
-RunEnds true ending input out = ReplayEnds ending input out
+abbrev pub RunEnds : Option Command → Ending → Told → Told → Type 0
+RunEnds None BadCommand input out = Keeps input.before input.after × IsUnwritten out
+RunEnds None _ input out = ⊥
+RunEnds (Some Replay) ending input out = ReplayEnds ending input out

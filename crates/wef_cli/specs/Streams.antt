@@ -1,8 +1,10 @@
 -- What reading a whole input and writing a whole text do.
-use Rattle.std.specs.Prelude.{◌≡◌, ℕ, ◌<◌, ◌≤◌, List, length, take, Option, Result, IfSome}
+use Rattle.std.specs.Prelude.{◌≡◌, ℕ, ◌<◌, ◌≤◌, List, ◌++◌, length, take, Option, Result, IfSome}
 use Rattle.std.specs.declared.result.Result.TheVariants.{Ok, Err}
 use Rattle.std.specs.Io.KnownBytes.{Appends, IsAtEnd}
 use Rattle.wef_base.specs.Counts.{Rose}
+use Rattle.wef_cli.specs.declared.runs.RunFault.{RunFault}
+use Rattle.wef_cli.specs.declared.runs.RunFault.TheVariants as runs
 use Rattle.wef_cli.specs.declared.streams.InputFault.{InputFault}
 use Rattle.wef_cli.specs.declared.streams.InputFault.TheVariants.{NoMemory, Failed, TooLong}
 
@@ -20,3 +22,14 @@ ReadsWhole left left' faults faults' (Err TooLong) = IfSome left (λ all. input_
 -- A text, or a part of it from its beginning, was written behind what was there.
 abbrev pub WritesPart : Option (List ℕ) → Option (List ℕ) → List ℕ → Type 0
 WritesPart taken taken' text = (k : ℕ) × Appends taken taken' (take k text)
+
+-- Of a text a front part was written, behind what was there, and this is left.
+pub record IsWrittenUpTo (taken taken' : Option (List ℕ)) (text left : List ℕ) : Type 0 where
+  pub front : List ℕ
+  pub written : Appends taken taken' front
+  pub whole : front ++ left ≡ text
+
+-- Why lines aren't done to their end: the output's count of faults rose; want of memory is free.
+abbrev pub StopsRun : RunFault → ℕ → ℕ → Type 0
+StopsRun runs.OutputFailed faults faults' = Rose faults faults'
+StopsRun runs.NoMemory faults faults' = Unit {0}

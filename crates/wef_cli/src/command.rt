@@ -1,16 +1,34 @@
 //! The command line.
 
 ghost use Rattle.std.specs.Prelude.{◌≡◌};
-ghost use Rattle.wef_cli.specs.Command.{is_replay};
+ghost use Rattle.wef_cli.specs.Command.{command_named, command_of};
 
 use wef_base::Text;
 
-/// Whether the words are those of `wef replay`.
-pub fn is_replay(words: &[Text]) -> bool
-    ensures { result ≡ is_replay words.now }
-{
-    match words {
-        [word] => word.as_str() == "replay",
-        _ => false,
+/// What `wef` is told to do.
+#[derive(Clone, Copy, Debug, PartialEq, Eq)]
+pub enum Command {
+    /// Reads a schedule, does its lines, and writes what they print.
+    Replay,
+}
+
+impl Command {
+    /// The command that the words ask for; none where they are no command line.
+    pub fn read(words: &[Text]) -> Option<Command>
+        ensures { result ≡ command_of words.now }
+    {
+        match words {
+            [name] => Command::named(name),
+            _ => None,
+        }
+    }
+
+    fn named(name: &Text) -> Option<Command>
+        ensures { result ≡ command_named name.now }
+    {
+        if name.as_str() == "replay" {
+            return Some(Command::Replay);
+        }
+        None
     }
 }

@@ -5,8 +5,10 @@
 mod command;
 mod ending;
 pub mod laws;
+mod runs;
 mod streams;
 mod top;
 
+pub use command::Command;
 pub use ending::Ending;
 pub use top::run;

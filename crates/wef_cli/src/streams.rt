@@ -5,7 +5,7 @@ ghost use Rattle.std.specs.Io.KnownBytes.{Consumes, Appends, IsAtEnd};
 ghost use Rattle.wef_base.specs.Counts.{Rose};
 ghost use Rattle.wef_cli.specs.Streams.{ReadsWhole, WritesPart};
 
-use std::alloc::{AllocError, Global};
+use std::alloc::Global;
 use wef_base::{Bytes, IoFailed, Sink, Source};
 
 /// The greatest input that is read, in bytes.
@@ -17,17 +17,6 @@ pub enum InputFault {
     NoMemory,
     Failed,
     TooLong,
-}
-
-impl From<AllocError> for InputFault {
-    ghost use Rattle.std.specs.Prelude.{◌≡◌};
-    ghost use Rattle.wef_cli.specs.declared.streams.InputFault.TheVariants.{NoMemory};
-
-    ghost from_gives = { λ _ e. e ≡ NoMemory };
-
-    fn from(_error: AllocError) -> InputFault {
-        InputFault::NoMemory
-    }
 }
 
 /// Reads an input to its end. An input of more than `INPUT_LIMIT` bytes is too long; it isn't read
@@ -46,7 +35,9 @@ pub fn read_whole<I: Source>(alloc: Global, input: &mut I) -> Result<Bytes, Inpu
         if count == 0 {
             return Ok(bytes);
         }
-        bytes.extend(&piece[..count])?;
+        if bytes.extend(&piece[..count]).is_err() {
+            return Err(InputFault::NoMemory);
+        }
     }
     Err(InputFault::TooLong)
 }

@@ -10,7 +10,6 @@ mod ends;
 pub mod faults;
 pub mod histories;
 mod printing;
-pub mod runs;
 pub mod slots;
 mod source_lines;
 pub mod source_place;
@@ -18,6 +17,5 @@ pub mod sources;
 mod world;
 
 pub use faults::WorldFault;
-pub use runs::run_lines;
 pub use wef_machine::Message;
 pub use world::World;
