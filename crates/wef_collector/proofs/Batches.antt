@@ -8,8 +8,8 @@ use Rattle.wef_batch.specs.Reach.{reach}
 use Rattle.wef_batch.specs.WellFormed.{is_in}
 use Rattle.wef_keeper.specs.declared.keys.Cell.{Cell}
 use Rattle.wef_keeper.specs.Rows.{Rows}
-use Rattle.wef_collector.specs.Bookmarks.{bookmark_at}
-use Rattle.wef_collector.specs.Keys.{bookmark_key}
+use Rattle.wef_collector_rows.specs.Bookmarks.{bookmark_at}
+use Rattle.wef_collector_rows.specs.Keys.{bookmark_key}
 use Rattle.wef_collector.specs.Laws.{EventsAreHeld, BookmarkMoves, BookmarkNeverFalls, OthersStay, held_after_all, is_of_pair, moved, moved_by_all}
 use Rattle.wef_collector.specs.Taken.{taken}
 use Rattle.wef_collector.proofs.Hits.{one_name}

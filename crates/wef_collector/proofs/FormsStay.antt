@@ -38,15 +38,16 @@ use Rattle.wef_keeper.specs.declared.keys.Key.{Key}
 use Rattle.wef_query.specs.Order.{with_name, with_names}
 use Rattle.wef_query.specs.Queries.{all_events_of}
 use Rattle.wef_query.specs.Selected.{selects}
-use Rattle.wef_collector.specs.Answers.{channels_read}
-use Rattle.wef_collector.specs.Bookmarks.{bookmark_at, is_one}
+use Rattle.wef_collector_rows.specs.declared.forms.TheConstants.{LAST_MOMENT}
+use Rattle.wef_collector_rows.specs.Answers.{channels_read}
+use Rattle.wef_collector_rows.specs.Bookmarks.{bookmark_at, is_one}
 use Rattle.wef_collector.specs.Boots.{boot_of}
-use Rattle.wef_collector.specs.Forms.{AreFormed, is_boot_row, is_bookmark_row, is_channel_name, is_formed, is_heard_row, is_held_row, is_loose_row, is_mark_row, is_source_name, is_subscription_name, is_subscription_row, names_channel}
+use Rattle.wef_collector_rows.specs.Forms.{AreFormed, is_boot_row, is_bookmark_row, is_channel_name, is_formed, is_heard_row, is_held_row, is_loose_row, is_mark_row, is_source_name, is_subscription_name, is_subscription_row, names_channel}
 use Rattle.wef_collector.specs.FormsStay.{FormsStay, IsSoundItem, IsSoundBatch}
-use Rattle.wef_collector.specs.Keys.{bookmark_key, boot_key, heard_key, held_key, loose_key, mark_key, subscription_key}
-use Rattle.wef_collector.specs.Standing.{kept_body, standing, standing_by, standing_of}
+use Rattle.wef_collector_rows.specs.Keys.{bookmark_key, boot_key, heard_key, held_key, loose_key, mark_key, subscription_key}
+use Rattle.wef_collector_rows.specs.Standing.{kept_body, standing, standing_by, standing_of}
 use Rattle.wef_collector.specs.Taken.{batch_changes, channel_changes, heard_changes, is_later, item_changes, loose_changes, move_changes, put, reach_changes, taken}
-use Rattle.wef_collector.specs.declared.standings.Standing.TheVariants.{Ended, Live}
+use Rattle.wef_collector_rows.specs.declared.standings.Standing.TheVariants.{Ended, Live}
 use Rattle.wef_collector.proofs.Hits.{hits, one_key, one_name, same_self}
 
 -- ---- changes of rows of their form
@@ -141,9 +142,9 @@ unfolding is_formed is_loose_row
 loose_sound u s c first last sum names order within few =
     λ i. names i && le_tested first last order i && le_tested last MAX within i && digits_read sum few i
 
-heard_sound : (u s : List ℕ) (now : ℕ) → is_subscription_name u ≡ true → is_source_name s ≡ true → now ≤ 253402300799999 → IsSound (put (heard_key u s) now [])
+heard_sound : (u s : List ℕ) (now : ℕ) → is_subscription_name u ≡ true → is_source_name s ≡ true → now ≤ LAST_MOMENT → IsSound (put (heard_key u s) now [])
 unfolding is_formed is_heard_row
-heard_sound u s now name source moment = λ i. (name i && source i) && true && true && le_tested now 253402300799999 moment i && true
+heard_sound u s now name source moment = λ i. (name i && source i) && true && true && le_tested now LAST_MOMENT moment i && true
 
 boot_sound : (n : ℕ) → n ≤ MAX → IsSound (put boot_key n [])
 unfolding is_formed is_boot_row
@@ -360,7 +361,7 @@ channel_sound rows u s batch name source numbers few c ready =
     reach_sound u s c (bookmark_at rows u s c) batch (reach c batch) names (all_within c None batch.items order.0 numbers.items) few (reach_within c batch numbers)
 
 batch_sound : (rows : Rows) (u s : List ℕ) (channels : List (List ℕ)) (batch : Batch) (now : ℕ) → is_subscription_name u ≡ true → is_source_name s ≡ true → AllByRecursion IsChannel channels
-    → is_well_formed channels batch ≡ true → IsSoundBatch batch → now ≤ 253402300799999 → AreSound (batch_changes rows u s channels batch now)
+    → is_well_formed channels batch ≡ true → IsSoundBatch batch → now ≤ LAST_MOMENT → AreSound (batch_changes rows u s channels batch now)
 batch_sound rows u s channels batch now name source names formed numbers moment =
     let outer = and_parts (list_all (is_listed channels) batch.items && list_all (is_in_order batch) channels) (nat_le (loose_sum batch.items) MAX) formed in
     let inner = and_parts (list_all (is_listed channels) batch.items) (list_all (is_in_order batch) channels) outer.0 in
@@ -376,7 +377,7 @@ start_formed rows left formed =
     formed_applied (put boot_key (boot_of rows + 1) [] ∷ []) rows (boot_sound (boot_of rows + 1) (next_within (boot_of rows) MAX (lt_holds (boot_of rows) MAX left)), tt) formed
 
 take_formed : (rows : Rows) (u s : List ℕ) (about : Subscription) (batch : Batch) (now : ℕ) → standing rows u ≡ Live about → is_source_name s ≡ true → is_well_formed (channels_read about) batch ≡ true
-    → IsSoundBatch batch → now ≤ 253402300799999 → AreFormed rows → AreFormed (taken rows u s (channels_read about) batch now)
+    → IsSoundBatch batch → now ≤ LAST_MOMENT → AreFormed rows → AreFormed (taken rows u s (channels_read about) batch now)
 unfolding taken
 take_formed rows u s about batch now lives source well numbers moment formed =
     let kept = live_kept rows u about lives formed in

@@ -1,8 +1,5 @@
 pub mod Batches
-pub mod Channels
-pub mod Forming
 pub mod FormsStay
-pub mod HeldPages
 pub mod Hits
 pub mod ListedThere
 pub mod Live
@@ -10,5 +7,4 @@ pub mod Moving
 pub mod OfStore
 pub mod OwnKeys
 pub mod Pages
-pub mod Sources
 pub mod Taking

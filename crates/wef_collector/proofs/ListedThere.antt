@@ -17,11 +17,11 @@ use Rattle.wef_keeper.specs.Sections.{is_under}
 use Rattle.wef_keeper.specs.declared.keys.Depth.TheVariants.{Kind}
 use Rattle.wef_keeper.specs.declared.keys.Key.{Key}
 use Rattle.wef_keeper.specs.declared.keys.Row.{Row}
-use Rattle.wef_collector.specs.Keys.{subscription_key}
-use Rattle.wef_collector.specs.Listing.{listed_by, listed_of}
-use Rattle.wef_collector.specs.Standing.{standing, standing_by, standing_of, subscription_rows}
+use Rattle.wef_collector_rows.specs.Keys.{subscription_key}
+use Rattle.wef_collector_reports.specs.Listing.{listed_by, listed_of}
+use Rattle.wef_collector_rows.specs.Standing.{standing, standing_by, standing_of, subscription_rows}
 use Rattle.wef_collector.specs.There.{HaveOwnKeys, ListedAreThere, standing_as}
-use Rattle.wef_collector.specs.declared.listing.Listed.{Listed}
+use Rattle.wef_collector_reports.specs.declared.listing.Listed.{Listed}
 
 -- ---- a kept subscription has the name that it was read by
 

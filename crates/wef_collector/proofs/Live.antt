@@ -13,14 +13,14 @@ use Rattle.wef_keeper.specs.declared.keys.Change.{Change}
 use Rattle.wef_keeper.specs.Rows.{Rows, applied, key_cmp, key_cmp_total}
 use Rattle.wef_keeper.specs.declared.keys.Cell.{Cell}
 use Rattle.wef_keeper.specs.declared.keys.Key.{Key}
-use Rattle.wef_collector.specs.Keys.{subscription_key}
-use Rattle.wef_collector.specs.Standing.{is_full, standing, standing_by, standing_of}
+use Rattle.wef_collector_rows.specs.Keys.{subscription_key}
+use Rattle.wef_collector_rows.specs.Standing.{is_full, standing, standing_by, standing_of}
 use Rattle.wef_eventing.specs.declared.subscriptions.Subscription.{Subscription}
-use Rattle.wef_collector.specs.Answers.{channels_read, is_there}
+use Rattle.wef_collector_rows.specs.Answers.{channels_read, is_there}
 use Rattle.wef_collector.specs.Calls.{add_effect, take_by}
 use Rattle.wef_collector.specs.Taken.{batch_changes, put}
-use Rattle.wef_collector.specs.declared.faults.CollectorFault.TheVariants.{Exists, NotWellFormed, TooMany}
-use Rattle.wef_collector.specs.declared.standings.Standing.TheVariants.{Live}
+use Rattle.wef_collector_rows.specs.declared.faults.CollectorFault.TheVariants.{Exists, NotWellFormed, TooMany}
+use Rattle.wef_collector_rows.specs.declared.standings.Standing.TheVariants.{Live}
 
 same_key : (k : Key) → eq_by_cmp key_cmp k k ≡ true
 same_key k = (eq_by_cmp_equiv key_cmp_total).refl k

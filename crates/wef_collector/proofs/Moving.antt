@@ -15,8 +15,8 @@ use Rattle.wef_keeper.specs.declared.keys.Cell.{Cell}
 use Rattle.wef_keeper.specs.declared.keys.Key.{Key}
 use Rattle.wef_keeper.specs.Laws.{get-applied, get-unnamed}
 use Rattle.wef_keeper.specs.Rows.{Rows, found_after, is_named}
-use Rattle.wef_collector.specs.Bookmarks.{bookmark_at}
-use Rattle.wef_collector.specs.Keys.{key, bookmark_key, held_key, mark_key, heard_key}
+use Rattle.wef_collector_rows.specs.Bookmarks.{bookmark_at}
+use Rattle.wef_collector_rows.specs.Keys.{key, bookmark_key, held_key, mark_key, heard_key}
 use Rattle.wef_collector.specs.Laws.{moved, is_of_pair}
 use Rattle.wef_collector.specs.Taken.{batch_changes, channel_changes, heard_changes, is_later, item_changes, loose_changes, move_changes, put, reach_changes, taken}
 use Rattle.wef_collector.proofs.Hits.{found-append, found_channels, found_flat_other, found_if_other, hits, hits_self, named-append, named_flat, named_if, not_both, one_key, one_name, refuted, same_self}

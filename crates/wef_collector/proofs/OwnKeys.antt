@@ -8,7 +8,7 @@ use Rattle.wef_batch.specs.declared.items.Batch.{Batch}
 use Rattle.wef_keeper.specs.Rows.{Rows, key_cmp, key_cmp_total}
 use Rattle.wef_keeper.specs.declared.keys.Cell.{Cell}
 use Rattle.wef_keeper.specs.declared.keys.Key.{Key}
-use Rattle.wef_collector.specs.Keys.{key, subscription_key}
+use Rattle.wef_collector_rows.specs.Keys.{key, subscription_key}
 use Rattle.wef_collector.specs.Taken.{taken}
 use Rattle.wef_collector.specs.There.{HaveOwnKeys, IsOwnKey, OwnKeysStay}
 use Rattle.wef_collector.proofs.Hits.{hits, one_key, refuted}

@@ -14,8 +14,8 @@ use Rattle.wef_keeper.specs.declared.keys.Cell.{Cell}
 use Rattle.wef_keeper.specs.declared.keys.Key.{Key}
 use Rattle.wef_keeper.specs.Laws.{get-applied}
 use Rattle.wef_keeper.specs.Rows.{Rows, found_after}
-use Rattle.wef_collector.specs.Bookmarks.{bookmark_at}
-use Rattle.wef_collector.specs.Keys.{bookmark_key, held_key, mark_key, heard_key}
+use Rattle.wef_collector_rows.specs.Bookmarks.{bookmark_at}
+use Rattle.wef_collector_rows.specs.Keys.{bookmark_key, held_key, mark_key, heard_key}
 use Rattle.wef_collector.specs.Laws.{is_new, held_as, held_after_items}
 use Rattle.wef_collector.specs.Taken.{batch_changes, channel_changes, heard_changes, is_later, item_changes, loose_changes, move_changes, put, reach_changes, taken}
 use Rattle.wef_collector.proofs.Hits.{found-append, found_channels, found_flat_other, found_if, found_if_other, hits, hits_self, not_both, one_key, one_name, refuted, same_self}

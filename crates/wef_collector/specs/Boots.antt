@@ -6,7 +6,7 @@ use Rattle.wef_envelope.specs.Ids.{ids_of_boot}
 use Rattle.wef_envelope.specs.declared.ids.Ids.{Ids}
 use Rattle.wef_keeper.specs.Rows.{Rows}
 use Rattle.wef_keeper.specs.declared.keys.Cell.{Cell}
-use Rattle.wef_collector.specs.Keys.{boot_key}
+use Rattle.wef_collector_rows.specs.Keys.{boot_key}
 
 -- the boot number, 0 where none is kept
 abbrev pub boot_of : Rows → ℕ

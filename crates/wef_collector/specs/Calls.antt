@@ -8,15 +8,15 @@ use Rattle.wef_eventing.specs.Kept.{kept_words}
 use Rattle.wef_eventing.specs.declared.subscriptions.Subscription.{Subscription}
 use Rattle.wef_keeper.specs.Calls as keeper
 use Rattle.wef_keeper.specs.Rows.{Rows}
-use Rattle.wef_collector.specs.Answers.{channels_read, is_there}
+use Rattle.wef_collector_rows.specs.Answers.{channels_read, is_there}
 use Rattle.wef_collector.specs.Boots.{boot_of}
-use Rattle.wef_collector.specs.Keys.{boot_key, subscription_key}
-use Rattle.wef_collector.specs.Standing.{is_full, kept_body, standing}
+use Rattle.wef_collector_rows.specs.Keys.{boot_key, subscription_key}
+use Rattle.wef_collector_rows.specs.Standing.{is_full, kept_body, standing}
 use Rattle.wef_collector.specs.Taken.{batch_changes, put}
-use Rattle.wef_collector.specs.declared.faults.CollectorFault.{CollectorFault}
-use Rattle.wef_collector.specs.declared.faults.CollectorFault.TheVariants.{NoMemory, NoSubscription, Exists, Ended, NotWellFormed, TooMany, Failed, Full}
-use Rattle.wef_collector.specs.declared.standings.Standing as state
-use Rattle.wef_collector.specs.declared.standings.Standing.TheVariants as is
+use Rattle.wef_collector_rows.specs.declared.faults.CollectorFault.{CollectorFault}
+use Rattle.wef_collector_rows.specs.declared.faults.CollectorFault.TheVariants.{NoMemory, NoSubscription, Exists, Ended, NotWellFormed, TooMany, Failed, Full}
+use Rattle.wef_collector_rows.specs.declared.standings.Standing as state
+use Rattle.wef_collector_rows.specs.declared.standings.Standing.TheVariants as is
 
 -- what a call of the collector does: the changes that it commits, or why it is refused
 abbrev pub Effect : Type 0

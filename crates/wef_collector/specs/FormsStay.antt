@@ -11,13 +11,14 @@ use Rattle.wef_event.specs.Events.{is_event}
 use Rattle.wef_eventing.specs.Kept.{kept_words, read_kept}
 use Rattle.wef_eventing.specs.declared.subscriptions.Subscription.{Subscription}
 use Rattle.wef_keeper.specs.Rows.{Rows}
-use Rattle.wef_collector.specs.Answers.{added_rows, channels_read, ended_rows}
+use Rattle.wef_collector_rows.specs.declared.forms.TheConstants.{LAST_MOMENT}
+use Rattle.wef_collector_rows.specs.Answers.{added_rows, channels_read, ended_rows}
 use Rattle.wef_collector.specs.Boots.{boot_of}
-use Rattle.wef_collector.specs.Forms.{AreFormed, is_source_name, is_subscription_name}
-use Rattle.wef_collector.specs.Keys.{boot_key}
-use Rattle.wef_collector.specs.Standing.{standing}
+use Rattle.wef_collector_rows.specs.Forms.{AreFormed, is_source_name, is_subscription_name}
+use Rattle.wef_collector_rows.specs.Keys.{boot_key}
+use Rattle.wef_collector_rows.specs.Standing.{standing}
 use Rattle.wef_collector.specs.Taken.{taken}
-use Rattle.wef_collector.specs.declared.standings.Standing.TheVariants.{Live}
+use Rattle.wef_collector_rows.specs.declared.standings.Standing.TheVariants.{Live}
 
 -- an item's event is the one that its text says, and its numbers are such as records have
 abbrev pub IsSoundItem : Item → Type 0
@@ -40,5 +41,5 @@ pub record FormsStay : Type 0 where
       → AreFormed (added_rows rows s)
   pub end : (rows : Rows) (u : List ℕ) (about : Subscription) → standing rows u ≡ Live about → AreFormed rows → AreFormed (ended_rows rows u)
   pub take : (rows : Rows) (u s : List ℕ) (about : Subscription) (batch : Batch) (now : ℕ) → standing rows u ≡ Live about → is_source_name s ≡ true
-      → is_well_formed (channels_read about) batch ≡ true → IsSoundBatch batch → now ≤ 253402300799999 → AreFormed rows
+      → is_well_formed (channels_read about) batch ≡ true → IsSoundBatch batch → now ≤ LAST_MOMENT → AreFormed rows
       → AreFormed (taken rows u s (channels_read about) batch now)

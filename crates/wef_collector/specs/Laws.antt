@@ -10,8 +10,8 @@ use Rattle.wef_batch.specs.WellFormed.{is_in}
 use Rattle.wef_keeper.specs.declared.keys.Cell.{Cell}
 use Rattle.wef_keeper.specs.declared.keys.Key.{Key}
 use Rattle.wef_keeper.specs.Rows.{Rows}
-use Rattle.wef_collector.specs.Bookmarks.{bookmark_at}
-use Rattle.wef_collector.specs.Keys.{held_key}
+use Rattle.wef_collector_rows.specs.Bookmarks.{bookmark_at}
+use Rattle.wef_collector_rows.specs.Keys.{held_key}
 use Rattle.wef_collector.specs.Taken.{taken}
 
 -- whether an item is an event of the channel with this number, above the bookmark b

@@ -9,9 +9,9 @@ use Rattle.wef_eventing.specs.declared.subscriptions.SubKind.{SubKind}
 use Rattle.wef_eventing.specs.declared.subscriptions.SubKind.TheVariants.{BySource, ByCollector}
 use Rattle.wef_eventing.specs.declared.subscriptions.Subscription.{Subscription}
 use Rattle.wef_keeper.specs.Rows.{Rows}
-use Rattle.wef_collector.specs.Bookmarks.{bookmark_of}
-use Rattle.wef_collector.specs.Listing.{listed}
-use Rattle.wef_collector.specs.declared.listing.Listed.{Listed}
+use Rattle.wef_collector_rows.specs.Bookmarks.{bookmark_of}
+use Rattle.wef_collector_reports.specs.Listing.{listed}
+use Rattle.wef_collector_reports.specs.declared.listing.Listed.{Listed}
 
 -- whether the sources begin
 abbrev pub begins_at_sources : SubKind → Bool

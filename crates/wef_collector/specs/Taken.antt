@@ -20,8 +20,8 @@ use Rattle.wef_keeper.specs.declared.keys.Change.{Change}
 use Rattle.wef_keeper.specs.declared.keys.Change.TheVariants.{Put}
 use Rattle.wef_keeper.specs.declared.keys.Key.{Key}
 use Rattle.wef_keeper.specs.Rows.{Rows, applied}
-use Rattle.wef_collector.specs.Bookmarks.{bookmark_at}
-use Rattle.wef_collector.specs.Keys.{bookmark_key, held_key, mark_key, loose_key, heard_key}
+use Rattle.wef_collector_rows.specs.Bookmarks.{bookmark_at}
+use Rattle.wef_collector_rows.specs.Keys.{bookmark_key, held_key, mark_key, loose_key, heard_key}
 
 abbrev pub put : Key → ℕ → List ℕ → Change
 put key value body = Put (record { key = key; value = value; body = body })

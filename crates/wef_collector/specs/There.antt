@@ -7,14 +7,14 @@ use Rattle.wef_batch.specs.declared.items.Batch.{Batch}
 use Rattle.wef_eventing.specs.declared.subscriptions.Subscription.{Subscription}
 use Rattle.wef_keeper.specs.Rows.{Rows}
 use Rattle.wef_keeper.specs.declared.keys.Key.{Key}
-use Rattle.wef_collector.specs.Answers.{added_rows, ended_rows}
-use Rattle.wef_collector.specs.Keys.{subscription_key}
-use Rattle.wef_collector.specs.Listing.{listed}
-use Rattle.wef_collector.specs.Standing.{standing}
+use Rattle.wef_collector_rows.specs.Answers.{added_rows, ended_rows}
+use Rattle.wef_collector_rows.specs.Keys.{subscription_key}
+use Rattle.wef_collector_reports.specs.Listing.{listed}
+use Rattle.wef_collector_rows.specs.Standing.{standing}
 use Rattle.wef_collector.specs.Taken.{taken}
-use Rattle.wef_collector.specs.declared.listing.Listed.{Listed}
-use Rattle.wef_collector.specs.declared.standings.Standing.{Standing}
-use Rattle.wef_collector.specs.declared.standings.Standing.TheVariants.{Ended, Live}
+use Rattle.wef_collector_reports.specs.declared.listing.Listed.{Listed}
+use Rattle.wef_collector_rows.specs.declared.standings.Standing.{Standing}
+use Rattle.wef_collector_rows.specs.declared.standings.Standing.TheVariants.{Ended, Live}
 
 -- The key of a subscription whose name reads back as itself.
 pub record IsOwnKey (key : Key) : Type 0 where

@@ -6,16 +6,16 @@ ghost use Rattle.std.specs.FinMap as map;
 ghost use Rattle.std.specs.List.{flat_map};
 ghost use Rattle.wef_batch.specs.Reach as reaches;
 ghost use Rattle.wef_keeper.specs.Access as access;
-ghost use Rattle.wef_collector.specs.Forms.{AreFormed};
-ghost use Rattle.wef_collector.specs.Keys as keys;
+ghost use Rattle.wef_collector_rows.specs.Forms.{AreFormed};
+ghost use Rattle.wef_collector_rows.specs.Keys as keys;
 ghost use Rattle.wef_collector.specs.Taken as spec;
-ghost use Rattle.wef_collector.specs.Bookmarks as bookmarks;
+ghost use Rattle.wef_collector_rows.specs.Bookmarks as bookmarks;
 
-use crate::keys::{bookmark_key, heard_key, held_key, loose_key, mark_key};
-use crate::reading::{formed_cell, formed_number};
 use std::alloc::AllocError;
 use wef_base::{ChannelName, List, SourceName, SubId, Text};
 use wef_batch::{Batch, Item, loose_sum, reach};
+use wef_collector_rows::keys::{bookmark_key, heard_key, held_key, loose_key, mark_key};
+use wef_collector_rows::reading::{formed_cell, formed_number};
 use wef_keeper::{Change, Keeper, Key, Row, StoreFault};
 
 /// All that a batch for these channels changes.

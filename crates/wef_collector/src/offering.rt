@@ -4,14 +4,14 @@ ghost use Rattle.std.specs.Prelude.{◌≡◌, [], ◌∷◌, ◌++◌, IfOk, If
 ghost use Rattle.std.specs.Fmt.{decimal};
 ghost use Rattle.std.specs.List.{filter_map};
 ghost use Rattle.wef_keeper.specs.Access as access;
-ghost use Rattle.wef_collector.specs.Forms.{AreFormed};
+ghost use Rattle.wef_collector_rows.specs.Forms.{AreFormed};
 ghost use Rattle.wef_collector.specs.Offers as spec;
 
-use crate::bookmarks::bookmark_of;
-use crate::listing::{Listed, list_subscriptions};
 use std::alloc::{AllocError, Global};
 use wef_base::{List, SourceName, Text};
 use wef_bookmark::Bookmark;
+use wef_collector_reports::listing::{Listed, list_subscriptions};
+use wef_collector_rows::bookmarks::bookmark_of;
 use wef_eventing::{Offer, SubKind, Subscribe, Subscription, delivery_address};
 use wef_keeper::{Keeper, StoreFault};
 

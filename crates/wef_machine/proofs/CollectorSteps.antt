@@ -11,15 +11,15 @@ use Rattle.wef_batch.specs.declared.items.Batch.{Batch}
 use Rattle.wef_bookmark.specs.Order.{number_at}
 use Rattle.wef_collector.proofs.Hits.{not_both, one_name, same_self}
 use Rattle.wef_collector.specs.Boots.{boot_of}
-use Rattle.wef_collector.specs.Bookmarks.{bookmark_at}
-use Rattle.wef_collector.specs.Answers.{added_rows, channels_read, ended_rows, is_there}
+use Rattle.wef_collector_rows.specs.Bookmarks.{bookmark_at}
+use Rattle.wef_collector_rows.specs.Answers.{added_rows, channels_read, ended_rows, is_there}
 use Rattle.wef_collector.specs.Calls.{Effect, boot_effect, end_by}
-use Rattle.wef_collector.specs.Keys.{boot_key, subscription_key}
-use Rattle.wef_collector.specs.Standing.{is_full, kept_body, standing}
+use Rattle.wef_collector_rows.specs.Keys.{boot_key, subscription_key}
+use Rattle.wef_collector_rows.specs.Standing.{is_full, kept_body, standing}
 use Rattle.wef_collector.specs.Taken.{batch_changes, put, taken}
-use Rattle.wef_collector.specs.declared.faults.CollectorFault.TheVariants as faults
-use Rattle.wef_collector.specs.declared.standings.Standing as state_of
-use Rattle.wef_collector.specs.declared.standings.Standing.TheVariants as stands
+use Rattle.wef_collector_rows.specs.declared.faults.CollectorFault.TheVariants as faults
+use Rattle.wef_collector_rows.specs.declared.standings.Standing as state_of
+use Rattle.wef_collector_rows.specs.declared.standings.Standing.TheVariants as stands
 use Rattle.wef_envelope.specs.Ids.{ids_of_boot}
 use Rattle.wef_envelope.specs.declared.FaultName.{FaultName}
 use Rattle.wef_envelope.specs.declared.FaultName.TheVariants.{InvalidMessage, DestinationUnreachable, InternalError}

@@ -10,16 +10,16 @@ use Rattle.std.specs.List.{AllByRecursion}
 use Rattle.std.specs.Option.{option_map}
 use Rattle.wef_batch.specs.WellFormed.{is_well_formed}
 use Rattle.wef_batch.specs.declared.items.Batch as items
-use Rattle.wef_collector.specs.Answers.{channels_read, is_there}
+use Rattle.wef_collector_rows.specs.Answers.{channels_read, is_there}
 use Rattle.wef_collector.specs.Boots.{boot_of}
 use Rattle.wef_collector.specs.Calls.{Effect as CollectorEffect, add_effect, boot_effect, end_by, end_effect}
 use Rattle.wef_collector.specs.Offers.{offers}
-use Rattle.wef_collector.specs.Keys.{boot_key, subscription_key}
-use Rattle.wef_collector.specs.Standing.{is_full, kept_body, standing}
+use Rattle.wef_collector_rows.specs.Keys.{boot_key, subscription_key}
+use Rattle.wef_collector_rows.specs.Standing.{is_full, kept_body, standing}
 use Rattle.wef_collector.specs.Taken.{batch_changes, put, taken}
-use Rattle.wef_collector.specs.declared.faults.CollectorFault.TheVariants as faults
-use Rattle.wef_collector.specs.declared.standings.Standing.{Standing}
-use Rattle.wef_collector.specs.declared.standings.Standing.TheVariants as stands
+use Rattle.wef_collector_rows.specs.declared.faults.CollectorFault.TheVariants as faults
+use Rattle.wef_collector_rows.specs.declared.standings.Standing.{Standing}
+use Rattle.wef_collector_rows.specs.declared.standings.Standing.TheVariants as stands
 use Rattle.wef_envelope.specs.Ids.{ids_of_boot, next_id, with_drawn}
 use Rattle.wef_envelope.specs.declared.FaultName.TheVariants.{InternalError, InvalidMessage}
 use Rattle.wef_envelope.specs.declared.ids.Ids.{Ids}

@@ -13,8 +13,8 @@ use Rattle.wef_batch.specs.Reach.{later, span_in}
 use Rattle.wef_batch.specs.WellFormed.{follows, rises}
 use Rattle.wef_batch.specs.declared.items.Item.TheVariants.{Event, Dropped, Loose}
 use Rattle.wef_batch.specs.declared.items.Item.{Item}
-use Rattle.wef_collector.specs.Held.{event_of_row, held_after}
-use Rattle.wef_collector.specs.Keys.{held_key}
+use Rattle.wef_collector_rows.specs.Held.{event_of_row, held_after}
+use Rattle.wef_collector_rows.specs.Keys.{held_key}
 use Rattle.wef_collector.specs.Laws.{held_after_items, held_as, is_new}
 use Rattle.wef_keeper.specs.Rows.{Rows}
 use Rattle.wef_keeper.specs.declared.keys.Cell.{Cell}

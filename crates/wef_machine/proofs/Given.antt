@@ -2,7 +2,7 @@
 use Rattle.std.proofs.Common.{◌≡◌, ◌∙◌, ap, refl, List, [], ◌∷◌, Bool, cond, Option, None, Some}
 use Rattle.std.specs.Prelude.{Ok, Err, codes}
 use Rattle.wef_envelope.specs.declared.FaultName.TheVariants.{InvalidMessage}
-use Rattle.wef_collector.specs.Answers.{channels_read}
+use Rattle.wef_collector_rows.specs.Answers.{channels_read}
 use Rattle.wef_collector.specs.Taken.{batch_changes}
 use Rattle.wef_keeper.specs.declared.keys.Change.{Change}
 use Rattle.wef_machine.specs.Arming.{fate}

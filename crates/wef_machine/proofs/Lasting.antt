@@ -5,15 +5,15 @@ use Rattle.std.specs.Prelude.{Ok, Err}
 use Rattle.std.specs.FinMap as finite
 use Rattle.wef_batch.specs.WellFormed.{is_well_formed}
 use Rattle.wef_batch.specs.declared.items.Batch as items
-use Rattle.wef_collector.specs.Answers.{channels_read, is_there}
+use Rattle.wef_collector_rows.specs.Answers.{channels_read, is_there}
 use Rattle.wef_collector.specs.Boots.{boot_of}
 use Rattle.wef_collector.specs.Calls.{Effect, boot_effect, end_by}
-use Rattle.wef_collector.specs.Keys.{boot_key, subscription_key}
-use Rattle.wef_collector.specs.Standing.{is_full, kept_body, standing}
+use Rattle.wef_collector_rows.specs.Keys.{boot_key, subscription_key}
+use Rattle.wef_collector_rows.specs.Standing.{is_full, kept_body, standing}
 use Rattle.wef_collector.specs.Taken.{batch_changes, put, taken}
-use Rattle.wef_collector.specs.declared.faults.CollectorFault.TheVariants as faults
-use Rattle.wef_collector.specs.declared.standings.Standing.{Standing}
-use Rattle.wef_collector.specs.declared.standings.Standing.TheVariants as stands
+use Rattle.wef_collector_rows.specs.declared.faults.CollectorFault.TheVariants as faults
+use Rattle.wef_collector_rows.specs.declared.standings.Standing.{Standing}
+use Rattle.wef_collector_rows.specs.declared.standings.Standing.TheVariants as stands
 use Rattle.wef_envelope.specs.Ids.{ids_of_boot}
 use Rattle.wef_envelope.specs.declared.FaultName.TheVariants.{InvalidMessage}
 use Rattle.wef_envelope.specs.declared.ids.Ids.{Ids}

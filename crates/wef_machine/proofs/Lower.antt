@@ -5,14 +5,14 @@ use Rattle.wef_base.specs.Names.{channel_name}
 use Rattle.wef_batch.specs.WellFormed.{is_well_formed}
 use Rattle.wef_batch.specs.declared.items.Batch.{Batch}
 use Rattle.wef_bookmark.specs.Order.{IsAtMost, Marks}
-use Rattle.wef_collector.specs.Answers.{added_rows, channels_read, ended_rows}
+use Rattle.wef_collector_rows.specs.Answers.{added_rows, channels_read, ended_rows}
 use Rattle.wef_collector.specs.Boots.{boot_of}
-use Rattle.wef_collector.specs.Forms as collector
+use Rattle.wef_collector_rows.specs.Forms as collector
 use Rattle.wef_collector.specs.FormsStay.{IsSoundBatch}
-use Rattle.wef_collector.specs.Keys.{boot_key}
-use Rattle.wef_collector.specs.Standing.{standing}
+use Rattle.wef_collector_rows.specs.Keys.{boot_key}
+use Rattle.wef_collector_rows.specs.Standing.{standing}
 use Rattle.wef_collector.specs.Taken.{taken}
-use Rattle.wef_collector.specs.declared.standings.Standing.TheVariants.{Live}
+use Rattle.wef_collector_rows.specs.declared.standings.Standing.TheVariants.{Live}
 use Rattle.wef_event.specs.Events.{Event, is_event}
 use Rattle.wef_event.specs.Numbering.{NumberedEventsAreRead}
 use Rattle.wef_eventing.specs.Kept.{kept_words, read_kept}

@@ -7,7 +7,7 @@ use Rattle.std.specs.FinMap as finite
 use Rattle.std.specs.Option.{option_map}
 use Rattle.std.specs.Str.{is_utf8}
 use Rattle.wef_collector.proofs.FormsStay.{forms_stay as collector_forms}
-use Rattle.wef_collector.specs.Forms.{is_source_name, is_subscription_name}
+use Rattle.wef_collector_rows.specs.Forms.{is_source_name, is_subscription_name}
 use Rattle.wef_event.proofs.NumberedTrees.{numbered_is_read}
 use Rattle.wef_keeper.specs.Rows.{Rows, row_of}
 use Rattle.wef_keeper.specs.declared.keys.Cell.{Cell}

@@ -15,8 +15,8 @@ use Rattle.wef_batch.specs.declared.items.Batch.{Batch}
 use Rattle.wef_batch.specs.declared.items.Item.TheVariants.{Event, Dropped, Loose}
 use Rattle.wef_batch.specs.declared.items.Item.{Item}
 use Rattle.wef_collector.proofs.Hits.{found-append, found_flat_other, found_if, found_if_other, hits}
-use Rattle.wef_collector.specs.Bookmarks.{bookmark_at}
-use Rattle.wef_collector.specs.Keys.{bookmark_key, held_key, loose_key, mark_key}
+use Rattle.wef_collector_rows.specs.Bookmarks.{bookmark_at}
+use Rattle.wef_collector_rows.specs.Keys.{bookmark_key, held_key, loose_key, mark_key}
 use Rattle.wef_collector.specs.Taken.{item_changes, loose_changes, move_changes, put, reach_changes, taken}
 use Rattle.wef_keeper.specs.Rows.{found_after, Rows}
 use Rattle.wef_keeper.specs.declared.keys.Cell.{Cell}

@@ -11,7 +11,7 @@ use Rattle.std.specs.Ordering.{eq_by_cmp, is_eq, nat_cmp}
 use Rattle.std.specs.declared.cmp.Ordering.{Ordering}
 use Rattle.std.specs.declared.cmp.Ordering.TheVariants.{Less, Equal, Greater}
 use Rattle.wef_batch.specs.WellFormed.{is_in}
-use Rattle.wef_collector.specs.Answers.{channels_read}
+use Rattle.wef_collector_rows.specs.Answers.{channels_read}
 use Rattle.wef_eventing.specs.declared.subscriptions.Subscription.{Subscription}
 use Rattle.wef_keeper.specs.Rows.{Rows}
 use Rattle.wef_keeper.specs.declared.keys.Cell.{Cell}
@@ -21,7 +21,7 @@ use Rattle.wef_source_log.specs.Histories.{history}
 use Rattle.wef_machine.specs.Kept.{AreInOrder, IsChannelKept, IsDelivery, IsDrawnBefore, IsKept, IsMessageKept, IsPairKept, IsRowKey, IsSourceKept, IsWorldKept, WasDrawn, WhereDeclared, last_id, request_id, source_of}
 use Rattle.wef_machine.specs.Safe.{IsPairSafe, IsUntouched, WasSent, settings_of, subscription_at}
 use Rattle.wef_machine.specs.States.{Slot, Slots, State, slot_of, with_message, with_slot}
-use Rattle.wef_collector.specs.Forms.{AreFormed}
+use Rattle.wef_collector_rows.specs.Forms.{AreFormed}
 use Rattle.wef_machine.specs.declared.messages.Message.{Message}
 use Rattle.wef_machine.specs.declared.messages.Message.TheVariants.{Ask, Offers, Events, Ack, Fault}
 use Rattle.wef_machine.proofs.Growing.{MessagesGrow, RowsGrow, SlotGrows, SourcesGrow, message_grows, same_messages, same_rows, same_sources, source_grows}

@@ -21,15 +21,15 @@ use Rattle.wef_base.specs.Names.{same, source_name, subscription_name}
 use Rattle.wef_bookmark.proofs.Joining.{raised_number}
 use Rattle.wef_bookmark.specs.Order.{Marks, number_at, raised}
 use Rattle.wef_collector.proofs.Hits.{one_key, one_name}
-use Rattle.wef_collector.specs.Bookmarks.{bookmark_at, bookmark_of, bookmark_rows, has_channel, raised_by_rows}
-use Rattle.wef_collector.specs.Keys.{bookmark_key}
-use Rattle.wef_collector.specs.Listing.{listed}
+use Rattle.wef_collector_rows.specs.Bookmarks.{bookmark_at, bookmark_of, bookmark_rows, has_channel, raised_by_rows}
+use Rattle.wef_collector_rows.specs.Keys.{bookmark_key}
+use Rattle.wef_collector_reports.specs.Listing.{listed}
 use Rattle.wef_collector.specs.Offers.{is_offered, offer_made, offer_of, offers}
 use Rattle.wef_collector.proofs.ListedThere.{listed_are_there}
 use Rattle.wef_collector.specs.There.{HaveOwnKeys, IsOwnKey, standing_as}
-use Rattle.wef_collector.specs.Standing.{standing}
-use Rattle.wef_collector.specs.declared.listing.Listed.{Listed}
-use Rattle.wef_collector.specs.declared.standings.Standing.TheVariants.{Ended, Live}
+use Rattle.wef_collector_rows.specs.Standing.{standing}
+use Rattle.wef_collector_reports.specs.declared.listing.Listed.{Listed}
+use Rattle.wef_collector_rows.specs.declared.standings.Standing.TheVariants.{Ended, Live}
 use Rattle.wef_eventing.proofs.AddressesBack.{addresses_read_back}
 use Rattle.wef_eventing.specs.Addresses.{delivery_address, source_in, subscription_in}
 use Rattle.wef_eventing.specs.declared.bodies.Offer.{Offer}

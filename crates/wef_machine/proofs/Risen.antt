@@ -11,7 +11,7 @@ use Rattle.wef_batch.specs.declared.items.Batch.{Batch}
 use Rattle.wef_bookmark.proofs.Joining.{joined_number}
 use Rattle.wef_bookmark.specs.Order.{Marks, number_at}
 use Rattle.wef_collector.proofs.Hits.{not_both}
-use Rattle.wef_collector.specs.Bookmarks.{bookmark_of}
+use Rattle.wef_collector_rows.specs.Bookmarks.{bookmark_of}
 use Rattle.wef_collector.specs.Offers.{offers}
 use Rattle.wef_envelope.specs.Ids.{ids_agree}
 use Rattle.wef_envelope.specs.declared.FaultName.{FaultName}

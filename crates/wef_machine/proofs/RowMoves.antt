@@ -13,13 +13,13 @@ use Rattle.wef_bookmark.specs.Order.{number_at}
 use Rattle.wef_collector.proofs.Batches.{bookmark_never_falls}
 use Rattle.wef_collector.proofs.Hits.{hits, not_both, one_key, one_name, refuted, same_self}
 use Rattle.wef_collector.proofs.Moving.{bookmark_by_taking}
-use Rattle.wef_collector.specs.Answers.{added_rows, ended_rows, is_there}
-use Rattle.wef_collector.specs.Bookmarks.{bookmark_at}
-use Rattle.wef_collector.specs.Keys.{bookmark_key, boot_key, heard_key, held_key, loose_key, mark_key, subscription_key}
+use Rattle.wef_collector_rows.specs.Answers.{added_rows, ended_rows, is_there}
+use Rattle.wef_collector_rows.specs.Bookmarks.{bookmark_at}
+use Rattle.wef_collector_rows.specs.Keys.{bookmark_key, boot_key, heard_key, held_key, loose_key, mark_key, subscription_key}
 use Rattle.wef_collector.specs.Laws.{moved}
-use Rattle.wef_collector.specs.Standing.{standing, standing_of}
+use Rattle.wef_collector_rows.specs.Standing.{standing, standing_of}
 use Rattle.wef_collector.specs.Taken.{taken}
-use Rattle.wef_collector.specs.declared.standings.Standing.TheVariants as is
+use Rattle.wef_collector_rows.specs.declared.standings.Standing.TheVariants as is
 use Rattle.wef_eventing.specs.declared.subscriptions.Subscription.{Subscription}
 use Rattle.wef_keeper.specs.Rows.{Rows, key_cmp, key_cmp_total}
 use Rattle.wef_keeper.specs.declared.keys.Cell.{Cell}

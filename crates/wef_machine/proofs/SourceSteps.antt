@@ -9,8 +9,8 @@ use Rattle.std.specs.List.{AllByRecursion}
 use Rattle.std.specs.Option.{option_map}
 use Rattle.wef_batch.specs.WellFormed.{is_in}
 use Rattle.wef_collector.proofs.Hits.{one_name}
-use Rattle.wef_collector.specs.Answers.{channels_read}
-use Rattle.wef_collector.specs.Bookmarks.{bookmark_at}
+use Rattle.wef_collector_rows.specs.Answers.{channels_read}
+use Rattle.wef_collector_rows.specs.Bookmarks.{bookmark_at}
 use Rattle.wef_envelope.specs.Ids.{ids_agree}
 use Rattle.wef_envelope.specs.declared.FaultName.{FaultName}
 use Rattle.wef_envelope.specs.declared.MessageId.{MessageId}

@@ -9,8 +9,8 @@ use Rattle.wef_batch.specs.declared.items.Item.{Item}
 use Rattle.wef_batch.specs.declared.items.Item.TheVariants.{Event, Dropped, Loose}
 use Rattle.wef_batch.specs.Reach.{reach, loose_sum}
 use Rattle.wef_batch.specs.WellFormed.{is_in}
-use Rattle.wef_collector.specs.Bookmarks.{bookmark_at}
-use Rattle.wef_collector.specs.Keys.{key, bookmark_key, held_key, mark_key, loose_key, heard_key}
+use Rattle.wef_collector_rows.specs.Bookmarks.{bookmark_at}
+use Rattle.wef_collector_rows.specs.Keys.{key, bookmark_key, held_key, mark_key, loose_key, heard_key}
 use Rattle.wef_collector.specs.Taken.{batch_changes, channel_changes, heard_changes, is_later, item_changes, loose_changes, move_changes, put, reach_changes, taken}
 use Rattle.wef_collector.proofs.Hits.{found-append, found_channels, found_if_other, hits, named-append, named_flat, named_if, not_both, one_key, one_name, refuted, same_self}
 use Rattle.wef_keeper.specs.Laws.{found_unnamed, get-applied, get-unnamed}

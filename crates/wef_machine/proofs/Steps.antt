@@ -10,10 +10,10 @@ use Rattle.std.specs.List.{AllByRecursion}
 use Rattle.std.specs.Option.{option_map}
 use Rattle.std.specs.Ordering.{nat_cmp}
 use Rattle.wef_batch.specs.WellFormed.{is_in}
-use Rattle.wef_collector.specs.Answers.{channels_read}
-use Rattle.wef_collector.specs.Keys.{subscription_key}
+use Rattle.wef_collector_rows.specs.Answers.{channels_read}
+use Rattle.wef_collector_rows.specs.Keys.{subscription_key}
 use Rattle.wef_collector.specs.Offers.{offers}
-use Rattle.wef_collector.specs.Standing.{standing_of}
+use Rattle.wef_collector_rows.specs.Standing.{standing_of}
 use Rattle.wef_event.specs.Unnumbered.{new_event}
 use Rattle.wef_eventing.specs.declared.subscriptions.Subscription.{Subscription}
 use Rattle.wef_keeper.specs.Rows.{key_cmp}

@@ -8,15 +8,15 @@ use Rattle.wef_batch.specs.Reach.{loose_sum, reach}
 use Rattle.wef_batch.specs.declared.items.Batch.{Batch}
 use Rattle.wef_batch.specs.WellFormed.{is_in, is_well_formed}
 use Rattle.wef_bookmark.specs.Order.{number_at}
-use Rattle.wef_collector.specs.Answers.{added_rows, channels_read, ended_rows}
-use Rattle.wef_collector.specs.Bookmarks.{bookmark_at}
-use Rattle.wef_collector.specs.Held.{event_of_row, held_after}
-use Rattle.wef_collector.specs.Keys.{bookmark_key, boot_key, heard_key, held_key, key, loose_key, mark_key, subscription_key}
+use Rattle.wef_collector_rows.specs.Answers.{added_rows, channels_read, ended_rows}
+use Rattle.wef_collector_rows.specs.Bookmarks.{bookmark_at}
+use Rattle.wef_collector_rows.specs.Held.{event_of_row, held_after}
+use Rattle.wef_collector_rows.specs.Keys.{bookmark_key, boot_key, heard_key, held_key, key, loose_key, mark_key, subscription_key}
 use Rattle.wef_collector.specs.Laws.{moved}
-use Rattle.wef_collector.specs.Standing.{kept_body, standing, standing_by, standing_of}
+use Rattle.wef_collector_rows.specs.Standing.{kept_body, standing, standing_by, standing_of}
 use Rattle.wef_collector.specs.Taken.{reach_changes, taken}
-use Rattle.wef_collector.specs.declared.standings.Standing.{Standing}
-use Rattle.wef_collector.specs.declared.standings.Standing.TheVariants.{Ended, Live}
+use Rattle.wef_collector_rows.specs.declared.standings.Standing.{Standing}
+use Rattle.wef_collector_rows.specs.declared.standings.Standing.TheVariants.{Ended, Live}
 use Rattle.wef_collector.proofs.Hits.{hits, hits_self, not_both, one_key, one_name, refuted}
 use Rattle.wef_collector.proofs.Live.{put_lives}
 use Rattle.wef_collector.proofs.Moving.{bookmark_by_taking}

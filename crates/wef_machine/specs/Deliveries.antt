@@ -3,12 +3,12 @@
 use Rattle.std.specs.Prelude.{ℕ, ◌+◌, ◌-◌, ◌%◌, ◌==◌, List, length, slice_get, is_some, Option, Some, None, Ok, Err, codes, if◌then◌else◌}
 use Rattle.wef_batch.specs.declared.items.Batch.{Batch}
 use Rattle.wef_batch.specs.WellFormed.{is_well_formed}
-use Rattle.wef_collector.specs.Answers.{channels_read}
+use Rattle.wef_collector_rows.specs.Answers.{channels_read}
 use Rattle.wef_collector.specs.Offers.{offers}
-use Rattle.wef_collector.specs.Standing.{standing}
+use Rattle.wef_collector_rows.specs.Standing.{standing}
 use Rattle.wef_collector.specs.Taken.{batch_changes}
-use Rattle.wef_collector.specs.declared.standings.Standing as state_of
-use Rattle.wef_collector.specs.declared.standings.Standing.TheVariants as is
+use Rattle.wef_collector_rows.specs.declared.standings.Standing as state_of
+use Rattle.wef_collector_rows.specs.declared.standings.Standing.TheVariants as is
 use Rattle.wef_envelope.specs.Ids.{ids_agree}
 use Rattle.wef_envelope.specs.declared.FaultName.{FaultName}
 use Rattle.wef_envelope.specs.declared.FaultName.TheVariants.{InvalidMessage, DestinationUnreachable, InternalError}

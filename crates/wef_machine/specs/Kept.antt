@@ -5,11 +5,11 @@ use Rattle.std.specs.FinMap as finite
 use Rattle.std.specs.List.{AllByRecursion}
 use Rattle.wef_batch.specs.WellFormed.{is_in}
 use Rattle.wef_bookmark.specs.Order.{Marks, number_at}
-use Rattle.wef_collector.specs.Answers.{channels_read}
-use Rattle.wef_collector.specs.Bookmarks.{bookmark_at}
-use Rattle.wef_collector.specs.Forms as collector
+use Rattle.wef_collector_rows.specs.Answers.{channels_read}
+use Rattle.wef_collector_rows.specs.Bookmarks.{bookmark_at}
+use Rattle.wef_collector_rows.specs.Forms as collector
 use Rattle.wef_collector.specs.FormsStay.{IsSoundBatch}
-use Rattle.wef_collector.specs.Keys.{subscription_key}
+use Rattle.wef_collector_rows.specs.Keys.{subscription_key}
 use Rattle.wef_envelope.specs.declared.MessageId.{MessageId}
 use Rattle.wef_eventing.specs.Addresses.{source_in, subscription_in}
 use Rattle.wef_eventing.specs.declared.bodies.Offer.{Offer}

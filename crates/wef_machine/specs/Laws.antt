@@ -6,12 +6,12 @@ use Rattle.wef_batch.specs.declared.items.Batch.{Batch}
 use Rattle.wef_batch.specs.Reach.{reach}
 use Rattle.wef_batch.specs.WellFormed.{is_in, is_well_formed}
 use Rattle.wef_bookmark.specs.Order.{Marks, number_at}
-use Rattle.wef_collector.specs.Answers.{channels_read}
-use Rattle.wef_collector.specs.Bookmarks.{bookmark_at}
+use Rattle.wef_collector_rows.specs.Answers.{channels_read}
+use Rattle.wef_collector_rows.specs.Bookmarks.{bookmark_at}
 use Rattle.wef_collector.specs.Laws.{moved}
 use Rattle.wef_collector.specs.Taken.{taken}
-use Rattle.wef_collector.specs.Standing.{standing}
-use Rattle.wef_collector.specs.declared.standings.Standing.TheVariants.{Live}
+use Rattle.wef_collector_rows.specs.Standing.{standing}
+use Rattle.wef_collector_rows.specs.declared.standings.Standing.TheVariants.{Live}
 use Rattle.wef_envelope.specs.declared.MessageId.{MessageId}
 use Rattle.wef_eventing.specs.Addresses.{source_in, subscription_in}
 use Rattle.wef_eventing.specs.declared.subscriptions.Subscription.{Subscription}

@@ -8,13 +8,13 @@ use Rattle.std.specs.Option.{option_map}
 use Rattle.wef_batch.specs.Reach.{reach}
 use Rattle.wef_batch.specs.WellFormed.{is_in}
 use Rattle.wef_batch.specs.declared.items.Batch.{Batch}
-use Rattle.wef_collector.specs.Answers.{channels_read}
-use Rattle.wef_collector.specs.Bookmarks.{bookmark_at}
-use Rattle.wef_collector.specs.Held.{held_after, mark_rows}
-use Rattle.wef_collector.specs.Keys.{held_key, loose_key, mark_key}
-use Rattle.wef_collector.specs.Standing.{standing}
-use Rattle.wef_collector.specs.declared.standings.Standing as state_of
-use Rattle.wef_collector.specs.declared.standings.Standing.TheVariants as is
+use Rattle.wef_collector_rows.specs.Answers.{channels_read}
+use Rattle.wef_collector_rows.specs.Bookmarks.{bookmark_at}
+use Rattle.wef_collector_rows.specs.Held.{held_after, mark_rows}
+use Rattle.wef_collector_rows.specs.Keys.{held_key, loose_key, mark_key}
+use Rattle.wef_collector_rows.specs.Standing.{standing}
+use Rattle.wef_collector_rows.specs.declared.standings.Standing as state_of
+use Rattle.wef_collector_rows.specs.declared.standings.Standing.TheVariants as is
 use Rattle.wef_envelope.specs.declared.MessageId.{MessageId}
 use Rattle.wef_event.specs.Events.{Event}
 use Rattle.wef_eventing.specs.Addresses.{source_in, subscription_in}

@@ -2,13 +2,13 @@
 use Rattle.std.specs.Prelude.{◌≡◌, ℕ, Bool, true, false, List, [], ◌∷◌, ◌++◌, Ok, Err, codes}
 use Rattle.wef_batch.specs.declared.items.Batch as batch
 use Rattle.wef_collector.specs.Calls.{Effect, add_effect, end_effect}
-use Rattle.wef_collector.specs.Held.{held_after}
-use Rattle.wef_collector.specs.Report.{report}
-use Rattle.wef_collector.specs.Standing.{standing}
-use Rattle.wef_collector.specs.declared.faults.CollectorFault as the_collector_fault
-use Rattle.wef_collector.specs.declared.faults.CollectorFault.TheVariants as collector_faults
-use Rattle.wef_collector.specs.declared.standings.Standing as state
-use Rattle.wef_collector.specs.declared.standings.Standing.TheVariants as is
+use Rattle.wef_collector_rows.specs.Held.{held_after}
+use Rattle.wef_collector_reports.specs.Report.{report}
+use Rattle.wef_collector_rows.specs.Standing.{standing}
+use Rattle.wef_collector_rows.specs.declared.faults.CollectorFault as the_collector_fault
+use Rattle.wef_collector_rows.specs.declared.faults.CollectorFault.TheVariants as collector_faults
+use Rattle.wef_collector_rows.specs.declared.standings.Standing as state
+use Rattle.wef_collector_rows.specs.declared.standings.Standing.TheVariants as is
 use Rattle.wef_event.specs.Unnumbered.{new_event}
 use Rattle.wef_eventing.specs.declared.subscriptions.Subscription.{Subscription}
 use Rattle.wef_eventing.specs.declared.subscriptions.SubKind.TheVariants.{BySource}

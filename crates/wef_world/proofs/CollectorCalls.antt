@@ -5,11 +5,11 @@ use Rattle.std.specs.Prelude.{Option, Some, None, Result, Ok, Err, IfOk, OnOk, n
 use Rattle.wef_collector.proofs.FormsStay.{forms_stay}
 use Rattle.wef_collector.specs.Boots.{boot_of}
 use Rattle.wef_collector.specs.Calls.{Effect, boot_effect}
-use Rattle.wef_collector.specs.Forms.{AreFormed}
-use Rattle.wef_collector.specs.Keys.{boot_key}
+use Rattle.wef_collector_rows.specs.Forms.{AreFormed}
+use Rattle.wef_collector_rows.specs.Keys.{boot_key}
 use Rattle.wef_collector.specs.Taken.{put}
-use Rattle.wef_collector.specs.declared.faults.CollectorFault.{CollectorFault}
-use Rattle.wef_collector.specs.declared.faults.CollectorFault.TheVariants.{NoMemory, Failed, Full}
+use Rattle.wef_collector_rows.specs.declared.faults.CollectorFault.{CollectorFault}
+use Rattle.wef_collector_rows.specs.declared.faults.CollectorFault.TheVariants.{NoMemory, Failed, Full}
 use Rattle.wef_keeper.specs.Access.{is_planned, plan_with}
 use Rattle.wef_keeper.specs.Keeping.{outcome}
 use Rattle.wef_keeper.specs.Rows.{Rows, applied}

@@ -1,6 +1,6 @@
 -- The number behind which a page ends.
 use Rattle.std.proofs.Common.{◌≡◌, ℕ, List, [], ◌∷◌, ◌++◌, refl}
-use Rattle.wef_collector.specs.Held.{last_number}
+use Rattle.wef_collector_rows.specs.Held.{last_number}
 use Rattle.wef_event.specs.Events.{Event}
 
 -- it is that of the last event

@@ -1,8 +1,8 @@
 -- What becomes of calls that change the collector's rows.
 use Rattle.std.specs.Prelude.{◌≡◌, List, ℕ, codes, ◌&&◌, not, is_some, Option, None, Result, Ok, Err, if◌then◌else◌}
 use Rattle.wef_collector.specs.Calls.{Effect}
-use Rattle.wef_collector.specs.declared.faults.CollectorFault.{CollectorFault}
-use Rattle.wef_collector.specs.declared.faults.CollectorFault.TheVariants.{NoMemory, Failed}
+use Rattle.wef_collector_rows.specs.declared.faults.CollectorFault.{CollectorFault}
+use Rattle.wef_collector_rows.specs.declared.faults.CollectorFault.TheVariants.{NoMemory, Failed}
 use Rattle.wef_machine.specs.Arming.{fate, fate_of, is_stopped}
 use Rattle.wef_machine.specs.Printed.{collector_name, name_line}
 use Rattle.wef_machine.specs.Sources.{fate_text}

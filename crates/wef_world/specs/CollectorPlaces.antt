@@ -1,13 +1,13 @@
 -- What is held of the collector, and what its calls do.
 use Rattle.std.specs.Prelude.{◌≡◌, Bool, true, false, Option, Some, None, Result, Ok, Err}
 use Rattle.std.specs.FinMap as finite
-use Rattle.wef_collector.specs.Answers.{IsEnded, is_known}
+use Rattle.wef_collector_rows.specs.Answers.{IsEnded, is_known}
 use Rattle.wef_collector.specs.Calls as calls
 use Rattle.wef_collector.specs.declared.collector.Collector.{Collector}
-use Rattle.wef_collector.specs.declared.faults.CollectorFault as the_collector_fault
-use Rattle.wef_collector.specs.declared.faults.CollectorFault.TheVariants as collector_faults
-use Rattle.wef_collector.specs.declared.standings.Standing as standings
-use Rattle.wef_collector.specs.declared.standings.Standing.TheVariants as is
+use Rattle.wef_collector_rows.specs.declared.faults.CollectorFault as the_collector_fault
+use Rattle.wef_collector_rows.specs.declared.faults.CollectorFault.TheVariants as collector_faults
+use Rattle.wef_collector_rows.specs.declared.standings.Standing as standings
+use Rattle.wef_collector_rows.specs.declared.standings.Standing.TheVariants as is
 use Rattle.wef_keeper.specs.Access.{is_planned, plan_with}
 use Rattle.wef_keeper.specs.Keeping.{outcome}
 use Rattle.wef_keeper.specs.Rows.{Rows, applied}

@@ -1,14 +1,14 @@
 //! The collector as a world holds it.
 
 ghost use Rattle.std.specs.Prelude.{◌≡◌, ◌≤◌, ◌++◌, true, false, is_some, take, IfOk, IfErr, OnOk};
-ghost use Rattle.wef_collector.specs.Answers as answers;
+ghost use Rattle.wef_collector_rows.specs.Answers as answers;
 ghost use Rattle.wef_collector.specs.Calls as calls;
-ghost use Rattle.wef_collector.specs.Forms.{AreFormed};
-ghost use Rattle.wef_collector.specs.Held as held;
+ghost use Rattle.wef_collector_rows.specs.Forms.{AreFormed};
+ghost use Rattle.wef_collector_rows.specs.Held as held;
 ghost use Rattle.wef_collector.specs.Offers.{offers};
-ghost use Rattle.wef_collector.specs.Report.{report};
-ghost use Rattle.wef_collector.specs.Standing.{standing};
-ghost use Rattle.wef_collector.specs.declared.standings.Standing.TheVariants.{Live};
+ghost use Rattle.wef_collector_reports.specs.Report.{report};
+ghost use Rattle.wef_collector_rows.specs.Standing.{standing};
+ghost use Rattle.wef_collector_rows.specs.declared.standings.Standing.TheVariants.{Live};
 ghost use Rattle.std.specs.FinMap as finite;
 ghost use Rattle.wef_world.specs.CollectorPlaces as places;
 

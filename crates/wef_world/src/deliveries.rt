@@ -4,9 +4,9 @@ ghost use Rattle.std.specs.Prelude.{◌≡◌, ◌-◌, ◌==◌, true, slice_ge
 ghost use Rattle.std.specs.FinMap as map;
 ghost use Rattle.std.specs.Option.{option_copied};
 ghost use Rattle.wef_batch.specs.declared.items.Batch.{Batch};
-ghost use Rattle.wef_collector.specs.Forms.{AreFormed};
+ghost use Rattle.wef_collector_rows.specs.Forms.{AreFormed};
 ghost use Rattle.wef_collector.specs.Offers.{offers};
-ghost use Rattle.wef_collector.specs.Standing.{standing};
+ghost use Rattle.wef_collector_rows.specs.Standing.{standing};
 ghost use Rattle.wef_machine.specs.Collecting as collecting;
 ghost use Rattle.wef_machine.specs.Deliveries as steps;
 ghost use Rattle.wef_machine.specs.Kept.{IsKept};

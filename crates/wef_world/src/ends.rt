@@ -6,7 +6,7 @@ ghost use Rattle.wef_machine.specs.Kept.{IsKept};
 ghost use Rattle.wef_machine.specs.Printed as texts;
 ghost use Rattle.wef_machine.specs.States as states;
 ghost use Rattle.wef_machine.specs.Steps as steps;
-ghost use Rattle.wef_collector.specs.Forms.{AreFormed};
+ghost use Rattle.wef_collector_rows.specs.Forms.{AreFormed};
 ghost use Rattle.wef_world.specs.Called as called;
 ghost use Rattle.wef_replay.specs.Good.{allows, has_end, is_among};
 

@@ -2,10 +2,10 @@
 
 ghost use Rattle.std.specs.Prelude.{◌≡◌, ◌++◌, true, IfOk, IfErr, OnOk};
 ghost use Rattle.std.specs.List.{flat_map};
-ghost use Rattle.wef_collector.specs.Answers as answers;
-ghost use Rattle.wef_collector.specs.Held.{held_after, last_number};
-ghost use Rattle.wef_collector.specs.Standing.{standing};
-ghost use Rattle.wef_collector.specs.Forms.{AreFormed};
+ghost use Rattle.wef_collector_rows.specs.Answers as answers;
+ghost use Rattle.wef_collector_rows.specs.Held.{held_after, last_number};
+ghost use Rattle.wef_collector_rows.specs.Standing.{standing};
+ghost use Rattle.wef_collector_rows.specs.Forms.{AreFormed};
 ghost use Rattle.wef_machine.specs.Printed as spec;
 ghost use Rattle.wef_world.specs.CollectorPlaces as places;
 

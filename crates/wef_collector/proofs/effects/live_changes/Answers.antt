@@ -4,11 +4,11 @@ use Rattle.std.proofs.lemmas.Option.{IfSome_then}
 use Rattle.wef_batch.specs.WellFormed.{is_well_formed}
 use Rattle.wef_keeper.specs.declared.keys.Change.{Change}
 use Rattle.wef_keeper.proofs.Told.{told_any}
-use Rattle.wef_collector.specs.Answers.{channels_read}
+use Rattle.wef_collector_rows.specs.Answers.{channels_read}
 use Rattle.wef_collector.specs.Calls.{take_by}
 use Rattle.wef_collector.specs.Taken.{batch_changes}
-use Rattle.wef_collector.specs.declared.faults.CollectorFault.TheVariants.{NotWellFormed}
-use Rattle.wef_collector.specs.declared.standings.Standing.TheVariants.{Live}
+use Rattle.wef_collector_rows.specs.declared.faults.CollectorFault.TheVariants.{NotWellFormed}
+use Rattle.wef_collector_rows.specs.declared.standings.Standing.TheVariants.{Live}
 use Rattle.wef_collector.proofs.Live.{takes_ill, takes_well}
 use Rattle.wef_collector.proofs.effects.live_changes.Goals as goal
 

@@ -2,10 +2,10 @@ use Rattle.std.proofs.Common.{◌≡◌, subst, sym}
 use Rattle.wef_keeper.proofs.Told.{told_both, told_still}
 use Rattle.wef_keeper.specs.Calls.{Tells}
 use Rattle.wef_collector.specs.Calls.{take_by, take_effect}
-use Rattle.wef_collector.specs.Faults.{collector_store}
-use Rattle.wef_collector.specs.Standing.{standing}
-use Rattle.wef_collector.specs.declared.standings.Standing.{Standing}
-use Rattle.wef_collector.specs.declared.standings.Standing.TheVariants.{Live}
+use Rattle.wef_collector_rows.specs.Faults.{collector_store}
+use Rattle.wef_collector_rows.specs.Standing.{standing}
+use Rattle.wef_collector_rows.specs.declared.standings.Standing.{Standing}
+use Rattle.wef_collector_rows.specs.declared.standings.Standing.TheVariants.{Live}
 use Rattle.wef_collector.proofs.effects.take_changes.Goals as goal
 
 pub returns-clause-effect : goal.returns-clause-effect

@@ -2,7 +2,7 @@ use Rattle.std.proofs.Common.{◌<◌, ◌∙◌, ◌++◌, ℕ, [], ◌∷◌, 
 use Rattle.std.specs.List.{flat_map}
 use Rattle.std.specs.Prelude.{codes}
 use Rattle.wef_event.specs.Events.{Event}
-use Rattle.wef_collector.specs.Held.{held_after}
+use Rattle.wef_collector_rows.specs.Held.{held_after}
 use Rattle.wef_collector.proofs.Pages.{last_page}
 use Rattle.wef_machine.specs.States.{Collector}
 use Rattle.wef_machine.specs.Printed.{event_line, events_text}

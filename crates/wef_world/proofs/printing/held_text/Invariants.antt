@@ -1,6 +1,6 @@
 use Rattle.std.proofs.Common.{◌≡◌, ◌++◌, length}
 use Rattle.std.specs.List.{flat_map}
-use Rattle.wef_collector.specs.Held.{held_after}
+use Rattle.wef_collector_rows.specs.Held.{held_after}
 use Rattle.wef_machine.specs.Printed.{event_line}
 use Rattle.wef_world.proofs.printing.held_text.Given as goal
 

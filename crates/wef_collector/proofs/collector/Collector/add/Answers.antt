@@ -3,8 +3,8 @@ use Rattle.std.proofs.lemmas.Result.{err_from_is_err_and}
 use Rattle.wef_keeper.proofs.Calls.{committed, not_committed, not_opened, refused}
 use Rattle.wef_keeper.proofs.Told.{told_any}
 use Rattle.wef_collector.specs.Calls.{add_effect}
-use Rattle.wef_collector.specs.Faults.{collector_fault, collector_store}
-use Rattle.wef_collector.specs.Forms.{AreFormed}
+use Rattle.wef_collector_rows.specs.Faults.{collector_fault, collector_store}
+use Rattle.wef_collector_rows.specs.Forms.{AreFormed}
 use Rattle.wef_collector.proofs.OfStore.{of_collector_fault}
 use Rattle.wef_collector.proofs.Live.{added_lives}
 use Rattle.wef_collector.proofs.collector.Collector.add.Goals as goal

@@ -1,7 +1,0 @@
-use Rattle.std.proofs.Common.{◌≡◌, ◌++◌, drop}
-use Rattle.std.specs.List.{filter_map}
-use Rattle.wef_collector.specs.Listing.{listed_of}
-use Rattle.wef_collector.proofs.listing.listed_in.Given as goal
-
-abbrev pub invariant-loop-row : goal.invariant-loop-row
-invariant-loop-row l = l.list ++ filter_map listed_of (drop l.row-index l.rows) ≡ filter_map listed_of l.rows

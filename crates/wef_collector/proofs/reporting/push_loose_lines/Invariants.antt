@@ -1,7 +1,0 @@
-use Rattle.std.proofs.Common.{◌≡◌, ◌++◌, drop}
-use Rattle.std.specs.List.{flat_map}
-use Rattle.wef_collector.specs.Report.{loose_line}
-use Rattle.wef_collector.proofs.reporting.push_loose_lines.Given as goal
-
-abbrev pub invariant-loop-row : goal.invariant-loop-row
-invariant-loop-row l = l.text ++ flat_map loose_line (drop l.row-index l.rows) ≡ l.fn.text ++ flat_map loose_line l.rows

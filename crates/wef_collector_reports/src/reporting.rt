@@ -1,0 +1,408 @@
+//! The report of all that is kept, as text.
+
+ghost use Rattle.std.specs.Prelude.{◌≡◌, [], ◌++◌, List, map, IfOk, IfSome, OnOk};
+ghost use Rattle.std.specs.List.{flat_map};
+ghost use Rattle.wef_keeper.specs.Access as access;
+ghost use Rattle.wef_keeper.specs.Sections.{rows_under};
+ghost use Rattle.wef_query.specs.Order.{with_names};
+ghost use Rattle.wef_collector_rows.specs.Forms.{AreFormed};
+ghost use Rattle.wef_collector_rows.specs.Held as held;
+ghost use Rattle.wef_collector_rows.specs.Keys as keys;
+ghost use Rattle.wef_collector_reports.specs.Runs.{runs_from, runs_of, runs_text};
+ghost use Rattle.wef_collector_reports.specs.Report as spec;
+ghost use Rattle.wef_keeper.specs.declared.keys.Row as the_row;
+
+use crate::listing::subscription_rows;
+use crate::runs::{RunWriter, Span};
+use std::alloc::{AllocError, Global};
+use std::collections::BTreeSet;
+use wef_base::{List, Text};
+use wef_collector_rows::bookmarks::bookmark_rows;
+use wef_collector_rows::keys::{all_bookmarks_start, all_heard_start, held_key, loose_key, mark_key};
+use wef_collector_rows::reading::{formed_page, formed_section};
+use wef_keeper::access::PAGE;
+use wef_keeper::{Depth, Keeper, Key, Row, StoreFault};
+
+/// The report of the rows.
+#[tactic(auto, unfolding(crate::specs::Report::report))]
+pub fn report<K: Keeper>(keeper: &mut K, alloc: Global) -> Result<Text, StoreFault>
+    requires { access.IsReady (K.store keeper.old) }
+    ensures text { IfSome (K.store keeper.new).rows (λ rows. IfOk result (λ text. text ≡ spec.report rows)) }
+    ensures reads { access.Reads AreFormed (access.fails result) (K.store keeper.old) (K.store keeper.new) }
+{
+    let subscriptions = subscription_rows(keeper, alloc)?;
+    let mut text = Text::new(alloc);
+    push_subscriptions(&mut text, keeper, subscriptions.as_slice())?;
+    text.push_str("end\n")?;
+    Ok(text)
+}
+
+fn push_subscriptions<K: Keeper>(
+    text: &mut Text,
+    keeper: &mut K,
+    subscriptions: &[Row],
+) -> Result<(), StoreFault>
+    requires { access.IsReady (K.store keeper.old) }
+    ensures text { IfSome (K.store keeper.new).rows (λ rows. OnOk result (text.new ≡ text.old ++ flat_map (spec.subscription_report rows) subscriptions.now)) }
+    ensures reads { access.Reads AreFormed (access.fails result) (K.store keeper.old) (K.store keeper.new) }
+{
+    for row in subscriptions {
+        push_subscription(text, keeper, row)?;
+    }
+    Ok(())
+}
+
+fn push_subscription<K: Keeper>(
+    text: &mut Text,
+    keeper: &mut K,
+    row: &Row,
+) -> Result<(), StoreFault>
+    requires { access.IsReady (K.store keeper.old) }
+    ensures text { IfSome (K.store keeper.new).rows (λ rows. OnOk result (text.new ≡ text.old ++ spec.subscription_report rows row.now)) }
+    ensures reads { access.Reads AreFormed (access.fails result) (K.store keeper.old) (K.store keeper.new) }
+{
+    push_subscription_line(text, &row.key.sub, row.value)?;
+    let sources = sources_of(keeper, &row.key.sub)?;
+    push_sources(text, keeper, &row.key.sub, sources.as_slice())
+}
+
+fn push_sources<K: Keeper>(
+    text: &mut Text,
+    keeper: &mut K,
+    sub: &Text,
+    sources: &[Text],
+) -> Result<(), StoreFault>
+    requires { access.IsReady (K.store keeper.old) }
+    ensures text { IfSome (K.store keeper.new).rows (λ rows. OnOk result (text.new ≡ text.old ++ flat_map (spec.source_report rows sub.now) sources.now)) }
+    ensures reads { access.Reads AreFormed (access.fails result) (K.store keeper.old) (K.store keeper.new) }
+{
+    for source in sources {
+        push_source(text, keeper, sub, source)?;
+    }
+    Ok(())
+}
+
+#[tactic(auto, unfolding(crate::specs::Report::subscription_line))]
+fn push_subscription_line(text: &mut Text, sub: &Text, value: u64) -> Result<(), AllocError>
+    ensures { OnOk result (text.new ≡ text.old ++ spec.subscription_line sub.now value) }
+{
+    text.push_str("subscription ")?;
+    text.push_printed(sub)?;
+    push_state(text, value)?;
+    text.push_str("\n")?;
+    Ok(())
+}
+
+/// Whether a subscription is live.
+#[tactic(auto, unfolding(crate::specs::Report::state_text))]
+fn push_state(text: &mut Text, value: u64) -> Result<(), AllocError>
+    ensures { OnOk result (text.new ≡ text.old ++ spec.state_text value) }
+{
+    if value == 0 {
+        text.push_str(" live")
+    } else {
+        text.push_str(" ended")
+    }
+}
+
+/// The sources of a subscription that have a bookmark or were heard, each once, in order.
+fn sources_of<K: Keeper>(keeper: &mut K, sub: &Text) -> Result<List<Text>, StoreFault>
+    requires { access.IsReady (K.store keeper.old) }
+    ensures sources { IfSome (K.store keeper.new).rows (λ rows. IfOk result (λ sources. sources ≡ spec.sources_of rows sub.now)) }
+    ensures reads { access.Reads AreFormed (access.fails result) (K.store keeper.old) (K.store keeper.new) }
+{
+    let served = served_rows(keeper, sub)?;
+    let heard = heard_rows(keeper, sub)?;
+    Ok(sources_in(sub.alloc(), served.as_slice(), heard.as_slice())?)
+}
+
+/// The bookmark rows of a subscription.
+fn served_rows<K: Keeper>(keeper: &mut K, sub: &Text) -> Result<List<Row>, StoreFault>
+    requires { access.IsReady (K.store keeper.old) }
+    ensures rows { IfSome (K.store keeper.new).rows (λ rows. IfOk result (λ served. served ≡ rows_under Depth.Sub (keys.bookmark_key sub.now [] []) rows)) }
+    ensures reads { access.Reads AreFormed (access.fails result) (K.store keeper.old) (K.store keeper.new) }
+{
+    let start = all_bookmarks_start(sub)?;
+    formed_section(keeper, &start, Depth::Sub)
+}
+
+/// The rows of a subscription that say when its sources were heard.
+fn heard_rows<K: Keeper>(keeper: &mut K, sub: &Text) -> Result<List<Row>, StoreFault>
+    requires { access.IsReady (K.store keeper.old) }
+    ensures rows { IfSome (K.store keeper.new).rows (λ rows. IfOk result (λ heard. heard ≡ rows_under Depth.Sub (keys.heard_key sub.now []) rows)) }
+    ensures reads { access.Reads AreFormed (access.fails result) (K.store keeper.old) (K.store keeper.new) }
+{
+    let start = all_heard_start(sub)?;
+    formed_section(keeper, &start, Depth::Sub)
+}
+
+/// The sources of rows, each once, in order.
+#[tactic(auto, using(crate::proofs::Sources::with_names_join))]
+fn sources_in(alloc: Global, served: &[Row], heard: &[Row]) -> Result<List<Text>, AllocError>
+    ensures { IfOk result (λ sources. sources ≡ spec.sources_in served.now heard.now) }
+{
+    let mut sources = BTreeSet::new(alloc);
+    add_sources(&mut sources, served)?;
+    add_sources(&mut sources, heard)?;
+    Ok(List::from(sources.into_iter().collect::<Vec<Text>>(alloc)?))
+}
+
+fn add_sources(sources: &mut BTreeSet<Text>, rows: &[Row]) -> Result<(), AllocError>
+    ensures { OnOk result (sources.new.keys ≡ with_names sources.old.keys (map (λ (row : the_row.Row). row.key.source) rows.now)) }
+{
+    for row in rows {
+        sources.insert(row.key.source.clone()?)?;
+    }
+    Ok(())
+}
+
+fn push_source<K: Keeper>(
+    text: &mut Text,
+    keeper: &mut K,
+    sub: &Text,
+    source: &Text,
+) -> Result<(), StoreFault>
+    requires { access.IsReady (K.store keeper.old) }
+    ensures text { IfSome (K.store keeper.new).rows (λ rows. OnOk result (text.new ≡ text.old ++ spec.source_report rows sub.now source.now)) }
+    ensures reads { access.Reads AreFormed (access.fails result) (K.store keeper.old) (K.store keeper.new) }
+{
+    push_source_line(text, source)?;
+    let channels = bookmark_rows(keeper, sub, source)?;
+    push_channels(text, keeper, sub, source, channels.as_slice())
+}
+
+fn push_channels<K: Keeper>(
+    text: &mut Text,
+    keeper: &mut K,
+    sub: &Text,
+    source: &Text,
+    channels: &[Row],
+) -> Result<(), StoreFault>
+    requires { access.IsReady (K.store keeper.old) }
+    ensures text { IfSome (K.store keeper.new).rows (λ rows. OnOk result (text.new ≡ text.old ++ flat_map (spec.channel_report rows sub.now source.now) channels.now)) }
+    ensures reads { access.Reads AreFormed (access.fails result) (K.store keeper.old) (K.store keeper.new) }
+{
+    for row in channels {
+        push_channel(text, keeper, sub, source, row)?;
+    }
+    Ok(())
+}
+
+#[tactic(auto, unfolding(crate::specs::Report::source_line))]
+fn push_source_line(text: &mut Text, source: &Text) -> Result<(), AllocError>
+    ensures { OnOk result (text.new ≡ text.old ++ spec.source_line source.now) }
+{
+    text.push_str(" source ")?;
+    text.push_printed(source)?;
+    text.push_str("\n")?;
+    Ok(())
+}
+
+fn push_channel<K: Keeper>(
+    text: &mut Text,
+    keeper: &mut K,
+    sub: &Text,
+    source: &Text,
+    row: &Row,
+) -> Result<(), StoreFault>
+    requires { access.IsReady (K.store keeper.old) }
+    ensures text { IfSome (K.store keeper.new).rows (λ rows. OnOk result (text.new ≡ text.old ++ spec.channel_report rows sub.now source.now row.now)) }
+    ensures reads { access.Reads AreFormed (access.fails result) (K.store keeper.old) (K.store keeper.new) }
+{
+    let channel = &row.key.channel;
+    push_channel_line(text, channel, row.value)?;
+    push_held(text, keeper, sub, source, channel)?;
+    push_dropped(text, keeper, sub, source, channel)?;
+    push_loose(text, keeper, sub, source, channel)
+}
+
+#[tactic(auto, unfolding(crate::specs::Report::channel_line))]
+fn push_channel_line(text: &mut Text, channel: &Text, bookmark: u64) -> Result<(), AllocError>
+    ensures { OnOk result (text.new ≡ text.old ++ spec.channel_line channel.now bookmark) }
+{
+    text.push_str("  channel ")?;
+    text.push_printed(channel)?;
+    text.push_str(" bookmark ")?;
+    text.push_number(bookmark)?;
+    text.push_str("\n")?;
+    Ok(())
+}
+
+#[tactic(auto, unfolding(crate::specs::Report::held_line))]
+fn push_held<K: Keeper>(
+    text: &mut Text,
+    keeper: &mut K,
+    sub: &Text,
+    source: &Text,
+    channel: &Text,
+) -> Result<(), StoreFault>
+    requires { access.IsReady (K.store keeper.old) }
+    ensures text { IfSome (K.store keeper.new).rows (λ rows. OnOk result (text.new ≡ text.old ++ spec.held_line rows sub.now source.now channel.now)) }
+    ensures reads { access.Reads AreFormed (access.fails result) (K.store keeper.old) (K.store keeper.new) }
+{
+    let runs = runs_behind(keeper, held_key(sub, source, channel, 0)?, Spans::Held)?;
+    push_labelled(text, "   held", &runs)?;
+    Ok(())
+}
+
+#[tactic(auto, unfolding(crate::specs::Report::dropped_line))]
+fn push_dropped<K: Keeper>(
+    text: &mut Text,
+    keeper: &mut K,
+    sub: &Text,
+    source: &Text,
+    channel: &Text,
+) -> Result<(), StoreFault>
+    requires { access.IsReady (K.store keeper.old) }
+    ensures text { IfSome (K.store keeper.new).rows (λ rows. OnOk result (text.new ≡ text.old ++ spec.dropped_line rows sub.now source.now channel.now)) }
+    ensures reads { access.Reads AreFormed (access.fails result) (K.store keeper.old) (K.store keeper.new) }
+{
+    let runs = runs_behind(keeper, mark_key(sub, source, channel, 0)?, Spans::Marks)?;
+    push_labelled(text, "   dropped", &runs)?;
+    Ok(())
+}
+
+fn push_labelled(text: &mut Text, label: &str, runs: &Text) -> Result<(), AllocError>
+    ensures { OnOk result (text.new ≡ text.old ++ spec.labelled label.now runs.now) }
+{
+    if runs.is_empty() {
+        return Ok(());
+    }
+    text.push_str(label)?;
+    text.push_str(runs.as_str())?;
+    text.push_str("\n")
+}
+
+fn push_loose<K: Keeper>(
+    text: &mut Text,
+    keeper: &mut K,
+    sub: &Text,
+    source: &Text,
+    channel: &Text,
+) -> Result<(), StoreFault>
+    requires { access.IsReady (K.store keeper.old) }
+    ensures text { IfSome (K.store keeper.new).rows (λ rows. OnOk result (text.new ≡ text.old ++ flat_map spec.loose_line (held.loose_rows rows sub.now source.now channel.now))) }
+    ensures reads { access.Reads AreFormed (access.fails result) (K.store keeper.old) (K.store keeper.new) }
+{
+    let loose = loose_rows(keeper, sub, source, channel)?;
+    push_loose_lines(text, loose.as_slice())?;
+    Ok(())
+}
+
+fn loose_rows<K: Keeper>(
+    keeper: &mut K,
+    sub: &Text,
+    source: &Text,
+    channel: &Text,
+) -> Result<List<Row>, StoreFault>
+    requires { access.IsReady (K.store keeper.old) }
+    ensures rows { IfSome (K.store keeper.new).rows (λ rows. IfOk result (λ loose. loose ≡ held.loose_rows rows sub.now source.now channel.now)) }
+    ensures reads { access.Reads AreFormed (access.fails result) (K.store keeper.old) (K.store keeper.new) }
+{
+    let start = loose_key(sub, source, channel, 0)?;
+    formed_section(keeper, &start, Depth::Channel)
+}
+
+fn push_loose_lines(text: &mut Text, rows: &[Row]) -> Result<(), AllocError>
+    ensures { OnOk result (text.new ≡ text.old ++ flat_map spec.loose_line rows.now) }
+{
+    for row in rows {
+        push_loose_line(text, row)?;
+    }
+    Ok(())
+}
+
+#[tactic(auto, unfolding(crate::specs::Report::loose_line))]
+fn push_loose_line(text: &mut Text, row: &Row) -> Result<(), AllocError>
+    ensures { OnOk result (text.new ≡ text.old ++ spec.loose_line row.now) }
+{
+    text.push_str("   loose ")?;
+    text.push_number(row.key.number)?;
+    text.push_str("-")?;
+    text.push_number(row.value)?;
+    text.push_str(" ")?;
+    text.push_str(row.body.as_str())?;
+    text.push_str("\n")?;
+    Ok(())
+}
+
+/// Which numbers a row stands for.
+#[derive(Clone, Copy, PartialEq, Eq)]
+pub enum Spans {
+    /// Its own number, as a held event.
+    Held,
+    /// Those from its own number to its value, as a mark.
+    Marks,
+}
+
+impl Spans {
+    fn of(self, row: &Row) -> Span
+        ensures { result ≡ spec.span_of self row.now }
+    {
+        match self {
+            Spans::Held => Span {
+                first: row.key.number,
+                last: row.key.number,
+            },
+            Spans::Marks => Span {
+                first: row.key.number,
+                last: row.value,
+            },
+        }
+    }
+}
+
+/// The runs of the rows of a channel behind a key, read page by page.
+fn runs_behind<K: Keeper>(keeper: &mut K, after: Key, spans: Spans) -> Result<Text, StoreFault>
+    requires { access.IsReady (K.store keeper.old) }
+    ensures text { IfSome (K.store keeper.new).rows (λ rows. IfOk result (λ text. text ≡ runs_text (runs_of (map (spec.span_of spans) (rows_under Depth.Channel after rows))))) }
+    ensures reads { access.Reads AreFormed (access.fails result) (K.store keeper.old) (K.store keeper.new) }
+{
+    let mut writer = RunWriter::new(after.sub.alloc());
+    let mut after = after;
+    add_behind(&mut writer, keeper, &mut after, spans)?;
+    Ok(writer.finish()?)
+}
+
+/// Adds the rows of a channel behind a key, page by page. The key moves on to the last of them.
+fn add_behind<K: Keeper>(
+    writer: &mut RunWriter,
+    keeper: &mut K,
+    after: &mut Key,
+    spans: Spans,
+) -> Result<(), StoreFault>
+    requires { access.IsReady (K.store keeper.old) }
+    ensures text { IfSome (K.store keeper.new).rows (λ rows. OnOk result (writer.new.text ++ runs_text (runs_from writer.new.running [])
+        ≡ writer.old.text ++ runs_text (runs_from writer.old.running (map (spec.span_of spans) (rows_under Depth.Channel after.old rows))))) }
+    ensures reads { access.Reads AreFormed (access.fails result) (K.store keeper.old) (K.store keeper.new) }
+{
+    loop {
+        let page = formed_page(keeper, after, Depth::Channel, PAGE)?;
+        add_page(writer, page.as_slice(), spans)?;
+        let is_last = page.len() < PAGE as usize;
+        if is_last {
+            return Ok(());
+        }
+        after.number = last_number(after.number, page.as_slice());
+    }
+}
+
+/// The number of the last row, and the one given where there is none.
+fn last_number(after: u64, page: &[Row]) -> u64
+    ensures { result ≡ spec.last_row_number after page.now }
+{
+    match page.split_last() {
+        Some((row, _)) => row.key.number,
+        None => after,
+    }
+}
+
+fn add_page(writer: &mut RunWriter, page: &[Row], spans: Spans) -> Result<(), AllocError>
+    ensures { OnOk result ((rest : List the_row.Row) → writer.new.text ++ runs_text (runs_from writer.new.running (map (spec.span_of spans) rest))
+        ≡ writer.old.text ++ runs_text (runs_from writer.old.running (map (spec.span_of spans) (page.now ++ rest)))) }
+{
+    for row in page {
+        writer.add(spans.of(row))?;
+    }
+    Ok(())
+}

@@ -1,0 +1,11 @@
+use Rattle.std.proofs.Common.{◌≡◌, rules, false}
+use Rattle.wef_keeper.proofs.ReadsOf.{ill_formed}
+use Rattle.wef_collector_rows.specs.Forms.{AreFormed, is_formed}
+use Rattle.wef_collector_rows.proofs.Forming.{no_row}
+use Rattle.wef_collector_rows.proofs.reading.formed_row.Goals as goal
+
+pub returns-then-not-branch-clause-reads : goal.returns-then-not-branch-clause-reads
+returns-then-not-branch-clause-reads g c =
+    let ill : is_formed c.in-Some.row ≡ false = search rules in
+    let store = g.K.Keeper.store c.row.new.keeper in
+    ill_formed AreFormed (g.K.Keeper.store c.args.keeper.now) store c.in_ok-row.ensures.reads.0 (no_row store.rows c.args.key.now c.in-Some.row ill (search rules))

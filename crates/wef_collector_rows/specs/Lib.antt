@@ -1,0 +1,7 @@
+pub mod Answers
+pub mod Bookmarks
+pub mod Faults
+pub mod Forms
+pub mod Held
+pub mod Keys
+pub mod Standing

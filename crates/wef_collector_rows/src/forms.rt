@@ -1,0 +1,203 @@
+//! The form of the collector's rows, by their kind.
+
+ghost use Rattle.std.specs.Prelude.{◌≡◌, is_some, IfOk, IfSome};
+ghost use Rattle.std.specs.List.{list_all};
+ghost use Rattle.wef_collector_rows.specs.Forms as spec;
+ghost use Rattle.wef_collector_rows.specs.Held.{own_event};
+
+use crate::keys::{BOOKMARK, BOOT, HEARD, HELD, LOOSE, MARK, SUBSCRIPTION};
+use std::alloc::AllocError;
+use wef_base::numbers::{MAX, read_plain_number};
+use wef_base::{ChannelName, SourceName, SubId, Text, ValueFault};
+use wef_event::Event;
+use wef_eventing::read_kept;
+use wef_keeper::{Key, Row};
+
+/// The greatest moment: the last millisecond of the year 9999.
+pub const LAST_MOMENT: u64 = 253_402_300_799_999;
+
+/// Whether all rows are of the form of their kinds.
+pub fn are_formed(rows: &[Row]) -> Result<bool, AllocError>
+    ensures { IfOk result (λ all. all ≡ list_all spec.is_formed rows.now) }
+{
+    for row in rows {
+        if !is_formed(row)? {
+            return Ok(false);
+        }
+    }
+    Ok(true)
+}
+
+/// Whether a row is of the form of its kind. Rows of other kinds aren't the collector's.
+#[tactic(auto, unfolding(crate::specs::Forms::is_formed))]
+pub fn is_formed(row: &Row) -> Result<bool, AllocError>
+    ensures { IfOk result (λ formed. formed ≡ spec.is_formed row.now) }
+{
+    match row.key.kind {
+        SUBSCRIPTION => is_subscription(row),
+        BOOKMARK => is_bookmark(row),
+        HELD => is_held(row),
+        MARK => is_mark(row),
+        LOOSE => is_loose(row),
+        HEARD => is_heard(row),
+        BOOT => Ok(is_boot(row)),
+        _ => Ok(true),
+    }
+}
+
+#[tactic(auto, unfolding(crate::specs::Forms::is_subscription_row))]
+fn is_subscription(row: &Row) -> Result<bool, AllocError>
+    ensures { IfOk result (λ formed. formed ≡ spec.is_subscription_row row.now) }
+{
+    let Some(name) = subscription_named(&row.key.sub)? else {
+        return Ok(false);
+    };
+    if !row.key.source.is_empty() || !row.key.channel.is_empty() {
+        return Ok(false);
+    }
+    if row.key.number != 0 || row.value > 1 {
+        return Ok(false);
+    }
+    Ok(read_kept(&name, &row.body)?.is_some())
+}
+
+#[tactic(auto, unfolding(crate::specs::Forms::is_bookmark_row))]
+fn is_bookmark(row: &Row) -> Result<bool, AllocError>
+    ensures { IfOk result (λ formed. formed ≡ spec.is_bookmark_row row.now) }
+{
+    if !names_channel(&row.key)? {
+        return Ok(false);
+    }
+    Ok(row.key.number == 0 && row.value <= MAX && row.body.is_empty())
+}
+
+fn is_held(row: &Row) -> Result<bool, AllocError>
+    ensures { IfOk result (λ formed. formed ≡ spec.is_held_row row.now) }
+{
+    Ok(held_event(row)?.is_some())
+}
+
+/// The event of a held row. None where the row isn't of its form.
+#[tactic(auto, unfolding(crate::specs::Forms::is_held_row))]
+pub fn held_event(row: &Row) -> Result<Option<Event>, AllocError>
+    ensures some { IfOk result (λ found. is_some found ≡ spec.is_held_row row.now) }
+    ensures value { IfOk result (λ found. IfSome found (λ event. event ≡ own_event row.now)) }
+{
+    if !names_source(&row.key)? {
+        return Ok(None);
+    }
+    let Some(channel) = channel_named(&row.key.channel)? else {
+        return Ok(None);
+    };
+    if row.key.number > MAX || row.value != 0 {
+        return Ok(None);
+    }
+    Event::of_text(&channel, row.key.number, &row.body)
+}
+
+#[tactic(auto, unfolding(crate::specs::Forms::is_mark_row))]
+fn is_mark(row: &Row) -> Result<bool, AllocError>
+    ensures { IfOk result (λ formed. formed ≡ spec.is_mark_row row.now) }
+{
+    if !names_channel(&row.key)? {
+        return Ok(false);
+    }
+    Ok(row.key.number <= row.value && row.value <= MAX && row.body.is_empty())
+}
+
+#[tactic(auto, unfolding(crate::specs::Forms::is_loose_row))]
+fn is_loose(row: &Row) -> Result<bool, AllocError>
+    ensures { IfOk result (λ formed. formed ≡ spec.is_loose_row row.now) }
+{
+    if !names_channel(&row.key)? {
+        return Ok(false);
+    }
+    if row.key.number > row.value || row.value > MAX {
+        return Ok(false);
+    }
+    Ok(read_plain_number(row.body.as_str().as_bytes(), MAX).is_some())
+}
+
+#[tactic(auto, unfolding(crate::specs::Forms::is_heard_row))]
+fn is_heard(row: &Row) -> Result<bool, AllocError>
+    ensures { IfOk result (λ formed. formed ≡ spec.is_heard_row row.now) }
+{
+    if !names_source(&row.key)? {
+        return Ok(false);
+    }
+    if !row.key.channel.is_empty() || row.key.number != 0 {
+        return Ok(false);
+    }
+    Ok(row.value <= LAST_MOMENT && row.body.is_empty())
+}
+
+#[tactic(auto, unfolding(crate::specs::Forms::is_boot_row))]
+fn is_boot(row: &Row) -> bool
+    ensures { result ≡ spec.is_boot_row row.now }
+{
+    if !row.key.sub.is_empty() || !row.key.source.is_empty() {
+        return false;
+    }
+    if !row.key.channel.is_empty() || row.key.number != 0 {
+        return false;
+    }
+    row.value <= MAX && row.body.is_empty()
+}
+
+fn names_channel(key: &Key) -> Result<bool, AllocError>
+    ensures { IfOk result (λ named. named ≡ spec.names_channel key.now) }
+{
+    if !names_source(key)? {
+        return Ok(false);
+    }
+    Ok(channel_named(&key.channel)?.is_some())
+}
+
+fn names_source(key: &Key) -> Result<bool, AllocError>
+    ensures { IfOk result (λ named. named ≡ spec.names_source key.now) }
+{
+    if subscription_named(&key.sub)?.is_none() {
+        return Ok(false);
+    }
+    is_source_name(&key.source)
+}
+
+/// The subscription's name that a text is, where it reads back as itself.
+fn subscription_named(text: &Text) -> Result<Option<SubId>, AllocError>
+    ensures { IfOk result (λ name. spec.NamesItself name text.now) }
+{
+    let name = match SubId::read(text) {
+        Ok(name) => name,
+        Err(ValueFault::BadName) => return Ok(None),
+        Err(_) => return Err(AllocError),
+    };
+    if *text != *name.as_text() {
+        return Ok(None);
+    }
+    Ok(Some(name))
+}
+
+fn is_source_name(text: &Text) -> Result<bool, AllocError>
+    ensures { IfOk result (λ named. named ≡ spec.is_source_name text.now) }
+{
+    match SourceName::read(text) {
+        Ok(name) => Ok(*text == *name.as_text()),
+        Err(ValueFault::BadName) => Ok(false),
+        Err(_) => Err(AllocError),
+    }
+}
+
+/// The channel's name that a text is, where it reads back as itself.
+fn channel_named(text: &Text) -> Result<Option<ChannelName>, AllocError>
+    ensures { IfOk result (λ name. spec.NamesChannel name text.now) }
+{
+    let name = match ChannelName::read(text) {
+        Ok(name) => name,
+        Err(ValueFault::BadName) => return Ok(None),
+        Err(_) => return Err(AllocError),
+    };
+    if *text != *name.as_text() {
+        return Ok(None);
+    }
+    Ok(Some(name))
+}

@@ -1,0 +1,13 @@
+//! What the collector keeps: the keys and forms of its rows, reading them, and what they say of a
+//! subscription and of how far a source was served.
+#![tactic(auto)]
+
+pub mod bookmarks;
+pub mod faults;
+pub mod forms;
+pub mod keys;
+pub mod reading;
+pub mod standings;
+
+pub use faults::CollectorFault;
+pub use standings::Standing;
