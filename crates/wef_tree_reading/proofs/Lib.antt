@@ -5,7 +5,6 @@ pub mod GoodPieces
 pub mod GoodTrees
 pub mod Inversions
 pub mod LineEnds
-pub mod Maps
 pub mod Readings
 pub mod Shorter
 pub mod Stacks

@@ -11,13 +11,13 @@ use Rattle.wef_base.specs.declared.tree.Node.{Node, Chars, Element', Row_of-Node
 use Rattle.wef_base.specs.declared.tree.Node.TheVariants.{Element as Child, outs-Chars, outs-Element', outs-Element}
 use Rattle.wef_base.specs.declared.tree.Charset.{Charset}
 use Rattle.wef_xml.specs.Canonical.{bytes_of, character_bytes, element_text, end_of, node_of, row_of, start_of}
+use Rattle.wef_tree_writing.specs.Levels.{all_of}
 use Rattle.wef_tree_writing.specs.Markup.{IsPast, IsTooLong, scope_of}
-use Rattle.wef_xml.specs.Prefixes.{Scope, bound_by, inside, new_bindings}
+use Rattle.wef_xml.specs.Prefixes.{Scope, inside, new_bindings}
 use Rattle.wef_xml.specs.declared.bindings.Binding.{Binding}
 use Rattle.wef_tree_writing.specs.declared.writing.Stop.{Stop}
 use Rattle.wef_tree_writing.specs.declared.writing.Stop.TheVariants.{NoMemory, TooLong}
 use Rattle.wef_tree_writing.specs.declared.writing.Writer.{Writer}
-use Rattle.wef_tree_writing.proofs.Bound.{left_again}
 
 -- the text of a row of nodes, by its list
 row_is : {m : _} (row : Row_of-Node m) (scope : Scope) → row_of row scope ≡ flat_map (λ n. node_of n scope) (items-the_row-Node m row)
@@ -81,7 +81,7 @@ past_front stop w front more past =
 
 -- Where a start tag is written, all that is written of an element's children stands behind it.
 pub record Inside (w began through : Writer) (first : List Binding) (default inner : List ℕ) (e : Element) (index : ℕ) (items : List Node) : Type 0 where
-  pub started : began ≡ record w { bytes = w.bytes ++ bytes_of w.charset (start_of first (scope_of w default) e.space e.name e.attributes); bound = (inside (scope_of w default) e.space e.attributes).bound }
+  pub started : began ≡ record w { bytes = w.bytes ++ bytes_of w.charset (start_of first (scope_of w default) e.space e.name e.attributes); bound = new_bindings (all_of w.bound) e.attributes ∷ w.bound }
   pub inner_is : inner ≡ (inside (scope_of began default) e.space []).default
   pub all : items ≡ e.children
   pub written :
@@ -113,7 +113,7 @@ with_children w began through first default inner e index items is =
     let default_is : inner ≡ (inside (scope_of w default) e.space e.attributes).default =
     is.inner_is ∙ ap (λ (v : Writer). (inside (scope_of v default) e.space []).default) is.started in
     let scope_is : scope_of began inner ≡ inside (scope_of w default) e.space e.attributes =
-    λ i. record { default = default_is i; soap = (is.started i).root; bound = (is.started i).bound } in
+    λ i. record { default = default_is i; soap = (is.started i).root; bound = all_of (is.started i).bound } in
     let start = bytes_of w.charset (start_of first (scope_of w default) e.space e.name e.attributes) in
     is.written ∙ (λ i. (is.started i).bytes ++ flat_map (node_bytes (is.started i).charset (scope_is i)) (is.all i))
     ∙ ap (λ (bytes : List ℕ). (w.bytes ++ start) ++ bytes) (nodes_bytes w.charset (inside (scope_of w default) e.space e.attributes) e.children)
@@ -135,14 +135,14 @@ with_end w began through first default inner e index items is past =
 
 -- Where a start tag, all children and an end tag are written, and the bindings of the tag are left, the element is written.
 pub element_written :
-    (w began through : Writer) (first left : List Binding) (default inner : List ℕ) (e : Element) (count index : ℕ) (items : List Node) →
-    count ≡ length (new_bindings w.bound e.attributes) →
-    Inside w began through first default inner e index items → length items ≤ index → left ≡ drop count through.bound →
+    (w began through : Writer) (first : List Binding) (left : List (List Binding)) (default inner : List ℕ) (e : Element) (index : ℕ) (items : List Node) →
+    Inside w began through first default inner e index items → length items ≤ index → left ≡ drop 1 through.bound →
     record through { bytes = through.bytes ++ bytes_of through.charset (end_of (scope_of (record through { bound = left }) []) e.space e.name); bound = left }
     ≡ record w { bytes = w.bytes ++ bytes_of w.charset (element_text first (scope_of w default) e) }
-element_written w began through first left default inner e count index items counted is past left_is =
-    let bound_is : through.bound ≡ bound_by w.bound (new_bindings w.bound e.attributes) = ap (λ (v : Writer). v.bound) is.kept ∙ ap (λ (v : Writer). v.bound) is.started in
-    let left_outer : left ≡ w.bound = left_is ∙ (λ i. drop (counted i) (bound_is i)) ∙ left_again w.bound (new_bindings w.bound e.attributes) in
+element_written w began through first left default inner e index items is past left_is =
+    let bound_is : through.bound ≡ new_bindings (all_of w.bound) e.attributes ∷ w.bound =
+    ap (λ (v : Writer). v.bound) is.kept ∙ ap (λ (v : Writer). v.bound) is.started in
+    let left_outer : left ≡ w.bound = left_is ∙ ap (λ (levels : List (List Binding)). drop 1 levels) bound_is in
     let alloc_is = ap (λ (v : Writer). v.alloc) is.kept ∙ ap (λ (v : Writer). v.alloc) is.started in
     let charset_is = charset_kept w began through first default inner e index items is in
     let limit_is = limit_kept w began through first default inner e index items is in
@@ -181,7 +181,7 @@ past_child stop w began through first default inner e index items n rest is next
     (longer stop w.limit _ (bytes_of w.charset end) (subst P joined (longer stop w.limit (through.bytes ++ g n) (flat_map g rest) in_w)))
 
 past_end :
-    (stop : Stop) (w began through : Writer) (first left : List Binding) (default inner : List ℕ) (e : Element) (index : ℕ) (items : List Node) →
+    (stop : Stop) (w began through : Writer) (first : List Binding) (left : List (List Binding)) (default inner : List ℕ) (e : Element) (index : ℕ) (items : List Node) →
     Inside w began through first default inner e index items → length items ≤ index →
     IsPast stop (record through { bound = left }) (end_of (scope_of (record through { bound = left }) []) e.space e.name) →
     IsPast stop w (element_text first (scope_of w default) e)
@@ -192,7 +192,7 @@ past_end stop w began through first left default inner e index items is all past
     (subst (λ (limit : ℕ). IsTooLong stop limit (through.bytes ++ bytes_of through.charset (end_of (record { default = []; soap = through.root; bound = [] }) e.space e.name))) limit_is past)
 
 pub past_end_of :
-    {A : Type 0} (result : Result A Stop) (w began through : Writer) (first left : List Binding) (default inner : List ℕ) (e : Element) (index : ℕ)
+    {A : Type 0} (result : Result A Stop) (w began through : Writer) (first : List Binding) (left : List (List Binding)) (default inner : List ℕ) (e : Element) (index : ℕ)
     (items : List Node) → Inside w began through first default inner e index items → length items ≤ index →
     IfErr result (λ stop. IsPast stop (record through { bound = left }) (end_of (scope_of (record through { bound = left }) []) e.space e.name)) →
     IfErr result (λ stop. IsPast stop w (element_text first (scope_of w default) e))

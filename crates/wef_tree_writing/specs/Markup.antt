@@ -3,6 +3,7 @@ use Rattle.std.specs.Prelude.{ℕ, ◌<◌, Bool, ◌||◌, List, [], ◌++◌, 
 use Rattle.wef_base.specs.Names.{same}
 use Rattle.wef_xml.specs.Canonical.{assigned, bytes_of}
 use Rattle.wef_xml.specs.Prefixes.{Scope}
+use Rattle.wef_tree_writing.specs.Levels.{all_of}
 use Rattle.wef_tree_writing.specs.declared.writing.Stop.{Stop}
 use Rattle.wef_tree_writing.specs.declared.writing.Stop.TheVariants.{NoMemory, TooLong}
 use Rattle.wef_tree_writing.specs.declared.writing.Writer.{Writer}
@@ -13,7 +14,7 @@ default_declaration has_prefix default space = if has_prefix || same default spa
 
 -- what is in force where a writer stands inside this default namespace
 abbrev pub scope_of : Writer → List ℕ → Scope
-scope_of w default = record { default = default; soap = w.root; bound = w.bound }
+scope_of w default = record { default = default; soap = w.root; bound = all_of w.bound }
 
 -- Why bytes aren't written: they are more than the limit; want of memory is free.
 abbrev pub IsTooLong : Stop → ℕ → List ℕ → Type 0

@@ -1,20 +1,125 @@
 //! Prefixes that a writer has bound to namespaces.
 
-ghost use Rattle.std.specs.Prelude.{◌≡◌, [], ◌∷◌, length, drop, Some, MatchOption, IfOk, OnOk, if◌then◌else◌};
+ghost use Rattle.std.specs.Prelude.{◌≡◌, [], ◌∷◌, ◌++◌, drop, Some, MatchOption, IfOk, OnOk, if◌then◌else◌};
 ghost use Rattle.std.specs.Option.{option_copied};
 ghost use Rattle.wef_base.specs.Names.{same};
 ghost use Rattle.wef_xml.specs.Prefixes.{bound_by, prefix_of, unless_bound};
+ghost use Rattle.wef_tree_writing.specs.Levels.{all_of, if_bound_to, prefix_around, unless_any_binds};
 
+use crate::lookups::Lookup;
 use std::alloc::{AllocError, Global};
 use std::marker::Model;
 use wef_base::{List, Namespace, Text};
 use wef_xml::Binding;
 
-/// The bindings that are in force where an element is written, which contracts see with the innermost
-/// first.
+/// The bindings that one element makes, which contracts see in their order, each inside those before
+/// it.
+#[derive(Drop)]
+pub struct Level {
+    bindings: List<Binding>,
+    /// The innermost prefix of each namespace.
+    prefixes: Lookup,
+    /// What each prefix stands for.
+    spaces: Lookup,
+}
+
+impl Model for Level {
+    ghost use Rattle.std.specs.Prelude.{List, []};
+    ghost use Rattle.std.specs.Coded.{coded_list};
+    ghost use Rattle.wef_xml.specs.Prefixes.{bound_by};
+    ghost use Rattle.wef_xml.specs.declared.bindings.Binding.{Binding};
+    ghost use Rattle.wef_xml.specs.contracts.bindings.Binding as binding;
+    ghost use Rattle.wef_tree_writing.specs.Levels.{HasPrefixes, HasSpaces};
+
+    ghost Value = { List Binding };
+
+    ghost coded = { coded_list binding.the_row.coded };
+
+    ghost view = { λ l. l.bindings };
+
+    ghost invariant = { λ l. HasPrefixes l.prefixes (bound_by [] l.bindings) × HasSpaces l.spaces (bound_by [] l.bindings) };
+}
+
+impl Level {
+    /// No binding. It takes no memory.
+    fn new(alloc: Global) -> Level
+        ensures { result ≡ [] }
+    {
+        Level {
+            bindings: List::new(alloc),
+            prefixes: Lookup::new(alloc),
+            spaces: Lookup::new(alloc),
+        }
+    }
+
+    /// The level of these bindings.
+    fn of(alloc: Global, bindings: List<Binding>) -> Result<Level, AllocError>
+        ensures { IfOk result (λ level. level ≡ bindings) }
+    {
+        let mut level = Level::new(alloc);
+        for binding in bindings.into_vec() {
+            level = level.with(binding)?;
+        }
+        Ok(level)
+    }
+
+    /// The level with one binding more, inside all others.
+    fn with(self, binding: Binding) -> Result<Level, AllocError>
+        ensures { IfOk result (λ level. level ≡ self ++ binding ∷ []) }
+    {
+        let Level {
+            mut bindings,
+            mut prefixes,
+            mut spaces,
+        } = self;
+        let space = binding.space.as_text();
+        prefixes.insert(space.clone()?, binding.prefix.clone()?)?;
+        spaces.insert(binding.prefix.clone()?, space.clone()?)?;
+        bindings.push(binding)?;
+        Ok(Level {
+            bindings,
+            prefixes,
+            spaces,
+        })
+    }
+
+    /// The prefix of a namespace inside the level, where it has this one outside.
+    fn prefix_inside<'a>(&'a self, outside: Option<&'a Text>, space: &Namespace) -> Option<&'a Text>
+        ensures { option_copied result ≡ prefix_around (option_copied outside.entry) (bound_by [] self.now) space.now }
+    {
+        match self.prefixes.get(space.as_text()) {
+            Some(prefix) => self.if_bound_to(prefix, space),
+            None => self.unless_any_binds(outside),
+        }
+    }
+
+    /// A prefix, if it stands for this namespace.
+    fn if_bound_to<'a>(&self, prefix: &'a Text, space: &Namespace) -> Option<&'a Text>
+        ensures { option_copied result ≡ if_bound_to (bound_by [] self.now) space.now prefix.now }
+    {
+        match self.spaces.get(prefix) {
+            Some(found) if *found == *space.as_text() => Some(prefix),
+            _ => None,
+        }
+    }
+
+    /// A prefix from outside, unless it is bound here.
+    fn unless_any_binds<'a>(&self, outside: Option<&'a Text>) -> Option<&'a Text>
+        ensures { option_copied result ≡ unless_any_binds (bound_by [] self.now) (option_copied outside.entry) }
+    {
+        match outside {
+            Some(prefix) if self.spaces.get(prefix).is_none() => Some(prefix),
+            _ => None,
+        }
+    }
+}
+
+/// The bindings that are in force where an element is written, by levels, which contracts see with
+/// the innermost first. A prefix is looked up in each level, of which there are no more than open
+/// elements.
 #[derive(Drop)]
 pub struct Bindings {
-    items: Vec<Binding>,
+    levels: Vec<Level>,
 }
 
 impl Model for Bindings {
@@ -23,11 +128,11 @@ impl Model for Bindings {
     ghost use Rattle.wef_xml.specs.declared.bindings.Binding.{Binding};
     ghost use Rattle.wef_xml.specs.contracts.bindings.Binding as binding;
 
-    ghost Value = { List Binding };
+    ghost Value = { List (List Binding) };
 
-    ghost coded = { coded_list binding.the_row.coded };
+    ghost coded = { coded_list (coded_list binding.the_row.coded) };
 
-    ghost view = { λ b. reverse b.items.items };
+    ghost view = { λ b. reverse b.levels.items };
 }
 
 impl Bindings {
@@ -36,57 +141,46 @@ impl Bindings {
         ensures { result ≡ [] }
     {
         Bindings {
-            items: Vec::new(alloc),
+            levels: Vec::new(alloc),
         }
     }
 
-    /// Binds one prefix more, inside all others.
-    pub fn push(&mut self, binding: Binding) -> Result<(), AllocError>
-        ensures { OnOk result (self.new ≡ binding ∷ self.old) }
+    /// Binds the prefixes of an element, inside all others.
+    pub fn enter(&mut self, alloc: Global, bindings: List<Binding>) -> Result<(), AllocError>
+        ensures { OnOk result (self.new ≡ bindings ∷ self.old) }
     {
-        self.items.push(binding)?;
+        let level = Level::of(alloc, bindings)?;
+        self.levels.push(level)?;
         Ok(())
     }
 
-    /// Binds prefixes, each inside those before it.
-    pub fn extend(&mut self, more: List<Binding>) -> Result<(), AllocError>
-        ensures { OnOk result (self.new ≡ bound_by self.old more) }
+    /// Takes the bindings of the innermost element out.
+    pub fn leave(&mut self)
+        ensures { self.new ≡ drop 1 self.old }
     {
-        for binding in more.into_vec() {
-            self.push(binding)?;
-        }
-        Ok(())
+        self.pop();
     }
 
-    /// Takes so many of the innermost bindings out.
-    pub fn leave(&mut self, count: usize)
-        ensures { self.new ≡ drop count self.old }
+    fn pop(&mut self) -> Option<Level>
+        ensures { MatchOption result ((self.old ≡ []) × (self.new ≡ [])) (λ level. self.old ≡ level ∷ self.new) }
     {
-        for _turn in 0..count {
-            self.pop();
-        }
-    }
-
-    fn pop(&mut self) -> Option<Binding>
-        ensures { MatchOption result ((self.old ≡ []) × (self.new ≡ [])) (λ b. self.old ≡ b ∷ self.new) }
-    {
-        self.items.pop()
+        self.levels.pop()
     }
 
     /// The innermost prefix that is bound to a namespace, unless it is bound to another one further in.
     pub fn prefix_of(&self, space: &Namespace) -> Option<&Text>
-        ensures { option_copied result ≡ prefix_of self.now space.now }
+        ensures { option_copied result ≡ prefix_of (all_of self.now) space.now }
     {
         let mut prefix = None;
-        for binding in self.items.as_slice() {
-            prefix = prefix_inside(binding, prefix, space);
+        for level in self.levels.as_slice() {
+            prefix = level.prefix_inside(prefix, space);
         }
         prefix
     }
 }
 
 /// The prefix of a namespace inside a binding, where it has this one outside.
-pub fn prefix_inside<'a>(
+fn prefix_inside<'a>(
     binding: &'a Binding,
     outside: Option<&'a Text>,
     space: &Namespace,

@@ -3,6 +3,7 @@
 
 mod bindings;
 mod escaping;
+mod lookups;
 mod markup;
 mod prefixes;
 mod soap;

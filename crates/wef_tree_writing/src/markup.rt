@@ -5,6 +5,7 @@ ghost use Rattle.std.specs.List.{flat_map};
 ghost use Rattle.std.specs.Option.{option_copied};
 ghost use Rattle.wef_xml.specs.Canonical.{assigned, attribute_of, declaration_of, name_of};
 ghost use Rattle.wef_tree_writing.specs.Markup.{default_declaration};
+ghost use Rattle.wef_tree_writing.specs.Levels.{all_of};
 
 use crate::bindings::Bindings;
 use crate::escaping::{push_ascii, push_characters, push_value};
@@ -81,7 +82,7 @@ pub fn push_attributes(
     bound: &Bindings,
     attributes: &[Attribute],
 ) -> Result<(), AllocError>
-    ensures { OnOk result (out.new ≡ out.old ++ flat_map (attribute_of bound.now) attributes.now) }
+    ensures { OnOk result (out.new ≡ out.old ++ flat_map (attribute_of (all_of bound.now)) attributes.now) }
 {
     for attribute in attributes {
         push_attribute(out, bound, attribute)?;
@@ -94,7 +95,7 @@ fn push_attribute(
     bound: &Bindings,
     attribute: &Attribute,
 ) -> Result<(), AllocError>
-    ensures { OnOk result (out.new ≡ out.old ++ attribute_of bound.now attribute.now) }
+    ensures { OnOk result (out.new ≡ out.old ++ attribute_of (all_of bound.now) attribute.now) }
 {
     out.push(' ')?;
     push_name(

@@ -1,12 +1,12 @@
 //! The prefixes of elements and attributes, and the bindings that an element makes for its attributes.
 
 ghost use Rattle.std.specs.Prelude.{◌≡◌, ◌+◌, [], ◌∷◌, ◌++◌, length, IfOk, OnOk};
-ghost use Rattle.std.specs.List.{list_any};
 ghost use Rattle.std.specs.Option.{option_copied, option_to_list};
-ghost use Rattle.wef_base.specs.Names.{same};
 ghost use Rattle.wef_xml.specs.Prefixes.{attribute_prefix, bindings_from, element_prefix, needs_prefix, new_bindings, new_spaces, next_free, numbered_prefix, outer_prefixes, prefix_of, with_space};
+ghost use Rattle.wef_tree_writing.specs.Levels.{all_of};
 
 use crate::bindings::Bindings;
+use crate::lookups::TextSet;
 use crate::soap::RootPrefixes;
 use std::alloc::{AllocError, Global};
 use wef_base::{Attribute, List, Namespace, Text};
@@ -28,7 +28,7 @@ pub fn element_prefix<'a>(root: &'a RootPrefixes, space: &Namespace) -> Option<&
 
 /// The prefix of an attribute, if it has one.
 pub fn attribute_prefix<'a>(bound: &'a Bindings, space: &Namespace) -> Option<&'a str>
-    ensures { option_copied result ≡ attribute_prefix bound.now space.now }
+    ensures { option_copied result ≡ attribute_prefix (all_of bound.now) space.now }
 {
     if space.as_text().is_empty() {
         return None;
@@ -48,14 +48,14 @@ pub fn new_bindings(
     bound: &Bindings,
     attributes: &[Attribute],
 ) -> Result<List<Binding>, AllocError>
-    ensures { IfOk result (λ bindings. bindings ≡ new_bindings bound.now attributes.now) }
+    ensures { IfOk result (λ bindings. bindings ≡ new_bindings (all_of bound.now) attributes.now) }
 {
     let spaces = new_spaces(alloc, bound, attributes)?;
-    if spaces.is_empty() {
+    if spaces.as_slice().is_empty() {
         return Ok(List::new(alloc));
     }
     let taken = outer_prefixes(alloc, bound, attributes)?;
-    bindings_from(alloc, taken.as_slice(), spaces.as_slice())
+    bindings_from(alloc, &taken, spaces.as_slice())
 }
 
 /// The namespaces that need a prefix, each once.
@@ -63,41 +63,31 @@ fn new_spaces(
     alloc: Global,
     bound: &Bindings,
     attributes: &[Attribute],
-) -> Result<List<Namespace>, AllocError>
-    ensures { IfOk result (λ spaces. spaces ≡ new_spaces bound.now [] attributes.now) }
+) -> Result<TextSet, AllocError>
+    ensures { IfOk result (λ spaces. spaces ≡ new_spaces (all_of bound.now) [] attributes.now) }
 {
-    let mut spaces = List::new(alloc);
+    let mut spaces = TextSet::new(alloc);
     for attribute in attributes {
-        add_space(&mut spaces, bound, &attribute.space)?;
+        spaces = with_space(spaces, bound, &attribute.space)?;
     }
     Ok(spaces)
 }
 
-fn add_space(
-    spaces: &mut List<Namespace>,
-    bound: &Bindings,
-    space: &Namespace,
-) -> Result<(), AllocError>
-    ensures { OnOk result (spaces.new ≡ with_space bound.now spaces.old space.now) }
+fn with_space(spaces: TextSet, bound: &Bindings, space: &Namespace) -> Result<TextSet, AllocError>
+    ensures { IfOk result (λ more. more ≡ with_space (all_of bound.now) spaces space.now) }
 {
-    if !needs_prefix(bound, space) || has_space(spaces.as_slice(), space) {
-        return Ok(());
+    if !needs_prefix(bound, space) || spaces.contains(space.as_text()) {
+        return Ok(spaces);
     }
-    spaces.push(space.clone()?)
+    spaces.with(space.as_text().clone()?)
 }
 
 fn needs_prefix(bound: &Bindings, space: &Namespace) -> bool
-    ensures { result ≡ needs_prefix bound.now space.now }
+    ensures { result ≡ needs_prefix (all_of bound.now) space.now }
 {
     !space.as_text().is_empty()
         && !is_xml_space(space.as_text())
         && bound.prefix_of(space).is_none()
-}
-
-fn has_space(spaces: &[Namespace], space: &Namespace) -> bool
-    ensures { result ≡ list_any (same space.now) spaces.now }
-{
-    spaces.iter().any(|other| *space == *other)
 }
 
 /// The prefixes that attributes take from outside.
@@ -105,34 +95,34 @@ fn outer_prefixes(
     alloc: Global,
     bound: &Bindings,
     attributes: &[Attribute],
-) -> Result<List<Text>, AllocError>
-    ensures { IfOk result (λ prefixes. prefixes ≡ outer_prefixes bound.now attributes.now) }
+) -> Result<TextSet, AllocError>
+    ensures { IfOk result (λ prefixes. prefixes ≡ outer_prefixes (all_of bound.now) attributes.now) }
 {
-    let mut prefixes = List::new(alloc);
+    let mut prefixes = TextSet::new(alloc);
     for attribute in attributes {
-        add_prefix(&mut prefixes, bound, &attribute.space)?;
+        prefixes = with_prefix(prefixes, bound, &attribute.space)?;
     }
     Ok(prefixes)
 }
 
-fn add_prefix(
-    prefixes: &mut List<Text>,
+fn with_prefix(
+    prefixes: TextSet,
     bound: &Bindings,
     space: &Namespace,
-) -> Result<(), AllocError>
-    ensures { OnOk result (prefixes.new ≡ prefixes.old ++ option_to_list (prefix_of bound.now space.now)) }
+) -> Result<TextSet, AllocError>
+    ensures { IfOk result (λ more. more ≡ prefixes ++ option_to_list (prefix_of (all_of bound.now) space.now)) }
 {
     match bound.prefix_of(space) {
-        Some(prefix) => prefixes.push(prefix.clone()?),
-        None => Ok(()),
+        Some(prefix) => prefixes.with(prefix.clone()?),
+        None => Ok(prefixes),
     }
 }
 
 /// A binding for each namespace, with numbers whose prefixes aren't taken.
 fn bindings_from(
     alloc: Global,
-    taken: &[Text],
-    spaces: &[Namespace],
+    taken: &TextSet,
+    spaces: &[Text],
 ) -> Result<List<Binding>, AllocError>
     ensures { IfOk result (λ bindings. bindings ≡ bindings_from taken.now 1 spaces.now) }
 {
@@ -151,23 +141,23 @@ fn push_numbered(
     bindings: &mut List<Binding>,
     alloc: Global,
     number: u64,
-    space: &Namespace,
+    space: &Text,
 ) -> Result<(), AllocError>
     ensures { OnOk result (bindings.new ≡ bindings.old ++ record { prefix = numbered_prefix number; space = space.now } ∷ []) }
 {
     bindings.push(Binding {
         prefix: numbered_prefix(alloc, number)?,
-        space: space.clone()?,
+        space: Namespace::new(space.clone()?)?,
     })
 }
 
 /// The first number from this one on whose prefix isn't taken.
-fn next_free(alloc: Global, taken: &[Text], first: u64) -> Result<u64, AllocError>
+fn next_free(alloc: Global, taken: &TextSet, first: u64) -> Result<u64, AllocError>
     ensures { IfOk result (λ free. free ≡ next_free (length taken.now) taken.now first) }
 {
     let mut number = first;
-    for _turn in 0..taken.len() {
-        if !is_taken(&numbered_prefix(alloc, number)?, taken) {
+    for _turn in 0..taken.as_slice().len() {
+        if !taken.contains(&numbered_prefix(alloc, number)?) {
             return Ok(number);
         }
         number = next_number(number)?;
@@ -180,12 +170,6 @@ fn next_number(number: u64) -> Result<u64, AllocError>
     ensures { IfOk result (λ next. next ≡ number + 1) }
 {
     number.checked_add(1).ok_or(AllocError)
-}
-
-fn is_taken(prefix: &Text, taken: &[Text]) -> bool
-    ensures { result ≡ list_any (same prefix.now) taken.now }
-{
-    taken.iter().any(|other| *prefix == *other)
 }
 
 #[tactic(auto, using(crate::proofs::Digits::printed_digits))]

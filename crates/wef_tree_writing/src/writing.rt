@@ -5,6 +5,7 @@ ghost use Rattle.wef_xml.specs.Canonical.{bytes_of, canonical, element_text, enc
 ghost use Rattle.wef_xml.specs.Good.{IsGoodTree};
 ghost use Rattle.wef_xml.specs.Prefixes.{element_prefix, inside, new_bindings, outermost, root_bindings};
 ghost use Rattle.wef_xml.specs.declared.faults.TreeFault.TheVariants.{NoMemory};
+ghost use Rattle.wef_tree_writing.specs.Levels.{all_of};
 ghost use Rattle.wef_tree_writing.specs.Markup.{IsPast, IsTooLong, default_declaration, scope_of};
 
 use crate::bindings::Bindings;
@@ -40,8 +41,8 @@ impl From<AllocError> for Stop {
 /// Writes a tree that documents say, in its one text: elements have a start tag and an end tag, and
 /// nothing stands between them but their children. UTF-8 has no byte order mark, UTF-16 is
 /// little-endian and has one. Only want of memory is refused. It takes time in proportion to the
-/// text, and besides, for each attribute in a namespace, to the prefixes in force, and for each
-/// prefix that an element declares, to its attributes.
+/// text, but for a logarithm; and besides, for each element and attribute in a namespace, to compare
+/// that with others.
 pub fn write_tree(alloc: Global, root: &Element, charset: Charset) -> Result<Bytes, TreeFault>
     requires { IsGoodTree root.now }
     ensures value { IfOk result (λ bytes. bytes ≡ encoded charset (canonical root.now)) }
@@ -116,7 +117,7 @@ impl Writer {
         let mut bytes = Bytes::new(alloc);
         push_mark(&mut bytes, charset)?;
         let mut bound = Bindings::new(alloc);
-        bound.extend(root_bindings(alloc, space)?)?;
+        bound.enter(alloc, root_bindings(alloc, space)?)?;
         Ok(Writer {
             alloc,
             charset,
@@ -162,12 +163,12 @@ impl Writer {
         ensures within { OnOk result (length self.new.bytes ≤ self.old.limit) }
         ensures past { IfErr result (λ stop. IsPast stop self.old (element_text first.now (scope_of self.old default.now) element.now)) }
     {
-        let count = self.write_start(first, default, element)?;
+        self.write_start(first, default, element)?;
         let inner = self.inner_default(default, &element.space);
         for child in element.children.as_slice() {
             self.write_node(inner, child)?;
         }
-        self.bound.leave(count);
+        self.bound.leave();
         self.write_end(element)
     }
 
@@ -182,23 +183,20 @@ impl Writer {
         self.put(piece.as_slice())
     }
 
-    /// Writes a start tag, whose own bindings stay in force. It gives how many these are.
+    /// Writes a start tag, whose own bindings stay in force.
     fn write_start(
         &mut self,
         first: &[Binding],
         default: &Namespace,
         element: &Element,
-    ) -> Result<usize, Stop>
-        ensures count { IfOk result (λ count. count ≡ length (new_bindings self.old.bound element.now.attributes)) }
-        ensures written { let e = element.now in let scope = scope_of self.old default.now in
-            OnOk result (self.new ≡ record self.old { bytes = self.old.bytes ++ bytes_of self.old.charset (start_of first.now scope e.space e.name e.attributes); bound = (inside scope e.space e.attributes).bound }) }
+    ) -> Result<(), Stop>
+        ensures written { let e = element.now in
+            OnOk result (self.new ≡ record self.old { bytes = self.old.bytes ++ bytes_of self.old.charset (start_of first.now (scope_of self.old default.now) e.space e.name e.attributes); bound = new_bindings (all_of self.old.bound) e.attributes ∷ self.old.bound }) }
         ensures past { let e = element.now in IfErr result (λ stop. IsPast stop self.old (start_of first.now (scope_of self.old default.now) e.space e.name e.attributes)) }
     {
         let own = new_bindings(self.alloc, &self.bound, element.attributes.as_slice())?;
-        let count = own.len();
         let tag = self.start_tag(first, default, element, own)?;
-        self.put(tag.as_slice())?;
-        Ok(count)
+        self.put(tag.as_slice())
     }
 
     /// The start tag of an element with these bindings of its own, which come into force.
@@ -209,15 +207,15 @@ impl Writer {
         element: &Element,
         own: List<Binding>,
     ) -> Result<List<char>, AllocError>
-        requires { own ≡ new_bindings self.old.bound element.now.attributes }
+        requires { own ≡ new_bindings (all_of self.old.bound) element.now.attributes }
         ensures tag { let e = element.now in IfOk result (λ tag. tag ≡ start_of first.now (scope_of self.old default.now) e.space e.name e.attributes) }
-        ensures bound { let e = element.now in OnOk result (self.new ≡ record self.old { bound = (inside (scope_of self.old default.now) e.space e.attributes).bound }) }
+        ensures bound { let e = element.now in OnOk result (self.new ≡ record self.old { bound = own ∷ self.old.bound }) }
     {
         let mut start = List::new(self.alloc);
         push_opening(&mut start, &self.root, default, element)?;
         push_declarations(&mut start, first)?;
         push_declarations(&mut start, own.as_slice())?;
-        self.bound.extend(own)?;
+        self.bound.enter(self.alloc, own)?;
         push_attributes(&mut start, &self.bound, element.attributes.as_slice())?;
         start.push('>')?;
         Ok(start)

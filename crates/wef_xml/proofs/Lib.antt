@@ -1,2 +1,3 @@
 pub mod GoodNodes
+pub mod Maps
 pub mod Utf8

@@ -1,6 +1,7 @@
 use Rattle.std.proofs.Common.{sym, ap, ◌∙◌}
 use Rattle.std.specs.Option.{option_copied}
-use Rattle.wef_tree_writing.proofs.Bound.{around_last, prefix_around}
+use Rattle.wef_tree_writing.specs.Levels.{prefix_around}
+use Rattle.wef_tree_writing.proofs.Bound.{around_last}
 use Rattle.wef_tree_writing.proofs.bindings.prefix_in.Goals as goal
 
 pub loop-outermost-preserved : goal.loop-outermost-preserved

@@ -1,7 +1,7 @@
 use Rattle.std.proofs.Common.{◌≡◌, length}
 use Rattle.std.specs.Option.{option_copied}
 use Rattle.wef_xml.specs.Prefixes.{prefix_of}
-use Rattle.wef_tree_writing.proofs.Bound.{prefix_around}
+use Rattle.wef_tree_writing.specs.Levels.{prefix_around}
 use Rattle.wef_tree_writing.proofs.bindings.prefix_in.Given as goal
 
 abbrev pub invariant-loop-outermost : goal.invariant-loop-outermost

@@ -1,4 +1,4 @@
-use Rattle.std.proofs.Common.{◌≡◌, ◌∙◌, sym, true}
+use Rattle.std.proofs.Common.{◌≡◌, ◌<◌, ◌∙◌, length, subst, sym, true}
 use Rattle.std.specs.List.{list_any}
 use Rattle.wef_base.specs.Names.{same}
 use Rattle.wef_xml.specs.Prefixes.{numbered_prefix}
@@ -7,8 +7,10 @@ use Rattle.wef_tree_writing.proofs.prefixes.next_free.Goals as goal
 
 pub loop-turn-preserved : goal.loop-turn-preserved
 loop-turn-preserved c =
-    let test = c.if-not-is_taken.false in
-    let means = c.is_taken-in-loop-turn.ensures in
+    let test = c.if-not-contains.false in
+    let means = c.contains-in-loop-turn.ensures in
     let prefix = c.in_ok-numbered_prefix.ensures in
     let is_taken : list_any (same (numbered_prefix c.loop-turn.number)) c.args.taken.now ≡ true = rw prefix at (sym means ∙ test) in
-    rw c.in_ok-number.ensures (next_turn _ _ _ _ _ c.loop-turn-test.true is_taken c.loop-turn.invariant)
+    let within : c.loop-turn._turn < length c.args.taken.now =
+    subst (λ texts. c.loop-turn._turn < length texts) c.as_slice-turn-end.ensures c.loop-turn-test.true in
+    rw c.in_ok-number.ensures (next_turn _ _ _ _ _ within is_taken c.loop-turn.invariant)

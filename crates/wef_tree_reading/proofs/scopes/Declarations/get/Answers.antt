@@ -1,5 +1,5 @@
 use Rattle.std.proofs.Common.{rules}
-use Rattle.wef_tree_reading.proofs.Maps.{get_given}
+use Rattle.wef_xml.proofs.Maps.{get_given}
 use Rattle.wef_tree_reading.proofs.scopes.Declarations.get.Goals as goal
 
 pub returns : goal.returns

@@ -1,6 +1,6 @@
 use Rattle.std.proofs.Common.{sym, ap, ◌∙◌}
 use Rattle.std.specs.FinMap as map
-use Rattle.wef_tree_reading.proofs.Maps.{get_given, one_given}
+use Rattle.wef_xml.proofs.Maps.{get_given, one_given}
 use Rattle.wef_tree_reading.proofs.scopes.Declarations.insert.Goals as goal
 
 pub returns-clause-before : goal.returns-clause-before

@@ -10,15 +10,15 @@ write_node-returns-in-Element-clause-written t c = rw (node_text _ c.in-Element.
 pub write_node-returns-in-Element-clause-past : goal.write_node-returns-in-Element-clause-past
 write_node-returns-in-Element-clause-past t c = rw (node_text _ c.in-Element.element _ c.in-Element.is) c.write_element.ensures.past
 
-pub write_element-returns-in_err-count-clause-past : goal.write_element-returns-in_err-count-clause-past
-write_element-returns-in_err-count-clause-past t c =
-    search (rules, past_start c.in_err-count.field-0.0 c.args.self.now c.args.first.now c.args.default.now c.args.element.now c.in_err-count.ensures.past)
+pub write_element-returns-in_err-write_start-clause-past : goal.write_element-returns-in_err-write_start-clause-past
+write_element-returns-in_err-write_start-clause-past t c =
+    search (rules, past_start c.in_err-write_start.field-0.0 c.args.self.now c.args.first.now c.args.default.now c.args.element.now c.in_err-write_start.ensures.past)
 
 pub write_element-returns-in_err-write_node-clause-past : goal.write_element-returns-in_err-write_node-clause-past
 write_element-returns-in_err-write_node-clause-past t c =
     let is : Inside c.args.self.now c.write_start.new.self c.loop-child.self c.args.first.now c.args.default.now _ c.args.element.now c.loop-child.child-index _ =
     record {
-      started = c.in_ok-count.ensures.written;
+      started = c.in_ok-write_start.ensures.written;
       inner_is = c.inner_default-inner.ensures;
       all = c.as_slice-child-items.ensures;
       written = c.loop-child.invariant.written;
@@ -40,22 +40,22 @@ write_element-returns-clause-written t c =
     let P : Writer → Type 0 = λ w. OnOk c.write_end.result (c.write_end.new.self ≡ w) in
     let is : Inside c.args.self.now c.write_start.new.self c.loop-child.self c.args.first.now c.args.default.now _ c.args.element.now c.loop-child.child-index _ =
     record {
-      started = c.in_ok-count.ensures.written;
+      started = c.in_ok-write_start.ensures.written;
       inner_is = c.inner_default-inner.ensures;
       all = c.as_slice-child-items.ensures;
       written = c.loop-child.invariant.written;
       kept = c.loop-child.invariant.kept;
     } in
     subst P
-    (element_written c.args.self.now c.write_start.new.self c.loop-child.self c.args.first.now _ c.args.default.now _ c.args.element.now _ _ _
-    c.in_ok-count.ensures.count is c.loop-child-test.false c.leave.ensures)
+    (element_written c.args.self.now c.write_start.new.self c.loop-child.self c.args.first.now _ c.args.default.now _ c.args.element.now _ _
+    is c.loop-child-test.false c.leave.ensures)
     c.write_end.ensures.written
 
 pub write_element-returns-clause-past : goal.write_element-returns-clause-past
 write_element-returns-clause-past t c =
     let is : Inside c.args.self.now c.write_start.new.self c.loop-child.self c.args.first.now c.args.default.now _ c.args.element.now c.loop-child.child-index _ =
     record {
-      started = c.in_ok-count.ensures.written;
+      started = c.in_ok-write_start.ensures.written;
       inner_is = c.inner_default-inner.ensures;
       all = c.as_slice-child-items.ensures;
       written = c.loop-child.invariant.written;

@@ -1,4 +1,4 @@
--- A `BTreeMap` from prefixes to namespaces, seen as a finite map.
+-- A `BTreeMap` from texts to texts, seen as a finite map.
 use Rattle.std.proofs.Common.{◌≡◌, ℕ, List, [], ◌∷◌, cond, refl, ap, sym, ◌∙◌, Some}
 use Rattle.std.specs.Prelude.{Option}
 use Rattle.std.specs.Ordering.{nat_cmp}
@@ -9,7 +9,7 @@ use Rattle.std.specs.BTreeMap.{is_at}
 use Rattle.std.specs.FinMap.{get, insert, find, from_entries, same_map, get-insert, get-from_entries}
 use Rattle.std.proofs.lemmas.Map.Lookups.{exact_bytes}
 
--- what a list of entries has at a prefix
+-- what a list of entries has at a text
 abbrev pub given_at : List (List ℕ × List ℕ) → List ℕ → Option (List ℕ)
 given_at es q = lookup (is_at (slice_cmp nat_cmp q)) es
 
@@ -17,11 +17,11 @@ find_given : (es : List (List ℕ × List ℕ)) (q : List ℕ) → find (slice_c
 find_given [] q = refl
 find_given (e ∷ es) q = ap (cond (is_at (slice_cmp nat_cmp q) e.0) (Some e.1)) (find_given es q)
 
--- what the map that the entries make has at a prefix
+-- what the map that the entries make has at a text
 pub get_given : (es : List (List ℕ × List ℕ)) (q : List ℕ) → get (from_entries {R = slice_cmp nat_cmp} es) q ≡ given_at es q
 get_given es q = get-from_entries nat_list_cmp_total es q ∙ find_given es q
 
--- entries that differ at one prefix make maps that differ there
+-- entries that differ at one text make maps that differ there
 pub one_given : (es fs : List (List ℕ × List ℕ)) (s n : List ℕ) → ((q : List ℕ) → given_at fs q ≡ cond (is_at (slice_cmp nat_cmp s) q) (Some n) (given_at es q))
     → from_entries {R = slice_cmp nat_cmp} fs ≡ insert (from_entries es) s n
 one_given es fs s n h = same_map nat_list_cmp_total exact_bytes _ _ (λ q.

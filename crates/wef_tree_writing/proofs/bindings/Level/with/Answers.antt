@@ -1,0 +1,20 @@
+use Rattle.std.proofs.Common.{[], ◌∙◌, ap, sym, subst}
+use Rattle.std.specs.FinMap as map
+use Rattle.wef_xml.specs.Prefixes.{bound_by}
+use Rattle.wef_tree_writing.specs.Levels.{HasPrefixes, HasSpaces, Texts}
+use Rattle.wef_tree_writing.proofs.Bound.{prefixes_with, spaces_with}
+use Rattle.wef_tree_writing.proofs.bindings.Level.with.Goals as goal
+
+pub invariant_of-result : goal.invariant_of-result
+invariant_of-result c =
+    let b = c.args.binding in
+    let all = c.in_ok-push.ensures.ok in
+    let prefixes = c.in_ok-insert.ensures
+    ∙ (λ i. map.insert c.self.inside.prefixes ((c.in_ok-clone.ensures ∙ c.as_text-space.ensures) i) (c.in_ok-clone-2.ensures i)) in
+    let spaces = c.in_ok-insert-2.ensures
+    ∙ (λ i. map.insert c.self.inside.spaces (c.in_ok-clone-3.ensures i) ((c.in_ok-clone-4.ensures ∙ c.as_text-space.ensures) i)) in (
+      subst (λ (m : Texts). HasPrefixes m (bound_by [] c.push.new.self)) (sym prefixes)
+          (subst (λ bs. HasPrefixes (map.insert c.self.inside.prefixes b.space b.prefix) (bound_by [] bs)) (sym all) (prefixes_with c.self.inside.prefixes c.self.inside.bindings b c.self.invariant.0)),
+      subst (λ (m : Texts). HasSpaces m (bound_by [] c.push.new.self)) (sym spaces)
+          (subst (λ bs. HasSpaces (map.insert c.self.inside.spaces b.prefix b.space) (bound_by [] bs)) (sym all) (spaces_with c.self.inside.spaces c.self.inside.bindings b c.self.invariant.1)),
+    )
