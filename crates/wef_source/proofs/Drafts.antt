@@ -33,11 +33,11 @@ pub with_items-append : (d : Draft) (is js : List Item) → with_items d (is ++ 
 with_items-append d [] js = refl
 with_items-append d (i ∷ is) js = with_items-append (with_item d i) is js
 
-abbrev with_item : Draft → Item → Draft
-with_item d i = record d { items = d.items ++ i ∷ []; items_left = d.items_left - 1; bytes_left = d.bytes_left - cost i }
+abbrev grown : Draft → Item → Draft
+grown d i = record d { items = d.items ++ i ∷ []; items_left = d.items_left - 1; bytes_left = d.bytes_left - cost i }
 
-taken_where : (d : Draft) (i : Item) (b : Bool) → d.left ≡ None → has_room d.items_left d.bytes_left i ≡ b → with_item d i ≡ cond b (with_item d i) (record d { left = Some i })
-taken_where d i b none fits = ap (λ o. offered o d i) none ∙ ap (λ t. cond t (with_item d i) (record d { left = Some i })) fits
+taken_where : (d : Draft) (i : Item) (b : Bool) → d.left ≡ None → has_room d.items_left d.bytes_left i ≡ b → with_item d i ≡ cond b (grown d i) (record d { left = Some i })
+taken_where d i b none fits = ap (λ o. offered o d i) none ∙ ap (λ t. cond t (grown d i) (record d { left = Some i })) fits
 
 -- the first of a list
 abbrev pub first_of : List Item → Option Item
@@ -51,7 +51,7 @@ items_taken d (i ∷ is) none =
     → (with_items (with_item d i) is).items ≡ d.items ++ cond b (i ∷ fitting (d.items_left - 1) (d.bytes_left - cost i) is) []) [
       | true ↦ λ fits.
           ap (λ x. (with_items x is).items) (taken_where d i true none fits)
-          ∙ items_taken (with_item d i) is none
+          ∙ items_taken (grown d i) is none
           ∙ append_assoc d.items (i ∷ []) (fitting (d.items_left - 1) (d.bytes_left - cost i) is)
       | false ↦ λ fails.
           ap (λ x. (with_items x is).items) (taken_where d i false none fails)
@@ -64,7 +64,7 @@ left_taken d [] none = none
 left_taken d (i ∷ is) none =
     elim (has_room d.items_left d.bytes_left i) as (λ b. has_room d.items_left d.bytes_left i ≡ b
     → (with_items (with_item d i) is).left ≡ first_of (cond b (left_over (d.items_left - 1) (d.bytes_left - cost i) is) (i ∷ is))) [
-      | true ↦ λ fits. ap (λ x. (with_items x is).left) (taken_where d i true none fits) ∙ left_taken (with_item d i) is none
+      | true ↦ λ fits. ap (λ x. (with_items x is).left) (taken_where d i true none fits) ∙ left_taken (grown d i) is none
       | false ↦ λ fails.
           ap (λ x. (with_items x is).left) (taken_where d i false none fails)
           ∙ ap (λ (x : Draft). x.left) (taken_none (record d { left = Some i }) i is refl)
