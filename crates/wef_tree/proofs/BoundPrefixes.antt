@@ -12,12 +12,13 @@ use Rattle.wef_xml.specs.Spaces.{is_empty}
 use Rattle.wef_xml.specs.declared.bindings.Binding.{Binding}
 use Rattle.wef_tree_reading.proofs.GoodOpens.{one_name}
 use Rattle.wef_tree_reading.proofs.Inversions.{none_some, some_is}
-use Rattle.wef_tree.proofs.Spelled.{AreGoodBindings, IsGoodBinding, bound_at}
+use Rattle.wef_tree_writing.specs.Levels.{bound_to}
+use Rattle.wef_tree.proofs.Spelled.{AreGoodBindings, IsGoodBinding}
 
 -- each binding has a prefix of its own
 abbrev pub AreDistinct : List Binding → Type 0
 AreDistinct [] = Unit {0}
-AreDistinct (b ∷ bs) = (bound_at bs b.prefix ≡ None) × AreDistinct bs
+AreDistinct (b ∷ bs) = (bound_to bs b.prefix ≡ None) × AreDistinct bs
 
 -- one of some bindings is of this namespace
 abbrev pub has_space : List Binding → List ℕ → Bool
@@ -39,21 +40,21 @@ either true = inl refl
 either false = inr refl
 
 -- what stands for a prefix behind one more binding
-at_same : (b : Binding) (bs : List Binding) (p : List ℕ) → same b.prefix p ≡ true → bound_at (b ∷ bs) p ≡ Some b.space
-at_same b bs p e = ap (λ t. cond t (Some b.space) (bound_at bs p)) e
+at_same : (b : Binding) (bs : List Binding) (p : List ℕ) → same b.prefix p ≡ true → bound_to (b ∷ bs) p ≡ Some b.space
+at_same b bs p e = ap (λ t. cond t (Some b.space) (bound_to bs p)) e
 
-pub at_other : (b : Binding) (bs : List Binding) (p : List ℕ) → same b.prefix p ≡ false → bound_at (b ∷ bs) p ≡ bound_at bs p
-at_other b bs p e = ap (λ t. cond t (Some b.space) (bound_at bs p)) e
+pub at_other : (b : Binding) (bs : List Binding) (p : List ℕ) → same b.prefix p ≡ false → bound_to (b ∷ bs) p ≡ bound_to bs p
+at_other b bs p e = ap (λ t. cond t (Some b.space) (bound_to bs p)) e
 
 -- a prefix that isn't bound is none of the first
-not_first : (b : Binding) (bs : List Binding) (p : List ℕ) → bound_at (b ∷ bs) p ≡ None → same b.prefix p ≡ false
+not_first : (b : Binding) (bs : List Binding) (p : List ℕ) → bound_to (b ∷ bs) p ≡ None → same b.prefix p ≡ false
 not_first b bs p e = by (same b.prefix p) e
   where
-    by : (t : Bool) → cond t (Some b.space) (bound_at bs p) ≡ None → t ≡ false
+    by : (t : Bool) → cond t (Some b.space) (bound_to bs p) ≡ None → t ≡ false
     by true f = absurd (none_some b.space (sym f))
     by false f = refl
 
-not_behind : (b : Binding) (bs : List Binding) (p : List ℕ) → bound_at (b ∷ bs) p ≡ None → bound_at bs p ≡ None
+not_behind : (b : Binding) (bs : List Binding) (p : List ℕ) → bound_to (b ∷ bs) p ≡ None → bound_to bs p ≡ None
 not_behind b bs p e = sym (at_other b bs p (not_first b bs p e)) ∙ e
 
 -- the prefix of a namespace behind one more binding
@@ -76,34 +77,34 @@ left prefix p (Some q) e = by (same prefix q) refl e
 -- the prefix of a namespace is one that stands for it in the new bindings, or an outer one that they leave
 pub inside_bound :
     (bs bound : List Binding) (s p : List ℕ) → AreDistinct bs → prefix_of (bound_by bound bs) s ≡ Some p →
-    (bound_at bs p ≡ Some s) ⊎ ((bound_at bs p ≡ None) × (prefix_of bound s ≡ Some p))
+    (bound_to bs p ≡ Some s) ⊎ ((bound_to bs p ≡ None) × (prefix_of bound s ≡ Some p))
 inside_bound [] bound s p distinct e = inr (refl, e)
 inside_bound (b ∷ bs) bound s p distinct e = of (inside_bound bs (b ∷ bound) s p distinct.1 e)
   where
-    further : bound_at bs p ≡ Some s → (t : Bool) → same b.prefix p ≡ t → bound_at (b ∷ bs) p ≡ Some s
-    further is true t = absurd (none_some s (sym distinct.0 ∙ ap (bound_at bs) (one_name b.prefix p t) ∙ is))
+    further : bound_to bs p ≡ Some s → (t : Bool) → same b.prefix p ≡ t → bound_to (b ∷ bs) p ≡ Some s
+    further is true t = absurd (none_some s (sym distinct.0 ∙ ap (bound_to bs) (one_name b.prefix p t) ∙ is))
     further is false t = at_other b bs p t ∙ is
 
-    here : bound_at bs p ≡ None → (t : Bool) → same b.space s ≡ t → cond t (Some b.prefix) (unless_bound b.prefix (prefix_of bound s)) ≡ Some p →
-        (bound_at (b ∷ bs) p ≡ Some s) ⊎ ((bound_at (b ∷ bs) p ≡ None) × (prefix_of bound s ≡ Some p))
+    here : bound_to bs p ≡ None → (t : Bool) → same b.space s ≡ t → cond t (Some b.prefix) (unless_bound b.prefix (prefix_of bound s)) ≡ Some p →
+        (bound_to (b ∷ bs) p ≡ Some s) ⊎ ((bound_to (b ∷ bs) p ≡ None) × (prefix_of bound s ≡ Some p))
     here none true t f =
         inl (at_same b bs p (ap (λ x. same x p) (some_is b.prefix p f) ∙ same_self p) ∙ ap Some (one_name b.space s t))
     here none false t f = let rest = left b.prefix p (prefix_of bound s) f in inr (at_other b bs p rest.0 ∙ none, rest.1)
 
-    of : (bound_at bs p ≡ Some s) ⊎ ((bound_at bs p ≡ None) × (prefix_of (b ∷ bound) s ≡ Some p)) →
-        (bound_at (b ∷ bs) p ≡ Some s) ⊎ ((bound_at (b ∷ bs) p ≡ None) × (prefix_of bound s ≡ Some p))
+    of : (bound_to bs p ≡ Some s) ⊎ ((bound_to bs p ≡ None) × (prefix_of (b ∷ bound) s ≡ Some p)) →
+        (bound_to (b ∷ bs) p ≡ Some s) ⊎ ((bound_to (b ∷ bs) p ≡ None) × (prefix_of bound s ≡ Some p))
     of (inl is) = inl (further is (same b.prefix p) refl)
     of (inr is) = here is.0 (same b.space s) refl is.1
 
 -- a namespace that has a prefix has one further in too, unless that prefix is bound anew
 pub still :
-    (bs bound : List Binding) (s p : List ℕ) → AreDistinct bs → prefix_of bound s ≡ Some p → bound_at bs p ≡ None →
+    (bs bound : List Binding) (s p : List ℕ) → AreDistinct bs → prefix_of bound s ≡ Some p → bound_to bs p ≡ None →
     (q : List ℕ) × (prefix_of (bound_by bound bs) s ≡ Some q)
 still [] bound s p distinct is free = (p, is)
 still (b ∷ bs) bound s p distinct is free = by (same b.space s) refl (λ q e f. still bs (b ∷ bound) s q distinct.1 e f)
   where
     by : (t : Bool) → same b.space s ≡ t →
-        ((q : List ℕ) → prefix_of (b ∷ bound) s ≡ Some q → bound_at bs q ≡ None → (r : List ℕ) × (prefix_of (bound_by (b ∷ bound) bs) s ≡ Some r)) →
+        ((q : List ℕ) → prefix_of (b ∷ bound) s ≡ Some q → bound_to bs q ≡ None → (r : List ℕ) × (prefix_of (bound_by (b ∷ bound) bs) s ≡ Some r)) →
         (q : List ℕ) × (prefix_of (bound_by (b ∷ bound) bs) s ≡ Some q)
     by true t more = more b.prefix (of_same b bound s t) distinct.0
     by false t more = more p (of_other b bound s p t (not_first b bs p free) is) (not_behind b bs p free)
@@ -121,7 +122,7 @@ newly (b ∷ bs) bound s distinct e = by (same b.space s) refl e (newly bs (b �
 
 -- a namespace that no new binding is of keeps a prefix that isn't bound anew
 pub unchanged :
-    (bs bound : List Binding) (s p : List ℕ) → prefix_of bound s ≡ Some p → bound_at bs p ≡ None → has_space bs s ≡ false →
+    (bs bound : List Binding) (s p : List ℕ) → prefix_of bound s ≡ Some p → bound_to bs p ≡ None → has_space bs s ≡ false →
     prefix_of (bound_by bound bs) s ≡ Some p
 unchanged [] bound s p is free none = is
 unchanged (b ∷ bs) bound s p is free none =
@@ -147,12 +148,12 @@ prefix_good (b ∷ bs) s p good e = by (same b.space s) e (prefix_good bs s p go
     by false f more = more (left b.prefix p (prefix_of bs s) f).1
 
 -- a prefix that is bound is that of a good binding
-pub bound_good : (bs : List Binding) (p s : List ℕ) → AreGoodBindings bs → bound_at bs p ≡ Some s → (b : Binding) × IsGoodBinding b × (b.prefix ≡ p)
+pub bound_good : (bs : List Binding) (p s : List ℕ) → AreGoodBindings bs → bound_to bs p ≡ Some s → (b : Binding) × IsGoodBinding b × (b.prefix ≡ p)
 bound_good [] p s good e = absurd (none_some s e)
 bound_good (b ∷ bs) p s good e = by (same b.prefix p) refl e (bound_good bs p s good.1)
   where
-    by : (t : Bool) → same b.prefix p ≡ t → cond t (Some b.space) (bound_at bs p) ≡ Some s →
-        (bound_at bs p ≡ Some s → (c : Binding) × IsGoodBinding c × (c.prefix ≡ p)) → (c : Binding) × IsGoodBinding c × (c.prefix ≡ p)
+    by : (t : Bool) → same b.prefix p ≡ t → cond t (Some b.space) (bound_to bs p) ≡ Some s →
+        (bound_to bs p ≡ Some s → (c : Binding) × IsGoodBinding c × (c.prefix ≡ p)) → (c : Binding) × IsGoodBinding c × (c.prefix ≡ p)
     by true t f more = (b, good.0, one_name b.prefix p t)
     by false t f more = more f
 
@@ -169,11 +170,11 @@ prefix_letter (b ∷ bs) s p letters e = by (same b.space s) e (prefix_letter bs
     by true f more = ap length (sym (some_is b.prefix p f)) ∙ letters.0
     by false f more = more (left b.prefix p (prefix_of bs s) f).1
 
-pub bound_letter : (bs : List Binding) (p s : List ℕ) → AreLetters bs → bound_at bs p ≡ Some s → length p ≡ 1
+pub bound_letter : (bs : List Binding) (p s : List ℕ) → AreLetters bs → bound_to bs p ≡ Some s → length p ≡ 1
 bound_letter [] p s letters e = absurd (none_some s e)
 bound_letter (b ∷ bs) p s letters e = by (same b.prefix p) refl e (bound_letter bs p s letters.1)
   where
-    by : (t : Bool) → same b.prefix p ≡ t → cond t (Some b.space) (bound_at bs p) ≡ Some s → (bound_at bs p ≡ Some s → length p ≡ 1) → length p ≡ 1
+    by : (t : Bool) → same b.prefix p ≡ t → cond t (Some b.space) (bound_to bs p) ≡ Some s → (bound_to bs p ≡ Some s → length p ≡ 1) → length p ≡ 1
     by true t f more = ap length (sym (one_name b.prefix p t)) ∙ letters.0
     by false t f more = more f
 
@@ -185,9 +186,9 @@ name_some name is =
     grind (arith, nat_tests)
 
 -- no good binding is of the empty prefix
-pub none_empty : (bs : List Binding) (p : List ℕ) → AreGoodBindings bs → is_empty p ≡ true → bound_at bs p ≡ None
-none_empty bs p good empty = by (bound_at bs p) refl
+pub none_empty : (bs : List Binding) (p : List ℕ) → AreGoodBindings bs → is_empty p ≡ true → bound_to bs p ≡ None
+none_empty bs p good empty = by (bound_to bs p) refl
   where
-    by : (o : Option (List ℕ)) → bound_at bs p ≡ o → o ≡ None
+    by : (o : Option (List ℕ)) → bound_to bs p ≡ o → o ≡ None
     by None e = refl
     by (Some s) e = let b = bound_good bs p s good e in never (is_empty p) empty (ap is_empty (sym b.2) ∙ name_some b.0.prefix b.1.prefix)

@@ -12,10 +12,11 @@ use Rattle.wef_tree_reading.specs.Scopes.{Declared, declared_by, may_declare, wi
 use Rattle.wef_xml.specs.Spaces.{is_empty, is_xml, is_xml_space, is_xmlns}
 use Rattle.wef_xml.specs.declared.bindings.Binding.{Binding}
 use Rattle.wef_tree_reading.specs.declared.tags.Given.{Given}
+use Rattle.wef_tree_writing.specs.Levels.{bound_to}
 use Rattle.wef_tree.proofs.BoundPrefixes.{AreDistinct, at_other, same_self, same_turned}
 use Rattle.wef_tree_reading.proofs.GoodOpens.{one_name, or_right}
 use Rattle.wef_tree_reading.proofs.Inversions.{none_some}
-use Rattle.wef_tree.proofs.Spelled.{AreGoodBindings, IsGoodBinding, bound_at, declaration_given, default_given}
+use Rattle.wef_tree.proofs.Spelled.{AreGoodBindings, IsGoodBinding, declaration_given, default_given}
 
 -- one more declaration, at each prefix
 pub get_more : (own : Declared) (p s q : List ℕ) → map.get (map.insert own p s) q ≡ cond (same p q) (Some s) (map.get own q)
@@ -43,34 +44,34 @@ binding_step own b rest good free =
 pub record DeclaresThese (own : Declared) (bs : List Binding) : Type 0 where
   pub all : Declared
   pub declared : (rest : List Given) → declared_by own (map declaration_given bs ++ rest) ≡ declared_by all rest
-  pub at : (q : List ℕ) → map.get all q ≡ option_or (bound_at bs q) (map.get own q)
+  pub at : (q : List ℕ) → map.get all q ≡ option_or (bound_to bs q) (map.get own q)
 
 pub these_declared :
-    (bs : List Binding) (own : Declared) → AreGoodBindings bs → AreDistinct bs → ((q s : List ℕ) → bound_at bs q ≡ Some s → map.get own q ≡ None) →
+    (bs : List Binding) (own : Declared) → AreGoodBindings bs → AreDistinct bs → ((q s : List ℕ) → bound_to bs q ≡ Some s → map.get own q ≡ None) →
     DeclaresThese own bs
 these_declared [] own good distinct apart = record { all = own; declared = λ rest. refl; at = λ q. refl }
 these_declared (b ∷ bs) own good distinct apart = with (these_declared bs (map.insert own b.prefix b.space) good.1 distinct.1 further)
   where
     free : map.get own b.prefix ≡ None
-    free = apart b.prefix b.space (ap (λ t. cond t (Some b.space) (bound_at bs b.prefix)) (same_self b.prefix))
+    free = apart b.prefix b.space (ap (λ t. cond t (Some b.space) (bound_to bs b.prefix)) (same_self b.prefix))
 
-    apart_behind : (q s : List ℕ) → bound_at bs q ≡ Some s → (t : Bool) → same b.prefix q ≡ t → cond t (Some b.space) (map.get own q) ≡ None
-    apart_behind q s is true e = absurd (none_some s (sym distinct.0 ∙ ap (bound_at bs) (one_name b.prefix q e) ∙ is))
+    apart_behind : (q s : List ℕ) → bound_to bs q ≡ Some s → (t : Bool) → same b.prefix q ≡ t → cond t (Some b.space) (map.get own q) ≡ None
+    apart_behind q s is true e = absurd (none_some s (sym distinct.0 ∙ ap (bound_to bs) (one_name b.prefix q e) ∙ is))
     apart_behind q s is false e = apart q s (at_other b bs q e ∙ is)
 
-    further : (q s : List ℕ) → bound_at bs q ≡ Some s → map.get (map.insert own b.prefix b.space) q ≡ None
+    further : (q s : List ℕ) → bound_to bs q ≡ Some s → map.get (map.insert own b.prefix b.space) q ≡ None
     further q s is = get_more own b.prefix b.space q ∙ apart_behind q s is (same b.prefix q) refl
 
     here : (q : List ℕ) (t : Bool) → same b.prefix q ≡ t →
-        option_or (bound_at bs q) (cond t (Some b.space) (map.get own q)) ≡ option_or (cond t (Some b.space) (bound_at bs q)) (map.get own q)
-    here q true e = ap (λ o. option_or o (Some b.space)) (ap (bound_at bs) (sym (one_name b.prefix q e)) ∙ distinct.0)
+        option_or (bound_to bs q) (cond t (Some b.space) (map.get own q)) ≡ option_or (cond t (Some b.space) (bound_to bs q)) (map.get own q)
+    here q true e = ap (λ o. option_or o (Some b.space)) (ap (bound_to bs) (sym (one_name b.prefix q e)) ∙ distinct.0)
     here q false e = refl
 
     with : DeclaresThese (map.insert own b.prefix b.space) bs → DeclaresThese own (b ∷ bs)
     with more = record {
       all = more.all;
       declared = λ rest. binding_step own b (map declaration_given bs ++ rest) good.0 free ∙ more.declared rest;
-      at = λ q. more.at q ∙ ap (option_or (bound_at bs q)) (get_more own b.prefix b.space q) ∙ here q (same b.prefix q) refl;
+      at = λ q. more.at q ∙ ap (option_or (bound_to bs q)) (get_more own b.prefix b.space q) ∙ here q (same b.prefix q) refl;
     }
 
 -- the default namespace that a tag declares, if it does

@@ -10,10 +10,11 @@ use Rattle.wef_base.specs.declared.tree.Attribute.{Attribute}
 use Rattle.wef_xml.specs.Prefixes.{bound_by, needs_prefix, new_bindings, new_spaces, outer_prefixes, prefix_of, with_space}
 use Rattle.wef_xml.specs.Spaces.{is_empty, is_xml_space}
 use Rattle.wef_xml.specs.declared.bindings.Binding.{Binding}
+use Rattle.wef_tree_writing.specs.Levels.{bound_to}
 use Rattle.wef_tree.proofs.BoundPrefixes.{AreDistinct, has_space, newly, same_self, still}
 use Rattle.wef_tree_reading.proofs.GoodOpens.{one_name, or_right}
 use Rattle.wef_tree.proofs.NewPrefixes.{letter_free, new_distinct, spaces_bound, taken_free}
-use Rattle.wef_tree.proofs.Spelled.{bound_at}
+
 
 -- one of some attributes
 abbrev pub IsOneOf : Attribute → List Attribute → Type 0
@@ -109,8 +110,8 @@ outer_there bound (b ∷ more) a p (inr is) e =
 -- what an element's new bindings are
 pub record AreNew (bound : List Binding) (attributes : List Attribute) (bs : List Binding) : Type 0 where
   pub distinct : AreDistinct bs
-  pub letters : (p : List ℕ) → length p ≡ 1 → bound_at bs p ≡ None
-  pub outer : (a : Attribute) (p : List ℕ) → IsOneOf a attributes → prefix_of bound a.space ≡ Some p → bound_at bs p ≡ None
+  pub letters : (p : List ℕ) → length p ≡ 1 → bound_to bs p ≡ None
+  pub outer : (a : Attribute) (p : List ℕ) → IsOneOf a attributes → prefix_of bound a.space ≡ Some p → bound_to bs p ≡ None
   pub all : (a : Attribute) → IsOneOf a attributes → needs_prefix bound a.space ≡ true → has_space bs a.space ≡ true
   pub needed : (s : List ℕ) → has_space bs s ≡ true → needs_prefix bound s ≡ true
 

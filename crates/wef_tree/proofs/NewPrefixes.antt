@@ -9,10 +9,11 @@ use Rattle.std.proofs.lemmas.Map.Steps.{le-length_from_below}
 use Rattle.std.proofs.lemmas.List.{length-map}
 use Rattle.wef_base.specs.Names.{same}
 use Rattle.wef_xml.specs.Prefixes.{bindings_from, in_digits, next_free, numbered_prefix}
+use Rattle.wef_tree_writing.specs.Levels.{bound_to}
 use Rattle.wef_tree.proofs.BoundPrefixes.{AreDistinct, has_space, never, same_turned}
 use Rattle.wef_tree_writing.proofs.Digits.{digits_are_value, some_digit}
 use Rattle.wef_tree_reading.proofs.GoodOpens.{one_name, or_right}
-use Rattle.wef_tree.proofs.Spelled.{bound_at}
+
 
 number_of : List ℕ → ℕ
 number_of p = digits_value 10 (drop 1 p)
@@ -91,12 +92,12 @@ not_taken taken n = by (list_any (same (numbered_prefix (next_free (length taken
 
 -- a number below the first is none of theirs
 number_free :
-    (taken spaces : List (List ℕ)) (n m : ℕ) → m < n → bound_at (bindings_from taken n spaces) (numbered_prefix m) ≡ None
+    (taken spaces : List (List ℕ)) (n m : ℕ) → m < n → bound_to (bindings_from taken n spaces) (numbered_prefix m) ≡ None
 number_free taken [] n m less = refl
 number_free taken (s ∷ ss) n m less =
     let free = next_free (length taken) taken n in
     let low : n ≤ free = not_below (length taken) taken n in
-    ap (λ t. cond t (Some s) (bound_at (bindings_from taken (suc free) ss) (numbered_prefix m))) (numbers_differ m free (omega arith))
+    ap (λ t. cond t (Some s) (bound_to (bindings_from taken (suc free) ss) (numbered_prefix m))) (numbers_differ m free (omega arith))
     ∙ number_free taken ss (suc free) m (omega arith)
 
 -- new bindings have prefixes of their own
@@ -109,13 +110,13 @@ new_distinct taken (s ∷ ss) n =
 -- they leave the taken prefixes
 pub taken_free :
     (taken spaces : List (List ℕ)) (n : ℕ) (p : List ℕ) → list_any (same p) taken ≡ true →
-    bound_at (bindings_from taken n spaces) p ≡ None
+    bound_to (bindings_from taken n spaces) p ≡ None
 taken_free taken [] n p is = refl
 taken_free taken (s ∷ ss) n p is =
     by (same (numbered_prefix (next_free (length taken) taken n)) p) refl (taken_free taken ss (suc (next_free (length taken) taken n)) p is)
   where
-    by : (t : Bool) → same (numbered_prefix (next_free (length taken) taken n)) p ≡ t → bound_at (bindings_from taken (suc (next_free (length taken) taken n)) ss) p ≡ None →
-        cond t (Some s) (bound_at (bindings_from taken (suc (next_free (length taken) taken n)) ss) p) ≡ None
+    by : (t : Bool) → same (numbered_prefix (next_free (length taken) taken n)) p ≡ t → bound_to (bindings_from taken (suc (next_free (length taken) taken n)) ss) p ≡ None →
+        cond t (Some s) (bound_to (bindings_from taken (suc (next_free (length taken) taken n)) ss) p) ≡ None
     by true t more =
         never (list_any (same p) taken) is
         (ap (λ q. list_any (same q) taken) (sym (one_name (numbered_prefix (next_free (length taken) taken n)) p t)) ∙ not_taken taken n)
@@ -124,14 +125,14 @@ taken_free taken (s ∷ ss) n p is =
 -- and those of one letter
 pub letter_free :
     (taken spaces : List (List ℕ)) (n : ℕ) (p : List ℕ) → length p ≡ 1 →
-    bound_at (bindings_from taken n spaces) p ≡ None
+    bound_to (bindings_from taken n spaces) p ≡ None
 letter_free taken [] n p is = refl
 letter_free taken (s ∷ ss) n p is =
     by (same (numbered_prefix (next_free (length taken) taken n)) p) refl (letter_free taken ss (suc (next_free (length taken) taken n)) p is)
   where
     by : (t : Bool) → same (numbered_prefix (next_free (length taken) taken n)) p ≡ t →
-        bound_at (bindings_from taken (suc (next_free (length taken) taken n)) ss) p ≡ None →
-        cond t (Some s) (bound_at (bindings_from taken (suc (next_free (length taken) taken n)) ss) p) ≡ None
+        bound_to (bindings_from taken (suc (next_free (length taken) taken n)) ss) p ≡ None →
+        cond t (Some s) (bound_to (bindings_from taken (suc (next_free (length taken) taken n)) ss) p) ≡ None
     by true t more =
         absurd (is_longer (next_free (length taken) taken n) (ap length (one_name (numbered_prefix (next_free (length taken) taken n)) p t) ∙ is))
     by false t more = more

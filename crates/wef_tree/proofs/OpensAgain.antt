@@ -19,13 +19,14 @@ use Rattle.wef_xml.specs.declared.bindings.Binding.{Binding}
 use Rattle.wef_tree_reading.specs.declared.building.Builder.{Builder}
 use Rattle.wef_tree_reading.specs.declared.stack.Open.{Open}
 use Rattle.wef_tree_reading.specs.declared.tags.Given.{Given}
+use Rattle.wef_tree_writing.specs.Levels.{bound_to}
 use Rattle.wef_tree.proofs.BoundPrefixes.{AreDistinct, AreLetters, bound_good, bound_letter, has_space, inside_bound, name_some, never, none_empty, prefix_good, prefix_letter, unchanged}
 use Rattle.wef_tree.proofs.DeclaredAgain.{DeclaresThese, default_alone, default_declared, defaults, get_more, these_declared}
 use Rattle.wef_tree_reading.proofs.GoodOpens.{front_true, last_true, one_name}
 use Rattle.wef_tree.proofs.GoodPrefixes.{bound_by_good, new_are_good, nine_are_good}
 use Rattle.wef_tree_reading.proofs.Inversions.{none_some, some_is}
 use Rattle.wef_tree.proofs.NewBindings.{AreNew, IsOneOf, has_prefix, new_are}
-use Rattle.wef_tree.proofs.Spelled.{Agrees, AreGoodBindings, IsGoodBinding, OpenedAgain, Opens, attribute_given, bound_at, declaration_given, default_given, spelled, spelled_name}
+use Rattle.wef_tree.proofs.Spelled.{Agrees, AreGoodBindings, IsGoodBinding, OpenedAgain, Opens, attribute_given, declaration_given, default_given, spelled, spelled_name}
 
 -- the first of several answers
 
@@ -227,26 +228,26 @@ are_first first scope around (inl e) = subst AreFirst (sym e) (record { good = t
 are_first first scope around (inr e) = subst AreFirst (sym e.0) (record { good = nine_are_good; distinct = nine_distinct; letters = nine_letters })
 
 -- one letter is no new prefix
-not_both : (first bs : List Binding) (scope : Scope) (attributes : List Attribute) (q s : List ℕ) → AreFirst first → AreNew scope.bound attributes bs → bound_at bs q ≡ Some s → bound_at first q ≡ None
-not_both first bs scope attributes q s is new e = by (bound_at first q) refl
+not_both : (first bs : List Binding) (scope : Scope) (attributes : List Attribute) (q s : List ℕ) → AreFirst first → AreNew scope.bound attributes bs → bound_to bs q ≡ Some s → bound_to first q ≡ None
+not_both first bs scope attributes q s is new e = by (bound_to first q) refl
   where
-    by : (o : Option (List ℕ)) → bound_at first q ≡ o → o ≡ None
+    by : (o : Option (List ℕ)) → bound_to first q ≡ o → o ≡ None
     by None f = refl
     by (Some r) f = absurd (none_some s (sym (new.letters q (bound_letter first q r is.letters f)) ∙ e))
 
 -- a prefix that is bound isn't empty
-bound_some : (bs : List Binding) (q s : List ℕ) → AreGoodBindings bs → bound_at bs q ≡ Some s → is_empty q ≡ false
+bound_some : (bs : List Binding) (q s : List ℕ) → AreGoodBindings bs → bound_to bs q ≡ Some s → is_empty q ≡ false
 bound_some bs q s good e = let b = bound_good bs q s good e in ap is_empty (sym b.2) ∙ name_some b.0.prefix b.1.prefix
 
 -- what a tag declares in all, at each prefix
 record DeclaresAll (first bs : List Binding) (base : Declared) : Type 0 where
   all : Declared
   declared : (rest : List Given) → declared_by base (map declaration_given first ++ (map declaration_given bs ++ rest)) ≡ declared_by all rest
-  at : (q : List ℕ) → map.get all q ≡ option_or (bound_at bs q) (option_or (bound_at first q) (map.get base q))
+  at : (q : List ℕ) → map.get all q ≡ option_or (bound_to bs q) (option_or (bound_to first q) (map.get base q))
 
 all_declared :
     (first bs : List Binding) (base : Declared) → AreFirst first → AreGoodBindings bs → AreDistinct bs →
-    ((p : List ℕ) → is_empty p ≡ false → map.get base p ≡ None) → ((q s : List ℕ) → bound_at bs q ≡ Some s → bound_at first q ≡ None) →
+    ((p : List ℕ) → is_empty p ≡ false → map.get base p ≡ None) → ((q s : List ℕ) → bound_to bs q ≡ Some s → bound_to first q ≡ None) →
     DeclaresAll first bs base
 all_declared first bs base is good distinct alone apart = of (these_declared first base is.good is.distinct (λ q s e. alone q (bound_some first q s is.good e)))
   where
@@ -257,22 +258,22 @@ all_declared first bs base is good distinct alone apart = of (these_declared fir
         more two = record {
           all = two.all;
           declared = λ rest. one.declared (map declaration_given bs ++ rest) ∙ two.declared rest;
-          at = λ q. two.at q ∙ ap (option_or (bound_at bs q)) (one.at q);
+          at = λ q. two.at q ∙ ap (option_or (bound_to bs q)) (one.at q);
         }
 
 -- a prefix from outside that is still in force inside
 still_in_force :
-    (first bs : List Binding) (own base : Declared) (around : List Open) (p s : List ℕ) → map.get own p ≡ option_or (bound_at bs p) (option_or (bound_at first p) (map.get base p)) →
-    map.get base p ≡ None → bound_at bs p ≡ None → option_or (bound_at first p) (declared_outside around p) ≡ Some s →
+    (first bs : List Binding) (own base : Declared) (around : List Open) (p s : List ℕ) → map.get own p ≡ option_or (bound_to bs p) (option_or (bound_to first p) (map.get base p)) →
+    map.get base p ≡ None → bound_to bs p ≡ None → option_or (bound_to first p) (declared_outside around p) ≡ Some s →
     option_or (map.get own p) (declared_outside around p) ≡ Some s
 still_in_force first bs own base around p s at alone free outer =
-    ap (λ o. option_or o (declared_outside around p)) (at ∙ (λ i. option_or (free i) (option_or (bound_at first p) (alone i))) ∙ or_none (bound_at first p)) ∙ outer
+    ap (λ o. option_or o (declared_outside around p)) (at ∙ (λ i. option_or (free i) (option_or (bound_to first p) (alone i))) ∙ or_none (bound_to first p)) ∙ outer
 
 newly_in_force :
-    (first bs : List Binding) (own base : Declared) (around : List Open) (p s : List ℕ) → map.get own p ≡ option_or (bound_at bs p) (option_or (bound_at first p) (map.get base p)) →
-    bound_at bs p ≡ Some s → option_or (map.get own p) (declared_outside around p) ≡ Some s
+    (first bs : List Binding) (own base : Declared) (around : List Open) (p s : List ℕ) → map.get own p ≡ option_or (bound_to bs p) (option_or (bound_to first p) (map.get base p)) →
+    bound_to bs p ≡ Some s → option_or (map.get own p) (declared_outside around p) ≡ Some s
 newly_in_force first bs own base around p s at is =
-    ap (λ o. option_or o (declared_outside around p)) (at ∙ ap (λ o. option_or o (option_or (bound_at first p) (map.get base p))) is)
+    ap (λ o. option_or o (declared_outside around p)) (at ∙ ap (λ o. option_or o (option_or (bound_to first p) (map.get base p))) is)
 
 -- the default namespace inside
 default_in_force :
@@ -332,7 +333,7 @@ in_force first scope around space name attributes own is head agrees new good = 
     text true = agrees.default_is
     text false = head.in_space
 
-    stands : (s p : List ℕ) → prefix_of (bound_by scope.bound bs) s ≡ Some p → (bound_at bs p ≡ Some s) ⊎ ((bound_at bs p ≡ None) × (prefix_of scope.bound s ≡ Some p)) →
+    stands : (s p : List ℕ) → prefix_of (bound_by scope.bound bs) s ≡ Some p → (bound_to bs p ≡ Some s) ⊎ ((bound_to bs p ≡ None) × (prefix_of scope.bound s ≡ Some p)) →
         option_or (map.get own.all p) (declared_outside around p) ≡ Some s
     stands s p e (inl here) = newly_in_force first bs own.all base around p s (own.at p) here
     stands s p e (inr outer) =

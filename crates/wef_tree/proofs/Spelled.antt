@@ -4,6 +4,7 @@ use Rattle.std.specs.Prelude.{Option, Some, None, is_some, unwrap_or, codes, if�
 use Rattle.std.specs.Option.{option_or}
 use Rattle.wef_base.specs.Names.{same}
 use Rattle.wef_base.specs.declared.tree.Attribute.{Attribute}
+use Rattle.wef_tree_writing.specs.Levels.{bound_to}
 use Rattle.wef_tree_reading.specs.Building.{has_room, is_outside, opened}
 use Rattle.wef_xml.specs.Canonical.{end_of, start_of, text_of}
 use Rattle.wef_xml.specs.Good.{IsGoodHead, IsLocalName, IsXmlText}
@@ -57,18 +58,13 @@ abbrev pub AreGoodBindings : List Binding → Type 0
 AreGoodBindings [] = Unit {0}
 AreGoodBindings (b ∷ bs) = IsGoodBinding b × AreGoodBindings bs
 
--- what some bindings stand for at a prefix
-abbrev pub bound_at : List Binding → List ℕ → Option (List ℕ)
-bound_at [] prefix = None
-bound_at (b ∷ bs) prefix = if same b.prefix prefix then Some b.space else bound_at bs prefix
-
 -- What a writer has in force is what a reader has, who has these elements open and reads a tag that declares these
 -- bindings first.
 pub record Agrees (first : List Binding) (scope : Scope) (around : List Open) : Type 0 where
   pub default : option_or (declared_outside around []) (Some []) ≡ Some scope.default
   pub default_is : IsXmlText scope.default
   pub bindings : AreGoodBindings scope.bound
-  pub bound : (space prefix : List ℕ) → prefix_of scope.bound space ≡ Some prefix → option_or (bound_at first prefix) (declared_outside around prefix) ≡ Some space
+  pub bound : (space prefix : List ℕ) → prefix_of scope.bound space ≡ Some prefix → option_or (bound_to first prefix) (declared_outside around prefix) ≡ Some space
   pub nine_bound : scope.soap ≡ true → (space prefix : List ℕ) → prefix_of nine space ≡ Some prefix → prefix_of scope.bound space ≡ Some prefix
 
 -- a start tag is read again

@@ -26,10 +26,11 @@ use Rattle.wef_tree_reading.specs.declared.pieces.Piece.{Piece}
 use Rattle.wef_tree_reading.specs.declared.pieces.Piece.TheVariants.{Start, End}
 use Rattle.wef_tree_reading.specs.declared.stack.Open.{Open}
 use Rattle.wef_tree_reading.proofs.GoodPieces.{no_text}
+use Rattle.wef_tree_writing.specs.Levels.{bound_to}
 use Rattle.wef_tree.proofs.GoodPrefixes.{bound_by_good, nine_are_good}
 use Rattle.wef_tree_reading.proofs.Inversions.{none_some, some_is, unless_some}
 use Rattle.wef_tree.proofs.OpensAgain.{opened_again}
-use Rattle.wef_tree.proofs.Spelled.{Agrees, AreGoodBindings, Opens, bound_at, spelled, spelled_name}
+use Rattle.wef_tree.proofs.Spelled.{Agrees, AreGoodBindings, Opens, spelled, spelled_name}
 use Rattle.wef_tree.proofs.StartsAgain.{end_again, start_again}
 use Rattle.wef_tree.proofs.TextsAgain.{text_again}
 
@@ -222,7 +223,7 @@ prefix_has P (b ∷ bs) space prefix all e = by (same b.space space) refl (prefi
     by false s further e = further (unless_is b.prefix (prefix_of bs space) prefix e)
 
 -- the nine prefixes stand for their namespaces where they are declared
-nine_stand : AllHave (λ space prefix. option_or (bound_at nine prefix) None ≡ Some space) (bound_by [] nine)
+nine_stand : AllHave (λ space prefix. option_or (bound_to nine prefix) None ≡ Some space) (bound_by [] nine)
 unfolding nine soap_space
 nine_stand = (refl, (refl, (refl, (refl, (refl, (refl, (refl, (refl, (refl, tt)))))))))
 
@@ -243,7 +244,7 @@ begins_with true = record {
     default = refl;
     default_is = no_text;
     bindings = bound_by_good [] nine tt nine_are_good;
-    bound = λ space prefix e. prefix_has (λ s p. option_or (bound_at nine p) None ≡ Some s) (bound_by [] nine) space prefix nine_stand e;
+    bound = λ space prefix e. prefix_has (λ s p. option_or (bound_to nine p) None ≡ Some s) (bound_by [] nine) space prefix nine_stand e;
     nine_bound = λ soap space prefix e. prefix_has (λ s p. prefix_of (bound_by [] nine) s ≡ Some p) nine space prefix nine_found e;
   };
   which = inr (refl, refl, refl);
