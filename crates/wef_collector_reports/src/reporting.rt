@@ -18,7 +18,9 @@ use std::alloc::{AllocError, Global};
 use std::collections::BTreeSet;
 use wef_base::{List, Text};
 use wef_collector_rows::bookmarks::bookmark_rows;
-use wef_collector_rows::keys::{all_bookmarks_start, all_heard_start, held_key, loose_key, mark_key};
+use wef_collector_rows::keys::{
+    all_bookmarks_start, all_heard_start, held_key, loose_key, mark_key,
+};
 use wef_collector_rows::reading::{formed_page, formed_section};
 use wef_keeper::access::PAGE;
 use wef_keeper::{Depth, Keeper, Key, Row, StoreFault};

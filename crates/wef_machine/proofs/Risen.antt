@@ -484,7 +484,7 @@ all_rise lower earlier state [] kept all admitted = (all, tt)
 all_rise lower earlier state (line ∷ lines) kept all admitted = (
   all,
   all_rise lower (state ∷ earlier) (step line state) lines (steps_keep lower state line kept admitted.0)
-  (step_stands lower (step line state ∷ state ∷ earlier) state line kept (stands_later (state ∷ earlier) state (step line state) all) (λ u s. inl refl)) admitted.1,
+      (step_stands lower (step line state ∷ state ∷ earlier) state line kept (stands_later (state ∷ earlier) state (step line state) all) (λ u s. inl refl)) admitted.1,
 )
 
 start_stands : Stands (start ∷ []) start

@@ -3,6 +3,7 @@
 ghost use Rattle.std.specs.Prelude.{◌≡◌, ◌<◌, ◌≤◌, IfOk};
 ghost use Rattle.wef_base.specs.Names.{same};
 ghost use Rattle.wef_base.specs.Words.{decoded};
+ghost use Rattle.wef_base.specs.declared.numbers.TheConstants.{MAX};
 ghost use Rattle.wef_replay.specs.Reading.{Gives};
 ghost use Rattle.wef_replay.specs.Values.{subscription_word, source_word, channel_word, sending_source_word, end_word, after_word, number_word, channel_words};
 
@@ -131,7 +132,7 @@ pub fn after_of(word: &Bytes) -> Result<bool, LineFault>
 
 /// The number of a word, from `least` to `greatest`.
 pub fn number_of(word: &Bytes, least: u64, greatest: u64) -> Result<u64, LineFault>
-    requires { greatest < 9223372036854775808 }
+    requires { greatest ≤ MAX }
     ensures value { Gives result (number_word least greatest word.now) }
     ensures within { IfOk result (λ n. n ≤ greatest) }
 {

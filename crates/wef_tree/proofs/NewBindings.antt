@@ -15,7 +15,6 @@ use Rattle.wef_tree.proofs.BoundPrefixes.{AreDistinct, has_space, newly, same_se
 use Rattle.wef_tree_reading.proofs.GoodOpens.{one_name, or_right}
 use Rattle.wef_tree.proofs.NewPrefixes.{letter_free, new_distinct, spaces_bound, taken_free}
 
-
 -- one of some attributes
 abbrev pub IsOneOf : Attribute → List Attribute → Type 0
 IsOneOf a [] = ⊥

@@ -14,7 +14,6 @@ use Rattle.wef_tree.proofs.BoundPrefixes.{AreDistinct, has_space, never, same_tu
 use Rattle.wef_tree_writing.proofs.Digits.{digits_are_value, some_digit}
 use Rattle.wef_tree_reading.proofs.GoodOpens.{one_name, or_right}
 
-
 number_of : List ℕ → ℕ
 number_of p = digits_value 10 (drop 1 p)
 
