@@ -117,6 +117,12 @@ no_reply rows memory messages m none drawn = record {
   own = drawn.own;
 }
 
+is_less : (d : ℕ) → nat_lt d machine.most_drawn ≡ true → d < machine.most_drawn
+is_less d e = grind (arith, nat_tests, e)
+
+is_more : (d : ℕ) → nat_lt d machine.most_drawn ≡ false → machine.most_drawn ≤ d
+is_more d e = grind (arith, nat_tests, e)
+
 next_above : (boot drawn : ℕ) → drawn ≤ machine.most_drawn → (boot * 18446744073709551616 + drawn < boot * 18446744073709551616 + min (drawn + 1) machine.most_drawn)
     ⊎ (boot * 18446744073709551616 + min (drawn + 1) machine.most_drawn ≡ boot * 18446744073709551616 + machine.most_drawn)
 next_above boot drawn most = by_test (nat_lt drawn machine.most_drawn) refl
@@ -125,12 +131,6 @@ next_above boot drawn most = by_test (nat_lt drawn machine.most_drawn) refl
         ⊎ (boot * 18446744073709551616 + min (drawn + 1) machine.most_drawn ≡ boot * 18446744073709551616 + machine.most_drawn)
     by_test true is = inl (let less = is_less drawn is in omega arith)
     by_test false is = inr (let more = is_more drawn is in omega arith)
-      where
-        is_more : (d : ℕ) → nat_lt d machine.most_drawn ≡ false → machine.most_drawn ≤ d
-        is_more d e = grind (arith, nat_tests, e)
-
-    is_less : (d : ℕ) → nat_lt d machine.most_drawn ≡ true → d < machine.most_drawn
-    is_less d e = grind (arith, nat_tests, e)
 
 drawn_more : (boot drawn count : ℕ) → 1 ≤ count → boot * 18446744073709551616 + min (drawn + 1) machine.most_drawn ≤ boot * 18446744073709551616 + min (drawn + count) machine.most_drawn
 drawn_more boot drawn count some = omega arith

@@ -7,7 +7,7 @@ use Rattle.std.specs.Cmp.Lexicographic.{slice_cmp}
 use Rattle.std.specs.FinMap as finite
 use Rattle.std.specs.List.{AllByRecursion}
 use Rattle.std.specs.Ordering.{nat_cmp}
-use Rattle.wef_batch.specs.declared.items.Batch.{Batch}
+use Rattle.wef_batch.specs.declared.items.Batch as items
 use Rattle.wef_bookmark.proofs.Joining.{joined_number}
 use Rattle.wef_bookmark.specs.Order.{Marks, number_at}
 use Rattle.wef_collector.proofs.Hits.{not_both}
@@ -43,10 +43,10 @@ use Rattle.wef_source_log.specs.declared.faults.LogFault.{LogFault}
 use Rattle.wef_source_log.specs.declared.faults.LogFault.TheVariants as log_faults
 use Rattle.wef_machine.specs.Arming.{fate, is_done, is_stopped}
 use Rattle.wef_machine.specs.Collecting as collecting
-use Rattle.wef_machine.specs.Collecting.{at_collector, draws, reply_id, with_call, with_reply}
+use Rattle.wef_machine.specs.Collecting.{at_collector, draws, reply_id, with_reply}
 use Rattle.wef_machine.specs.Deliveries.{BatchEffect, acknowledged_by, after_ack, after_fault, after_offers, answer_by, deliver_message, deliver_step, delivery_effect, end_at, events_at, events_by, message_at, number_back, offers_at, refused_by, taken_by, with_answer}
 use Rattle.wef_machine.specs.Kept.{IsAckKept, IsKept, IsServed, WaitsFor, WasDrawn}
-use Rattle.wef_machine.specs.Places.{Place, armed_with, crashed, opened_by, starts}
+use Rattle.wef_machine.specs.Places.{Place, armed_with, commits, crashed, opened_by, starts}
 use Rattle.wef_machine.specs.Rising.{AreAllRisen, AreSessionsRisen, BeginsCommitted, HaveRisen, IsAbove, IsLastRisen, IsMessageRisen, SessionsRise, WasAcknowledged, WasCommitted, pasts_from}
 use Rattle.wef_machine.specs.Safe.{WasSent}
 use Rattle.wef_machine.specs.Sources.{ask_at, ask_step, at_declared, at_source, declared_slot, lost_at, lost_step, poll_at, poll_in, poll_step, slot_opened, slot_written, with_opened, write_at, write_by, write_step}
@@ -129,7 +129,7 @@ Stands past state = AreAllRisen past state.sources state.messages
 pub stands_later : (past : List State) (state new : State) → Stands past state → Stands (new ∷ past) state
 stands_later past state new all = record {
   sessions = λ s slot there. sessions_grow past (new ∷ past) state.messages state.messages s slot.place.memory (later new past) (same_messages state.messages) (all.sessions s slot there);
-  messages = λ m was. message_grows past (new ∷ past) state.messages state.messages m (later new past) (same_messages state.messages) (all.messages m was);
+  sent = λ m was. message_grows past (new ∷ past) state.messages state.messages m (later new past) (same_messages state.messages) (all.sent m was);
 }
 
 -- ---- moves
@@ -140,7 +140,7 @@ slot_moves past state s new all are = record {
   sessions = λ r slot e.
       put_there state.sources s new r (λ o. o ≡ Some slot → AreSessionsRisen past state.messages r slot.place.memory)
       (λ is now. subst (λ (x : List ℕ × Slot). AreSessionsRisen past state.messages x.0 x.1.place.memory) (λ i. (sym is i, same_Some new slot now i)) are) (all.sessions r slot) e;
-  messages = all.messages;
+  sent = all.sent;
 }
 
 -- a message is sent
@@ -148,8 +148,8 @@ pub message_moves : (past : List State) (state : State) (m : Message) → Stands
 message_moves past state m all is = record {
   sessions = λ s slot there.
       sessions_grow past past state.messages (state.messages ++ m ∷ []) s slot.place.memory (same_past past) (sent_before state.messages m) (all.sessions s slot there);
-  messages = λ n was. elim (sent_split state.messages m n was) [
-    | inl before ↦ message_grows past past state.messages (state.messages ++ m ∷ []) n (same_past past) (sent_before state.messages m) (all.messages n before)
+  sent = λ n was. elim (sent_split state.messages m n was) [
+    | inl before ↦ message_grows past past state.messages (state.messages ++ m ∷ []) n (same_past past) (sent_before state.messages m) (all.sent n before)
     | inr e ↦ subst (IsMessageRisen past (state.messages ++ m ∷ [])) e is
   ];
 }
@@ -208,7 +208,7 @@ lies_above : (b n : ℕ) (t : Bool) → nat_lt b n ≡ t → (n ≤ b → ⊥) �
 lies_above b n true is never = lt_is b n is
 lies_above b n false is never = absurd (never (not_below b n is))
 
-above_is : (b : ℕ) (c : List ℕ) (batch : Batch) → SaysAbove b c batch.items → IsAbove b c batch
+above_is : (b : ℕ) (c : List ℕ) (batch : items.Batch) → SaysAbove b c batch.items → IsAbove b c batch
 above_is b c batch says = record {
   events = λ n text e. lies_above b n (nat_lt b n) refl (λ low. none-some text (sym (says.no_event n low) ∙ e));
   ranges = λ n e. lies_above b n (nat_lt b n) refl (λ low. not_both e (says.no_range n low));
@@ -413,14 +413,14 @@ events_stand past state s delivery all =
         (λ _. reply_stands past new 1 (sent.Ack s (reply_id ids) delivery.id) now tt) (λ _. now)
 
     by_effect : (ids : Ids) (effect : BatchEffect) → Stands past (events_by (collecting.with_opened state) effect s (reply_id ids) delivery)
-    by_effect ids (Err fault) = reply_stands past (with_call (collecting.with_opened state) (Err fault)) 1 (sent.Fault s (reply_id ids) delivery.id fault) all tt
-    by_effect ids (Ok changes) = by_fate ids (with_call (collecting.with_opened state) (Ok changes)) all (fate (collecting.with_opened state).collector.armed changes)
+    by_effect ids (Err fault) = reply_stands past (collecting.with_opened state) 1 (sent.Fault s (reply_id ids) delivery.id fault) all tt
+    by_effect ids (Ok changes) = by_fate ids (with_collector (collecting.with_opened state) (commits (collecting.with_opened state).collector changes)) all (fate (collecting.with_opened state).collector.armed changes)
 
 -- ---- lines
 
 taken_stands : Lower → (past : List State) (state : State) (m : Message) → IsKept state → Stands past state → WasSent state.messages m → HasRows past (taken_by state m) → Stands past (taken_by state m)
 taken_stands lower past state (sent.Ask s id) kept all was has = asked_stands lower past state s id kept all was has
-taken_stands lower past state (sent.Offers s id relates given) kept all was has = offers_stand lower past state s relates given kept all (all.messages (sent.Offers s id relates given) was)
+taken_stands lower past state (sent.Offers s id relates given) kept all was has = offers_stand lower past state s relates given kept all (all.sent (sent.Offers s id relates given) was)
 taken_stands lower past state (sent.Events s delivery) kept all was has = events_stand past state s delivery all
 taken_stands lower past state (sent.Ack s id relates) kept all was has = ack_stands lower past state s id relates kept all was
 taken_stands lower past state (sent.Fault s id relates fault) kept all was has = fault_stands lower past state s relates fault kept all
@@ -454,7 +454,7 @@ calm_stands past state all = record {
   sessions = λ s slot e.
       from_mapped calmed_slot (finite.get state.sources s) slot (λ (x : Slot). AreSessionsRisen past state.messages s x.place.memory) (sym (calmed_at state.sources s) ∙ e)
       (λ old there. all.sessions s old there);
-  messages = all.messages;
+  sent = all.sent;
 }
 
 step_stands : Lower → (past : List State) (state : State) (line : Line) → IsKept state → Stands past state → HasRows past (step line state) → Stands past (step line state)
@@ -490,7 +490,7 @@ all_rise lower earlier state (line ∷ lines) kept all admitted = (
 start_stands : Stands (start ∷ []) start
 start_stands = record {
   sessions = λ s slot e. absurd (none-some slot (sym (finite.get-empty (slice_cmp nat_cmp) s) ∙ e));
-  messages = λ m was. absurd was;
+  sent = λ m was. absurd was;
 }
 
 pub sessions_rise : Lower → SessionsRise

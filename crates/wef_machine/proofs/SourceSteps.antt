@@ -136,6 +136,10 @@ done_boot lower state s slot kept done =
 abbrev fresh_end : Slot → End
 fresh_end slot = start_of (boot_of slot.place.rows + 1)
 
+-- what a start does that isn't refused
+abbrev start_done : Slot → Effect LogFault
+start_done slot = Ok (start_changes slot.place.rows slot.capacity)
+
 -- a source after a start whose commit went so
 abbrev slot_started : Slot → Fate → Slot
 slot_started slot how = slot_with slot (record {
@@ -145,8 +149,7 @@ slot_started slot how = slot_with slot (record {
 })
 
 started_kept : Lower → (state : State) (s : List ℕ) (slot : Slot) → IsKeptSlot state s slot → slot.place.memory ≡ None → is_boot_full slot.place.rows ≡ false →
-    IsKeptSlot state s (slot_with slot (starts slot.place (fresh_end slot) (Ok (start_changes slot.place.rows slot.capacity))))
-    × SlotGrows slot (slot_with slot (starts slot.place (fresh_end slot) (Ok (start_changes slot.place.rows slot.capacity))))
+    IsKeptSlot state s (slot_with slot (starts slot.place (fresh_end slot) (start_done slot))) × SlotGrows slot (slot_with slot (starts slot.place (fresh_end slot) (start_done slot)))
 started_kept lower state s slot kept closed room = by_fate (fate slot.place.armed (start_changes slot.place.rows slot.capacity)) refl
   where
     store : IsStore slot (committed slot.place.armed (start_changes slot.place.rows slot.capacity) slot.place.rows)

@@ -1,7 +1,8 @@
 -- What is kept of a pair after a batch, after a subscription begins or ends, and once more is written.
 use Rattle.std.proofs.Common.{◌≡◌, ◌≢◌, ℕ, ◌<◌, ◌≤◌, ◌==◌, Bool, true, false, ◌&&◌, ◌||◌, cond, List, [], ◌++◌, length, map, refl, ap, sym, ◌∙◌, subst, Option, Some, None, nat_lt, arith, inl, inr, ◌⊎◌, length-append}
 use Rattle.std.specs.FinMap as finite
-use Rattle.std.specs.Option.{option_map}
+use Rattle.std.proofs.lemmas.Bool.Decides.{nat_tests}
+use Rattle.std.specs.Option.{option_map, option_or}
 use Rattle.std.specs.Prelude.{max, unwrap_or}
 use Rattle.wef_base.specs.Names.{same}
 use Rattle.wef_batch.specs.Reach.{loose_sum, reach}
@@ -37,7 +38,7 @@ use Rattle.wef_source.specs.Wanted.{AreRising, EndBy, IsLost, Range, Settings, i
 use Rattle.wef_source_log.specs.Histories.{History, history}
 use Rattle.wef_machine.specs.Laws.{FittingBatchesAreSafe}
 use Rattle.wef_machine.specs.Safe.{IsPairKey, IsPairSafe, IsUntouched, marks_of, range_of_row, settings_of, wanted_events}
-use Rattle.wef_machine.proofs.Fitted.{held_after_is, held_are, held_step, held_were, in_joined, text_in}
+use Rattle.wef_machine.proofs.Fitted.{held_after_is, held_are, held_step, held_were, in_joined, text_cell, text_in}
 use Rattle.wef_machine.proofs.InOrder.{in_order, ranges_reached}
 use Rattle.wef_machine.proofs.Marked.{marks_after, no_mark_by_taking, reach_loose}
 use Rattle.wef_machine.proofs.Numbered.{no_rows, same_section}
@@ -328,6 +329,9 @@ and_second : (a b : Bool) → (a && b) ≡ true → b ≡ true
 and_second true b e = e
 and_second false b e = cc
 
+none_below : (b : ℕ) → nat_lt b 0 ≡ false
+none_below b = grind (arith, nat_tests)
+
 reached_safe : (rows : Rows) (u s c : List ℕ) (start : ℕ) (about : Subscription) (records : History) (capacity b : ℕ) (batch : Batch) (now t : ℕ) → is_in (channels_read about) c ≡ true →
     IsPairSafe rows u s c start (settings_of about) records capacity → is_well_formed (channels_read about) batch ≡ true → loose_sum batch.items ≡ 0 → b ≤ bookmark_at rows u s c → reach c batch ≡ Some t →
     FitsUpTo about.query about.max_bytes c records capacity b batch.items t → IsPairSafe (taken rows u s (channels_read about) batch now) u s c start (settings_of about) records capacity
@@ -358,7 +362,9 @@ reached_safe rows u s c start about records capacity b batch now t listed safe f
       | inl old ↦ safe.lost n old
       | inr new ↦ fits.lost n (and_second (nat_lt kept n) (in_ranges dropped n) new)
     ])
-    (held_by_taking rows u s channels batch now c 0 listed ∙ held_after_is c kept 0 None batch.items (finite.get rows (held_key u s c 0)) rises ∙ safe.no_first_event)
+    (held_by_taking rows u s channels batch now c 0 listed ∙ held_after_is c kept 0 None batch.items (finite.get rows (held_key u s c 0)) rises
+    ∙ ap (λ (t : Bool). cond t (option_or (option_map text_cell (event_at c 0 batch.items)) (finite.get rows (held_key u s c 0))) (finite.get rows (held_key u s c 0))) (none_below kept)
+    ∙ safe.no_first_event)
     (no_mark_by_taking rows u s channels batch now c t listed reached above safe.no_first_mark)
     (λ n. touched rows u s channels batch now c (loose_key u s c n) (λ cell. cell) listed (missed_channel u s c (loose_key u s c n) refl) refl
     (λ cell. ap (λ r. found_after (reach_changes u s c kept batch r) (loose_key u s c n) cell) reached ∙ reach_loose u s c kept t n batch cell none) (λ x. refl)

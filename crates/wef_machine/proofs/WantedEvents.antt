@@ -185,7 +185,7 @@ kept_text records more n le =
 
 pub wanted_longer : (query : QueryList) (c : List ℕ) (records more : History) (start t : ℕ) (ranges : List Range) → t ≤ length records → (n : ℕ) →
     wanted query c (records ++ more) start t ranges n ≡ wanted query c records start t ranges n
-wanted_longer query c records more t ranges le n =
+wanted_longer query c records more start t ranges le n =
     elim (nat_lt start n && nat_le n t) as (λ b. (nat_lt start n && nat_le n t) ≡ b →
     cond (b && not (in_ranges ranges n)) (selected_at query c (records ++ more) n) None ≡ cond (b && not (in_ranges ranges n)) (selected_at query c records n) None) [
       | true ↦ λ is.

@@ -79,7 +79,7 @@ AreSessionsRisen past messages s (Some end) = AllByRecursion (λ (session : Sess
 -- It is so of all sessions and all messages, by the states that were.
 pub record AreAllRisen (past : List State) (slots : Slots) (messages : List Message) : Type 0 where
   pub sessions : (s : List ℕ) (slot : Slot) → finite.get slots s ≡ Some slot → AreSessionsRisen past messages s slot.place.memory
-  pub messages : (m : Message) → WasSent messages m → IsMessageRisen past messages m
+  pub sent : (m : Message) → WasSent messages m → IsMessageRisen past messages m
 
 -- it is so of the last of some states, by it and those before it
 abbrev pub IsLastRisen : List State → Type 0
