@@ -21,7 +21,7 @@ use Rattle.wef_source.specs.Wanted.{in_ranges, wanted}
 use Rattle.wef_source.specs.declared.sessions.Session.{Session}
 use Rattle.wef_source.proofs.Candidates.{channel_says, skipped}
 use Rattle.wef_source.proofs.Cases.{and_true}
-use Rattle.wef_source.proofs.Channels.{AreApart, AreOwn, front_listed, front_not_loose, holds_of_all, in_order_apart, ordered_of, own-append, own_among, own_none}
+use Rattle.wef_source.proofs.Channels.{AreApart, AreOwn, front_listed, front_not_loose, holds_of_all, in_order_apart, ordered_of, own-append, own_among, own_unlisted}
 use Rattle.wef_source.proofs.Cuts.{Says, cut_fits}
 use Rattle.wef_source.proofs.Fitting.{parts}
 use Rattle.wef_source.proofs.Items.{Ordered, no_event_below, no_range_below, ordered_front, own, own-event_at, own-last, own-ranges, own-rises, reached, rises_own}
@@ -176,5 +176,5 @@ built_above rows all capacity boot session reads within c = by_channel (is_in (s
 
     by_channel : (t : Bool) → is_in (session_channels session) c ≡ t → SaysAbove (number_at session.positions c) c (built_items rows session)
     by_channel true here = ordered (own_ordered rows all capacity session c of here)
-    by_channel false none = ordered (subst (Ordered c (number_at session.positions c)) (sym (own_none (session_channels session) c (built_items rows session)
+    by_channel false none = ordered (subst (Ordered c (number_at session.positions c)) (sym (own_unlisted (session_channels session) c (built_items rows session)
         (front_listed (channel_candidates rows session) (session_channels session) (built_items rows session) (left_items rows session) of.all_own of.parts) none)) tt)

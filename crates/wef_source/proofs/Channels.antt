@@ -136,11 +136,11 @@ unlisted_item cs c (Event event) here none = unlisted cs c event.channel here no
 unlisted_item cs c (Dropped channel first last) here none = unlisted cs c channel here none
 unlisted_item cs c (Loose count) here none = refl
 
-pub own_none : (cs : List (List ℕ)) (c : List ℕ) (items : List Item) → list_all (is_listed cs) items ≡ true → is_in cs c ≡ false → own c items ≡ []
-own_none cs c [] all none = refl
-own_none cs c (item ∷ items) all none =
+pub own_unlisted : (cs : List (List ℕ)) (c : List ℕ) (items : List Item) → list_all (is_listed cs) items ≡ true → is_in cs c ≡ false → own c items ≡ []
+own_unlisted cs c [] all none = refl
+own_unlisted cs c (item ∷ items) all none =
     let parts = both_true (is_listed cs item) (list_all (is_listed cs) items) all in
-    ap (λ t. cond t (item ∷ own c items) (own c items)) (unlisted_item cs c item parts.0 none) ∙ own_none cs c items parts.1 none
+    ap (λ t. cond t (item ∷ own c items) (own c items)) (unlisted_item cs c item parts.0 none) ∙ own_unlisted cs c items parts.1 none
 
 loose-append : (front back : List Item) → loose_sum (front ++ back) ≡ loose_sum front + loose_sum back
 loose-append [] back = omega arith
