@@ -1,4 +1,4 @@
-//! Offers, by example, start numbers, and a store that fails at each of its calls.
+//! Offers, by example, boot numbers, and a store that fails at each of its calls.
 
 use crate::failing::FailingKeeper;
 use std::alloc::{AllocError, Global};
@@ -99,7 +99,7 @@ fn start_fault(alloc: Global, boot: u64) -> Result<Option<CollectorFault>, Fail>
 }
 
 #[test]
-fn a_start_number_has_an_end(rt: HostRuntime) -> Result<(), Fail> {
+fn a_boot_number_has_an_end(rt: HostRuntime) -> Result<(), Fail> {
     for (boot, want) in [(MAX - 1, None), (MAX, Some(CollectorFault::Full))] {
         assert_eq!(&rt; start_fault(rt.alloc(), boot)?, want);
     }
@@ -111,6 +111,22 @@ fn start<K: Keeper + Drop>(alloc: Global, keeper: K) -> Result<Collector<K>, Col
         Ok(collector) => Ok(collector),
         Err((_, fault)) => Err(fault),
     }
+}
+
+/// The values of the first two ids that a new collector draws.
+fn drawn(alloc: Global) -> Result<(Option<u128>, Option<u128>), Fail> {
+    let mut collector = start(alloc, MemKeeper::new(alloc))?;
+    let first = collector.draw()?.value;
+    let second = collector.draw()?.value;
+    Ok((first, second))
+}
+
+#[test]
+fn a_collector_draws_ids_of_its_boot_number(rt: HostRuntime) -> Result<(), Fail> {
+    let (first, second) = drawn(rt.alloc())?;
+    assert_eq!(&rt; first, Some(18_446_744_073_709_551_617));
+    assert_eq!(&rt; second, Some(18_446_744_073_709_551_618));
+    Ok(())
 }
 
 /// The version, the address and the bookmark of each offer that three subscriptions give, of which

@@ -6,6 +6,9 @@ use wef_event::{EVENT_LIMIT, Event, EventFault, PlainEvent, read_event, read_new
 
 const GREATEST: u64 = 9_223_372_036_854_775_807;
 
+/// The System of an event with a number and a channel.
+const SYSTEM: &str = "<System><EventRecordID>7</EventRecordID><Channel>a</Channel></System>";
+
 /// A text with a piece so many times between two others.
 fn filled(
     alloc: Global,
@@ -147,4 +150,33 @@ fn what_an_event_lacks_is_told_before_its_length(rt: HostRuntime) {
     );
     let new = read_length(alloc, channel, "x", count, true);
     assert_eq!(&rt; new.expect(&rt, "an event"), 0);
+}
+
+/// The length of an event with so many elements in a namespace of 1,000 letters, which its root
+/// declares and its text repeats, and so many letters.
+fn repeated_length(alloc: Global, elements: usize, letters: usize) -> Result<usize, EventFault> {
+    let front = filled(alloc, "<Event xmlns:p='", "n", 1_000, "'>")?;
+    let mut text = filled(alloc, front.as_str(), "", 0, SYSTEM)?;
+    text.push_str("<x>")?;
+    let text = filled(alloc, text.as_str(), "<p:y/>", elements, "")?;
+    let text = filled(alloc, text.as_str(), "x", letters, "</x></Event>")?;
+    length(read_event(&text))
+}
+
+#[test]
+fn an_event_repeats_its_namespaces_up_to_a_mebibyte(rt: HostRuntime) {
+    // Each element has 1,016 bytes in the text, and 91 stand round all.
+    for (elements, letters, want) in [
+        (1_031, 989, EVENT_LIMIT),
+        (1_031, 990, 0),
+        (1_032, 0, 0),
+        (100_000, 0, 0),
+    ] {
+        let length = repeated_length(rt.alloc(), elements, letters);
+        assert_eq!(&rt;
+            length.expect(&rt, "an event"),
+            want,
+            "at {elements} and {letters}"
+        );
+    }
 }

@@ -3,7 +3,7 @@
 use std::alloc::{AllocError, Global};
 use std::test::Fail;
 use wef_base::{ChannelName, List, Text, is_xml_text};
-use wef_event::{Event, PlainEvent};
+use wef_event::{Event, EventFault, PlainEvent};
 use wef_keeper::{Change, Keeper, KeeperFault, Key, MemKeeper, Row};
 use wef_source_log::{Log, LogFault};
 
@@ -111,18 +111,24 @@ fn letters(alloc: Global, count: u64) -> Result<Text, AllocError> {
     Ok(word)
 }
 
-fn event_of(alloc: Global, name: &str, count: u64) -> Result<PlainEvent, LogFault> {
+/// The event of so many letters, before it has a number.
+fn event_of(alloc: Global, name: &str, count: u64) -> Result<Event, LogFault> {
     let channel = channel(alloc, name)?;
     let word = letters(alloc, count)?;
     if !is_xml_text(&word)? {
         return Err(LogFault::NoMemory);
     }
-    Ok(PlainEvent {
+    let event = PlainEvent {
         channel,
         id: 7,
         level: 4,
         word,
-    })
+    };
+    match event.to_event() {
+        Ok(event) => Ok(event),
+        Err(EventFault::TooLong) => Err(LogFault::TooLong),
+        Err(_) => Err(LogFault::NoMemory),
+    }
 }
 
 /// Writes an event of so many letters.

@@ -6,7 +6,7 @@ use wef_base::{ChannelName, List, SourceName, SubId, Text, ValueFault, is_xml_te
 use wef_batch::{Batch, Item};
 use wef_bookmark::Bookmark;
 use wef_envelope::{FaultName, MessageId};
-use wef_event::PlainEvent;
+use wef_event::{Event, EventFault, PlainEvent};
 use wef_eventing::{Offer, Subscribe};
 use wef_keeper::MemKeeper;
 use wef_query::QueryList;
@@ -119,18 +119,24 @@ fn letters(alloc: Global, count: u64) -> Result<Text, AllocError> {
     Ok(word)
 }
 
-fn event_of(alloc: Global, name: &str, count: u64) -> Result<PlainEvent, SourceFault> {
+/// The event of so many letters, before it has a number.
+fn event_of(alloc: Global, name: &str, count: u64) -> Result<Event, SourceFault> {
     let channel = known(channel(alloc, name))?;
     let word = letters(alloc, count)?;
     if !is_xml_text(&word)? {
         return Err(SourceFault::NoMemory);
     }
-    Ok(PlainEvent {
+    let event = PlainEvent {
         channel,
         id: 7,
         level: 4,
         word,
-    })
+    };
+    match event.to_event() {
+        Ok(event) => Ok(event),
+        Err(EventFault::TooLong) => Err(SourceFault::TooLong),
+        Err(_) => Err(SourceFault::NoMemory),
+    }
 }
 
 /// Writes an event of so many letters.
