@@ -1,138 +1,35 @@
--- What a call of the collector leaves of it and answers, by how it was armed.
-use Rattle.std.proofs.Common.{◌≡◌, ◌+◌, nat_lt, Bool, true, false, ◌&&◌, List, [], ◌∷◌, ap, sym, ◌∙◌, subst}
+-- Opening the collector, and what its calls leave of a world and print.
+use Rattle.std.proofs.Common.{◌≡◌, ℕ, ◌+◌, nat_lt, Bool, true, false, List, [], ◌∷◌, refl, ap, sym, ◌∙◌, subst}
 use Rattle.std.proofs.lemmas.Bool.{cond_both}
-use Rattle.std.specs.Prelude.{Option, Some, None, Result, Ok, Err, IfOk, OnOk, not}
+use Rattle.std.specs.Prelude.{Option, Some, None, Result, Ok, Err, OnOk}
 use Rattle.wef_collector.proofs.FormsStay.{forms_stay}
-use Rattle.wef_collector.specs.Boots.{boot_of}
-use Rattle.wef_collector.specs.Calls.{Effect, boot_effect}
+use Rattle.wef_collector.specs.Boots.{boot_of, ids_begun}
+use Rattle.wef_collector.specs.Calls.{boot_effect}
 use Rattle.wef_collector_rows.specs.Forms.{AreFormed}
 use Rattle.wef_collector_rows.specs.Keys.{boot_key}
 use Rattle.wef_collector.specs.Taken.{put}
 use Rattle.wef_collector_rows.specs.declared.faults.CollectorFault.{CollectorFault}
-use Rattle.wef_collector_rows.specs.declared.faults.CollectorFault.TheVariants.{NoMemory, Failed, Full}
-use Rattle.wef_keeper.specs.Access.{is_planned, plan_with}
-use Rattle.wef_keeper.specs.Keeping.{outcome}
+use Rattle.wef_collector_rows.specs.declared.faults.CollectorFault.TheVariants.{Full}
+use Rattle.wef_envelope.specs.declared.ids.Ids.{Ids}
+use Rattle.wef_keeper.specs.Calls.{Effect}
 use Rattle.wef_keeper.specs.Rows.{Rows, applied}
 use Rattle.wef_keeper.specs.declared.keys.Change.{Change}
-use Rattle.wef_machine.specs.Arming.{committed, fate_of, is_stopped, plan_of}
-use Rattle.wef_machine.specs.Collecting.{after_call, opened, starts}
-use Rattle.wef_machine.specs.States.{Collector}
+use Rattle.wef_machine.specs.Arming.{committed, fate, is_done}
+use Rattle.wef_machine.specs.Collecting.{at_collector, collector_opened, collector_opening, print_at_collector, print_where_runs, where_runs, with_call, with_opened}
+use Rattle.wef_machine.specs.Places.{opened_by, starts}
+use Rattle.wef_machine.specs.Printed.{collector_name, fate_line}
+use Rattle.wef_machine.specs.Sources.{fate_text}
+use Rattle.wef_machine.specs.States.{Collector, State, with_collector}
+use Rattle.wef_machine.specs.Steps.{closed_line}
 use Rattle.wef_machine.specs.declared.arming.Armed.{Armed}
-use Rattle.wef_machine.specs.declared.arming.Fate.{Fate}
-use Rattle.wef_machine.specs.declared.arming.Fate.TheVariants.{Done}
-use Rattle.wef_world.specs.Called.{CalledAs, Settles, SettlesAs}
-use Rattle.wef_world.specs.CollectorPlaces.{CollectorHeld, DidCall}
-use Rattle.wef_world.specs.declared.collector_side.Called.{Called}
-use Rattle.wef_world.specs.declared.collector_side.Called.TheVariants.{Committed, Refused}
-use Rattle.wef_world.specs.declared.faults.WorldFault.{WorldFault}
-
--- the collector, by where it is held and what is armed
-abbrev pub side : CollectorHeld → Option Armed → Collector
-side place armed = record { rows = place.rows; runs = place.runs; armed = armed }
-
--- where it is held, once what is armed is planned
-abbrev pub arranged : Collector → CollectorHeld
-arranged c = record { rows = c.rows; runs = c.runs; plan = plan_of c.armed }
-
--- what is settled, by the place that the call left
-settled_as : (how : Fate) (c : Collector) (left place place' : CollectorHeld) (armed' : Option Armed) → place ≡ left → SettlesAs how place place' c.armed armed'
-    → SettlesAs how left place' c.armed armed'
-settled_as how c left place place' armed' is settles = subst (λ (p : CollectorHeld). SettlesAs how p place' c.armed armed') is settles
-
-abbrev Left : Collector → Effect → Called → CollectorHeld → Option Armed → Type 0
-Left c effect called place' armed' = (side place' armed' ≡ after_call c effect) × CalledAs c effect called
-
--- a commit that is done
-done_leaves : (c : Collector) (changes : List Change) (how : Fate) (place' : CollectorHeld) (armed' : Option Armed) → is_planned changes (plan_of c.armed) ≡ true → how ≡ Done
-    → SettlesAs how (record { rows = applied changes c.rows; runs = c.runs; plan = plan_with changes (plan_of c.armed) }) place' c.armed armed'
-    → Left c (Ok changes) (Committed how) place' armed'
-done_leaves c changes how place' armed' planned done settles = by c.armed changes planned settles
-  where
-    by : (armed : Option Armed) (changes : List Change) → is_planned changes (plan_of armed) ≡ true
-        → SettlesAs how (record { rows = applied changes c.rows; runs = c.runs; plan = plan_with changes (plan_of armed) }) place' armed armed'
-        → Left (record { rows = c.rows; runs = c.runs; armed = armed }) (Ok changes) (Committed how) place' armed'
-    by None [] planned settles = ((λ i. side (settles.0 i) (settles.1 i)) ∙ ap (λ (f : Fate). record { rows = c.rows; runs = c.runs && not (is_stopped f); armed = None }) done, done)
-    by (Some a) [] planned settles = ((λ i. side (settles.0 i) (settles.1 i)) ∙ ap (λ (f : Fate). record { rows = c.rows; runs = c.runs && not (is_stopped f); armed = Some a }) done, done)
-    by None (change ∷ changes) planned settles =
-        ((λ i. side (settles.0 i) (settles.1 i)) ∙ ap (λ (f : Fate). record { rows = applied (change ∷ changes) c.rows; runs = c.runs && not (is_stopped f); armed = None }) done, done)
-    by (Some a) (change ∷ changes) planned settles = cc
-
--- one that failed
-failed_leaves : (c : Collector) (changes : List Change) (how : Fate) (place' : CollectorHeld) (armed' : Option Armed) → is_planned changes (plan_of c.armed) ≡ false → how ≡ fate_of c.armed
-    → SettlesAs how (record { rows = outcome (plan_of c.armed) changes c.rows; runs = c.runs; plan = None }) place' c.armed armed'
-    → Left c (Ok changes) (Committed how) place' armed'
-failed_leaves c [] how place' armed' planned failed settles = cc
-failed_leaves c (change ∷ changes) how place' armed' planned failed settles = (
-  (λ i. side (settles.0 i) (settles.1 i))
-      ∙ ap (λ (f : Fate). record { rows = outcome (plan_of c.armed) (change ∷ changes) c.rows; runs = c.runs && not (is_stopped f); armed = None }) failed,
-  failed,
-)
-
--- a call that is refused
-refused_leaves : (c : Collector) (effect : Effect) (fault refused : CollectorFault) (place place' : CollectorHeld) (armed' : Option Armed) → (effect ≡ Err fault) × (place ≡ arranged c)
-    → (refused ≡ fault) × (place' ≡ place) × (armed' ≡ c.armed) → Left c effect (Refused refused) place' armed'
-refused_leaves c effect fault refused place place' armed' did settles =
-    subst (λ (e : Effect). Left c e (Refused refused) place' armed') (sym did.0) ((λ i. side ((settles.1 ∙ did.1) i) (settles.2 i)), settles.0)
-
-called_leaves : (c : Collector) (effect : Effect) (answer : Result Unit CollectorFault) (place place' : CollectorHeld) (armed' : Option Armed) (called : Called)
-    → DidCall effect answer (arranged c) place → Settles answer place place' c.armed armed' called → Left c effect called place' armed'
-called_leaves c (Ok changes) (Ok done) place place' armed' (Committed how) did settles =
-    done_leaves c changes how place' armed' did.0 settles.0
-    (settled_as how c (record { rows = applied changes c.rows; runs = c.runs; plan = plan_with changes (plan_of c.armed) }) place place' armed' did.1 settles.1)
-called_leaves c (Err fault) (Ok done) place place' armed' (Committed how) did settles = absurd did
-called_leaves c effect (Ok done) place place' armed' (Refused refused) did settles = absurd settles
-called_leaves c effect (Err NoMemory) place place' armed' called did settles = absurd settles
-called_leaves c (Ok changes) (Err Failed) place place' armed' (Committed how) did settles =
-    failed_leaves c changes how place' armed' did.0 settles.0
-    (settled_as how c (record { rows = outcome (plan_of c.armed) changes c.rows; runs = c.runs; plan = None }) place place' armed' did.1 settles.1)
-called_leaves c (Err fault) (Err Failed) place place' armed' (Committed how) did settles = absurd did
-called_leaves c effect (Err Failed) place place' armed' (Refused refused) did settles = absurd settles
-called_leaves c effect (Err fault) place place' armed' (Committed how) did settles = absurd settles
-called_leaves c effect (Err fault) place place' armed' (Refused refused) did settles = refused_leaves c effect fault refused place place' armed' did settles
-
--- A call of a collector: what was armed is planned, the call is made, and what was armed is settled.
-pub record IsCalled (c : Collector) (effect : Rows → Effect) (answer : Result Unit CollectorFault) (place place' : CollectorHeld) (armed' : Option Armed) (result : Result Called WorldFault) : Type 0 where
-  -- the collector as it was, where it was held with this armed
-  pub before : CollectorHeld
-  pub armed : Option Armed
-  pub is : side before armed ≡ c
-  -- it is held with the plan of what is armed
-  pub plan : Option Bool
-  pub planned : plan ≡ plan_of armed
-  pub with_plan : CollectorHeld
-  pub with_plan_is : with_plan ≡ record before { plan = plan }
-  -- the call goes by it
-  pub did : DidCall (effect with_plan.rows) answer with_plan place
-  pub settles : IfOk result (Settles answer place place' armed armed')
-
-is_arranged : (c : Collector) (effect : Rows → Effect) (answer : Result Unit CollectorFault) (place place' : CollectorHeld) (armed' : Option Armed) (result : Result Called WorldFault)
-    → (call : IsCalled c effect answer place place' armed' result) → call.with_plan ≡ arranged c
-is_arranged c effect answer place place' armed' result call =
-    call.with_plan_is ∙ ap (λ (plan : Option Bool). record call.before { plan = plan }) call.planned ∙ ap arranged call.is
-
-call_did : (c : Collector) (effect : Rows → Effect) (answer : Result Unit CollectorFault) (place place' : CollectorHeld) (armed' : Option Armed) (result : Result Called WorldFault)
-    → IsCalled c effect answer place place' armed' result → DidCall (effect c.rows) answer (arranged c) place
-call_did c effect answer place place' armed' result call =
-    subst (λ (h : CollectorHeld). DidCall (effect h.rows) answer h place) (is_arranged c effect answer place place' armed' result call) call.did
-
-call_settles : (c : Collector) (effect : Rows → Effect) (answer : Result Unit CollectorFault) (place place' : CollectorHeld) (armed' : Option Armed) (result : Result Called WorldFault)
-    → IsCalled c effect answer place place' armed' result → IfOk result (Settles answer place place' c.armed armed')
-call_settles c effect answer place place' armed' result call =
-    subst (λ (x : Collector). IfOk result (Settles answer place place' x.armed armed')) call.is call.settles
-
--- what it leaves of the collector
-pub call_leaves : (c : Collector) (effect : Rows → Effect) (answer : Result Unit CollectorFault) (place place' : CollectorHeld) (armed' : Option Armed) (result : Result Called WorldFault)
-    → IsCalled c effect answer place place' armed' result → OnOk result (side place' armed' ≡ after_call c (effect c.rows))
-call_leaves c effect answer place place' armed' (Ok called) call =
-    (called_leaves c (effect c.rows) answer place place' armed' called (call_did c effect answer place place' armed' (Ok called) call) (call_settles c effect answer place place' armed' (Ok called) call)).0
-call_leaves c effect answer place place' armed' (Err fault) call = tt
-
--- what it answers
-pub call_answers : (c : Collector) (effect : Rows → Effect) (answer : Result Unit CollectorFault) (place place' : CollectorHeld) (armed' : Option Armed) (result : Result Called WorldFault)
-    → IsCalled c effect answer place place' armed' result → IfOk result (CalledAs c (effect c.rows))
-call_answers c effect answer place place' armed' (Ok called) call =
-    (called_leaves c (effect c.rows) answer place place' armed' called (call_did c effect answer place place' armed' (Ok called) call) (call_settles c effect answer place place' armed' (Ok called) call)).1
-call_answers c effect answer place place' armed' (Err fault) call = tt
+use Rattle.wef_machine.specs.declared.arming.Fate as the_fate
+use Rattle.wef_machine.specs.declared.arming.Fate.TheVariants as fates
+use Rattle.wef_world.specs.Collected.{called_text}
+use Rattle.wef_world.specs.Places.{CalledAs, CameTo, UsedAs, called_at, called_where_runs}
+use Rattle.wef_world.specs.declared.places.Called.{Called}
+use Rattle.wef_world.specs.declared.places.Called.TheVariants.{Done, Broken, Refused}
+use Rattle.wef_world.specs.declared.places.Used.{Used}
+use Rattle.wef_world.specs.declared.places.Used.TheVariants.{Closed, Answered}
 
 -- ---- an opening
 
@@ -142,9 +39,61 @@ booted_formed (Some a) rows room formed =
     cond_both a.after (applied (put boot_key (boot_of rows + 1) [] ∷ []) rows) rows AreFormed (λ _. forms_stay.start rows room formed) (λ _. formed)
 
 -- rows of their form stay so
-pub opened_formed : (c : Collector) → AreFormed c.rows → AreFormed (opened c).rows
-opened_formed c formed =
-    cond_both c.runs c (starts c (boot_effect c.rows)) (λ (x : Collector). AreFormed x.rows) (λ _. formed)
-    (λ _.
-    cond_both (nat_lt (boot_of c.rows) 9223372036854775807) (Ok (put boot_key (boot_of c.rows + 1) [] ∷ [])) (Err Full) (λ (effect : Effect). AreFormed (starts c effect).rows)
-    (λ room. booted_formed c.armed c.rows room formed) (λ full. formed))
+pub opened_formed : (c : Collector) → AreFormed c.rows → AreFormed (collector_opened c).rows
+opened_formed c formed = by c.memory
+  where
+    by : (memory : Option Ids) → AreFormed (opened_by c (ids_begun c.rows) (boot_effect c.rows) memory).rows
+    by (Some ids) = formed
+    by None =
+        cond_both (nat_lt (boot_of c.rows) 9223372036854775807) (Ok (put boot_key (boot_of c.rows + 1) [] ∷ [])) (Err Full)
+        (λ (effect : Effect CollectorFault). AreFormed (starts c (ids_begun c.rows) effect).rows) (λ room. booted_formed c.armed c.rows room formed) (λ full. formed)
+
+pub opened_formed_on : {E : Type 0} (result : Result the_fate.Fate E) (c after : Collector) → OnOk result (after ≡ collector_opened c) → AreFormed c.rows → OnOk result (AreFormed after.rows)
+opened_formed_on (Ok how) c after is formed = subst (λ (x : Collector). AreFormed x.rows) (sym is) (opened_formed c formed)
+opened_formed_on (Err fault) c after is formed = tt
+
+-- ---- a call
+
+-- what a call leaves of the collector is what the line that makes it does
+pub called_state : {F : Type 0} (state : State) (effect : Rows → Effect F)
+    → with_collector state (called_at (collector_opened state.collector) effect) ≡ at_collector state (λ ids now. with_call now (effect now.collector.rows))
+called_state state effect = by (collector_opened state.collector).memory
+  where
+    by : (memory : Option Ids) → with_collector state (called_where_runs (collector_opened state.collector) effect memory)
+        ≡ where_runs (with_opened state) memory (λ ids now. with_call now (effect now.collector.rows))
+    by None = refl
+    by (Some ids) = refl
+
+broken_text : (how : the_fate.Fate) (done : List ℕ) → is_done how ≡ false → fate_line how collector_name ≡ fate_text how collector_name done
+broken_text fates.Done done undone = cc
+broken_text fates.Failed done undone = refl
+broken_text fates.Stopped done undone = refl
+
+-- what is printed of a call of an open collector, by its effect
+abbrev pub Says : {F : Type 0} → Option Armed → List ℕ → (F → List ℕ) → (Effect F → List ℕ) → Type 0
+Says {F} armed done refused text =
+    ((changes : List Change) → text (Ok changes) ≡ fate_text (fate armed changes) collector_name done) × ((fault : F) → text (Err fault) ≡ refused fault)
+
+called_says : {F : Type 0} (armed : Option Armed) (done : List ℕ) (refused : F → List ℕ) (text : Effect F → List ℕ) → Says armed done refused text
+    → (effect : Effect F) (called : Called Unit F) → CalledAs armed effect tt called → called_text done refused (Answered called) ≡ text effect
+called_says armed done refused text says (Ok changes) (Done answer) is = ap (λ (how : the_fate.Fate). fate_text how collector_name done) (sym is.0) ∙ sym (says.0 changes)
+called_says armed done refused text says (Ok changes) (Broken how) is =
+    broken_text how done is.0 ∙ ap (λ (went : the_fate.Fate). fate_text went collector_name done) is.1 ∙ sym (says.0 changes)
+called_says armed done refused text says (Ok changes) (Refused fault) is = absurd is
+called_says armed done refused text says (Err fault) (Done answer) is = absurd is
+called_says armed done refused text says (Err fault) (Broken how) is = absurd is
+called_says armed done refused text says (Err fault) (Refused refuses) is = ap refused is ∙ sym (says.1 fault)
+
+pub called_prints : {F : Type 0} (state : State) (effect : Rows → Effect F) (done : List ℕ) (refused : F → List ℕ) (text : State → Effect F → List ℕ)
+    → Says (collector_opened state.collector).armed done refused (text (with_opened state)) → (used : Used (Called Unit F))
+    → CameTo (collector_opening state.collector) (collector_opened state.collector) effect (λ _. tt) used
+    → called_text done refused used ≡ print_at_collector state closed_line (λ ids now. text now (effect now.collector.rows))
+called_prints state effect done refused text says used came = by (collector_opened state.collector).memory used came
+  where
+    by : (memory : Option Ids) (used : Used (Called Unit _))
+        → UsedAs (collector_opening state.collector) memory (Unit {0}) (λ ids. CalledAs (collector_opened state.collector).armed (effect (collector_opened state.collector).rows) tt) used
+        → called_text done refused used ≡ print_where_runs (with_opened state) memory (collector_opening state.collector) closed_line (λ ids now. text now (effect now.collector.rows))
+    by None (Closed went) came = ap (λ (how : the_fate.Fate). fate_line how collector_name) came.0
+    by None (Answered called) came = absurd came
+    by (Some ids) (Closed went) came = absurd came
+    by (Some ids) (Answered called) came = called_says (collector_opened state.collector).armed done refused (text (with_opened state)) says (effect (collector_opened state.collector).rows) called came

@@ -1,73 +1,134 @@
--- What becomes of a batch that is given to the collector.
-use Rattle.std.specs.Prelude.{◌≡◌, ℕ, List, Option, Some, None, Ok, Err, codes, if◌then◌else◌}
+-- What the collector makes of messages, and what it answers.
+use Rattle.std.specs.Prelude.{ℕ, ◌+◌, List, length, Option, Some, None, Ok, Err, codes, if◌then◌else◌}
 use Rattle.wef_batch.specs.declared.items.Batch.{Batch}
 use Rattle.wef_collector.specs.Offers.{offers}
+use Rattle.wef_collector_rows.specs.Standing.{standing}
+use Rattle.wef_collector_rows.specs.declared.faults.CollectorFault as the_fault
+use Rattle.wef_collector_rows.specs.declared.faults.CollectorFault.TheVariants.{NotWellFormed}
 use Rattle.wef_envelope.specs.declared.FaultName.{FaultName}
+use Rattle.wef_envelope.specs.declared.FaultName.TheVariants.{InvalidMessage, DestinationUnreachable, InternalError}
 use Rattle.wef_envelope.specs.declared.MessageId.{MessageId}
-use Rattle.wef_machine.specs.Arming.{fate, is_done}
-use Rattle.wef_machine.specs.Collecting.{after_call, opened, opening}
-use Rattle.wef_machine.specs.Deliveries.{BatchEffect, answer_by, batch_word, delivery_effect}
+use Rattle.wef_envelope.specs.declared.ids.Ids.{Ids}
+use Rattle.wef_keeper.specs.Rows.{Rows}
+use Rattle.wef_machine.specs.Arming.{fate}
+use Rattle.wef_machine.specs.Collecting.{collector_opened, collector_opening, draws, reply_id}
+use Rattle.wef_machine.specs.Deliveries.{BatchEffect, answer_by, batch_word, delivery_effect, sourceless}
+use Rattle.wef_machine.specs.Places.{after_call}
 use Rattle.wef_machine.specs.Printed.{fate_word, fault_answer}
-use Rattle.wef_machine.specs.States.{Collector, host}
-use Rattle.wef_machine.specs.declared.arming.Fate.{Fate}
+use Rattle.wef_machine.specs.States.{Collector, State, host, with_message}
+use Rattle.wef_machine.specs.declared.arming.Fate as the_fate
+use Rattle.wef_machine.specs.declared.arming.Fate.TheVariants as fates
 use Rattle.wef_machine.specs.declared.messages.Message.{Message}
 use Rattle.wef_machine.specs.declared.messages.Message.TheVariants as sent
 use Rattle.wef_source.specs.declared.messages.Delivery.{Delivery}
-use Rattle.wef_world.specs.declared.deliveries.Outcome.{Outcome}
-use Rattle.wef_world.specs.declared.deliveries.Outcome.TheVariants.{Committed, Refused}
+use Rattle.wef_source.specs.declared.messages.Reply.{Reply}
+use Rattle.wef_source.specs.declared.messages.Reply.TheVariants as replies
 use Rattle.wef_world.specs.declared.deliveries.Taken.{Taken}
+use Rattle.wef_world.specs.declared.places.Called.{Called}
+use Rattle.wef_world.specs.declared.places.Called.TheVariants.{Done, Broken, Refused}
+use Rattle.wef_world.specs.declared.places.Used.{Used}
+use Rattle.wef_world.specs.declared.places.Used.TheVariants.{Closed, Answered}
 
--- A batch with this effect came to its commit, which went as armed, or was refused.
-abbrev pub OutcomeAs : Collector → BatchEffect → Outcome → Type 0
-OutcomeAs c (Ok changes) (Committed how) = how ≡ fate c.armed changes
-OutcomeAs c (Err fault) (Refused refused) = refused ≡ fault
-OutcomeAs c effect outcome = ⊥
+-- the fault that answers a batch which the collector refuses
+abbrev pub batch_fault : the_fault.CollectorFault → FaultName
+batch_fault NotWellFormed = InvalidMessage
+batch_fault _ = DestinationUnreachable
 
--- A batch was refused with this fault.
-abbrev pub RefusesAs : FaultName → Outcome → Type 0
-RefusesAs fault (Committed how) = ⊥
-RefusesAs fault (Refused refused) = refused ≡ fault
+-- what became of a batch, as it is answered
+abbrev pub answered_batch : Used (Called Unit the_fault.CollectorFault) → Used (Called Unit FaultName)
+answered_batch (Closed how) = Closed how
+answered_batch (Answered (Done answer)) = Answered (Done answer)
+answered_batch (Answered (Broken how)) = Answered (Broken how)
+answered_batch (Answered (Refused fault)) = Answered (Refused (batch_fault fault))
 
--- the word for what became of it
-abbrev pub outcome_word : Outcome → Batch → List ℕ
-outcome_word (Committed how) batch = batch_word batch how
-outcome_word (Refused fault) batch = fault_answer fault
+-- the fault that answers a batch whose address leads to no subscription, or to no source
+abbrev pub refusal_at : Rows → Option (List ℕ) → FaultName
+refusal_at rows None = DestinationUnreachable
+refusal_at rows (Some u) = sourceless (standing rows u)
 
--- the collector's answer
-abbrev pub answer_of : List ℕ → Delivery → Outcome → Option Message
-answer_of s delivery (Committed how) = answer_by how s delivery
-answer_of s delivery (Refused fault) = Some (sent.Fault s delivery.id fault)
+-- the word for what became of a batch
+abbrev pub broken_word : the_fate.Fate → List ℕ
+broken_word fates.Failed = fault_answer InternalError
+broken_word _ = codes "stopped"
 
--- the word and the answer of a collector, by the effect of the batch
+abbrev pub outcome_word : Used (Called Unit FaultName) → Batch → List ℕ
+outcome_word (Closed how) batch = fate_word how
+outcome_word (Answered (Done answer)) batch = batch_word batch fates.Done
+outcome_word (Answered (Broken how)) batch = broken_word how
+outcome_word (Answered (Refused fault)) batch = fault_answer fault
+
+-- what the collector answers to it: nobody answers where it was stopped
+abbrev pub broken_reply : the_fate.Fate → Option Reply
+broken_reply fates.Failed = Some (replies.Fault InternalError)
+broken_reply _ = None
+
+abbrev pub reply_to : Used (Called Unit FaultName) → Batch → Option Reply
+reply_to (Closed how) batch = None
+reply_to (Answered (Done answer)) batch = if batch.ack_wanted then Some replies.Ack else None
+reply_to (Answered (Broken how)) batch = broken_reply how
+reply_to (Answered (Refused fault)) batch = Some (replies.Fault fault)
+
+-- the message that is a reply to a request
+abbrev pub reply_message : List ℕ → MessageId → MessageId → Reply → Message
+reply_message s id relates replies.Ack = sent.Ack s id relates
+reply_message s id relates (replies.Fault fault) = sent.Fault s id relates fault
+
+-- a collector that runs sends it, with an id that it draws for it
+abbrev pub sent_by : List ℕ → MessageId → Option Reply → Option Ids → Option Message
+sent_by s relates None memory = None
+sent_by s relates (Some reply) None = None
+sent_by s relates (Some reply) (Some ids) = Some (reply_message s (reply_id ids) relates reply)
+
+abbrev pub drawn_for : {A : Type 0} → Option A → Collector → Collector
+drawn_for None c = c
+drawn_for (Some answer) c = draws 1 c
+
+-- what a collector that can't be opened makes of a message: no answer
+abbrev pub closed_of : the_fate.Fate → Taken
+closed_of how = record { word = fate_word how; answer = None }
+
+-- what the collector makes of an ask, and is then
+abbrev pub asked_by : Collector → List ℕ → MessageId → Option Ids → Taken
+asked_by c s id None = closed_of (collector_opening c)
+asked_by c s id (Some ids) = record { word = codes "offers"; answer = Some (sent.Offers s (reply_id ids) id (offers (collector_opened c).rows s host)) }
+
+abbrev pub asked_of : Collector → List ℕ → MessageId → Taken
+asked_of c s id = asked_by c s id (collector_opened c).memory
+
+abbrev pub asked_left_by : Collector → List ℕ → Option Ids → Collector
+asked_left_by c s None = collector_opened c
+asked_left_by c s (Some ids) = draws (length (offers (collector_opened c).rows s host) + 1) (collector_opened c)
+
+abbrev pub asked_left : Collector → List ℕ → Collector
+asked_left c s = asked_left_by c s (collector_opened c).memory
+
+-- the word and the answer of an open collector, by the effect of a batch
 abbrev pub word_for : Collector → BatchEffect → Batch → List ℕ
 word_for c (Ok changes) batch = batch_word batch (fate c.armed changes)
 word_for c (Err fault) batch = fault_answer fault
 
-abbrev pub answer_for : Collector → BatchEffect → List ℕ → Delivery → Option Message
-answer_for c (Ok changes) s delivery = answer_by (fate c.armed changes) s delivery
-answer_for c (Err fault) s delivery = Some (sent.Fault s delivery.id fault)
+abbrev pub answer_for : Collector → BatchEffect → List ℕ → MessageId → Delivery → Option Message
+answer_for c (Ok changes) s id delivery = answer_by (fate c.armed changes) s id delivery
+answer_for c (Err fault) s id delivery = Some (sent.Fault s id delivery.id fault)
 
--- what a collector that can't be opened makes of a message: no answer
-abbrev pub closed_of : Fate → Taken
-closed_of how = record { word = fate_word how; answer = None }
+-- what the collector makes of a delivery with this effect, by how its opening went, and is then
+abbrev pub events_by : the_fate.Fate → Collector → List ℕ → Delivery → BatchEffect → Option Ids → Taken
+events_by how c s delivery effect None = closed_of how
+events_by how c s delivery effect (Some ids) = record { word = word_for c effect delivery.batch; answer = answer_for c effect s (reply_id ids) delivery }
 
--- what the collector makes of an ask
-abbrev pub asked_of : Collector → List ℕ → MessageId → Taken
-asked_of c s id =
-    if is_done (opening c) then record { word = codes "offers"; answer = Some (sent.Offers s id (offers (opened c).rows s host)) }
-    else closed_of (opening c)
+abbrev pub events_of : Collector → List ℕ → Delivery → ℕ → Taken
+events_of c s delivery now =
+    events_by (collector_opening c) (collector_opened c) s delivery (delivery_effect (collector_opened c).rows delivery now) (collector_opened c).memory
 
--- what a running collector makes of a delivery
-abbrev pub events_taken : Collector → List ℕ → Delivery → Taken
-events_taken c s delivery = record {
-  word = word_for c (delivery_effect c.rows delivery) delivery.batch;
-  answer = answer_for c (delivery_effect c.rows delivery) s delivery;
-}
+abbrev pub events_left_by : Collector → List ℕ → Delivery → BatchEffect → Option Ids → Collector
+events_left_by c s delivery effect None = c
+events_left_by c s delivery effect (Some ids) = drawn_for (answer_for c effect s (reply_id ids) delivery) (after_call c effect)
 
--- what the collector makes of one, opened first
-abbrev pub events_of : Collector → List ℕ → Delivery → Taken
-events_of c s delivery = if is_done (opening c) then events_taken (opened c) s delivery else closed_of (opening c)
+abbrev pub events_left : Collector → List ℕ → Delivery → ℕ → Collector
+events_left c s delivery now =
+    events_left_by (collector_opened c) s delivery (delivery_effect (collector_opened c).rows delivery now) (collector_opened c).memory
 
--- the collector after it
-abbrev pub events_collector : Collector → Delivery → Collector
-events_collector c delivery = if is_done (opening c) then after_call (opened c) (delivery_effect (opened c).rows delivery) else opened c
+-- a world in which the answer is sent
+abbrev pub with_told : State → Option Message → State
+with_told state None = state
+with_told state (Some message) = with_message state message

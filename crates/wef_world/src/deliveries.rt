@@ -1,36 +1,37 @@
 //! Deliveries of messages.
 
-ghost use Rattle.std.specs.Prelude.{◌≡◌, ◌-◌, ◌==◌, true, slice_get, if◌then◌else◌, IfOk, OnOk};
+ghost use Rattle.std.specs.Prelude.{◌≡◌, ◌+◌, ◌-◌, ◌==◌, length, slice_get, Some, Err, if◌then◌else◌, IfOk, OnOk};
 ghost use Rattle.std.specs.FinMap as map;
 ghost use Rattle.std.specs.Option.{option_copied};
-ghost use Rattle.wef_batch.specs.declared.items.Batch.{Batch};
 ghost use Rattle.wef_collector_rows.specs.Forms.{AreFormed};
 ghost use Rattle.wef_collector.specs.Offers.{offers};
-ghost use Rattle.wef_collector_rows.specs.Standing.{standing};
+ghost use Rattle.wef_envelope.specs.Ids.{with_drawn};
 ghost use Rattle.wef_machine.specs.Collecting as collecting;
 ghost use Rattle.wef_machine.specs.Deliveries as steps;
 ghost use Rattle.wef_machine.specs.Kept.{IsKept};
 ghost use Rattle.wef_machine.specs.Printed as texts;
 ghost use Rattle.wef_machine.specs.States as states;
 ghost use Rattle.wef_machine.specs.declared.messages.Message.TheVariants.{Offers};
-ghost use Rattle.wef_source.specs.declared.messages.Reply.TheVariants as replies;
+ghost use Rattle.wef_world.specs.Collected.{collector_of};
 ghost use Rattle.wef_world.specs.Outcomes as outcomes;
+ghost use Rattle.wef_world.specs.Places as places;
 ghost use Rattle.wef_world.specs.Slots as slots;
 
-use crate::arms::Arms;
-use crate::collector_side::{Called, CollectorSide};
-use crate::ends::{Ends, MOMENT};
+use crate::collecting::{self, Call, CollectorPlace};
+use crate::ends::Ends;
 use crate::faults::WorldFault;
+use crate::places::{Called, Used};
 use crate::printing::{
     adopted_word, answered_line, fate_word, fault_answer, no_message_line, took_line,
 };
-use crate::sources::{Sources, open_source};
+use crate::sources::Sources;
 use std::alloc::{AllocError, Global};
 use wef_base::{List, SourceName, SubId, Text};
 use wef_batch::Batch;
-use wef_collector::CollectorFault;
+use wef_collector::{Collector, CollectorFault};
 use wef_envelope::{FaultName, MessageId};
 use wef_eventing::{Offer, source_in, subscription_in};
+use wef_keeper::MemKeeper;
 use wef_machine::{Fate, Message};
 use wef_source::{Delivery, Reply};
 
@@ -38,13 +39,7 @@ use wef_source::{Delivery, Reply};
 const HOST: &str = "collector:5985";
 
 /// What became of a batch that was given to the collector.
-#[derive(Drop)]
-pub enum Outcome {
-    /// It came to its commit, which went so.
-    Committed(Fate),
-    /// It isn't kept, for this fault.
-    Refused(FaultName),
-}
+pub type TakenBatch = Used<Called<(), FaultName>>;
 
 impl Ends {
     /// The number of the message that so many messages, counted round, came behind. 0 where none was
@@ -61,13 +56,12 @@ impl Ends {
     }
 
     /// Delivers the message of a number.
-    #[tactic(auto, using(crate::proofs::Takings::asked_state, crate::proofs::Takings::asked_text, crate::proofs::Takings::events_state, crate::proofs::Takings::events_text))]
     pub(crate) fn deliver(&mut self, number: u64) -> Result<Text, WorldFault>
         requires kept { IsKept self.old }
         ensures state { OnOk result (self.new ≡ steps.deliver_step self.old number) }
         ensures printed { IfOk result (λ text. text ≡ steps.deliver_printed self.old number) }
     {
-        let alloc = self.alloc;
+        let (alloc, now) = (self.alloc, self.moment);
         let Some(message) = message_at(self.messages.as_slice(), number) else {
             return Ok(no_message_line(alloc, number)?);
         };
@@ -77,30 +71,34 @@ impl Ends {
                 self.tell(number, taken)
             }
             Message::Events { source, delivery } => {
-                let taken = take_events(alloc, &mut self.collector, source, delivery)?;
+                let taken = take_events(alloc, &mut self.collector, source, delivery, now)?;
                 self.tell(number, taken)
             }
             Message::Offers {
                 source,
+                id: _,
                 relates,
                 offers,
             } => {
-                let (sources, arms) = (&mut self.sources, &mut self.arms);
-                let word = give_offers(alloc, sources, arms, source, relates, offers)?;
+                let word = give_offers(alloc, &mut self.sources, source, relates, offers, now)?;
                 took(alloc, number, word)
             }
-            Message::Ack { source, relates } => {
-                let (sources, arms) = (&mut self.sources, &mut self.arms);
-                let word = give_ack(alloc, sources, arms, source, relates)?;
+            Message::Ack {
+                source,
+                id: _,
+                relates,
+            } => {
+                let word = give_reply(alloc, &mut self.sources, source, relates, &Reply::Ack)?;
                 took(alloc, number, word)
             }
             Message::Fault {
                 source,
+                id: _,
                 relates,
                 name,
             } => {
-                let (sources, arms) = (&mut self.sources, &mut self.arms);
-                let word = give_fault(alloc, sources, arms, source, relates, name)?;
+                let reply = Reply::Fault(name.clone()?);
+                let word = give_reply(alloc, &mut self.sources, source, relates, &reply)?;
                 took(alloc, number, word)
             }
         }
@@ -108,7 +106,7 @@ impl Ends {
 
     /// Tells what the collector made of a message, and sends its answer, where there is one.
     fn tell(&mut self, number: u64, taken: Taken) -> Result<Text, WorldFault>
-        ensures state { OnOk result (self.new ≡ steps.with_answer self.old taken.answer) }
+        ensures state { OnOk result (self.new ≡ outcomes.with_told self.old taken.answer) }
         ensures printed { IfOk result (λ text. text ≡ steps.took_text number taken.word taken.answer (states.next_number self.old)) }
     {
         let Taken { word, answer } = taken;
@@ -134,58 +132,45 @@ struct Taken {
 /// Lets the collector take an ask of a source.
 fn take_ask(
     alloc: Global,
-    collector: &mut CollectorSide,
+    collector: &mut CollectorPlace,
     source: &SourceName,
     id: &MessageId,
 ) -> Result<Taken, WorldFault>
-    requires formed { AreFormed collector.old.rows }
-    ensures collector { OnOk result (collector.new ≡ collecting.opened collector.old) }
-    ensures taken { IfOk result (λ taken. taken ≡ outcomes.asked_of collector.old source.now id.now) }
+    requires formed { AreFormed (collector_of collector.old).rows }
+    ensures collector { OnOk result (collector_of collector.new ≡ outcomes.asked_left (collector_of collector.old) source.now) }
+    ensures taken { IfOk result (λ taken. taken ≡ outcomes.asked_of (collector_of collector.old) source.now id.now) }
 {
-    match collector.open(alloc)? {
-        Fate::Done => Ok(Taken {
-            word: Text::from_str(alloc, "offers")?,
-            answer: Some(answer_to_ask(alloc, collector, source, id)?),
-        }),
-        fate => closed(alloc, fate),
-    }
+    let fate = collecting::open(collector, alloc)?;
+    let Some(running) = collector.running() else {
+        return Ok(Taken {
+            word: Text::from_str(alloc, fate_word(fate))?,
+            answer: None,
+        });
+    };
+    let answer = answer_to_ask(alloc, running, source, id)?;
+    Ok(Taken {
+        word: Text::from_str(alloc, "offers")?,
+        answer: Some(answer),
+    })
 }
 
-/// Lets the collector take a delivery of a source.
+/// Lets the collector take a delivery of a source, at a moment.
 fn take_events(
     alloc: Global,
-    collector: &mut CollectorSide,
+    collector: &mut CollectorPlace,
     source: &SourceName,
     delivery: &Delivery,
+    now: u64,
 ) -> Result<Taken, WorldFault>
-    requires formed { AreFormed collector.old.rows }
-    ensures collector { OnOk result (collector.new ≡ outcomes.events_collector collector.old delivery.now) }
-    ensures taken { IfOk result (λ taken. taken ≡ outcomes.events_of collector.old source.now delivery.now) }
+    requires formed { AreFormed (collector_of collector.old).rows }
+    ensures collector { OnOk result (collector_of collector.new ≡ outcomes.events_left (collector_of collector.old) source.now delivery.now now) }
+    ensures taken { IfOk result (λ taken. taken ≡ outcomes.events_of (collector_of collector.old) source.now delivery.now now) }
 {
-    match collector.open(alloc)? {
-        Fate::Done => take_events_open(alloc, collector, source, delivery),
-        fate => closed(alloc, fate),
-    }
-}
-
-/// Lets a running collector take a delivery of a source.
-#[tactic(auto, using(crate::proofs::CollectorOutcomes::answers_as, crate::proofs::CollectorOutcomes::words_for))]
-fn take_events_open(
-    alloc: Global,
-    collector: &mut CollectorSide,
-    source: &SourceName,
-    delivery: &Delivery,
-) -> Result<Taken, WorldFault>
-    requires runs { collector.old.runs ≡ true }
-    requires formed { AreFormed collector.old.rows }
-    ensures collector { OnOk result (collector.new ≡ collecting.after_call collector.old (steps.delivery_effect collector.old.rows delivery.now)) }
-    ensures taken { IfOk result (λ taken. taken ≡ outcomes.events_taken collector.old source.now delivery.now) }
-{
-    let outcome = take_delivery(collector, delivery)?;
-    Ok(Taken {
-        word: outcome_word(alloc, &outcome, &delivery.batch)?,
-        answer: answer_to_delivery(source, delivery, outcome)?,
-    })
+    let taken = take_delivery(collector, alloc, delivery, now)?;
+    let word = outcome_word(alloc, &taken, &delivery.batch)?;
+    let reply = reply_to(taken, &delivery.batch);
+    let answer = send_reply(collector, source, &delivery.id, &reply)?;
+    Ok(Taken { word, answer })
 }
 
 /// Tells what an end that doesn't answer made of a message, by the word for it.
@@ -193,16 +178,6 @@ fn took(alloc: Global, number: u64, word: Text) -> Result<Text, WorldFault>
     ensures { IfOk result (λ text. text ≡ texts.took_line number word) }
 {
     Ok(took_line(alloc, number, word.as_str())?)
-}
-
-/// What a collector that can't be opened makes of a message.
-fn closed(alloc: Global, fate: Fate) -> Result<Taken, WorldFault>
-    ensures { IfOk result (λ taken. taken ≡ outcomes.closed_of fate) }
-{
-    Ok(Taken {
-        word: Text::from_str(alloc, fate_word(fate))?,
-        answer: None,
-    })
 }
 
 /// The message of a number.
@@ -215,213 +190,272 @@ fn message_at(messages: &[Message], number: u64) -> Option<&Message>
     messages.get(number as usize - 1)
 }
 
-/// The collector's answer to an ask.
+/// The collector's answer to an ask. It draws an id for it, and one for each offer.
 fn answer_to_ask(
     alloc: Global,
-    collector: &mut CollectorSide,
+    collector: &mut Collector<MemKeeper>,
     source: &SourceName,
-    id: &MessageId,
+    relates: &MessageId,
 ) -> Result<Message, WorldFault>
-    requires runs { collector.old.runs ≡ true }
-    requires formed { AreFormed collector.old.rows }
-    ensures stays { collector.new ≡ collector.old }
-    ensures answer { IfOk result (λ answer. answer ≡ Offers source.now id.now (offers collector.old.rows source.now states.host)) }
+    requires formed { AreFormed collector.old.keeper.rows }
+    ensures rows { OnOk result (collector.new.keeper.rows ≡ collector.old.keeper.rows) }
+    ensures ids { OnOk result (collector.new.ids ≡ with_drawn (length (offers collector.old.keeper.rows source.now states.host) + 1) collector.old.ids) }
+    ensures answer { IfOk result (λ answer. answer ≡ Offers source.now (collecting.reply_id collector.old.ids) relates.now (offers collector.old.keeper.rows source.now states.host)) }
 {
     let host = Text::from_str(alloc, HOST)?;
     match collector.offers(source, &host) {
-        Ok(offers) => Ok(Message::Offers {
-            source: source.clone()?,
-            relates: id.clone()?,
-            offers,
-        }),
+        Ok(offers) => {
+            let id = draw(collector, offers.len())?;
+            Ok(Message::Offers {
+                source: source.clone()?,
+                id,
+                relates: relates.clone()?,
+                offers,
+            })
+        }
         Err(_) => Err(WorldFault::NoMemory),
     }
 }
 
-/// Lets a running collector take a delivery.
-fn take_delivery(collector: &mut CollectorSide, delivery: &Delivery) -> Result<Outcome, WorldFault>
-    requires runs { collector.old.runs ≡ true }
-    requires formed { AreFormed collector.old.rows }
-    ensures collector { OnOk result (collector.new ≡ collecting.after_call collector.old (steps.delivery_effect collector.old.rows delivery.now)) }
-    ensures outcome { IfOk result (outcomes.OutcomeAs collector.old (steps.delivery_effect collector.old.rows delivery.now)) }
+/// Draws the id of a reply, and so many more behind it.
+fn draw(collector: &mut Collector<MemKeeper>, more: usize) -> Result<MessageId, WorldFault>
+    ensures id { IfOk result (λ id. id ≡ collecting.reply_id collector.old.ids) }
+    ensures ids { OnOk result (collector.new.ids ≡ with_drawn (more + 1) collector.old.ids) }
+    ensures keeper { OnOk result (collector.new.keeper ≡ collector.old.keeper) }
 {
-    let Some(sub) = subscription_in(&delivery.notify_to)? else {
-        return Ok(Outcome::Refused(FaultName::DestinationUnreachable));
-    };
-    match source_in(&delivery.notify_to)? {
-        Some(source) => take_batch(collector, &sub, &source, &delivery.batch),
-        None => refuse_source(collector, &sub),
+    let id = draw_one(collector)?;
+    for _turn in 0..more {
+        drop(draw_one(collector)?);
+    }
+    Ok(id)
+}
+
+/// Draws an id.
+fn draw_one(collector: &mut Collector<MemKeeper>) -> Result<MessageId, WorldFault>
+    ensures id { IfOk result (λ id. id ≡ collecting.reply_id collector.old.ids) }
+    ensures ids { OnOk result (collector.new.ids ≡ with_drawn 1 collector.old.ids) }
+    ensures keeper { OnOk result (collector.new.keeper ≡ collector.old.keeper) }
+{
+    match collector.draw() {
+        Ok(id) => Ok(id),
+        Err(_) => Err(WorldFault::NoMemory),
     }
 }
 
-/// Lets a running collector take a batch of a source for a subscription.
+/// Lets the collector take a delivery, at a moment.
+fn take_delivery(
+    collector: &mut CollectorPlace,
+    alloc: Global,
+    delivery: &Delivery,
+    now: u64,
+) -> Result<TakenBatch, WorldFault>
+    requires formed { AreFormed (collector_of collector.old).rows }
+    ensures collector { OnOk result (collector_of collector.new
+        ≡ places.called_at (collecting.collector_opened (collector_of collector.old)) (λ rows. steps.delivery_effect rows delivery.now now)) }
+    ensures outcome { IfOk result (places.CameTo (collecting.collector_opening (collector_of collector.old)) (collecting.collector_opened (collector_of collector.old))
+        (λ rows. steps.delivery_effect rows delivery.now now) (λ _. tt)) }
+{
+    let sub = subscription_in(&delivery.notify_to)?;
+    match (sub, source_in(&delivery.notify_to)?) {
+        (Some(sub), Some(source)) => {
+            let batch = &delivery.batch;
+            take_batch(collector, alloc, &sub, &source, batch, now)
+        }
+        (sub, _) => refuse_address(collector, alloc, sub),
+    }
+}
+
+/// Lets the collector take a batch of a source for a subscription, at a moment.
 pub(crate) fn take_batch(
-    collector: &mut CollectorSide,
+    collector: &mut CollectorPlace,
+    alloc: Global,
     sub: &SubId,
     source: &SourceName,
     batch: &Batch,
-) -> Result<Outcome, WorldFault>
-    requires runs { collector.old.runs ≡ true }
-    requires formed { AreFormed collector.old.rows }
-    ensures collector { OnOk result (collector.new ≡ collecting.after_call collector.old (steps.batch_effect collector.old.rows sub.now source.now batch.now)) }
-    ensures outcome { IfOk result (outcomes.OutcomeAs collector.old (steps.batch_effect collector.old.rows sub.now source.now batch.now)) }
+    now: u64,
+) -> Result<TakenBatch, WorldFault>
+    requires formed { AreFormed (collector_of collector.old).rows }
+    ensures collector { OnOk result (collector_of collector.new
+        ≡ places.called_at (collecting.collector_opened (collector_of collector.old)) (λ rows. steps.batch_effect rows sub.now source.now batch.now now)) }
+    ensures outcome { IfOk result (places.CameTo (collecting.collector_opening (collector_of collector.old)) (collecting.collector_opened (collector_of collector.old))
+        (λ rows. steps.batch_effect rows sub.now source.now batch.now now) (λ _. tt)) }
 {
-    match collector.take(sub, source, batch, MOMENT)? {
-        Called::Committed(fate) => Ok(Outcome::Committed(fate)),
-        Called::Refused(CollectorFault::NotWellFormed) => {
-            Ok(Outcome::Refused(FaultName::InvalidMessage))
+    let call = Call::Take {
+        sub,
+        source,
+        batch,
+        now,
+    };
+    let taken = collecting::make_call(collector, alloc, call)?;
+    Ok(answered_batch(taken))
+}
+
+/// What became of a batch, as it is answered.
+fn answered_batch(taken: Used<Called<(), CollectorFault>>) -> TakenBatch
+    ensures { result ≡ outcomes.answered_batch taken }
+{
+    match taken {
+        Used::Closed(fate) => Used::Closed(fate),
+        Used::Answered(Called::Done(())) => Used::Answered(Called::Done(())),
+        Used::Answered(Called::Broken(fate)) => Used::Answered(Called::Broken(fate)),
+        Used::Answered(Called::Refused(CollectorFault::NotWellFormed)) => {
+            Used::Answered(Called::Refused(FaultName::InvalidMessage))
         }
-        Called::Refused(_) => Ok(Outcome::Refused(FaultName::DestinationUnreachable)),
+        Used::Answered(Called::Refused(_)) => {
+            Used::Answered(Called::Refused(FaultName::DestinationUnreachable))
+        }
     }
 }
 
-/// Why a batch of no source isn't kept.
-fn refuse_source(collector: &mut CollectorSide, sub: &SubId) -> Result<Outcome, WorldFault>
-    requires runs { collector.old.runs ≡ true }
-    requires formed { AreFormed collector.old.rows }
-    ensures stays { collector.new ≡ collector.old }
-    ensures outcome { IfOk result (outcomes.RefusesAs (steps.sourceless (standing collector.old.rows sub.now))) }
+/// Why a batch isn't kept whose address leads to no subscription, or to no source.
+fn refuse_address(
+    collector: &mut CollectorPlace,
+    alloc: Global,
+    sub: Option<SubId>,
+) -> Result<TakenBatch, WorldFault>
+    requires formed { AreFormed (collector_of collector.old).rows }
+    ensures collector { OnOk result (collector_of collector.new ≡ collecting.collector_opened (collector_of collector.old)) }
+    ensures outcome { IfOk result (places.CameTo (collecting.collector_opening (collector_of collector.old)) (collecting.collector_opened (collector_of collector.old))
+        (λ rows. Err (outcomes.refusal_at rows sub)) (λ _. tt)) }
 {
-    match collector.state(sub) {
-        Ok(_) => Ok(Outcome::Refused(FaultName::InvalidMessage)),
+    let fate = collecting::open(collector, alloc)?;
+    let Some(running) = collector.running() else {
+        return Ok(Used::Closed(fate));
+    };
+    let Some(sub) = sub else {
+        return Ok(Used::Answered(Called::Refused(FaultName::DestinationUnreachable)));
+    };
+    match running.state(&sub) {
+        Ok(_) => Ok(Used::Answered(Called::Refused(FaultName::InvalidMessage))),
         Err(CollectorFault::NoMemory) => Err(WorldFault::NoMemory),
-        Err(_) => Ok(Outcome::Refused(FaultName::DestinationUnreachable)),
+        Err(_) => Ok(Used::Answered(Called::Refused(FaultName::DestinationUnreachable))),
     }
 }
 
 /// The word for what the collector made of a batch.
 pub(crate) fn outcome_word(
     alloc: Global,
-    outcome: &Outcome,
+    taken: &TakenBatch,
     batch: &Batch,
 ) -> Result<Text, AllocError>
-    ensures { IfOk result (λ word. word ≡ outcomes.outcome_word outcome.now batch.now) }
+    ensures { IfOk result (λ word. word ≡ outcomes.outcome_word taken.now batch.now) }
 {
-    match outcome {
-        Outcome::Refused(fault) => fault_answer(alloc, fault),
-        Outcome::Committed(Fate::Done) if batch.ack_wanted => Text::from_str(alloc, "ack"),
-        Outcome::Committed(Fate::Done) => Text::from_str(alloc, "quiet"),
-        Outcome::Committed(Fate::Failed) => fault_answer(alloc, &FaultName::InternalError),
-        Outcome::Committed(Fate::Stopped) => Text::from_str(alloc, "stopped"),
+    match taken {
+        Used::Closed(fate) => Text::from_str(alloc, fate_word(*fate)),
+        Used::Answered(Called::Done(())) if batch.ack_wanted => Text::from_str(alloc, "ack"),
+        Used::Answered(Called::Done(())) => Text::from_str(alloc, "quiet"),
+        Used::Answered(Called::Broken(Fate::Failed)) => {
+            fault_answer(alloc, &FaultName::InternalError)
+        }
+        Used::Answered(Called::Broken(_)) => Text::from_str(alloc, "stopped"),
+        Used::Answered(Called::Refused(fault)) => fault_answer(alloc, fault),
     }
 }
 
 /// The collector's answer to a delivery, where there is one.
-fn answer_to_delivery(
-    source: &SourceName,
-    delivery: &Delivery,
-    outcome: Outcome,
-) -> Result<Option<Message>, AllocError>
-    ensures { IfOk result (λ answer. answer ≡ outcomes.answer_of source.now delivery.now outcome) }
+fn reply_to(taken: TakenBatch, batch: &Batch) -> Option<Reply>
+    ensures { result ≡ outcomes.reply_to taken batch.now }
 {
-    let source = source.clone()?;
-    let relates = delivery.id.clone()?;
-    let name = match outcome {
-        Outcome::Refused(name) => name,
-        Outcome::Committed(Fate::Failed) => FaultName::InternalError,
-        Outcome::Committed(Fate::Done) if delivery.batch.ack_wanted => {
-            return Ok(Some(Message::Ack { source, relates }));
+    match taken {
+        Used::Closed(_) => None,
+        Used::Answered(Called::Done(())) if batch.ack_wanted => Some(Reply::Ack),
+        Used::Answered(Called::Done(())) => None,
+        Used::Answered(Called::Broken(Fate::Failed)) => {
+            Some(Reply::Fault(FaultName::InternalError))
         }
-        Outcome::Committed(_) => return Ok(None),
-    };
-    Ok(Some(Message::Fault {
-        source,
-        relates,
-        name,
-    }))
-}
-
-/// Gives offers to a source. Answers the word for what became of them.
-fn give_offers(
-    alloc: Global,
-    sources: &mut Sources,
-    arms: &mut Arms,
-    source: &SourceName,
-    relates: &MessageId,
-    offers: &List<Offer>,
-) -> Result<Text, WorldFault>
-    requires { slots.IsFormedAt (map.get sources.old source.now) }
-    ensures sources { OnOk result (sources.new ≡ slots.sources_changed sources.old arms.old source.now (λ end. steps.after_offers end relates.now offers.now)) }
-    ensures arms { OnOk result (arms.new ≡ slots.arms_opened sources.old arms.old source.now) }
-    ensures word { IfOk result (λ word. word ≡ slots.word_at sources.old arms.old source.now (λ end. steps.offers_word end relates.now offers.now)) }
-{
-    match open_source(sources, arms, alloc, source)? {
-        Some(Fate::Done) => {
-            let Some(mut slot) = sources.take(source) else {
-                unreachable!()
-            };
-            let adopted = slot.adopt(relates, offers);
-            sources.put(source, slot)?;
-            let adopted = adopted?;
-            match adopted {
-                Some(number) => Ok(adopted_word(alloc, number)?),
-                None => Ok(Text::from_str(alloc, "not-asked")?),
-            }
-        }
-        Some(fate) => Ok(Text::from_str(alloc, fate_word(fate))?),
-        None => Ok(Text::from_str(alloc, "not-asked")?),
+        Used::Answered(Called::Broken(_)) => None,
+        Used::Answered(Called::Refused(name)) => Some(Reply::Fault(name)),
     }
 }
 
-/// Gives a source the acknowledgement of a delivery. Answers the word for what became of it.
-fn give_ack(
-    alloc: Global,
-    sources: &mut Sources,
-    arms: &mut Arms,
+/// The message that is the collector's reply to a request, where it runs and answers. It draws an id
+/// for it.
+fn send_reply(
+    collector: &mut CollectorPlace,
     source: &SourceName,
     relates: &MessageId,
-) -> Result<Text, WorldFault>
-    requires { slots.IsFormedAt (map.get sources.old source.now) }
-    ensures sources { OnOk result (sources.new ≡ slots.sources_changed sources.old arms.old source.now (λ end. steps.after_ack end relates.now)) }
-    ensures arms { OnOk result (arms.new ≡ slots.arms_opened sources.old arms.old source.now) }
-    ensures word { IfOk result (λ word. word ≡ slots.word_at sources.old arms.old source.now (λ end. slots.reply_word end relates.now replies.Ack)) }
+    reply: &Option<Reply>,
+) -> Result<Option<Message>, WorldFault>
+    ensures collector { OnOk result (collector_of collector.new ≡ outcomes.drawn_for reply.now (collector_of collector.old)) }
+    ensures answer { IfOk result (λ answer. answer ≡ outcomes.sent_by source.now relates.now reply.now (collector_of collector.old).memory) }
 {
-    give_reply(alloc, sources, arms, source, relates, &Reply::Ack)
+    let Some(reply) = reply else {
+        return Ok(None);
+    };
+    let Some(running) = collector.running() else {
+        return Ok(None);
+    };
+    let id = draw(running, 0)?;
+    Ok(Some(reply_message(source, id, relates, reply)?))
 }
 
-/// Gives a source the fault that answers a delivery. Answers the word for what became of it.
-fn give_fault(
+/// The message that is a reply to a request.
+fn reply_message(
+    source: &SourceName,
+    id: MessageId,
+    relates: &MessageId,
+    reply: &Reply,
+) -> Result<Message, AllocError>
+    ensures { IfOk result (λ message. message ≡ outcomes.reply_message source.now id relates.now reply.now) }
+{
+    let source = source.clone()?;
+    let relates = relates.clone()?;
+    match reply {
+        Reply::Ack => Ok(Message::Ack {
+            source,
+            id,
+            relates,
+        }),
+        Reply::Fault(name) => Ok(Message::Fault {
+            source,
+            id,
+            relates,
+            name: name.clone()?,
+        }),
+    }
+}
+
+/// Gives offers to a source, at a moment. Answers the word for what became of them.
+fn give_offers(
     alloc: Global,
     sources: &mut Sources,
-    arms: &mut Arms,
     source: &SourceName,
     relates: &MessageId,
-    name: &FaultName,
+    offers: &List<Offer>,
+    now: u64,
 ) -> Result<Text, WorldFault>
     requires { slots.IsFormedAt (map.get sources.old source.now) }
-    ensures sources { OnOk result (sources.new ≡ slots.sources_changed sources.old arms.old source.now (λ end. steps.after_fault end relates.now name.now)) }
-    ensures arms { OnOk result (arms.new ≡ slots.arms_opened sources.old arms.old source.now) }
-    ensures word { IfOk result (λ word. word ≡ slots.word_at sources.old arms.old source.now (λ end. slots.reply_word end relates.now (replies.Fault name.now))) }
+    ensures sources { OnOk result (sources.new ≡ slots.given_to sources.old source.now (λ end. steps.after_offers end relates.now offers.now now)) }
+    ensures word { IfOk result (λ word. word ≡ slots.word_at sources.old source.now (λ end. steps.offers_word end relates.now offers.now now)) }
 {
-    let reply = Reply::Fault(name.clone()?);
-    give_reply(alloc, sources, arms, source, relates, &reply)
+    let Some(slot) = sources.slot_mut(source) else {
+        return Ok(Text::from_str(alloc, "not-asked")?);
+    };
+    match slot.adopt(alloc, relates, offers, now)? {
+        Used::Closed(fate) => Ok(Text::from_str(alloc, fate_word(fate))?),
+        Used::Answered(Some(number)) => Ok(adopted_word(alloc, number)?),
+        Used::Answered(None) => Ok(Text::from_str(alloc, "not-asked")?),
+    }
 }
 
 /// Gives a source the answer to a delivery. Answers the word for what became of it.
 fn give_reply(
     alloc: Global,
     sources: &mut Sources,
-    arms: &mut Arms,
     source: &SourceName,
     relates: &MessageId,
     reply: &Reply,
 ) -> Result<Text, WorldFault>
     requires { slots.IsFormedAt (map.get sources.old source.now) }
-    ensures sources { OnOk result (sources.new ≡ slots.sources_changed sources.old arms.old source.now (λ end. slots.after_reply end relates.now reply.now)) }
-    ensures arms { OnOk result (arms.new ≡ slots.arms_opened sources.old arms.old source.now) }
-    ensures word { IfOk result (λ word. word ≡ slots.word_at sources.old arms.old source.now (λ end. slots.reply_word end relates.now reply.now)) }
+    ensures sources { OnOk result (sources.new ≡ slots.given_to sources.old source.now (λ end. slots.after_reply end relates.now reply.now)) }
+    ensures word { IfOk result (λ word. word ≡ slots.word_at sources.old source.now (λ end. slots.reply_word end relates.now reply.now)) }
 {
-    match open_source(sources, arms, alloc, source)? {
-        Some(Fate::Done) => {
-            let Some(mut slot) = sources.take(source) else {
-                unreachable!()
-            };
-            let waits = slot.hear(relates, reply);
-            sources.put(source, slot)?;
-            Ok(Text::from_str(alloc, heard_word(waits, reply))?)
-        }
-        Some(fate) => Ok(Text::from_str(alloc, fate_word(fate))?),
-        None => Ok(Text::from_str(alloc, "not-asked")?),
+    let Some(slot) = sources.slot_mut(source) else {
+        return Ok(Text::from_str(alloc, "not-asked")?);
+    };
+    match slot.hear(alloc, relates, reply)? {
+        Used::Closed(fate) => Ok(Text::from_str(alloc, fate_word(fate))?),
+        Used::Answered(waits) => Ok(Text::from_str(alloc, heard_word(waits, reply))?),
     }
 }
 

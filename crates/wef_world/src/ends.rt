@@ -7,14 +7,14 @@ ghost use Rattle.wef_machine.specs.Printed as texts;
 ghost use Rattle.wef_machine.specs.States as states;
 ghost use Rattle.wef_machine.specs.Steps as steps;
 ghost use Rattle.wef_collector_rows.specs.Forms.{AreFormed};
-ghost use Rattle.wef_world.specs.Called as called;
+ghost use Rattle.wef_world.specs.Collected as collected;
 ghost use Rattle.wef_replay.specs.Good.{allows, has_end, is_among};
 
-use crate::arms::Arms;
-use crate::collector_side::{Called, CollectorSide};
+use crate::collecting::{self, Call, CollectorPlace};
 use crate::deliveries::{outcome_word, take_batch};
 use crate::faults::WorldFault;
-use crate::printing::{batch_line, fate_line, fate_word, held_text, name_line};
+use crate::places::{Called, Placed, Used};
+use crate::printing::{batch_line, fate_line, held_text, name_line};
 use crate::slots::Capacity;
 use crate::sources::Sources;
 use std::alloc::{AllocError, Global};
@@ -24,28 +24,24 @@ use wef_base::{ChannelName, List, SourceName, SubId, Text};
 use wef_batch::Batch;
 use wef_collector::CollectorFault;
 use wef_eventing::{SubKind, Subscription};
-use wef_machine::{Armed, Fate, Message};
+use wef_machine::{Armed, Message};
 use wef_query::QueryList;
 use wef_replay::{EndName, Line, is_line};
-
-/// The moment of every line.
-pub(crate) const MOMENT: u64 = 0;
 
 /// The collector's name in what is printed.
 pub(crate) const COLLECTOR: &str = "collector";
 
-/// A collector and sources, at the moment 0, and all messages that they ever sent each other.
+/// A collector and sources, at a moment, and all messages that they ever sent each other.
 #[derive(Drop)]
 pub struct Ends {
-    pub(crate) collector: CollectorSide,
+    pub(crate) collector: CollectorPlace,
     /// The sources that `batch` lines named.
     pub(crate) foreign: BTreeSet<SourceName>,
     /// The sources that `source` lines declared.
     pub(crate) sources: Sources,
-    /// What is armed in the sources' stores.
-    pub(crate) arms: Arms,
     /// A message's number is its place, counted from 1.
     pub(crate) messages: List<Message>,
+    pub(crate) moment: u64,
     pub(crate) alloc: Global,
 }
 
@@ -53,22 +49,24 @@ impl Model for Ends {
     ghost use Rattle.std.specs.Prelude.{ℕ, List, refl};
     ghost use Rattle.std.specs.Coded.{code_by, coded_ℕ, coded_list, coded×};
     ghost use Rattle.std.specs.FinMap as map;
-    ghost use Rattle.wef_machine.specs.States.{Arms, Collector, Slots, State};
-    ghost use Rattle.wef_machine.specs.contracts.arming.Armed as armed;
+    ghost use Rattle.wef_envelope.specs.contracts.ids.Ids as ids;
+    ghost use Rattle.wef_machine.specs.States.{Collector, Slots, State};
     ghost use Rattle.wef_machine.specs.contracts.messages.Message as message;
     ghost use Rattle.wef_machine.specs.declared.messages.Message.{Message};
-    ghost use Rattle.wef_world.specs.contracts.collector_side.CollectorSide as side;
+    ghost use Rattle.wef_world.specs.Codes.{coded_place};
     ghost use Rattle.wef_world.specs.contracts.slots.Slot as slot;
 
     ghost Value = { State };
 
-    ghost coded = { code_by ((Collector × List (List ℕ)) × (Slots × (Arms × List Message)))
-        (coded× (coded× side.the_row.coded (coded_list (coded_list coded_ℕ)))
-        (coded× (map.code (coded_list coded_ℕ) slot.the_row.coded) (coded× (map.code (coded_list coded_ℕ) armed.the_row.coded) (coded_list message.the_row.coded))))
-        (λ s. ((s.collector, s.foreign), (s.sources, (s.arms, s.messages))))
-        (λ p. record { collector = p.0.0; foreign = p.0.1; sources = p.1.0; arms = p.1.1.0; messages = p.1.1.1 }) (λ _. refl) };
+    ghost coded = { code_by ((Collector × List (List ℕ)) × (Slots × (List Message × ℕ)))
+        (coded× (coded× (coded_place ids.the_row.coded) (coded_list (coded_list coded_ℕ)))
+        (coded× (map.code (coded_list coded_ℕ) slot.the_row.coded) (coded× (coded_list message.the_row.coded) coded_ℕ)))
+        (λ s. ((s.collector, s.foreign), (s.sources, (s.messages, s.moment))))
+        (λ p. record { collector = p.0.0; foreign = p.0.1; sources = p.1.0; messages = p.1.1.0; moment = p.1.1.1 }) (λ _. refl) };
 
-    ghost view = { λ w. record { collector = w.collector; foreign = w.foreign.keys; sources = w.sources; arms = w.arms; messages = w.messages } };
+    ghost use Rattle.wef_world.specs.Collected.{collector_of};
+
+    ghost view = { λ w. record { collector = collector_of w.collector; foreign = w.foreign.keys; sources = w.sources; messages = w.messages; moment = w.moment } };
 }
 
 impl Ends {
@@ -77,11 +75,11 @@ impl Ends {
         ensures { result ≡ states.start }
     {
         Ends {
-            collector: CollectorSide::new(alloc),
+            collector: Placed::new(alloc),
             foreign: BTreeSet::new(alloc),
             sources: Sources::new(alloc),
-            arms: Arms::new(alloc),
             messages: List::new(alloc),
+            moment: 0,
             alloc,
         }
     }
@@ -98,12 +96,12 @@ impl Ends {
         ensures { result ≡ allows (states.names_of self.now) line.now }
     {
         match line {
-            Line::Batch { source, .. } => !self.has_declared(source),
-            Line::Source { source, .. } => !self.has_declared(source) && !self.has_foreign(source),
-            Line::Write { source, .. } => self.has_declared(source),
-            Line::Ask { source } => self.has_declared(source),
-            Line::Poll { source, .. } => self.has_declared(source),
-            Line::Lost { source, .. } => self.has_declared(source),
+            Line::Batch { source, .. } => !self.sources.has(source),
+            Line::Source { source, .. } => !self.sources.has(source) && !self.has_foreign(source),
+            Line::Write { source, .. } => self.sources.has(source),
+            Line::Ask { source } => self.sources.has(source),
+            Line::Poll { source, .. } => self.sources.has(source),
+            Line::Lost { source, .. } => self.sources.has(source),
             Line::Crash { end } => self.has_end(end),
             Line::Fail { end, .. } => self.has_end(end),
             Line::Stop { end, .. } => self.has_end(end),
@@ -116,14 +114,8 @@ impl Ends {
     {
         match end {
             EndName::Collector => true,
-            EndName::Source(source) => self.has_declared(source),
+            EndName::Source(source) => self.sources.has(source),
         }
-    }
-
-    fn has_declared(&self, source: &SourceName) -> bool
-        ensures { result ≡ is_among (states.declared_names self.now) source.now }
-    {
-        self.sources.has(source)
     }
 
     fn has_foreign(&self, source: &SourceName) -> bool
@@ -154,7 +146,7 @@ impl Ends {
                 &batch.to_batch(self.alloc)?,
             ),
             Line::Source { source, capacity } => self.declare(source, Capacity::of(*capacity)),
-            Line::Write { source, event } => self.write(source, event),
+            Line::Write { source, event } => self.write_plain(source, event),
             Line::Ask { source } => self.ask(source),
             Line::Poll { source, sub } => self.poll(source, sub),
             Line::Deliver { number } => self.deliver(*number),
@@ -194,66 +186,36 @@ impl Ends {
         query: &QueryList,
     ) -> Result<Text, WorldFault>
         requires formed { AreFormed self.old.collector.rows }
-        ensures state { OnOk result (self.new ≡ collecting.at_collector self.old (steps.subscribe_at (steps.subscription_of sub.now items bytes beat query.now))) }
-        ensures printed { IfOk result (λ text. text ≡ collecting.print_at_collector self.old steps.closed_line (steps.subscribe_text (steps.subscription_of sub.now items bytes beat query.now))) }
+        ensures state { OnOk result (self.new ≡ collecting.at_collector self.old (λ ids. steps.subscribe_at (steps.subscription_of sub.now items bytes beat query.now))) }
+        ensures printed { IfOk result (λ text. text ≡ collecting.print_at_collector self.old steps.closed_line (λ ids. steps.subscribe_text (steps.subscription_of sub.now items bytes beat query.now))) }
     {
-        match self.collector.open(self.alloc)? {
-            Fate::Done => {
-                let subscription = subscription_of(self.alloc, sub, items, bytes, beat, query)?;
-                let text = self.add(&subscription);
-                drop(subscription);
-                text
-            }
-            fate => Ok(fate_line(self.alloc, fate, COLLECTOR)?),
-        }
-    }
-
-    fn add(&mut self, subscription: &Subscription) -> Result<Text, WorldFault>
-        requires runs { self.old.collector.runs ≡ true }
-        requires formed { AreFormed self.old.collector.rows }
-        ensures state { OnOk result (self.new ≡ steps.subscribe_at subscription.now self.old) }
-        ensures printed { IfOk result (λ text. text ≡ steps.subscribe_text subscription.now self.old) }
-    {
-        let called = self.collector.add(subscription)?;
-        Ok(added_line(self.alloc, subscription.name.as_text(), called)?)
+        let subscription = subscription_of(self.alloc, sub, items, bytes, beat, query)?;
+        let call = Call::Add(&subscription);
+        let added = collecting::make_call(&mut self.collector, self.alloc, call);
+        drop(subscription);
+        Ok(added_line(self.alloc, sub.as_text(), added?)?)
     }
 
     fn end(&mut self, sub: &SubId) -> Result<Text, WorldFault>
         requires formed { AreFormed self.old.collector.rows }
-        ensures state { OnOk result (self.new ≡ collecting.at_collector self.old (steps.end_at sub.now)) }
-        ensures printed { IfOk result (λ text. text ≡ collecting.print_at_collector self.old steps.closed_line (steps.end_text sub.now)) }
+        ensures state { OnOk result (self.new ≡ collecting.at_collector self.old (λ ids. steps.end_at sub.now)) }
+        ensures printed { IfOk result (λ text. text ≡ collecting.print_at_collector self.old steps.closed_line (λ ids. steps.end_text sub.now)) }
     {
-        match self.collector.open(self.alloc)? {
-            Fate::Done => self.finish(sub),
-            fate => Ok(fate_line(self.alloc, fate, COLLECTOR)?),
-        }
-    }
-
-    fn finish(&mut self, sub: &SubId) -> Result<Text, WorldFault>
-        requires runs { self.old.collector.runs ≡ true }
-        requires formed { AreFormed self.old.collector.rows }
-        ensures state { OnOk result (self.new ≡ steps.end_at sub.now self.old) }
-        ensures printed { IfOk result (λ text. text ≡ steps.end_text sub.now self.old) }
-    {
-        let called = self.collector.end(sub)?;
-        Ok(ended_line(self.alloc, sub.as_text(), called)?)
+        let ended = collecting::make_call(&mut self.collector, self.alloc, Call::End(sub))?;
+        Ok(ended_line(self.alloc, sub.as_text(), ended)?)
     }
 
     fn take(&mut self, sub: &SubId, source: &SourceName, batch: &Batch) -> Result<Text, WorldFault>
         requires formed { AreFormed self.old.collector.rows }
-        ensures state { OnOk result (self.new ≡ collecting.at_collector (states.with_foreign self.old source.now) (steps.batch_at sub.now source.now batch.now)) }
+        ensures state { OnOk result (self.new ≡ collecting.at_collector (states.with_foreign self.old source.now) (λ ids. steps.batch_at sub.now source.now batch.now)) }
         ensures printed { IfOk result (λ text. text
-            ≡ collecting.print_at_collector (states.with_foreign self.old source.now) (steps.closed_batch sub.now source.now) (steps.batch_line sub.now source.now batch.now)) }
+            ≡ collecting.print_at_collector (states.with_foreign self.old source.now) (steps.closed_batch sub.now source.now) (λ ids. steps.batch_line sub.now source.now batch.now)) }
     {
         self.note_foreign(source)?;
-        match self.collector.open(self.alloc)? {
-            Fate::Done => {
-                let outcome = take_batch(&mut self.collector, sub, source, batch)?;
-                let word = outcome_word(self.alloc, &outcome, batch)?;
-                Ok(batch_line(sub, source, word.as_str())?)
-            }
-            fate => Ok(batch_line(sub, source, fate_word(fate))?),
-        }
+        let (alloc, now) = (self.alloc, self.moment);
+        let taken = take_batch(&mut self.collector, alloc, sub, source, batch, now)?;
+        let word = outcome_word(alloc, &taken, batch)?;
+        Ok(batch_line(sub, source, word.as_str())?)
     }
 
     /// Keeps the name of a foreign source, unless it is there.
@@ -266,15 +228,16 @@ impl Ends {
 
     fn show(&mut self) -> Result<Text, WorldFault>
         requires formed { AreFormed self.old.collector.rows }
-        ensures state { OnOk result (self.new ≡ collecting.at_collector self.old steps.unchanged) }
-        ensures printed { IfOk result (λ text. text ≡ collecting.print_at_collector self.old steps.closed_line steps.show_text) }
+        ensures state { OnOk result (self.new ≡ collecting.at_collector self.old (λ ids. steps.unchanged)) }
+        ensures printed { IfOk result (λ text. text ≡ collecting.print_at_collector self.old steps.closed_line (λ ids. steps.show_text)) }
     {
-        match self.collector.open(self.alloc)? {
-            Fate::Done => match self.collector.report() {
-                Ok(text) => Ok(text),
-                Err(_) => Err(WorldFault::NoMemory),
-            },
-            fate => Ok(fate_line(self.alloc, fate, COLLECTOR)?),
+        let fate = collecting::open(&mut self.collector, self.alloc)?;
+        let Some(collector) = self.collector.running() else {
+            return Ok(fate_line(self.alloc, fate, COLLECTOR)?);
+        };
+        match collector.report() {
+            Ok(text) => Ok(text),
+            Err(_) => Err(WorldFault::NoMemory),
         }
     }
 
@@ -285,20 +248,17 @@ impl Ends {
         channel: &ChannelName,
     ) -> Result<Text, WorldFault>
         requires formed { AreFormed self.old.collector.rows }
-        ensures state { OnOk result (self.new ≡ collecting.at_collector self.old steps.unchanged) }
-        ensures printed { IfOk result (λ text. text ≡ collecting.print_at_collector self.old steps.closed_line (steps.print_text sub.now source.now channel.now)) }
+        ensures state { OnOk result (self.new ≡ collecting.at_collector self.old (λ ids. steps.unchanged)) }
+        ensures printed { IfOk result (λ text. text ≡ collecting.print_at_collector self.old steps.closed_line (λ ids. steps.print_text sub.now source.now channel.now)) }
     {
-        match self.collector.open(self.alloc)? {
-            Fate::Done => {
-                match held_text(self.alloc, &mut self.collector, sub, source, channel) {
-                    Ok(text) => Ok(text),
-                    Err(CollectorFault::NoSubscription) => {
-                        Ok(name_line("unknown", sub.as_text())?)
-                    }
-                    Err(_) => Err(WorldFault::NoMemory),
-                }
-            }
-            fate => Ok(fate_line(self.alloc, fate, COLLECTOR)?),
+        let fate = collecting::open(&mut self.collector, self.alloc)?;
+        let Some(collector) = self.collector.running() else {
+            return Ok(fate_line(self.alloc, fate, COLLECTOR)?);
+        };
+        match held_text(self.alloc, collector, sub, source, channel) {
+            Ok(text) => Ok(text),
+            Err(CollectorFault::NoSubscription) => Ok(name_line("unknown", sub.as_text())?),
+            Err(_) => Err(WorldFault::NoMemory),
         }
     }
 
@@ -308,12 +268,14 @@ impl Ends {
     {
         match end {
             EndName::Collector => {
-                self.collector.crash();
+                self.collector.crash(self.alloc);
                 let name = Text::from_str(self.alloc, COLLECTOR)?;
                 Ok(name_line("crashed", &name)?)
             }
             EndName::Source(source) => {
-                self.crash_source(source)?;
+                if let Some(slot) = self.sources.slot_mut(source) {
+                    slot.crash(self.alloc);
+                }
                 Ok(name_line("crashed", source.as_text())?)
             }
         }
@@ -325,7 +287,11 @@ impl Ends {
     {
         match end {
             EndName::Collector => self.collector.arm(Some(armed)),
-            EndName::Source(source) => self.arms.set(source, Some(armed))?,
+            EndName::Source(source) => {
+                if let Some(slot) = self.sources.slot_mut(source) {
+                    slot.arm(Some(armed));
+                }
+            }
         }
         Ok(Text::new(self.alloc))
     }
@@ -335,7 +301,7 @@ impl Ends {
         ensures printed { IfOk result (λ text. text ≡ []) }
     {
         self.collector.arm(None);
-        self.arms = Arms::new(self.alloc);
+        self.sources.calm();
         Ok(Text::new(self.alloc))
     }
 }
@@ -365,27 +331,41 @@ fn subscription_of(
 }
 
 /// What is printed of a call that adds a subscription.
-fn added_line(alloc: Global, name: &Text, answer: Called) -> Result<Text, AllocError>
-    ensures { IfOk result (λ text. text ≡ called.added_text name.now answer) }
+fn added_line(
+    alloc: Global,
+    name: &Text,
+    added: Used<Called<(), CollectorFault>>,
+) -> Result<Text, AllocError>
+    ensures { IfOk result (λ text. text ≡ collected.added_text name.now added) }
 {
-    match answer {
-        Called::Committed(Fate::Done) => name_line("added", name),
-        Called::Committed(fate) => fate_line(alloc, fate, COLLECTOR),
-        Called::Refused(CollectorFault::Exists) => name_line("exists", name),
-        Called::Refused(CollectorFault::TooMany) => Text::from_str(alloc, "full\n"),
-        Called::Refused(_) => Ok(Text::new(alloc)),
+    match added {
+        Used::Closed(fate) => fate_line(alloc, fate, COLLECTOR),
+        Used::Answered(Called::Done(())) => name_line("added", name),
+        Used::Answered(Called::Broken(fate)) => fate_line(alloc, fate, COLLECTOR),
+        Used::Answered(Called::Refused(CollectorFault::Exists)) => name_line("exists", name),
+        Used::Answered(Called::Refused(CollectorFault::TooMany)) => {
+            Text::from_str(alloc, "full\n")
+        }
+        Used::Answered(Called::Refused(_)) => Ok(Text::new(alloc)),
     }
 }
 
 /// What is printed of a call that ends a subscription.
-fn ended_line(alloc: Global, name: &Text, answer: Called) -> Result<Text, AllocError>
-    ensures { IfOk result (λ text. text ≡ called.ended_text name.now answer) }
+fn ended_line(
+    alloc: Global,
+    name: &Text,
+    ended: Used<Called<(), CollectorFault>>,
+) -> Result<Text, AllocError>
+    ensures { IfOk result (λ text. text ≡ collected.ended_text name.now ended) }
 {
-    match answer {
-        Called::Committed(Fate::Done) => name_line("ended", name),
-        Called::Committed(fate) => fate_line(alloc, fate, COLLECTOR),
-        Called::Refused(CollectorFault::NoSubscription) => name_line("unknown", name),
-        Called::Refused(CollectorFault::Ended) => name_line("already", name),
-        Called::Refused(_) => Ok(Text::new(alloc)),
+    match ended {
+        Used::Closed(fate) => fate_line(alloc, fate, COLLECTOR),
+        Used::Answered(Called::Done(())) => name_line("ended", name),
+        Used::Answered(Called::Broken(fate)) => fate_line(alloc, fate, COLLECTOR),
+        Used::Answered(Called::Refused(CollectorFault::NoSubscription)) => {
+            name_line("unknown", name)
+        }
+        Used::Answered(Called::Refused(CollectorFault::Ended)) => name_line("already", name),
+        Used::Answered(Called::Refused(_)) => Ok(Text::new(alloc)),
     }
 }

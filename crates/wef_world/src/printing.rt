@@ -1,20 +1,19 @@
 //! What the lines of a schedule print.
 
-ghost use Rattle.std.specs.Prelude.{◌≡◌, ◌++◌, true, IfOk, IfErr, OnOk};
+ghost use Rattle.std.specs.Prelude.{◌≡◌, ◌++◌, true, Some, IfOk, IfErr, OnOk};
 ghost use Rattle.std.specs.List.{flat_map};
 ghost use Rattle.wef_collector_rows.specs.Answers as answers;
 ghost use Rattle.wef_collector_rows.specs.Held.{held_after, last_number};
 ghost use Rattle.wef_collector_rows.specs.Standing.{standing};
 ghost use Rattle.wef_collector_rows.specs.Forms.{AreFormed};
 ghost use Rattle.wef_machine.specs.Printed as spec;
-ghost use Rattle.wef_world.specs.CollectorPlaces as places;
 
-use crate::collector_side::CollectorSide;
 use std::alloc::{AllocError, Global};
 use wef_base::{ChannelName, SourceName, SubId, Text};
-use wef_collector::CollectorFault;
+use wef_collector::{Collector, CollectorFault};
 use wef_envelope::FaultName;
 use wef_event::Event;
+use wef_keeper::MemKeeper;
 use wef_machine::Fate;
 
 /// How many events are read at once.
@@ -219,17 +218,17 @@ pub fn push_event(text: &mut Text, event: &Event) -> Result<(), AllocError>
 #[tactic(auto, unfolding(wef_machine::specs::Printed::events_text))]
 pub fn held_text(
     alloc: Global,
-    collector: &mut CollectorSide,
+    collector: &mut Collector<MemKeeper>,
     sub: &SubId,
     source: &SourceName,
     channel: &ChannelName,
 ) -> Result<Text, CollectorFault>
-    requires runs { collector.old.runs ≡ true }
-    requires formed { AreFormed collector.old.rows }
-    ensures stays { collector.new ≡ collector.old }
-    ensures known { OnOk result (answers.is_known (standing collector.old.rows sub.now) ≡ true) }
-    ensures text { IfOk result (λ text. text ≡ spec.events_text (held_after collector.old.rows sub.now source.now channel.now 0)) }
-    ensures refusal { IfErr result (λ fault. places.RefusesPage fault (standing collector.old.rows sub.now)) }
+    requires formed { AreFormed collector.old.keeper.rows }
+    ensures rows { collector.new.keeper.rows ≡ collector.old.keeper.rows }
+    ensures ids { collector.new.ids ≡ collector.old.ids }
+    ensures known { OnOk result (answers.is_known (standing collector.old.keeper.rows sub.now) ≡ true) }
+    ensures text { IfOk result (λ text. text ≡ spec.events_text (held_after collector.old.keeper.rows sub.now source.now channel.now 0)) }
+    ensures refusal { IfErr result (λ fault. answers.RefusesUnknown fault (Some collector.old.keeper.rows) sub.now) }
 {
     let mut text = Text::new(alloc);
     let mut after = 0;

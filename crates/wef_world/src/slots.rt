@@ -1,23 +1,23 @@
 //! A declared source.
 
-ghost use Rattle.std.specs.Prelude.{◌≡◌, ◌≤◌, ◌<◌, true, is_some, IfOk, OnOk};
-ghost use Rattle.wef_event.specs.Unnumbered.{plain_numbered};
-ghost use Rattle.wef_machine.specs.Arming as arming;
+ghost use Rattle.std.specs.Prelude.{◌≡◌, ◌≤◌, IfOk, OnOk};
 ghost use Rattle.std.specs.declared.option.Option.TheVariants.{Some};
+ghost use Rattle.wef_base.specs.declared.numbers.TheConstants.{MAX};
+ghost use Rattle.wef_event.specs.Numbering.{numbered};
+ghost use Rattle.wef_world.specs.Recorded as records;
 
-use crate::arming::{plan_of, settle_source};
-use crate::ends::MOMENT;
 use crate::faults::WorldFault;
 use crate::histories::Histories;
-use crate::source_place::SourcePlace;
+use crate::places::{Called, End, Placed, Used};
 use std::alloc::Global;
 use std::marker::Model;
 use wef_base::{List, SourceName, SubId};
 use wef_envelope::MessageId;
-use wef_event::{Event, PlainEvent};
+use wef_event::Event;
 use wef_eventing::Offer;
-use wef_machine::{Armed, Fate};
-use wef_source::{Delivery, Poll, Reply, SourceFault};
+use wef_keeper::{MemKeeper, Plan, StoreFault};
+use wef_machine::Armed;
+use wef_source::{Delivery, Memory, Poll, Reply, SourceEnd, SourceFault};
 
 /// How many records of a channel a log keeps: from 1 to 1,000,000.
 #[derive(Drop)]
@@ -55,51 +55,113 @@ impl Capacity {
     }
 }
 
-/// A source as the world holds it: how many records of a channel its log keeps, all that it ever
-/// wrote, and its end, running or not.
+/// What a source is started with, beside its store.
+#[derive(Drop)]
+pub struct Origin {
+    name: SourceName,
+    capacity: Capacity,
+}
+
+impl End for SourceEnd<MemKeeper> {
+    ghost use Rattle.std.specs.Prelude.{refl};
+    ghost use Rattle.wef_source.specs.Calls.{start_effect};
+    ghost use Rattle.wef_source.specs.Faults.{source_store};
+    ghost use Rattle.wef_source.specs.Machine.{start_of};
+    ghost use Rattle.wef_source_log.specs.Answers.{next_boot};
+    ghost use Rattle.wef_source_log.specs.Forms as forms;
+
+    type Origin = Origin;
+
+    type Memory = Memory;
+
+    type Fault = SourceFault;
+
+    ghost keeper = { λ end. end.keeper };
+
+    ghost memory = { λ end. end.memory };
+
+    ghost with_plan = { λ end plan. record end { keeper = record end.keeper { plan = plan } } };
+
+    ghost of_store = { source_store };
+
+    ghost AreFormed = { forms.AreFormed };
+
+    ghost start_effect = { λ origin rows. start_effect rows origin.capacity };
+
+    ghost start_memory = { λ _ rows. start_of (next_boot rows) };
+
+    ghost plans_store = { λ _ _. refl };
+
+    ghost plans_alone = { λ _ _. refl };
+
+    fn plan_commit(&mut self, plan: Plan) {
+        self.arrange(plan);
+    }
+
+    fn is_planned(&self) -> bool {
+        self.is_armed()
+    }
+
+    fn into_store(self) -> MemKeeper {
+        self.into_keeper()
+    }
+
+    fn start_over(
+        alloc: Global,
+        store: MemKeeper,
+        origin: &Origin,
+    ) -> Result<SourceEnd<MemKeeper>, (MemKeeper, SourceFault)> {
+        match origin.name.clone() {
+            Ok(name) => SourceEnd::start(alloc, store, name, origin.capacity.records()),
+            Err(_) => {
+                // What stands in the store is found, as by an opening.
+                let mut store = store;
+                store.crash();
+                Err((store, SourceFault::NoMemory))
+            }
+        }
+    }
+
+    fn store_fault(fault: &SourceFault) -> Option<StoreFault> {
+        match fault {
+            SourceFault::NoMemory => Some(StoreFault::NoMemory),
+            SourceFault::Failed => Some(StoreFault::Failed),
+            _ => None,
+        }
+    }
+}
+
+/// A source as the world holds it: its name, how many records of a channel its log keeps, all that
+/// it ever wrote, and its end, running or not.
 #[derive(Drop)]
 pub struct Slot {
-    capacity: Capacity,
+    origin: Origin,
     histories: Histories,
-    place: SourcePlace,
+    placed: Placed<SourceEnd<MemKeeper>>,
 }
 
 impl Model for Slot {
-    ghost use Rattle.std.specs.Prelude.{ℕ, List, Option, refl};
+    ghost use Rattle.std.specs.Prelude.{ℕ, List, refl};
     ghost use Rattle.std.specs.Cmp.Lexicographic.{slice_cmp};
-    ghost use Rattle.std.specs.Coded.{code_by, coded_ℕ, coded_list, coded_option, coded×};
+    ghost use Rattle.std.specs.Coded.{code_by, coded_ℕ, coded_list, coded×};
     ghost use Rattle.std.specs.FinMap as map;
     ghost use Rattle.std.specs.Ordering.{nat_cmp};
-    ghost use Rattle.wef_keeper.specs.Rows.{Rows};
-    ghost use Rattle.wef_keeper.specs.contracts.keys.Key as key;
-    ghost use Rattle.wef_keeper.specs.contracts.keys.Cell as cell;
+    ghost use Rattle.wef_machine.specs.Places.{Place};
     ghost use Rattle.wef_machine.specs.States.{Slot};
     ghost use Rattle.wef_source.specs.Machine.{End};
     ghost use Rattle.wef_source.specs.contracts.memories.Memory as memory;
     ghost use Rattle.wef_source_log.specs.Histories.{Histories};
+    ghost use Rattle.wef_world.specs.Codes.{coded_place};
 
     ghost Value = { Slot };
 
-    ghost coded = { code_by (ℕ × (Histories × (Rows × Option End)))
-        (coded× coded_ℕ (coded× (map.code (coded_list coded_ℕ) (coded_list (coded_list coded_ℕ)))
-        (coded× (map.code key.the_row.coded cell.the_row.coded) (coded_option memory.the_row.coded))))
-        (λ s. (s.capacity, (s.histories, (s.rows, s.end))))
-        (λ p. record { capacity = p.0; histories = p.1.0; rows = p.1.1.0; end = p.1.1.1 }) (λ _. refl) };
+    ghost coded = { code_by (ℕ × (Histories × Place End))
+        (coded× coded_ℕ (coded× (map.code (coded_list coded_ℕ) (coded_list (coded_list coded_ℕ))) (coded_place memory.the_row.coded)))
+        (λ s. (s.capacity, (s.histories, s.place))) (λ p. record { capacity = p.0; histories = p.1.0; place = p.1.1 }) (λ _. refl) };
 
-    ghost view = { λ s. record { capacity = s.capacity; histories = s.histories; rows = s.place.rows; end = s.place.end } };
-}
+    ghost use Rattle.wef_world.specs.Sourced.{source_of};
 
-/// What a write did.
-#[derive(Clone, Copy, PartialEq, Eq)]
-pub enum Written {
-    /// The event is the record of this number.
-    Record(u64),
-    /// The channel has all numbers.
-    Full,
-    /// The event's text is too long.
-    TooLong,
-    /// The commit wasn't done.
-    Broken(Fate),
+    ghost view = { λ s. record { capacity = s.origin.capacity; histories = s.histories; place = source_of s.placed } };
 }
 
 /// What a poll found.
@@ -115,182 +177,188 @@ pub enum Polled {
 }
 
 impl Slot {
-    ghost use Rattle.std.specs.Prelude.{◌≡◌, ◌≤◌, true, length, is_some, IfOk, IfSome, OnOk};
-    ghost use Rattle.wef_envelope.specs.Ids.{ids_agree};
-    ghost use Rattle.wef_machine.specs.Sources as sources;
-    ghost use Rattle.wef_source.specs.Answers.{waiting_for};
-    ghost use Rattle.wef_source.specs.Machine.{adopted};
-    ghost use Rattle.wef_source.specs.Sessions.{session_of};
+    ghost use Rattle.std.specs.Prelude.{◌≡◌, ◌≤◌, ◌+◌, length, IfOk, OnOk};
+    ghost use Rattle.wef_base.specs.declared.numbers.TheConstants.{MAX};
+    ghost use Rattle.wef_machine.specs.Deliveries.{after_offers};
+    ghost use Rattle.wef_machine.specs.Places as places;
+    ghost use Rattle.wef_machine.specs.Sources.{declared_slot, slot_opened};
+    ghost use Rattle.wef_machine.specs.States.{slot_with};
+    ghost use Rattle.wef_source.specs.Machine.{lost_in};
     ghost use Rattle.wef_source_log.specs.Forms.{AreFormed};
+    ghost use Rattle.wef_source_log.specs.Histories.{history};
     ghost use Rattle.wef_world.specs.Slots as slots;
-    ghost use Rattle.wef_machine.specs.States.{moment};
 
     /// A source that was just declared.
-    pub fn new(alloc: Global, capacity: Capacity) -> Slot
-        ensures { result ≡ sources.declared_slot capacity }
+    pub fn new(alloc: Global, name: SourceName, capacity: Capacity) -> Slot
+        ensures { result ≡ declared_slot capacity }
     {
         Slot {
-            capacity,
+            origin: Origin { name, capacity },
             histories: Histories::new(alloc),
-            place: SourcePlace::new(alloc),
+            placed: Placed::new(alloc),
         }
     }
 
-    /// Lets the end run, if it doesn't yet, and answers how that went.
-    pub fn open(
-        &mut self,
-        alloc: Global,
-        name: &SourceName,
-        armed: &mut Option<Armed>,
-    ) -> Result<Fate, WorldFault>
-        requires formed { AreFormed self.old.rows }
-        ensures slot { OnOk result (self.new ≡ sources.slot_opened armed.old self.old) }
-        ensures armed { OnOk result (armed.new ≡ sources.armed_opened armed.old self.old) }
-        ensures fate { IfOk result (λ fate. fate ≡ sources.slot_opening armed.old self.old) }
+    /// Has the next commit fail, or not.
+    pub fn arm(&mut self, armed: Option<Armed>)
+        ensures { self.new ≡ slot_with self.old (record self.old.place { armed = armed }) }
     {
-        if self.place.runs() {
-            return Ok(Fate::Done);
-        }
-        self.place.arrange(plan_of(*armed));
-        match self.place.start(alloc, name, self.capacity.records()) {
-            Ok(()) => Ok(settle_source(&mut self.place, armed, false)),
-            Err(SourceFault::Failed) => Ok(settle_source(&mut self.place, armed, true)),
-            Err(SourceFault::Full) => Ok(Fate::Failed),
-            Err(_) => Err(WorldFault::NoMemory),
-        }
+        self.placed.arm(armed);
     }
 
-    /// Writes an event into the log of a running source, and appends it to the history where the
-    /// store keeps it.
+    /// Stops the source at once: its store alone is left.
+    pub fn crash(&mut self, alloc: Global)
+        ensures { self.new ≡ slot_with self.old (places.crashed self.old.place) }
+    {
+        self.placed.crash(alloc);
+    }
+
+    /// Writes an event into the log, and appends it to the history where the store keeps it.
     pub fn write(
         &mut self,
-        armed: &mut Option<Armed>,
-        event: &PlainEvent,
-    ) -> Result<Written, WorldFault>
-        requires runs { is_some self.old.end ≡ true }
-        requires formed { AreFormed self.old.rows }
-        requires window { slots.HasWindow self.old }
-        ensures slot { OnOk result (slots.WritesSlot armed.old self.old self.new event.now) }
-        ensures armed { OnOk result (armed.new ≡ slots.armed_written armed.old self.old event.now) }
-        ensures written { IfOk result (slots.WritesAs armed.old self.old event.now) }
+        alloc: Global,
+        event: &Event,
+    ) -> Result<Used<Called<u64, SourceFault>>, WorldFault>
+        requires formed { AreFormed self.old.place.rows }
+        requires ready { slots.IsReady (slot_opened self.old) }
+        ensures slot { OnOk result (self.new ≡ slots.slot_wrote self.old event.now) }
+        ensures written { IfOk result (slots.WritesAs self.old event.now) }
     {
-        let next = self.histories.count(&event.channel) + 1;
-        self.place.arrange(plan_of(*armed));
-        match self.place.write(event) {
-            Ok(number) => {
-                let _done = settle_source(&mut self.place, armed, false);
-                self.record(event, number)?;
-                Ok(Written::Record(number))
-            }
-            Err(SourceFault::Full) => Ok(Written::Full),
-            Err(SourceFault::TooLong) => Ok(Written::TooLong),
-            Err(SourceFault::Failed) => {
-                let is_kept = is_kept(*armed);
-                let fate = settle_source(&mut self.place, armed, true);
-                if is_kept {
-                    self.record(event, next)?;
-                }
-                Ok(Written::Broken(fate))
-            }
-            Err(_) => Err(WorldFault::NoMemory),
+        let fate = self.placed.open(alloc, &self.origin)?;
+        let Some(source) = self.placed.running() else {
+            return Ok(Used::Closed(fate));
+        };
+        let answer = source.write(event);
+        let is_kept = self.placed.keeps();
+        let called = self.placed.settle_call(alloc, answer)?;
+        if is_recorded(&called, is_kept) {
+            self.record(event)?;
         }
+        Ok(Used::Answered(called))
     }
 
-    /// Appends an event to its channel's history, as the record of a number.
-    fn record(&mut self, event: &PlainEvent, number: u64) -> Result<(), WorldFault>
-        requires { number ≤ 9223372036854775807 }
-        ensures { OnOk result (self.new ≡ slots.recorded self.old event.now number) }
+    /// Appends an event to its channel's history, as the next record.
+    fn record(&mut self, event: &Event) -> Result<(), WorldFault>
+        requires { length (history self.old.histories event.now.channel) + 1 ≤ MAX }
+        ensures { OnOk result (self.new ≡ slots.recorded self.old event.now) }
     {
+        let number = self.histories.count(&event.channel) + 1;
         let record = record_of(event, number)?;
         let appended = self.histories.append(&record.channel, &record.text);
         drop(record);
         Ok(appended?)
     }
 
-    /// Draws the id of an ask of a running source. None where no id is left.
-    pub fn ask(&mut self) -> Option<MessageId>
-        requires runs { is_some self.old.end ≡ true }
-        ensures { slots.AsksAs self.old self.new result }
+    /// Draws the id of an ask. None where no id is left.
+    pub fn ask(&mut self, alloc: Global) -> Result<Used<Option<MessageId>>, WorldFault>
+        requires formed { AreFormed self.old.place.rows }
+        ensures { IfOk result (slots.AsksAs self.old self.new) }
     {
-        match self.place.ask() {
-            Ok(id) => Some(id),
-            Err(_) => None,
+        let fate = self.placed.open(alloc, &self.origin)?;
+        let Some(source) = self.placed.running() else {
+            return Ok(Used::Closed(fate));
+        };
+        match source.ask() {
+            Ok(id) => Ok(Used::Answered(Some(id))),
+            Err(_) => Ok(Used::Answered(None)),
         }
     }
 
-    /// What a session of a running source has to send.
-    pub fn poll(&mut self, sub: &SubId) -> Result<Polled, WorldFault>
-        requires runs { is_some self.old.end ≡ true }
-        requires formed { AreFormed self.old.rows }
-        ensures { IfOk result (λ polled. slots.PollsAs self.old self.new sub.now polled) }
+    /// What a session has to send, at a moment.
+    pub fn poll(&mut self, alloc: Global, sub: &SubId, now: u64) -> Result<Used<Polled>, WorldFault>
+        requires formed { AreFormed self.old.place.rows }
+        ensures { IfOk result (slots.PollsAs self.old self.new sub.now now) }
     {
-        match self.place.poll(sub, MOMENT) {
-            Ok(Poll::Send(delivery)) => Ok(Polled::Sent(delivery)),
-            Ok(Poll::Nothing) => Ok(Polled::Nothing),
-            Err(SourceFault::UnknownSubscription) => Ok(Polled::Unknown),
-            Err(SourceFault::Spent) => Ok(Polled::Spent),
+        let fate = self.placed.open(alloc, &self.origin)?;
+        let Some(source) = self.placed.running() else {
+            return Ok(Used::Closed(fate));
+        };
+        match source.poll(sub, now) {
+            Ok(Poll::Send(delivery)) => Ok(Used::Answered(Polled::Sent(delivery))),
+            Ok(Poll::Nothing) => Ok(Used::Answered(Polled::Nothing)),
+            Err(SourceFault::UnknownSubscription) => Ok(Used::Answered(Polled::Unknown)),
+            Err(SourceFault::Spent) => Ok(Used::Answered(Polled::Spent)),
             Err(_) => Err(WorldFault::NoMemory),
         }
     }
 
-    /// Gives up waiting for the answer to a delivery of a running source's session. Answers whether
-    /// the session is there.
-    pub fn lose(&mut self, sub: &SubId) -> bool
-        requires runs { is_some self.old.end ≡ true }
-        ensures { slots.LosesAs self.old self.new sub.now result }
+    /// Gives up waiting for the answer to a delivery of a session. Answers whether the session is
+    /// there.
+    #[tactic(auto, using(crate::proofs::Opened::lost_refused))]
+    pub fn lose(&mut self, alloc: Global, sub: &SubId) -> Result<Used<bool>, WorldFault>
+        requires formed { AreFormed self.old.place.rows }
+        ensures slot { OnOk result (self.new ≡ slots.slot_changed self.old (λ end. lost_in end sub.now)) }
+        ensures answer { IfOk result (slots.LosesAs self.old sub.now) }
     {
-        self.place.on_lost(sub).is_ok()
+        let fate = self.placed.open(alloc, &self.origin)?;
+        let Some(source) = self.placed.running() else {
+            return Ok(Used::Closed(fate));
+        };
+        Ok(Used::Answered(source.on_lost(sub).is_ok()))
     }
 
-    /// Gives a running source offers. Answers how many sessions there are, or nothing where the
+    /// Gives the source offers, at a moment. Answers how many sessions there are, or nothing where the
     /// source didn't ask.
     pub fn adopt(
         &mut self,
+        alloc: Global,
         relates: &MessageId,
         offers: &List<Offer>,
-    ) -> Result<Option<u64>, WorldFault>
-        requires runs { is_some self.old.end ≡ true }
-        ensures { IfOk result (λ number. slots.AdoptsAs self.old self.new relates.now offers.now number) }
+        now: u64,
+    ) -> Result<Used<Option<u64>>, WorldFault>
+        requires formed { AreFormed self.old.place.rows }
+        ensures slot { OnOk result (self.new ≡ slots.slot_changed self.old (λ end. after_offers end relates.now offers.now now)) }
+        ensures answer { IfOk result (slots.AdoptsAs self.old relates.now offers.now now) }
     {
-        match self.place.adopt(relates, offers, MOMENT) {
-            Ok(number) => Ok(Some(number)),
-            Err(SourceFault::NotAsked) => Ok(None),
+        let fate = self.placed.open(alloc, &self.origin)?;
+        let Some(source) = self.placed.running() else {
+            return Ok(Used::Closed(fate));
+        };
+        match source.adopt(relates, offers, now) {
+            Ok(number) => Ok(Used::Answered(Some(number))),
+            Err(SourceFault::NotAsked) => Ok(Used::Answered(None)),
             Err(_) => Err(WorldFault::NoMemory),
         }
     }
 
-    /// Gives a running source the answer to a delivery. Answers whether a session waits for it.
-    pub fn hear(&mut self, relates: &MessageId, reply: &Reply) -> bool
-        requires runs { is_some self.old.end ≡ true }
-        ensures { slots.HearsAs self.old self.new relates.now reply.now result }
+    /// Gives the source the answer to a delivery. Answers whether a session waits for it.
+    pub fn hear(
+        &mut self,
+        alloc: Global,
+        relates: &MessageId,
+        reply: &Reply,
+    ) -> Result<Used<bool>, WorldFault>
+        requires formed { AreFormed self.old.place.rows }
+        ensures slot { OnOk result (self.new ≡ slots.slot_changed self.old (λ end. slots.after_reply end relates.now reply.now)) }
+        ensures answer { IfOk result (slots.HearsAs self.old relates.now) }
     {
-        self.place.on_reply(relates, reply).is_ok()
-    }
-
-    /// Stops the source at once: its store alone is left.
-    pub fn crash(&mut self)
-        ensures { self.new ≡ sources.crashed_slot self.old }
-    {
-        self.place.crash();
+        let fate = self.placed.open(alloc, &self.origin)?;
+        let Some(source) = self.placed.running() else {
+            return Ok(Used::Closed(fate));
+        };
+        Ok(Used::Answered(source.on_reply(relates, reply).is_ok()))
     }
 }
 
-/// Whether the changes of the next commit are kept.
-fn is_kept(armed: Option<Armed>) -> bool
-    ensures { result ≡ arming.is_kept armed }
+/// Whether a write's record stands, by whether the changes of its commit are kept.
+fn is_recorded(called: &Called<u64, SourceFault>, is_kept: bool) -> bool
+    ensures { result ≡ records.is_recorded called.now is_kept }
 {
-    match armed {
-        Some(armed) => armed.after,
-        None => true,
+    match called {
+        Called::Done(_) => true,
+        Called::Broken(_) => is_kept,
+        Called::Refused(_) => false,
     }
 }
 
 /// An event that a log took as the record of a number.
-fn record_of(event: &PlainEvent, number: u64) -> Result<Event, WorldFault>
-    requires { number ≤ 9223372036854775807 }
-    ensures { IfOk result (λ event_with. plain_numbered event.now number ≡ Some event_with) }
+fn record_of(event: &Event, number: u64) -> Result<Event, WorldFault>
+    requires least { 1 ≤ number }
+    requires greatest { number ≤ MAX }
+    ensures record { IfOk result (λ made. numbered event.now number ≡ Some made) }
+    ensures channel { IfOk result (λ made. made.channel ≡ event.now.channel) }
 {
-    match event.numbered(number) {
+    match event.with_number(number) {
         Ok(record) => Ok(record),
         Err(_) => Err(WorldFault::NoMemory),
     }

@@ -1,27 +1,26 @@
 //! The lines of sources.
 
 ghost use Rattle.std.specs.Prelude.{◌≡◌, [], IfOk, OnOk};
-ghost use Rattle.std.specs.FinMap as map;
+ghost use Rattle.wef_event.specs.Unnumbered.{new_event};
 ghost use Rattle.wef_machine.specs.Kept.{IsKept};
 ghost use Rattle.wef_machine.specs.Sources as steps;
-ghost use Rattle.wef_machine.specs.Printed.{sent_events_line};
 ghost use Rattle.wef_machine.specs.States as states;
-ghost use Rattle.wef_machine.specs.declared.messages.Message.TheVariants.{Events};
 ghost use Rattle.wef_world.specs.Polls as polls;
 ghost use Rattle.wef_world.specs.Slots as slots;
 
 use crate::ends::Ends;
 use crate::faults::WorldFault;
+use crate::places::{Called, Used};
 use crate::printing::{
     fate_line, name_line, pair_line, sent_ask_line, sent_events_line, wrote_line,
 };
-use crate::slots::{Capacity, Polled, Slot, Written};
-use crate::sources::open_source;
+use crate::slots::{Capacity, Polled, Slot};
 use std::alloc::AllocError;
 use wef_base::{SourceName, SubId, Text};
-use wef_event::PlainEvent;
-use wef_machine::{Fate, Message};
-use wef_source::Delivery;
+use wef_envelope::MessageId;
+use wef_event::{Event, PlainEvent};
+use wef_machine::Message;
+use wef_source::SourceFault;
 
 impl Ends {
     /// Declares a source.
@@ -33,47 +32,69 @@ impl Ends {
         ensures state { OnOk result (self.new ≡ states.with_slot self.old source.now (steps.declared_slot capacity)) }
         ensures printed { IfOk result (λ text. text ≡ []) }
     {
-        self.sources.put(source, Slot::new(self.alloc, capacity))?;
+        let slot = Slot::new(self.alloc, source.clone()?, capacity);
+        self.sources.put(source.clone()?, slot)?;
         Ok(Text::new(self.alloc))
     }
 
-    /// Lets a source write an event.
-    pub(crate) fn write(
+    /// Lets a source write an event that no log has numbered yet.
+    pub(crate) fn write_plain(
         &mut self,
         source: &SourceName,
         event: &PlainEvent,
     ) -> Result<Text, WorldFault>
         requires kept { IsKept self.old }
-        ensures state { OnOk result (self.new ≡ steps.write_step self.old source.now event.now) }
-        ensures printed { IfOk result (λ text. text ≡ steps.write_printed self.old source.now event.now) }
+        ensures state { OnOk result (self.new ≡ steps.write_step self.old source.now (new_event event.now)) }
+        ensures printed { IfOk result (λ text. text ≡ steps.write_printed self.old source.now (new_event event.now)) }
     {
-        match open_source(&mut self.sources, &mut self.arms, self.alloc, source)? {
-            Some(Fate::Done) => self.write_running(source, event),
-            Some(fate) => Ok(fate_line(self.alloc, fate, source.as_text().as_str())?),
-            None => Ok(Text::new(self.alloc)),
+        match event.to_event() {
+            Ok(event) => {
+                let text = self.write(source, &event);
+                drop(event);
+                text
+            }
+            Err(_) => Err(WorldFault::NoMemory),
         }
     }
 
-    /// Lets a running source write an event.
-    fn write_running(&mut self, source: &SourceName, event: &PlainEvent) -> Result<Text, WorldFault>
-        requires ready { slots.IsReady (map.get self.old.sources source.now) }
-        ensures state { OnOk result (slots.AtRunning (map.get self.old.sources source.now) (λ slot end. self.new ≡ steps.write_at source.now event.now self.old slot end)) }
-        ensures printed { IfOk result (λ text. slots.AtRunning (map.get self.old.sources source.now) (λ slot end. text ≡ steps.write_text source.now event.now self.old slot end)) }
+    /// Lets a source write an event.
+    fn write(&mut self, source: &SourceName, event: &Event) -> Result<Text, WorldFault>
+        requires kept { IsKept self.old }
+        ensures state { OnOk result (self.new ≡ steps.write_step self.old source.now event.now) }
+        ensures printed { IfOk result (λ text. text ≡ steps.write_printed self.old source.now event.now) }
     {
-        let Some(mut slot) = self.sources.take(source) else {
-            unreachable!()
+        let Some(slot) = self.sources.slot_mut(source) else {
+            return Ok(Text::new(self.alloc));
         };
-        let mut armed = self.arms.get(source);
-        let written = slot.write(&mut armed, event);
-        self.sources.put(source, slot)?;
-        let written = written?;
-        self.arms.set(source, armed)?;
+        let written = slot.write(self.alloc, event)?;
+        self.written_line(source, event, written)
+    }
+
+    /// What is printed of a write.
+    fn written_line(
+        &self,
+        source: &SourceName,
+        event: &Event,
+        written: Used<Called<u64, SourceFault>>,
+    ) -> Result<Text, WorldFault>
+        ensures { IfOk result (λ text. text ≡ slots.written_line source.now event.now written) }
+    {
         let name = source.as_text();
         match written {
-            Written::Record(number) => Ok(wrote_line(source, &event.channel, number)?),
-            Written::Full => Ok(pair_line("full", name, event.channel.as_text())?),
-            Written::TooLong => Ok(pair_line("toolong", name, event.channel.as_text())?),
-            Written::Broken(fate) => Ok(fate_line(self.alloc, fate, name.as_str())?),
+            Used::Closed(fate) => Ok(fate_line(self.alloc, fate, name.as_str())?),
+            Used::Answered(Called::Done(number)) => {
+                Ok(wrote_line(source, &event.channel, number)?)
+            }
+            Used::Answered(Called::Broken(fate)) => {
+                Ok(fate_line(self.alloc, fate, name.as_str())?)
+            }
+            Used::Answered(Called::Refused(SourceFault::Full)) => {
+                Ok(pair_line("full", name, event.channel.as_text())?)
+            }
+            Used::Answered(Called::Refused(SourceFault::TooLong)) => {
+                Ok(pair_line("toolong", name, event.channel.as_text())?)
+            }
+            Used::Answered(Called::Refused(_)) => Ok(Text::new(self.alloc)),
         }
     }
 
@@ -83,32 +104,33 @@ impl Ends {
         ensures state { OnOk result (self.new ≡ steps.ask_step self.old source.now) }
         ensures printed { IfOk result (λ text. text ≡ steps.ask_printed self.old source.now) }
     {
-        match open_source(&mut self.sources, &mut self.arms, self.alloc, source)? {
-            Some(Fate::Done) => self.ask_running(source),
-            Some(fate) => Ok(fate_line(self.alloc, fate, source.as_text().as_str())?),
-            None => Ok(Text::new(self.alloc)),
-        }
+        let Some(slot) = self.sources.slot_mut(source) else {
+            return Ok(Text::new(self.alloc));
+        };
+        let asked = slot.ask(self.alloc)?;
+        self.send_asked(source, asked)
     }
 
-    /// Lets a running source ask.
-    fn ask_running(&mut self, source: &SourceName) -> Result<Text, WorldFault>
-        requires ready { slots.IsReady (map.get self.old.sources source.now) }
-        ensures state { OnOk result (slots.AtRunning (map.get self.old.sources source.now) (λ slot end. self.new ≡ steps.ask_at source.now self.old slot end)) }
-        ensures printed { IfOk result (λ text. slots.AtRunning (map.get self.old.sources source.now) (λ slot end. text ≡ steps.ask_text source.now self.old slot end)) }
+    /// Sends an ask, where an id was left for it, and tells what became of it.
+    fn send_asked(
+        &mut self,
+        source: &SourceName,
+        asked: Used<Option<MessageId>>,
+    ) -> Result<Text, WorldFault>
+        ensures state { OnOk result (self.new ≡ polls.with_asked self.old source.now asked) }
+        ensures printed { IfOk result (λ text. text ≡ polls.asked_line source.now (states.next_number self.old) asked) }
     {
-        let Some(mut slot) = self.sources.take(source) else {
-            unreachable!()
-        };
-        let asked = slot.ask();
-        self.sources.put(source, slot)?;
-        let Some(id) = asked else {
-            return Ok(name_line("spent", source.as_text())?);
-        };
-        let number = self.send(Message::Ask {
-            source: source.clone()?,
-            id,
-        })?;
-        Ok(sent_ask_line(number, source)?)
+        match asked {
+            Used::Closed(fate) => Ok(fate_line(self.alloc, fate, source.as_text().as_str())?),
+            Used::Answered(None) => Ok(name_line("spent", source.as_text())?),
+            Used::Answered(Some(id)) => {
+                let number = self.send(Message::Ask {
+                    source: source.clone()?,
+                    id,
+                })?;
+                Ok(sent_ask_line(number, source)?)
+            }
+        }
     }
 
     /// Lets a source send what its session of a subscription has to send.
@@ -117,25 +139,11 @@ impl Ends {
         ensures state { OnOk result (self.new ≡ steps.poll_step self.old source.now sub.now) }
         ensures printed { IfOk result (λ text. text ≡ steps.poll_printed self.old source.now sub.now) }
     {
-        match open_source(&mut self.sources, &mut self.arms, self.alloc, source)? {
-            Some(Fate::Done) => self.poll_running(source, sub),
-            Some(fate) => Ok(fate_line(self.alloc, fate, source.as_text().as_str())?),
-            None => Ok(Text::new(self.alloc)),
-        }
-    }
-
-    /// Lets a running source send.
-    fn poll_running(&mut self, source: &SourceName, sub: &SubId) -> Result<Text, WorldFault>
-        requires ready { slots.IsReady (map.get self.old.sources source.now) }
-        ensures state { OnOk result (slots.AtRunning (map.get self.old.sources source.now) (λ slot end. self.new ≡ steps.poll_at source.now sub.now self.old slot end)) }
-        ensures printed { IfOk result (λ text. slots.AtRunning (map.get self.old.sources source.now) (λ slot end. text ≡ steps.poll_text source.now sub.now self.old slot end)) }
-    {
-        let Some(mut slot) = self.sources.take(source) else {
-            unreachable!()
+        let now = self.moment;
+        let Some(slot) = self.sources.slot_mut(source) else {
+            return Ok(Text::new(self.alloc));
         };
-        let polled = slot.poll(sub);
-        self.sources.put(source, slot)?;
-        let polled = polled?;
+        let polled = slot.poll(self.alloc, sub, now)?;
         self.send_polled(source, sub, polled)
     }
 
@@ -144,34 +152,25 @@ impl Ends {
         &mut self,
         source: &SourceName,
         sub: &SubId,
-        polled: Polled,
+        polled: Used<Polled>,
     ) -> Result<Text, WorldFault>
         ensures state { OnOk result (self.new ≡ polls.with_polled self.old source.now polled) }
         ensures printed { IfOk result (λ text. text ≡ polls.polled_line source.now sub.now (states.next_number self.old) polled) }
     {
+        let (name, named) = (source.as_text(), sub.as_text());
         match polled {
-            Polled::Unknown => Ok(pair_line("unknown", source.as_text(), sub.as_text())?),
-            Polled::Nothing => Ok(pair_line("nothing", source.as_text(), sub.as_text())?),
-            Polled::Spent => Ok(name_line("spent", source.as_text())?),
-            Polled::Sent(delivery) => self.send_events(source, sub, delivery),
+            Used::Closed(fate) => Ok(fate_line(self.alloc, fate, name.as_str())?),
+            Used::Answered(Polled::Unknown) => Ok(pair_line("unknown", name, named)?),
+            Used::Answered(Polled::Nothing) => Ok(pair_line("nothing", name, named)?),
+            Used::Answered(Polled::Spent) => Ok(name_line("spent", name)?),
+            Used::Answered(Polled::Sent(delivery)) => {
+                let number = self.send(Message::Events {
+                    source: source.clone()?,
+                    delivery,
+                })?;
+                Ok(sent_events_line(number, source, sub)?)
+            }
         }
-    }
-
-    /// Sends a delivery.
-    fn send_events(
-        &mut self,
-        source: &SourceName,
-        sub: &SubId,
-        delivery: Delivery,
-    ) -> Result<Text, WorldFault>
-        ensures state { OnOk result (self.new ≡ states.with_message self.old (Events source.now delivery)) }
-        ensures printed { IfOk result (λ text. text ≡ sent_events_line (states.next_number self.old) source.now sub.now) }
-    {
-        let number = self.send(Message::Events {
-            source: source.clone()?,
-            delivery,
-        })?;
-        Ok(sent_events_line(number, source, sub)?)
     }
 
     /// Lets a source give up waiting for the answer to a session's delivery.
@@ -180,40 +179,14 @@ impl Ends {
         ensures state { OnOk result (self.new ≡ steps.lost_step self.old source.now sub.now) }
         ensures printed { IfOk result (λ text. text ≡ steps.lost_printed self.old source.now sub.now) }
     {
-        match open_source(&mut self.sources, &mut self.arms, self.alloc, source)? {
-            Some(Fate::Done) => self.lose_running(source, sub),
-            Some(fate) => Ok(fate_line(self.alloc, fate, source.as_text().as_str())?),
-            None => Ok(Text::new(self.alloc)),
-        }
-    }
-
-    /// Lets a running source give up waiting.
-    fn lose_running(&mut self, source: &SourceName, sub: &SubId) -> Result<Text, WorldFault>
-        requires ready { slots.IsReady (map.get self.old.sources source.now) }
-        ensures state { OnOk result (slots.AtRunning (map.get self.old.sources source.now) (λ slot end. self.new ≡ steps.lost_at source.now sub.now self.old slot end)) }
-        ensures printed { IfOk result (λ text. slots.AtRunning (map.get self.old.sources source.now) (λ slot end. text ≡ steps.lost_text source.now sub.now self.old slot end)) }
-    {
-        let Some(mut slot) = self.sources.take(source) else {
-            unreachable!()
-        };
-        let is_there = slot.lose(sub);
-        self.sources.put(source, slot)?;
-        if is_there {
+        let Some(slot) = self.sources.slot_mut(source) else {
             return Ok(Text::new(self.alloc));
-        }
-        Ok(pair_line("unknown", source.as_text(), sub.as_text())?)
-    }
-
-    /// Stops a source at once.
-    pub(crate) fn crash_source(&mut self, source: &SourceName) -> Result<(), WorldFault>
-        ensures { OnOk result (self.new ≡ steps.crash_slot self.old source.now (states.slot_of self.old source.now)) }
-    {
-        let Some(mut slot) = self.sources.take(source) else {
-            return Ok(());
         };
-        slot.crash();
-        self.sources.put(source, slot)?;
-        Ok(())
+        match slot.lose(self.alloc, sub)? {
+            Used::Closed(fate) => Ok(fate_line(self.alloc, fate, source.as_text().as_str())?),
+            Used::Answered(true) => Ok(Text::new(self.alloc)),
+            Used::Answered(false) => Ok(pair_line("unknown", source.as_text(), sub.as_text())?),
+        }
     }
 
     /// Sends a message, and answers its number.

@@ -1,17 +1,14 @@
 //! The declared sources.
 
-ghost use Rattle.std.specs.Prelude.{◌≡◌, is_some, IfOk, OnOk};
-ghost use Rattle.std.specs.FinMap as map;
-ghost use Rattle.wef_world.specs.Slots as slots;
+ghost use Rattle.std.specs.Prelude.{◌≡◌, map, OnOk};
+ghost use Rattle.std.specs.FinMap as finite;
+ghost use Rattle.wef_replay.specs.Good.{is_among};
 
-use crate::arms::Arms;
-use crate::faults::WorldFault;
 use crate::slots::Slot;
 use std::alloc::{AllocError, Global};
 use std::collections::BTreeMap;
 use std::marker::Model;
 use wef_base::SourceName;
-use wef_machine::Fate;
 
 /// Sources by their names.
 #[derive(Drop)]
@@ -38,9 +35,15 @@ impl Model for Sources {
 }
 
 impl Sources {
+    ghost use Rattle.std.specs.Borrow.{LendsIf, sem};
+    ghost use Rattle.std.specs.Option.{option_copied_mut};
+    ghost use Rattle.wef_machine.specs.States as states;
+    ghost use Rattle.wef_world.specs.contracts.slots.Slot as slot;
+    ghost use Rattle.wef_world.specs.contracts.sources.Sources.{the_row};
+
     /// No source. It takes no memory.
     pub fn new(alloc: Global) -> Sources
-        ensures { result ≡ map.empty }
+        ensures { result ≡ finite.empty }
     {
         Sources {
             slots: BTreeMap::new(alloc),
@@ -49,55 +52,34 @@ impl Sources {
 
     /// Whether a source has the name.
     pub fn has(&self, name: &SourceName) -> bool
-        ensures { result ≡ is_some (map.get self.now name.now) }
+        ensures { result ≡ is_among (map (λ entry. entry.0) (finite.entries self.now)) name.now }
     {
         self.slots.contains_key(name)
     }
 
     /// Puts a source, in place of one of its name.
-    pub fn put(&mut self, name: &SourceName, slot: Slot) -> Result<(), AllocError>
-        ensures { OnOk result (self.new ≡ map.insert self.old name.now slot) }
+    pub fn put(&mut self, name: SourceName, slot: Slot) -> Result<(), AllocError>
+        ensures { OnOk result (self.new ≡ finite.insert self.old name slot) }
     {
-        match name.clone() {
-            Ok(name) => {
-                drop(self.slots.insert(name, slot)?);
-                Ok(())
-            }
-            Err(error) => {
-                drop(slot);
-                Err(error)
-            }
-        }
+        drop(self.slots.insert(name, slot)?);
+        Ok(())
     }
 
-    /// Takes a source out.
-    pub fn take(&mut self, name: &SourceName) -> Option<Slot>
-        ensures slot { result ≡ map.get self.old name.now }
-        ensures rest { self.new ≡ map.remove self.old name.now }
+    /// Lends a source, to change it where it is.
+    pub fn slot_mut(&mut self, name: &SourceName) -> Option<&mut Slot>
+        ensures* writes_back { sem 𝓛 (LendsIf the_row slot.the_row self.entry result (finite.insert self.old name.now) self.old) }
+        ensures slot { option_copied_mut result ≡ finite.get self.old name.now }
     {
-        self.slots.remove(name)
+        self.slots.get_mut(name)
     }
-}
 
-/// Lets a declared source run, if it doesn't yet, and answers how that went. None where no source has
-/// the name.
-pub(crate) fn open_source(
-    sources: &mut Sources,
-    arms: &mut Arms,
-    alloc: Global,
-    name: &SourceName,
-) -> Result<Option<Fate>, WorldFault>
-    requires { slots.IsFormedAt (map.get sources.old name.now) }
-    ensures sources { OnOk result (sources.new ≡ slots.sources_opened sources.old arms.old name.now) }
-    ensures arms { OnOk result (arms.new ≡ slots.arms_opened sources.old arms.old name.now) }
-    ensures fate { IfOk result (λ fate. fate ≡ slots.opening_in sources.old arms.old name.now) }
-{
-    let Some(mut slot) = sources.take(name) else {
-        return Ok(None);
-    };
-    let mut armed = arms.get(name);
-    let fate = slot.open(alloc, name, &mut armed);
-    sources.put(name, slot)?;
-    arms.set(name, armed)?;
-    Ok(Some(fate?))
+    /// Has the next commit of each source be done.
+    pub fn calm(&mut self)
+        ensures { self.new ≡ states.calmed_slots self.old }
+    {
+        self.slots.retain(|_name, slot| {
+            slot.arm(None);
+            true
+        });
+    }
 }

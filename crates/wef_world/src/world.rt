@@ -13,7 +13,7 @@ use std::mem;
 use wef_base::Bytes;
 use wef_replay::Line;
 
-/// A collector and sources, at the moment 0, and all messages that they ever sent each other. Each
+/// A collector and sources, at a moment, and all messages that they ever sent each other. Each
 /// world is kept: what the collector holds is safe, and no message on its way can change that.
 #[derive(Drop)]
 pub struct World {

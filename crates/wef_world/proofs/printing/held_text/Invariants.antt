@@ -6,9 +6,11 @@ use Rattle.wef_world.proofs.printing.held_text.Given as goal
 
 abbrev pub invariant-loop-text : goal.invariant-loop-text
 invariant-loop-text l = record {
-  stays : l.collector ≡ l.initial.collector;
-  done : l.text ++ flat_map event_line (held_after l.collector.rows l.sub l.source l.channel l.after) ≡ flat_map event_line (held_after l.collector.rows l.sub l.source l.channel 0);
+  rows : l.collector.keeper.rows ≡ l.initial.collector.keeper.rows;
+  ids : l.collector.ids ≡ l.initial.collector.ids;
+  done : l.text ++ flat_map event_line (held_after l.collector.keeper.rows l.sub l.source l.channel l.after)
+      ≡ flat_map event_line (held_after l.collector.keeper.rows l.sub l.source l.channel 0);
 }
 
 abbrev pub decreases-loop-text : goal.decreases-loop-text
-decreases-loop-text l = length (held_after l.collector.rows l.sub l.source l.channel l.after)
+decreases-loop-text l = length (held_after l.collector.keeper.rows l.sub l.source l.channel l.after)

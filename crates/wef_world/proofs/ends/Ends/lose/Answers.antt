@@ -1,30 +1,21 @@
-use Rattle.std.proofs.Common.{sym, ◌∙◌}
-use Rattle.wef_machine.specs.Sources.{lost_at, closed_line, lost_text}
-use Rattle.wef_machine.specs.States.{State}
-use Rattle.wef_world.proofs.Lines.{ran_where_ok, said_where_ok}
-use Rattle.wef_world.proofs.Openings.{runs_at}
-use Rattle.wef_world.proofs.Ready.{formed_at, ready_at}
+use Rattle.std.proofs.Common.{ap, ◌∙◌}
+use Rattle.wef_machine.specs.Sources.{lost_step}
+use Rattle.wef_machine.specs.States.{Slot, State, slot_of, with_slot}
+use Rattle.wef_source.specs.Machine.{lost_in}
+use Rattle.wef_world.proofs.Ready.{slot_formed}
+use Rattle.wef_world.proofs.Used.{changed_state, where_ok}
 use Rattle.wef_world.proofs.ends.Ends.lose.Goals as goal
+use Rattle.wef_world.specs.contracts.ends.Ends.{the_view}
 
-pub open_source-requires : goal.open_source-requires
-open_source-requires c =
-    let before : State = record { collector = c.self.inside.collector; foreign = c.self.inside.foreign.keys; sources = c.self.inside.sources; arms = c.self.inside.arms; messages = c.self.inside.messages } in
-    formed_at before c.args.self.now c.args.source.now c.self.view_is c.requires.kept
+pub lose-requires : goal.lose-requires
+lose-requires c = record {
+  formed = slot_formed c.args.self.now c.args.source.now c.in-Some.slot.now c.requires.kept (c.in-Some.ensures.slot ∙ ap (λ (state : State). slot_of state c.args.source.now) c.self.view_is);
+}
 
-pub lose_running-requires : goal.lose_running-requires
-lose_running-requires c =
-    let before : State = record { collector = c.self.inside.collector; foreign = c.self.inside.foreign.keys; sources = c.self.inside.sources; arms = c.self.inside.arms; messages = c.self.inside.messages } in
-    let at = runs_at c.self.inside.sources c.self.inside.arms c.args.source.now c.open_source.new.sources c.in-Some-Done.field-0 c.in_ok-open_source.ensures.sources (sym c.in-Some-Done.is ∙ c.in_ok-open_source.ensures.fate) c.in-Some-Done.field-0-is in
-    record { ready = ready_at before c.args.self.now c.args.source.now c.open_source.new.sources c.self.view_is c.requires.kept at }
-
-pub returns-in-Some-Done-clause-state : goal.returns-in-Some-Done-clause-state
-returns-in-Some-Done-clause-state c =
-    let before : State = record { collector = c.self.inside.collector; foreign = c.self.inside.foreign.keys; sources = c.self.inside.sources; arms = c.self.inside.arms; messages = c.self.inside.messages } in
-    let at = runs_at c.self.inside.sources c.self.inside.arms c.args.source.now c.open_source.new.sources c.in-Some-Done.field-0 c.in_ok-open_source.ensures.sources (sym c.in-Some-Done.is ∙ c.in_ok-open_source.ensures.fate) c.in-Some-Done.field-0-is in
-    ran_where_ok c.lose_running.result before c.args.self.now c.args.source.now c.open_source.new.sources c.open_source.new.arms c.lose_running.new.self (lost_at c.args.source.now c.args.sub.now) c.self.view_is at c.in_ok-open_source.ensures.arms c.lose_running.ensures.state
-
-pub returns-in-Some-Done-clause-printed : goal.returns-in-Some-Done-clause-printed
-returns-in-Some-Done-clause-printed c =
-    let before : State = record { collector = c.self.inside.collector; foreign = c.self.inside.foreign.keys; sources = c.self.inside.sources; arms = c.self.inside.arms; messages = c.self.inside.messages } in
-    let at = runs_at c.self.inside.sources c.self.inside.arms c.args.source.now c.open_source.new.sources c.in-Some-Done.field-0 c.in_ok-open_source.ensures.sources (sym c.in-Some-Done.is ∙ c.in_ok-open_source.ensures.fate) c.in-Some-Done.field-0-is in
-    said_where_ok c.lose_running.result before c.args.self.now c.args.source.now c.open_source.new.sources c.open_source.new.arms (closed_line c.args.source.now) (lost_text c.args.source.now c.args.sub.now) c.self.view_is at c.in_ok-open_source.ensures.arms c.lose_running.ensures.printed
+pub returns-clause-state : goal.returns-clause-state
+returns-clause-state c =
+    let before : State = the_view c.self.inside in
+    let s = c.args.source.now in
+    let u = c.args.sub.now in
+    where_ok c.match-branch-2.result
+    (ap (λ (slot : Slot). with_slot before s slot) c.in_ok-fate.ensures.slot ∙ changed_state before s c.in-Some.slot.now (λ end. lost_in end u) c.in-Some.ensures.slot ∙ ap (λ (state : State). lost_step state s u) c.self.view_is)

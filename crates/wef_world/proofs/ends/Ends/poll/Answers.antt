@@ -1,30 +1,17 @@
-use Rattle.std.proofs.Common.{sym, ◌∙◌}
-use Rattle.wef_machine.specs.Sources.{poll_at, closed_line, poll_text}
-use Rattle.wef_machine.specs.States.{State}
-use Rattle.wef_world.proofs.Lines.{ran_where_ok, said_where_ok}
-use Rattle.wef_world.proofs.Openings.{runs_at}
-use Rattle.wef_world.proofs.Ready.{formed_at, ready_at}
+use Rattle.std.proofs.Common.{ap, ◌∙◌}
+use Rattle.wef_machine.specs.Sources.{poll_step}
+use Rattle.wef_machine.specs.States.{State, slot_of}
+use Rattle.wef_world.proofs.Ready.{slot_formed}
+use Rattle.wef_world.proofs.Used.{polled_state, done_as}
 use Rattle.wef_world.proofs.ends.Ends.poll.Goals as goal
 
-pub open_source-requires : goal.open_source-requires
-open_source-requires c =
-    let before : State = record { collector = c.self.inside.collector; foreign = c.self.inside.foreign.keys; sources = c.self.inside.sources; arms = c.self.inside.arms; messages = c.self.inside.messages } in
-    formed_at before c.args.self.now c.args.source.now c.self.view_is c.requires.kept
+pub poll-requires : goal.poll-requires
+poll-requires c = record {
+  formed = slot_formed c.args.self.now c.args.source.now c.in-Some.slot.now c.requires.kept (c.in-Some.ensures.slot ∙ ap (λ (state : State). slot_of state c.args.source.now) c.self.view_is);
+}
 
-pub poll_running-requires : goal.poll_running-requires
-poll_running-requires c =
-    let before : State = record { collector = c.self.inside.collector; foreign = c.self.inside.foreign.keys; sources = c.self.inside.sources; arms = c.self.inside.arms; messages = c.self.inside.messages } in
-    let at = runs_at c.self.inside.sources c.self.inside.arms c.args.source.now c.open_source.new.sources c.in-Some-Done.field-0 c.in_ok-open_source.ensures.sources (sym c.in-Some-Done.is ∙ c.in_ok-open_source.ensures.fate) c.in-Some-Done.field-0-is in
-    record { ready = ready_at before c.args.self.now c.args.source.now c.open_source.new.sources c.self.view_is c.requires.kept at }
-
-pub returns-in-Some-Done-clause-state : goal.returns-in-Some-Done-clause-state
-returns-in-Some-Done-clause-state c =
-    let before : State = record { collector = c.self.inside.collector; foreign = c.self.inside.foreign.keys; sources = c.self.inside.sources; arms = c.self.inside.arms; messages = c.self.inside.messages } in
-    let at = runs_at c.self.inside.sources c.self.inside.arms c.args.source.now c.open_source.new.sources c.in-Some-Done.field-0 c.in_ok-open_source.ensures.sources (sym c.in-Some-Done.is ∙ c.in_ok-open_source.ensures.fate) c.in-Some-Done.field-0-is in
-    ran_where_ok c.poll_running.result before c.args.self.now c.args.source.now c.open_source.new.sources c.open_source.new.arms c.poll_running.new.self (poll_at c.args.source.now c.args.sub.now) c.self.view_is at c.in_ok-open_source.ensures.arms c.poll_running.ensures.state
-
-pub returns-in-Some-Done-clause-printed : goal.returns-in-Some-Done-clause-printed
-returns-in-Some-Done-clause-printed c =
-    let before : State = record { collector = c.self.inside.collector; foreign = c.self.inside.foreign.keys; sources = c.self.inside.sources; arms = c.self.inside.arms; messages = c.self.inside.messages } in
-    let at = runs_at c.self.inside.sources c.self.inside.arms c.args.source.now c.open_source.new.sources c.in-Some-Done.field-0 c.in_ok-open_source.ensures.sources (sym c.in-Some-Done.is ∙ c.in_ok-open_source.ensures.fate) c.in-Some-Done.field-0-is in
-    said_where_ok c.poll_running.result before c.args.self.now c.args.source.now c.open_source.new.sources c.open_source.new.arms (closed_line c.args.source.now) (poll_text c.args.source.now c.args.sub.now) c.self.view_is at c.in_ok-open_source.ensures.arms c.poll_running.ensures.printed
+pub returns-clause-state : goal.returns-clause-state
+returns-clause-state c =
+    done_as c.send_polled.result c.send_polled.new.self _ _
+    (polled_state _ c.args.source.now c.args.sub.now c.in-Some.slot.now c.poll.new.self c.in_ok-polled.polled c.in-Some.ensures.slot c.in_ok-polled.ensures ∙ ap (λ (state : State). poll_step state c.args.source.now c.args.sub.now) c.self.view_is)
+    c.send_polled.ensures.state

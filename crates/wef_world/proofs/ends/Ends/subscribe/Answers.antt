@@ -1,0 +1,23 @@
+use Rattle.std.proofs.Common.{List, ℕ, refl, ap, ◌∙◌}
+use Rattle.std.specs.Prelude.{codes}
+use Rattle.wef_collector.specs.Calls.{add_effect}
+use Rattle.wef_eventing.specs.declared.subscriptions.Subscription.{Subscription}
+use Rattle.wef_machine.specs.Collecting.{print_at_collector}
+use Rattle.wef_machine.specs.Printed.{name_line}
+use Rattle.wef_machine.specs.States.{State}
+use Rattle.wef_machine.specs.Steps.{closed_line, subscribe_refused, subscribe_text_by}
+use Rattle.wef_world.proofs.CollectorCalls.{called_prints}
+use Rattle.wef_world.proofs.ends.Ends.subscribe.Goals as goal
+use Rattle.wef_world.specs.Collected.{added_text}
+use Rattle.wef_world.specs.contracts.ends.Ends.{the_view}
+
+pub returns-clause-printed : goal.returns-clause-printed
+returns-clause-printed c =
+    let u = c.args.sub.now in
+    let given = c.in_ok-subscription.subscription in
+    let before : State = the_view c.self.inside in
+    c.in_ok-added_line.ensures ∙ ap (λ (name : List ℕ). added_text name c.in_ok-added.field-0) c.as_text.ensures.value
+    ∙ called_prints before (λ rows. add_effect rows given) (name_line (codes "added") u) (subscribe_refused u) (λ (now : State). subscribe_text_by now u) (λ changes. refl, λ fault. refl)
+    c.in_ok-added.field-0 c.in_ok-added.ensures.called
+    ∙ ap (λ (state : State). print_at_collector state closed_line (λ ids now. subscribe_text_by now u (add_effect now.collector.rows given))) c.self.view_is
+    ∙ ap (λ (s : Subscription). print_at_collector c.args.self.now closed_line (λ ids now. subscribe_text_by now u (add_effect now.collector.rows s))) c.in_ok-subscription.ensures
