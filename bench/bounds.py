@@ -75,13 +75,13 @@ def batch(first, last):
 
 def shows_of_little(size):
     """Many reports of a small state."""
-    return subscription() + batch(1, 20) + "show\n" * size
+    return subscription() + batch(1, 1) + "show\n" * size
 
 
 def shows_of_much(size):
-    """A hundred reports of many events."""
+    """Some reports of many events."""
     batches = "".join(batch(first, first + 19) for first in range(1, size, 20))
-    return subscription() + batches + "show\n" * 100
+    return subscription() + batches + "show\n" * 20
 
 
 def one_batch(size):
@@ -95,7 +95,7 @@ def comments(size):
 
 
 # Each shape of a schedule, and its smaller size.
-SCHEDULES = ((shows_of_little, 500_000), (shows_of_much, 50_000), (one_batch, 100_000), (comments, 500_000))
+SCHEDULES = ((shows_of_little, 100_000), (shows_of_much, 10_000), (one_batch, 100_000), (comments, 500_000))
 
 
 def run(words, text):
