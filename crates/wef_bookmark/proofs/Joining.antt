@@ -16,7 +16,7 @@ use Rattle.std.proofs.lemmas.Bool.Decides.{nat_tests}
 use Rattle.wef_base.specs.Names.{same}
 use Rattle.wef_bookmark.specs.Order.{Marks, number_at, IsAtMost, raised, raised_by, joined, covers_all}
 
-abbrev order : List ℕ → List ℕ → Ordering
+abbrev pub order : List ℕ → List ℕ → Ordering
 order = slice_cmp nat_cmp
 
 equal : (r : Ordering) → is_eq r ≡ true → r ≡ Equal
@@ -25,7 +25,7 @@ equal Equal e = refl
 equal Greater e = cc
 
 -- names that tie are one
-one_name : (q c : List ℕ) → eq_by_cmp order q c ≡ true → q ≡ c
+pub one_name : (q c : List ℕ) → eq_by_cmp order q c ≡ true → q ≡ c
 one_name q c e = exact_bytes q c (equal (order q c) e)
 
 pub both : (a b : Bool) → T (a && b) → T a × T b

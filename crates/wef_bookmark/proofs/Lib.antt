@@ -1,2 +1,3 @@
 pub mod Maps
 pub mod Joining
+pub mod Kept

@@ -6,12 +6,14 @@ ghost use Rattle.std.specs.Ordering.{nat_cmp};
 ghost use Rattle.std.specs.Cmp.Lexicographic.{slice_cmp};
 ghost use Rattle.std.specs.BTreeMap.{get, IsOrdered};
 ghost use Rattle.wef_bookmark.specs.Order.{number_at, IsAtMost, raised, raised_by, joined, covers_all};
+ghost use Rattle.wef_bookmark.specs.Entries.{AreEntries};
 
 use std::alloc::{AllocError, Global};
 use std::collections::BTreeMap;
 use std::marker::Model;
 use thiserror::Error;
 use wef_base::ChannelName;
+use wef_base::numbers::MAX;
 
 /// Why a bookmark couldn't be changed.
 #[derive(Clone, Copy, Debug, PartialEq, Eq, Error)]
@@ -31,7 +33,8 @@ impl From<AllocError> for BookmarkFault {
     }
 }
 
-/// How far each channel was read: the number of the last record, for some channels.
+/// How far each channel was read: the number of the last record, for some channels. A number is at
+/// most `MAX`.
 #[derive(Debug, Drop)]
 pub struct Bookmark {
     alloc: Global,
@@ -45,6 +48,7 @@ impl Model for Bookmark {
     ghost use Rattle.std.specs.Ordering.{nat_cmp};
     ghost use Rattle.std.specs.Cmp.Lexicographic.{slice_cmp};
     ghost use Rattle.std.specs.BTreeMap.{IsOrdered};
+    ghost use Rattle.wef_bookmark.specs.Entries.{AreEntries};
 
     ghost Value = { map.FinMap (slice_cmp nat_cmp) ℕ };
 
@@ -52,7 +56,7 @@ impl Model for Bookmark {
 
     ghost view = { λ b. map.from_entries b.numbers.entries };
 
-    ghost invariant = { λ b. IsOrdered (slice_cmp nat_cmp) b.numbers };
+    ghost invariant = { λ b. IsOrdered (slice_cmp nat_cmp) b.numbers × AreEntries (map.from_entries b.numbers.entries) };
 }
 
 impl Bookmark {
@@ -68,7 +72,8 @@ impl Bookmark {
 
     /// A channel's number: 0 where the bookmark doesn't have the channel.
     pub fn at(&self, channel: &ChannelName) -> u64
-        ensures { result ≡ number_at self.now channel.now }
+        ensures number { result ≡ number_at self.now channel.now }
+        ensures bound { result ≤ MAX }
     {
         number_in(&self.numbers, channel)
     }
@@ -82,7 +87,8 @@ impl Bookmark {
 
     /// Its channels with their numbers, in the order of the names' bytes.
     pub fn numbers(&self) -> &BTreeMap<ChannelName, u64>
-        ensures { result.now.entries ≡ map.entries self.now }
+        ensures entries { result.now.entries ≡ map.entries self.now }
+        ensures kept { AreEntries self.now }
     {
         &self.numbers
     }
@@ -90,11 +96,14 @@ impl Bookmark {
     /// Raises a channel to a number, or leaves it where it is further. A channel that isn't there
     /// is put, also at 0; one that is there takes no memory.
     pub fn raise(&mut self, channel: &ChannelName, to: u64) -> Result<(), BookmarkFault>
+        requires { to ≤ MAX }
         ensures ok { OnOk result (self.new ≡ raised self.old channel.now to) }
         ensures err { OnErr result (self.new ≡ self.old) }
         ensures keeps { IsAtMost self.old self.new }
         ensures present_succeeds { IsSome (map.get self.old channel.now) → IsOk result }
     {
+        // The text is asked for since it says that the name reads back.
+        let _text = channel.as_text();
         raise_in(&mut self.numbers, channel, to)?;
         Ok(())
     }
@@ -113,9 +122,9 @@ impl Bookmark {
         ensures keeps { IsAtMost self.old self.new }
         ensures takes { OnOk result (IsAtMost other.now self.new) }
     {
-        let mut next = self.clone()?;
-        next.raise_to(other)?;
-        *self = next;
+        let mut numbers = copied(self.alloc, &self.numbers)?;
+        raise_each(&mut numbers, &other.numbers)?;
+        self.numbers = numbers;
         Ok(())
     }
 
@@ -123,17 +132,26 @@ impl Bookmark {
     pub fn clone(&self) -> Result<Bookmark, AllocError>
         ensures { IfOk result (λ copy. copy ≡ self.now) }
     {
-        let mut copy = Bookmark::new(self.alloc);
-        copy.raise_to(self)?;
-        Ok(copy)
+        let numbers = copied(self.alloc, &self.numbers)?;
+        Ok(Bookmark {
+            alloc: self.alloc,
+            numbers,
+        })
     }
+}
 
-    /// Joins another bookmark, and may stop halfway where there is no memory.
-    fn raise_to(&mut self, other: &Bookmark) -> Result<(), AllocError>
-        ensures { OnOk result (self.new ≡ joined self.old other.now) }
-    {
-        raise_each(&mut self.numbers, &other.numbers)
-    }
+/// A copy of numbers in order, in memory of its own.
+fn copied(
+    alloc: Global,
+    given: &BTreeMap<ChannelName, u64>,
+) -> Result<BTreeMap<ChannelName, u64>, AllocError>
+    requires { IsOrdered (slice_cmp nat_cmp) given.now }
+    ensures copy { IfOk result (λ copy. map.from_entries {R = slice_cmp nat_cmp} copy.entries ≡ map.from_entries given.now.entries) }
+    ensures ordered { IfOk result (λ copy. IsOrdered (slice_cmp nat_cmp) copy) }
+{
+    let mut copy = BTreeMap::new(alloc);
+    raise_each(&mut copy, given)?;
+    Ok(copy)
 }
 
 fn raise_in(

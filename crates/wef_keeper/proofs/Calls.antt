@@ -5,7 +5,7 @@ use Rattle.std.specs.Prelude.{Option, Some, None, Result, Ok, Err, IfSome, List,
 use Rattle.wef_base.specs.Counts.{Rose}
 use Rattle.wef_keeper.specs.Access.{AnyOf, AnyRows, Finds, From, HasRead, IsReady, IsRefused, Leaves, LeavesPlanned, OpensAndReads, Reads, fails as store_fails, is_idle, is_planned, plan_with, tries_with}
 use Rattle.wef_keeper.specs.Calls.{AnswersFault, ByPlan, Did, Effect, FaultByPlan, FaultByTries, FaultReadied, IsCall, Looks, Makes, MayLeave, OfStore, OnFaultImages, Readied, TellsFault, WhereMade, fails, is_failure}
-use Rattle.wef_keeper.specs.Keeping.{Follows, IsBeforeOrAfter, IsOneOf, Stays, Store, outcome, raised}
+use Rattle.wef_keeper.specs.Keeping.{Follows, IsBeforeOrAfter, IsOneOf, Stays, Store, WhereTold, outcome, raised}
 use Rattle.wef_keeper.specs.Rows.{Rows, applied}
 use Rattle.wef_keeper.specs.declared.access.StoreFault.{StoreFault}
 use Rattle.wef_keeper.specs.declared.access.StoreFault.TheVariants.{NoMemory, Failed}
@@ -13,6 +13,7 @@ use Rattle.wef_keeper.specs.declared.keeping.Plan.{Plan}
 use Rattle.wef_keeper.specs.declared.keeping.Plan.TheVariants.{Done}
 use Rattle.wef_keeper.specs.declared.keys.Change.{Change}
 use Rattle.wef_keeper.proofs.ReadsOf.{only_opens, opens_reads}
+use Rattle.wef_keeper.proofs.StayFormed.{all_weaker, done_formed, left_formed, narrowed_formed}
 use Rattle.wef_keeper.proofs.Told.{follows_both, follows_self, follows_told, follows_with, told_any, told_both, told_map, told_still, told_swap}
 
 -- ---- what an opening found
@@ -69,10 +70,6 @@ pub finds_still : (before mid now : Store) → Finds before mid → HasRead mid 
 finds_still before mid now finds read = finds_in before.images mid.rows now.rows finds read.1
 
 -- ---- images
-
-all_weaker : (P Q : Rows → Type 0) → ((rows : Rows) → P rows → Q rows) → (images : List Rows) → AllByRecursion P images → AllByRecursion Q images
-all_weaker P Q gives [] all = tt
-all_weaker P Q gives (image ∷ images) all = (gives image all.0, all_weaker P Q gives images all.1)
 
 -- after reads alone each image is one that was there
 narrow_images : {F : Type 0} (effect : Rows → Effect F) (images left : Option (List Rows)) → IfSome images (λ old. IfSome left (AllByRecursion (IsOneOf old)))
@@ -146,6 +143,7 @@ refused_call of_store AreFormed effect value fault before now finds opens ready 
       cause = opens.1;
       faults = opened.3;
       ready = ready;
+      formed = narrowed_formed AreFormed before.images now.images opened.0;
     }
 
 -- a call that wants memory
@@ -179,6 +177,7 @@ unfound_call {T = T} of_store AreFormed effect value fault before now is few ope
       cause = subst (λ (kind : Option StoreFault). is_failure kind ≡ true → IfSome now.rows (λ rows. AreFormed rows → Rose before.faults now.faults)) (sym is) formed.1;
       faults = opened.3;
       ready = subst (λ (kind : Option StoreFault). FaultReadied kind now) (sym is) tt;
+      formed = narrowed_formed AreFormed before.images now.images opened.0;
     }
 
 -- ---- a call that commits
@@ -187,10 +186,11 @@ once_idle : (idle : Bool) (before : ℕ) → ((cond idle before (raised before))
 once_idle true before = inl refl
 once_idle false before = inr refl
 
-done_call : {T F : Type 0} (of_store : OfStore F) (AreFormed : Rows → Type 0) (effect : Rows → Effect F) (value : Rows → T) (changes : List Change) (answer : T) (before mid now : Store) → Finds before mid
+done_call : {T F : Type 0} (of_store : OfStore F) (AreFormed : Rows → Type 0) (effect : Rows → Effect F) (value : Rows → T) (changes : List Change) (answer : T) (before mid now : Store) → ((rows : Rows) → AreFormed rows → AreFormed (applied changes rows))
+    → IfSome now.images (λ all. WhereTold now.rows (λ stand. all ≡ stand ∷ [])) → Finds before mid
     → OpensAndReads AreFormed false before mid → IfSome mid.rows (λ rows. effect rows ≡ Ok changes) → IfSome mid.rows (λ rows. answer ≡ value rows)
     → Leaves changes (Ok tt) mid now → IfSome mid.plan (λ planned. LeavesPlanned changes planned (Ok tt) mid now) → mid.faults ≤ now.faults → IsCall of_store AreFormed effect value (Ok answer) before now
-done_call {T = T} {F = F} of_store AreFormed effect value changes answer before mid now finds opens made answers leaves planned higher =
+done_call {T = T} {F = F} of_store AreFormed effect value changes answer before mid now keeps only finds opens made answers leaves planned higher =
     let opened = opens.0 in
     let low : before.faults ≤ mid.faults = opened.3 in
     let count : now.tries ≡ tries_with changes before.tries = leaves.2 ∙ ap (tries_with changes) opened.1 in
@@ -211,6 +211,7 @@ done_call {T = T} {F = F} of_store AreFormed effect value changes answer before 
       cause = λ no. cc;
       faults = omega arith;
       ready = leaves.0;
+      formed = done_formed AreFormed changes keeps before.images mid.rows now.rows now.images finds leaves.1 only;
     }
 
 -- rows are told where images are, and those follow from what was told before
@@ -220,11 +221,11 @@ follows_images mid None (Some after) Holds both follows = let no : false ≡ tru
 follows_images None (Some left) (Some after) Holds both follows = absurd follows
 follows_images (Some found) (Some left) (Some after) Holds both follows = tt
 
-failed_call : {T F : Type 0} (of_store : OfStore F) (AreFormed : Rows → Type 0) (effect : Rows → Effect F) (value : Rows → T) (fault : F) (changes : List Change) (before mid now : Store)
+failed_call : {T F : Type 0} (of_store : OfStore F) (AreFormed : Rows → Type 0) (effect : Rows → Effect F) (value : Rows → T) (fault : F) (changes : List Change) (before mid now : Store) → ((rows : Rows) → AreFormed rows → AreFormed (applied changes rows))
     → of_store fault ≡ Some Failed → is_some now.images ≡ is_some now.rows → Finds before mid → OpensAndReads AreFormed false before mid → IfSome mid.rows (λ rows. effect rows ≡ Ok changes)
     → Leaves changes (Err Failed) mid now → IfSome mid.plan (λ planned. LeavesPlanned changes planned (Err Failed) mid now) → mid.faults ≤ now.faults
     → IsCall of_store AreFormed effect value (Err fault) before now
-failed_call {T = T} {F = F} of_store AreFormed effect value fault changes before mid now is both finds opens made leaves planned higher =
+failed_call {T = T} {F = F} of_store AreFormed effect value fault changes before mid now keeps is both finds opens made leaves planned higher =
     let opened = opens.0 in
     let low : before.faults ≤ mid.faults = opened.3 in
     let higher_than : Rose mid.faults now.faults = leaves.3 in
@@ -251,6 +252,7 @@ failed_call {T = T} {F = F} of_store AreFormed effect value fault changes before
       cause = λ _. told_any now.rows (λ rows. AreFormed rows → Rose before.faults now.faults) (λ rows formed. rose);
       faults = omega arith;
       ready = subst (λ (kind : Option StoreFault). FaultReadied kind now) (sym is) tt;
+      formed = left_formed AreFormed changes keeps before.images mid.rows now.images finds leaves.1;
     }
 
 -- ---- the whole call, by where it ends
@@ -273,9 +275,9 @@ refused of_store AreFormed effect value fault before opened now finds opens read
 
 -- its changes aren't committed
 pub not_committed : {T F : Type 0} (of_store : OfStore F) (AreFormed : Rows → Type 0) (effect : Rows → Effect F) (value : Rows → T) (kind : StoreFault) (fault : F) (changes : List Change) (before opened mid now : Store)
-    → of_store fault ≡ Some kind → is_some now.images ≡ is_some now.rows → Finds before opened → OpensAndReads AnyRows false before opened → Reads AreFormed false opened mid → IfSome mid.rows (λ rows. effect rows ≡ Ok changes)
+    → ((rows : Rows) → AreFormed rows → AreFormed (applied changes rows)) → of_store fault ≡ Some kind → is_some now.images ≡ is_some now.rows → Finds before opened → OpensAndReads AnyRows false before opened → Reads AreFormed false opened mid → IfSome mid.rows (λ rows. effect rows ≡ Ok changes)
     → Leaves changes (Err kind) mid now → IfSome mid.plan (λ planned. LeavesPlanned changes planned (Err kind) mid now) → mid.faults ≤ now.faults → IsCall of_store AreFormed effect value (Err fault) before now
-not_committed of_store AreFormed effect value NoMemory fault changes before opened mid now is both finds opens reads made leaves planned higher =
+not_committed of_store AreFormed effect value NoMemory fault changes before opened mid now keeps is both finds opens reads made leaves planned higher =
     let found = finds_still before opened mid finds reads.0 in
     let mid_opens = opens_reads AreFormed false before opened mid opens.0 reads in
     let read : Reads AreFormed false mid now = (
@@ -284,15 +286,15 @@ not_committed of_store AreFormed effect value NoMemory fault changes before open
       told_any mid.plan (λ planned. IfSome now.rows (λ rows. AreFormed rows → false ≡ false)) (λ planned. told_any now.rows (λ rows. AreFormed rows → false ≡ false) (λ rows formed. refl)),
     ) in
     unmade_call of_store AreFormed effect value fault before now is (finds_still before mid now found leaves) (opens_reads AreFormed false before mid now mid_opens.0 read) leaves.0.1
-not_committed of_store AreFormed effect value Failed fault changes before opened mid now is both finds opens reads made leaves planned higher =
-    failed_call of_store AreFormed effect value fault changes before mid now is both (finds_still before opened mid finds reads.0) (opens_reads AreFormed false before opened mid opens.0 reads) made leaves planned higher
+not_committed of_store AreFormed effect value Failed fault changes before opened mid now keeps is both finds opens reads made leaves planned higher =
+    failed_call of_store AreFormed effect value fault changes before mid now keeps is both (finds_still before opened mid finds reads.0) (opens_reads AreFormed false before opened mid opens.0 reads) made leaves planned higher
 
 -- they are
 pub committed : {T F : Type 0} (of_store : OfStore F) (AreFormed : Rows → Type 0) (effect : Rows → Effect F) (value : Rows → T) (changes : List Change) (answer : T) (before opened mid now : Store)
-    → Finds before opened → OpensAndReads AnyRows false before opened → Reads AreFormed false opened mid → IfSome mid.rows (λ rows. effect rows ≡ Ok changes) → IfSome mid.rows (λ rows. answer ≡ value rows)
+    → ((rows : Rows) → AreFormed rows → AreFormed (applied changes rows)) → IfSome now.images (λ all. WhereTold now.rows (λ stand. all ≡ stand ∷ [])) → Finds before opened → OpensAndReads AnyRows false before opened → Reads AreFormed false opened mid → IfSome mid.rows (λ rows. effect rows ≡ Ok changes) → IfSome mid.rows (λ rows. answer ≡ value rows)
     → Leaves changes (Ok tt) mid now → IfSome mid.plan (λ planned. LeavesPlanned changes planned (Ok tt) mid now) → mid.faults ≤ now.faults → IsCall of_store AreFormed effect value (Ok answer) before now
-committed of_store AreFormed effect value changes answer before opened mid now finds opens reads made answers leaves planned higher =
-    done_call of_store AreFormed effect value changes answer before mid now (finds_still before opened mid finds reads.0) (opens_reads AreFormed false before opened mid opens.0 reads) made answers leaves planned higher
+committed of_store AreFormed effect value changes answer before opened mid now keeps only finds opens reads made answers leaves planned higher =
+    done_call of_store AreFormed effect value changes answer before mid now keeps only (finds_still before opened mid finds reads.0) (opens_reads AreFormed false before opened mid opens.0 reads) made answers leaves planned higher
 
 -- ---- a call that only reads
 

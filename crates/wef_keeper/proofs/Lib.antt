@@ -7,4 +7,5 @@ mod Pages
 mod Places
 pub mod ReadsOf
 pub mod Stands
+pub mod StayFormed
 pub mod Told

@@ -3,6 +3,7 @@
 use Rattle.std.specs.Prelude.{◌≡◌, ℕ, ◌≤◌, Bool, true, false, ◌⊎◌, List, Option, Some, None, Result, Ok, Err, IfSome}
 use Rattle.std.specs.List.{AllByRecursion}
 use Rattle.wef_keeper.specs.Access.{AnyOf, Finds, From, HasCause, IsReady, OpensAndReads, is_planned, plan_with, tries_with}
+use Rattle.wef_keeper.specs.Forms.{StayFormed}
 use Rattle.wef_keeper.specs.Keeping.{Store, outcome, raised}
 use Rattle.wef_keeper.specs.Rows.{Rows, applied}
 use Rattle.wef_keeper.specs.declared.access.StoreFault.{StoreFault}
@@ -130,6 +131,8 @@ pub record IsCall {T F : Type 0} (of_store : OfStore F) (AreFormed : Rows → Ty
   pub faults : before.faults ≤ now.faults
   -- it leaves the store opened and without doubt
   pub ready : Readied of_store result now
+  -- whatever it answers, rows of their form stay so
+  pub formed : StayFormed AreFormed before now
 
 -- A call that opens its store and then only reads.
 pub record Looks {T F : Type 0} (of_store : OfStore F) (AreFormed : Rows → Type 0) (result : Result T F) (before now : Store) : Type 0 where

@@ -4,11 +4,13 @@ ghost use Rattle.std.specs.Prelude.{◌≡◌, ◌≤◌, ◌++◌, true, false,
 ghost use Rattle.std.specs.List.{AllByRecursion};
 ghost use Rattle.wef_base.specs.Counts.{Rose};
 ghost use Rattle.wef_keeper.specs.Access as access;
+ghost use Rattle.wef_keeper.specs.Forms.{ArePut};
 ghost use Rattle.wef_keeper.specs.Keeping.{row_at};
 ghost use Rattle.wef_keeper.specs.Sections.{last_key, rows_under};
 
+use crate::forms::{Changes, Form};
 use crate::keeping::{Keeper, KeeperFault};
-use crate::keys::{Change, Depth, Key, Row};
+use crate::keys::{Depth, Key, Row};
 use std::alloc::AllocError;
 use thiserror::Error;
 use wef_base::List;
@@ -156,12 +158,17 @@ pub fn last_key_of(after: Key, page: &[Row]) -> Result<Key, AllocError>
 }
 
 /// Commits a list of changes. One that changes nothing begins no commit.
-pub fn commit<K: Keeper>(keeper: &mut K, changes: &List<Change>) -> Result<(), StoreFault>
+pub fn commit<F: Form, K: Keeper>(
+    keeper: &mut K,
+    changes: &Changes<F>,
+) -> Result<(), StoreFault>
     requires { access.IsReady (K.store keeper.old) }
+    ensures put { ArePut F.passes changes.now }
     ensures leaves { access.Leaves changes.now result (K.store keeper.old) (K.store keeper.new) }
     ensures planned { IfSome (K.store keeper.old).plan (λ planned. access.LeavesPlanned changes.now planned result (K.store keeper.old) (K.store keeper.new)) }
     ensures faults { (K.store keeper.old).faults ≤ (K.store keeper.new).faults }
 {
+    let changes = changes.as_list();
     if changes.is_empty() {
         return Ok(());
     }

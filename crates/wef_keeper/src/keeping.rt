@@ -1,6 +1,7 @@
 //! The store contract: what the ends ask of whatever keeps their rows.
 
 ghost use Rattle.std.specs.Prelude.{◌≡◌, ℕ, ◌≤◌, ◌<◌, true, false, Bool, is_some, length, take, List, [], ◌∷◌, Option, IfOk, IfSome, OnOk, OnErr, OnSome, All};
+ghost use Rattle.wef_keeper.specs.Forms.{AreWithin};
 ghost use Rattle.wef_keeper.specs.Keeping.{Store, WhereTold, OfRows, OfImages, StaysOpened, StaysUntold, KeepsRows, IsAsBefore, IsCalm, raised, is_in_doubt, OnFailed, OnRefused, HasFault, counted, row_at, leaves_doubt, tried, IsBeforeOrAfter, FollowsPlan, outcome, plan_after, stays_in_doubt, Reopens, IsOneOf};
 ghost use Rattle.wef_keeper.specs.Rows.{Rows, applied, is_after, rows_after};
 ghost use Rattle.wef_keeper.specs.declared.keys.Row as the_row;
@@ -78,8 +79,10 @@ pub trait Keeper {
         ensures calm { IsCalm result (store self.old) (store self.new) }
         ensures opened { StaysOpened (store self.old) (store self.new) };
 
-    /// Applies all changes in order, or none. Where it fails, either may be what the store kept.
+    /// Applies all changes in order, or none. Where it fails, either may be what the store kept. The
+    /// numbers and values of the rows that are put are at most `MAX`.
     fn commit(&mut self, changes: &List<Change>) -> Result<(), KeeperFault>
+        requires { AreWithin changes.now }
         ensures done { OnOk result (OfRows (store self.old) (store self.new) (λ before now. now ≡ applied changes.now before)) }
         ensures failed { OnFailed result (OfImages (store self.old) (store self.new) (λ before left. All (IsBeforeOrAfter changes.now before) left)) }
         ensures stays { OnRefused result (IsAsBefore (store self.old) (store self.new)) }

@@ -4,6 +4,7 @@
 
 pub mod access;
 mod cells;
+pub mod forms;
 pub mod keeping;
 pub mod keys;
 pub mod laws;
@@ -12,6 +13,7 @@ mod paging;
 pub mod table;
 
 pub use access::StoreFault;
+pub use forms::{Changes, Form};
 pub use keeping::{Keeper, KeeperFault, Plan};
 pub use keys::{Cell, Change, Depth, Key, Row};
 pub use mem_keeper::MemKeeper;
