@@ -6,11 +6,10 @@ ghost use Rattle.wef_base.specs.Names.{same};
 ghost use Rattle.wef_xml.specs.Prefixes.{bound_by, prefix_of, unless_bound};
 ghost use Rattle.wef_tree_writing.specs.Levels.{all_of, if_bound_to, prefix_around, unless_any_binds};
 
-use crate::lookups::Lookup;
 use std::alloc::{AllocError, Global};
 use std::marker::Model;
 use wef_base::{List, Namespace, Text};
-use wef_xml::Binding;
+use wef_xml::{Binding, Lookup};
 
 /// The bindings that one element makes, which contracts see in their order, each inside those before
 /// it.
@@ -18,9 +17,9 @@ use wef_xml::Binding;
 pub struct Level {
     bindings: List<Binding>,
     /// The innermost prefix of each namespace.
-    prefixes: Lookup,
+    prefixes: Lookup<Text>,
     /// What each prefix stands for.
-    spaces: Lookup,
+    spaces: Lookup<Text>,
 }
 
 impl Model for Level {
@@ -73,8 +72,8 @@ impl Level {
             mut spaces,
         } = self;
         let space = binding.space.as_text();
-        prefixes.insert(space.clone()?, binding.prefix.clone()?)?;
-        spaces.insert(binding.prefix.clone()?, space.clone()?)?;
+        let _outer_prefix = prefixes.insert(space.clone()?, binding.prefix.clone()?)?;
+        let _outer_space = spaces.insert(binding.prefix.clone()?, space.clone()?)?;
         bindings.push(binding)?;
         Ok(Level {
             bindings,

@@ -3,10 +3,10 @@
 
 mod bindings;
 mod escaping;
-mod lookups;
 mod markup;
 mod prefixes;
 mod soap;
+mod text_sets;
 mod writing;
 
 pub use writing::{write_tree, write_tree_within};

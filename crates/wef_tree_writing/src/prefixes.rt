@@ -6,8 +6,8 @@ ghost use Rattle.wef_xml.specs.Prefixes.{attribute_prefix, bindings_from, elemen
 ghost use Rattle.wef_tree_writing.specs.Levels.{all_of};
 
 use crate::bindings::Bindings;
-use crate::lookups::TextSet;
 use crate::soap::RootPrefixes;
+use crate::text_sets::TextSet;
 use std::alloc::{AllocError, Global};
 use wef_base::{Attribute, List, Namespace, Text};
 use wef_xml::Binding;

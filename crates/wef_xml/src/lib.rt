@@ -10,9 +10,11 @@ mod faults;
 pub mod fronts;
 pub mod letters;
 pub mod line_ends;
+pub mod lookups;
 pub mod places;
 pub mod spaces;
 mod utf16;
 
 pub use bindings::Binding;
 pub use faults::TreeFault;
+pub use lookups::Lookup;

@@ -4,7 +4,7 @@ use Rattle.std.specs.Cmp.Lexicographic.{slice_cmp}
 use Rattle.std.specs.Ordering.{eq_by_cmp}
 use Rattle.wef_tree_writing.specs.Levels.{HasTexts}
 use Rattle.wef_tree_writing.proofs.Bound.{texts_with}
-use Rattle.wef_tree_writing.proofs.lookups.TextSet.with.Goals as goal
+use Rattle.wef_tree_writing.proofs.text_sets.TextSet.with.Goals as goal
 
 pub invariant_of-result : goal.invariant_of-result
 invariant_of-result c =
