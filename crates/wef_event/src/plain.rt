@@ -1,6 +1,6 @@
 //! The event that a source makes of plain words.
 
-ghost use Rattle.std.specs.Prelude.{◌≡◌, ◌≤◌, IsTrue, IfOk};
+ghost use Rattle.std.specs.Prelude.{◌≡◌, ◌≤◌, [], IsTrue, IfOk};
 ghost use Rattle.wef_base.specs.Characters.{is_xml_text};
 ghost use Rattle.wef_base.specs.declared.numbers.TheConstants.{MAX};
 ghost use Rattle.wef_event.specs.PlainEvent.{plain_event, plain_text, MakesEvent};
@@ -38,6 +38,22 @@ pub fn plain_event(
     })
 }
 
+/// The bytes of a plain event's text beside its channel and its word, where its numbers have as many
+/// digits as they can.
+const FRAME: usize = 253;
+
+/// The room that a plain event's text takes, where nothing has to be escaped.
+fn room_for(channel: &str, word: &str) -> usize {
+    FRAME.saturating_add(channel.len()).saturating_add(word.len())
+}
+
+/// An empty text with room for so many bytes.
+fn empty_text(alloc: Global, room: usize) -> Result<Text, AllocError>
+    ensures { IfOk result (λ text. text ≡ []) }
+{
+    Ok(Text::from(String::with_capacity(alloc, room)?))
+}
+
 fn plain_text(
     alloc: Global,
     channel: &str,
@@ -48,7 +64,7 @@ fn plain_text(
 ) -> Result<Text, AllocError>
     ensures { IfOk result (λ text. text ≡ plain_text channel.now number id level word.now) }
 {
-    let mut text = Text::new(alloc);
+    let mut text = empty_text(alloc, room_for(channel, word))?;
     text.push_str(
         "<Event xmlns=\"http://schemas.microsoft.com/win/2004/08/events/event\"><System><EventID>",
     )?;

@@ -18,5 +18,5 @@ returns c = rw (
   c.in_ok-push_str.ensures.ok,
   c.from.ensures,
   c.from-2.ensures,
-  c.new-text.ensures,
+  c.in_ok-text.ensures,
 ) (simp append_assoc)
