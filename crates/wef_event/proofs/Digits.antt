@@ -1,7 +1,7 @@
 -- The digits of a number: they are characters of ASCII that stand for themselves, and are read as the number.
-use Rattle.std.proofs.Common.{◌≡◌, ℕ, zero, suc, ◌/◌, ◌%◌, ◌<◌, ◌≤◌, ◌==◌, Bool, true, false, not, ◌&&◌, cond, List, [], ◌∷◌, ◌++◌, encode_utf8_all, refl, ap, sym, ◌∙◌, arith}
+use Rattle.std.proofs.Common.{◌≡◌, ℕ, ◌<◌, ◌≤◌, ◌==◌, Bool, true, false, not, ◌&&◌, cond, List, [], ◌∷◌, ◌++◌, encode_utf8_all, refl, ap, sym, ◌∙◌, arith}
 use Rattle.std.specs.Prelude.{Some, None}
-use Rattle.std.specs.Fmt.{decimal, digit_glyph, digits, digits_onto}
+use Rattle.std.specs.Fmt.{decimal, digit_glyph, digits}
 use Rattle.std.specs.List.{flat_map, list_all}
 use Rattle.std.specs.Str.{all_scalars, chars}
 use Rattle.std.proofs.Math.Utf8.{scalar}
@@ -13,38 +13,18 @@ use Rattle.wef_base.specs.Names.{is_space, trimmed, trimmed_characters, unless_l
 use Rattle.wef_base.specs.Numbers.{has_leading_zero, is_digit, is_numeral, number_within, plain_number}
 use Rattle.wef_base.specs.declared.numbers.TheConstants.{MAX}
 use Rattle.wef_base.proofs.Decimals.{plain_number-decimal}
+use Rattle.wef_xml.proofs.Glyphs.{digits_pass, each_glyph}
 use Rattle.wef_xml.specs.Canonical.{text_char, text_of}
 use Rattle.wef_xml.specs.Good.{IsXmlText}
 use Rattle.wef_event.specs.Paths.{number_of_digits, unless_zero}
 
 -- each of the ten
 glyph_is : (d : ℕ) → d < 10 → is_digit (digit_glyph false d) ≡ true
-glyph_is zero h = refl
-glyph_is (suc zero) h = refl
-glyph_is (suc (suc zero)) h = refl
-glyph_is (suc (suc (suc zero))) h = refl
-glyph_is (suc (suc (suc (suc zero)))) h = refl
-glyph_is (suc (suc (suc (suc (suc zero))))) h = refl
-glyph_is (suc (suc (suc (suc (suc (suc zero)))))) h = refl
-glyph_is (suc (suc (suc (suc (suc (suc (suc zero))))))) h = refl
-glyph_is (suc (suc (suc (suc (suc (suc (suc (suc zero)))))))) h = refl
-glyph_is (suc (suc (suc (suc (suc (suc (suc (suc (suc zero))))))))) h = refl
-glyph_is (suc (suc (suc (suc (suc (suc (suc (suc (suc (suc d)))))))))) h = absurd (omega arith)
-
--- the digits of a number, behind those so far
-onto_are : (steps n : ℕ) (behind : List ℕ) → list_all is_digit behind ≡ true → list_all is_digit (digits_onto steps 10 false n behind) ≡ true
-onto_are zero n behind h = h
-onto_are (suc steps) n behind h =
-    let more : list_all is_digit (digit_glyph false (n % 10) ∷ behind) ≡ true = and_from _ _ (glyph_is (n % 10) (omega arith)) h in
-    by (n / 10 == 0) (digit_glyph false (n % 10) ∷ behind) more (onto_are steps (n / 10) (digit_glyph false (n % 10) ∷ behind) more)
-  where
-    by : (b : Bool) (done : List ℕ) → list_all is_digit done ≡ true → list_all is_digit (digits_onto steps 10 false (n / 10) done) ≡ true → list_all is_digit (cond b done (digits_onto steps 10 false (n / 10) done)) ≡ true
-    by true done here further = here
-    by false done here further = further
+glyph_is = each_glyph (λ _ c. is_digit c ≡ true) refl refl refl refl refl refl refl refl refl refl
 
 pub decimal_digits : (n : ℕ) → list_all is_digit (decimal n) ≡ true
 unfolding digits
-decimal_digits n = onto_are 64 n [] refl
+decimal_digits n = digits_pass is_digit glyph_is 64 n [] refl
 
 -- ---- digits as characters
 

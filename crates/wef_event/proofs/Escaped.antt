@@ -1,9 +1,8 @@
 -- How characters stand in text: as wef_tree has them, in UTF-8.
-use Rattle.std.proofs.Common.{◌≡◌, ℕ, ◌==◌, Bool, true, false, cond, List, [], ◌∷◌, ◌++◌, length, codes, encode_utf8, encode_utf8_all, IsUtf8, refl, ap, sym, ◌∙◌, append_assoc, append-nil}
+use Rattle.std.proofs.Common.{◌≡◌, ℕ, ◌==◌, Bool, true, false, cond, List, [], ◌∷◌, ◌++◌, codes, encode_utf8, encode_utf8_all, IsUtf8, refl, ap, sym, ◌∙◌, append-nil}
 use Rattle.std.specs.List.{flat_map, list_all}
 use Rattle.std.specs.Str.{chars}
 use Rattle.std.proofs.Math.Utf8.{encode}
-use Rattle.std.proofs.StrCases.{chars_of_empty}
 use Rattle.std.proofs.lemmas.Str.{chars_past_char, encodes-append}
 use Rattle.wef_base.specs.Numbers.{is_digit}
 use Rattle.wef_xml.specs.Canonical.{text_char, text_of}
@@ -38,18 +37,6 @@ escaped_is word = all_escaped (chars word)
 pub escaped_digits : (ds : List ℕ) → list_all is_digit ds ≡ true → escaped ds ≡ ds
 escaped_digits ds h = escaped_is ds ∙ ap encode_utf8_all (digits_text_of ds h) ∙ digits_encoded ds h
 
--- ---- going over a text
-
 -- a character in front of a text stands there in front of it
 pub escaped_past : (text rest : List ℕ) (c : ℕ) → IsUtf8 text → text ≡ encode_utf8 c ++ rest → escaped text ≡ escape c ++ escaped rest
 escaped_past text rest c utf8 parts = ap (flat_map escape) (chars_past_char text rest c utf8 parts)
-
--- what is written before a character and behind it
-pub next_written : (out whole text rest : List ℕ) (c : ℕ) → IsUtf8 text → text ≡ encode_utf8 c ++ rest → out ++ escaped text ≡ whole → (out ++ escape c) ++ escaped rest ≡ whole
-next_written out whole text rest c utf8 parts held =
-    append_assoc out (escape c) (escaped rest) ∙ ap (λ more. out ++ more) (sym (escaped_past text rest c utf8 parts)) ∙ held
-
--- and at the end
-pub all_written : (out whole text : List ℕ) → length text ≡ 0 → out ++ escaped text ≡ whole → out ≡ whole
-all_written out whole text none held =
-    sym (append-nil out) ∙ ap (λ cs. out ++ flat_map escape cs) (sym (chars_of_empty text none)) ∙ held

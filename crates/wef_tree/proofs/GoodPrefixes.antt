@@ -1,6 +1,6 @@
 -- The prefixes that a writer uses are names without `:`, and their namespaces may be declared.
-use Rattle.std.proofs.Common.{◌≡◌, ℕ, zero, suc, ◌/◌, ◌%◌, ◌<◌, ◌==◌, Bool, true, false, ◌&&◌, not, is_some, if◌then◌else◌, nat_lt, List, [], ◌∷◌, ◌++◌, length, codes, encode_utf8_all, Option, Some, None, refl, ap, sym, subst, ◌∙◌, ⊎_elim, arith}
-use Rattle.std.specs.Fmt.{digit_glyph, digits_onto}
+use Rattle.std.proofs.Common.{◌≡◌, ℕ, suc, ◌<◌, Bool, true, false, ◌&&◌, not, is_some, if◌then◌else◌, nat_lt, List, [], ◌∷◌, ◌++◌, length, codes, encode_utf8_all, Option, Some, None, refl, ap, sym, subst, ◌∙◌, ⊎_elim, arith}
+use Rattle.std.specs.Fmt.{digit_glyph}
 use Rattle.std.specs.List.{list_all, list_any}
 use Rattle.std.proofs.lemmas.Bool.{and_from, and_parts}
 use Rattle.std.proofs.lemmas.Bool.Decides.{nat_tests}
@@ -8,6 +8,7 @@ use Rattle.std.proofs.lemmas.Str.{encode_ascii}
 use Rattle.wef_base.specs.Characters.{is_xml_char}
 use Rattle.wef_base.specs.Names.{same}
 use Rattle.wef_base.specs.declared.tree.Attribute.{Attribute}
+use Rattle.wef_xml.proofs.Glyphs.{digits_pass, each_glyph}
 use Rattle.wef_xml.specs.Good.{AreGoodAttributes, IsLocalName, IsXmlText}
 use Rattle.wef_xml.specs.Letters.{is_name_char, is_name_start}
 use Rattle.wef_xml.specs.Prefixes.{attribute_prefix, bindings_from, bound_by, element_prefix, in_digits, needs_prefix, new_bindings, new_spaces, next_free, nine, numbered_prefix, outer_prefixes, prefix_of, soap_space, unless_bound, with_space}
@@ -132,37 +133,12 @@ is_plain_digit c = is_plain c && is_name_char c
 -- each of the ten
 glyph_is : (d : ℕ) → d < 10 → is_plain_digit (digit_glyph false d) ≡ true
 unfolding is_plain_digit
-glyph_is zero h = refl
-glyph_is (suc zero) h = refl
-glyph_is (suc (suc zero)) h = refl
-glyph_is (suc (suc (suc zero))) h = refl
-glyph_is (suc (suc (suc (suc zero)))) h = refl
-glyph_is (suc (suc (suc (suc (suc zero))))) h = refl
-glyph_is (suc (suc (suc (suc (suc (suc zero)))))) h = refl
-glyph_is (suc (suc (suc (suc (suc (suc (suc zero))))))) h = refl
-glyph_is (suc (suc (suc (suc (suc (suc (suc (suc zero)))))))) h = refl
-glyph_is (suc (suc (suc (suc (suc (suc (suc (suc (suc zero))))))))) h = refl
-glyph_is (suc (suc (suc (suc (suc (suc (suc (suc (suc (suc d)))))))))) h = absurd (omega arith)
-
--- the last digit of a number
-digit_is : (n : ℕ) → is_plain_digit (digit_glyph false (n % 10)) ≡ true
-digit_is n = glyph_is (n % 10) (omega arith)
-
--- the digits of a number, behind those so far
-digits_are : (steps n : ℕ) (behind : List ℕ) → list_all is_plain_digit behind ≡ true → list_all is_plain_digit (digits_onto steps 10 false n behind) ≡ true
-digits_are zero n behind h = h
-digits_are (suc steps) n behind h =
-    let more : list_all is_plain_digit (digit_glyph false (n % 10) ∷ behind) ≡ true = and_from _ _ (digit_is n) h in
-    by (n / 10 == 0) (digit_glyph false (n % 10) ∷ behind) more (digits_are steps (n / 10) (digit_glyph false (n % 10) ∷ behind) more)
-  where
-    by : (b : Bool) (done : List ℕ) → list_all is_plain_digit done ≡ true → list_all is_plain_digit (digits_onto steps 10 false (n / 10) done) ≡ true → list_all is_plain_digit (if b then done else digits_onto steps 10 false (n / 10) done) ≡ true
-    by true done here further = here
-    by false done here further = further
+glyph_is = each_glyph (λ _ c. is_plain_digit c ≡ true) refl refl refl refl refl refl refl refl refl refl
 
 -- all digits of a number
 digits_of_number : (n : ℕ) → list_all is_plain_digit (in_digits n) ≡ true
 unfolding in_digits
-digits_of_number n = digits_are (suc n) n [] refl
+digits_of_number n = digits_pass is_plain_digit glyph_is (suc n) n [] refl
 
 -- what holds of all by two tests holds by each
 halves : {A : Type 0} (p q : A → Bool) (xs : List A) → list_all (λ x. p x && q x) xs ≡ true → (list_all p xs ≡ true) × (list_all q xs ≡ true)

@@ -1,5 +1,5 @@
 -- The tree that a function gives is the one that the bytes spell.
-use Rattle.std.proofs.Common.{◌≡◌, ℕ, zero, suc, ◌≤◌, ◌<◌, false, List, [], ◌∷◌, length, refl, ap, sym, ◌∙◌, subst, arith}
+use Rattle.std.proofs.Common.{◌≡◌, ℕ, zero, suc, ◌≤◌, false, List, [], ◌∷◌, length, refl, ap, sym, ◌∙◌, arith}
 use Rattle.std.specs.Prelude.{Option, Some, None, Result}
 use Rattle.std.specs.Option.{option_and_then}
 use Rattle.std.specs.declared.result.Result.TheVariants.{Ok, Err}
@@ -9,7 +9,7 @@ use Rattle.wef_tree_reading.specs.Building.{nothing, taken}
 use Rattle.wef_xml.specs.Decoding.{decoded, line_ends}
 use Rattle.wef_tree_reading.specs.Documents.{GivesTree, IsSpelt, led_on, led_to, root_by, root_of, tree_of}
 use Rattle.wef_tree_reading.specs.Pieces.{piece_at}
-use Rattle.wef_tree_reading.specs.Spelling.{Leads, ReadsTree, Reaches, Spells, StopsAt, TextSpells}
+use Rattle.wef_tree_reading.specs.Spelling.{Leads, ReadsTree, Spells, StopsAt, TextSpells}
 use Rattle.wef_tree_reading.specs.declared.building.Builder.{Builder}
 use Rattle.wef_tree_reading.specs.declared.faults.FaultKind.{FaultKind}
 use Rattle.wef_xml.specs.declared.faults.TreeFault.{TreeFault}

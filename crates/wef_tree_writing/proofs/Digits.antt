@@ -5,21 +5,12 @@ use Rattle.std.specs.Fmt.{decimal, digit_glyph, digits, digits_onto}
 use Rattle.std.specs.Str.Parse.{digits_value, digits_value_after}
 use Rattle.std.proofs.Math.Nat.{pow-suc}
 use Rattle.std.proofs.lemmas.Bool.Decides.{nat_tests}
+use Rattle.wef_xml.proofs.Glyphs.{each_glyph}
 use Rattle.wef_xml.specs.Prefixes.{in_digits}
 
 -- a digit is worth what it writes
 glyph_value : (d : ℕ) → d < 10 → digit_value (digit_glyph false d) ≡ d
-glyph_value zero h = refl
-glyph_value (suc zero) h = refl
-glyph_value (suc (suc zero)) h = refl
-glyph_value (suc (suc (suc zero))) h = refl
-glyph_value (suc (suc (suc (suc zero)))) h = refl
-glyph_value (suc (suc (suc (suc (suc zero))))) h = refl
-glyph_value (suc (suc (suc (suc (suc (suc zero)))))) h = refl
-glyph_value (suc (suc (suc (suc (suc (suc (suc zero))))))) h = refl
-glyph_value (suc (suc (suc (suc (suc (suc (suc (suc zero)))))))) h = refl
-glyph_value (suc (suc (suc (suc (suc (suc (suc (suc (suc zero))))))))) h = refl
-glyph_value (suc (suc (suc (suc (suc (suc (suc (suc (suc (suc d)))))))))) h = absurd (omega arith)
+glyph_value = each_glyph (λ d c. digit_value c ≡ d) refl refl refl refl refl refl refl refl refl refl
 
 -- digits with others behind them write the number and then the others
 -- a number is its last digit and the number before it

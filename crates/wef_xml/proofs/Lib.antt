@@ -1,3 +1,4 @@
+pub mod Glyphs
 pub mod GoodNodes
 pub mod Maps
 pub mod Utf8

@@ -1,5 +1,5 @@
-use Rattle.std.proofs.Common.{◌≤◌, length, ap, sym, ◌∙◌, subst, arith}
-use Rattle.std.specs.declared.result.Result.TheVariants.{Ok, Err}
+use Rattle.std.proofs.Common.{◌≤◌, length, sym, subst, arith}
+use Rattle.std.specs.declared.result.Result.TheVariants.{Err}
 use Rattle.wef_xml.specs.declared.faults.TreeFault.{TreeFault}
 use Rattle.wef_tree_reading.specs.Spelling.{ReadsTree}
 use Rattle.wef_tree_reading.proofs.Walks.{answers, within}

@@ -1,4 +1,4 @@
-use Rattle.std.proofs.Common.{◌≡◌, ◌+◌, suc, ◌∙◌, ◌∷◌, ◌++◌, [], ap, sym, take, arith}
+use Rattle.std.proofs.Common.{◌≡◌, ◌+◌, suc, ◌∙◌, ◌∷◌, [], ap, sym, take, arith}
 use Rattle.std.proofs.Math.Seq.{take-suc}
 use Rattle.std.specs.Prelude.{reverse}
 use Rattle.wef_xml.specs.Prefixes.{bound_by, prefix_of}

@@ -1,4 +1,4 @@
-use Rattle.std.proofs.Common.{[], ◌∙◌, ap, sym, subst}
+use Rattle.std.proofs.Common.{[], ◌∙◌, sym, subst}
 use Rattle.std.specs.FinMap as map
 use Rattle.wef_xml.specs.Prefixes.{bound_by}
 use Rattle.wef_tree_writing.specs.Levels.{HasPrefixes, HasSpaces, Texts}
