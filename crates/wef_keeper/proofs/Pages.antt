@@ -14,6 +14,7 @@ use Rattle.std.specs.declared.cmp.Ordering.{Ordering}
 use Rattle.std.specs.declared.cmp.Ordering.TheVariants.{Less, Equal, Greater}
 use Rattle.std.specs.declared.ops.Bound.TheVariants.{Excluded, Unbounded}
 use Rattle.wef_keeper.specs.Access.{front_rows, IsBehind}
+use Rattle.wef_keeper.proofs.Stands.{first, second}
 use Rattle.wef_keeper.proofs.Live.{filled, Above, entries-live, above_filled}
 use Rattle.wef_keeper.specs.Cells.{live, standing}
 use Rattle.wef_keeper.specs.Rows.{Rows, key_cmp, key_cmp_exact, key_cmp_total, row_of, rows_after, is_after}
@@ -154,14 +155,6 @@ rising_kept test (e ∷ entries) h =
     ]
 
 -- the entries of a finite map rise
-first_of : (a b : Bool) → T (a && b) → T a
-first_of true b h = tt
-first_of false b h = h
-
-second_of : (a b : Bool) → T (a && b) → T b
-second_of true b h = h
-second_of false b h = absurd h
-
 lower : (r : Ordering) → T (is_lt r) → r ≡ Less
 lower Less h = refl
 lower Equal h = absurd h
@@ -169,12 +162,12 @@ lower Greater h = absurd h
 
 below_above : (key : Key) (entries : List (Key × Cell)) → T (below_all key_cmp key entries) → Above key_cmp key entries
 below_above key [] h = tt
-below_above key (e ∷ entries) h = (lower (key_cmp key e.0) (first_of _ _ h), below_above key entries (second_of (is_lt (key_cmp key e.0)) _ h))
+below_above key (e ∷ entries) h = (lower (key_cmp key e.0) (first _ _ h), below_above key entries (second (is_lt (key_cmp key e.0)) _ h))
 
 sorted_rising : (entries : List (Key × Cell)) → T (is_sorted key_cmp entries) → Rising entries
 unfolding IsStrictlySortedBy
 sorted_rising [] h = tt
-sorted_rising (e ∷ entries) h = (below_above e.0 entries (first_of _ _ h), sorted_rising entries (second_of (below_all key_cmp e.0 entries) _ h))
+sorted_rising (e ∷ entries) h = (below_above e.0 entries (first _ _ h), sorted_rising entries (second (below_all key_cmp e.0 entries) _ h))
 
 rising_rows : (rows : Rows) → Rising (finite.entries rows)
 rising_rows rows = sorted_rising (finite.entries rows) (finite.entries_sorted rows)

@@ -5,6 +5,7 @@ use Rattle.std.specs.Cmp.{Equal-is, eq_by_cmp_equiv}
 use Rattle.std.specs.Option.{option_flatten, unwrap_or}
 use Rattle.std.specs.Ordering.{eq_by_cmp}
 use Rattle.wef_keeper.specs.Cells.{Cells, is_empty_room, puts, is_put, deletes, is_deleted}
+use Rattle.wef_keeper.specs.Laws.{or_left, or_right}
 use Rattle.wef_keeper.specs.Rows.{found_after, cell_of, cell_of_row, key_cmp, key_cmp_exact, key_cmp_total, key_of, is_named}
 use Rattle.wef_keeper.specs.declared.keys.Cell.{Cell}
 use Rattle.wef_keeper.specs.declared.keys.Change.{Change}
@@ -66,14 +67,6 @@ empty_there (Some None) e = refl
 empty_there (Some (Some cell)) e = cc
 
 -- ---- lists of changes
-
-or_left : (a b : Bool) → (a || b) ≡ false → a ≡ false
-or_left true b e = e
-or_left false b e = refl
-
-or_right : (a b : Bool) → (a || b) ≡ false → b ≡ false
-or_right true b e = cc
-or_right false b e = e
 
 pub puts_named : (change : Change) (q : Key) → eq_by_cmp key_cmp (key_of change) q ≡ false → puts change q ≡ false
 puts_named (Put row) q e = e

@@ -22,11 +22,11 @@ Stands rows row = finite.get rows row.key ≡ Some (cell_of_row row)
 
 -- ---- each entry is found at its key
 
-first : (a b : Bool) → T (a && b) → T a
+pub first : (a b : Bool) → T (a && b) → T a
 first true b p = tt
 first false b p = p
 
-second : (a b : Bool) → T (a && b) → T b
+pub second : (a b : Bool) → T (a && b) → T b
 second true b p = p
 second false b p = absurd p
 

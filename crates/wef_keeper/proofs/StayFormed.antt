@@ -1,11 +1,10 @@
 -- Rows of their form stay so, over whatever a call does to its store.
-use Rattle.std.proofs.Common.{◌≡◌, Bool, true, false, cond, List, [], ◌∷◌, refl, sym, ap, ◌∙◌, subst, inl, inr}
+use Rattle.std.proofs.Common.{◌≡◌, Bool, true, false, cond, List, [], ◌∷◌, refl, sym, subst, inl, inr}
 use Rattle.std.specs.FinMap as finite
 use Rattle.std.specs.List.{AllByRecursion}
-use Rattle.std.specs.Ordering.{eq_by_cmp, is_eq}
-use Rattle.std.specs.Prelude.{Option, Some, None, IfSome, ◌⊎◌}
-use Rattle.std.specs.declared.cmp.Ordering.{Ordering}
-use Rattle.std.specs.declared.cmp.Ordering.TheVariants.{Less, Equal, Greater}
+use Rattle.std.specs.Cmp.{Equal-is}
+use Rattle.std.specs.Ordering.{eq_by_cmp}
+use Rattle.std.specs.Prelude.{Option, Some, None, IfSome}
 use Rattle.wef_keeper.specs.Forms.{ArePassed, ArePut, IsPut}
 use Rattle.wef_keeper.specs.Keeping.{Follows, IsBeforeOrAfter, IsOneOf, WhereTold}
 use Rattle.wef_keeper.specs.Laws.{get-changed}
@@ -18,15 +17,10 @@ use Rattle.wef_keeper.specs.declared.keys.Row.{Row}
 
 -- ---- changes
 
-equal : (r : Ordering) → is_eq r ≡ true → r ≡ Equal
-equal Less e = cc
-equal Equal e = refl
-equal Greater e = cc
-
 -- what a change leaves at a key is of its form
 at_key : (is_formed : Row → Bool) (change : Change) (rows : Rows) (q : Key) → IsPut is_formed change → ArePassed is_formed rows → (named : Bool) → eq_by_cmp key_cmp (key_of change) q ≡ named
     → IfSome (cond named (cell_of change) (finite.get rows q)) (λ cell. is_formed (row_of (q, cell)) ≡ true)
-at_key is_formed (Put row) rows q put formed true one = subst (λ (key : Key). is_formed (record { key = key; value = row.value; body = row.body }) ≡ true) (key_cmp_exact row.key q (equal _ one)) put
+at_key is_formed (Put row) rows q put formed true one = subst (λ (key : Key). is_formed (record { key = key; value = row.value; body = row.body }) ≡ true) (key_cmp_exact row.key q ((Equal-is (key_cmp row.key q)).0 one)) put
 at_key is_formed (Delete key) rows q put formed true one = tt
 at_key is_formed change rows q put formed false one = formed q
 

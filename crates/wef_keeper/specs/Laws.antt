@@ -33,11 +33,11 @@ pub get-applied : LastChangeDecides
 get-applied [] rows q = refl
 get-applied (change ∷ changes) rows q = get-applied changes (changed change rows) q ∙ ap (found_after changes q) (get-changed change rows q)
 
-or_left : (a b : Bool) → (a || b) ≡ false → a ≡ false
+pub or_left : (a b : Bool) → (a || b) ≡ false → a ≡ false
 or_left true b e = e
 or_left false b e = refl
 
-or_right : (a b : Bool) → (a || b) ≡ false → b ≡ false
+pub or_right : (a b : Bool) → (a || b) ≡ false → b ≡ false
 or_right true b e = cc
 or_right false b e = e
 
