@@ -3,7 +3,7 @@
 use std::alloc::{AllocError, Global};
 use std::test::Fail;
 use wef_base::Text;
-use wef_envelope::{FaultName, MessageId};
+use wef_ids::{FaultName, MessageId};
 
 /// The values of two ids, and whether these agree.
 const PAIRS: &[(Option<u128>, Option<u128>, bool)] = &[

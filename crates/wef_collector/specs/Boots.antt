@@ -2,8 +2,8 @@
 use Rattle.std.specs.Prelude.{ℕ, ◌+◌, unwrap_or}
 use Rattle.std.specs.FinMap as map
 use Rattle.std.specs.Option.{option_map}
-use Rattle.wef_envelope.specs.Ids.{ids_of_boot}
-use Rattle.wef_envelope.specs.declared.ids.Ids.{Ids}
+use Rattle.wef_ids.specs.Ids.{ids_of_boot}
+use Rattle.wef_ids.specs.declared.ids.Ids.{Ids}
 use Rattle.wef_keeper.specs.Rows.{Rows}
 use Rattle.wef_keeper.specs.declared.keys.Cell.{Cell}
 use Rattle.wef_collector_rows.specs.Keys.{boot_key}

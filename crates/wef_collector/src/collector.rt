@@ -1,7 +1,7 @@
 //! The collector.
 
 ghost use Rattle.std.specs.Prelude.{◌≡◌, ◌≤◌, [], ◌++◌, true, take, Some, Ok, Err, IfOk, IfErr, IfSome, OnOk};
-ghost use Rattle.wef_envelope.specs.Ids.{next_id, with_drawn};
+ghost use Rattle.wef_ids.specs.Ids.{next_id, with_drawn};
 ghost use Rattle.wef_eventing.specs.Subscriptions.{IsAllEvents};
 ghost use Rattle.wef_keeper.specs.Calls.{IsCall, Looks};
 ghost use Rattle.wef_keeper.specs.declared.keeping.Plan.TheVariants.{Done, Fails};
@@ -32,9 +32,9 @@ use wef_collector_reports::reporting::report;
 use wef_collector_rows::bookmarks::bookmark_of;
 use wef_collector_rows::faults::CollectorFault;
 use wef_collector_rows::standings::{known_in, live_in};
-use wef_envelope::{Ids, MessageId};
 use wef_event::Event;
 use wef_eventing::{Offer, Subscription};
+use wef_ids::{Ids, MessageId};
 use wef_keeper::access::{commit, open};
 use wef_keeper::{Keeper, MemKeeper, Plan};
 

@@ -26,8 +26,8 @@ use wef_collector_rows::faults::CollectorFault;
 use wef_collector_rows::keys::{boot_key, subscription_key, subscriptions_start};
 use wef_collector_rows::reading::{formed_cell, formed_number, formed_page};
 use wef_collector_rows::standings::{live_in, subscription_cell};
-use wef_envelope::Ids;
 use wef_eventing::{Subscription, kept_words};
+use wef_ids::Ids;
 use wef_keeper::{Change, Depth, Keeper, Key, Row, StoreFault};
 use wef_query::channels;
 

@@ -12,7 +12,7 @@ use Rattle.wef_event.specs.Events.{Event}
 use Rattle.wef_event.specs.Unnumbered.{new_event}
 use Rattle.wef_keeper.specs.Calls.{Effect}
 use Rattle.wef_collector.specs.Calls.{add_effect, end_effect}
-use Rattle.wef_envelope.specs.declared.ids.Ids.{Ids}
+use Rattle.wef_ids.specs.declared.ids.Ids.{Ids}
 use Rattle.wef_query.specs.Order.{with_name}
 use Rattle.wef_replay.specs.Alike.{AreAlike}
 use Rattle.wef_replay.specs.Good.{AreGood, Names, allows, has_end, is_among, is_line, no_names, noted}

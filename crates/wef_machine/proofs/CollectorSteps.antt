@@ -20,11 +20,11 @@ use Rattle.wef_collector.specs.Taken.{batch_changes, put, taken}
 use Rattle.wef_collector_rows.specs.declared.faults.CollectorFault.TheVariants as faults
 use Rattle.wef_collector_rows.specs.declared.standings.Standing as state_of
 use Rattle.wef_collector_rows.specs.declared.standings.Standing.TheVariants as stands
-use Rattle.wef_envelope.specs.Ids.{ids_of_boot}
-use Rattle.wef_envelope.specs.declared.FaultName.{FaultName}
-use Rattle.wef_envelope.specs.declared.FaultName.TheVariants.{InvalidMessage, DestinationUnreachable, InternalError}
-use Rattle.wef_envelope.specs.declared.MessageId.{MessageId}
-use Rattle.wef_envelope.specs.declared.ids.Ids.{Ids}
+use Rattle.wef_ids.specs.Ids.{ids_of_boot}
+use Rattle.wef_ids.specs.declared.FaultName.{FaultName}
+use Rattle.wef_ids.specs.declared.FaultName.TheVariants.{InvalidMessage, DestinationUnreachable, InternalError}
+use Rattle.wef_ids.specs.declared.MessageId.{MessageId}
+use Rattle.wef_ids.specs.declared.ids.Ids.{Ids}
 use Rattle.wef_eventing.specs.Kept.{kept_words, read_kept}
 use Rattle.wef_eventing.specs.declared.subscriptions.Subscription.{Subscription}
 use Rattle.wef_keeper.specs.Rows.{Rows, applied}

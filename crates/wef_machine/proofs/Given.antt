@@ -1,7 +1,7 @@
 -- Why a batch is acknowledged.
 use Rattle.std.proofs.Common.{◌≡◌, ◌∙◌, ap, refl, List, [], ◌∷◌, Bool, cond, Option, None, Some}
 use Rattle.std.specs.Prelude.{Ok, Err, codes}
-use Rattle.wef_envelope.specs.declared.FaultName.TheVariants.{InvalidMessage}
+use Rattle.wef_ids.specs.declared.FaultName.TheVariants.{InvalidMessage}
 use Rattle.wef_collector_rows.specs.Answers.{channels_read}
 use Rattle.wef_collector.specs.Taken.{batch_changes}
 use Rattle.wef_keeper.specs.declared.keys.Change.{Change}

@@ -14,9 +14,9 @@ use Rattle.wef_collector.specs.Taken.{batch_changes, put, taken}
 use Rattle.wef_collector_rows.specs.declared.faults.CollectorFault.TheVariants as faults
 use Rattle.wef_collector_rows.specs.declared.standings.Standing.{Standing}
 use Rattle.wef_collector_rows.specs.declared.standings.Standing.TheVariants as stands
-use Rattle.wef_envelope.specs.Ids.{ids_of_boot}
-use Rattle.wef_envelope.specs.declared.FaultName.TheVariants.{InvalidMessage}
-use Rattle.wef_envelope.specs.declared.ids.Ids.{Ids}
+use Rattle.wef_ids.specs.Ids.{ids_of_boot}
+use Rattle.wef_ids.specs.declared.FaultName.TheVariants.{InvalidMessage}
+use Rattle.wef_ids.specs.declared.ids.Ids.{Ids}
 use Rattle.wef_event.specs.Events.{Event}
 use Rattle.wef_event.specs.Unnumbered.{new_event}
 use Rattle.wef_eventing.specs.Addresses.{source_in, subscription_in}

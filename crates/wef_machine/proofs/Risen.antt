@@ -13,11 +13,11 @@ use Rattle.wef_bookmark.specs.Order.{Marks, number_at}
 use Rattle.wef_collector.proofs.Hits.{not_both}
 use Rattle.wef_collector_rows.specs.Bookmarks.{bookmark_of}
 use Rattle.wef_collector.specs.Offers.{offers}
-use Rattle.wef_envelope.specs.Ids.{ids_agree}
-use Rattle.wef_envelope.specs.declared.FaultName.{FaultName}
-use Rattle.wef_envelope.specs.declared.FaultName.TheVariants.{InternalError}
-use Rattle.wef_envelope.specs.declared.MessageId.{MessageId}
-use Rattle.wef_envelope.specs.declared.ids.Ids.{Ids}
+use Rattle.wef_ids.specs.Ids.{ids_agree}
+use Rattle.wef_ids.specs.declared.FaultName.{FaultName}
+use Rattle.wef_ids.specs.declared.FaultName.TheVariants.{InternalError}
+use Rattle.wef_ids.specs.declared.MessageId.{MessageId}
+use Rattle.wef_ids.specs.declared.ids.Ids.{Ids}
 use Rattle.wef_event.specs.Events.{Event}
 use Rattle.wef_event.specs.Unnumbered.{new_event}
 use Rattle.wef_eventing.specs.Addresses.{subscription_in}

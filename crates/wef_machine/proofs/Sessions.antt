@@ -11,7 +11,7 @@ use Rattle.std.specs.declared.cmp.Ordering.TheVariants.{Less, Equal, Greater}
 use Rattle.wef_base.specs.Names.{same}
 use Rattle.wef_bookmark.proofs.Joining.{joined_number, raised_number}
 use Rattle.wef_bookmark.specs.Order.{Marks, joined, number_at, raised}
-use Rattle.wef_envelope.specs.declared.MessageId.{MessageId}
+use Rattle.wef_ids.specs.declared.MessageId.{MessageId}
 use Rattle.wef_eventing.specs.Addresses.{subscription_in}
 use Rattle.wef_eventing.specs.declared.bodies.Offer.{Offer}
 use Rattle.wef_eventing.specs.declared.bodies.Subscribe.{Subscribe}

@@ -11,9 +11,9 @@ use Rattle.wef_batch.specs.WellFormed.{is_in}
 use Rattle.wef_collector.proofs.Hits.{one_name}
 use Rattle.wef_collector_rows.specs.Answers.{channels_read}
 use Rattle.wef_collector_rows.specs.Bookmarks.{bookmark_at}
-use Rattle.wef_envelope.specs.Ids.{ids_agree}
-use Rattle.wef_envelope.specs.declared.FaultName.{FaultName}
-use Rattle.wef_envelope.specs.declared.MessageId.{MessageId}
+use Rattle.wef_ids.specs.Ids.{ids_agree}
+use Rattle.wef_ids.specs.declared.FaultName.{FaultName}
+use Rattle.wef_ids.specs.declared.MessageId.{MessageId}
 use Rattle.wef_event.specs.Numbering.{numbered}
 use Rattle.wef_event.specs.Events.{Event, is_event}
 use Rattle.wef_eventing.specs.declared.bodies.Offer.{Offer}

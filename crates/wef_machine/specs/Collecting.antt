@@ -3,9 +3,9 @@ use Rattle.std.specs.Prelude.{ℕ, List, [], Option, Some, None}
 use Rattle.std.specs.Option.{option_map}
 use Rattle.wef_collector.specs.Boots.{ids_begun}
 use Rattle.wef_collector.specs.Calls.{boot_effect}
-use Rattle.wef_envelope.specs.Ids.{next_id, with_drawn}
-use Rattle.wef_envelope.specs.declared.ids.Ids.{Ids}
-use Rattle.wef_envelope.specs.declared.MessageId.{MessageId}
+use Rattle.wef_ids.specs.Ids.{next_id, with_drawn}
+use Rattle.wef_ids.specs.declared.ids.Ids.{Ids}
+use Rattle.wef_ids.specs.declared.MessageId.{MessageId}
 use Rattle.wef_keeper.specs.Calls.{Effect}
 use Rattle.wef_machine.specs.Places.{after_call, opened, opening}
 use Rattle.wef_machine.specs.States.{Collector, State, with_collector, with_message}

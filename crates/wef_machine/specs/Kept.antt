@@ -10,7 +10,7 @@ use Rattle.wef_collector_rows.specs.Bookmarks.{bookmark_at}
 use Rattle.wef_collector_rows.specs.Forms as collector
 use Rattle.wef_collector.specs.FormsStay.{IsSoundBatch}
 use Rattle.wef_collector_rows.specs.Keys.{subscription_key}
-use Rattle.wef_envelope.specs.declared.MessageId.{MessageId}
+use Rattle.wef_ids.specs.declared.MessageId.{MessageId}
 use Rattle.wef_eventing.specs.Addresses.{source_in, subscription_in}
 use Rattle.wef_eventing.specs.declared.bodies.Offer.{Offer}
 use Rattle.wef_eventing.specs.declared.bodies.Subscribe.{Subscribe}

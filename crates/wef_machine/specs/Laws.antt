@@ -12,7 +12,7 @@ use Rattle.wef_collector.specs.Laws.{moved}
 use Rattle.wef_collector.specs.Taken.{taken}
 use Rattle.wef_collector_rows.specs.Standing.{standing}
 use Rattle.wef_collector_rows.specs.declared.standings.Standing.TheVariants.{Live}
-use Rattle.wef_envelope.specs.declared.MessageId.{MessageId}
+use Rattle.wef_ids.specs.declared.MessageId.{MessageId}
 use Rattle.wef_eventing.specs.Addresses.{source_in, subscription_in}
 use Rattle.wef_eventing.specs.declared.subscriptions.Subscription.{Subscription}
 use Rattle.wef_keeper.specs.Rows.{Rows}

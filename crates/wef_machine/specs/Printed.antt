@@ -5,8 +5,8 @@ use Rattle.std.specs.List.{flat_map}
 use Rattle.wef_base.specs.Printed.{printed}
 use Rattle.wef_machine.specs.declared.arming.Fate.{Fate}
 use Rattle.wef_machine.specs.declared.arming.Fate.TheVariants.{Done, Failed, Stopped}
-use Rattle.wef_envelope.specs.declared.FaultName.{FaultName}
-use Rattle.wef_envelope.specs.Faults.{fault_text}
+use Rattle.wef_ids.specs.declared.FaultName.{FaultName}
+use Rattle.wef_ids.specs.Faults.{fault_text}
 use Rattle.wef_event.specs.Events.{Event}
 
 -- a word and a name

@@ -6,7 +6,7 @@ use Rattle.std.specs.List.{AllByRecursion}
 use Rattle.wef_batch.specs.declared.items.Batch.{Batch}
 use Rattle.wef_bookmark.specs.Order.{Marks, number_at}
 use Rattle.wef_collector_rows.specs.Bookmarks.{bookmark_of}
-use Rattle.wef_envelope.specs.declared.MessageId.{MessageId}
+use Rattle.wef_ids.specs.declared.MessageId.{MessageId}
 use Rattle.wef_eventing.specs.Addresses.{subscription_in}
 use Rattle.wef_eventing.specs.declared.bodies.Offer.{Offer}
 use Rattle.wef_replay.specs.declared.lines.Line.{Line}

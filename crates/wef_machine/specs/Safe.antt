@@ -15,7 +15,7 @@ use Rattle.wef_collector_rows.specs.Keys.{held_key, loose_key, mark_key}
 use Rattle.wef_collector_rows.specs.Standing.{standing}
 use Rattle.wef_collector_rows.specs.declared.standings.Standing as state_of
 use Rattle.wef_collector_rows.specs.declared.standings.Standing.TheVariants as is
-use Rattle.wef_envelope.specs.declared.MessageId.{MessageId}
+use Rattle.wef_ids.specs.declared.MessageId.{MessageId}
 use Rattle.wef_event.specs.Events.{Event}
 use Rattle.wef_eventing.specs.Addresses.{source_in, subscription_in}
 use Rattle.wef_eventing.specs.declared.subscriptions.Subscription.{Subscription}

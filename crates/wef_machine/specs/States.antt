@@ -3,7 +3,7 @@ use Rattle.std.specs.Prelude.{ℕ, ◌+◌, List, [], ◌∷◌, ◌++◌, lengt
 use Rattle.std.specs.Cmp.Lexicographic.{slice_cmp}
 use Rattle.std.specs.FinMap as finite
 use Rattle.std.specs.Ordering.{nat_cmp}
-use Rattle.wef_envelope.specs.declared.ids.Ids.{Ids}
+use Rattle.wef_ids.specs.declared.ids.Ids.{Ids}
 use Rattle.wef_query.specs.Order.{with_name}
 use Rattle.wef_replay.specs.Good.{Names}
 use Rattle.wef_source.specs.Machine.{End}

@@ -1,8 +1,8 @@
 //! The messages that the ends send each other.
 
 use wef_base::{List, SourceName};
-use wef_envelope::{FaultName, MessageId};
 use wef_eventing::Offer;
+use wef_ids::{FaultName, MessageId};
 use wef_source::Delivery;
 
 /// A message. Each is from or to a source; the other end is the collector. `id` is its own, drawn by

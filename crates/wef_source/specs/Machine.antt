@@ -1,8 +1,8 @@
 -- A source as a machine: what it holds, and what each call makes of it.
 use Rattle.std.specs.Prelude.{ℕ, ◌+◌, ◌*◌, ◌==◌, nat_le, Bool, true, false, List, [], length, is_some, Option, Some, None, if◌then◌else◌}
 use Rattle.wef_eventing.specs.declared.bodies.Offer.{Offer}
-use Rattle.wef_envelope.specs.declared.FaultName.{FaultName}
-use Rattle.wef_envelope.specs.declared.FaultName.TheVariants.{DestinationUnreachable}
+use Rattle.wef_ids.specs.declared.FaultName.{FaultName}
+use Rattle.wef_ids.specs.declared.FaultName.TheVariants.{DestinationUnreachable}
 use Rattle.wef_keeper.specs.Rows.{Rows}
 use Rattle.wef_source.specs.Building.{built}
 use Rattle.wef_source.specs.Sessions.{acknowledged, is_named, sending, settled, waits_for, with_changed, with_offers, without}

@@ -1,7 +1,7 @@
 //! What a source remembers while it runs. It is lost where the source ends.
 
 ghost use Rattle.std.specs.Prelude.{◌≡◌, [], false, true, is_some, Some, IfOk, IfErr, IfSome, OnOk, OnErr};
-ghost use Rattle.wef_envelope.specs.Ids.{ids_agree};
+ghost use Rattle.wef_ids.specs.Ids.{ids_agree};
 ghost use Rattle.wef_keeper.specs.Access as access;
 ghost use Rattle.wef_keeper.specs.Calls.{Looks, fails};
 ghost use Rattle.wef_query.specs.Order.{IsInOrder};
@@ -24,8 +24,8 @@ use std::marker::Model;
 use wef_base::{List, SubId, Text};
 use wef_batch::Batch;
 use wef_bookmark::Bookmark;
-use wef_envelope::{FaultName, MessageId};
 use wef_eventing::Offer;
+use wef_ids::{FaultName, MessageId};
 use wef_keeper::Keeper;
 use wef_source_log::Log;
 

@@ -2,7 +2,7 @@
 
 use wef_base::Text;
 use wef_batch::Batch;
-use wef_envelope::{FaultName, MessageId};
+use wef_ids::{FaultName, MessageId};
 
 /// A batch on its way to the collector.
 #[derive(Debug)]

@@ -10,7 +10,7 @@ ghost use Rattle.wef_source.specs.Sessions as spec;
 use crate::sessions::{Outstanding, Session};
 use wef_base::SubId;
 use wef_bookmark::Bookmark;
-use wef_envelope::FaultName;
+use wef_ids::FaultName;
 
 /// The place of the session of a name.
 pub fn place_of_name(sessions: &[Session], sub: &SubId) -> Option<usize>

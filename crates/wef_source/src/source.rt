@@ -20,9 +20,9 @@ use crate::messages::{Moved, Poll, Reply};
 use std::alloc::Global;
 use std::marker::Model;
 use wef_base::{List, SourceName, SubId};
-use wef_envelope::MessageId;
 use wef_event::Event;
 use wef_eventing::Offer;
+use wef_ids::MessageId;
 use wef_keeper::{Keeper, MemKeeper, Plan};
 use wef_source_log::{Log, LogFault};
 

@@ -10,7 +10,7 @@ use Rattle.wef_collector_rows.specs.Keys.{boot_key}
 use Rattle.wef_collector.specs.Taken.{put}
 use Rattle.wef_collector_rows.specs.declared.faults.CollectorFault.{CollectorFault}
 use Rattle.wef_collector_rows.specs.declared.faults.CollectorFault.TheVariants.{Full}
-use Rattle.wef_envelope.specs.declared.ids.Ids.{Ids}
+use Rattle.wef_ids.specs.declared.ids.Ids.{Ids}
 use Rattle.wef_keeper.specs.Calls.{Effect}
 use Rattle.wef_keeper.specs.Rows.{Rows, applied}
 use Rattle.wef_keeper.specs.declared.keys.Change.{Change}

@@ -1,6 +1,6 @@
 -- What becomes of what an ask or a poll found.
 use Rattle.std.specs.Prelude.{ℕ, List, Option, Some, None, codes}
-use Rattle.wef_envelope.specs.declared.MessageId.{MessageId}
+use Rattle.wef_ids.specs.declared.MessageId.{MessageId}
 use Rattle.wef_machine.specs.Printed.{fate_line, name_line, pair_line, sent_ask_line, sent_events_line}
 use Rattle.wef_machine.specs.States.{State, with_message}
 use Rattle.wef_machine.specs.declared.messages.Message.TheVariants.{Ask, Events}

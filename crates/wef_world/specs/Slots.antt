@@ -1,8 +1,8 @@
 -- What using a declared source does to it and answers. It is opened first.
 use Rattle.std.specs.Prelude.{◌≡◌, ℕ, ◌+◌, Bool, true, false, List, [], length, is_some, Option, Some, None, Ok, Err, codes, if◌then◌else◌}
 use Rattle.std.specs.FinMap as map
-use Rattle.wef_envelope.specs.Ids.{ids_agree}
-use Rattle.wef_envelope.specs.declared.MessageId.{MessageId}
+use Rattle.wef_ids.specs.Ids.{ids_agree}
+use Rattle.wef_ids.specs.declared.MessageId.{MessageId}
 use Rattle.wef_event.specs.Events.{Event}
 use Rattle.wef_event.specs.Numbering.{numbered_text}
 use Rattle.wef_eventing.specs.declared.bodies.Offer.{Offer}

@@ -15,8 +15,8 @@ use std::alloc::Global;
 use wef_base::{SourceName, SubId};
 use wef_batch::Batch;
 use wef_collector::{Collector, CollectorFault};
-use wef_envelope::Ids;
 use wef_eventing::Subscription;
+use wef_ids::Ids;
 use wef_keeper::{Keeper, MemKeeper, Plan, StoreFault};
 use wef_machine::Fate;
 

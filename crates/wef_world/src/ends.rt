@@ -49,7 +49,7 @@ impl Model for Ends {
     ghost use Rattle.std.specs.Prelude.{ℕ, List, refl};
     ghost use Rattle.std.specs.Coded.{code_by, coded_ℕ, coded_list, coded×};
     ghost use Rattle.std.specs.FinMap as map;
-    ghost use Rattle.wef_envelope.specs.contracts.ids.Ids as ids;
+    ghost use Rattle.wef_ids.specs.contracts.ids.Ids as ids;
     ghost use Rattle.wef_machine.specs.States.{Collector, Slots, State};
     ghost use Rattle.wef_machine.specs.contracts.messages.Message as message;
     ghost use Rattle.wef_machine.specs.declared.messages.Message.{Message};

@@ -11,8 +11,8 @@ ghost use Rattle.wef_machine.specs.Printed as spec;
 use std::alloc::{AllocError, Global};
 use wef_base::{ChannelName, SourceName, SubId, Text};
 use wef_collector::{Collector, CollectorFault};
-use wef_envelope::FaultName;
 use wef_event::Event;
+use wef_ids::FaultName;
 use wef_keeper::MemKeeper;
 use wef_machine::Fate;
 

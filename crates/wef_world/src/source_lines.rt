@@ -17,8 +17,8 @@ use crate::printing::{
 use crate::slots::{Capacity, Polled, Slot};
 use std::alloc::AllocError;
 use wef_base::{SourceName, SubId, Text};
-use wef_envelope::MessageId;
 use wef_event::{Event, PlainEvent};
+use wef_ids::MessageId;
 use wef_machine::Message;
 use wef_source::SourceFault;
 

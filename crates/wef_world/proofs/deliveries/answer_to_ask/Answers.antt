@@ -1,6 +1,6 @@
 use Rattle.std.proofs.Common.{length, ap, ◌∙◌, ◌+◌}
 use Rattle.wef_collector.specs.Offers.{offers}
-use Rattle.wef_envelope.specs.Ids.{with_drawn}
+use Rattle.wef_ids.specs.Ids.{with_drawn}
 use Rattle.wef_machine.specs.Collecting.{reply_id}
 use Rattle.wef_machine.specs.declared.messages.Message.TheVariants.{Offers}
 use Rattle.wef_world.proofs.deliveries.answer_to_ask.Goals as goal

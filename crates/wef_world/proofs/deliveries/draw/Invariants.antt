@@ -1,5 +1,5 @@
 use Rattle.std.proofs.Common.{◌≡◌, ◌+◌}
-use Rattle.wef_envelope.specs.Ids.{with_drawn}
+use Rattle.wef_ids.specs.Ids.{with_drawn}
 use Rattle.wef_world.proofs.deliveries.draw.Given as goal
 
 abbrev pub invariant-loop-turn : goal.invariant-loop-turn

@@ -1,5 +1,5 @@
 use Rattle.std.proofs.Common.{sym, subst, ◌∙◌}
-use Rattle.wef_envelope.specs.declared.FaultName.{FaultName}
+use Rattle.wef_ids.specs.declared.FaultName.{FaultName}
 use Rattle.wef_machine.specs.Collecting.{collector_opened, collector_opening}
 use Rattle.wef_machine.specs.Deliveries.{batch_effect}
 use Rattle.wef_world.proofs.Takings.{batch_came, batch_left}

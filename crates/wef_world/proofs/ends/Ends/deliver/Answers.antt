@@ -1,6 +1,6 @@
 use Rattle.std.proofs.Common.{◌-◌, ◌==◌, List, ℕ, ap, sym, ◌∙◌}
 use Rattle.std.specs.Prelude.{Option, Some, None, slice_get, if◌then◌else◌}
-use Rattle.wef_envelope.specs.declared.FaultName.{FaultName}
+use Rattle.wef_ids.specs.declared.FaultName.{FaultName}
 use Rattle.wef_machine.specs.Deliveries.{after_ack, after_fault, after_offers, took_text}
 use Rattle.wef_machine.specs.States.{Slots, State, next_number, with_collector}
 use Rattle.wef_machine.specs.declared.messages.Message.{Message}

@@ -1,7 +1,7 @@
 //! The ids that an end draws for the messages that it sends.
 
 ghost use Rattle.std.specs.Prelude.{◌≡◌};
-ghost use Rattle.wef_envelope.specs.Ids.{ids_of_boot, next_id, with_drawn};
+ghost use Rattle.wef_ids.specs.Ids.{ids_of_boot, next_id, with_drawn};
 
 use crate::MessageId;
 

@@ -1,6 +1,6 @@
 -- When two ids of messages agree, and which ids an end draws.
 use Rattle.std.specs.Prelude.{ℕ, ◌+◌, ◌*◌, ◌==◌, Bool, false, min, Option, Some, None}
-use Rattle.wef_envelope.specs.declared.ids.Ids.{Ids}
+use Rattle.wef_ids.specs.declared.ids.Ids.{Ids}
 
 -- both have a value, and the same one
 abbrev pub ids_agree : Option ℕ → Option ℕ → Bool

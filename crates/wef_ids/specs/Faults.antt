@@ -1,7 +1,7 @@
 -- The names of faults, as they stand in a fault.
 use Rattle.std.specs.Prelude.{ℕ, List, codes}
-use Rattle.wef_envelope.specs.declared.FaultName.{FaultName}
-use Rattle.wef_envelope.specs.declared.FaultName.TheVariants.{DeliveryModeRequestedUnavailable, FilteringRequestedUnavailable, InvalidExpirationTime, InvalidMessage, UnableToRenew, ActionNotSupported, DestinationUnreachable, MessageInformationHeaderRequired, InvalidBookmark, EncodingLimit, InternalError, InvalidEnumerationContext, MustUnderstand, Other}
+use Rattle.wef_ids.specs.declared.FaultName.{FaultName}
+use Rattle.wef_ids.specs.declared.FaultName.TheVariants.{DeliveryModeRequestedUnavailable, FilteringRequestedUnavailable, InvalidExpirationTime, InvalidMessage, UnableToRenew, ActionNotSupported, DestinationUnreachable, MessageInformationHeaderRequired, InvalidBookmark, EncodingLimit, InternalError, InvalidEnumerationContext, MustUnderstand, Other}
 
 -- a fault's name: the name itself, or the text that another one has
 unfoldable pub fault_text : FaultName → List ℕ
