@@ -8,6 +8,11 @@ import tempfile
 SMALL, GREAT = 10_000, 100_000
 MOST_FACTOR, MOST_BYTES = 13.0, 2048
 TURNS = 5
+MEBIBYTE = 1 << 20
+
+# A backlog is sent in batches of so many records. Its first 1,000 batches of one record are sent ten times each, and a poll
+# in front of ten times as many records takes so many times as long at most.
+BACKLOG_ITEMS, BEGUN_POLLS, MOST_POLL_FACTOR = 20, 10_000, 1.3
 
 
 # Each kind of schedule: its name, what it counts, its numbers of sources, and whether its memory is bounded.
@@ -52,6 +57,40 @@ def meets(program, kind, what, sources, bounded, folder):
     return good and factor <= MOST_FACTOR
 
 
+def least(program, paths):
+    """The least seconds of processor time of each of some schedules, run in turn, and the peak memory of the last."""
+    runs = [[run(program, path) for path in paths] for _ in range(TURNS)]
+    return [min(turn[place][0] for turn in runs) for place in range(len(paths))], max(turn[-1][1] for turn in runs)
+
+
+def sends_backlog(program, folder):
+    """Measures a source that sends what it wrote before. Answers whether ten times as much meets the bound."""
+    times = {}
+    for size in (SMALL, GREAT):
+        (times[size],), peak = least(program, [schedule("backlog", size, BACKLOG_ITEMS, folder)])
+        print(
+            f"{size:>7} records written before they are sent, {BACKLOG_ITEMS} in a batch: {size / times[size]:>9,.0f} records a second,"
+            f" {peak / MEBIBYTE:,.0f} MiB"
+        )
+    factor = times[GREAT] / times[SMALL]
+    print(f"        from {SMALL:,} to {GREAT:,} records, {BACKLOG_ITEMS} in a batch: {factor:.1f} times as long")
+    return factor <= MOST_FACTOR
+
+
+def begins_backlog(program, folder):
+    """Measures the first batches of one record, by what they take more than the writes alone. Answers whether they cost much
+    the same in front of ten times as many records."""
+    costs = {}
+    for size in (SMALL, GREAT):
+        paths = [schedule(kind, size, 1, folder) for kind in ("written", "begun")]
+        (alone, both), peak = least(program, paths)
+        costs[size] = (both - alone) / BEGUN_POLLS
+        print(f"{size:>7} records, the first 1,000 sent one in a batch: {1e6 * costs[size]:,.0f} microseconds a poll, {peak / MEBIBYTE:,.0f} MiB")
+    factor = costs[GREAT] / costs[SMALL]
+    print(f"        from {SMALL:,} to {GREAT:,} records, one in a batch: {factor:.2f} times as long a poll")
+    return factor <= MOST_POLL_FACTOR
+
+
 def main():
     program = sys.argv[1]
     with tempfile.TemporaryDirectory() as folder:
@@ -60,6 +99,7 @@ def main():
             for kind, what, counts, bounded in KINDS
             for sources in counts
         ]
+        good += [sends_backlog(program, folder), begins_backlog(program, folder)]
     if not all(good):
         sys.exit("a bound isn't met")
 

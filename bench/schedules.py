@@ -4,6 +4,12 @@
     bench/schedules.py events SIZE SOURCES > FILE     batches of foreign sources
     bench/schedules.py lines SIZE SOURCES > FILE      writes, polls and deliveries of declared sources
     bench/schedules.py crashes SIZE SOURCES > FILE    the same, with a crash or a failure in every tenth line
+
+Or one of a source that writes SIZE records before it sends any:
+
+    bench/schedules.py written SIZE ITEMS > FILE      and sends none
+    bench/schedules.py backlog SIZE ITEMS > FILE      and then all of them, ITEMS in a batch
+    bench/schedules.py begun SIZE ITEMS > FILE        and then the first 1,000 batches, each of them ten times
 """
 import sys
 
@@ -57,7 +63,38 @@ def crashes(lines, sources):
     yield "show"
 
 
-KINDS = {"events": batches, "lines": exchanges, "crashes": crashes}
+# How many batches of a backlog are sent, and how often each of them, where it isn't sent to its end.
+FIRST, AGAIN = 1000, 10
+
+
+def written(records, items):
+    """A source that has a session, and then writes more records than it sends."""
+    yield f"subscribe base {items} 512000 900000 all application"
+    yield from (f"source s0 {records}", "ask s0", "back 0", "back 0")
+    yield from ["write s0 application 1 4 a"] * records
+
+
+def backlog(records, items):
+    """All records are sent, batch by batch, then the report."""
+    yield from written(records, items)
+    yield from ("poll s0 base", "back 0", "back 0") * (records // items)
+    yield "show"
+
+
+def begun(records, items):
+    """The first batches are sent, each again where it counts as lost."""
+    yield from written(records, items)
+    yield from (*("poll s0 base", "lost s0 base") * (AGAIN - 1), "poll s0 base", "back 0", "back 0") * FIRST
+
+
+KINDS = {
+    "events": batches,
+    "lines": exchanges,
+    "crashes": crashes,
+    "written": written,
+    "backlog": backlog,
+    "begun": begun,
+}
 
 kind, size, sources = KINDS[sys.argv[1]], int(sys.argv[2]), int(sys.argv[3])
 sys.stdout.writelines(f"{line}\n" for line in kind(size, sources))

@@ -1,18 +1,23 @@
 -- Positions that have each channel that may be moved.
-use Rattle.std.proofs.Common.{◌≡◌, ℕ, ◌+◌, ◌<◌, Bool, true, false, ◌||◌, List, [], ◌∷◌, length, get_or, set, refl, ap, sym, subst, ◌∙◌, cond, Some, None, arith, ⊎_elim}
-use Rattle.std.specs.Prelude.{Option, is_some}
+use Rattle.std.proofs.Common.{◌≡◌, ℕ, ◌+◌, ◌<◌, ◌≤◌, Bool, true, false, ◌||◌, List, [], ◌∷◌, length, get_or, set, refl, ap, sym, subst, ◌∙◌, cond, Some, None, arith, ⊎_elim}
+use Rattle.std.specs.Prelude.{Option, T, is_some}
 use Rattle.std.specs.FinMap as map
-use Rattle.std.specs.List.{All, remove}
+use Rattle.std.specs.FinMap.Entries.{below_all}
+use Rattle.std.specs.List.{All, AllByRecursion, remove}
 use Rattle.std.proofs.lemmas.List.Elements.{All-get_or, All-set}
 use Rattle.std.proofs.lemmas.List.Edits.{get_or-remove_above, get_or-remove_below, length-remove}
 use Rattle.std.proofs.lemmas.Bool.{cases_lt}
-use Rattle.std.specs.Ordering.{nat_cmp, eq_by_cmp, is_eq}
+use Rattle.std.specs.Ordering.{nat_cmp, eq_by_cmp, is_eq, is_lt, ordering_reverse}
+use Rattle.std.specs.declared.cmp.Ordering.{Ordering}
+use Rattle.std.specs.declared.cmp.Ordering.TheVariants.{Less, Equal, Greater}
 use Rattle.std.specs.Cmp.{tied_itself}
 use Rattle.std.specs.Cmp.Lexicographic.{slice_cmp, nat_list_cmp_total, same_text}
 use Rattle.wef_base.specs.Names.{same}
 use Rattle.wef_batch.specs.WellFormed.{is_in}
+use Rattle.wef_base.specs.declared.numbers.TheConstants.{MAX}
+use Rattle.wef_bookmark.specs.Entries.{AreEntries}
 use Rattle.wef_bookmark.specs.Order.{Marks, joined, raised}
-use Rattle.wef_bookmark.proofs.Joining.{joined_has, raised_has}
+use Rattle.wef_bookmark.proofs.Joining.{both, joined_has, order, raised_has}
 use Rattle.wef_eventing.specs.declared.bodies.Subscribe.{Subscribe}
 use Rattle.wef_query.specs.Selected.{channels_of}
 use Rattle.wef_source.specs.Serving.{AreKept, HasAll, HasEach, IsCovered}
@@ -85,25 +90,36 @@ removed_covered ss k all within = λ j d below.
     (λ behind. rw (get_or-remove_above ss k d j behind within) (all (j + 1) d (omega arith)))
     (cases_lt j k)
 
--- each of these entries' channels is found among those
+-- ---- entries
+
+-- each of these entries is found among those
 abbrev pub AreFound : List (List ℕ × ℕ) → List (List ℕ × ℕ) → Type 0
 AreFound all [] = Unit {0}
-AreFound all (e ∷ es) = (is_some (map.find (slice_cmp nat_cmp) e.0 all) ≡ true) × AreFound all es
+AreFound all (e ∷ es) = (map.find order e.0 all ≡ Some e.1) × AreFound all es
 
-found_more : (b : Bool) (n : ℕ) (o : Option ℕ) → is_some o ≡ true → is_some (cond b (Some n) o) ≡ true
-found_more true n o there = refl
-found_more false n o there = there
+reversed_less : (r : Ordering) → T (is_lt r) → is_eq (ordering_reverse r) ≡ false
+reversed_less Less h = refl
+reversed_less Equal h = absurd h
+reversed_less Greater h = refl
 
-are_found_more : (e : List ℕ × ℕ) (all es : List (List ℕ × ℕ)) → AreFound all es → AreFound (e ∷ all) es
-are_found_more e all [] found = tt
-are_found_more e all (f ∷ fs) found = (found_more (eq_by_cmp (slice_cmp nat_cmp) f.0 e.0) e.1 _ found.0, are_found_more e all fs found.1)
+-- a name is none that is less
+other : (c d : List ℕ) → T (is_lt (order c d)) → eq_by_cmp order d c ≡ false
+other c d h = ap is_eq (nat_list_cmp_total.antisymm d c) ∙ reversed_less (order c d) h
 
-found_itself : (e : List ℕ × ℕ) (es : List (List ℕ × ℕ)) → is_some (map.find (slice_cmp nat_cmp) e.0 (e ∷ es)) ≡ true
-found_itself e es = ap (λ r. is_some (cond (is_eq r) (Some e.1) (map.find (slice_cmp nat_cmp) e.0 es))) (tied_itself nat_list_cmp_total e.0)
+are_found_behind : (e : List ℕ × ℕ) (all es : List (List ℕ × ℕ)) → T (below_all order e.0 es) → AreFound all es → AreFound (e ∷ all) es
+are_found_behind e all [] above found = tt
+are_found_behind e all (f ∷ fs) above found =
+    let parts = both (is_lt (order e.0 f.0)) (below_all order e.0 fs) above in
+    (ap (λ b. cond b (Some e.1) (map.find order f.0 all)) (other e.0 f.0 parts.0) ∙ found.0, are_found_behind e all fs parts.1 found.1)
 
-are_found : (es : List (List ℕ × ℕ)) → AreFound es es
-are_found [] = tt
-are_found (e ∷ es) = (found_itself e es, are_found_more e es es (are_found es))
+found_itself : (e : List ℕ × ℕ) (es : List (List ℕ × ℕ)) → map.find order e.0 (e ∷ es) ≡ Some e.1
+found_itself e es = ap (λ r. cond (is_eq r) (Some e.1) (map.find order e.0 es)) (tied_itself nat_list_cmp_total e.0)
+
+are_found : (es : List (List ℕ × ℕ)) → T (map.is_sorted order es) → AreFound es es
+are_found [] sorted = tt
+are_found (e ∷ es) sorted =
+    let parts = both (below_all order e.0 es) (map.is_sorted order es) sorted in
+    (found_itself e es, are_found_behind e es es parts.0 (are_found es parts.1))
 
 -- each of these entries' channels is in a bookmark
 abbrev pub AreIn : Marks → List (List ℕ × ℕ) → Type 0
@@ -112,10 +128,21 @@ AreIn b (e ∷ es) = (is_some (map.get b e.0) ≡ true) × AreIn b es
 
 are_in_from : (b : Marks) (es : List (List ℕ × ℕ)) → AreFound (map.entries b) es → AreIn b es
 are_in_from b [] found = tt
-are_in_from b (e ∷ es) found = (ap is_some (map.get-entries b e.0) ∙ found.0, are_in_from b es found.1)
+are_in_from b (e ∷ es) found = (ap is_some (map.get-entries b e.0 ∙ found.0), are_in_from b es found.1)
 
 pub entries_are_in : (b : Marks) → AreIn b (map.entries b)
-entries_are_in b = are_in_from b (map.entries b) (are_found (map.entries b))
+entries_are_in b = are_in_from b (map.entries b) (are_found (map.entries b) (map.entries_sorted b))
+
+-- and its number is at most the greatest
+abbrev pub IsWithin : List ℕ × ℕ → Type 0
+IsWithin e = e.1 ≤ MAX
+
+within_from : (b : Marks) (es : List (List ℕ × ℕ)) → AreEntries b → AreFound (map.entries b) es → AllByRecursion IsWithin es
+within_from b [] kept found = tt
+within_from b (e ∷ es) kept found = ((kept e.0 e.1 (map.get-entries b e.0 ∙ found.0)).1, within_from b es kept found.1)
+
+pub entries_within : (b : Marks) → AreEntries b → AllByRecursion IsWithin (map.entries b)
+entries_within b kept = within_from b (map.entries b) kept (are_found (map.entries b) (map.entries_sorted b))
 
 pub none_kept : AreKept []
 none_kept = record { covered = λ k d below. absurd (omega arith); in_order = none_in_order }

@@ -1,7 +1,7 @@
 -- A source hands on what its log did: what is said of the log's call is true of the source's.
 use Rattle.std.proofs.Common.{◌≡◌, true, false, refl, ap, subst, inl, inr}
 use Rattle.std.specs.List.{AllByRecursion}
-use Rattle.std.specs.Prelude.{Option, Some, None, Result, Ok, Err, IfOk, IfSome, List, [], ◌∷◌}
+use Rattle.std.specs.Prelude.{Option, Some, None, Result, Ok, Err, IfOk, IfSome, OnOk, List, [], ◌∷◌}
 use Rattle.wef_base.specs.Counts.{Rose}
 use Rattle.wef_keeper.specs.Access.{AnyOf, OpensAndReads, is_planned, plan_with, tries_with}
 use Rattle.wef_keeper.specs.Calls.{AnswersFault, Did, Effect, FaultByPlan, FaultByTries, FaultReadied, IsCall, Looks, Makes, MayLeave, OnFaultImages, WhereMade, is_failure}
@@ -108,6 +108,7 @@ handed effect value (Ok answer) before now call = record {
   cause = call.cause;
   faults = call.faults;
   ready = call.ready;
+  formed = call.formed;
 }
 handed effect value (Err fault) before now call = record {
   did = did_from effect value (Err fault) before now call;
@@ -116,6 +117,7 @@ handed effect value (Err fault) before now call = record {
   cause = subst (λ (kind : Option StoreFault). is_failure kind ≡ true → IfSome now.rows (λ rows. AreFormed rows → Rose before.faults now.faults)) (one_store fault) call.cause;
   faults = call.faults;
   ready = subst (λ (kind : Option StoreFault). FaultReadied kind now) (one_store fault) call.ready;
+  formed = call.formed;
 }
 
 -- ---- a call that only reads, and is refused as its log's opening is
@@ -126,6 +128,11 @@ looks_refused Formed fault before now looks = record {
   found = subst (λ (kind : Option StoreFault). is_failure kind ≡ false → IfSome before.images (λ old. IfSome now.rows (IsOneOf old))) (one_store fault) looks.found;
   ready = subst (λ (kind : Option StoreFault). FaultReadied kind now) (one_store fault) looks.ready;
 }
+
+-- what is said where the log's call is done is said where the source's is
+pub on_handed : {T : Type 0} (answer : Result T LogFault) (P : Type 0) → OnOk answer P → OnOk (source_answer answer) P
+on_handed (Ok answer) P holds = holds
+on_handed (Err fault) P holds = tt
 
 -- what is said of an answer is said of the one that is handed on
 pub if_handed : {T : Type 0} (answer : Result T LogFault) (P : T → Type 0) → IfOk answer P → IfOk (source_answer answer) P

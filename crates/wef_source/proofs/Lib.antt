@@ -11,6 +11,8 @@ pub mod Handed
 pub mod InOrder
 pub mod Items
 pub mod Placements
+pub mod Judging
+pub mod Numbered
 pub mod Places
 pub mod Polling
 pub mod Reaches

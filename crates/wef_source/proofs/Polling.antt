@@ -11,6 +11,7 @@ use Rattle.wef_source_log.specs.Forms.{AreFormed}
 use Rattle.wef_source.specs.Answers.{MayRefusePoll, Polls, PollsIn, RefusesPoll, Sends, SendsFrom, WhereThere, may_send}
 use Rattle.wef_source.specs.Building.{with_reach}
 use Rattle.wef_source.specs.Faults.{source_store}
+use Rattle.wef_source.specs.Judged.{JudgesBatch, JudgesPoll}
 use Rattle.wef_source.specs.Machine.{End, is_idle, sent}
 use Rattle.wef_source.specs.Prepared.{Draws, MayRefuseToPrepare, Prepares, RefusesToPrepare}
 use Rattle.wef_source.specs.Serving.{AreKept, HasAll, IsCovered}
@@ -29,6 +30,9 @@ use Rattle.wef_source.proofs.InOrder.{changed_in_order, sending_name}
 
 pub polls_nothing : (rows : Rows) (end : End) (u : List ℕ) (now : ℕ) (s : Session) → session_of end.sessions u ≡ Some s → Prepares rows end s None → Polls rows end end u now Nothing
 polls_nothing rows end u now s found idle = subst (λ o. PollsIn rows end end o now Nothing) (sym found) (idle, refl)
+
+pub polls_judged : (rows : Rows) (end : End) (u : List ℕ) (s : Session) → session_of end.sessions u ≡ Some s → (is_some s.outstanding ≡ false → JudgesBatch rows s) → JudgesPoll rows end u
+polls_judged rows end u s found judged = subst (λ o. WhereThere o (λ session. is_some session.outstanding ≡ false → JudgesBatch rows session)) (sym found) judged
 
 pub refuses_poll : (rows : Rows) (end : End) (u : List ℕ) (s : Session) (fault : SourceFault) → session_of end.sessions u ≡ Some s → RefusesToPrepare rows end s fault → RefusesPoll fault rows end u
 refuses_poll rows end u s NoMemory found h = tt

@@ -1,5 +1,6 @@
 -- What the calls of a source answer, by what it holds as the call begins.
 use Rattle.std.specs.Prelude.{◌≡◌, ℕ, ◌+◌, Bool, true, false, List, [], length, is_none, is_some, Option, Some, None}
+use Rattle.wef_batch.specs.Numbers.{AreNumbered}
 use Rattle.wef_bookmark.specs.Order.{Marks}
 use Rattle.wef_ids.specs.Ids.{ids_agree}
 use Rattle.wef_ids.specs.declared.MessageId.{MessageId}
@@ -119,6 +120,11 @@ SendsFrom end end' session u now (polls.Send delivery) =
 -- in every answer the session of the name is there
 abbrev pub Sends : End → End → List ℕ → ℕ → poll.Poll → Type 0
 Sends end end' u now answer = WhereThere (session_of end.sessions u) (λ session. SendsFrom end end' session u now answer)
+
+-- what a poll sends has numbers such as records have, also where the rows aren't told
+abbrev pub SendsNumbered : poll.Poll → Type 0
+SendsNumbered polls.Nothing = Unit {0}
+SendsNumbered (polls.Send delivery) = AreNumbered delivery.batch.items
 
 -- a poll's refusals, also where the rows aren't told: each but for an unknown name comes where no answer is outstanding
 abbrev pub MayRefusePoll : SourceFault → End → List ℕ → Type 0

@@ -1,6 +1,7 @@
 -- How a batch is drawn up: candidates are offered one after the other, and taken while they fit.
-use Rattle.std.specs.Prelude.{ℕ, ◌-◌, List, [], ◌∷◌, ◌++◌, Option, Some, None, if◌then◌else◌}
+use Rattle.std.specs.Prelude.{ℕ, ◌-◌, List, [], ◌∷◌, ◌++◌, Option, Some, None, IfSome, if◌then◌else◌}
 use Rattle.wef_batch.specs.Cost.{cost}
+use Rattle.wef_batch.specs.Numbers.{AreNumbered, IsNumbered}
 use Rattle.wef_batch.specs.declared.items.Item.{Item}
 use Rattle.wef_batch.specs.declared.items.Item.TheVariants as item
 use Rattle.wef_source.specs.Building.{first_number, has_room, is_of}
@@ -9,6 +10,10 @@ use Rattle.wef_source.specs.declared.drafting.Draft.{Draft}
 -- a draft with room for so many items and so many bytes of them
 abbrev pub empty_draft : ℕ → ℕ → Draft
 empty_draft items bytes = record { items = []; items_left = items; bytes_left = bytes; left = None }
+
+-- what is taken and what is left has numbers such as records have
+abbrev pub IsNumberedDraft : Draft → Type 0
+IsNumberedDraft d = AreNumbered d.items × IfSome d.left IsNumbered
 
 -- a draft to which an item is offered: nothing is taken any more once an item didn't fit
 abbrev pub offered : Option Item → Draft → Item → Draft

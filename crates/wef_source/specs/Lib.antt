@@ -4,6 +4,7 @@ pub mod Calls
 pub mod Drafting
 pub mod Faults
 pub mod Fits
+pub mod Judged
 pub mod Laws
 pub mod Machine
 pub mod Placing

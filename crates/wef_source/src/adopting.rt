@@ -12,6 +12,7 @@ use crate::faults::SourceFault;
 use crate::sessions::{Session, copied_address};
 use std::alloc::{AllocError, Global};
 use std::cmp::Ordering;
+use wef_base::moments::Moment;
 use wef_base::{ChannelName, List, SubId};
 use wef_bookmark::Bookmark;
 use wef_eventing::{Offer, Subscribe, subscription_in};
@@ -21,7 +22,7 @@ use wef_query::{QueryList, channels};
 pub fn sessions_of(
     alloc: Global,
     offers: &List<Offer>,
-    now: u64,
+    now: Moment,
 ) -> Result<Vec<Session>, SourceFault>
     ensures ok { IfOk result (λ sessions. sessions.items ≡ spec.with_offers now [] offers.now) }
     ensures kept { IfOk result (λ sessions. AreKept sessions.items) }
@@ -40,7 +41,7 @@ fn take_offer(
     alloc: Global,
     sessions: &mut Vec<Session>,
     subscribe: &Subscribe,
-    now: u64,
+    now: Moment,
 ) -> Result<(), SourceFault>
     requires { AreKept sessions.old.items }
     ensures ok { OnOk result (sessions.new.items
@@ -61,7 +62,7 @@ fn session_from(
     alloc: Global,
     subscribe: &Subscribe,
     name: SubId,
-    now: u64,
+    now: Moment,
 ) -> Result<Session, SourceFault>
     ensures ok { IfOk result (λ session. session ≡ spec.session_from now subscribe.now name) }
     ensures refusal { IfErr result WantsMemory }

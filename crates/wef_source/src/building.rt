@@ -1,8 +1,9 @@
 //! The batch that a session sends.
 
-ghost use Rattle.std.specs.Prelude.{◌≡◌, true, IfOk, IfErr, IfSome, OnOk};
+ghost use Rattle.std.specs.Prelude.{◌≡◌, ◌≤◌, true, IfOk, IfErr, IfSome, OnOk};
 ghost use Rattle.std.specs.FinMap as map;
 ghost use Rattle.std.specs.Option.{option_to_list};
+ghost use Rattle.wef_batch.specs.Numbers.{AreNumbered, IsNumbered};
 ghost use Rattle.wef_keeper.specs.Access as access;
 ghost use Rattle.wef_keeper.specs.Calls.{fails};
 ghost use Rattle.wef_source_log.specs.Forms.{AreFormed};
@@ -10,6 +11,7 @@ ghost use Rattle.wef_source.specs.Answers.{RefusesRead, WantsMemory};
 ghost use Rattle.wef_source.specs.Faults.{source_store};
 ghost use Rattle.wef_source.specs.Building as spec;
 ghost use Rattle.wef_source.specs.Drafting as drafting;
+ghost use Rattle.wef_source.specs.Judged.{JudgesBatch, JudgesChannels};
 ghost use Rattle.wef_source.specs.Serving.{HasAll, HasEach, IsCovered};
 
 use crate::drafting::{Draft, room_of};
@@ -17,6 +19,7 @@ use crate::faults::SourceFault;
 use crate::sessions::Session;
 use std::alloc::Global;
 use wef_base::ChannelName;
+use wef_base::numbers::MAX;
 use wef_batch::{Batch, Item};
 use wef_bookmark::Bookmark;
 use wef_keeper::Keeper;
@@ -33,6 +36,8 @@ pub fn built<K: Keeper>(
     requires covered { IsCovered session.now }
     requires ready { access.IsReady (K.store log.old.keeper) }
     ensures ok { IfSome (K.store log.new.keeper).rows (λ rows. IfOk result (λ batch. batch ≡ spec.built rows session.now)) }
+    ensures numbered { IfOk result (λ batch. AreNumbered batch.items) }
+    ensures judged { IfSome (K.store log.new.keeper).rows (λ rows. OnOk result (JudgesBatch rows session.now)) }
     ensures covered { IfOk result (λ batch. HasAll session.now.positions batch.to) }
     ensures refusal { IfErr result RefusesRead }
     ensures reads { access.Reads AreFormed (fails source_store result) (K.store log.old.keeper) (K.store log.new.keeper) }
@@ -52,6 +57,8 @@ fn built_from<K: Keeper>(
     requires covered { IsCovered session.now }
     requires ready { access.IsReady (K.store log.old.keeper) }
     ensures ok { IfSome (K.store log.new.keeper).rows (λ rows. IfOk result (λ batch. batch ≡ spec.built rows session.now)) }
+    ensures numbered { IfOk result (λ batch. AreNumbered batch.items) }
+    ensures judged { IfSome (K.store log.new.keeper).rows (λ rows. OnOk result (JudgesBatch rows session.now)) }
     ensures covered { IfOk result (λ batch. HasAll session.now.positions batch.to) }
     ensures refusal { IfErr result RefusesRead }
     ensures reads { access.Reads AreFormed (fails source_store result) (K.store log.old.keeper) (K.store log.new.keeper) }
@@ -80,8 +87,11 @@ fn filled<K: Keeper>(
     draft: &mut Draft,
 ) -> Result<Bookmark, SourceFault>
     requires covered { HasEach session.now.positions channels.now }
+    requires draft { drafting.IsNumberedDraft draft.old }
     requires ready { access.IsReady (K.store log.old.keeper) }
     ensures draft { IfSome (K.store log.new.keeper).rows (λ rows. OnOk result (draft.new ≡ drafting.with_items draft.old (spec.candidates_in rows session.now channels.now))) }
+    ensures numbered { OnOk result (drafting.IsNumberedDraft draft.new) }
+    ensures judged { IfSome (K.store log.new.keeper).rows (λ rows. OnOk result (JudgesChannels rows session.now.positions channels.now draft.old.left draft.new.left)) }
     ensures to { IfSome (K.store log.new.keeper).rows (λ rows. IfOk result (λ to. to
         ≡ spec.with_reaches session.now.positions map.empty (spec.reaches rows channels.now (option_to_list draft.new.left)))) }
     ensures covered { IfOk result (HasAll session.now.positions) }
@@ -101,6 +111,7 @@ fn reached<K: Keeper>(
     left: &Option<Item>,
 ) -> Result<Bookmark, SourceFault>
     requires covered { HasEach session.now.positions channels.now }
+    requires left { IfSome left.now IsNumbered }
     requires ready { access.IsReady (K.store log.old.keeper) }
     ensures ok { IfSome (K.store log.new.keeper).rows (λ rows. IfOk result (λ to. to ≡ spec.with_reaches session.now.positions map.empty (spec.reaches rows channels.now (option_to_list left.now)))) }
     ensures covered { IfOk result (HasAll session.now.positions) }
@@ -126,6 +137,7 @@ fn raise_above(
     channel: &ChannelName,
     number: u64,
 ) -> Result<(), SourceFault>
+    requires { number ≤ MAX }
     ensures ok { OnOk result (to.new ≡ spec.with_reach positions.now to.old (channel.now, number)) }
     ensures refusal { IfErr result WantsMemory }
 {
@@ -140,7 +152,9 @@ fn raise_above(
 
 /// How far a channel is read where an item is left: up to that item, where it is of the channel.
 fn stop_at(left: &Option<Item>, channel: &ChannelName) -> Option<u64>
-    ensures { result ≡ drafting.stop_at channel.now left.now }
+    requires { IfSome left.now IsNumbered }
+    ensures value { result ≡ drafting.stop_at channel.now left.now }
+    ensures bound { IfSome result (λ number. number ≤ MAX) }
 {
     match left {
         Some(item) if is_of(item, channel) => Some(first_number(item).saturating_sub(1)),
@@ -162,7 +176,9 @@ fn is_of(item: &Item, channel: &ChannelName) -> bool
 }
 
 fn first_number(item: &Item) -> u64
-    ensures { result ≡ spec.first_number item.now }
+    requires { IsNumbered item.now }
+    ensures value { result ≡ spec.first_number item.now }
+    ensures bound { result ≤ MAX }
 {
     match item {
         Item::Event(event) => event.number,

@@ -1,7 +1,8 @@
 //! Drafts of batches: candidates are offered one after the other, and taken while they fit.
 
-ghost use Rattle.std.specs.Prelude.{◌≡◌, ◌∷◌, [], is_some, Some, None, IfErr, IfSome, OnOk};
+ghost use Rattle.std.specs.Prelude.{◌≡◌, ◌+◌, ◌∷◌, [], min, is_some, Some, None, IfErr, IfSome, OnOk};
 ghost use Rattle.std.specs.List.{filter_map};
+ghost use Rattle.wef_batch.specs.Numbers.{IsNumbered};
 ghost use Rattle.wef_keeper.specs.Access as access;
 ghost use Rattle.wef_keeper.specs.Calls.{fails};
 ghost use Rattle.wef_source_log.specs.Forms.{AreFormed};
@@ -9,6 +10,8 @@ ghost use Rattle.wef_source.specs.Answers.{RefusesRead};
 ghost use Rattle.wef_source.specs.Faults.{source_store};
 ghost use Rattle.wef_source.specs.Building as building;
 ghost use Rattle.wef_source.specs.Drafting as spec;
+ghost use Rattle.wef_source.specs.Judged as judged;
+ghost use Rattle.wef_source_log.specs.Judged.{JudgesFirst};
 ghost use Rattle.wef_source_log.specs.Windows as windows;
 ghost use Rattle.wef_source_log.specs.Windows.{records_after};
 
@@ -25,6 +28,14 @@ use wef_source_log::Log;
 /// The most records that are read at once.
 const PAGE: u32 = 256;
 
+/// How many records are read first where so many items may be taken: these, and one more, which is
+/// left then.
+fn first_page(items: u32) -> u32
+    ensures { result ≡ min PAGE (items + 1) }
+{
+    if items < PAGE { items + 1 } else { PAGE }
+}
+
 /// A batch's items so far.
 #[derive(Drop)]
 pub struct Draft {
@@ -40,7 +51,8 @@ pub struct Draft {
 impl Draft {
     /// A draft with room for so many items and so many bytes of them. It takes no memory.
     pub fn new(alloc: Global, items: u32, bytes: u64) -> Draft
-        ensures { result ≡ spec.empty_draft items bytes }
+        ensures value { result ≡ spec.empty_draft items bytes }
+        ensures numbered { spec.IsNumberedDraft result }
     {
         Draft {
             items: List::new(alloc),
@@ -59,7 +71,10 @@ impl Draft {
 
     /// Takes an item, where it fits and all before it did.
     pub fn take(&mut self, item: Item) -> Result<(), AllocError>
-        ensures { OnOk result (self.new ≡ spec.with_item self.old item) }
+        requires draft { spec.IsNumberedDraft self.old }
+        requires item { IsNumbered item }
+        ensures ok { OnOk result (self.new ≡ spec.with_item self.old item) }
+        ensures numbered { OnOk result (spec.IsNumberedDraft self.new) }
     {
         if self.left.is_some() {
             return Ok(());
@@ -68,9 +83,13 @@ impl Draft {
     }
 
     /// Takes an item where it fits, and all before it did.
+    #[tactic(auto, using(crate::proofs::Numbered::push_numbered))]
     fn take_next(&mut self, item: Item) -> Result<(), AllocError>
-        requires { self.old.left ≡ None }
-        ensures { OnOk result (self.new ≡ spec.with_item self.old item) }
+        requires unfilled { self.old.left ≡ None }
+        requires draft { spec.IsNumberedDraft self.old }
+        requires item { IsNumbered item }
+        ensures ok { OnOk result (self.new ≡ spec.with_item self.old item) }
+        ensures numbered { OnOk result (spec.IsNumberedDraft self.new) }
     {
         let bytes = cost(&item);
         if self.items_left == 0 || bytes > self.bytes_left {
@@ -96,8 +115,11 @@ impl Draft {
         session: &Session,
         channels: &[ChannelName],
     ) -> Result<(), SourceFault>
-        requires { access.IsReady (K.store log.old.keeper) }
+        requires draft { spec.IsNumberedDraft self.old }
+        requires ready { access.IsReady (K.store log.old.keeper) }
         ensures ok { IfSome (K.store log.new.keeper).rows (λ rows. OnOk result (self.new ≡ spec.with_items self.old (building.candidates_in rows session.now channels.now))) }
+        ensures numbered { OnOk result (spec.IsNumberedDraft self.new) }
+        ensures judged { IfSome (K.store log.new.keeper).rows (λ rows. OnOk result (judged.JudgesChannels rows session.now.positions channels.now self.old.left self.new.left)) }
         ensures refusal { IfErr result RefusesRead }
         ensures reads { access.Reads AreFormed (fails source_store result) (K.store log.old.keeper) (K.store log.new.keeper) }
     {
@@ -115,8 +137,11 @@ impl Draft {
         session: &Session,
         channel: &ChannelName,
     ) -> Result<(), SourceFault>
-        requires { access.IsReady (K.store log.old.keeper) }
+        requires draft { spec.IsNumberedDraft self.old }
+        requires ready { access.IsReady (K.store log.old.keeper) }
         ensures ok { IfSome (K.store log.new.keeper).rows (λ rows. OnOk result (self.new ≡ spec.with_items self.old (building.channel_candidates rows session.now channel.now))) }
+        ensures numbered { OnOk result (spec.IsNumberedDraft self.new) }
+        ensures judged { IfSome (K.store log.new.keeper).rows (λ rows. OnOk result (judged.JudgesChannel rows session.now.positions channel.now self.old.left self.new.left)) }
         ensures refusal { IfErr result RefusesRead }
         ensures reads { access.Reads AreFormed (fails source_store result) (K.store log.old.keeper) (K.store log.new.keeper) }
     {
@@ -132,8 +157,11 @@ impl Draft {
         channel: &ChannelName,
         position: u64,
     ) -> Result<(), SourceFault>
-        requires { access.IsReady (K.store log.old.keeper) }
+        requires draft { spec.IsNumberedDraft self.old }
+        requires ready { access.IsReady (K.store log.old.keeper) }
         ensures ok { IfSome (K.store log.new.keeper).rows (λ rows. OnOk result (self.new ≡ spec.with_items self.old (building.unread rows channel.now position))) }
+        ensures numbered { OnOk result (spec.IsNumberedDraft self.new) }
+        ensures judged { IfSome (K.store log.new.keeper).rows (λ rows. OnOk result (JudgesFirst channel.now rows)) }
         ensures refusal { IfErr result RefusesRead }
         ensures reads { access.Reads AreFormed (fails source_store result) (K.store log.old.keeper) (K.store log.new.keeper) }
     {
@@ -158,27 +186,34 @@ impl Draft {
         channel: &ChannelName,
         position: u64,
     ) -> Result<(), SourceFault>
-        requires { access.IsReady (K.store log.old.keeper) }
+        requires draft { spec.IsNumberedDraft self.old }
+        requires ready { access.IsReady (K.store log.old.keeper) }
         ensures ok { IfSome (K.store log.new.keeper).rows (λ rows. OnOk result (self.new
             ≡ spec.with_items self.old (filter_map (building.item_of query.now room) (records_after rows channel.now position)))) }
+        ensures numbered { OnOk result (spec.IsNumberedDraft self.new) }
+        ensures judged { self.old.left ≡ None → IfSome (K.store log.new.keeper).rows (λ rows. OnOk result (judged.AreRead channel.now position self.new.left rows)) }
         ensures refusal { IfErr result RefusesRead }
         ensures reads { access.Reads AreFormed (fails source_store result) (K.store log.old.keeper) (K.store log.new.keeper) }
     {
         let mut after = position;
+        let mut max = first_page(self.items_left);
         while !self.is_full() {
-            let page = log.page_ready(channel, after, PAGE)?;
+            let page = log.page_ready(channel, after, max)?;
             if page.is_empty() {
                 return Ok(());
             }
             after = last_number(after, page.as_slice());
             self.take_events(query, room, page)?;
+            max = PAGE;
         }
         Ok(())
     }
 
     /// Takes what a record gives.
     fn take_event(&mut self, query: &QueryList, room: u64, event: Event) -> Result<(), AllocError>
-        ensures { OnOk result (self.new ≡ spec.with_items self.old (filter_map (building.item_of query.now room) (event ∷ []))) }
+        requires { spec.IsNumberedDraft self.old }
+        ensures ok { OnOk result (self.new ≡ spec.with_items self.old (filter_map (building.item_of query.now room) (event ∷ []))) }
+        ensures numbered { OnOk result (spec.IsNumberedDraft self.new) }
     {
         if !selected(query, &event.channel) {
             return Ok(());
@@ -193,7 +228,9 @@ impl Draft {
         room: u64,
         events: List<Event>,
     ) -> Result<(), AllocError>
-        ensures { OnOk result (self.new ≡ spec.with_items self.old (filter_map (building.item_of query.now room) events)) }
+        requires { spec.IsNumberedDraft self.old }
+        ensures ok { OnOk result (self.new ≡ spec.with_items self.old (filter_map (building.item_of query.now room) events)) }
+        ensures numbered { OnOk result (spec.IsNumberedDraft self.new) }
     {
         for event in events.into_vec() {
             self.take_event(query, room, event)?;
@@ -222,7 +259,8 @@ fn last_number(before: u64, events: &[Event]) -> u64
 
 /// A record as an item: dropped where its event costs more than the room.
 fn sized_item(room: u64, event: Event) -> Item
-    ensures { result ≡ building.sized_item room event }
+    ensures value { result ≡ building.sized_item room event }
+    ensures numbered { IsNumbered result }
 {
     let item = Item::Event(event);
     if cost(&item) > room {
@@ -234,11 +272,14 @@ fn sized_item(room: u64, event: Event) -> Item
 
 /// What says that an event's record is gone.
 fn dropped(item: Item) -> Item
-    ensures { result ≡ spec.dropped item }
+    requires { IsNumbered item }
+    ensures value { result ≡ spec.dropped item }
+    ensures numbered { IsNumbered result }
 {
     match item {
         Item::Event(event) => {
-            let (channel, number, _) = event.into_parts();
+            let number = event.number;
+            let (channel, _, _) = event.into_parts();
             Item::Dropped {
                 channel,
                 first: number,

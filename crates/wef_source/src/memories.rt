@@ -1,6 +1,7 @@
 //! What a source remembers while it runs. It is lost where the source ends.
 
 ghost use Rattle.std.specs.Prelude.{◌≡◌, [], false, true, is_some, Some, IfOk, IfErr, IfSome, OnOk, OnErr};
+ghost use Rattle.wef_batch.specs.Numbers.{AreNumbered};
 ghost use Rattle.wef_ids.specs.Ids.{ids_agree};
 ghost use Rattle.wef_keeper.specs.Access as access;
 ghost use Rattle.wef_keeper.specs.Calls.{Looks, fails};
@@ -8,6 +9,7 @@ ghost use Rattle.wef_query.specs.Order.{IsInOrder};
 ghost use Rattle.wef_source_log.specs.Forms.{AreFormed};
 ghost use Rattle.wef_source.specs.Answers as answers;
 ghost use Rattle.wef_source.specs.Faults.{source_store};
+ghost use Rattle.wef_source.specs.Judged.{JudgesBatch, JudgesPoll};
 ghost use Rattle.wef_source.specs.Machine as machine;
 ghost use Rattle.wef_source.specs.Prepared.{MayDraw, MayRefuseToPrepare, Prepares, RefusesToPrepare};
 ghost use Rattle.wef_source.specs.Serving.{IsCovered};
@@ -21,6 +23,7 @@ use crate::serving::{move_waiting, place_of_name, refuse_waiting, send, settle_n
 use crate::sessions::{Outstanding, Session, copied_address};
 use std::alloc::{AllocError, Global};
 use std::marker::Model;
+use wef_base::moments::Moment;
 use wef_base::{List, SubId, Text};
 use wef_batch::Batch;
 use wef_bookmark::Bookmark;
@@ -102,7 +105,7 @@ impl Memory {
         &mut self,
         relates: &MessageId,
         offers: &List<Offer>,
-        now: u64,
+        now: Moment,
     ) -> Result<u64, SourceFault>
         ensures ok { IfOk result (answers.Adopts self.old self.new relates.now offers.now now) }
         ensures refusal { IfErr result (λ fault. answers.RefusesAdopt fault self.old relates.now) }
@@ -133,11 +136,13 @@ impl Memory {
         &mut self,
         log: &mut Log<K>,
         sub: &SubId,
-        now: u64,
+        now: Moment,
     ) -> Result<Poll, SourceFault>
         ensures ok { IfSome (K.store log.new.keeper).rows (λ rows. IfOk result (answers.Polls rows self.old self.new sub.now now)) }
         ensures refusal { IfSome (K.store log.new.keeper).rows (λ rows. IfErr result (λ fault. answers.RefusesPoll fault rows self.old sub.now)) }
         ensures sends { IfOk result (answers.Sends self.old self.new sub.now now) }
+        ensures numbered { IfOk result answers.SendsNumbered }
+        ensures judged { IfSome (K.store log.new.keeper).rows (λ rows. OnOk result (JudgesPoll rows self.old sub.now)) }
         ensures listed { IfErr result (λ fault. answers.MayRefusePoll fault self.old sub.now) }
         ensures err { OnErr result (self.new ≡ self.old) }
         ensures looks { answers.may_send (the_sessions.session_of self.old.sessions sub.now) ≡ true → Looks source_store AreFormed result (K.store log.old.keeper) (K.store log.new.keeper) }
@@ -217,6 +222,8 @@ impl Memory {
         ensures ok { IfSome (K.store log.new.keeper).rows (λ rows. IfOk result (Prepares rows self.now session.now)) }
         ensures refusal { IfSome (K.store log.new.keeper).rows (λ rows. IfErr result (RefusesToPrepare rows self.now session.now)) }
         ensures draws { IfOk result (MayDraw self.now session.now) }
+        ensures numbered { IfOk result (λ found. IfSome found (λ prepared. AreNumbered prepared.0.batch.items)) }
+        ensures judged { IfSome (K.store log.new.keeper).rows (λ rows. OnOk result (is_some session.now.outstanding ≡ false → JudgesBatch rows session.now)) }
         ensures listed { IfErr result (MayRefuseToPrepare self.now) }
         ensures looks { is_some session.now.outstanding ≡ false → Looks source_store AreFormed result (K.store log.old.keeper) (K.store log.new.keeper) }
         ensures untouched { is_some session.now.outstanding ≡ true → log.new ≡ log.old }
@@ -242,6 +249,8 @@ impl Memory {
         ensures ok { IfSome (K.store log.new.keeper).rows (λ rows. IfOk result (Prepares rows self.now session.now)) }
         ensures refusal { IfSome (K.store log.new.keeper).rows (λ rows. IfErr result (RefusesToPrepare rows self.now session.now)) }
         ensures draws { IfOk result (MayDraw self.now session.now) }
+        ensures numbered { IfOk result (λ found. IfSome found (λ prepared. AreNumbered prepared.0.batch.items)) }
+        ensures judged { IfSome (K.store log.new.keeper).rows (λ rows. OnOk result (JudgesBatch rows session.now)) }
         ensures listed { IfErr result (MayRefuseToPrepare self.now) }
         ensures reads { access.Reads AreFormed (fails source_store result) (K.store log.old.keeper) (K.store log.new.keeper) }
     {

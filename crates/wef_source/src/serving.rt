@@ -9,6 +9,7 @@ ghost use Rattle.wef_source.specs.Sessions as spec;
 
 use crate::sessions::{Outstanding, Session};
 use wef_base::SubId;
+use wef_base::moments::Moment;
 use wef_bookmark::Bookmark;
 use wef_ids::FaultName;
 
@@ -115,7 +116,7 @@ fn end_waiting(sessions: &mut Vec<Session>, id: u128) -> bool
 }
 
 /// Has a session wait for the answer to a delivery that is sent at a moment.
-pub fn send(session: &mut Session, outstanding: Outstanding, now: u64)
+pub fn send(session: &mut Session, outstanding: Outstanding, now: Moment)
     ensures { session.new ≡ spec.sending outstanding now session.old }
 {
     session.outstanding = Some(outstanding);

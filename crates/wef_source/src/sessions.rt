@@ -3,6 +3,7 @@
 ghost use Rattle.std.specs.Prelude.{◌≡◌, IfOk};
 
 use std::alloc::AllocError;
+use wef_base::moments::Moment;
 use wef_base::{SubId, Text};
 use wef_bookmark::Bookmark;
 use wef_query::QueryList;
@@ -34,7 +35,7 @@ pub struct Session {
     pub positions: Bookmark,
     pub outstanding: Option<Outstanding>,
     /// When the last message of the session was sent.
-    pub last_sent: u64,
+    pub last_sent: Moment,
 }
 
 /// One call for whoever lets a session go, whatever it holds.

@@ -8,9 +8,11 @@ ghost use Rattle.wef_keeper.specs.declared.keeping.Plan.TheVariants.{Done, Fails
 ghost use Rattle.wef_query.specs.Order.{IsInOrder};
 ghost use Rattle.wef_source_log.specs.Answers.{ExtendsHistory, next_boot, next_number};
 ghost use Rattle.wef_source_log.specs.Forms.{AreFormed};
+ghost use Rattle.wef_source_log.specs.Judged as log_judged;
 ghost use Rattle.wef_source.specs.Answers as answers;
 ghost use Rattle.wef_source.specs.Calls.{start_effect, write_effect};
 ghost use Rattle.wef_source.specs.Faults.{source_answer, source_store};
+ghost use Rattle.wef_source.specs.Judged.{JudgesPoll};
 ghost use Rattle.wef_source.specs.Machine as machine;
 ghost use Rattle.wef_source.specs.Sessions as the_sessions;
 
@@ -19,6 +21,7 @@ use crate::memories::Memory;
 use crate::messages::{Moved, Poll, Reply};
 use std::alloc::Global;
 use std::marker::Model;
+use wef_base::moments::Moment;
 use wef_base::{List, SourceName, SubId};
 use wef_event::Event;
 use wef_eventing::Offer;
@@ -66,6 +69,7 @@ impl<K: Keeper> SourceEnd<K> {
             (λ refused. IsCall source_store AreFormed (λ found. start_effect found capacity) next_boot (Err refused.1) (K.store keeper) (K.store refused.0)) }
         ensures memory { IfOk result (λ end. end.memory ≡ machine.start_of end.memory.boot) }
         ensures name { IfOk result (λ end. end.name ≡ name) }
+        ensures judged { IfOk result (λ end. access.From (K.store keeper) (K.store end.keeper) (λ found after. log_judged.JudgesStart found)) }
         ensures listed { IfErr result (λ refused. answers.RefusesStart refused.1) }
     {
         match Log::start(alloc, keeper, capacity) {
@@ -95,6 +99,7 @@ impl<K: Keeper> SourceEnd<K> {
     pub fn write(&mut self, event: &Event) -> Result<u64, SourceFault>
         ensures call { IsCall source_store AreFormed (λ found. write_effect found event.now) (λ found. next_number found event.now) result (K.store self.old.keeper) (K.store self.new.keeper) }
         ensures window { access.From (K.store self.old.keeper) (K.store self.new.keeper) (λ found after. IfOk result (ExtendsHistory found after event.now)) }
+        ensures judged { OnOk result (access.From (K.store self.old.keeper) (K.store self.new.keeper) (λ found after. log_judged.JudgesWrite event.now.channel found)) }
         ensures listed { IfErr result answers.RefusesLog }
         ensures memory { self.new.memory ≡ self.old.memory }
         ensures name { self.new.name ≡ self.old.name }
@@ -120,7 +125,7 @@ impl<K: Keeper> SourceEnd<K> {
         &mut self,
         relates: &MessageId,
         offers: &List<Offer>,
-        now: u64,
+        now: Moment,
     ) -> Result<u64, SourceFault>
         ensures ok { IfOk result (answers.Adopts self.old.memory self.new.memory relates.now offers.now now) }
         ensures refusal { IfErr result (λ fault. answers.RefusesAdopt fault self.old.memory relates.now) }
@@ -142,10 +147,12 @@ impl<K: Keeper> SourceEnd<K> {
 
     /// What a session has to send at a moment: a batch, unless the answer to one is outstanding or there is none.
     /// The store is used only where no answer is outstanding.
-    pub fn poll(&mut self, sub: &SubId, now: u64) -> Result<Poll, SourceFault>
+    pub fn poll(&mut self, sub: &SubId, now: Moment) -> Result<Poll, SourceFault>
         ensures ok { IfSome (K.store self.new.keeper).rows (λ rows. IfOk result (answers.Polls rows self.old.memory self.new.memory sub.now now)) }
         ensures refusal { IfSome (K.store self.new.keeper).rows (λ rows. IfErr result (λ fault. answers.RefusesPoll fault rows self.old.memory sub.now)) }
         ensures sends { IfOk result (answers.Sends self.old.memory self.new.memory sub.now now) }
+        ensures numbered { IfOk result answers.SendsNumbered }
+        ensures judged { IfSome (K.store self.new.keeper).rows (λ rows. OnOk result (JudgesPoll rows self.old.memory sub.now)) }
         ensures listed { IfErr result (λ fault. answers.MayRefusePoll fault self.old.memory sub.now) }
         ensures err { OnErr result (self.new.memory ≡ self.old.memory) }
         ensures looks { answers.may_send (the_sessions.session_of self.old.memory.sessions sub.now) ≡ true → Looks source_store AreFormed result (K.store self.old.keeper) (K.store self.new.keeper) }

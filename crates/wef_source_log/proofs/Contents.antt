@@ -39,7 +39,7 @@ one_self c = ap is_eq (tied_itself nat_list_cmp_total c)
 hits_number : (c : List ℕ) (m n : ℕ) → hits (record_key c m) (record_key c n) ≡ nat_eq m n
 hits_number c m n = hits_record c c m n ∙ ap (λ (t : Bool). t && nat_eq m n) (one_self c)
 
-hit : (k q : Key) → hits k q ≡ true → k ≡ q
+pub hit : (k q : Key) → hits k q ≡ true → k ≡ q
 hit k q e = key_cmp_exact k q (tie (key_cmp k q) e)
 
 rises : (c : List ℕ) (k n : ℕ) → k < n → is_after (record_key c k) (record_key c n) ≡ true
@@ -50,19 +50,19 @@ less Less e = refl
 less Equal e = cc
 less Greater e = cc
 
-rose : (c : List ℕ) (k n : ℕ) → is_after (record_key c k) (record_key c n) ≡ true → k < n
+pub rose : (c : List ℕ) (k n : ℕ) → is_after (record_key c k) (record_key c n) ≡ true → k < n
 rose c k n after = ranked k n Less (sym (less (nat_cmp k n) (sym (ap is_lt (record_order c k n)) ∙ after)))
 
 -- ---- the section of a channel's records
 
 -- whether a key is that of one of a channel's records above a number
-abbrev is_wanted : List ℕ → ℕ → Key → Bool
+abbrev pub is_wanted : List ℕ → ℕ → Key → Bool
 is_wanted c after key = is_after (record_key c after) key && is_under Channel (record_key c after) key
 
-wanted_record : (c : List ℕ) (after n : ℕ) → after < n → is_wanted c after (record_key c n) ≡ true
+pub wanted_record : (c : List ℕ) (after n : ℕ) → after < n → is_wanted c after (record_key c n) ≡ true
 wanted_record c after n above = ap (λ (t : Bool). t && is_under Channel (record_key c after) (record_key c n)) (rises c after n above) ∙ nat_list_eq_equiv.refl c
 
-section_entries : (p u : Key → Bool) (es : List (Key × Cell)) → filter (λ (row : Row). u row.key) (map row_of (filter (λ (e : Key × Cell). p e.0) es)) ≡ map row_of (where_key key_cmp (λ key. p key && u key) es)
+pub section_entries : (p u : Key → Bool) (es : List (Key × Cell)) → filter (λ (row : Row). u row.key) (map row_of (filter (λ (e : Key × Cell). p e.0) es)) ≡ map row_of (where_key key_cmp (λ key. p key && u key) es)
 section_entries p u [] = refl
 section_entries p u (e ∷ es) =
     let rest = filter (λ (f : Key × Cell). p f.0) es in

@@ -2,41 +2,33 @@
 use Rattle.std.proofs.Common.{◌≡◌, ℕ, ◌+◌, ◌-◌, ◌<◌, ◌≤◌, ◌==◌, nat_le, nat_lt, Bool, true, false, cond, ◌&&◌, ◌||◌, List, [], ◌∷◌, ◌++◌, take, length, refl, ap, sym, ◌∙◌, subst, arith, if◌then◌else◌}
 use Rattle.std.proofs.lemmas.Bool.{and_parts}
 use Rattle.std.proofs.lemmas.Bool.Decides.{nat_tests}
-use Rattle.std.proofs.lemmas.List.Elements.{All-head, All-tail, All-take, All-weaker}
 use Rattle.std.specs.Cmp.Lexicographic.{nat_list_eq_equiv}
 use Rattle.std.specs.FinMap as finite
-use Rattle.std.specs.List.{All, AllByRecursion, list_all}
+use Rattle.std.specs.List.{AllByRecursion, list_all}
 use Rattle.std.specs.Option.{option_map}
 use Rattle.std.specs.Prelude.{Option, Some, None, IfSome}
 use Rattle.wef_base.specs.Names.{channel_name}
 use Rattle.wef_base.specs.declared.numbers.TheConstants.{MAX}
 use Rattle.wef_event.specs.Events.{is_event}
 use Rattle.wef_keeper.proofs.Forming as forming
+use Rattle.wef_keeper.proofs.StayFormed.{applied_formed}
 use Rattle.wef_keeper.specs.Access.{IsBehind}
+use Rattle.wef_keeper.specs.Forms.{ArePut}
 use Rattle.wef_keeper.specs.Keeping.{row_at}
-use Rattle.wef_keeper.specs.Laws.{get-changed}
-use Rattle.wef_keeper.specs.Rows.{Rows, applied, cell_of, cell_of_row, changed, key_cmp, key_cmp_exact, key_of, row_of}
+use Rattle.wef_keeper.specs.Rows.{Rows, key_cmp, row_of}
 use Rattle.wef_keeper.specs.Sections.{is_under, rows_under}
 use Rattle.wef_keeper.specs.declared.keys.Cell.{Cell}
-use Rattle.wef_keeper.specs.declared.keys.Change.{Change}
 use Rattle.wef_keeper.specs.declared.keys.Change.TheVariants.{Delete, Put}
-use Rattle.wef_keeper.specs.declared.keys.Depth.{Depth}
 use Rattle.wef_keeper.specs.declared.keys.Depth.TheVariants.{Channel}
 use Rattle.wef_keeper.specs.declared.keys.Key.{Key}
 use Rattle.wef_keeper.specs.declared.keys.Row.{Row}
-use Rattle.wef_source_log.specs.Forms.{AreFormed, has_number, is_bare, is_boot, is_capacity, is_channel, is_formed, is_last, is_nameless, is_read, is_record, is_whole}
+use Rattle.wef_source_log.specs.Forms.{AreFormed, has_number, is_bare, is_boot, is_capacity, is_channel, is_formed, is_last, is_nameless, is_read, is_record}
+use Rattle.wef_source_log.specs.Judged.{JudgesPage}
 use Rattle.wef_source_log.specs.declared.keys.TheConstants.{RECORD, LAST, CAPACITY, BOOT}
 use Rattle.wef_source_log.specs.Keys.{boot_key, capacity_key, last_key, record_key}
 use Rattle.wef_source_log.specs.Laws.{FormsStay}
 use Rattle.wef_source_log.specs.Windows.{boot_of, capacity_changes, capacity_of, last_of, start_changes, write_changes}
-use Rattle.wef_source_log.proofs.Cells.{hits, tie}
 use Rattle.wef_source_log.proofs.Pages.{own_key}
-
--- rows of which an ill-formed one was read aren't all of their form
-pub no_whole : (told : Option Rows) (key : Key) (found : Option Row) → is_whole found ≡ false → IfSome told (λ rows. found ≡ row_at key rows) → IfSome told (λ rows. AreFormed rows → ⊥)
-unfolding AreFormed
-no_whole told key None ill is = let bad : ⊥ = cc in absurd bad
-no_whole told key (Some row) ill is = forming.no_row is_formed told key row ill is
 
 -- a row with the key of a record is of its form where it is a record
 record_form : (c : List ℕ) (after : ℕ) (row : Row) → is_under Channel (record_key c after) row.key ≡ true → is_record row ≡ is_formed row
@@ -52,12 +44,19 @@ record_forms c after (row ∷ rows) behind = λ i. record_form c after row behin
 -- so where a row of a page isn't a record, the rows aren't all of their form
 pub no_record : (told : Option Rows) (n : ℕ) (c : List ℕ) (after : ℕ) (start : Key) (page : List Row) → start ≡ record_key c after → AllByRecursion (IsBehind Channel start) page
     → list_all is_record page ≡ false → IfSome told (λ rows. page ≡ take n (rows_under Channel start rows)) → IfSome told (λ rows. AreFormed rows → ⊥)
-unfolding AreFormed
 no_record None n c after start page begins behind ill is = tt
 no_record (Some rows) n c after start page begins behind ill is = λ formed.
     let well = forming.formed_front is_formed n Channel start rows page formed is in
     let same = record_forms c after page (subst (λ (key : Key). AllByRecursion (IsBehind Channel key) page) begins behind) in
     cc
+
+-- and where all of them are records, none was spoilt
+pub page_judged : (told : Option Rows) (n : ℕ) (c : List ℕ) (after : ℕ) (start : Key) (page : List Row) → start ≡ record_key c after → AllByRecursion (IsBehind Channel start) page
+    → list_all is_record page ≡ true → IfSome told (λ rows. page ≡ take n (rows_under Channel start rows)) → IfSome told (JudgesPage c after n)
+page_judged None n c after start page begins behind all is = tt
+page_judged (Some rows) n c after start page begins behind all is =
+    let same = record_forms c after page (subst (λ (key : Key). AllByRecursion (IsBehind Channel key) page) begins behind) in
+    ap (list_all is_formed) (ap (λ (key : Key). take n (rows_under Channel key rows)) (sym begins) ∙ sym is) ∙ sym same ∙ all
 
 -- ---- a number that stands
 
@@ -123,35 +122,7 @@ no_number (Some rows) key row well number above is = λ formed.
     kind_of None e = cc
     kind_of (Some cell) e = let same : row ≡ row_of (key, cell) = cc in ap (λ (r : Row). r.key.kind) same
 
--- ---- changes of rows of their form
-
-abbrev IsSound : Change → Type 0
-IsSound (Put row) = is_formed row ≡ true
-IsSound (Delete key) = Unit {0}
-
-abbrev AreSound : List Change → Type 0
-AreSound [] = Unit {0}
-AreSound (change ∷ changes) = IsSound change × AreSound changes
-
-hit : (k q : Key) → hits k q ≡ true → k ≡ q
-hit k q e = key_cmp_exact k q (tie (key_cmp k q) e)
-
-at_change : (change : Change) (q : Key) → IsSound change → key_of change ≡ q → IfSome (cell_of change) (λ cell. is_formed (row_of (q, cell)) ≡ true)
-at_change (Put row) q sound e = subst (λ (k : Key). is_formed (row_of (k, cell_of_row row)) ≡ true) e sound
-at_change (Delete key) q sound e = tt
-
-formed_changed : (change : Change) (rows : Rows) → IsSound change → AreFormed rows → AreFormed (changed change rows)
-unfolding AreFormed
-formed_changed change rows sound formed q =
-    subst (λ (found : Option Cell). IfSome found (λ cell. is_formed (row_of (q, cell)) ≡ true)) (sym (get-changed change rows q))
-    (elim (hits (key_of change) q) as (λ t. hits (key_of change) q ≡ t → IfSome (cond t (cell_of change) (finite.get rows q)) (λ cell. is_formed (row_of (q, cell)) ≡ true)) [
-      | true ↦ λ e. at_change change q sound (hit (key_of change) q e)
-      | false ↦ λ e. formed q
-    ] refl)
-
-formed_applied : (changes : List Change) (rows : Rows) → AreSound changes → AreFormed rows → AreFormed (applied changes rows)
-formed_applied [] rows sound formed = formed
-formed_applied (change ∷ changes) rows sound formed = formed_applied changes (changed change rows) sound.1 (formed_changed change rows sound.0 formed)
+-- ---- rows that are put
 
 below_test : (n m : ℕ) → n ≤ m → nat_le n m ≡ true
 below_test n m h = grind (arith, nat_tests)
@@ -160,32 +131,48 @@ kept_name : (c : List ℕ) → channel_name c ≡ Some c → is_channel c ≡ tr
 kept_name c e = ap (λ (read : Option (List ℕ)). is_read read c) e ∙ nat_list_eq_equiv.refl c
 
 record_sound : (c text : List ℕ) (n : ℕ) → 1 ≤ n → n ≤ MAX → channel_name c ≡ Some c → is_event (record { channel = c; number = n; text = text }) ≡ true
-    → IsSound (Put (record { key = record_key c n; value = 0; body = text }))
+    → is_formed (record { key = record_key c n; value = 0; body = text }) ≡ true
 unfolding is_formed
 record_sound c text n some within name event = λ i. true && below_test 1 n some i && below_test n MAX within i && kept_name c name i && true && event i
 
-last_sound : (c : List ℕ) (n : ℕ) → n ≤ MAX → channel_name c ≡ Some c → IsSound (Put (record { key = last_key c; value = n; body = [] }))
+last_sound : (c : List ℕ) (n : ℕ) → n ≤ MAX → channel_name c ≡ Some c → is_formed (record { key = last_key c; value = n; body = [] }) ≡ true
 unfolding is_formed
 last_sound c n within name = λ i. true && true && below_test n MAX within i && true && kept_name c name i
 
-capacity_sound : (n : ℕ) → 1 ≤ n → n ≤ 1000000 → IsSound (Put (record { key = capacity_key; value = n; body = [] }))
+capacity_sound : (n : ℕ) → 1 ≤ n → n ≤ 1000000 → is_formed (record { key = capacity_key; value = n; body = [] }) ≡ true
 unfolding is_formed
 capacity_sound n some within = λ i. true && below_test 1 n some i && below_test n 1000000 within i
 
-boot_sound : (n : ℕ) → n ≤ MAX → IsSound (Put (record { key = boot_key; value = n; body = [] }))
+boot_sound : (n : ℕ) → n ≤ MAX → is_formed (record { key = boot_key; value = n; body = [] }) ≡ true
 unfolding is_formed
 boot_sound n within = λ i. true && below_test n MAX within i
 
-start_sound : (capacity n : ℕ) (kept : Option Cell) → 1 ≤ capacity → capacity ≤ 1000000 → n ≤ MAX → AreSound (capacity_changes capacity kept ++ Put (record { key = boot_key; value = n; body = [] }) ∷ [])
+-- each at its key
+pub record_put : (key : Key) (c text : List ℕ) (n : ℕ) → key ≡ record_key c n → 1 ≤ n → n ≤ MAX → channel_name c ≡ Some c → is_event (record { channel = c; number = n; text = text }) ≡ true
+    → is_formed (record { key = key; value = 0; body = text }) ≡ true
+record_put key c text n is some within name event = subst (λ (key : Key). is_formed (record { key = key; value = 0; body = text }) ≡ true) (sym is) (record_sound c text n some within name event)
+
+pub last_put : (key : Key) (c : List ℕ) (n : ℕ) → key ≡ last_key c → n ≤ MAX → channel_name c ≡ Some c → is_formed (record { key = key; value = n; body = [] }) ≡ true
+last_put key c n is within name = subst (λ (key : Key). is_formed (record { key = key; value = n; body = [] }) ≡ true) (sym is) (last_sound c n within name)
+
+pub capacity_put : (key : Key) (n : ℕ) → key ≡ capacity_key → 1 ≤ n → n ≤ 1000000 → is_formed (record { key = key; value = n; body = [] }) ≡ true
+capacity_put key n is some within = subst (λ (key : Key). is_formed (record { key = key; value = n; body = [] }) ≡ true) (sym is) (capacity_sound n some within)
+
+pub boot_put : (key : Key) (n : ℕ) → key ≡ boot_key → n ≤ MAX → is_formed (record { key = key; value = n; body = [] }) ≡ true
+boot_put key n is within = subst (λ (key : Key). is_formed (record { key = key; value = n; body = [] }) ≡ true) (sym is) (boot_sound n within)
+
+-- ---- rows of their form stay so
+
+start_sound : (capacity n : ℕ) (kept : Option Cell) → 1 ≤ capacity → capacity ≤ 1000000 → n ≤ MAX → ArePut is_formed (capacity_changes capacity kept ++ Put (record { key = boot_key; value = n; body = [] }) ∷ [])
 start_sound capacity n None some most within = (capacity_sound capacity some most, (boot_sound n within, tt))
 start_sound capacity n (Some cell) some most within = (boot_sound n within, tt)
 
-leaving_sound : (full : Bool) (key : Key) → AreSound (if full then Delete key ∷ [] else [])
+leaving_sound : (full : Bool) (key : Key) → ArePut is_formed (if full then Delete key ∷ [] else [])
 leaving_sound true key = (tt, tt)
 leaving_sound false key = tt
 
 write_sound : (capacity n : ℕ) (c text : List ℕ) → 1 ≤ n → n ≤ MAX → channel_name c ≡ Some c → is_event (record { channel = c; number = n; text = text }) ≡ true
-    → AreSound (write_changes capacity c n text)
+    → ArePut is_formed (write_changes capacity c n text)
 write_sound capacity n c text some within name event = (record_sound c text n some within name event, (last_sound c n within name, leaving_sound (nat_lt capacity n) (record_key c (n - capacity))))
 
 next_within : (n : ℕ) → n < MAX → n + 1 ≤ MAX
@@ -195,15 +182,14 @@ next_some : (n : ℕ) → 1 ≤ n + 1
 next_some n = omega arith
 
 nothing_formed : AreFormed finite.empty
-unfolding AreFormed
 nothing_formed key = subst (λ (found : Option Cell). IfSome found (λ cell. is_formed (row_of (key, cell)) ≡ true)) (sym (finite.get-empty key_cmp key)) tt
 
 pub forms_stay : FormsStay
 forms_stay = record {
   nothing = nothing_formed;
   start = λ rows capacity formed left some most.
-      formed_applied (start_changes rows capacity) rows (start_sound capacity (boot_of rows + 1) (finite.get rows capacity_key) some most (next_within (boot_of rows) left)) formed;
+      applied_formed is_formed (start_changes rows capacity) (start_sound capacity (boot_of rows + 1) (finite.get rows capacity_key) some most (next_within (boot_of rows) left)) rows formed;
   write = λ rows c text formed left name event.
-      formed_applied (write_changes (capacity_of rows) c (last_of rows c + 1) text) rows
-      (write_sound (capacity_of rows) (last_of rows c + 1) c text (next_some (last_of rows c)) (next_within (last_of rows c) left) name event) formed;
+      applied_formed is_formed (write_changes (capacity_of rows) c (last_of rows c + 1) text)
+      (write_sound (capacity_of rows) (last_of rows c + 1) c text (next_some (last_of rows c)) (next_within (last_of rows c) left) name event) rows formed;
 }

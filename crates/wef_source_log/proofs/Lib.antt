@@ -1,7 +1,9 @@
 pub mod Cells
 pub mod Contents
 pub mod Forming
+pub mod Judging
 pub mod Looking
 pub mod Pages
+pub mod Records
 pub mod StoreFaults
 pub mod Writes

@@ -56,13 +56,8 @@ is_formed row =
     else true)))
 
 -- each row that stands is of its form
-unfoldable pub AreFormed : Rows → Type 0
+abbrev pub AreFormed : Rows → Type 0
 AreFormed rows = ArePassed is_formed rows
-
--- whether a row, where there is one, is of its form
-abbrev pub is_whole : Option Row → Bool
-is_whole None = true
-is_whole (Some row) = is_formed row
 
 -- whether rows of a kind have a number
 abbrev pub has_number : ℕ → Bool

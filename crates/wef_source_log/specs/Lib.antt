@@ -2,6 +2,7 @@ pub mod Answers
 pub mod Faults
 pub mod Forms
 pub mod Histories
+pub mod Judged
 pub mod Keys
 pub mod Laws
 pub mod Prepared

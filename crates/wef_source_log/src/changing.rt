@@ -1,37 +1,43 @@
 //! What the log's calls change, and how it is committed.
 
-ghost use Rattle.std.specs.Prelude.{◌≡◌, ◌≤◌, ◌++◌, [], ◌∷◌, false, is_some, Some, None, Option, IfOk, IfErr, IfSome, OnOk};
+ghost use Rattle.std.specs.Prelude.{◌≡◌, ◌≤◌, ◌++◌, [], ◌∷◌, true, false, is_some, Some, None, Option, IfOk, IfErr, IfSome, OnOk};
 ghost use Rattle.wef_event.specs.Numbering as numbering;
 ghost use Rattle.wef_keeper.specs.Access as access;
 ghost use Rattle.wef_keeper.specs.Calls.{IsCall, fails};
 ghost use Rattle.wef_keeper.specs.declared.keys.Cell as the_cell;
+ghost use Rattle.wef_keeper.specs.declared.keys.Change.TheVariants.{Put};
 ghost use Rattle.wef_source_log.specs.Answers as answers;
 ghost use Rattle.wef_source_log.specs.Faults.{log_store};
-ghost use Rattle.wef_source_log.specs.Forms.{AreFormed};
+ghost use Rattle.wef_source_log.specs.Forms.{AreFormed, is_formed};
+ghost use Rattle.wef_source_log.specs.Judged as judged;
 ghost use Rattle.wef_source_log.specs.Keys as keys;
 ghost use Rattle.wef_source_log.specs.Prepared.{Prepares, RefusesNumber};
 ghost use Rattle.wef_source_log.specs.Windows as windows;
 
 use crate::faults::LogFault;
+use crate::forms::LogForm;
 use crate::keys::{boot_key, capacity_key, last_key, record_key};
 use crate::reading::{boot_of, capacity_of, has_capacity, last_of};
 use std::alloc::{AllocError, Global};
 use wef_base::numbers::MAX;
-use wef_base::{ChannelName, List, Text};
+use wef_base::{ChannelName, Text};
 use wef_event::{Event, EventFault};
-use wef_keeper::{Change, Keeper, Key, Row, access};
+use wef_keeper::{Changes, Keeper, Key, Row, StoreFault, access};
 
 /// What a call is about to commit, and the number that it answers.
 #[derive(Drop)]
 pub struct Prepared {
-    pub changes: List<Change>,
+    pub changes: Changes<LogForm>,
     pub number: u64,
 }
 
 /// Starts the source: its boot number is one greater from now on, and a capacity is kept where none
 /// was. Answers the boot number.
 pub fn start_in<K: Keeper>(alloc: Global, keeper: &mut K, capacity: u64) -> Result<u64, LogFault>
+    requires least { 1 ≤ capacity }
+    requires greatest { capacity ≤ 1000000 }
     ensures call { IsCall log_store AreFormed (λ found. answers.start_effect found capacity) answers.next_boot result (K.store keeper.old) (K.store keeper.new) }
+    ensures judged { OnOk result (access.From (K.store keeper.old) (K.store keeper.new) (λ found after. judged.JudgesStart found)) }
     ensures listed { IfErr result answers.RefusesStart }
 {
     access::open(keeper)?;
@@ -45,8 +51,11 @@ fn prepared_start<K: Keeper>(
     keeper: &mut K,
     capacity: u64,
 ) -> Result<Prepared, LogFault>
-    requires { access.IsReady (K.store keeper.old) }
+    requires least { 1 ≤ capacity }
+    requires greatest { capacity ≤ 1000000 }
+    requires ready { access.IsReady (K.store keeper.old) }
     ensures prepared { IfSome (K.store keeper.new).rows (λ found. Prepares (answers.start_effect found capacity) (answers.next_boot found) result) }
+    ensures judged { IfSome (K.store keeper.new).rows (λ found. OnOk result (judged.JudgesStart found)) }
     ensures listed { IfErr result answers.RefusesStart }
     ensures reads { access.Reads AreFormed (fails log_store result) (K.store keeper.old) (K.store keeper.new) }
 {
@@ -61,16 +70,21 @@ fn prepared_start<K: Keeper>(
 }
 
 /// What a start changes.
+#[tactic(auto, using(crate::proofs::Forming::boot_put, crate::proofs::Forming::capacity_put))]
 fn start_changes(
     alloc: Global,
     is_kept: bool,
     capacity: u64,
     boot: u64,
-) -> Result<List<Change>, AllocError>
-    ensures { IfOk result (λ changes. (cell : Option the_cell.Cell) → is_some cell ≡ is_kept
-        → changes ≡ windows.capacity_changes capacity cell ++ Change.Put (record { key = keys.boot_key; value = boot; body = [] }) ∷ []) }
+) -> Result<Changes<LogForm>, StoreFault>
+    requires least { 1 ≤ capacity }
+    requires greatest { capacity ≤ 1000000 }
+    requires boot { boot ≤ MAX }
+    ensures changes { IfOk result (λ changes. (cell : Option the_cell.Cell) → is_some cell ≡ is_kept
+        → changes ≡ windows.capacity_changes capacity cell ++ Put (record { key = keys.boot_key; value = boot; body = [] }) ∷ []) }
+    ensures unread { access.fails result ≡ false }
 {
-    let mut changes = List::new(alloc);
+    let mut changes = Changes::new(alloc);
     if !is_kept {
         push_number_row(&mut changes, capacity_key(alloc), capacity)?;
     }
@@ -83,13 +97,15 @@ fn start_changes(
 pub fn write_in<K: Keeper>(keeper: &mut K, event: &Event) -> Result<u64, LogFault>
     ensures call { IsCall log_store AreFormed (λ found. answers.write_effect found event.now) (λ found. answers.next_number found event.now) result (K.store keeper.old) (K.store keeper.new) }
     ensures window { access.From (K.store keeper.old) (K.store keeper.new) (λ found after. IfOk result (answers.ExtendsHistory found after event.now)) }
+    ensures judged { OnOk result (access.From (K.store keeper.old) (K.store keeper.new) (λ found after. judged.JudgesWrite event.now.channel found)) }
 {
     write_next(keeper, event)
 }
 
 /// As `write_in`, by the rows alone.
 fn write_next<K: Keeper>(keeper: &mut K, event: &Event) -> Result<u64, LogFault>
-    ensures { IsCall log_store AreFormed (λ found. answers.write_effect found event.now) (λ found. answers.next_number found event.now) result (K.store keeper.old) (K.store keeper.new) }
+    ensures call { IsCall log_store AreFormed (λ found. answers.write_effect found event.now) (λ found. answers.next_number found event.now) result (K.store keeper.old) (K.store keeper.new) }
+    ensures judged { OnOk result (access.From (K.store keeper.old) (K.store keeper.new) (λ found after. judged.JudgesWrite event.now.channel found)) }
 {
     access::open(keeper)?;
     let prepared = prepared_write(keeper, event)?;
@@ -100,6 +116,7 @@ fn write_next<K: Keeper>(keeper: &mut K, event: &Event) -> Result<u64, LogFault>
 fn prepared_write<K: Keeper>(keeper: &mut K, event: &Event) -> Result<Prepared, LogFault>
     requires { access.IsReady (K.store keeper.old) }
     ensures prepared { IfSome (K.store keeper.new).rows (λ found. Prepares (answers.write_effect found event.now) (answers.next_number found event.now) result) }
+    ensures judged { IfSome (K.store keeper.new).rows (λ found. OnOk result (judged.JudgesWrite event.now.channel found)) }
     ensures reads { access.Reads AreFormed (fails log_store result) (K.store keeper.old) (K.store keeper.new) }
 {
     let last = last_of(keeper, &event.channel)?;
@@ -133,36 +150,43 @@ fn with_number(event: &Event, number: u64) -> Result<Event, LogFault>
 }
 
 /// What a record changes as the last of its channel.
-fn write_changes(capacity: u64, next: Event) -> Result<List<Change>, AllocError>
-    ensures { IfOk result (λ changes. changes ≡ windows.write_changes capacity next.channel next.number next.text) }
+fn write_changes(capacity: u64, next: Event) -> Result<Changes<LogForm>, StoreFault>
+    requires { 1 ≤ next.number }
+    ensures changes { IfOk result (λ changes. changes ≡ windows.write_changes capacity next.channel next.number next.text) }
+    ensures unread { access.fails result ≡ false }
 {
-    let (channel, number, text) = next.into_parts();
-    let mut changes = List::new(channel.as_text().alloc());
-    changes.push(Change::Put(Row {
-        key: record_key(&channel, number)?,
+    let number = next.number;
+    let mut changes = Changes::new(next.channel.as_text().alloc());
+    let key = record_key(&next.channel, number)?;
+    let (channel, _, text) = next.into_parts();
+    changes.put(Row {
+        key,
         value: 0,
         body: text,
-    }))?;
+    })?;
     push_number_row(&mut changes, last_key(&channel)?, number)?;
     push_leaving(&mut changes, capacity, &channel, number)?;
     Ok(changes)
 }
 
 /// Puts the row of a number.
-fn push_number_row(changes: &mut List<Change>, key: Key, number: u64) -> Result<(), AllocError>
-    ensures { OnOk result (changes.new ≡ changes.old ++ Change.Put (record { key = key; value = number; body = [] }) ∷ []) }
+fn push_number_row(changes: &mut Changes<LogForm>, key: Key, number: u64) -> Result<(), AllocError>
+    requires key { key.number ≡ 0 }
+    requires number { number ≤ MAX }
+    requires form { is_formed (record { key = key; value = number; body = [] }) ≡ true }
+    ensures { OnOk result (changes.new ≡ changes.old ++ Put (record { key = key; value = number; body = [] }) ∷ []) }
 {
     let body = Text::new(key.channel.alloc());
-    changes.push(Change::Put(Row {
+    changes.put(Row {
         key,
         value: number,
         body,
-    }))
+    })
 }
 
 /// Deletes the record that leaves a channel's window once a number is the last.
 fn push_leaving(
-    changes: &mut List<Change>,
+    changes: &mut Changes<LogForm>,
     capacity: u64,
     channel: &ChannelName,
     number: u64,
@@ -170,7 +194,7 @@ fn push_leaving(
     ensures { OnOk result (changes.new ≡ changes.old ++ windows.leaving capacity channel.now number) }
 {
     if capacity < number {
-        changes.push(Change::Delete(record_key(channel, number - capacity)?))?;
+        changes.delete(record_key(channel, number - capacity)?)?;
     }
     Ok(())
 }

@@ -1,6 +1,5 @@
 //! Why the log refuses a call.
 
-use std::alloc::AllocError;
 use thiserror::Error;
 use wef_keeper::StoreFault;
 
@@ -18,17 +17,6 @@ pub enum LogFault {
     Full,
     #[error("the event is too long")]
     TooLong,
-}
-
-impl From<AllocError> for LogFault {
-    ghost use Rattle.std.specs.Prelude.{◌≡◌};
-    ghost use Rattle.wef_source_log.specs.declared.faults.LogFault.TheVariants.{NoMemory};
-
-    ghost from_gives = { λ _ e. e ≡ NoMemory };
-
-    fn from(_error: AllocError) -> LogFault {
-        LogFault::NoMemory
-    }
 }
 
 impl From<StoreFault> for LogFault {

@@ -9,11 +9,22 @@ use std::alloc::AllocError;
 use wef_base::numbers::MAX;
 use wef_base::{ChannelName, Text, ValueFault};
 use wef_event::Event;
-use wef_keeper::{Key, Row};
+use wef_keeper::{Form, Key, Row};
+
+/// The form of the log's rows.
+pub struct LogForm;
+
+impl Form for LogForm {
+    ghost passes = { forms.is_formed };
+
+    fn is_formed(row: &Row) -> Result<bool, AllocError> {
+        is_formed(row)
+    }
+}
 
 /// Whether a row is of its form. Rows of other kinds than the log's have none.
 #[tactic(auto, unfolding(crate::specs::Forms::is_formed))]
-pub fn is_formed(row: &Row) -> Result<bool, AllocError>
+fn is_formed(row: &Row) -> Result<bool, AllocError>
     ensures { IfOk result (λ formed. formed ≡ forms.is_formed row.now) }
 {
     match row.key.kind {

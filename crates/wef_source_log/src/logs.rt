@@ -1,6 +1,6 @@
 //! The log.
 
-ghost use Rattle.std.specs.Prelude.{◌≡◌, ◌<◌, ◌≤◌, ◌++◌, take, IfOk, IfErr, IfSome, MatchResult};
+ghost use Rattle.std.specs.Prelude.{◌≡◌, ◌+◌, ◌<◌, ◌≤◌, ◌++◌, take, IfOk, IfErr, IfSome, OnOk, MatchResult};
 ghost use Rattle.std.specs.List.{AllByRecursion};
 ghost use Rattle.wef_event.specs.Events as the_event;
 ghost use Rattle.wef_keeper.specs.Access as access;
@@ -10,16 +10,18 @@ ghost use Rattle.wef_keeper.specs.declared.keeping.Plan.TheVariants.{Done, Fails
 ghost use Rattle.wef_source_log.specs.Answers as answers;
 ghost use Rattle.wef_source_log.specs.Faults.{log_store};
 ghost use Rattle.wef_source_log.specs.Forms.{AreFormed};
+ghost use Rattle.wef_source_log.specs.Judged as judged;
 ghost use Rattle.wef_source_log.specs.Windows as windows;
 
 use crate::changing::{start_in, write_in};
 use crate::faults::LogFault;
-use crate::reading::{first_of, last_of, open_in, page_of};
+use crate::reading::{first_of, last_of, page_of};
 use std::alloc::Global;
 use std::marker::Model;
+use wef_base::numbers::MAX;
 use wef_base::{ChannelName, List};
 use wef_event::Event;
-use wef_keeper::{Keeper, MemKeeper, Plan};
+use wef_keeper::{Keeper, MemKeeper, Plan, access};
 
 /// A log that keeps the last records of each channel in a store.
 #[derive(Drop)]
@@ -50,6 +52,7 @@ impl<K: Keeper> Log<K> {
         ensures call { MatchResult result
             (λ log. IsCall log_store AreFormed (λ found. answers.start_effect found capacity) answers.next_boot (Ok log.boot) (K.store keeper) (K.store log.keeper))
             (λ refused. IsCall log_store AreFormed (λ found. answers.start_effect found capacity) answers.next_boot (Err refused.1) (K.store keeper) (K.store refused.0)) }
+        ensures judged { IfOk result (λ log. access.From (K.store keeper) (K.store log.keeper) (λ found after. judged.JudgesStart found)) }
         ensures listed { IfErr result (λ refused. answers.RefusesStart refused.1) }
     {
         let mut keeper = keeper;
@@ -71,6 +74,7 @@ impl<K: Keeper> Log<K> {
     pub fn write(&mut self, event: &Event) -> Result<u64, LogFault>
         ensures call { IsCall log_store AreFormed (λ found. answers.write_effect found event.now) (λ found. answers.next_number found event.now) result (K.store self.old.keeper) (K.store self.new.keeper) }
         ensures window { access.From (K.store self.old.keeper) (K.store self.new.keeper) (λ found after. IfOk result (answers.ExtendsHistory found after event.now)) }
+        ensures judged { OnOk result (access.From (K.store self.old.keeper) (K.store self.new.keeper) (λ found after. judged.JudgesWrite event.now.channel found)) }
         ensures boot { self.new.boot ≡ self.old.boot }
     {
         write_in(&mut self.keeper, event)
@@ -79,6 +83,8 @@ impl<K: Keeper> Log<K> {
     /// The first number of a channel's window: 1 where nothing was written.
     pub fn first(&mut self, channel: &ChannelName) -> Result<u64, LogFault>
         ensures ok { IfSome (K.store self.new.keeper).rows (λ rows. IfOk result (λ number. number ≡ windows.first_of rows channel.now)) }
+        ensures within { IfOk result (λ number. number ≤ MAX + 1) }
+        ensures judged { IfSome (K.store self.new.keeper).rows (λ rows. OnOk result (judged.JudgesFirst channel.now rows)) }
         ensures refusal { IfErr result answers.RefusesRead }
         ensures looks { Looks log_store AreFormed result (K.store self.old.keeper) (K.store self.new.keeper) }
         ensures boot { self.new.boot ≡ self.old.boot }
@@ -90,6 +96,8 @@ impl<K: Keeper> Log<K> {
     /// The last number of a channel: 0 where nothing was written.
     pub fn last(&mut self, channel: &ChannelName) -> Result<u64, LogFault>
         ensures ok { IfSome (K.store self.new.keeper).rows (λ rows. IfOk result (λ number. number ≡ windows.last_of rows channel.now)) }
+        ensures within { IfOk result (λ number. number ≤ MAX) }
+        ensures judged { IfSome (K.store self.new.keeper).rows (λ rows. OnOk result (judged.JudgesLast channel.now rows)) }
         ensures refusal { IfErr result answers.RefusesRead }
         ensures looks { Looks log_store AreFormed result (K.store self.old.keeper) (K.store self.new.keeper) }
         ensures boot { self.new.boot ≡ self.old.boot }
@@ -111,6 +119,7 @@ impl<K: Keeper> Log<K> {
         ensures rest { IfSome (K.store self.new.keeper).rows (λ rows. IfOk result (λ page. windows.records_after rows channel.now after
             ≡ page ++ windows.records_after rows channel.now (windows.last_number after page))) }
         ensures above { IfOk result (AllByRecursion (λ (event : the_event.Event). after < event.number)) }
+        ensures judged { IfSome (K.store self.new.keeper).rows (λ rows. OnOk result (judged.JudgesPage channel.now after max rows)) }
         ensures refusal { IfErr result answers.RefusesRead }
         ensures looks { Looks log_store AreFormed result (K.store self.old.keeper) (K.store self.new.keeper) }
         ensures boot { self.new.boot ≡ self.old.boot }
@@ -125,29 +134,33 @@ impl<K: Keeper> Log<K> {
         ensures refusal { IfErr result answers.RefusesRead }
         ensures boot { self.new.boot ≡ self.old.boot }
     {
-        open_in(&mut self.keeper)
+        Ok(access::open(&mut self.keeper)?)
     }
 
     /// As `first`, in a store that is ready.
     pub fn first_ready(&mut self, channel: &ChannelName) -> Result<u64, LogFault>
         requires { access.IsReady (K.store self.old.keeper) }
         ensures ok { IfSome (K.store self.new.keeper).rows (λ rows. IfOk result (λ number. number ≡ windows.first_of rows channel.now)) }
+        ensures within { IfOk result (λ number. number ≤ MAX + 1) }
+        ensures judged { IfSome (K.store self.new.keeper).rows (λ rows. OnOk result (judged.JudgesFirst channel.now rows)) }
         ensures refusal { IfErr result answers.RefusesRead }
         ensures reads { access.Reads AreFormed (fails log_store result) (K.store self.old.keeper) (K.store self.new.keeper) }
         ensures boot { self.new.boot ≡ self.old.boot }
     {
-        first_of(&mut self.keeper, channel)
+        Ok(first_of(&mut self.keeper, channel)?)
     }
 
     /// As `last`, in a store that is ready.
     pub fn last_ready(&mut self, channel: &ChannelName) -> Result<u64, LogFault>
         requires { access.IsReady (K.store self.old.keeper) }
         ensures ok { IfSome (K.store self.new.keeper).rows (λ rows. IfOk result (λ number. number ≡ windows.last_of rows channel.now)) }
+        ensures within { IfOk result (λ number. number ≤ MAX) }
+        ensures judged { IfSome (K.store self.new.keeper).rows (λ rows. OnOk result (judged.JudgesLast channel.now rows)) }
         ensures refusal { IfErr result answers.RefusesRead }
         ensures reads { access.Reads AreFormed (fails log_store result) (K.store self.old.keeper) (K.store self.new.keeper) }
         ensures boot { self.new.boot ≡ self.old.boot }
     {
-        last_of(&mut self.keeper, channel)
+        Ok(last_of(&mut self.keeper, channel)?)
     }
 
     /// As `page`, in a store that is ready.
@@ -163,11 +176,12 @@ impl<K: Keeper> Log<K> {
         ensures rest { IfSome (K.store self.new.keeper).rows (λ rows. IfOk result (λ page. windows.records_after rows channel.now after
             ≡ page ++ windows.records_after rows channel.now (windows.last_number after page))) }
         ensures above { IfOk result (AllByRecursion (λ (event : the_event.Event). after < event.number)) }
+        ensures judged { IfSome (K.store self.new.keeper).rows (λ rows. OnOk result (judged.JudgesPage channel.now after max rows)) }
         ensures refusal { IfErr result answers.RefusesRead }
         ensures reads { access.Reads AreFormed (fails log_store result) (K.store self.old.keeper) (K.store self.new.keeper) }
         ensures boot { self.new.boot ≡ self.old.boot }
     {
-        page_of(&mut self.keeper, channel, after, max)
+        Ok(page_of(&mut self.keeper, channel, after, max)?)
     }
 
     /// The store, as it stands.

@@ -1,151 +1,108 @@
-//! How the log's store is opened, and its rows are read in one that is ready. Each row that is read is tested.
+//! How the log's rows are read from a store that is ready. Each row that is read is tested.
 
-ghost use Rattle.std.specs.Prelude.{◌≡◌, ◌<◌, ◌≤◌, ◌++◌, false, true, take, map, is_some, IfOk, IfErr, IfSome};
+ghost use Rattle.std.specs.Prelude.{◌≡◌, ◌+◌, ◌<◌, ◌≤◌, ◌++◌, true, take, map, is_some, IfOk, IfSome, OnOk};
 ghost use Rattle.std.specs.List.{AllByRecursion, list_all};
 ghost use Rattle.wef_event.specs.Events as the_event;
 ghost use Rattle.wef_keeper.specs.Access as access;
-ghost use Rattle.wef_keeper.specs.Calls.{Looks, fails};
+ghost use Rattle.wef_keeper.specs.Forms.{IsPassedAt};
 ghost use Rattle.wef_keeper.specs.Keeping.{row_at};
-ghost use Rattle.wef_source_log.specs.Answers as answers;
-ghost use Rattle.wef_source_log.specs.Faults.{log_store};
 ghost use Rattle.wef_source_log.specs.Forms as forms;
+ghost use Rattle.wef_source_log.specs.Judged as judged;
 ghost use Rattle.wef_source_log.specs.Keys as keys;
 ghost use Rattle.wef_source_log.specs.Windows as windows;
 
-use crate::faults::LogFault;
-use crate::forms::{event_of, is_formed};
+use crate::forms::{LogForm, event_of};
 use crate::keys::{boot_key, capacity_key, last_key, record_key};
 use std::alloc::{AllocError, Global};
 use wef_base::numbers::MAX;
 use wef_base::{ChannelName, List};
 use wef_event::Event;
-use wef_keeper::{Depth, Keeper, Key, Row, access};
-
-/// Opens the store.
-pub fn open_in<K: Keeper>(keeper: &mut K) -> Result<(), LogFault>
-    ensures looks { Looks log_store access.AnyRows result (K.store keeper.old) (K.store keeper.new) }
-    ensures refusal { IfErr result answers.RefusesRead }
-{
-    access::open(keeper)?;
-    Ok(())
-}
-
-/// The row of a key, or none where there is none. `Failed` where it isn't of its form.
-pub fn formed_row<K: Keeper>(keeper: &mut K, key: &Key) -> Result<Option<Row>, LogFault>
-    requires { access.IsReady (K.store keeper.old) }
-    ensures row { IfSome (K.store keeper.new).rows (λ rows. IfOk result (λ row. row ≡ row_at key.now rows)) }
-    ensures formed { IfOk result (λ row. IfSome row (λ row. forms.is_formed row ≡ true)) }
-    ensures refusal { IfErr result answers.RefusesRead }
-    ensures reads { access.Reads forms.AreFormed (fails log_store result) (K.store keeper.old) (K.store keeper.new) }
-{
-    let row = access::row(keeper, key)?;
-    whole(row)
-}
-
-/// A row, or none. `Failed` where there is one that isn't of its form.
-fn whole(row: Option<Row>) -> Result<Option<Row>, LogFault>
-    ensures row { IfOk result (λ whole. whole ≡ row) }
-    ensures formed { IfOk result (λ whole. forms.is_whole whole ≡ true) }
-    ensures failed { fails log_store result ≡ true → forms.is_whole row ≡ false }
-    ensures refusal { IfErr result answers.RefusesRead }
-{
-    if !is_whole(&row)? {
-        return Err(LogFault::Failed);
-    }
-    Ok(row)
-}
-
-/// Whether a row, where there is one, is of its form.
-fn is_whole(row: &Option<Row>) -> Result<bool, AllocError>
-    ensures { IfOk result (λ whole. whole ≡ forms.is_whole row.now) }
-{
-    match row {
-        Some(row) => is_formed(row),
-        None => Ok(true),
-    }
-}
+use wef_keeper::access::section_page;
+use wef_keeper::forms::formed_row;
+use wef_keeper::{Depth, Keeper, Key, Row, StoreFault};
 
 /// The number that stands at a key: 0 where none does.
-pub fn number_at<K: Keeper>(keeper: &mut K, key: &Key) -> Result<u64, LogFault>
+pub fn number_at<K: Keeper>(keeper: &mut K, key: &Key) -> Result<u64, StoreFault>
     requires number { forms.has_number key.now.kind ≡ true }
     requires ready { access.IsReady (K.store keeper.old) }
     ensures number { IfSome (K.store keeper.new).rows (λ rows. IfOk result (λ number. number ≡ windows.number_at rows key.now)) }
     ensures within { IfOk result (λ number. number ≤ MAX) }
-    ensures refusal { IfErr result answers.RefusesRead }
-    ensures reads { access.Reads forms.AreFormed (fails log_store result) (K.store keeper.old) (K.store keeper.new) }
+    ensures judged { IfSome (K.store keeper.new).rows (λ rows. OnOk result (IsPassedAt forms.is_formed key.now rows)) }
+    ensures reads { access.Reads forms.AreFormed (access.fails result) (K.store keeper.old) (K.store keeper.new) }
 {
-    let Some(row) = formed_row(keeper, key)? else {
+    let Some(row) = formed_row::<LogForm, K>(keeper, key)? else {
         return Ok(0);
     };
     if row.value > MAX {
-        return Err(LogFault::Failed);
+        return Err(StoreFault::Failed);
     }
     Ok(row.value)
 }
 
 /// The last number of a channel: 0 where nothing was written.
-pub fn last_of<K: Keeper>(keeper: &mut K, channel: &ChannelName) -> Result<u64, LogFault>
+pub fn last_of<K: Keeper>(keeper: &mut K, channel: &ChannelName) -> Result<u64, StoreFault>
     requires { access.IsReady (K.store keeper.old) }
     ensures number { IfSome (K.store keeper.new).rows (λ rows. IfOk result (λ number. number ≡ windows.last_of rows channel.now)) }
     ensures within { IfOk result (λ number. number ≤ MAX) }
-    ensures refusal { IfErr result answers.RefusesRead }
-    ensures reads { access.Reads forms.AreFormed (fails log_store result) (K.store keeper.old) (K.store keeper.new) }
+    ensures judged { IfSome (K.store keeper.new).rows (λ rows. OnOk result (judged.JudgesLast channel.now rows)) }
+    ensures reads { access.Reads forms.AreFormed (access.fails result) (K.store keeper.old) (K.store keeper.new) }
 {
     let key = last_key(channel)?;
     number_at(keeper, &key)
 }
 
 /// How many records of a channel are kept.
-pub fn capacity_of<K: Keeper>(keeper: &mut K, channel: &ChannelName) -> Result<u64, LogFault>
+pub fn capacity_of<K: Keeper>(keeper: &mut K, channel: &ChannelName) -> Result<u64, StoreFault>
     requires { access.IsReady (K.store keeper.old) }
     ensures number { IfSome (K.store keeper.new).rows (λ rows. IfOk result (λ number. number ≡ windows.capacity_of rows)) }
     ensures within { IfOk result (λ number. number ≤ MAX) }
-    ensures refusal { IfErr result answers.RefusesRead }
-    ensures reads { access.Reads forms.AreFormed (fails log_store result) (K.store keeper.old) (K.store keeper.new) }
+    ensures judged { IfSome (K.store keeper.new).rows (λ rows. OnOk result (IsPassedAt forms.is_formed keys.capacity_key rows)) }
+    ensures reads { access.Reads forms.AreFormed (access.fails result) (K.store keeper.old) (K.store keeper.new) }
 {
     let key = capacity_key(channel.as_text().alloc());
     number_at(keeper, &key)
 }
 
 /// Whether the capacity is kept.
-pub fn has_capacity<K: Keeper>(alloc: Global, keeper: &mut K) -> Result<bool, LogFault>
+pub fn has_capacity<K: Keeper>(alloc: Global, keeper: &mut K) -> Result<bool, StoreFault>
     requires { access.IsReady (K.store keeper.old) }
     ensures kept { IfSome (K.store keeper.new).rows (λ rows. IfOk result (λ kept. kept ≡ is_some (row_at keys.capacity_key rows))) }
-    ensures refusal { IfErr result answers.RefusesRead }
-    ensures reads { access.Reads forms.AreFormed (fails log_store result) (K.store keeper.old) (K.store keeper.new) }
+    ensures judged { IfSome (K.store keeper.new).rows (λ rows. OnOk result (IsPassedAt forms.is_formed keys.capacity_key rows)) }
+    ensures reads { access.Reads forms.AreFormed (access.fails result) (K.store keeper.old) (K.store keeper.new) }
 {
     let key = capacity_key(alloc);
     is_kept(keeper, &key)
 }
 
 /// Whether a row stands at a key.
-fn is_kept<K: Keeper>(keeper: &mut K, key: &Key) -> Result<bool, LogFault>
+fn is_kept<K: Keeper>(keeper: &mut K, key: &Key) -> Result<bool, StoreFault>
     requires { access.IsReady (K.store keeper.old) }
     ensures kept { IfSome (K.store keeper.new).rows (λ rows. IfOk result (λ kept. kept ≡ is_some (row_at key.now rows))) }
-    ensures refusal { IfErr result answers.RefusesRead }
-    ensures reads { access.Reads forms.AreFormed (fails log_store result) (K.store keeper.old) (K.store keeper.new) }
+    ensures judged { IfSome (K.store keeper.new).rows (λ rows. OnOk result (IsPassedAt forms.is_formed key.now rows)) }
+    ensures reads { access.Reads forms.AreFormed (access.fails result) (K.store keeper.old) (K.store keeper.new) }
 {
-    Ok(formed_row(keeper, key)?.is_some())
+    Ok(formed_row::<LogForm, K>(keeper, key)?.is_some())
 }
 
 /// How often the source was started.
-pub fn boot_of<K: Keeper>(alloc: Global, keeper: &mut K) -> Result<u64, LogFault>
+pub fn boot_of<K: Keeper>(alloc: Global, keeper: &mut K) -> Result<u64, StoreFault>
     requires { access.IsReady (K.store keeper.old) }
     ensures number { IfSome (K.store keeper.new).rows (λ rows. IfOk result (λ number. number ≡ windows.boot_of rows)) }
     ensures within { IfOk result (λ number. number ≤ MAX) }
-    ensures refusal { IfErr result answers.RefusesRead }
-    ensures reads { access.Reads forms.AreFormed (fails log_store result) (K.store keeper.old) (K.store keeper.new) }
+    ensures judged { IfSome (K.store keeper.new).rows (λ rows. OnOk result (IsPassedAt forms.is_formed keys.boot_key rows)) }
+    ensures reads { access.Reads forms.AreFormed (access.fails result) (K.store keeper.old) (K.store keeper.new) }
 {
     let key = boot_key(alloc);
     number_at(keeper, &key)
 }
 
 /// The first number of a channel's window: 1 where nothing was written.
-pub fn first_of<K: Keeper>(keeper: &mut K, channel: &ChannelName) -> Result<u64, LogFault>
+pub fn first_of<K: Keeper>(keeper: &mut K, channel: &ChannelName) -> Result<u64, StoreFault>
     requires { access.IsReady (K.store keeper.old) }
     ensures number { IfSome (K.store keeper.new).rows (λ rows. IfOk result (λ number. number ≡ windows.first_of rows channel.now)) }
-    ensures refusal { IfErr result answers.RefusesRead }
-    ensures reads { access.Reads forms.AreFormed (fails log_store result) (K.store keeper.old) (K.store keeper.new) }
+    ensures within { IfOk result (λ number. number ≤ MAX + 1) }
+    ensures judged { IfSome (K.store keeper.new).rows (λ rows. OnOk result (judged.JudgesFirst channel.now rows)) }
+    ensures reads { access.Reads forms.AreFormed (access.fails result) (K.store keeper.old) (K.store keeper.new) }
 {
     let capacity = capacity_of(keeper, channel)?;
     let last = last_of(keeper, channel)?;
@@ -155,7 +112,8 @@ pub fn first_of<K: Keeper>(keeper: &mut K, channel: &ChannelName) -> Result<u64,
 /// The first number of the window whose last number is this one.
 fn first_for(capacity: u64, last: u64) -> u64
     requires { last ≤ MAX }
-    ensures { result ≡ windows.first_for capacity last }
+    ensures value { result ≡ windows.first_for capacity last }
+    ensures within { result ≤ MAX + 1 }
 {
     if last < capacity {
         return 1;
@@ -169,23 +127,23 @@ pub fn page_of<K: Keeper>(
     channel: &ChannelName,
     after: u64,
     max: u32,
-) -> Result<List<Event>, LogFault>
+) -> Result<List<Event>, StoreFault>
     requires max { 1 ≤ max }
     requires ready { access.IsReady (K.store keeper.old) }
     ensures page { IfSome (K.store keeper.new).rows (λ rows. IfOk result (λ page. page ≡ take max (windows.records_after rows channel.now after))) }
     ensures rest { IfSome (K.store keeper.new).rows (λ rows. IfOk result (λ page. windows.records_after rows channel.now after
         ≡ page ++ windows.records_after rows channel.now (windows.last_number after page))) }
     ensures above { IfOk result (AllByRecursion (λ (event : the_event.Event). after < event.number)) }
-    ensures refusal { IfErr result answers.RefusesRead }
-    ensures reads { access.Reads forms.AreFormed (fails log_store result) (K.store keeper.old) (K.store keeper.new) }
+    ensures judged { IfSome (K.store keeper.new).rows (λ rows. OnOk result (judged.JudgesPage channel.now after max rows)) }
+    ensures reads { access.Reads forms.AreFormed (access.fails result) (K.store keeper.old) (K.store keeper.new) }
 {
     let rows = {
         let start = record_key(channel, after)?;
-        access::section_page(keeper, &start, Depth::Channel, max)?
+        section_page(keeper, &start, Depth::Channel, max)?
     };
     match events_of(channel.as_text().alloc(), rows.as_slice())? {
         Some(events) => Ok(events),
-        None => Err(LogFault::Failed),
+        None => Err(StoreFault::Failed),
     }
 }
 

@@ -1,12 +1,14 @@
-use Rattle.std.proofs.Common.{◌≡◌, ◌∙◌, ap, subst, sym}
+use Rattle.std.proofs.Common.{◌≡◌, ◌∙◌, ap, subst, sym, None}
 use Rattle.std.specs.FinMap as map
 use Rattle.std.specs.Option.{option_to_list}
 use Rattle.wef_keeper.specs.Rows.{Rows}
 use Rattle.wef_source.specs.Building.{built, candidates_in, reaches, room_of, with_reaches}
 use Rattle.wef_source.specs.Drafting.{empty_draft, with_items}
+use Rattle.wef_source.specs.Judged.{JudgesBatch, JudgesChannels}
 use Rattle.wef_source.specs.Serving.{HasEach}
 use Rattle.wef_source.specs.declared.drafting.Draft.{Draft}
 use Rattle.wef_source.proofs.Drafts.{built_by}
+use Rattle.wef_source.proofs.Judging.{batch_judged}
 use Rattle.wef_source.proofs.Told.{both_told}
 use Rattle.wef_source.proofs.building.built_from.Goals as goal
 
@@ -21,7 +23,7 @@ returns-clause-ok g c =
     let draft = c.filled.new.draft in
     let to = c.in_ok-to.to in
     let start = empty_draft session.max_items (room_of session.max_bytes) in
-    let begins : c.new-draft.result ≡ start = c.new-draft.ensures ∙ ap (empty_draft session.max_items) c.room_of.ensures in
+    let begins : c.new-draft.result ≡ start = c.new-draft.ensures.value ∙ ap (empty_draft session.max_items) c.room_of.ensures in
     both_told
     (λ (rows : Rows). draft ≡ with_items c.new-draft.result (candidates_in rows session channels))
     (λ (rows : Rows). to ≡ with_reaches session.positions map.empty (reaches rows channels (option_to_list draft.left)))
@@ -33,3 +35,22 @@ returns-clause-ok g c =
     (taken ∙ ap (λ (d : Draft). with_items d (candidates_in rows session channels)) begins ∙ ap (λ cs. with_items start (candidates_in rows session cs)) c.requires.channels)
     (read ∙ ap (λ cs. with_reaches session.positions map.empty (reaches rows cs (option_to_list draft.left))) c.requires.channels))
     c.in_ok-to.ensures.draft c.in_ok-to.ensures.to
+
+pub returns-clause-judged : goal.returns-clause-judged
+returns-clause-judged g c =
+    let session = c.args.session.now in
+    let channels = c.args.channels.now in
+    let draft = c.filled.new.draft in
+    let start = empty_draft session.max_items (room_of session.max_bytes) in
+    let begins : c.new-draft.result ≡ start = c.new-draft.ensures.value ∙ ap (empty_draft session.max_items) c.room_of.ensures in
+    both_told
+    (λ (rows : Rows). draft ≡ with_items c.new-draft.result (candidates_in rows session channels))
+    (λ (rows : Rows). JudgesChannels rows session.positions channels c.new-draft.result.left draft.left)
+    (λ (rows : Rows). JudgesBatch rows session)
+    (g.K.Keeper.store c.filled.new.log.keeper).rows
+    (λ rows taken judged.
+    batch_judged rows session draft
+    (taken ∙ ap (λ (d : Draft). with_items d (candidates_in rows session channels)) begins ∙ ap (λ cs. with_items start (candidates_in rows session cs)) c.requires.channels)
+    (subst (λ cs. JudgesChannels rows session.positions cs None draft.left) c.requires.channels
+    (subst (λ (d : Draft). JudgesChannels rows session.positions channels d.left draft.left) begins judged)))
+    c.in_ok-to.ensures.draft c.in_ok-to.ensures.judged

@@ -1,12 +1,12 @@
-use Rattle.std.proofs.Common.{◌≡◌, refl}
+use Rattle.std.proofs.Common.{refl}
 use Rattle.std.proofs.lemmas.Result.{err_from_is_err_and}
-use Rattle.std.specs.Prelude.{Ok}
 use Rattle.wef_keeper.proofs.Calls.{committed, not_committed, not_opened, refused}
-use Rattle.wef_keeper.proofs.Told.{told_map}
+use Rattle.wef_keeper.proofs.StayFormed.{applied_formed}
 use Rattle.wef_source_log.specs.Answers.{next_boot, start_effect}
 use Rattle.wef_source_log.specs.Faults.{log_fault, log_store}
-use Rattle.wef_source_log.specs.Forms.{AreFormed}
-use Rattle.wef_source_log.specs.Prepared.{Prepares}
+use Rattle.wef_source_log.specs.Forms.{AreFormed, is_formed}
+use Rattle.wef_source_log.specs.Judged.{JudgesStart}
+use Rattle.wef_source_log.proofs.Judging.{found_judged, made, numbered}
 use Rattle.wef_source_log.proofs.StoreFaults.{of_log_fault}
 use Rattle.wef_source_log.proofs.changing.start_in.Goals as goal
 
@@ -33,10 +33,10 @@ returns-in_err-commit-clause-call g c =
     let prepared = c.in_ok-prepared.prepared in
     let mid = g.K.Keeper.store c.prepared_start.new.keeper in
     let now = g.K.Keeper.store c.commit.new.keeper in
-    let made = told_map mid.rows (λ rows. Prepares (start_effect rows c.args.capacity) (next_boot rows) (Ok prepared)) (λ rows. start_effect rows c.args.capacity ≡ Ok prepared.changes) (λ rows is. is.0) c.in_ok-prepared.ensures.prepared in
+    let does = made (λ rows. start_effect rows c.args.capacity) (λ rows. next_boot rows) prepared mid.rows c.in_ok-prepared.ensures.prepared in
     rw (p.1, p.2) (not_committed log_store AreFormed (λ rows. start_effect rows c.args.capacity) (λ rows. next_boot rows) kind (log_fault kind) prepared.changes
-    (g.K.Keeper.store c.args.keeper.now) (g.K.Keeper.store c.open.new.keeper) mid now (of_log_fault kind) (g.met.K.Keeper.tells_both c.commit.new.keeper)
-    (c.in_ok-open.ensures.found refl) c.in_ok-open.ensures.opened c.in_ok-prepared.ensures.reads made
+    (g.K.Keeper.store c.args.keeper.now) (g.K.Keeper.store c.open.new.keeper) mid now (applied_formed is_formed prepared.changes c.in_err-commit.ensures.put) (of_log_fault kind) (g.met.K.Keeper.tells_both c.commit.new.keeper)
+    (c.in_ok-open.ensures.found refl) c.in_ok-open.ensures.opened c.in_ok-prepared.ensures.reads does
     c.in_err-commit.ensures.leaves c.in_err-commit.ensures.planned c.in_err-commit.ensures.faults)
 
 pub returns-clause-call : goal.returns-clause-call
@@ -44,10 +44,15 @@ returns-clause-call g c =
     let prepared = c.in_ok-prepared.prepared in
     let mid = g.K.Keeper.store c.prepared_start.new.keeper in
     let now = g.K.Keeper.store c.commit.new.keeper in
-    let prepares = c.in_ok-prepared.ensures.prepared in
-    let made = told_map mid.rows (λ rows. Prepares (start_effect rows c.args.capacity) (next_boot rows) (Ok prepared)) (λ rows. start_effect rows c.args.capacity ≡ Ok prepared.changes) (λ rows is. is.0) prepares in
-    let answers = told_map mid.rows (λ rows. Prepares (start_effect rows c.args.capacity) (next_boot rows) (Ok prepared)) (λ rows. prepared.number ≡ next_boot rows) (λ rows is. is.1) prepares in
+    let does = made (λ rows. start_effect rows c.args.capacity) (λ rows. next_boot rows) prepared mid.rows c.in_ok-prepared.ensures.prepared in
+    let answers = numbered (λ rows. start_effect rows c.args.capacity) (λ rows. next_boot rows) prepared mid.rows c.in_ok-prepared.ensures.prepared in
     committed log_store AreFormed (λ rows. start_effect rows c.args.capacity) (λ rows. next_boot rows) prepared.changes prepared.number
     (g.K.Keeper.store c.args.keeper.now) (g.K.Keeper.store c.open.new.keeper) mid now
-    (c.in_ok-open.ensures.found refl) c.in_ok-open.ensures.opened c.in_ok-prepared.ensures.reads made answers
+    (applied_formed is_formed prepared.changes c.in_ok-commit.ensures.put) (g.met.K.Keeper.no_doubt c.commit.new.keeper c.in_ok-commit.ensures.leaves.0.1)
+    (c.in_ok-open.ensures.found refl) c.in_ok-open.ensures.opened c.in_ok-prepared.ensures.reads does answers
     c.in_ok-commit.ensures.leaves c.in_ok-commit.ensures.planned c.in_ok-commit.ensures.faults
+
+pub returns-clause-judged : goal.returns-clause-judged
+returns-clause-judged g c =
+    found_judged (JudgesStart) c.in_ok-prepared.prepared.changes (g.K.Keeper.store c.args.keeper.now) (g.K.Keeper.store c.open.new.keeper) (g.K.Keeper.store c.prepared_start.new.keeper) (g.K.Keeper.store c.commit.new.keeper)
+    (c.in_ok-open.ensures.found refl) c.in_ok-prepared.ensures.reads.0 c.in_ok-prepared.ensures.judged c.in_ok-commit.ensures.leaves.1

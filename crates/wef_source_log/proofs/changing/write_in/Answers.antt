@@ -14,4 +14,4 @@ returns-clause-window g c =
     let before = g.K.Keeper.store c.args.keeper.now in
     let now = g.K.Keeper.store c.write_next.new.keeper in
     from_weaker (Did log_store AreFormed (λ rows. write_effect rows event) (λ rows. next_number rows event) result before now) (λ found after. IfOk result (ExtendsHistory found after event))
-    before now (λ found after did. extends_window result event found after did.answer) c.write_next.ensures.did
+    before now (λ found after did. extends_window result event found after did.answer) c.write_next.ensures.call.did

@@ -1,4 +1,4 @@
-use Rattle.std.proofs.Common.{◌≡◌, ◌<◌, ◌++◌, rules, false, take, map, ap, sym, ◌∙◌, subst, List, Option, IfSome}
+use Rattle.std.proofs.Common.{◌≡◌, ◌<◌, ◌++◌, rules, true, false, take, map, ap, sym, ◌∙◌, subst, List, Option, IfSome}
 use Rattle.std.specs.List.{AllByRecursion, list_all}
 use Rattle.wef_event.specs.Events.{Event}
 use Rattle.wef_keeper.specs.declared.keys.Row.{Row}
@@ -6,7 +6,7 @@ use Rattle.wef_keeper.proofs.ReadsOf.{ill_formed}
 use Rattle.wef_source_log.specs.Forms.{AreFormed, is_record}
 use Rattle.wef_source_log.specs.Windows.{event_of_row, last_number, records_after}
 use Rattle.wef_source_log.proofs.Contents.{records_above}
-use Rattle.wef_source_log.proofs.Forming.{no_record}
+use Rattle.wef_source_log.proofs.Forming.{no_record, page_judged}
 use Rattle.wef_source_log.proofs.Pages.{is_told_page, is_told_rest, own_events}
 use Rattle.wef_source_log.proofs.reading.page_of.Goals as goal
 
@@ -35,6 +35,11 @@ pub returns-in-Some-clause-above : goal.returns-in-Some-clause-above
 returns-in-Some-clause-above g c =
     subst (AllByRecursion (λ (event : Event). c.args.after < event.number)) (sym (events_are g c))
     (records_above c.args.channel.now c.args.after _ c.in_ok-rows.rows c.in_ok-start.ensures c.in_ok-rows.ensures.behind)
+
+pub returns-in-Some-clause-judged : goal.returns-in-Some-clause-judged
+returns-in-Some-clause-judged g c =
+    let all : list_all is_record c.in_ok-rows.rows ≡ true = search rules in
+    page_judged (g.K.Keeper.store c.section_page.new.keeper).rows c.args.max c.args.channel.now c.args.after _ c.in_ok-rows.rows c.in_ok-start.ensures c.in_ok-rows.ensures.behind all c.in_ok-rows.ensures.page
 
 pub returns-clause-reads : goal.returns-clause-reads
 returns-clause-reads g c =
