@@ -93,7 +93,7 @@ fn with_header<'a>(header: &'a Element, body: &'a Element) -> Option<(&'a [Node]
 }
 
 #[tactic(auto, unfolding(crate::specs::Spaces::soap))]
-fn is_part(name: &str, element: &Element) -> bool
+pub(crate) fn is_part(name: &str, element: &Element) -> bool
     ensures { result ≡ is_part name.now element.now }
 {
     is_called(SOAP, name, element)

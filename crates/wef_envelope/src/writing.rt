@@ -45,14 +45,14 @@ fn copy_list(alloc: Global, elements: &List<Element>) -> Result<List<Element>, A
 
 /// An element of SOAP that holds elements.
 #[tactic(auto, unfolding(crate::specs::Spaces::soap))]
-fn part(alloc: Global, name: &str, elements: List<Element>) -> Result<Element, AllocError>
+pub(crate) fn part(alloc: Global, name: &str, elements: List<Element>) -> Result<Element, AllocError>
     ensures { IfOk result (λ e. e ≡ part name.now elements) }
 {
     with_elements(space(alloc, SOAP)?, name, elements)
 }
 
 /// The namespace of this name.
-fn space(alloc: Global, name: &str) -> Result<Namespace, AllocError>
+pub(crate) fn space(alloc: Global, name: &str) -> Result<Namespace, AllocError>
     ensures { IfOk result (λ space. space ≡ name.now) }
 {
     Namespace::new(Text::from_str(alloc, name)?)
@@ -71,14 +71,27 @@ fn headers(alloc: Global, envelope: &Envelope) -> Result<List<Element>, AllocErr
     push_relates(&mut headers, envelope)?;
     push_text(&mut headers, Header::Machine, envelope.machine.as_ref())?;
     push_text(&mut headers, Header::MaxSize, envelope.max_size.as_ref())?;
-    push_text(&mut headers, Header::Identifier, envelope.identifier.as_ref())?;
+    push_text(
+        &mut headers,
+        Header::Identifier,
+        envelope.identifier.as_ref(),
+    )?;
     push_copy(&mut headers, envelope.bookmark.as_ref())?;
-    push_empty(alloc, &mut headers, Header::AckRequested, envelope.ack_wanted)?;
+    push_empty(
+        alloc,
+        &mut headers,
+        Header::AckRequested,
+        envelope.ack_wanted,
+    )?;
     Ok(headers)
 }
 
 /// Appends a header that says a text, where there is one.
-fn push_text(headers: &mut List<Element>, header: Header, text: Option<&Text>) -> Result<(), AllocError>
+fn push_text(
+    headers: &mut List<Element>,
+    header: Header,
+    text: Option<&Text>,
+) -> Result<(), AllocError>
     ensures { OnOk result (headers.new ≡ headers.old ++ option_to_list (option_map (text_header header) (option_copied text.entry))) }
 {
     if let Some(text) = text {
@@ -95,7 +108,11 @@ fn text_header(alloc: Global, header: Header, text: &Text) -> Result<Element, Al
 }
 
 /// Appends a header that holds an address, where there is one.
-fn push_address(headers: &mut List<Element>, header: Header, text: Option<&Text>) -> Result<(), AllocError>
+fn push_address(
+    headers: &mut List<Element>,
+    header: Header,
+    text: Option<&Text>,
+) -> Result<(), AllocError>
     ensures { OnOk result (headers.new ≡ headers.old ++ option_to_list (option_map (address_header header) (option_copied text.entry))) }
 {
     if let Some(text) = text {
@@ -135,7 +152,12 @@ fn push_copy(headers: &mut List<Element>, header: Option<&Element>) -> Result<()
 }
 
 /// Appends a header that says nothing, where it is wanted.
-fn push_empty(alloc: Global, headers: &mut List<Element>, header: Header, wanted: bool) -> Result<(), AllocError>
+fn push_empty(
+    alloc: Global,
+    headers: &mut List<Element>,
+    header: Header,
+    wanted: bool,
+) -> Result<(), AllocError>
     ensures { OnOk result (headers.new ≡ headers.old ++ option_to_list (empty_header header wanted)) }
 {
     if wanted {
