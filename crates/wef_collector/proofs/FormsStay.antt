@@ -18,6 +18,7 @@ use Rattle.wef_base.specs.Words.{decoded, parts, utf8}
 use Rattle.wef_base.specs.declared.names.Letters.TheVariants.{Small}
 use Rattle.wef_base.proofs.Decimals.{plain_number-decimal}
 use Rattle.wef_base.proofs.Kept.{name_kept}
+use Rattle.wef_base.specs.declared.moments.TheConstants.{LAST_MOMENT}
 use Rattle.wef_base.specs.declared.numbers.TheConstants.{MAX}
 use Rattle.wef_batch.specs.Reach.{last_after, last_in, later, loose_sum, reach, reach_of, span_in}
 use Rattle.wef_batch.specs.WellFormed.{follows, is_above, is_at_least, is_in_order, is_listed, is_well_formed, rises}
@@ -29,7 +30,8 @@ use Rattle.wef_event.specs.Events.{is_event}
 use Rattle.wef_eventing.specs.Kept.{channel_of, channels_from, from_words, kept_words, made_of, number_between, read_kept, with_first}
 use Rattle.wef_eventing.specs.Subscriptions.{all_events}
 use Rattle.wef_eventing.specs.declared.subscriptions.Subscription.{Subscription}
-use Rattle.wef_keeper.specs.Laws.{get-changed}
+use Rattle.wef_keeper.proofs.StayFormed.{applied_formed}
+use Rattle.wef_keeper.specs.Forms.{ArePut, IsPut}
 use Rattle.wef_keeper.specs.Rows.{Rows, applied, cell_of, cell_of_row, changed, key_cmp, key_of, row_of}
 use Rattle.wef_keeper.specs.declared.keys.Cell.{Cell}
 use Rattle.wef_keeper.specs.declared.keys.Change.{Change}
@@ -38,7 +40,6 @@ use Rattle.wef_keeper.specs.declared.keys.Key.{Key}
 use Rattle.wef_query.specs.Order.{with_name, with_names}
 use Rattle.wef_query.specs.Queries.{all_events_of}
 use Rattle.wef_query.specs.Selected.{selects}
-use Rattle.wef_collector_rows.specs.declared.forms.TheConstants.{LAST_MOMENT}
 use Rattle.wef_collector_rows.specs.Answers.{channels_read}
 use Rattle.wef_collector_rows.specs.Bookmarks.{bookmark_at, is_one}
 use Rattle.wef_collector.specs.Boots.{boot_of}
@@ -48,107 +49,26 @@ use Rattle.wef_collector_rows.specs.Keys.{bookmark_key, boot_key, heard_key, hel
 use Rattle.wef_collector_rows.specs.Standing.{kept_body, standing, standing_by, standing_of}
 use Rattle.wef_collector.specs.Taken.{batch_changes, channel_changes, heard_changes, is_later, item_changes, loose_changes, move_changes, put, reach_changes, taken}
 use Rattle.wef_collector_rows.specs.declared.standings.Standing.TheVariants.{Ended, Live}
-use Rattle.wef_collector.proofs.Hits.{hits, one_key, one_name, same_self}
+use Rattle.wef_collector.specs.Keepable.{IsKeepable}
+use Rattle.wef_collector.proofs.FormedRows.{AreNames, all_keepable, bookmark_row, boot_row, clipped, heard_row, held_row, le_holds, loose_row, lt_holds, mark_row, next_within, subscription_row}
+use Rattle.wef_collector.proofs.Hits.{one_name, same_self}
 
--- ---- changes of rows of their form
+-- ---- changes that put rows of their form
 
-abbrev IsSound : Change → Type 0
-IsSound (Put row) = is_formed row ≡ true
-IsSound (Delete key) = Unit {0}
+put-append : (xs ys : List Change) → ArePut is_formed xs → ArePut is_formed ys → ArePut is_formed (xs ++ ys)
+put-append [] ys first second = second
+put-append (x ∷ xs) ys first second = (first.0, put-append xs ys first.1 second)
 
-abbrev AreSound : List Change → Type 0
-AreSound [] = Unit {0}
-AreSound (change ∷ changes) = IsSound change × AreSound changes
+put-flat_map : {X : Type 0} (P : X → Type 0) (changes : X → List Change) (xs : List X) → ((x : X) → P x → ArePut is_formed (changes x)) → AllByRecursion P xs → ArePut is_formed (flat_map changes xs)
+put-flat_map P changes [] each all = tt
+put-flat_map P changes (x ∷ xs) each all = put-append (changes x) (flat_map changes xs) (each x all.0) (put-flat_map P changes xs each all.1)
 
-at_change : (change : Change) (q : Key) → IsSound change → key_of change ≡ q → IfSome (cell_of change) (λ cell. is_formed (row_of (q, cell)) ≡ true)
-at_change (Put row) q sound e = subst (λ (k : Key). is_formed (row_of (k, cell_of_row row)) ≡ true) e sound
-at_change (Delete key) q sound e = tt
-
-formed_changed : (change : Change) (rows : Rows) → IsSound change → AreFormed rows → AreFormed (changed change rows)
-unfolding AreFormed
-formed_changed change rows sound formed q =
-    subst (λ (found : Option Cell). IfSome found (λ cell. is_formed (row_of (q, cell)) ≡ true)) (sym (get-changed change rows q))
-    (elim (hits (key_of change) q) as (λ t. hits (key_of change) q ≡ t → IfSome (cond t (cell_of change) (finite.get rows q)) (λ cell. is_formed (row_of (q, cell)) ≡ true)) [
-      | true ↦ λ e. at_change change q sound (one_key (key_of change) q e)
-      | false ↦ λ e. formed q
-    ] refl)
-
-formed_applied : (changes : List Change) (rows : Rows) → AreSound changes → AreFormed rows → AreFormed (applied changes rows)
-formed_applied [] rows sound formed = formed
-formed_applied (change ∷ changes) rows sound formed = formed_applied changes (changed change rows) sound.1 (formed_changed change rows sound.0 formed)
-
-sound-append : (xs ys : List Change) → AreSound xs → AreSound ys → AreSound (xs ++ ys)
-sound-append [] ys first second = second
-sound-append (x ∷ xs) ys first second = (first.0, sound-append xs ys first.1 second)
-
-sound-flat_map : {X : Type 0} (P : X → Type 0) (changes : X → List Change) (xs : List X) → ((x : X) → P x → AreSound (changes x)) → AllByRecursion P xs → AreSound (flat_map changes xs)
-sound-flat_map P changes [] each all = tt
-sound-flat_map P changes (x ∷ xs) each all = sound-append (changes x) (flat_map changes xs) (each x all.0) (sound-flat_map P changes xs each all.1)
-
-sound-if : (t : Bool) (change : Change) → (t ≡ true → IsSound change) → AreSound (if t then change ∷ [] else [])
-sound-if true change sound = (sound refl, tt)
-sound-if false change sound = tt
+put-if : (t : Bool) (change : Change) → (t ≡ true → IsPut is_formed change) → ArePut is_formed (if t then change ∷ [] else [])
+put-if true change put = (put refl, tt)
+put-if false change put = tt
 
 nothing_formed : AreFormed finite.empty
-unfolding AreFormed
 nothing_formed key = subst (λ (found : Option Cell). IfSome found (λ cell. is_formed (row_of (key, cell)) ≡ true)) (sym (finite.get-empty key_cmp key)) tt
-
--- ---- numbers and their tests
-
-le_holds : (n m : ℕ) → nat_le n m ≡ true → n ≤ m
-le_holds n m e = grind (arith, nat_tests, e)
-
-le_tested : (n m : ℕ) → n ≤ m → nat_le n m ≡ true
-le_tested n m h = grind (arith, nat_tests)
-
-lt_holds : (n m : ℕ) → nat_lt n m ≡ true → n < m
-lt_holds n m e = grind (arith, nat_tests, e)
-
-next_within : (n m : ℕ) → n < m → n + 1 ≤ m
-next_within n m h = omega arith
-
-clipped : (b first last : ℕ) → b < last → first ≤ last → max first (b + 1) ≤ last
-clipped b first last h k = omega arith
-
--- ---- a row of each kind
-
--- the names of a key's parts
-abbrev AreNames : List ℕ → List ℕ → List ℕ → Type 0
-AreNames u s c = names_channel (bookmark_key u s c) ≡ true
-
-subscription_sound : (u body : List ℕ) (value : ℕ) → value ≤ 1 → is_subscription_name u ≡ true → is_some (read_kept u body) ≡ true → IsSound (put (subscription_key u) value body)
-unfolding is_formed is_subscription_row
-subscription_sound u body value small name reads = λ i. name i && true && true && true && le_tested value 1 small i && reads i
-
-bookmark_sound : (u s c : List ℕ) (t : ℕ) → AreNames u s c → t ≤ MAX → IsSound (put (bookmark_key u s c) t [])
-unfolding is_formed is_bookmark_row
-bookmark_sound u s c t names within = λ i. names i && true && le_tested t MAX within i && true
-
-held_sound : (u s c text : List ℕ) (n : ℕ) → AreNames u s c → n ≤ MAX → is_event (record { channel = c; number = n; text = text }) ≡ true
-    → IsSound (put (held_key u s c n) 0 text)
-unfolding is_formed is_held_row
-held_sound u s c text n names within event = λ i. names i && le_tested n MAX within i && true && event i
-
-mark_sound : (u s c : List ℕ) (first last : ℕ) → AreNames u s c → first ≤ last → last ≤ MAX → IsSound (put (mark_key u s c first) last [])
-unfolding is_formed is_mark_row
-mark_sound u s c first last names order within = λ i. names i && le_tested first last order i && le_tested last MAX within i && true
-
-digits_read : (sum : ℕ) → sum ≤ MAX → is_some (plain_number MAX (decimal sum)) ≡ true
-digits_read sum within = ap (λ (read : Option ℕ). is_some read) (plain_number-decimal MAX sum within (omega arith))
-
-loose_sound : (u s c : List ℕ) (first last sum : ℕ) → AreNames u s c → first ≤ last → last ≤ MAX → sum ≤ MAX
-    → IsSound (put (loose_key u s c first) last (decimal sum))
-unfolding is_formed is_loose_row
-loose_sound u s c first last sum names order within few =
-    λ i. names i && le_tested first last order i && le_tested last MAX within i && digits_read sum few i
-
-heard_sound : (u s : List ℕ) (now : ℕ) → is_subscription_name u ≡ true → is_source_name s ≡ true → now ≤ LAST_MOMENT → IsSound (put (heard_key u s) now [])
-unfolding is_formed is_heard_row
-heard_sound u s now name source moment = λ i. (name i && source i) && true && true && le_tested now LAST_MOMENT moment i && true
-
-boot_sound : (n : ℕ) → n ≤ MAX → IsSound (put boot_key n [])
-unfolding is_formed is_boot_row
-boot_sound n within = λ i. true && true && true && true && le_tested n MAX within i && true
 
 -- ---- the subscription that a live name leads to
 
@@ -176,7 +96,6 @@ live_reads value (Some kept) about e = by (value == 0) e
     by false is = cc
 
 live_kept : (rows : Rows) (u : List ℕ) (about : Subscription) → standing rows u ≡ Live about → AreFormed rows → IsKept u (kept_body (finite.get rows (subscription_key u))) about
-unfolding AreFormed
 live_kept rows u about lives formed = by (finite.get rows (subscription_key u)) lives (formed (subscription_key u))
   where
     by : (found : Option Cell) → standing_of u found ≡ Live about → IfSome found (λ cell. is_formed (row_of (subscription_key u, cell)) ≡ true) → IsKept u (kept_body found) about
@@ -261,42 +180,32 @@ kept_channels u body about e = words_channels u (parts 32 body) about e
 
 -- ---- what a batch changes in a channel
 
--- an item's numbers, in a channel, and its event
+-- an item that can be kept, and what is known of it by itself
 abbrev IsWithin : List ℕ → Item → Type 0
-IsWithin c (Event event) = (event.number ≤ MAX) × (is_event event ≡ true)
-IsWithin c (Dropped channel first last) = (same channel c ≡ true → first ≤ last) × (last ≤ MAX)
-IsWithin c (Loose count) = Unit {0}
-
-span_ends : (previous : Option ℕ) (t : Bool) (first last : ℕ) → follows previous (if t then Some (first, last) else None) ≡ true → t ≡ true → first ≤ last
-span_ends previous true first last e is = le_holds first last (and_parts (is_above previous first) (nat_le first last) e).1
-span_ends previous false first last e is = let bad : ⊥ = cc in absurd bad
-
-one_within : (c : List ℕ) (previous : Option ℕ) (item : Item) → follows previous (span_in c item) ≡ true → IsSoundItem item → IsWithin c item
-one_within c previous (Event event) e number = number
-one_within c previous (Dropped channel first last) e number = (span_ends previous (same channel c) first last e, number)
-one_within c previous (Loose count) e number = tt
+IsWithin c item = IsSoundItem item × IsKeepable c item
 
 -- an event of a channel, by the channel's name
 event_there : (c : List ℕ) (event : events.Event) → same event.channel c ≡ true → is_event event ≡ true → is_event (record { channel = c; number = event.number; text = event.text }) ≡ true
 event_there c event is says = ap (λ (d : List ℕ). is_event (record { channel = d; number = event.number; text = event.text })) (sym (one_name event.channel c is)) ∙ says
 
-all_within : (c : List ℕ) (previous : Option ℕ) (items : List Item) → rises c previous items ≡ true → AllByRecursion IsSoundItem items → AllByRecursion (IsWithin c) items
-all_within c previous [] e numbers = tt
-all_within c previous (item ∷ items) e numbers =
-    let both = and_parts (follows previous (span_in c item)) (rises c (later previous (span_in c item)) items) e in
-    (one_within c previous item both.0 numbers.0, all_within c (later previous (span_in c item)) items both.1 numbers.1)
+both_all : {X : Type 0} (P Q : X → Type 0) (xs : List X) → AllByRecursion P xs → AllByRecursion Q xs → AllByRecursion (λ x. P x × Q x) xs
+both_all P Q [] first second = tt
+both_all P Q (x ∷ xs) first second = ((first.0, second.0), both_all P Q xs first.1 second.1)
 
-item_sound : (u s c : List ℕ) (b : ℕ) → AreNames u s c → (item : Item) → IsWithin c item → AreSound (item_changes u s c b item)
+all_within : (c : List ℕ) (items : List Item) → rises c None items ≡ true → AllByRecursion IsSoundItem items → AllByRecursion (IsWithin c) items
+all_within c items e sound = both_all IsSoundItem (IsKeepable c) items sound (all_keepable IsSoundItem c None items (λ channel first last within. within) e sound)
+
+item_sound : (u s c : List ℕ) (b : ℕ) → AreNames u s c → (item : Item) → IsWithin c item → ArePut is_formed (item_changes u s c b item)
 item_sound u s c b names (Event event) within =
-    sound-if (same event.channel c && nat_lt b event.number) (put (held_key u s c event.number) 0 event.text)
+    put-if (same event.channel c && nat_lt b event.number) (put (held_key u s c event.number) 0 event.text)
     (λ test.
     let both = and_parts (same event.channel c) (nat_lt b event.number) test in
-    held_sound u s c event.text event.number names within.0 (event_there c event both.0 within.1))
+    held_row u s c event.text event.number names within.0.0 (event_there c event both.0 within.0.1))
 item_sound u s c b names (Dropped channel first last) within =
-    sound-if (same channel c && nat_lt b last) (put (mark_key u s c (max first (b + 1))) last [])
+    put-if (same channel c && nat_lt b last) (put (mark_key u s c (max first (b + 1))) last [])
     (λ test.
     let both = and_parts (same channel c) (nat_lt b last) test in
-    mark_sound u s c (max first (b + 1)) last names (clipped b first last (lt_holds b last both.1) (within.0 both.0)) within.1)
+    mark_row u s c (max first (b + 1)) last names (clipped b first last (lt_holds b last both.1) (within.1.0 both.0)) within.1.1)
 item_sound u s c b names (Loose count) within = tt
 
 -- a number, where there is one, is such as records have
@@ -324,24 +233,24 @@ reach_within c batch numbers = by (finite.get batch.to c) (numbers.to c)
     by None each = last_within c None batch.items tt numbers.items
     by (Some n) each = each n refl
 
-loose_changes_sound : (u s c : List ℕ) (b t sum : ℕ) → AreNames u s c → b < t → t ≤ MAX → sum ≤ MAX → AreSound (loose_changes u s c b t sum)
+loose_changes_sound : (u s c : List ℕ) (b t sum : ℕ) → AreNames u s c → b < t → t ≤ MAX → sum ≤ MAX → ArePut is_formed (loose_changes u s c b t sum)
 loose_changes_sound u s c b t sum names above within few =
-    sound-if (nat_lt 0 sum) (put (loose_key u s c (b + 1)) t (decimal sum)) (λ _. loose_sound u s c (b + 1) t sum names (next_within b t above) within few)
+    put-if (nat_lt 0 sum) (put (loose_key u s c (b + 1)) t (decimal sum)) (λ _. loose_row u s c (b + 1) t sum names (next_within b t above) within few)
 
-move_sound : (u s c : List ℕ) (b t sum : ℕ) → AreNames u s c → t ≤ MAX → sum ≤ MAX → AreSound (move_changes u s c b t sum)
+move_sound : (u s c : List ℕ) (b t sum : ℕ) → AreNames u s c → t ≤ MAX → sum ≤ MAX → ArePut is_formed (move_changes u s c b t sum)
 move_sound u s c b t sum names within few = by (nat_lt b t) (lt_holds b t)
   where
-    by : (test : Bool) → (test ≡ true → b < t) → AreSound (if test then loose_changes u s c b t sum ++ put (bookmark_key u s c) t [] ∷ [] else [])
+    by : (test : Bool) → (test ≡ true → b < t) → ArePut is_formed (if test then loose_changes u s c b t sum ++ put (bookmark_key u s c) t [] ∷ [] else [])
     by true above =
-        sound-append (loose_changes u s c b t sum) (put (bookmark_key u s c) t [] ∷ []) (loose_changes_sound u s c b t sum names (above refl) within few) (bookmark_sound u s c t names within, tt)
+        put-append (loose_changes u s c b t sum) (put (bookmark_key u s c) t [] ∷ []) (loose_changes_sound u s c b t sum names (above refl) within few) (bookmark_row u s c t names within, tt)
     by false above = tt
 
 reach_sound : (u s c : List ℕ) (b : ℕ) (batch : Batch) (reached : Option ℕ) → AreNames u s c → AllByRecursion (IsWithin c) batch.items → loose_sum batch.items ≤ MAX
-    → IsNumberOrNone reached → AreSound (reach_changes u s c b batch reached)
+    → IsNumberOrNone reached → ArePut is_formed (reach_changes u s c b batch reached)
 reach_sound u s c b batch None names items few within = tt
 reach_sound u s c b batch (Some t) names items few within =
-    sound-append (flat_map (item_changes u s c b) batch.items) (move_changes u s c b t (loose_sum batch.items))
-    (sound-flat_map (IsWithin c) (item_changes u s c b) batch.items (item_sound u s c b names) items) (move_sound u s c b t (loose_sum batch.items) names within few)
+    put-append (flat_map (item_changes u s c b) batch.items) (move_changes u s c b t (loose_sum batch.items))
+    (put-flat_map (IsWithin c) (item_changes u s c b) batch.items (item_sound u s c b names) items) (move_sound u s c b t (loose_sum batch.items) names within few)
 
 -- a channel with a name, in which a batch is in order
 abbrev IsReady : Batch → List ℕ → Type 0
@@ -354,27 +263,27 @@ all_ready batch (c ∷ channels) names e =
     ((names.0, both.0), all_ready batch channels names.1 both.1)
 
 channel_sound : (rows : Rows) (u s : List ℕ) (batch : Batch) → is_subscription_name u ≡ true → is_source_name s ≡ true → IsSoundBatch batch → loose_sum batch.items ≤ MAX
-    → (c : List ℕ) → IsReady batch c → AreSound (channel_changes rows u s batch c)
+    → (c : List ℕ) → IsReady batch c → ArePut is_formed (channel_changes rows u s batch c)
 channel_sound rows u s batch name source numbers few c ready =
     let order = and_parts (rises c None batch.items) (is_at_least (finite.get batch.to c) (last_in c batch.items)) ready.1 in
     let names : AreNames u s c = λ i. name i && source i && ready.0 i in
-    reach_sound u s c (bookmark_at rows u s c) batch (reach c batch) names (all_within c None batch.items order.0 numbers.items) few (reach_within c batch numbers)
+    reach_sound u s c (bookmark_at rows u s c) batch (reach c batch) names (all_within c batch.items order.0 numbers.items) few (reach_within c batch numbers)
 
 batch_sound : (rows : Rows) (u s : List ℕ) (channels : List (List ℕ)) (batch : Batch) (now : ℕ) → is_subscription_name u ≡ true → is_source_name s ≡ true → AllByRecursion IsChannel channels
-    → is_well_formed channels batch ≡ true → IsSoundBatch batch → now ≤ LAST_MOMENT → AreSound (batch_changes rows u s channels batch now)
+    → is_well_formed channels batch ≡ true → IsSoundBatch batch → now ≤ LAST_MOMENT → ArePut is_formed (batch_changes rows u s channels batch now)
 batch_sound rows u s channels batch now name source names formed numbers moment =
     let outer = and_parts (list_all (is_listed channels) batch.items && list_all (is_in_order batch) channels) (nat_le (loose_sum batch.items) MAX) formed in
     let inner = and_parts (list_all (is_listed channels) batch.items) (list_all (is_in_order batch) channels) outer.0 in
     let few = le_holds (loose_sum batch.items) MAX outer.1 in
-    sound-append (flat_map (channel_changes rows u s batch) channels) (heard_changes rows u s now)
-    (sound-flat_map (IsReady batch) (channel_changes rows u s batch) channels (channel_sound rows u s batch name source numbers few) (all_ready batch channels names inner.1))
-    (sound-if (is_later now (finite.get rows (heard_key u s))) (put (heard_key u s) now []) (λ _. heard_sound u s now name source moment))
+    put-append (flat_map (channel_changes rows u s batch) channels) (heard_changes rows u s now)
+    (put-flat_map (IsReady batch) (channel_changes rows u s batch) channels (channel_sound rows u s batch name source numbers few) (all_ready batch channels names inner.1))
+    (put-if (is_later now (finite.get rows (heard_key u s))) (put (heard_key u s) now []) (λ _. heard_row u s now name source moment))
 
 -- ---- the law
 
 start_formed : (rows : Rows) → nat_lt (boot_of rows) MAX ≡ true → AreFormed rows → AreFormed (finite.insert rows boot_key (record { value = boot_of rows + 1; body = [] }))
 start_formed rows left formed =
-    formed_applied (put boot_key (boot_of rows + 1) [] ∷ []) rows (boot_sound (boot_of rows + 1) (next_within (boot_of rows) MAX (lt_holds (boot_of rows) MAX left)), tt) formed
+    applied_formed is_formed (put boot_key (boot_of rows + 1) [] ∷ []) (boot_row (boot_of rows + 1) (next_within (boot_of rows) MAX (lt_holds (boot_of rows) MAX left)), tt) rows formed
 
 take_formed : (rows : Rows) (u s : List ℕ) (about : Subscription) (batch : Batch) (now : ℕ) → standing rows u ≡ Live about → is_source_name s ≡ true → is_well_formed (channels_read about) batch ≡ true
     → IsSoundBatch batch → now ≤ LAST_MOMENT → AreFormed rows → AreFormed (taken rows u s (channels_read about) batch now)
@@ -382,16 +291,16 @@ unfolding taken
 take_formed rows u s about batch now lives source well numbers moment formed =
     let kept = live_kept rows u about lives formed in
     let names = kept_channels u (kept_body (finite.get rows (subscription_key u))) about kept.reads in
-    formed_applied (batch_changes rows u s (channels_read about) batch now) rows (batch_sound rows u s (channels_read about) batch now kept.name source names well numbers moment) formed
+    applied_formed is_formed (batch_changes rows u s (channels_read about) batch now) (batch_sound rows u s (channels_read about) batch now kept.name source names well numbers moment) rows formed
 
 pub forms_stay : FormsStay
 forms_stay = record {
   nothing = nothing_formed;
   start = start_formed;
-  add = λ rows s name reads formed. formed_applied (put (subscription_key s.name) 0 (kept_words s) ∷ []) rows (subscription_sound s.name (kept_words s) 0 (omega arith) name (ap (λ (read : Option Subscription). is_some read) reads), tt) formed;
+  add = λ rows s name reads formed. applied_formed is_formed (put (subscription_key s.name) 0 (kept_words s) ∷ []) (subscription_row s.name (kept_words s) 0 (omega arith) name (ap (λ (read : Option Subscription). is_some read) reads), tt) rows formed;
   end = λ rows u about lives formed.
       let kept = live_kept rows u about lives formed in
-      formed_applied (put (subscription_key u) 1 (kept_body (finite.get rows (subscription_key u))) ∷ []) rows
-      (subscription_sound u (kept_body (finite.get rows (subscription_key u))) 1 (omega arith) kept.name (ap (λ (read : Option Subscription). is_some read) kept.reads), tt) formed;
+      applied_formed is_formed (put (subscription_key u) 1 (kept_body (finite.get rows (subscription_key u))) ∷ [])
+      (subscription_row u (kept_body (finite.get rows (subscription_key u))) 1 (omega arith) kept.name (ap (λ (read : Option Subscription). is_some read) kept.reads), tt) rows formed;
   take = take_formed;
 }

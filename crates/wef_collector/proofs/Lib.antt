@@ -1,4 +1,6 @@
+pub mod Answered
 pub mod Batches
+pub mod FormedRows
 pub mod FormsStay
 pub mod Hits
 pub mod ListedThere

@@ -7,7 +7,6 @@ use Rattle.std.specs.Prelude.{Option, Some, None, Ok, Err, IfSome, if◌then◌e
 use Rattle.wef_batch.specs.WellFormed.{is_well_formed}
 use Rattle.wef_batch.specs.declared.items.Batch.{Batch}
 use Rattle.wef_eventing.specs.Kept.{kept_words, read_kept}
-use Rattle.wef_eventing.specs.Subscriptions.{IsAllEvents}
 use Rattle.wef_keeper.specs.Keeping.{Follows}
 use Rattle.wef_keeper.specs.declared.keys.Change.{Change}
 use Rattle.wef_keeper.specs.Rows.{Rows, applied, key_cmp, key_cmp_total}
@@ -45,12 +44,12 @@ one_put rows s changes e = by (is_there rows s.name) (is_full rows) e
 
 -- once they stand, it is live
 pub added_lives : (mid now : Option Rows) (s : Subscription) (changes : List Change) → Follows mid now (λ found after. after ≡ applied changes found) → IfSome mid (λ rows. add_effect rows s ≡ Ok changes)
-    → (IsAllEvents s → read_kept s.name (kept_words s) ≡ Some s) → IfSome now (λ rows. IsAllEvents s → standing rows s.name ≡ Live s)
+    → read_kept s.name (kept_words s) ≡ Some s → IfSome now (λ rows. standing rows s.name ≡ Live s)
 added_lives mid None s changes follows made reads = tt
 added_lives None (Some after) s changes follows made reads = absurd follows
 added_lives (Some found) (Some after) s changes follows made reads =
     let is = follows ∙ ap (λ (made : List Change). applied made found) (one_put found s changes made) in
-    λ all. ap (λ (rows : Rows). standing rows s.name) is ∙ put_lives found s (kept_words s) (reads all)
+    ap (λ (rows : Rows). standing rows s.name) is ∙ put_lives found s (kept_words s) reads
 
 -- what taking a batch does for a live subscription, by how it is judged
 pub takes_ill : (rows : Rows) (u source : List ℕ) (s : Subscription) (batch : Batch) (now : ℕ) → is_well_formed (channels_read s) batch ≡ false → take_by (Live s) rows u source batch now ≡ Err NotWellFormed

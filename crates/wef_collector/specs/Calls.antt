@@ -8,6 +8,7 @@ use Rattle.wef_eventing.specs.Kept.{kept_words}
 use Rattle.wef_eventing.specs.declared.subscriptions.Subscription.{Subscription}
 use Rattle.wef_keeper.specs.Calls as keeper
 use Rattle.wef_keeper.specs.Rows.{Rows}
+use Rattle.wef_keeper.specs.declared.keys.Change.{Change}
 use Rattle.wef_collector_rows.specs.Answers.{channels_read, is_there}
 use Rattle.wef_collector.specs.Boots.{boot_of}
 use Rattle.wef_collector_rows.specs.Keys.{boot_key, subscription_key}
@@ -29,10 +30,14 @@ add_effect rows s =
     if is_full rows then Err TooMany else
     Ok (put (subscription_key s.name) 0 (kept_words s) ∷ [])
 
+-- the change that ends a subscription: its words stay
+abbrev pub ended : Rows → List ℕ → List Change
+ended rows u = put (subscription_key u) 1 (kept_body (map.get rows (subscription_key u))) ∷ []
+
 abbrev pub end_by : state.Standing → Rows → List ℕ → Effect
 end_by is.Unknown rows u = Err NoSubscription
 end_by (is.Ended s) rows u = Err Ended
-end_by (is.Live s) rows u = Ok (put (subscription_key u) 1 (kept_body (map.get rows (subscription_key u))) ∷ [])
+end_by (is.Live s) rows u = Ok (ended rows u)
 
 -- a live subscription ends
 abbrev pub end_effect : Rows → List ℕ → Effect

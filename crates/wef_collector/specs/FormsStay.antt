@@ -2,6 +2,7 @@
 use Rattle.std.specs.Prelude.{◌≡◌, ℕ, ◌+◌, ◌≤◌, nat_lt, true, List, [], Some}
 use Rattle.std.specs.FinMap as map
 use Rattle.std.specs.List.{AllByRecursion}
+use Rattle.wef_base.specs.declared.moments.TheConstants.{LAST_MOMENT}
 use Rattle.wef_base.specs.declared.numbers.TheConstants.{MAX}
 use Rattle.wef_batch.specs.WellFormed.{is_well_formed}
 use Rattle.wef_batch.specs.declared.items.Batch.{Batch}
@@ -11,7 +12,6 @@ use Rattle.wef_event.specs.Events.{is_event}
 use Rattle.wef_eventing.specs.Kept.{kept_words, read_kept}
 use Rattle.wef_eventing.specs.declared.subscriptions.Subscription.{Subscription}
 use Rattle.wef_keeper.specs.Rows.{Rows}
-use Rattle.wef_collector_rows.specs.declared.forms.TheConstants.{LAST_MOMENT}
 use Rattle.wef_collector_rows.specs.Answers.{added_rows, channels_read, ended_rows}
 use Rattle.wef_collector.specs.Boots.{boot_of}
 use Rattle.wef_collector_rows.specs.Forms.{AreFormed, is_source_name, is_subscription_name}

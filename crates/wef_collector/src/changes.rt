@@ -1,22 +1,31 @@
 //! What taking a batch changes.
 
-ghost use Rattle.std.specs.Prelude.{◌≡◌, ◌+◌, ◌<◌, [], ◌∷◌, ◌++◌, IfOk, IfSome, OnOk};
+ghost use Rattle.std.specs.Prelude.{◌≡◌, ◌+◌, ◌<◌, ◌≤◌, true, [], ◌∷◌, ◌++◌, IfOk, IfSome, OnOk};
 ghost use Rattle.std.specs.Fmt.{decimal};
 ghost use Rattle.std.specs.FinMap as map;
-ghost use Rattle.std.specs.List.{flat_map};
+ghost use Rattle.std.specs.List.{AllByRecursion, flat_map, list_all};
+ghost use Rattle.wef_batch.specs.Numbers.{AreNumbered};
 ghost use Rattle.wef_batch.specs.Reach as reaches;
+ghost use Rattle.wef_batch.specs.WellFormed as formed;
 ghost use Rattle.wef_keeper.specs.Access as access;
-ghost use Rattle.wef_collector_rows.specs.Forms.{AreFormed};
+ghost use Rattle.wef_collector_rows.specs.Forms.{AreFormed, is_formed};
+ghost use Rattle.wef_collector_rows.specs.Judged.{IsFormedAt};
 ghost use Rattle.wef_collector_rows.specs.Keys as keys;
+ghost use Rattle.wef_collector.specs.Judged as judged;
+ghost use Rattle.wef_collector.specs.Keepable.{IsKeepable};
 ghost use Rattle.wef_collector.specs.Taken as spec;
-ghost use Rattle.wef_collector_rows.specs.Bookmarks as bookmarks;
 
 use std::alloc::AllocError;
-use wef_base::{ChannelName, List, SourceName, SubId, Text};
+use wef_base::moments::Moment;
+use wef_base::numbers::MAX;
+use wef_base::{ChannelName, SourceName, SubId, Text};
 use wef_batch::{Batch, Item, loose_sum, reach};
+use wef_collector_rows::CollectorForm;
+use wef_collector_rows::bookmarks::bookmark_at;
 use wef_collector_rows::keys::{bookmark_key, heard_key, held_key, loose_key, mark_key};
-use wef_collector_rows::reading::{formed_cell, formed_number};
-use wef_keeper::{Change, Keeper, Key, Row, StoreFault};
+use wef_event::Event;
+use wef_keeper::forms::formed_cell;
+use wef_keeper::{Changes, Keeper, Key, Row, StoreFault};
 
 /// All that a batch for these channels changes.
 pub fn batch_changes<K: Keeper>(
@@ -25,14 +34,16 @@ pub fn batch_changes<K: Keeper>(
     source: &SourceName,
     channels: &[ChannelName],
     batch: &Batch,
-    now: u64,
-) -> Result<List<Change>, StoreFault>
+    now: Moment,
+) -> Result<Changes<CollectorForm>, StoreFault>
     requires ready { access.IsReady (K.store keeper.old) }
-    requires loose { reaches.loose_sum batch.now.items < 18446744073709551616 }
+    requires well { formed.is_well_formed channels.now batch.now ≡ true }
+    requires numbered { AreNumbered batch.now.items }
     ensures changes { IfSome (K.store keeper.new).rows (λ rows. IfOk result (λ changes. changes ≡ spec.batch_changes rows sub.now source.now channels.now batch.now now)) }
+    ensures judged { IfSome (K.store keeper.new).rows (λ rows. OnOk result (judged.AreReachedFormed rows sub.now source.now batch.now channels.now × IsFormedAt (keys.heard_key sub.now source.now) rows)) }
     ensures reads { access.Reads AreFormed (access.fails result) (K.store keeper.old) (K.store keeper.new) }
 {
-    let mut changes = List::new(sub.as_text().alloc());
+    let mut changes = Changes::new(sub.as_text().alloc());
     push_all_changes(&mut changes, keeper, sub, source, channels, batch)?;
     push_heard_changes(&mut changes, keeper, sub, source, now)?;
     Ok(changes)
@@ -40,7 +51,7 @@ pub fn batch_changes<K: Keeper>(
 
 /// What a batch changes in all of these channels.
 fn push_all_changes<K: Keeper>(
-    changes: &mut List<Change>,
+    changes: &mut Changes<CollectorForm>,
     keeper: &mut K,
     sub: &SubId,
     source: &SourceName,
@@ -48,8 +59,11 @@ fn push_all_changes<K: Keeper>(
     batch: &Batch,
 ) -> Result<(), StoreFault>
     requires ready { access.IsReady (K.store keeper.old) }
-    requires loose { reaches.loose_sum batch.now.items < 18446744073709551616 }
+    requires order { list_all (formed.is_in_order batch.now) channels.now ≡ true }
+    requires numbered { AreNumbered batch.now.items }
+    requires loose { reaches.loose_sum batch.now.items ≤ MAX }
     ensures changes { IfSome (K.store keeper.new).rows (λ rows. OnOk result (changes.new ≡ changes.old ++ flat_map (spec.channel_changes rows sub.now source.now batch.now) channels.now)) }
+    ensures judged { IfSome (K.store keeper.new).rows (λ rows. OnOk result (judged.AreReachedFormed rows sub.now source.now batch.now channels.now)) }
     ensures reads { access.Reads AreFormed (access.fails result) (K.store keeper.old) (K.store keeper.new) }
 {
     for channel in channels {
@@ -59,7 +73,7 @@ fn push_all_changes<K: Keeper>(
 }
 
 fn push_channel_changes<K: Keeper>(
-    changes: &mut List<Change>,
+    changes: &mut Changes<CollectorForm>,
     keeper: &mut K,
     sub: &SubId,
     source: &SourceName,
@@ -67,8 +81,11 @@ fn push_channel_changes<K: Keeper>(
     batch: &Batch,
 ) -> Result<(), StoreFault>
     requires ready { access.IsReady (K.store keeper.old) }
-    requires loose { reaches.loose_sum batch.now.items < 18446744073709551616 }
+    requires order { formed.is_in_order batch.now channel.now ≡ true }
+    requires numbered { AreNumbered batch.now.items }
+    requires loose { reaches.loose_sum batch.now.items ≤ MAX }
     ensures changes { IfSome (K.store keeper.new).rows (λ rows. OnOk result (changes.new ≡ changes.old ++ spec.channel_changes rows sub.now source.now batch.now channel.now)) }
+    ensures judged { IfSome (K.store keeper.new).rows (λ rows. OnOk result (judged.IsReachedFormed rows sub.now source.now batch.now channel.now)) }
     ensures reads { access.Reads AreFormed (access.fails result) (K.store keeper.old) (K.store keeper.new) }
 {
     let Some(to) = reach(batch, channel) else {
@@ -79,24 +96,9 @@ fn push_channel_changes<K: Keeper>(
     Ok(())
 }
 
-/// How far a source's channel was served.
-pub fn bookmark_at<K: Keeper>(
-    keeper: &mut K,
-    sub: &SubId,
-    source: &SourceName,
-    channel: &ChannelName,
-) -> Result<u64, StoreFault>
-    requires { access.IsReady (K.store keeper.old) }
-    ensures number { IfSome (K.store keeper.new).rows (λ rows. IfOk result (λ number. number ≡ bookmarks.bookmark_at rows sub.now source.now channel.now)) }
-    ensures reads { access.Reads AreFormed (access.fails result) (K.store keeper.old) (K.store keeper.new) }
-{
-    let key = bookmark_key(sub.as_text(), source.as_text(), channel.as_text())?;
-    formed_number(keeper, &key)
-}
-
 /// What a batch that reaches a channel up to a number changes in it.
 fn push_reach_changes(
-    changes: &mut List<Change>,
+    changes: &mut Changes<CollectorForm>,
     sub: &SubId,
     source: &SourceName,
     channel: &ChannelName,
@@ -104,7 +106,10 @@ fn push_reach_changes(
     batch: &Batch,
     to: u64,
 ) -> Result<(), AllocError>
-    requires { reaches.loose_sum batch.now.items < 18446744073709551616 }
+    requires order { formed.is_in_order batch.now channel.now ≡ true }
+    requires numbered { AreNumbered batch.now.items }
+    requires loose { reaches.loose_sum batch.now.items ≤ MAX }
+    requires to { to ≤ MAX }
     ensures { OnOk result (changes.new ≡ changes.old ++ spec.reach_changes sub.now source.now channel.now bookmark batch.now (Some to)) }
 {
     push_items_changes(
@@ -127,13 +132,14 @@ fn push_reach_changes(
 }
 
 fn push_items_changes(
-    changes: &mut List<Change>,
+    changes: &mut Changes<CollectorForm>,
     sub: &SubId,
     source: &SourceName,
     channel: &ChannelName,
     bookmark: u64,
     items: &[Item],
 ) -> Result<(), AllocError>
+    requires { AllByRecursion (IsKeepable channel.now) items.now }
     ensures { OnOk result (changes.new ≡ changes.old ++ flat_map (spec.item_changes sub.now source.now channel.now bookmark) items.now) }
 {
     for item in items {
@@ -143,24 +149,19 @@ fn push_items_changes(
 }
 
 fn push_item_changes(
-    changes: &mut List<Change>,
+    changes: &mut Changes<CollectorForm>,
     sub: &SubId,
     source: &SourceName,
     channel: &ChannelName,
     bookmark: u64,
     item: &Item,
 ) -> Result<(), AllocError>
+    requires { IsKeepable channel.now item.now }
     ensures { OnOk result (changes.new ≡ changes.old ++ spec.item_changes sub.now source.now channel.now bookmark item.now) }
 {
     match item {
         Item::Event(event) if event.channel == *channel && bookmark < event.number => {
-            let key = held_key(
-                sub.as_text(),
-                source.as_text(),
-                channel.as_text(),
-                event.number,
-            )?;
-            push_put(changes, key, 0, event.text.clone()?)
+            push_held_change(changes, sub, source, event)
         }
         Item::Dropped {
             channel: dropped,
@@ -168,15 +169,48 @@ fn push_item_changes(
             last,
         } if *dropped == *channel && bookmark < *last => {
             let first = (*first).max(bookmark + 1);
-            let key = mark_key(sub.as_text(), source.as_text(), channel.as_text(), first)?;
-            push_put(changes, key, *last, Text::new(sub.as_text().alloc()))
+            push_mark_change(changes, sub, source, channel, first, *last)
         }
         _ => Ok(()),
     }
 }
 
+fn push_held_change(
+    changes: &mut Changes<CollectorForm>,
+    sub: &SubId,
+    source: &SourceName,
+    event: &Event,
+) -> Result<(), AllocError>
+    requires { 1 ≤ event.now.number }
+    ensures { OnOk result (changes.new ≡ changes.old ++ spec.put (keys.held_key sub.now source.now event.now.channel event.now.number) 0 event.now.text ∷ []) }
+{
+    let key = held_key(
+        sub.as_text(),
+        source.as_text(),
+        event.channel.as_text(),
+        event.number,
+    )?;
+    push_put(changes, key, 0, event.text.clone()?)
+}
+
+fn push_mark_change(
+    changes: &mut Changes<CollectorForm>,
+    sub: &SubId,
+    source: &SourceName,
+    channel: &ChannelName,
+    first: u64,
+    last: u64,
+) -> Result<(), AllocError>
+    requires order { first ≤ last }
+    requires last { last ≤ MAX }
+    ensures { OnOk result (changes.new ≡ changes.old ++ spec.put (keys.mark_key sub.now source.now channel.now first) last [] ∷ []) }
+{
+    let key = mark_key(sub.as_text(), source.as_text(), channel.as_text(), first)?;
+    push_put(changes, key, last, Text::new(sub.as_text().alloc()))
+}
+
 fn push_move_changes(
-    changes: &mut List<Change>,
+    changes: &mut Changes<CollectorForm>,
     sub: &SubId,
     source: &SourceName,
     channel: &ChannelName,
@@ -184,7 +218,8 @@ fn push_move_changes(
     to: u64,
     loose: u128,
 ) -> Result<(), AllocError>
-    requires { loose < 18446744073709551616 }
+    requires loose { loose ≤ MAX }
+    requires to { to ≤ MAX }
     ensures { OnOk result (changes.new ≡ changes.old ++ spec.move_changes sub.now source.now channel.now bookmark to loose) }
 {
     if to <= bookmark {
@@ -193,12 +228,11 @@ fn push_move_changes(
     if loose > 0 {
         push_loose_change(changes, sub, source, channel, bookmark, to, loose as u64)?;
     }
-    let key = bookmark_key(sub.as_text(), source.as_text(), channel.as_text())?;
-    push_put(changes, key, to, Text::new(sub.as_text().alloc()))
+    push_bookmark_change(changes, sub, source, channel, to)
 }
 
 fn push_loose_change(
-    changes: &mut List<Change>,
+    changes: &mut Changes<CollectorForm>,
     sub: &SubId,
     source: &SourceName,
     channel: &ChannelName,
@@ -206,7 +240,9 @@ fn push_loose_change(
     to: u64,
     count: u64,
 ) -> Result<(), AllocError>
-    requires { bookmark < to }
+    requires above { bookmark < to }
+    requires to { to ≤ MAX }
+    requires count { count ≤ MAX }
     ensures { OnOk result (changes.new ≡ changes.old ++ spec.put (keys.loose_key sub.now source.now channel.now (bookmark + 1)) to (decimal count) ∷ []) }
 {
     let key = loose_key(
@@ -220,38 +256,80 @@ fn push_loose_change(
     push_put(changes, key, to, digits)
 }
 
+fn push_bookmark_change(
+    changes: &mut Changes<CollectorForm>,
+    sub: &SubId,
+    source: &SourceName,
+    channel: &ChannelName,
+    to: u64,
+) -> Result<(), AllocError>
+    requires { to ≤ MAX }
+    ensures { OnOk result (changes.new ≡ changes.old ++ spec.put (keys.bookmark_key sub.now source.now channel.now) to [] ∷ []) }
+{
+    let key = bookmark_key(sub.as_text(), source.as_text(), channel.as_text())?;
+    push_put(changes, key, to, Text::new(sub.as_text().alloc()))
+}
+
 fn push_heard_changes<K: Keeper>(
-    changes: &mut List<Change>,
+    changes: &mut Changes<CollectorForm>,
     keeper: &mut K,
     sub: &SubId,
     source: &SourceName,
-    now: u64,
+    now: Moment,
 ) -> Result<(), StoreFault>
     requires { access.IsReady (K.store keeper.old) }
     ensures changes { IfSome (K.store keeper.new).rows (λ rows. OnOk result (changes.new ≡ changes.old ++ spec.heard_changes rows sub.now source.now now)) }
+    ensures judged { IfSome (K.store keeper.new).rows (λ rows. OnOk result (IsFormedAt (keys.heard_key sub.now source.now) rows)) }
     ensures reads { access.Reads AreFormed (access.fails result) (K.store keeper.old) (K.store keeper.new) }
 {
     let key = heard_key(sub.as_text(), source.as_text())?;
     if !is_later(keeper, &key, now)? {
         return Ok(());
     }
-    Ok(push_put(changes, key, now, Text::new(sub.as_text().alloc()))?)
+    Ok(push_heard_change(changes, sub, source, now)?)
 }
 
 /// Whether a moment is later than the one that stands at a key, if one does.
-fn is_later<K: Keeper>(keeper: &mut K, key: &Key, now: u64) -> Result<bool, StoreFault>
+fn is_later<K: Keeper>(keeper: &mut K, key: &Key, now: Moment) -> Result<bool, StoreFault>
     requires { access.IsReady (K.store keeper.old) }
     ensures later { IfSome (K.store keeper.new).rows (λ rows. IfOk result (λ later. later ≡ spec.is_later now (map.get rows key.now))) }
+    ensures judged { IfSome (K.store keeper.new).rows (λ rows. OnOk result (IsFormedAt key.now rows)) }
     ensures reads { access.Reads AreFormed (access.fails result) (K.store keeper.old) (K.store keeper.new) }
 {
-    match formed_cell(keeper, key)? {
-        Some(cell) => Ok(cell.value < now),
+    match formed_cell::<CollectorForm, K>(keeper, key)? {
+        Some(cell) => Ok(cell.value < now.milliseconds()),
         None => Ok(true),
     }
 }
 
-fn push_put(changes: &mut List<Change>, key: Key, value: u64, body: Text) -> Result<(), AllocError>
+fn push_heard_change(
+    changes: &mut Changes<CollectorForm>,
+    sub: &SubId,
+    source: &SourceName,
+    now: Moment,
+) -> Result<(), AllocError>
+    ensures { OnOk result (changes.new ≡ changes.old ++ spec.put (keys.heard_key sub.now source.now) now [] ∷ []) }
+{
+    let key = heard_key(sub.as_text(), source.as_text())?;
+    push_put(
+        changes,
+        key,
+        now.milliseconds(),
+        Text::new(sub.as_text().alloc()),
+    )
+}
+
+/// Puts a row of its form.
+pub fn push_put(
+    changes: &mut Changes<CollectorForm>,
+    key: Key,
+    value: u64,
+    body: Text,
+) -> Result<(), AllocError>
+    requires number { key.number ≤ MAX }
+    requires value { value ≤ MAX }
+    requires form { is_formed (record { key = key; value = value; body = body }) ≡ true }
     ensures { OnOk result (changes.new ≡ changes.old ++ spec.put key value body ∷ []) }
 {
-    changes.push(Change::Put(Row { key, value, body }))
+    changes.put(Row { key, value, body })
 }

@@ -1,41 +1,44 @@
 //! The collector.
 
 ghost use Rattle.std.specs.Prelude.{◌≡◌, ◌≤◌, [], ◌++◌, true, take, Some, Ok, Err, IfOk, IfErr, IfSome, OnOk};
+ghost use Rattle.wef_batch.specs.Numbers.{AreNumbered};
 ghost use Rattle.wef_ids.specs.Ids.{next_id, with_drawn};
-ghost use Rattle.wef_eventing.specs.Subscriptions.{IsAllEvents};
+ghost use Rattle.wef_eventing.specs.Kept.{kept_words, read_kept};
+ghost use Rattle.wef_keeper.specs.Access.{From};
 ghost use Rattle.wef_keeper.specs.Calls.{IsCall, Looks};
 ghost use Rattle.wef_keeper.specs.declared.keeping.Plan.TheVariants.{Done, Fails};
 ghost use Rattle.wef_keeper.specs.Keeping.{is_armed};
 ghost use Rattle.wef_collector_rows.specs.Answers as answers;
-ghost use Rattle.wef_collector_rows.specs.Bookmarks.{bookmark_of};
-ghost use Rattle.wef_collector.specs.Boots.{ids_begun};
-ghost use Rattle.wef_collector.specs.Calls as calls;
+ghost use Rattle.wef_collector_rows.specs.Bookmarks.{bookmark_of, bookmark_rows};
 ghost use Rattle.wef_collector_rows.specs.Faults.{collector_store};
 ghost use Rattle.wef_collector_rows.specs.Forms.{AreFormed};
 ghost use Rattle.wef_collector_rows.specs.Held as held;
-ghost use Rattle.wef_collector_reports.specs.Listing.{listed};
-ghost use Rattle.wef_collector.specs.Offers.{offers};
-ghost use Rattle.wef_collector_reports.specs.Report.{report};
+ghost use Rattle.wef_collector_rows.specs.Judged.{AreAllFormed, IsFormedAt};
+ghost use Rattle.wef_collector_rows.specs.Keys.{boot_key, subscription_key};
 ghost use Rattle.wef_collector_rows.specs.Standing as standings;
 ghost use Rattle.wef_collector_rows.specs.declared.faults.CollectorFault.TheVariants.{NoMemory};
 ghost use Rattle.wef_collector_rows.specs.declared.standings.Standing.TheVariants.{Live};
+ghost use Rattle.wef_collector_reports.specs.Judged.{is_report_formed};
+ghost use Rattle.wef_collector_reports.specs.Listing.{listed};
+ghost use Rattle.wef_collector_reports.specs.Report.{report};
+ghost use Rattle.wef_collector.specs.Boots.{ids_begun};
+ghost use Rattle.wef_collector.specs.Calls as calls;
+ghost use Rattle.wef_collector.specs.Judged as judged;
+ghost use Rattle.wef_collector.specs.Offers.{offers};
 
-use crate::effects::{add_changes, boot_changes, end_changes, take_changes};
-use crate::offering::offers_to;
+use crate::reading::{bookmark_in, held_in, list_in, offers_in, report_in, state_in};
+use crate::requests::{Request, answer, raise_boot};
 use std::alloc::Global;
+use std::marker::Model;
+use wef_base::moments::Moment;
 use wef_base::{ChannelName, List, SourceName, SubId, Text};
 use wef_batch::Batch;
 use wef_bookmark::Bookmark;
-use wef_collector_reports::held::held_page;
-use wef_collector_reports::listing::{Listed, list_subscriptions};
-use wef_collector_reports::reporting::report;
-use wef_collector_rows::bookmarks::bookmark_of;
+use wef_collector_reports::listing::Listed;
 use wef_collector_rows::faults::CollectorFault;
-use wef_collector_rows::standings::{known_in, live_in};
+use wef_ids::{Ids, MessageId};
 use wef_event::Event;
 use wef_eventing::{Offer, Subscription};
-use wef_ids::{Ids, MessageId};
-use wef_keeper::access::{commit, open};
 use wef_keeper::{Keeper, MemKeeper, Plan};
 
 /// Keeps subscriptions, and for each subscription and source the events that were delivered,
@@ -50,12 +53,28 @@ pub struct Collector<K> {
     alloc: Global,
 }
 
+impl<K> Model for Collector<K> {
+    ghost use Rattle.std.specs.Prelude.{refl};
+    ghost use Rattle.std.specs.Coded.{code_by, coded×};
+    ghost use Rattle.wef_collector.specs.State.{CollectorState};
+    ghost use Rattle.wef_ids.specs.contracts.ids.Ids as the_ids;
+    ghost use Rattle.wef_ids.specs.declared.ids.Ids as drawn;
+
+    ghost Value = { CollectorState K };
+
+    ghost coded = { code_by (K × drawn.Ids) (coded× K.code the_ids.the_row.coded)
+        (λ c. (c.keeper, c.ids)) (λ p. record { keeper = p.0; ids = p.1 }) (λ _. refl) };
+
+    ghost view = { λ c. record { keeper = c.keeper; ids = c.ids } };
+}
+
 impl<K: Keeper> Collector<K> {
     /// A collector over what a keeper keeps. It raises the boot number by one, and draws its ids with
     /// the raised one. Where that is refused the keeper is handed back.
     pub fn start(alloc: Global, keeper: K) -> Result<Collector<K>, (K, CollectorFault)>
         ensures ok { IfOk result (λ c. IsCall collector_store AreFormed calls.boot_effect ids_begun (Ok c.ids) (K.store keeper) (K.store c.keeper)) }
         ensures refusal { IfErr result (λ refused. IsCall collector_store AreFormed calls.boot_effect ids_begun (Err refused.1) (K.store keeper) (K.store refused.0)) }
+        ensures judged { IfOk result (λ c. From (K.store keeper) (K.store c.keeper) (λ found after. IsFormedAt boot_key found)) }
         ensures listed { IfErr result (λ refused. calls.OfStart refused.1) }
     {
         let mut keeper = keeper;
@@ -91,29 +110,26 @@ impl<K: Keeper> Collector<K> {
         keeper
     }
 
-    /// Adds a subscription.
+    /// Adds a subscription, which has to be one whose kept words read back.
     pub fn add(&mut self, subscription: &Subscription) -> Result<(), CollectorFault>
+        requires kept { read_kept subscription.now.name (kept_words subscription.now) ≡ Some subscription.now }
         ensures call { IsCall collector_store AreFormed (λ rows. calls.add_effect rows subscription.now) (λ _. tt) result (K.store self.old.keeper) (K.store self.new.keeper) }
+        ensures judged { From (K.store self.old.keeper) (K.store self.new.keeper) (λ found after. OnOk result (judged.IsAddJudged found subscription.now.name)) }
         ensures listed { IfErr result calls.OfAdd }
         ensures ids { self.new.ids ≡ self.old.ids }
-        ensures live { OnOk result (IfSome (K.store self.new.keeper).rows (λ rows. IsAllEvents subscription.now → standings.standing rows subscription.now.name ≡ Live subscription.now)) }
+        ensures live { OnOk result (IfSome (K.store self.new.keeper).rows (λ rows. standings.standing rows subscription.now.name ≡ Live subscription.now)) }
     {
-        open(&mut self.keeper)?;
-        let changes = add_changes(&mut self.keeper, self.alloc, subscription)?;
-        commit(&mut self.keeper, &changes)?;
-        Ok(())
+        answer(&mut self.keeper, self.alloc, Request::Add(subscription))
     }
 
     /// Ends a subscription. What was kept for it stays.
     pub fn end(&mut self, sub: &SubId) -> Result<(), CollectorFault>
         ensures call { IsCall collector_store AreFormed (λ rows. calls.end_effect rows sub.now) (λ _. tt) result (K.store self.old.keeper) (K.store self.new.keeper) }
+        ensures judged { From (K.store self.old.keeper) (K.store self.new.keeper) (λ found after. OnOk result (judged.IsEndJudged found sub.now)) }
         ensures listed { IfErr result calls.OfEnd }
         ensures ids { self.new.ids ≡ self.old.ids }
     {
-        open(&mut self.keeper)?;
-        let changes = end_changes(&mut self.keeper, self.alloc, sub)?;
-        commit(&mut self.keeper, &changes)?;
-        Ok(())
+        answer(&mut self.keeper, self.alloc, Request::End(sub))
     }
 
     /// Takes a batch of a source for a subscription: holds the events above the bookmark, keeps
@@ -124,33 +140,36 @@ impl<K: Keeper> Collector<K> {
         sub: &SubId,
         source: &SourceName,
         batch: &Batch,
-        now: u64,
+        now: Moment,
     ) -> Result<(), CollectorFault>
+        requires numbered { AreNumbered batch.now.items }
         ensures call { IsCall collector_store AreFormed (λ rows. calls.take_effect rows sub.now source.now batch.now now) (λ _. tt) result (K.store self.old.keeper) (K.store self.new.keeper) }
+        ensures judged { From (K.store self.old.keeper) (K.store self.new.keeper) (λ found after. OnOk result (judged.IsTakeJudged found sub.now source.now batch.now)) }
         ensures listed { IfErr result calls.OfTake }
         ensures ids { self.new.ids ≡ self.old.ids }
     {
-        open(&mut self.keeper)?;
-        let changes = take_changes(&mut self.keeper, self.alloc, sub, source, batch, now)?;
-        commit(&mut self.keeper, &changes)?;
-        Ok(())
+        let request = Request::Take {
+            sub,
+            source,
+            batch,
+            now,
+        };
+        answer(&mut self.keeper, self.alloc, request)
     }
 
     /// A live subscription.
-    #[tactic(auto, using(wef_keeper::proofs::Calls::looks_by))]
     pub fn state(&mut self, sub: &SubId) -> Result<Subscription, CollectorFault>
         ensures ok { IfSome (K.store self.new.keeper).rows (λ rows. IfOk result (λ subscription. standings.standing rows sub.now ≡ Live subscription)) }
+        ensures judged { IfSome (K.store self.new.keeper).rows (λ rows. OnOk result (IsFormedAt (subscription_key sub.now) rows)) }
         ensures refusal { IfErr result (λ fault. answers.RefusesName fault (K.store self.new.keeper).rows sub.now) }
         ensures looks { Looks collector_store AreFormed result (K.store self.old.keeper) (K.store self.new.keeper) }
         ensures ids { self.new.ids ≡ self.old.ids }
     {
-        open(&mut self.keeper)?;
-        live_in(&mut self.keeper, sub)
+        state_in(&mut self.keeper, sub)
     }
 
     /// The first `max` events that are held of a source's channel with numbers above one, by number;
     /// also of a subscription that has ended. The rest are those above the page's last number.
-    #[tactic(auto, using(wef_keeper::proofs::Calls::looks_by))]
     pub fn held_page(
         &mut self,
         sub: &SubId,
@@ -164,81 +183,64 @@ impl<K: Keeper> Collector<K> {
         ensures page { IfSome (K.store self.new.keeper).rows (λ rows. IfOk result (λ page. page ≡ take max (held.held_after rows sub.now source.now channel.now after))) }
         ensures rest { IfSome (K.store self.new.keeper).rows (λ rows. IfOk result (λ page. held.held_after rows sub.now source.now channel.now after
             ≡ page ++ held.held_after rows sub.now source.now channel.now (held.last_number after page))) }
+        ensures judged { IfSome (K.store self.new.keeper).rows (λ rows. OnOk result (IsFormedAt (subscription_key sub.now) rows × AreAllFormed (take max (held.held_rows rows sub.now source.now channel.now after)))) }
         ensures refusal { IfErr result (λ fault. answers.RefusesUnknown fault (K.store self.new.keeper).rows sub.now) }
         ensures looks { Looks collector_store AreFormed result (K.store self.old.keeper) (K.store self.new.keeper) }
         ensures ids { self.new.ids ≡ self.old.ids }
     {
-        open(&mut self.keeper)?;
-        known_in(&mut self.keeper, sub)?;
-        Ok(held_page(&mut self.keeper, sub, source, channel, after, max)?)
+        held_in(&mut self.keeper, sub, source, channel, after, max)
     }
 
     /// All subscriptions, live or ended, in the order of their names.
-    #[tactic(auto, using(wef_keeper::proofs::Calls::looks_by))]
     pub fn list(&mut self) -> Result<List<Listed>, CollectorFault>
         ensures ok { IfSome (K.store self.new.keeper).rows (λ rows. IfOk result (λ list. list ≡ listed rows)) }
+        ensures judged { IfSome (K.store self.new.keeper).rows (λ rows. OnOk result (AreAllFormed (standings.subscription_rows rows))) }
         ensures refusal { IfErr result answers.IsOfStore }
         ensures looks { Looks collector_store AreFormed result (K.store self.old.keeper) (K.store self.new.keeper) }
         ensures ids { self.new.ids ≡ self.old.ids }
     {
-        open(&mut self.keeper)?;
-        Ok(list_subscriptions(&mut self.keeper, self.alloc)?)
+        list_in(&mut self.keeper, self.alloc)
     }
 
     /// The offers to a source that asks: one for each live subscription that the sources begin, in
     /// the order of names. Each goes on from the bookmark that is kept for the source, and its
     /// batches come to the host.
-    #[tactic(auto, using(wef_keeper::proofs::Calls::looks_by))]
     pub fn offers(
         &mut self,
         source: &SourceName,
         host: &Text,
     ) -> Result<List<Offer>, CollectorFault>
         ensures ok { IfSome (K.store self.new.keeper).rows (λ rows. IfOk result (λ list. list ≡ offers rows source.now host.now)) }
+        ensures judged { IfSome (K.store self.new.keeper).rows (λ rows. OnOk result (judged.AreOffersJudged rows source.now)) }
         ensures refusal { IfErr result answers.IsOfStore }
         ensures looks { Looks collector_store AreFormed result (K.store self.old.keeper) (K.store self.new.keeper) }
         ensures ids { self.new.ids ≡ self.old.ids }
     {
-        open(&mut self.keeper)?;
-        Ok(offers_to(&mut self.keeper, self.alloc, source, host)?)
+        offers_in(&mut self.keeper, self.alloc, source, host)
     }
 
     /// How far a source was served for a subscription; also for one that has ended.
-    #[tactic(auto, using(wef_keeper::proofs::Calls::looks_by))]
     pub fn bookmark(&mut self, sub: &SubId, source: &SourceName) -> Result<Bookmark, CollectorFault>
         ensures known { IfSome (K.store self.new.keeper).rows (λ rows. OnOk result (answers.is_known (standings.standing rows sub.now) ≡ true)) }
         ensures ok { IfSome (K.store self.new.keeper).rows (λ rows. IfOk result (λ bookmark. bookmark ≡ bookmark_of rows sub.now source.now)) }
+        ensures judged { IfSome (K.store self.new.keeper).rows (λ rows. OnOk result (IsFormedAt (subscription_key sub.now) rows × AreAllFormed (bookmark_rows rows sub.now source.now))) }
         ensures refusal { IfErr result (λ fault. answers.RefusesUnknown fault (K.store self.new.keeper).rows sub.now) }
         ensures looks { Looks collector_store AreFormed result (K.store self.old.keeper) (K.store self.new.keeper) }
         ensures ids { self.new.ids ≡ self.old.ids }
     {
-        open(&mut self.keeper)?;
-        known_in(&mut self.keeper, sub)?;
-        Ok(bookmark_of(&mut self.keeper, sub, source)?)
+        bookmark_in(&mut self.keeper, sub, source)
     }
 
     /// The report of all that is kept.
-    #[tactic(auto, using(wef_keeper::proofs::Calls::looks_by))]
     pub fn report(&mut self) -> Result<Text, CollectorFault>
         ensures ok { IfSome (K.store self.new.keeper).rows (λ rows. IfOk result (λ text. text ≡ report rows)) }
+        ensures judged { IfSome (K.store self.new.keeper).rows (λ rows. OnOk result (is_report_formed rows ≡ true)) }
         ensures refusal { IfErr result answers.IsOfStore }
         ensures looks { Looks collector_store AreFormed result (K.store self.old.keeper) (K.store self.new.keeper) }
         ensures ids { self.new.ids ≡ self.old.ids }
     {
-        open(&mut self.keeper)?;
-        Ok(report(&mut self.keeper, self.alloc)?)
+        report_in(&mut self.keeper, self.alloc)
     }
-}
-
-/// Raises the boot number by one, and answers the ids that begin with it.
-fn raise_boot<K: Keeper>(keeper: &mut K, alloc: Global) -> Result<Ids, CollectorFault>
-    ensures call { IsCall collector_store AreFormed calls.boot_effect ids_begun result (K.store keeper.old) (K.store keeper.new) }
-    ensures listed { IfErr result calls.OfStart }
-{
-    open(keeper)?;
-    let starting = boot_changes(keeper, alloc)?;
-    commit(keeper, &starting.changes)?;
-    Ok(starting.ids)
 }
 
 impl Collector<MemKeeper> {

@@ -1,34 +1,40 @@
 //! What the collector's calls change, or why they are refused.
 
-ghost use Rattle.std.specs.Prelude.{◌≡◌, [], ◌∷◌, Ok, IfErr, IfOk, IfSome};
+ghost use Rattle.std.specs.Prelude.{◌≡◌, ◌≤◌, true, false, [], ◌∷◌, take, is_some, Some, Ok, IfErr, IfOk, IfSome, OnOk};
 ghost use Rattle.std.specs.FinMap as map;
+ghost use Rattle.wef_batch.specs.Numbers.{AreNumbered};
 ghost use Rattle.wef_eventing.specs.Kept.{read_kept};
 ghost use Rattle.wef_eventing.specs.Kept as kept;
-ghost use Rattle.wef_eventing.specs.Subscriptions.{IsAllEvents};
 ghost use Rattle.wef_keeper.specs.Access as access;
 ghost use Rattle.wef_keeper.specs.Calls.{Tells, TellsFault, fails};
+ghost use Rattle.wef_keeper.specs.Rows as the_rows;
 ghost use Rattle.wef_collector_rows.specs.Answers as answers;
-ghost use Rattle.wef_collector.specs.Boots.{boot_of, ids_begun};
-ghost use Rattle.wef_collector.specs.Calls as calls;
 ghost use Rattle.wef_collector_rows.specs.Faults.{collector_store};
-ghost use Rattle.wef_collector_rows.specs.Forms.{AreFormed};
+ghost use Rattle.wef_collector_rows.specs.Forms.{AreFormed, is_formed};
+ghost use Rattle.wef_collector_rows.specs.Judged.{AreAllFormed, IsFormedAt};
 ghost use Rattle.wef_collector_rows.specs.Keys as keys;
 ghost use Rattle.wef_collector_rows.specs.Standing as standings;
-ghost use Rattle.wef_collector.specs.Taken as taken;
 ghost use Rattle.wef_collector_rows.specs.declared.standings.Standing.TheVariants.{Live};
+ghost use Rattle.wef_collector.specs.Boots.{boot_of, ids_begun};
+ghost use Rattle.wef_collector.specs.Calls as calls;
+ghost use Rattle.wef_collector.specs.Judged as judged;
+ghost use Rattle.wef_collector.specs.Taken as taken;
 
-use crate::changes::batch_changes;
+use crate::changes::{batch_changes, push_put};
 use std::alloc::{AllocError, Global};
+use wef_base::moments::Moment;
 use wef_base::numbers::MAX;
-use wef_base::{List, SourceName, SubId, Text};
+use wef_base::{SourceName, SubId, Text};
 use wef_batch::{Batch, judge};
+use wef_collector_rows::CollectorForm;
 use wef_collector_rows::faults::CollectorFault;
 use wef_collector_rows::keys::{boot_key, subscription_key, subscriptions_start};
-use wef_collector_rows::reading::{formed_cell, formed_number, formed_page};
+use wef_collector_rows::numbers::number_at;
 use wef_collector_rows::standings::{live_in, subscription_cell};
-use wef_eventing::{Subscription, kept_words};
 use wef_ids::Ids;
-use wef_keeper::{Change, Depth, Keeper, Key, Row, StoreFault};
+use wef_eventing::{Subscription, kept_words, read_kept};
+use wef_keeper::forms::formed_page;
+use wef_keeper::{Cell, Changes, Depth, Keeper, Key, StoreFault};
 use wef_query::channels;
 
 /// The most subscriptions that are kept, ended ones counted.
@@ -39,10 +45,11 @@ pub fn add_changes<K: Keeper>(
     keeper: &mut K,
     alloc: Global,
     subscription: &Subscription,
-) -> Result<List<Change>, CollectorFault>
-    requires { access.IsReady (K.store keeper.old) }
+) -> Result<Changes<CollectorForm>, CollectorFault>
+    requires kept { read_kept subscription.now.name (kept.kept_words subscription.now) ≡ Some subscription.now }
+    requires ready { access.IsReady (K.store keeper.old) }
     ensures effect { IfSome (K.store keeper.new).rows (λ rows. Tells collector_store result (calls.add_effect rows subscription.now)) }
-    ensures reads_back { IfOk result (λ _. IsAllEvents subscription.now → read_kept subscription.now.name (kept.kept_words subscription.now) ≡ Some subscription.now) }
+    ensures judged { IfSome (K.store keeper.new).rows (λ rows. OnOk result (judged.IsAddJudged rows subscription.now.name)) }
     ensures listed { IfErr result calls.OfAdd }
     ensures reads { access.Reads AreFormed (fails collector_store result) (K.store keeper.old) (K.store keeper.new) }
 {
@@ -59,28 +66,50 @@ pub fn add_changes<K: Keeper>(
 fn is_there<K: Keeper>(keeper: &mut K, sub: &SubId) -> Result<bool, StoreFault>
     requires { access.IsReady (K.store keeper.old) }
     ensures there { IfSome (K.store keeper.new).rows (λ rows. IfOk result (λ there. there ≡ answers.is_there rows sub.now)) }
+    ensures judged { IfSome (K.store keeper.new).rows (λ rows. OnOk result (IsFormedAt (keys.subscription_key sub.now) rows)) }
     ensures reads { access.Reads AreFormed (access.fails result) (K.store keeper.old) (K.store keeper.new) }
 {
     Ok(subscription_cell(keeper, sub)?.is_some())
 }
 
 /// The change that puts a live subscription.
-fn put_live(alloc: Global, subscription: &Subscription) -> Result<List<Change>, AllocError>
-    ensures changes { IfOk result (λ changes. changes ≡ taken.put (keys.subscription_key subscription.now.name) 0 (kept.kept_words subscription.now) ∷ []) }
-    ensures reads_back { IfOk result (λ _. IsAllEvents subscription.now → read_kept subscription.now.name (kept.kept_words subscription.now) ≡ Some subscription.now) }
+fn put_live(
+    alloc: Global,
+    subscription: &Subscription,
+) -> Result<Changes<CollectorForm>, AllocError>
+    requires { read_kept subscription.now.name (kept.kept_words subscription.now) ≡ Some subscription.now }
+    ensures { IfOk result (λ changes. changes ≡ taken.put (keys.subscription_key subscription.now.name) 0 (kept.kept_words subscription.now) ∷ []) }
 {
-    let key = subscription_key(&subscription.name)?;
     let body = kept_words(subscription)?;
-    one_put(alloc, key, 0, body)
+    put_subscription(alloc, &subscription.name, 0, body)
+}
+
+/// The change that puts the row of a subscription.
+fn put_subscription(
+    alloc: Global,
+    sub: &SubId,
+    value: u64,
+    body: Text,
+) -> Result<Changes<CollectorForm>, AllocError>
+    requires value { value ≤ 1 }
+    requires kept { is_some (read_kept sub.now body) ≡ true }
+    ensures { IfOk result (λ changes. changes ≡ taken.put (keys.subscription_key sub.now) value body ∷ []) }
+{
+    // The text is asked for since it says that the name reads back.
+    let _text = sub.as_text();
+    let key = subscription_key(sub)?;
+    one_put(alloc, key, value, body)
 }
 
 fn is_full<K: Keeper>(keeper: &mut K, alloc: Global) -> Result<bool, StoreFault>
     requires { access.IsReady (K.store keeper.old) }
     ensures full { IfSome (K.store keeper.new).rows (λ rows. IfOk result (λ full. full ≡ standings.is_full rows)) }
+    ensures judged { IfSome (K.store keeper.new).rows (λ rows. OnOk result (AreAllFormed (take 256 (standings.subscription_rows rows)))) }
     ensures reads { access.Reads AreFormed (access.fails result) (K.store keeper.old) (K.store keeper.new) }
 {
     let start = subscriptions_start(alloc);
-    let page = formed_page(keeper, &start, Depth::Kind, MOST_SUBSCRIPTIONS)?;
+    let page =
+        formed_page::<CollectorForm, K>(keeper, &start, Depth::Kind, MOST_SUBSCRIPTIONS)?;
     Ok(page.len() == MOST_SUBSCRIPTIONS as usize)
 }
 
@@ -89,37 +118,37 @@ pub fn end_changes<K: Keeper>(
     keeper: &mut K,
     alloc: Global,
     sub: &SubId,
-) -> Result<List<Change>, CollectorFault>
+) -> Result<Changes<CollectorForm>, CollectorFault>
     requires { access.IsReady (K.store keeper.old) }
     ensures effect { IfSome (K.store keeper.new).rows (λ rows. Tells collector_store result (calls.end_effect rows sub.now)) }
+    ensures judged { IfSome (K.store keeper.new).rows (λ rows. OnOk result (judged.IsEndJudged rows sub.now)) }
     ensures listed { IfErr result calls.OfEnd }
     ensures reads { access.Reads AreFormed (fails collector_store result) (K.store keeper.old) (K.store keeper.new) }
 {
-    live_in(keeper, sub)?;
-    let key = subscription_key(sub)?;
-    Ok(put_ended(keeper, alloc, key)?)
+    let cell = subscription_cell(keeper, sub)?;
+    let body = live_words(sub, cell)?;
+    Ok(put_subscription(alloc, sub, 1, body)?)
 }
 
-/// The change that ends the subscription of a key. Its words stay.
-fn put_ended<K: Keeper>(keeper: &mut K, alloc: Global, key: Key) -> Result<List<Change>, StoreFault>
-    requires { access.IsReady (K.store keeper.old) }
-    ensures changes { IfSome (K.store keeper.new).rows (λ rows. IfOk result (λ changes. changes ≡ taken.put key 1 (standings.kept_body (map.get rows key)) ∷ [])) }
-    ensures reads { access.Reads AreFormed (access.fails result) (K.store keeper.old) (K.store keeper.new) }
+/// The words that keep a live subscription, by what stands at its key.
+fn live_words(sub: &SubId, cell: Option<Cell>) -> Result<Text, CollectorFault>
+    ensures words { IfOk result (λ words. words ≡ standings.kept_body cell) }
+    ensures kept { IfOk result (λ words. is_some (read_kept sub.now words) ≡ true) }
+    ensures live { OnOk result ((rows : the_rows.Rows) → calls.end_by (standings.standing_of sub.now cell) rows sub.now ≡ Ok (calls.ended rows sub.now)) }
+    ensures refusal { IfErr result (λ fault. (rows : the_rows.Rows) → TellsFault (collector_store fault) fault (calls.end_by (standings.standing_of sub.now cell) rows sub.now)) }
+    ensures listed { IfErr result calls.OfEnd }
+    ensures calm { fails collector_store result ≡ false }
 {
-    let body = body_of(keeper, alloc, &key)?;
-    Ok(one_put(alloc, key, 1, body)?)
-}
-
-/// The words that stand at a key.
-fn body_of<K: Keeper>(keeper: &mut K, alloc: Global, key: &Key) -> Result<Text, StoreFault>
-    requires { access.IsReady (K.store keeper.old) }
-    ensures body { IfSome (K.store keeper.new).rows (λ rows. IfOk result (λ body. body ≡ standings.kept_body (map.get rows key.now))) }
-    ensures reads { access.Reads AreFormed (access.fails result) (K.store keeper.old) (K.store keeper.new) }
-{
-    match formed_cell(keeper, key)? {
-        Some(cell) => Ok(cell.body),
-        None => Ok(Text::new(alloc)),
+    let Some(cell) = cell else {
+        return Err(CollectorFault::NoSubscription);
+    };
+    if read_kept(sub, &cell.body)?.is_none() {
+        return Err(CollectorFault::NoSubscription);
     }
+    if cell.value != 0 {
+        return Err(CollectorFault::Ended);
+    }
+    Ok(cell.body)
 }
 
 /// A batch that is well-formed for a live subscription's channels is taken.
@@ -129,10 +158,12 @@ pub fn take_changes<K: Keeper>(
     sub: &SubId,
     source: &SourceName,
     batch: &Batch,
-    now: u64,
-) -> Result<List<Change>, CollectorFault>
-    requires { access.IsReady (K.store keeper.old) }
+    now: Moment,
+) -> Result<Changes<CollectorForm>, CollectorFault>
+    requires numbered { AreNumbered batch.now.items }
+    requires ready { access.IsReady (K.store keeper.old) }
     ensures effect { IfSome (K.store keeper.new).rows (λ rows. Tells collector_store result (calls.take_effect rows sub.now source.now batch.now now)) }
+    ensures judged { IfSome (K.store keeper.new).rows (λ rows. OnOk result (judged.IsTakeJudged rows sub.now source.now batch.now)) }
     ensures listed { IfErr result calls.OfTake }
     ensures reads { access.Reads AreFormed (fails collector_store result) (K.store keeper.old) (K.store keeper.new) }
 {
@@ -148,10 +179,12 @@ fn live_changes<K: Keeper>(
     source: &SourceName,
     subscription: &Subscription,
     batch: &Batch,
-    now: u64,
-) -> Result<List<Change>, CollectorFault>
-    requires { access.IsReady (K.store keeper.old) }
+    now: Moment,
+) -> Result<Changes<CollectorForm>, CollectorFault>
+    requires numbered { AreNumbered batch.now.items }
+    requires ready { access.IsReady (K.store keeper.old) }
     ensures effect { IfSome (K.store keeper.new).rows (λ rows. Tells collector_store result (calls.take_by (Live subscription.now) rows sub.now source.now batch.now now)) }
+    ensures judged { IfSome (K.store keeper.new).rows (λ rows. OnOk result (judged.AreReachedFormed rows sub.now source.now batch.now (answers.channels_read subscription.now) × IsFormedAt (keys.heard_key sub.now source.now) rows)) }
     ensures listed { IfErr result calls.OfTake }
     ensures reads { access.Reads AreFormed (fails collector_store result) (K.store keeper.old) (K.store keeper.new) }
 {
@@ -159,13 +192,20 @@ fn live_changes<K: Keeper>(
     if !judge(batch, channels.as_slice()) {
         return Err(CollectorFault::NotWellFormed);
     }
-    Ok(batch_changes(keeper, sub, source, channels.as_slice(), batch, now)?)
+    Ok(batch_changes(
+        keeper,
+        sub,
+        source,
+        channels.as_slice(),
+        batch,
+        now,
+    )?)
 }
 
 /// What a start commits, and the ids that it begins with.
 #[derive(Drop)]
 pub struct Starting {
-    pub changes: List<Change>,
+    pub changes: Changes<CollectorForm>,
     pub ids: Ids,
 }
 
@@ -175,6 +215,7 @@ pub fn boot_changes<K: Keeper>(keeper: &mut K, alloc: Global) -> Result<Starting
     ensures effect { IfSome (K.store keeper.new).rows (λ rows. IfOk result (λ starting. calls.boot_effect rows ≡ Ok starting.changes)) }
     ensures ids { IfSome (K.store keeper.new).rows (λ rows. IfOk result (λ starting. starting.ids ≡ ids_begun rows)) }
     ensures refusal { IfSome (K.store keeper.new).rows (λ rows. IfErr result (λ fault. TellsFault (collector_store fault) fault (calls.boot_effect rows))) }
+    ensures judged { IfSome (K.store keeper.new).rows (λ rows. OnOk result (IsFormedAt keys.boot_key rows)) }
     ensures listed { IfErr result calls.OfStart }
     ensures reads { access.Reads AreFormed (fails collector_store result) (K.store keeper.old) (K.store keeper.new) }
 {
@@ -184,7 +225,7 @@ pub fn boot_changes<K: Keeper>(keeper: &mut K, alloc: Global) -> Result<Starting
     }
     let raised = boot + 1;
     Ok(Starting {
-        changes: one_put(alloc, boot_key(alloc), raised, Text::new(alloc))?,
+        changes: put_boot(alloc, raised)?,
         ids: Ids::of_boot(raised),
     })
 }
@@ -193,17 +234,34 @@ pub fn boot_changes<K: Keeper>(keeper: &mut K, alloc: Global) -> Result<Starting
 fn boot_in<K: Keeper>(keeper: &mut K, alloc: Global) -> Result<u64, StoreFault>
     requires { access.IsReady (K.store keeper.old) }
     ensures boot { IfSome (K.store keeper.new).rows (λ rows. IfOk result (λ boot. boot ≡ boot_of rows)) }
+    ensures judged { IfSome (K.store keeper.new).rows (λ rows. OnOk result (IsFormedAt keys.boot_key rows)) }
     ensures reads { access.Reads AreFormed (access.fails result) (K.store keeper.old) (K.store keeper.new) }
 {
     let key = boot_key(alloc);
-    formed_number(keeper, &key)
+    number_at(keeper, &key)
 }
 
-/// The list of one change, which puts a row.
-fn one_put(alloc: Global, key: Key, value: u64, body: Text) -> Result<List<Change>, AllocError>
+/// The change that puts the boot number.
+fn put_boot(alloc: Global, boot: u64) -> Result<Changes<CollectorForm>, AllocError>
+    requires { boot ≤ MAX }
+    ensures { IfOk result (λ changes. changes ≡ taken.put keys.boot_key boot [] ∷ []) }
+{
+    one_put(alloc, boot_key(alloc), boot, Text::new(alloc))
+}
+
+/// The list of one change, which puts a row of its form.
+fn one_put(
+    alloc: Global,
+    key: Key,
+    value: u64,
+    body: Text,
+) -> Result<Changes<CollectorForm>, AllocError>
+    requires number { key.number ≤ MAX }
+    requires value { value ≤ MAX }
+    requires form { is_formed (record { key = key; value = value; body = body }) ≡ true }
     ensures { IfOk result (λ changes. changes ≡ taken.put key value body ∷ []) }
 {
-    let mut changes = List::new(alloc);
-    changes.push(Change::Put(Row { key, value, body }))?;
+    let mut changes = Changes::new(alloc);
+    push_put(&mut changes, key, value, body)?;
     Ok(changes)
 }

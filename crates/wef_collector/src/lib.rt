@@ -6,6 +6,8 @@ mod collector;
 mod effects;
 pub mod laws;
 mod offering;
+mod reading;
+mod requests;
 
 pub use collector::Collector;
 pub use effects::MOST_SUBSCRIPTIONS;

@@ -1,10 +1,13 @@
 //! The offers to sources that ask for their subscriptions.
 
-ghost use Rattle.std.specs.Prelude.{◌≡◌, [], ◌∷◌, ◌++◌, IfOk, IfSome, OnOk};
+ghost use Rattle.std.specs.Prelude.{◌≡◌, [], ◌∷◌, ◌++◌, true, IfOk, IfSome, OnOk};
 ghost use Rattle.std.specs.Fmt.{decimal};
-ghost use Rattle.std.specs.List.{filter_map};
+ghost use Rattle.std.specs.List.{filter_map, list_all};
 ghost use Rattle.wef_keeper.specs.Access as access;
+ghost use Rattle.wef_collector_rows.specs.Bookmarks.{bookmark_rows};
 ghost use Rattle.wef_collector_rows.specs.Forms.{AreFormed};
+ghost use Rattle.wef_collector_rows.specs.Judged.{AreAllFormed};
+ghost use Rattle.wef_collector.specs.Judged as judged;
 ghost use Rattle.wef_collector.specs.Offers as spec;
 
 use std::alloc::{AllocError, Global};
@@ -25,6 +28,7 @@ pub fn offers_to<K: Keeper>(
 ) -> Result<List<Offer>, StoreFault>
     requires { access.IsReady (K.store keeper.old) }
     ensures offers { IfSome (K.store keeper.new).rows (λ rows. IfOk result (λ offers. offers ≡ spec.offers rows source.now host.now)) }
+    ensures judged { IfSome (K.store keeper.new).rows (λ rows. OnOk result (judged.AreOffersJudged rows source.now)) }
     ensures reads { access.Reads AreFormed (access.fails result) (K.store keeper.old) (K.store keeper.new) }
 {
     let subscriptions = list_subscriptions(keeper, alloc)?;
@@ -42,6 +46,7 @@ fn push_offers<K: Keeper>(
 ) -> Result<(), StoreFault>
     requires { access.IsReady (K.store keeper.old) }
     ensures offers { IfSome (K.store keeper.new).rows (λ rows. OnOk result (offers.new ≡ offers.old ++ filter_map (spec.offer_of rows source.now host.now) subscriptions.now)) }
+    ensures judged { IfSome (K.store keeper.new).rows (λ rows. OnOk result (list_all (judged.is_offer_formed rows source.now) subscriptions.now ≡ true)) }
     ensures reads { access.Reads AreFormed (access.fails result) (K.store keeper.old) (K.store keeper.new) }
 {
     for listed in subscriptions {
@@ -59,6 +64,7 @@ fn push_offer<K: Keeper>(
 ) -> Result<(), StoreFault>
     requires { access.IsReady (K.store keeper.old) }
     ensures offers { IfSome (K.store keeper.new).rows (λ rows. OnOk result (offers.new ≡ offers.old ++ filter_map (spec.offer_of rows source.now host.now) (listed.now ∷ []))) }
+    ensures judged { IfSome (K.store keeper.new).rows (λ rows. OnOk result (judged.is_offer_formed rows source.now listed.now ≡ true)) }
     ensures reads { access.Reads AreFormed (access.fails result) (K.store keeper.old) (K.store keeper.new) }
 {
     if !is_offered(listed) {
@@ -92,6 +98,7 @@ fn offer_made<K: Keeper>(
 ) -> Result<Offer, StoreFault>
     requires { access.IsReady (K.store keeper.old) }
     ensures offer { IfSome (K.store keeper.new).rows (λ rows. IfOk result (λ offer. offer ≡ spec.offer_made rows source.now host.now subscription.now)) }
+    ensures judged { IfSome (K.store keeper.new).rows (λ rows. OnOk result (AreAllFormed (bookmark_rows rows subscription.now.name source.now))) }
     ensures reads { access.Reads AreFormed (access.fails result) (K.store keeper.old) (K.store keeper.new) }
 {
     let from = bookmark_of(keeper, &subscription.name, source)?;

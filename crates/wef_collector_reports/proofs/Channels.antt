@@ -4,7 +4,7 @@ use Rattle.std.proofs.lemmas.Bool.{and_parts, eqb-true}
 use Rattle.std.proofs.lemmas.Bool.Decides.{nat_tests}
 use Rattle.std.specs.Cmp.{nat_cmp_total}
 use Rattle.std.specs.Cmp.Lexicographic.{bytes_decides, nat_list_cmp_total, pointwise, slice_cmp}
-use Rattle.std.specs.List.{AllByRecursion}
+use Rattle.std.specs.List.{AllByRecursion, list_all}
 use Rattle.std.specs.Ordering.{is_lt, nat_cmp, ordering_reverse, ordering_then}
 use Rattle.std.specs.declared.cmp.Ordering.{Ordering}
 use Rattle.std.specs.declared.cmp.Ordering.TheVariants.{Less, Equal, Greater}
@@ -82,3 +82,10 @@ last_is of page all = last_from of of page refl all
 pub last_row_number-push : (n : ℕ) (front : List Row) (row : Row) → last_row_number n (front ++ row ∷ []) ≡ row.key.number
 last_row_number-push n [] row = refl
 last_row_number-push n (first ∷ front) row = last_row_number-push first.key.number front row
+
+-- behind rows that all pass, the rest passes where all do
+pub rest_passes : (passes : Row → Bool) (front rest : List Row) → list_all passes front ≡ true → list_all passes rest ≡ list_all passes (front ++ rest)
+rest_passes passes [] rest all = refl
+rest_passes passes (row ∷ front) rest all =
+    let both = and_parts (passes row) (list_all passes front) all in
+    rest_passes passes front rest both.1 ∙ ap (λ (t : Bool). t && list_all passes (front ++ rest)) (sym both.0)

@@ -5,14 +5,17 @@ use Rattle.std.proofs.lemmas.List.{take-map, map-append}
 use Rattle.std.proofs.lemmas.List.Elements.{All-head, All-tail, All-take, filter_passes}
 use Rattle.std.specs.Cmp.Lexicographic.{bytes_decides, pointwise}
 use Rattle.std.specs.List.{All, AllByRecursion, list_all}
+use Rattle.std.specs.Prelude.{Option, Some, None, IfSome, OnOk, Result, Ok, Err}
 use Rattle.wef_keeper.specs.Access.{IsBehind}
 use Rattle.wef_keeper.specs.Rows.{Rows, rows_after}
 use Rattle.wef_keeper.specs.Sections.{is_under, last_key, rows_under}
+use Rattle.wef_keeper.specs.declared.access.StoreFault.{StoreFault}
 use Rattle.wef_keeper.specs.declared.keys.Depth.TheVariants.{Channel}
 use Rattle.wef_keeper.specs.declared.keys.Key.{Key}
 use Rattle.wef_keeper.specs.declared.keys.Row.{Row}
 use Rattle.wef_collector_rows.specs.Forms.{is_formed, is_held_row}
 use Rattle.wef_collector_rows.specs.Held.{event_of_row, held_rows, held_after, last_number, own_event}
+use Rattle.wef_collector_rows.specs.Judged.{AreAllFormed}
 use Rattle.wef_collector_rows.specs.Keys.{held_key}
 
 -- a key under that of a channel's held events is the one of its own number
@@ -81,3 +84,13 @@ is_rest m rows u s c after start page begins is splits =
     ap (λ (k : Key). map (event_of_row c) (rows_under Channel k rows)) (sym begins) ∙ ap (map (event_of_row c)) splits
     ∙ map-append (event_of_row c) page (rows_under Channel (last_key start page) rows)
     ∙ ap (λ (k : Key). map (event_of_row c) page ++ map (event_of_row c) (rows_under Channel k rows)) last
+
+-- and its rows are of their form, where each is a held row of its form
+pub page_judged : {A : Type 0} (result : Result A StoreFault) (told : Option Rows) (m : ℕ) (u s c : List ℕ) (after : ℕ) (start : Key) (page : List Row) → start ≡ held_key u s c after
+    → AllByRecursion (IsBehind Channel start) page → OnOk result (list_all is_held_row page ≡ true) → IfSome told (λ rows. page ≡ take m (rows_under Channel start rows))
+    → IfSome told (λ rows. OnOk result (AreAllFormed (take m (held_rows rows u s c after))))
+page_judged result None m u s c after start page begins behind held is = tt
+page_judged (Ok answer) (Some rows) m u s c after start page begins behind held is =
+    let same : page ≡ take m (held_rows rows u s c after) = is ∙ ap (λ (k : Key). take m (rows_under Channel k rows)) begins in
+    sym (ap (list_all is_formed) same) ∙ sym (held_as_formed u s c after start page begins behind) ∙ held
+page_judged (Err fault) (Some rows) m u s c after start page begins behind held is = tt

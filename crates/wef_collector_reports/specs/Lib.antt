@@ -1,3 +1,4 @@
+pub mod Judged
 pub mod Listing
 pub mod Report
 pub mod Runs

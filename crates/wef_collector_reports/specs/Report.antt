@@ -13,13 +13,14 @@ use Rattle.std.specs.Fmt.{decimal}
 use Rattle.std.specs.List.{flat_map}
 use Rattle.wef_base.specs.Printed.{printed}
 use Rattle.wef_query.specs.Order.{in_order}
-use Rattle.wef_keeper.specs.declared.keys.Depth.TheVariants.{Sub}
+use Rattle.wef_keeper.specs.declared.keys.Depth.TheVariants.{Channel, Sub}
+use Rattle.wef_keeper.specs.declared.keys.Key.{Key}
 use Rattle.wef_keeper.specs.declared.keys.Row.{Row}
 use Rattle.wef_keeper.specs.Rows.{Rows}
 use Rattle.wef_keeper.specs.Sections.{rows_under}
 use Rattle.wef_collector_rows.specs.Bookmarks.{bookmark_rows}
-use Rattle.wef_collector_rows.specs.Held.{held_rows, mark_rows, loose_rows}
-use Rattle.wef_collector_rows.specs.Keys.{bookmark_key, heard_key}
+use Rattle.wef_collector_rows.specs.Held.{loose_rows}
+use Rattle.wef_collector_rows.specs.Keys.{bookmark_key, heard_key, held_key, mark_key}
 use Rattle.wef_collector_reports.specs.Runs.{runs_of, runs_text}
 use Rattle.wef_collector_rows.specs.Standing.{subscription_rows}
 use Rattle.wef_collector_reports.specs.declared.reporting.Spans.{Spans}
@@ -36,16 +37,23 @@ abbrev pub last_row_number : ℕ → List Row → ℕ
 last_row_number after [] = after
 last_row_number after (row ∷ rows) = last_row_number row.key.number rows
 
+-- the key in front of them in a channel
+abbrev pub start_of : Spans → List ℕ → List ℕ → List ℕ → Key
+start_of HeldSpans u s c = held_key u s c 0
+start_of MarkSpans u s c = mark_key u s c 0
+
+unfoldable pub label_of : Spans → List ℕ
+label_of HeldSpans = codes "   held"
+label_of MarkSpans = codes "   dropped"
+
 -- a line of runs, unless there is none
 abbrev pub labelled : List ℕ → List ℕ → List ℕ
 labelled label [] = []
 labelled label (b ∷ bs) = label ++ (b ∷ bs) ++ 10 ∷ []
 
-unfoldable pub held_line : Rows → List ℕ → List ℕ → List ℕ → List ℕ
-held_line rows u s c = labelled (codes "   held") (runs_text (runs_of (map (span_of HeldSpans) (held_rows rows u s c 0))))
-
-unfoldable pub dropped_line : Rows → List ℕ → List ℕ → List ℕ → List ℕ
-dropped_line rows u s c = labelled (codes "   dropped") (runs_text (runs_of (map (span_of MarkSpans) (mark_rows rows u s c))))
+-- the runs of what is held of a channel, or of its marks
+abbrev pub runs_line : Spans → Rows → List ℕ → List ℕ → List ℕ → List ℕ
+runs_line spans rows u s c = labelled (label_of spans) (runs_text (runs_of (map (span_of spans) (rows_under Channel (start_of spans u s c) rows))))
 
 unfoldable pub loose_line : Row → List ℕ
 loose_line row = codes "   loose " ++ decimal row.key.number ++ 45 ∷ decimal row.value ++ 32 ∷ row.body ++ 10 ∷ []
@@ -55,16 +63,24 @@ channel_line c b = codes "  channel " ++ printed c ++ codes " bookmark " ++ deci
 
 abbrev pub channel_report : Rows → List ℕ → List ℕ → Row → List ℕ
 channel_report rows u s row =
-    channel_line row.key.channel row.value ++ held_line rows u s row.key.channel ++ dropped_line rows u s row.key.channel
+    channel_line row.key.channel row.value ++ runs_line HeldSpans rows u s row.key.channel ++ runs_line MarkSpans rows u s row.key.channel
     ++ flat_map loose_line (loose_rows rows u s row.key.channel)
 
 -- the sources of rows, each once, in the order of names
 abbrev pub sources_in : List Row → List Row → List (List ℕ)
 sources_in served heard = in_order (map (λ (row : Row). row.key.source) served ++ map (λ (row : Row). row.key.source) heard)
 
+-- the bookmark rows of a subscription
+abbrev pub served_rows : Rows → List ℕ → List Row
+served_rows rows u = rows_under Sub (bookmark_key u [] []) rows
+
+-- the rows that say when its sources were heard
+abbrev pub heard_rows : Rows → List ℕ → List Row
+heard_rows rows u = rows_under Sub (heard_key u []) rows
+
 -- the sources of a subscription that have a bookmark or were heard
 abbrev pub sources_of : Rows → List ℕ → List (List ℕ)
-sources_of rows u = sources_in (rows_under Sub (bookmark_key u [] []) rows) (rows_under Sub (heard_key u []) rows)
+sources_of rows u = sources_in (served_rows rows u) (heard_rows rows u)
 
 unfoldable pub source_line : List ℕ → List ℕ
 source_line s = codes " source " ++ printed s ++ 10 ∷ []

@@ -5,6 +5,7 @@ ghost use Rattle.std.specs.List.{list_all};
 ghost use Rattle.wef_keeper.specs.Access as access;
 ghost use Rattle.wef_collector_rows.specs.Forms.{AreFormed, is_held_row};
 ghost use Rattle.wef_collector_rows.specs.Held as spec;
+ghost use Rattle.wef_collector_rows.specs.Judged.{AreAllFormed};
 
 use std::alloc::Global;
 use wef_base::{ChannelName, List, SourceName, SubId};
@@ -29,6 +30,7 @@ pub fn held_page<K: Keeper>(
     ensures page { IfSome (K.store keeper.new).rows (λ rows. IfOk result (λ page. page ≡ take max (spec.held_after rows sub.now source.now channel.now after))) }
     ensures rest { IfSome (K.store keeper.new).rows (λ rows. IfOk result (λ page. spec.held_after rows sub.now source.now channel.now after
         ≡ page ++ spec.held_after rows sub.now source.now channel.now (spec.last_number after page))) }
+    ensures judged { IfSome (K.store keeper.new).rows (λ rows. OnOk result (AreAllFormed (take max (spec.held_rows rows sub.now source.now channel.now after)))) }
     ensures reads { access.Reads AreFormed (access.fails result) (K.store keeper.old) (K.store keeper.new) }
 {
     let start = held_key(sub.as_text(), source.as_text(), channel.as_text(), after)?;

@@ -5,13 +5,15 @@ ghost use Rattle.std.specs.List.{filter_map};
 ghost use Rattle.wef_keeper.specs.Access as access;
 ghost use Rattle.wef_collector_rows.specs.Forms.{AreFormed};
 ghost use Rattle.wef_collector_reports.specs.Listing as spec;
+ghost use Rattle.wef_collector_rows.specs.Judged.{AreAllFormed};
 ghost use Rattle.wef_collector_rows.specs.Standing as standings;
 
 use std::alloc::{AllocError, Global};
 use wef_base::{List, SubId, ValueFault};
+use wef_collector_rows::CollectorForm;
 use wef_collector_rows::keys::subscriptions_start;
-use wef_collector_rows::reading::formed_section;
 use wef_eventing::{Subscription, read_kept};
+use wef_keeper::forms::formed_section;
 use wef_keeper::{Depth, Keeper, Row, StoreFault};
 
 /// A subscription that is kept.
@@ -29,6 +31,7 @@ pub fn list_subscriptions<K: Keeper>(
 ) -> Result<List<Listed>, StoreFault>
     requires { access.IsReady (K.store keeper.old) }
     ensures list { IfSome (K.store keeper.new).rows (λ rows. IfOk result (λ list. list ≡ spec.listed rows)) }
+    ensures judged { IfSome (K.store keeper.new).rows (λ rows. OnOk result (AreAllFormed (standings.subscription_rows rows))) }
     ensures reads { access.Reads AreFormed (access.fails result) (K.store keeper.old) (K.store keeper.new) }
 {
     let subscriptions = subscription_rows(keeper, alloc)?;
@@ -39,10 +42,11 @@ pub fn list_subscriptions<K: Keeper>(
 pub fn subscription_rows<K: Keeper>(keeper: &mut K, alloc: Global) -> Result<List<Row>, StoreFault>
     requires { access.IsReady (K.store keeper.old) }
     ensures rows { IfSome (K.store keeper.new).rows (λ rows. IfOk result (λ found. found ≡ standings.subscription_rows rows)) }
+    ensures judged { IfSome (K.store keeper.new).rows (λ rows. OnOk result (AreAllFormed (standings.subscription_rows rows))) }
     ensures reads { access.Reads AreFormed (access.fails result) (K.store keeper.old) (K.store keeper.new) }
 {
     let start = subscriptions_start(alloc);
-    formed_section(keeper, &start, Depth::Kind)
+    formed_section::<CollectorForm, K>(keeper, &start, Depth::Kind)
 }
 
 fn listed_in(alloc: Global, rows: &[Row]) -> Result<List<Listed>, AllocError>

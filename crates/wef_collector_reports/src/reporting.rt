@@ -1,14 +1,15 @@
 //! The report of all that is kept, as text.
 
-ghost use Rattle.std.specs.Prelude.{◌≡◌, [], ◌++◌, List, map, IfOk, IfSome, OnOk};
-ghost use Rattle.std.specs.List.{flat_map};
+ghost use Rattle.std.specs.Prelude.{◌≡◌, [], ◌++◌, true, List, map, IfOk, IfSome, OnOk};
+ghost use Rattle.std.specs.List.{flat_map, list_all};
 ghost use Rattle.wef_keeper.specs.Access as access;
 ghost use Rattle.wef_keeper.specs.Sections.{rows_under};
 ghost use Rattle.wef_query.specs.Order.{with_names};
 ghost use Rattle.wef_collector_rows.specs.Forms.{AreFormed};
 ghost use Rattle.wef_collector_rows.specs.Held as held;
-ghost use Rattle.wef_collector_rows.specs.Keys as keys;
+ghost use Rattle.wef_collector_rows.specs.Judged.{AreAllFormed};
 ghost use Rattle.wef_collector_reports.specs.Runs.{runs_from, runs_of, runs_text};
+ghost use Rattle.wef_collector_reports.specs.Judged as judged;
 ghost use Rattle.wef_collector_reports.specs.Report as spec;
 ghost use Rattle.wef_keeper.specs.declared.keys.Row as the_row;
 
@@ -17,12 +18,13 @@ use crate::runs::{RunWriter, Span};
 use std::alloc::{AllocError, Global};
 use std::collections::BTreeSet;
 use wef_base::{List, Text};
+use wef_collector_rows::CollectorForm;
 use wef_collector_rows::bookmarks::bookmark_rows;
 use wef_collector_rows::keys::{
     all_bookmarks_start, all_heard_start, held_key, loose_key, mark_key,
 };
-use wef_collector_rows::reading::{formed_page, formed_section};
 use wef_keeper::access::PAGE;
+use wef_keeper::forms::{formed_page, formed_section};
 use wef_keeper::{Depth, Keeper, Key, Row, StoreFault};
 
 /// The report of the rows.
@@ -30,6 +32,7 @@ use wef_keeper::{Depth, Keeper, Key, Row, StoreFault};
 pub fn report<K: Keeper>(keeper: &mut K, alloc: Global) -> Result<Text, StoreFault>
     requires { access.IsReady (K.store keeper.old) }
     ensures text { IfSome (K.store keeper.new).rows (λ rows. IfOk result (λ text. text ≡ spec.report rows)) }
+    ensures judged { IfSome (K.store keeper.new).rows (λ rows. OnOk result (judged.is_report_formed rows ≡ true)) }
     ensures reads { access.Reads AreFormed (access.fails result) (K.store keeper.old) (K.store keeper.new) }
 {
     let subscriptions = subscription_rows(keeper, alloc)?;
@@ -46,6 +49,7 @@ fn push_subscriptions<K: Keeper>(
 ) -> Result<(), StoreFault>
     requires { access.IsReady (K.store keeper.old) }
     ensures text { IfSome (K.store keeper.new).rows (λ rows. OnOk result (text.new ≡ text.old ++ flat_map (spec.subscription_report rows) subscriptions.now)) }
+    ensures judged { IfSome (K.store keeper.new).rows (λ rows. OnOk result (list_all (judged.is_subscription_formed rows) subscriptions.now ≡ true)) }
     ensures reads { access.Reads AreFormed (access.fails result) (K.store keeper.old) (K.store keeper.new) }
 {
     for row in subscriptions {
@@ -61,6 +65,7 @@ fn push_subscription<K: Keeper>(
 ) -> Result<(), StoreFault>
     requires { access.IsReady (K.store keeper.old) }
     ensures text { IfSome (K.store keeper.new).rows (λ rows. OnOk result (text.new ≡ text.old ++ spec.subscription_report rows row.now)) }
+    ensures judged { IfSome (K.store keeper.new).rows (λ rows. OnOk result (judged.is_subscription_formed rows row.now ≡ true)) }
     ensures reads { access.Reads AreFormed (access.fails result) (K.store keeper.old) (K.store keeper.new) }
 {
     push_subscription_line(text, &row.key.sub, row.value)?;
@@ -76,6 +81,7 @@ fn push_sources<K: Keeper>(
 ) -> Result<(), StoreFault>
     requires { access.IsReady (K.store keeper.old) }
     ensures text { IfSome (K.store keeper.new).rows (λ rows. OnOk result (text.new ≡ text.old ++ flat_map (spec.source_report rows sub.now) sources.now)) }
+    ensures judged { IfSome (K.store keeper.new).rows (λ rows. OnOk result (list_all (judged.is_source_formed rows sub.now) sources.now ≡ true)) }
     ensures reads { access.Reads AreFormed (access.fails result) (K.store keeper.old) (K.store keeper.new) }
 {
     for source in sources {
@@ -111,6 +117,7 @@ fn push_state(text: &mut Text, value: u64) -> Result<(), AllocError>
 fn sources_of<K: Keeper>(keeper: &mut K, sub: &Text) -> Result<List<Text>, StoreFault>
     requires { access.IsReady (K.store keeper.old) }
     ensures sources { IfSome (K.store keeper.new).rows (λ rows. IfOk result (λ sources. sources ≡ spec.sources_of rows sub.now)) }
+    ensures judged { IfSome (K.store keeper.new).rows (λ rows. OnOk result (AreAllFormed (spec.served_rows rows sub.now) × AreAllFormed (spec.heard_rows rows sub.now))) }
     ensures reads { access.Reads AreFormed (access.fails result) (K.store keeper.old) (K.store keeper.new) }
 {
     let served = served_rows(keeper, sub)?;
@@ -121,21 +128,23 @@ fn sources_of<K: Keeper>(keeper: &mut K, sub: &Text) -> Result<List<Text>, Store
 /// The bookmark rows of a subscription.
 fn served_rows<K: Keeper>(keeper: &mut K, sub: &Text) -> Result<List<Row>, StoreFault>
     requires { access.IsReady (K.store keeper.old) }
-    ensures rows { IfSome (K.store keeper.new).rows (λ rows. IfOk result (λ served. served ≡ rows_under Depth.Sub (keys.bookmark_key sub.now [] []) rows)) }
+    ensures rows { IfSome (K.store keeper.new).rows (λ rows. IfOk result (λ served. served ≡ spec.served_rows rows sub.now)) }
+    ensures judged { IfSome (K.store keeper.new).rows (λ rows. OnOk result (AreAllFormed (spec.served_rows rows sub.now))) }
     ensures reads { access.Reads AreFormed (access.fails result) (K.store keeper.old) (K.store keeper.new) }
 {
     let start = all_bookmarks_start(sub)?;
-    formed_section(keeper, &start, Depth::Sub)
+    formed_section::<CollectorForm, K>(keeper, &start, Depth::Sub)
 }
 
 /// The rows of a subscription that say when its sources were heard.
 fn heard_rows<K: Keeper>(keeper: &mut K, sub: &Text) -> Result<List<Row>, StoreFault>
     requires { access.IsReady (K.store keeper.old) }
-    ensures rows { IfSome (K.store keeper.new).rows (λ rows. IfOk result (λ heard. heard ≡ rows_under Depth.Sub (keys.heard_key sub.now []) rows)) }
+    ensures rows { IfSome (K.store keeper.new).rows (λ rows. IfOk result (λ heard. heard ≡ spec.heard_rows rows sub.now)) }
+    ensures judged { IfSome (K.store keeper.new).rows (λ rows. OnOk result (AreAllFormed (spec.heard_rows rows sub.now))) }
     ensures reads { access.Reads AreFormed (access.fails result) (K.store keeper.old) (K.store keeper.new) }
 {
     let start = all_heard_start(sub)?;
-    formed_section(keeper, &start, Depth::Sub)
+    formed_section::<CollectorForm, K>(keeper, &start, Depth::Sub)
 }
 
 /// The sources of rows, each once, in order.
@@ -166,6 +175,7 @@ fn push_source<K: Keeper>(
 ) -> Result<(), StoreFault>
     requires { access.IsReady (K.store keeper.old) }
     ensures text { IfSome (K.store keeper.new).rows (λ rows. OnOk result (text.new ≡ text.old ++ spec.source_report rows sub.now source.now)) }
+    ensures judged { IfSome (K.store keeper.new).rows (λ rows. OnOk result (judged.is_source_formed rows sub.now source.now ≡ true)) }
     ensures reads { access.Reads AreFormed (access.fails result) (K.store keeper.old) (K.store keeper.new) }
 {
     push_source_line(text, source)?;
@@ -182,6 +192,7 @@ fn push_channels<K: Keeper>(
 ) -> Result<(), StoreFault>
     requires { access.IsReady (K.store keeper.old) }
     ensures text { IfSome (K.store keeper.new).rows (λ rows. OnOk result (text.new ≡ text.old ++ flat_map (spec.channel_report rows sub.now source.now) channels.now)) }
+    ensures judged { IfSome (K.store keeper.new).rows (λ rows. OnOk result (list_all (judged.is_channel_formed rows sub.now source.now) channels.now ≡ true)) }
     ensures reads { access.Reads AreFormed (access.fails result) (K.store keeper.old) (K.store keeper.new) }
 {
     for row in channels {
@@ -209,12 +220,13 @@ fn push_channel<K: Keeper>(
 ) -> Result<(), StoreFault>
     requires { access.IsReady (K.store keeper.old) }
     ensures text { IfSome (K.store keeper.new).rows (λ rows. OnOk result (text.new ≡ text.old ++ spec.channel_report rows sub.now source.now row.now)) }
+    ensures judged { IfSome (K.store keeper.new).rows (λ rows. OnOk result (judged.is_channel_formed rows sub.now source.now row.now ≡ true)) }
     ensures reads { access.Reads AreFormed (access.fails result) (K.store keeper.old) (K.store keeper.new) }
 {
     let channel = &row.key.channel;
     push_channel_line(text, channel, row.value)?;
-    push_held(text, keeper, sub, source, channel)?;
-    push_dropped(text, keeper, sub, source, channel)?;
+    push_runs(text, keeper, sub, source, channel, Spans::Held)?;
+    push_runs(text, keeper, sub, source, channel, Spans::Marks)?;
     push_loose(text, keeper, sub, source, channel)
 }
 
@@ -230,37 +242,23 @@ fn push_channel_line(text: &mut Text, channel: &Text, bookmark: u64) -> Result<(
     Ok(())
 }
 
-#[tactic(auto, unfolding(crate::specs::Report::held_line))]
-fn push_held<K: Keeper>(
+/// The line of the runs of what is held of a channel, or of its marks. None where there is no row.
+fn push_runs<K: Keeper>(
     text: &mut Text,
     keeper: &mut K,
     sub: &Text,
     source: &Text,
     channel: &Text,
+    spans: Spans,
 ) -> Result<(), StoreFault>
     requires { access.IsReady (K.store keeper.old) }
-    ensures text { IfSome (K.store keeper.new).rows (λ rows. OnOk result (text.new ≡ text.old ++ spec.held_line rows sub.now source.now channel.now)) }
+    ensures text { IfSome (K.store keeper.new).rows (λ rows. OnOk result (text.new ≡ text.old ++ spec.runs_line spans rows sub.now source.now channel.now)) }
+    ensures judged { IfSome (K.store keeper.new).rows (λ rows. OnOk result (AreAllFormed (rows_under Depth.Channel (spec.start_of spans sub.now source.now channel.now) rows))) }
     ensures reads { access.Reads AreFormed (access.fails result) (K.store keeper.old) (K.store keeper.new) }
 {
-    let runs = runs_behind(keeper, held_key(sub, source, channel, 0)?, Spans::Held)?;
-    push_labelled(text, "   held", &runs)?;
-    Ok(())
-}
-
-#[tactic(auto, unfolding(crate::specs::Report::dropped_line))]
-fn push_dropped<K: Keeper>(
-    text: &mut Text,
-    keeper: &mut K,
-    sub: &Text,
-    source: &Text,
-    channel: &Text,
-) -> Result<(), StoreFault>
-    requires { access.IsReady (K.store keeper.old) }
-    ensures text { IfSome (K.store keeper.new).rows (λ rows. OnOk result (text.new ≡ text.old ++ spec.dropped_line rows sub.now source.now channel.now)) }
-    ensures reads { access.Reads AreFormed (access.fails result) (K.store keeper.old) (K.store keeper.new) }
-{
-    let runs = runs_behind(keeper, mark_key(sub, source, channel, 0)?, Spans::Marks)?;
-    push_labelled(text, "   dropped", &runs)?;
+    let start = spans.start(sub, source, channel)?;
+    let runs = runs_behind(keeper, start, spans)?;
+    push_labelled(text, spans.label(), &runs)?;
     Ok(())
 }
 
@@ -284,6 +282,7 @@ fn push_loose<K: Keeper>(
 ) -> Result<(), StoreFault>
     requires { access.IsReady (K.store keeper.old) }
     ensures text { IfSome (K.store keeper.new).rows (λ rows. OnOk result (text.new ≡ text.old ++ flat_map spec.loose_line (held.loose_rows rows sub.now source.now channel.now))) }
+    ensures judged { IfSome (K.store keeper.new).rows (λ rows. OnOk result (AreAllFormed (held.loose_rows rows sub.now source.now channel.now))) }
     ensures reads { access.Reads AreFormed (access.fails result) (K.store keeper.old) (K.store keeper.new) }
 {
     let loose = loose_rows(keeper, sub, source, channel)?;
@@ -299,10 +298,11 @@ fn loose_rows<K: Keeper>(
 ) -> Result<List<Row>, StoreFault>
     requires { access.IsReady (K.store keeper.old) }
     ensures rows { IfSome (K.store keeper.new).rows (λ rows. IfOk result (λ loose. loose ≡ held.loose_rows rows sub.now source.now channel.now)) }
+    ensures judged { IfSome (K.store keeper.new).rows (λ rows. OnOk result (AreAllFormed (held.loose_rows rows sub.now source.now channel.now))) }
     ensures reads { access.Reads AreFormed (access.fails result) (K.store keeper.old) (K.store keeper.new) }
 {
     let start = loose_key(sub, source, channel, 0)?;
-    formed_section(keeper, &start, Depth::Channel)
+    formed_section::<CollectorForm, K>(keeper, &start, Depth::Channel)
 }
 
 fn push_loose_lines(text: &mut Text, rows: &[Row]) -> Result<(), AllocError>
@@ -338,6 +338,26 @@ pub enum Spans {
 }
 
 impl Spans {
+    /// The key in front of them in a channel.
+    fn start(self, sub: &Text, source: &Text, channel: &Text) -> Result<Key, AllocError>
+        ensures { IfOk result (λ key. key ≡ spec.start_of self sub.now source.now channel.now) }
+    {
+        match self {
+            Spans::Held => held_key(sub, source, channel, 0),
+            Spans::Marks => mark_key(sub, source, channel, 0),
+        }
+    }
+
+    #[tactic(auto, unfolding(crate::specs::Report::label_of))]
+    fn label(self) -> &'static str
+        ensures { result.now ≡ spec.label_of self }
+    {
+        match self {
+            Spans::Held => "   held",
+            Spans::Marks => "   dropped",
+        }
+    }
+
     fn of(self, row: &Row) -> Span
         ensures { result ≡ spec.span_of self row.now }
     {
@@ -358,6 +378,7 @@ impl Spans {
 fn runs_behind<K: Keeper>(keeper: &mut K, after: Key, spans: Spans) -> Result<Text, StoreFault>
     requires { access.IsReady (K.store keeper.old) }
     ensures text { IfSome (K.store keeper.new).rows (λ rows. IfOk result (λ text. text ≡ runs_text (runs_of (map (spec.span_of spans) (rows_under Depth.Channel after rows))))) }
+    ensures judged { IfSome (K.store keeper.new).rows (λ rows. OnOk result (AreAllFormed (rows_under Depth.Channel after rows))) }
     ensures reads { access.Reads AreFormed (access.fails result) (K.store keeper.old) (K.store keeper.new) }
 {
     let mut writer = RunWriter::new(after.sub.alloc());
@@ -376,10 +397,11 @@ fn add_behind<K: Keeper>(
     requires { access.IsReady (K.store keeper.old) }
     ensures text { IfSome (K.store keeper.new).rows (λ rows. OnOk result (writer.new.text ++ runs_text (runs_from writer.new.running [])
         ≡ writer.old.text ++ runs_text (runs_from writer.old.running (map (spec.span_of spans) (rows_under Depth.Channel after.old rows))))) }
+    ensures judged { IfSome (K.store keeper.new).rows (λ rows. OnOk result (AreAllFormed (rows_under Depth.Channel after.old rows))) }
     ensures reads { access.Reads AreFormed (access.fails result) (K.store keeper.old) (K.store keeper.new) }
 {
     loop {
-        let page = formed_page(keeper, after, Depth::Channel, PAGE)?;
+        let page = formed_page::<CollectorForm, K>(keeper, after, Depth::Channel, PAGE)?;
         add_page(writer, page.as_slice(), spans)?;
         let is_last = page.len() < PAGE as usize;
         if is_last {

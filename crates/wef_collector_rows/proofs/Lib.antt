@@ -1,1 +1,1 @@
-pub mod Forming
+pub mod BookmarkRows

@@ -1,20 +1,19 @@
 -- The kept bookmark of a subscription and a source.
-use Rattle.std.specs.Prelude.{ℕ, Bool, false, List, [], ◌∷◌, Option, Some, None, unwrap_or}
+use Rattle.std.specs.Prelude.{ℕ, Bool, false, List, [], ◌∷◌, Option, Some, None}
 use Rattle.std.specs.FinMap as map
 use Rattle.std.specs.List.{filter}
-use Rattle.std.specs.Option.{option_map}
 use Rattle.wef_base.specs.Names.{channel_name, same}
 use Rattle.wef_bookmark.specs.Order.{Marks, raised}
-use Rattle.wef_keeper.specs.declared.keys.Cell.{Cell}
 use Rattle.wef_keeper.specs.declared.keys.Depth.TheVariants.{Source}
 use Rattle.wef_keeper.specs.declared.keys.Row.{Row}
 use Rattle.wef_keeper.specs.Rows.{Rows}
 use Rattle.wef_keeper.specs.Sections.{rows_under}
 use Rattle.wef_collector_rows.specs.Keys.{bookmark_key}
+use Rattle.wef_collector_rows.specs.Numbers.{number_at}
 
 -- how far a source's channel was served: 0 where nothing is kept
 abbrev pub bookmark_at : Rows → List ℕ → List ℕ → List ℕ → ℕ
-bookmark_at rows u s c = unwrap_or (option_map (λ (cell : Cell). cell.value) (map.get rows (bookmark_key u s c))) 0
+bookmark_at rows u s c = number_at rows (bookmark_key u s c)
 
 -- the bookmark rows of a subscription and a source, by channel
 abbrev pub bookmark_rows : Rows → List ℕ → List ℕ → List Row

@@ -2,6 +2,7 @@
 use Rattle.std.specs.Prelude.{◌≡◌, ℕ, ◌==◌, nat_le, Bool, true, false, ◌&&◌, List, length, Option, Some, None, is_some, if◌then◌else◌}
 use Rattle.wef_base.specs.Names.{channel_name, source_name, subscription_name}
 use Rattle.wef_base.specs.Numbers.{plain_number}
+use Rattle.wef_base.specs.declared.moments.TheConstants.{LAST_MOMENT}
 use Rattle.wef_base.specs.declared.numbers.TheConstants.{MAX}
 use Rattle.wef_event.specs.Events.{is_event}
 use Rattle.wef_eventing.specs.Kept.{read_kept}
@@ -10,7 +11,6 @@ use Rattle.wef_keeper.specs.Rows.{Rows}
 use Rattle.wef_keeper.specs.declared.keys.Key.{Key}
 use Rattle.wef_keeper.specs.declared.keys.Row.{Row}
 use Rattle.wef_collector_rows.specs.Bookmarks.{is_one}
-use Rattle.wef_collector_rows.specs.declared.forms.TheConstants.{LAST_MOMENT}
 use Rattle.wef_collector_rows.specs.declared.keys.TheConstants.{BOOKMARK, BOOT, HEARD, HELD, LOOSE, MARK, SUBSCRIPTION}
 
 abbrev pub is_empty : List ℕ → Bool
@@ -94,5 +94,5 @@ is_formed row =
     if row.key.kind == BOOT then is_boot_row row else true
 
 -- each row that stands is of its form
-unfoldable pub AreFormed : Rows → Type 0
+abbrev pub AreFormed : Rows → Type 0
 AreFormed rows = ArePassed is_formed rows

@@ -3,5 +3,7 @@ pub mod Bookmarks
 pub mod Faults
 pub mod Forms
 pub mod Held
+pub mod Judged
 pub mod Keys
+pub mod Numbers
 pub mod Standing

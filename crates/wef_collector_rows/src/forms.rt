@@ -1,31 +1,30 @@
 //! The form of the collector's rows, by their kind.
 
-ghost use Rattle.std.specs.Prelude.{◌≡◌, is_some, IfOk, IfSome};
-ghost use Rattle.std.specs.List.{list_all};
+ghost use Rattle.std.specs.Prelude.{◌≡◌, ◌≤◌, true, is_some, IfOk, IfSome};
+ghost use Rattle.wef_collector_rows.specs.Bookmarks.{has_channel};
 ghost use Rattle.wef_collector_rows.specs.Forms as spec;
 ghost use Rattle.wef_collector_rows.specs.Held.{own_event};
 
 use crate::keys::{BOOKMARK, BOOT, HEARD, HELD, LOOSE, MARK, SUBSCRIPTION};
 use std::alloc::AllocError;
+use wef_base::moments::LAST_MOMENT;
 use wef_base::numbers::{MAX, read_plain_number};
 use wef_base::{ChannelName, SourceName, SubId, Text, ValueFault};
 use wef_event::Event;
 use wef_eventing::read_kept;
-use wef_keeper::{Key, Row};
+use wef_keeper::{Form, Key, Row};
 
-/// The greatest moment: the last millisecond of the year 9999.
-pub const LAST_MOMENT: u64 = 253_402_300_799_999;
+/// The form of the collector's rows.
+pub struct CollectorForm;
 
-/// Whether all rows are of the form of their kinds.
-pub fn are_formed(rows: &[Row]) -> Result<bool, AllocError>
-    ensures { IfOk result (λ all. all ≡ list_all spec.is_formed rows.now) }
-{
-    for row in rows {
-        if !is_formed(row)? {
-            return Ok(false);
-        }
+impl Form for CollectorForm {
+    ghost use Rattle.wef_collector_rows.specs.Forms.{is_formed as passes_form};
+
+    ghost passes = { passes_form };
+
+    fn is_formed(row: &Row) -> Result<bool, AllocError> {
+        is_formed(row)
     }
-    Ok(true)
 }
 
 /// Whether a row is of the form of its kind. Rows of other kinds aren't the collector's.
@@ -61,14 +60,30 @@ fn is_subscription(row: &Row) -> Result<bool, AllocError>
     Ok(read_kept(&name, &row.body)?.is_some())
 }
 
-#[tactic(auto, unfolding(crate::specs::Forms::is_bookmark_row))]
 fn is_bookmark(row: &Row) -> Result<bool, AllocError>
     ensures { IfOk result (λ formed. formed ≡ spec.is_bookmark_row row.now) }
 {
-    if !names_channel(&row.key)? {
-        return Ok(false);
+    Ok(bookmark_channel(row)?.is_some())
+}
+
+/// The channel of the row of a bookmark. None where the row isn't of its form.
+#[tactic(auto, unfolding(crate::specs::Forms::is_bookmark_row))]
+pub fn bookmark_channel(row: &Row) -> Result<Option<ChannelName>, AllocError>
+    ensures some { IfOk result (λ found. is_some found ≡ spec.is_bookmark_row row.now) }
+    ensures value { IfOk result (λ found. IfSome found (λ channel. channel ≡ row.now.key.channel)) }
+    ensures named { IfOk result (λ found. IfSome found (λ _. has_channel row.now ≡ true)) }
+    ensures bound { IfOk result (λ found. IfSome found (λ _. row.now.value ≤ MAX)) }
+{
+    if !names_source(&row.key)? {
+        return Ok(None);
     }
-    Ok(row.key.number == 0 && row.value <= MAX && row.body.is_empty())
+    let Some(channel) = channel_named(&row.key.channel)? else {
+        return Ok(None);
+    };
+    if row.key.number != 0 || row.value > MAX || !row.body.is_empty() {
+        return Ok(None);
+    }
+    Ok(Some(channel))
 }
 
 fn is_held(row: &Row) -> Result<bool, AllocError>

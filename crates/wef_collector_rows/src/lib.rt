@@ -6,8 +6,9 @@ pub mod bookmarks;
 pub mod faults;
 pub mod forms;
 pub mod keys;
-pub mod reading;
+pub mod numbers;
 pub mod standings;
 
 pub use faults::CollectorFault;
+pub use forms::CollectorForm;
 pub use standings::Standing;

@@ -7,15 +7,17 @@ ghost use Rattle.wef_keeper.specs.Calls.{fails};
 ghost use Rattle.wef_collector_rows.specs.Answers as answers;
 ghost use Rattle.wef_collector_rows.specs.Faults.{collector_store};
 ghost use Rattle.wef_collector_rows.specs.Forms.{AreFormed};
+ghost use Rattle.wef_collector_rows.specs.Judged.{IsFormedAt};
 ghost use Rattle.wef_collector_rows.specs.Keys.{subscription_key};
 ghost use Rattle.wef_collector_rows.specs.Standing as spec;
 
 use crate::faults::CollectorFault;
+use crate::forms::CollectorForm;
 use crate::keys::subscription_key;
-use crate::reading::formed_cell;
 use std::alloc::AllocError;
 use wef_base::SubId;
 use wef_eventing::{Subscription, read_kept};
+use wef_keeper::forms::formed_cell;
 use wef_keeper::{Cell, Keeper, StoreFault};
 
 /// What the collector knows of a subscription's name.
@@ -32,6 +34,7 @@ pub enum Standing {
 pub fn live_in<K: Keeper>(keeper: &mut K, sub: &SubId) -> Result<Subscription, CollectorFault>
     requires { access.IsReady (K.store keeper.old) }
     ensures ok { IfSome (K.store keeper.new).rows (λ rows. IfOk result (λ subscription. spec.standing rows sub.now ≡ Standing.Live subscription)) }
+    ensures judged { IfSome (K.store keeper.new).rows (λ rows. OnOk result (IsFormedAt (subscription_key sub.now) rows)) }
     ensures refusal { IfErr result (λ fault. answers.RefusesName fault (K.store keeper.new).rows sub.now) }
     ensures reads { access.Reads AreFormed (fails collector_store result) (K.store keeper.old) (K.store keeper.new) }
 {
@@ -46,6 +49,7 @@ pub fn live_in<K: Keeper>(keeper: &mut K, sub: &SubId) -> Result<Subscription, C
 pub fn known_in<K: Keeper>(keeper: &mut K, sub: &SubId) -> Result<(), CollectorFault>
     requires { access.IsReady (K.store keeper.old) }
     ensures ok { IfSome (K.store keeper.new).rows (λ rows. OnOk result (answers.is_known (spec.standing rows sub.now) ≡ true)) }
+    ensures judged { IfSome (K.store keeper.new).rows (λ rows. OnOk result (IsFormedAt (subscription_key sub.now) rows)) }
     ensures refusal { IfErr result (λ fault. answers.RefusesUnknown fault (K.store keeper.new).rows sub.now) }
     ensures reads { access.Reads AreFormed (fails collector_store result) (K.store keeper.old) (K.store keeper.new) }
 {
@@ -60,6 +64,7 @@ pub fn known_in<K: Keeper>(keeper: &mut K, sub: &SubId) -> Result<(), CollectorF
 pub fn standing_in<K: Keeper>(keeper: &mut K, sub: &SubId) -> Result<Standing, StoreFault>
     requires { access.IsReady (K.store keeper.old) }
     ensures standing { IfSome (K.store keeper.new).rows (λ rows. IfOk result (λ s. s ≡ spec.standing rows sub.now)) }
+    ensures judged { IfSome (K.store keeper.new).rows (λ rows. OnOk result (IsFormedAt (subscription_key sub.now) rows)) }
     ensures reads { access.Reads AreFormed (access.fails result) (K.store keeper.old) (K.store keeper.new) }
 {
     let cell = subscription_cell(keeper, sub)?;
@@ -70,10 +75,11 @@ pub fn standing_in<K: Keeper>(keeper: &mut K, sub: &SubId) -> Result<Standing, S
 pub fn subscription_cell<K: Keeper>(keeper: &mut K, sub: &SubId) -> Result<Option<Cell>, StoreFault>
     requires { access.IsReady (K.store keeper.old) }
     ensures cell { IfSome (K.store keeper.new).rows (λ rows. IfOk result (λ cell. cell ≡ map.get rows (subscription_key sub.now))) }
+    ensures judged { IfSome (K.store keeper.new).rows (λ rows. OnOk result (IsFormedAt (subscription_key sub.now) rows)) }
     ensures reads { access.Reads AreFormed (access.fails result) (K.store keeper.old) (K.store keeper.new) }
 {
     let key = subscription_key(sub)?;
-    formed_cell(keeper, &key)
+    formed_cell::<CollectorForm, K>(keeper, &key)
 }
 
 fn standing_of(sub: &SubId, cell: Option<Cell>) -> Result<Standing, AllocError>

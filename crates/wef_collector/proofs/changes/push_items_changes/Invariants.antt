@@ -1,9 +1,13 @@
 use Rattle.std.proofs.Common.{◌≡◌, ◌++◌, drop}
-use Rattle.std.specs.List.{flat_map}
+use Rattle.std.specs.List.{AllByRecursion, flat_map}
+use Rattle.wef_collector.specs.Keepable.{IsKeepable}
 use Rattle.wef_collector.specs.Taken.{item_changes}
 use Rattle.wef_collector.proofs.changes.push_items_changes.Given as goal
 
 abbrev pub invariant-loop-item : goal.invariant-loop-item
 invariant-loop-item l =
     let changes_of = item_changes l.sub l.source l.channel l.bookmark in
-    l.changes ++ flat_map changes_of (drop l.item-index l.items) ≡ l.fn.changes ++ flat_map changes_of l.items
+    record {
+      changes : l.changes ++ flat_map changes_of (drop l.item-index l.items) ≡ l.fn.changes ++ flat_map changes_of l.items;
+      keepable : AllByRecursion (IsKeepable l.channel) (drop l.item-index l.items);
+    }

@@ -4,12 +4,12 @@ use Rattle.wef_keeper.specs.Access.{fails}
 use Rattle.wef_keeper.specs.Sections.{last_key, rows_under}
 use Rattle.wef_keeper.specs.declared.keys.Depth.TheVariants.{Channel}
 use Rattle.wef_keeper.proofs.ReadsOf.{may_be_ill}
-use Rattle.wef_collector_rows.specs.Forms.{AreFormed}
+use Rattle.wef_collector_rows.specs.Forms.{AreFormed, is_formed}
 use Rattle.wef_keeper.proofs.Told.{told_ok}
 use Rattle.wef_collector_rows.specs.Held.{held_after, last_number, own_event}
 use Rattle.wef_collector_rows.specs.Keys.{held_key}
-use Rattle.wef_collector_rows.proofs.Forming.{no_page}
-use Rattle.wef_collector_reports.proofs.HeldPages.{held_as_formed, is_page, is_rest, own_events}
+use Rattle.wef_keeper.proofs.Forming.{no_page}
+use Rattle.wef_collector_reports.proofs.HeldPages.{held_as_formed, is_page, is_rest, own_events, page_judged}
 use Rattle.wef_collector_reports.proofs.held.held_page.Goals as goal
 
 pub returns-clause-reads : goal.returns-clause-reads
@@ -22,7 +22,7 @@ returns-clause-reads g c =
     let now = g.K.Keeper.store c.section_page.new.keeper in
     let items = c.as_slice.ensures in
     may_be_ill AreFormed (fails c.events_of.result) (g.K.Keeper.store c.args.keeper.now) now c.in_ok-page.ensures.reads
-    (λ failed. no_page now.rows c.args.max Channel start page (sym as_formed ∙ rw items at (c.events_of.ensures.failed failed)) c.in_ok-page.ensures.page)
+    (λ failed. no_page is_formed now.rows c.args.max Channel start page (sym as_formed ∙ rw items at (c.events_of.ensures.failed failed)) c.in_ok-page.ensures.page)
 
 pub returns-clause-page : goal.returns-clause-page
 returns-clause-page g c =
@@ -53,3 +53,10 @@ returns-clause-rest g c =
     (λ rows (events : List Event). held_after rows u s channel c.args.after ≡ events ++ held_after rows u s channel (last_number c.args.after events))
     (rw c.as_slice.ensures at c.events_of.ensures.value) c.in_ok-page.ensures.page c.in_ok-page.ensures.rest
     (λ rows events are is splits. rw (are ∙ own) (is_rest c.args.max rows u s channel c.args.after start page begins is splits))
+
+pub returns-clause-judged : goal.returns-clause-judged
+returns-clause-judged g c =
+    let begins : c.in_ok-start.start ≡ held_key c.args.sub.now c.args.source.now c.args.channel.now c.args.after = c.in_ok-start.ensures ∙ (λ i. held_key (c.as_text.ensures.value i) (c.as_text-2.ensures.value i) (c.as_text-3.ensures.value i) c.args.after) in
+    let held = rw c.as_slice.ensures at c.events_of.ensures.formed in
+    page_judged c.events_of.result (g.K.Keeper.store c.section_page.new.keeper).rows c.args.max c.args.sub.now c.args.source.now c.args.channel.now c.args.after c.in_ok-start.start c.in_ok-page.page
+    begins c.in_ok-page.ensures.behind held c.in_ok-page.ensures.page

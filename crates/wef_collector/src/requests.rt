@@ -1,0 +1,95 @@
+//! The calls that change what is kept: each opens the store, reads, and makes at most one commit.
+
+ghost use Rattle.std.specs.Prelude.{IfErr, IfOk, IfSome, OnOk, Ok, Err};
+ghost use Rattle.wef_keeper.specs.Access as access;
+ghost use Rattle.wef_keeper.specs.Calls.{IsCall, Tells, fails};
+ghost use Rattle.wef_collector_rows.specs.Faults.{collector_store};
+ghost use Rattle.wef_collector_rows.specs.Forms.{AreFormed};
+ghost use Rattle.wef_collector_rows.specs.Judged.{IsFormedAt};
+ghost use Rattle.wef_collector_rows.specs.Keys.{boot_key};
+ghost use Rattle.wef_collector.specs.Boots.{ids_begun};
+ghost use Rattle.wef_collector.specs.Calls as calls;
+ghost use Rattle.wef_collector.specs.Requests as spec;
+
+use crate::effects::{add_changes, boot_changes, end_changes, take_changes};
+use std::alloc::Global;
+use wef_base::moments::Moment;
+use wef_base::{SourceName, SubId};
+use wef_batch::Batch;
+use wef_collector_rows::CollectorForm;
+use wef_collector_rows::faults::CollectorFault;
+use wef_ids::Ids;
+use wef_eventing::Subscription;
+use wef_keeper::access::{commit, open};
+use wef_keeper::{Changes, Keeper};
+
+/// What the collector is asked to change.
+#[derive(Clone, Copy)]
+pub enum Request<'a> {
+    /// A subscription is added.
+    Add(&'a Subscription),
+    /// A subscription ends.
+    End(&'a SubId),
+    /// A batch of a source for a subscription is taken at a moment.
+    Take {
+        sub: &'a SubId,
+        source: &'a SourceName,
+        batch: &'a Batch,
+        now: Moment,
+    },
+}
+
+/// Does what is asked, in one commit.
+pub fn answer<K: Keeper>(
+    keeper: &mut K,
+    alloc: Global,
+    request: Request,
+) -> Result<(), CollectorFault>
+    requires { spec.IsAllowed request }
+    ensures call { IsCall collector_store AreFormed (spec.effect_of request.entry) (λ _. tt) result (K.store keeper.old) (K.store keeper.new) }
+    ensures judged { access.From (K.store keeper.old) (K.store keeper.new) (λ found after. OnOk result (spec.IsJudged request.entry found)) }
+    ensures stands { IfSome (K.store keeper.new).rows (λ rows. OnOk result (spec.Stands request.entry rows)) }
+    ensures listed { IfErr result (spec.IsRefusal request.entry) }
+{
+    open(keeper)?;
+    let changes = changes_of(keeper, alloc, request)?;
+    commit(keeper, &changes)?;
+    Ok(())
+}
+
+/// What a request changes.
+fn changes_of<K: Keeper>(
+    keeper: &mut K,
+    alloc: Global,
+    request: Request,
+) -> Result<Changes<CollectorForm>, CollectorFault>
+    requires allowed { spec.IsAllowed request }
+    requires ready { access.IsReady (K.store keeper.old) }
+    ensures effect { IfSome (K.store keeper.new).rows (λ rows. Tells collector_store result (spec.effect_of request.entry rows)) }
+    ensures judged { IfSome (K.store keeper.new).rows (λ rows. OnOk result (spec.IsJudged request.entry rows)) }
+    ensures listed { IfErr result (spec.IsRefusal request.entry) }
+    ensures reads { access.Reads AreFormed (fails collector_store result) (K.store keeper.old) (K.store keeper.new) }
+{
+    match request {
+        Request::Add(subscription) => add_changes(keeper, alloc, subscription),
+        Request::End(sub) => end_changes(keeper, alloc, sub),
+        Request::Take {
+            sub,
+            source,
+            batch,
+            now,
+        } => take_changes(keeper, alloc, sub, source, batch, now),
+    }
+}
+
+/// Raises the boot number by one, and answers the ids that begin with it.
+pub fn raise_boot<K: Keeper>(keeper: &mut K, alloc: Global) -> Result<Ids, CollectorFault>
+    ensures call { IsCall collector_store AreFormed calls.boot_effect ids_begun result (K.store keeper.old) (K.store keeper.new) }
+    ensures judged { access.From (K.store keeper.old) (K.store keeper.new) (λ found after. OnOk result (IsFormedAt boot_key found)) }
+    ensures listed { IfErr result calls.OfStart }
+{
+    open(keeper)?;
+    let starting = boot_changes(keeper, alloc)?;
+    commit(keeper, &starting.changes)?;
+    Ok(starting.ids)
+}
