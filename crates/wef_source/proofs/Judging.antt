@@ -29,7 +29,6 @@ use Rattle.wef_source.specs.Judged.{AreRead, AreReadIn, AreSound, JudgesBatch, J
 use Rattle.wef_source.specs.declared.drafting.Draft.{Draft}
 use Rattle.wef_source.specs.declared.sessions.Session.{Session}
 use Rattle.wef_source.proofs.Drafts.{first_of as first_left, left_taken, reaches_by_first, taken_none}
-use Rattle.wef_source.proofs.Told.{if_told, told_since}
 
 -- ---- the item that is left is one of those that were offered
 

@@ -1,5 +1,5 @@
 -- Items with numbers such as records have.
-use Rattle.std.proofs.Common.{◌≡◌, List, [], ◌∷◌, ◌++◌}
+use Rattle.std.proofs.Common.{List, [], ◌∷◌, ◌++◌}
 use Rattle.wef_batch.specs.Numbers.{AreNumbered, IsNumbered}
 use Rattle.wef_batch.specs.declared.items.Item.{Item}
 

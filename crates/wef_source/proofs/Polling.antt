@@ -1,6 +1,6 @@
 -- A poll of the session of a name.
 use Rattle.std.proofs.Common.{◌≡◌, ℕ, zero, suc, drop, ◌+◌, ◌<◌, cond, true, false, List, [], ◌∷◌, get_or, length, set, refl, ap, sym, subst, ◌∙◌, Some, None}
-use Rattle.std.specs.Prelude.{Option, Ok, Err, is_none, is_some, nat_lt}
+use Rattle.std.specs.Prelude.{Option, Ok, Err, IfSome, is_none, is_some, nat_lt}
 use Rattle.std.specs.FinMap as map
 use Rattle.std.proofs.lemmas.List.Elements.{All-set}
 use Rattle.wef_bookmark.specs.Order.{Marks, number_at, raised}
@@ -27,12 +27,14 @@ use Rattle.wef_base.specs.Names.{same}
 use Rattle.std.specs.Cmp.Lexicographic.{nat_list_eq_equiv}
 use Rattle.wef_source.proofs.Covering.{either, either_true, raised_only, read_covered, sending_covered}
 use Rattle.wef_source.proofs.InOrder.{changed_in_order, sending_name}
+use Rattle.wef_source.proofs.Told.{if_told}
 
 pub polls_nothing : (rows : Rows) (end : End) (u : List ℕ) (now : ℕ) (s : Session) → session_of end.sessions u ≡ Some s → Prepares rows end s None → Polls rows end end u now Nothing
 polls_nothing rows end u now s found idle = subst (λ o. PollsIn rows end end o now Nothing) (sym found) (idle, refl)
 
-pub polls_judged : (rows : Rows) (end : End) (u : List ℕ) (s : Session) → session_of end.sessions u ≡ Some s → (is_some s.outstanding ≡ false → JudgesBatch rows s) → JudgesPoll rows end u
-polls_judged rows end u s found judged = subst (λ o. WhereThere o (λ session. is_some session.outstanding ≡ false → JudgesBatch rows session)) (sym found) judged
+pub polls_judged : (told : Option Rows) (end : End) (u : List ℕ) (s : Session) → session_of end.sessions u ≡ Some s → IfSome told (λ rows. is_some s.outstanding ≡ false → JudgesBatch rows s) → IfSome told (λ rows. JudgesPoll rows end u)
+polls_judged told end u s found = if_told (λ (rows : Rows). is_some s.outstanding ≡ false → JudgesBatch rows s) (λ (rows : Rows). JudgesPoll rows end u) told
+    (λ rows judged. subst (λ o. WhereThere o (λ session. is_some session.outstanding ≡ false → JudgesBatch rows session)) (sym found) judged)
 
 pub refuses_poll : (rows : Rows) (end : End) (u : List ℕ) (s : Session) (fault : SourceFault) → session_of end.sessions u ≡ Some s → RefusesToPrepare rows end s fault → RefusesPoll fault rows end u
 refuses_poll rows end u s NoMemory found h = tt

@@ -1,5 +1,5 @@
-use Rattle.std.proofs.Common.{◌≡◌, ◌+◌, ◌<◌, ◌∙◌, ap, arith, sym, subst, set, Some, None, false}
-use Rattle.std.specs.Prelude.{Err, is_some}
+use Rattle.std.proofs.Common.{◌≡◌, ◌+◌, ◌<◌, ◌∙◌, ap, arith, sym, subst, set, Some, None}
+use Rattle.std.specs.Prelude.{Err}
 use Rattle.std.specs.List.{position}
 use Rattle.std.specs.Cmp.Lexicographic.{same_text}
 use Rattle.std.proofs.lemmas.Result.{err_from_is_err_and}
@@ -8,7 +8,6 @@ use Rattle.wef_keeper.specs.Rows.{Rows}
 use Rattle.wef_source_log.specs.Forms.{AreFormed}
 use Rattle.wef_source.specs.Answers.{Polls, RefusesPoll}
 use Rattle.wef_source.specs.Faults.{source_store}
-use Rattle.wef_source.specs.Judged.{JudgesBatch, JudgesPoll}
 use Rattle.wef_source.specs.Machine.{End, is_spent, most_drawn}
 use Rattle.wef_source.specs.Prepared.{MayDraw, Prepares, RefusesToPrepare}
 use Rattle.wef_source.specs.Serving.{HasAll}
@@ -177,18 +176,12 @@ returns-clause-untouched g c =
 
 pub returns-in_default-2-clause-judged : goal.returns-in_default-2-clause-judged
 returns-in_default-2-clause-judged g c =
-    let u = c.args.sub.now in
-    let s = c.index.result.now in
-    let at : position (is_named u) c.self.inside.sessions.items ≡ Some c.in-Some.place = cc in
-    let found = ap (λ (e : End). session_of e.sessions u) (sym c.self.view_is) ∙ first_at (is_named u) c.self.inside.sessions.items c.in-Some.place s at c.index.ensures in
-    if_told (λ (rows : Rows). is_some s.outstanding ≡ false → JudgesBatch rows s) (λ (rows : Rows). JudgesPoll rows c.args.self.now u) (g.K.Keeper.store c.prepared.new.log.keeper).rows
-    (λ rows judged. polls_judged rows c.args.self.now u s found judged) c.in_ok-delivery.ensures.judged
+    let at : position (is_named c.args.sub.now) c.self.inside.sessions.items ≡ Some c.in-Some.place = cc in
+    let found = first_at (is_named c.args.sub.now) c.self.inside.sessions.items c.in-Some.place c.index.result.now at c.index.ensures in
+    polls_judged (g.K.Keeper.store c.prepared.new.log.keeper).rows c.args.self.now c.args.sub.now c.index.result.now (ap (λ (e : End). session_of e.sessions c.args.sub.now) (sym c.self.view_is) ∙ found) c.in_ok-delivery.ensures.judged
 
 pub returns-clause-judged : goal.returns-clause-judged
 returns-clause-judged g c =
-    let u = c.args.sub.now in
-    let s = c.index.result.now in
-    let at : position (is_named u) c.self.inside.sessions.items ≡ Some c.in-Some.place = cc in
-    let found = ap (λ (e : End). session_of e.sessions u) (sym c.self.view_is) ∙ first_at (is_named u) c.self.inside.sessions.items c.in-Some.place s at c.index.ensures in
-    if_told (λ (rows : Rows). is_some s.outstanding ≡ false → JudgesBatch rows s) (λ (rows : Rows). JudgesPoll rows c.args.self.now u) (g.K.Keeper.store c.prepared.new.log.keeper).rows
-    (λ rows judged. polls_judged rows c.args.self.now u s found judged) c.in_ok-delivery.ensures.judged
+    let at : position (is_named c.args.sub.now) c.self.inside.sessions.items ≡ Some c.in-Some.place = cc in
+    let found = first_at (is_named c.args.sub.now) c.self.inside.sessions.items c.in-Some.place c.index.result.now at c.index.ensures in
+    polls_judged (g.K.Keeper.store c.prepared.new.log.keeper).rows c.args.self.now c.args.sub.now c.index.result.now (ap (λ (e : End). session_of e.sessions c.args.sub.now) (sym c.self.view_is) ∙ found) c.in_ok-delivery.ensures.judged
