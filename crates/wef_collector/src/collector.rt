@@ -119,7 +119,7 @@ impl<K: Keeper> Collector<K> {
         ensures ids { self.new.ids ≡ self.old.ids }
         ensures live { OnOk result (IfSome (K.store self.new.keeper).rows (λ rows. standings.standing rows subscription.now.name ≡ Live subscription.now)) }
     {
-        answer(&mut self.keeper, self.alloc, Request::Add(subscription))
+        answer(&mut self.keeper, self.alloc, &Request::Add(subscription))
     }
 
     /// Ends a subscription. What was kept for it stays.
@@ -129,7 +129,7 @@ impl<K: Keeper> Collector<K> {
         ensures listed { IfErr result calls.OfEnd }
         ensures ids { self.new.ids ≡ self.old.ids }
     {
-        answer(&mut self.keeper, self.alloc, Request::End(sub))
+        answer(&mut self.keeper, self.alloc, &Request::End(sub))
     }
 
     /// Takes a batch of a source for a subscription: holds the events above the bookmark, keeps
@@ -154,7 +154,7 @@ impl<K: Keeper> Collector<K> {
             batch,
             now,
         };
-        answer(&mut self.keeper, self.alloc, request)
+        answer(&mut self.keeper, self.alloc, &request)
     }
 
     /// A live subscription.

@@ -43,13 +43,13 @@ pub enum Request<'a> {
 pub fn answer<K: Keeper>(
     keeper: &mut K,
     alloc: Global,
-    request: Request,
+    request: &Request,
 ) -> Result<(), CollectorFault>
-    requires { spec.IsAllowed request }
-    ensures call { IsCall collector_store AreFormed (spec.effect_of request.entry) (λ _. tt) result (K.store keeper.old) (K.store keeper.new) }
-    ensures judged { access.From (K.store keeper.old) (K.store keeper.new) (λ found after. OnOk result (spec.IsJudged request.entry found)) }
-    ensures stands { IfSome (K.store keeper.new).rows (λ rows. OnOk result (spec.Stands request.entry rows)) }
-    ensures listed { IfErr result (spec.IsRefusal request.entry) }
+    requires { spec.IsAllowed request.now }
+    ensures call { IsCall collector_store AreFormed (spec.effect_of request.now) (λ _. tt) result (K.store keeper.old) (K.store keeper.new) }
+    ensures judged { access.From (K.store keeper.old) (K.store keeper.new) (λ found after. OnOk result (spec.IsJudged request.now found)) }
+    ensures stands { IfSome (K.store keeper.new).rows (λ rows. OnOk result (spec.Stands request.now rows)) }
+    ensures listed { IfErr result (spec.IsRefusal request.now) }
 {
     open(keeper)?;
     let changes = changes_of(keeper, alloc, request)?;
@@ -61,13 +61,13 @@ pub fn answer<K: Keeper>(
 fn changes_of<K: Keeper>(
     keeper: &mut K,
     alloc: Global,
-    request: Request,
+    request: &Request,
 ) -> Result<Changes<CollectorForm>, CollectorFault>
-    requires allowed { spec.IsAllowed request }
+    requires allowed { spec.IsAllowed request.now }
     requires ready { access.IsReady (K.store keeper.old) }
-    ensures effect { IfSome (K.store keeper.new).rows (λ rows. Tells collector_store result (spec.effect_of request.entry rows)) }
-    ensures judged { IfSome (K.store keeper.new).rows (λ rows. OnOk result (spec.IsJudged request.entry rows)) }
-    ensures listed { IfErr result (spec.IsRefusal request.entry) }
+    ensures effect { IfSome (K.store keeper.new).rows (λ rows. Tells collector_store result (spec.effect_of request.now rows)) }
+    ensures judged { IfSome (K.store keeper.new).rows (λ rows. OnOk result (spec.IsJudged request.now rows)) }
+    ensures listed { IfErr result (spec.IsRefusal request.now) }
     ensures reads { access.Reads AreFormed (fails collector_store result) (K.store keeper.old) (K.store keeper.new) }
 {
     match request {
@@ -78,7 +78,7 @@ fn changes_of<K: Keeper>(
             source,
             batch,
             now,
-        } => take_changes(keeper, alloc, sub, source, batch, now),
+        } => take_changes(keeper, alloc, sub, source, batch, *now),
     }
 }
 
