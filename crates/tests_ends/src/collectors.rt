@@ -1,36 +1,46 @@
 //! Offers, by example, boot numbers, and a store that fails at each of its calls.
 
-use crate::failing::FailingKeeper;
+ghost use Rattle.std.specs.Prelude.{◌<◌, length, IfOk};
+ghost use Rattle.wef_batch.specs.Numbers.{AreNumbered};
+ghost use Rattle.wef_eventing.specs.Subscriptions.{IsAllEvents};
+
+use crate::failing::{FailingKeeper, FailsAt};
+use crate::rows::keep;
 use std::alloc::{AllocError, Global};
 use std::test::Fail;
 use wef_base::numbers::MAX;
-use wef_base::{ChannelName, List, SourceName, SubId, Text, ValueFault, is_xml_text};
+use wef_base::{ChannelName, List, Moment, SourceName, SubId, Text, ValueFault, is_xml_text};
 use wef_batch::{Batch, Item};
 use wef_bookmark::Bookmark;
 use wef_collector::{Collector, CollectorFault};
 use wef_event::{Event, plain_event};
-use wef_eventing::{Offer, Subscription};
-use wef_keeper::{Change, Keeper, Key, MemKeeper, Row};
+use wef_eventing::{Offer, Subscription, kept_words};
+use wef_keeper::{Keeper, KeeperFault, Key, MemKeeper, Row};
 
-fn channel(alloc: Global) -> Result<ChannelName, Fail> {
+pub(crate) fn channel(alloc: Global) -> Result<ChannelName, Fail> {
     Ok(ChannelName::read(&Text::from_str(alloc, "security")?)?)
 }
 
-fn source(alloc: Global) -> Result<SourceName, Fail> {
+pub(crate) fn source(alloc: Global) -> Result<SourceName, Fail> {
     Ok(SourceName::read(&Text::from_str(alloc, "host-1")?)?)
 }
 
-fn id(alloc: Global, name: &str) -> Result<SubId, Fail> {
+pub(crate) fn id(alloc: Global, name: &str) -> Result<SubId, Fail> {
     Ok(SubId::read(&Text::from_str(alloc, name)?)?)
 }
 
-fn subscription(alloc: Global, name: &str) -> Result<Subscription, Fail> {
+/// A subscription to all events of the channel.
+pub(crate) fn subscription(alloc: Global, name: &str) -> Result<Subscription, Fail>
+    ensures { IfOk result IsAllEvents }
+{
     let name = id(alloc, name)?;
     let channels = channels(alloc)?;
     Ok(Subscription::all_events(name, channels, 20, 512_000, 900_000)?)
 }
 
-fn channels(alloc: Global) -> Result<List<ChannelName>, Fail> {
+fn channels(alloc: Global) -> Result<List<ChannelName>, Fail>
+    ensures { IfOk result (λ channels. 0 < length channels) }
+{
     let mut channels = List::new(alloc);
     channels.push(channel(alloc)?)?;
     Ok(channels)
@@ -46,7 +56,9 @@ fn event_of(alloc: Global, number: u64) -> Result<Event, Fail> {
 }
 
 /// A batch of one event, which reads the channel to its number.
-fn batch_to(alloc: Global, number: u64) -> Result<Batch, Fail> {
+pub(crate) fn batch_to(alloc: Global, number: u64) -> Result<Batch, Fail>
+    ensures { IfOk result (λ batch. AreNumbered batch.items) }
+{
     Ok(Batch {
         items: items_of(alloc, number)?,
         to: reach_of(alloc, number)?,
@@ -54,7 +66,9 @@ fn batch_to(alloc: Global, number: u64) -> Result<Batch, Fail> {
     })
 }
 
-fn items_of(alloc: Global, number: u64) -> Result<List<Item>, Fail> {
+fn items_of(alloc: Global, number: u64) -> Result<List<Item>, Fail>
+    ensures { IfOk result AreNumbered }
+{
     let mut items = List::new(alloc);
     items.push(Item::Event(event_of(alloc, number)?))?;
     Ok(items)
@@ -62,12 +76,15 @@ fn items_of(alloc: Global, number: u64) -> Result<List<Item>, Fail> {
 
 fn reach_of(alloc: Global, number: u64) -> Result<Bookmark, Fail> {
     let mut to = Bookmark::new(alloc);
+    if number > MAX {
+        return Err(ValueFault::TooLarge.into());
+    }
     to.raise(&channel(alloc)?, number)?;
     Ok(to)
 }
 
-/// The key of the row that keeps the number of the last start.
-fn start_number_key(alloc: Global) -> Key {
+/// The key of the row that keeps the boot number.
+fn boot_key(alloc: Global) -> Key {
     Key {
         kind: 8,
         sub: Text::new(alloc),
@@ -77,22 +94,21 @@ fn start_number_key(alloc: Global) -> Key {
     }
 }
 
-/// That a collector was started so often.
-fn started(alloc: Global, boot: u64) -> Result<List<Change>, AllocError> {
-    let mut changes = List::new(alloc);
-    changes.push(Change::Put(Row {
-        key: start_number_key(alloc),
+/// A store of a collector that was started so often.
+fn keeper_of(alloc: Global, boot: u64) -> Result<MemKeeper, KeeperFault> {
+    let mut keeper = MemKeeper::new(alloc);
+    let row = Row {
+        key: boot_key(alloc),
         value: boot,
         body: Text::new(alloc),
-    }))?;
-    Ok(changes)
+    };
+    keep(&mut keeper, row)?;
+    Ok(keeper)
 }
 
 /// The fault of a start behind so many.
 fn start_fault(alloc: Global, boot: u64) -> Result<Option<CollectorFault>, Fail> {
-    let mut keeper = MemKeeper::new(alloc);
-    keeper.commit(&started(alloc, boot)?)?;
-    Ok(match Collector::start(alloc, keeper) {
+    Ok(match Collector::start(alloc, keeper_of(alloc, boot)?) {
         Ok(_) => None,
         Err((_, fault)) => Some(fault),
     })
@@ -138,22 +154,34 @@ fn offered(alloc: Global) -> Result<Text, Fail> {
 
 fn offered_by(alloc: Global, collector: &mut Collector<MemKeeper>) -> Result<Text, Fail> {
     for name in ["b", "ended", "a/1"] {
-        add(alloc, collector, name)?;
+        add_named(alloc, collector, name)?;
     }
     take_seven(alloc, collector)?;
     end(alloc, collector)?;
     printed(alloc, collector)
 }
 
-fn add(alloc: Global, collector: &mut Collector<MemKeeper>, name: &str) -> Result<(), Fail> {
+fn add_named(alloc: Global, collector: &mut Collector<MemKeeper>, name: &str) -> Result<(), Fail> {
     let subscription = subscription(alloc, name)?;
-    Ok(collector.add(&subscription)?)
+    Ok(add(collector, &subscription)?)
+}
+
+/// Adds a subscription to all events.
+pub(crate) fn add<K: Keeper>(
+    collector: &mut Collector<K>,
+    subscription: &Subscription,
+) -> Result<(), CollectorFault>
+    requires { IsAllEvents subscription.now }
+{
+    // The words that keep it are made since they say that it reads back.
+    let _words = kept_words(subscription)?;
+    collector.add(subscription)
 }
 
 fn take_seven(alloc: Global, collector: &mut Collector<MemKeeper>) -> Result<(), Fail> {
     let (sub, source) = (id(alloc, "b")?, source(alloc)?);
     let batch = batch_to(alloc, 7)?;
-    Ok(collector.take(&sub, &source, &batch, 1000)?)
+    Ok(collector.take(&sub, &source, &batch, Moment::first())?)
 }
 
 fn end(alloc: Global, collector: &mut Collector<MemKeeper>) -> Result<(), Fail> {
@@ -226,13 +254,15 @@ impl Retries {
         &mut self,
         collector: &mut Collector<FailingKeeper>,
         subscription: &Subscription,
-    ) -> Result<(), CollectorFault> {
-        match collector.add(subscription) {
+    ) -> Result<(), CollectorFault>
+        requires { IsAllEvents subscription.now }
+    {
+        match add(collector, subscription) {
             Err(CollectorFault::Failed) => {}
             answer => return answer,
         }
         self.note();
-        match collector.add(subscription) {
+        match add(collector, subscription) {
             Err(CollectorFault::Exists) => Ok(()),
             answer => answer,
         }
@@ -244,13 +274,15 @@ impl Retries {
         sub: &SubId,
         source: &SourceName,
         batch: &Batch,
-    ) -> Result<(), CollectorFault> {
-        match collector.take(sub, source, batch, 1000) {
+    ) -> Result<(), CollectorFault>
+        requires { AreNumbered batch.now.items }
+    {
+        match collector.take(sub, source, batch, Moment::first()) {
             Err(CollectorFault::Failed) => {}
             answer => return answer,
         }
         self.note();
-        collector.take(sub, source, batch, 1000)
+        collector.take(sub, source, batch, Moment::first())
     }
 
     fn report(&mut self, collector: &mut Collector<FailingKeeper>) -> Result<Text, CollectorFault> {
@@ -267,7 +299,7 @@ impl Retries {
 /// often the store was said to fail.
 fn reported(alloc: Global, fails_at: u64, keeps: bool) -> Result<Text, Fail> {
     let mut retries = Retries { failed: 0 };
-    let keeper = FailingKeeper::new(alloc, [fails_at, 0], keeps);
+    let keeper = FailingKeeper::new(alloc, FailsAt::Call(fails_at), keeps);
     let mut collector = retries.start(alloc, keeper)?;
     reported_by(alloc, &mut retries, &mut collector)
 }

@@ -5,10 +5,16 @@
 #[cfg(test)]
 mod collectors;
 #[cfg(test)]
+mod doubting;
+#[cfg(test)]
 mod failing;
 #[cfg(test)]
 mod limits;
 #[cfg(test)]
 mod logs;
 #[cfg(test)]
+mod rows;
+#[cfg(test)]
 mod sources;
+#[cfg(test)]
+mod steps;

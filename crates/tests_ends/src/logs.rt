@@ -1,10 +1,13 @@
 //! Logs by example: what is done with a log, in words, and what is answered.
 
+use crate::failing::{FailingKeeper, FailsAt};
+use crate::rows::keep;
+use crate::steps::{Does, channel, event_of, number, parted, push_steps};
 use std::alloc::{AllocError, Global};
 use std::test::Fail;
-use wef_base::{ChannelName, List, Text, is_xml_text};
-use wef_event::{Event, EventFault, PlainEvent};
-use wef_keeper::{Change, Keeper, KeeperFault, Key, MemKeeper, Row};
+use wef_base::{ChannelName, List, Text};
+use wef_event::{Event, EventFault};
+use wef_keeper::{Keeper, KeeperFault, Key, MemKeeper, Row};
 use wef_source_log::{Log, LogFault};
 
 /// What is done between two starts: how many records a channel the log keeps if it is the first, and
@@ -85,77 +88,72 @@ const HELD: &[(Held, &str, &str)] = &[
     ),
 ];
 
-/// A name that is none counts as want of memory.
-fn channel(alloc: Global, name: &str) -> Result<ChannelName, LogFault> {
-    match ChannelName::read(&Text::from_str(alloc, name)?) {
-        Ok(channel) => Ok(channel),
-        Err(_) => Err(LogFault::NoMemory),
-    }
-}
+/// A commit of a store that fails, whether an opening finds its changes, how many records a channel
+/// the log keeps, its steps, and what the starts and the steps answer: a start that fails is made
+/// again.
+const FAILURES: &[(u64, bool, u64, &str, &str)] = &[
+    (0, false, 4, "boot;write a 1;ends a", "1;1;1-1;"),
+    // The start.
+    (1, false, 4, "boot;write a 1;ends a", "Failed;1;1;1-1;"),
+    (1, true, 4, "boot;write a 1;ends a", "Failed;2;1;1-1;"),
+    // A write, and each call behind it.
+    (2, false, 4, "write a 1;first a;last a", "Failed;1;0;"),
+    (2, true, 4, "write a 1;first a;last a", "Failed;1;1;"),
+    (3, false, 4, "write a 1;write a 1;last a;boot", "1;Failed;1;1;"),
+    (3, true, 4, "write a 1;write a 1;last a;boot", "1;Failed;2;1;"),
+    (3, false, 4, "write a 1;write a 1;page a 0 9", "1;Failed;1;"),
+    (3, true, 4, "write a 1;write a 1;page a 0 9", "1;Failed;1 2;"),
+    (3, false, 4, "write a 1;write b 1;write a 1;page b 0 9", "1;Failed;2;;"),
+    (3, true, 4, "write a 1;write b 1;write a 1;page b 0 9", "1;Failed;2;1;"),
+    // A write that is made again.
+    (3, false, 4, "write a 1;write a 1;write a 1;page a 0 9", "1;Failed;2;1 2;"),
+    (3, true, 4, "write a 1;write a 1;write a 1;page a 0 9", "1;Failed;3;1 2 3;"),
+    // One behind which a record leaves the window.
+    (4, false, 2, "write a 2;write a 1;ends a;page a 0 9", "1 2;Failed;1-2;1 2;"),
+    (4, true, 2, "write a 2;write a 1;ends a;page a 0 9", "1 2;Failed;2-3;2 3;"),
+];
 
-fn number(word: &str) -> u64 {
-    word.parse::<u64>().unwrap_or(0)
-}
-
-/// A word and what follows it.
-fn parted(words: &str) -> (&str, &str) {
-    words.split_once(' ').unwrap_or((words, ""))
-}
-
-/// The word of the letter a, so often.
-fn letters(alloc: Global, count: u64) -> Result<Text, AllocError> {
-    let mut word = Text::new(alloc);
-    for _ in 0..count {
-        word.push('a')?;
-    }
-    Ok(word)
-}
-
-/// The event of so many letters, before it has a number.
-fn event_of(alloc: Global, name: &str, count: u64) -> Result<Event, LogFault> {
-    let channel = channel(alloc, name)?;
-    let word = letters(alloc, count)?;
-    if !is_xml_text(&word)? {
-        return Err(LogFault::NoMemory);
-    }
-    let event = PlainEvent {
-        channel,
-        id: 7,
-        level: 4,
-        word,
-    };
-    match event.to_event() {
-        Ok(event) => Ok(event),
+/// Writes an event of so many letters.
+fn write<K: Keeper>(
+    log: &mut Log<K>,
+    alloc: Global,
+    name: &str,
+    count: u64,
+) -> Result<u64, LogFault> {
+    match event_of(alloc, name, count) {
+        Ok(event) => log.write(&event),
         Err(EventFault::TooLong) => Err(LogFault::TooLong),
         Err(_) => Err(LogFault::NoMemory),
     }
 }
 
-/// Writes an event of so many letters.
-fn write(log: &mut Log<MemKeeper>, alloc: Global, name: &str, count: u64) -> Result<u64, LogFault> {
-    let event = event_of(alloc, name, count)?;
-    log.write(&event)
-}
-
-fn push_written(
+fn push_written<K: Keeper>(
     text: &mut Text,
-    log: &mut Log<MemKeeper>,
+    log: &mut Log<K>,
     name: &str,
     count: u64,
 ) -> Result<(), LogFault> {
     let number = write(log, text.alloc(), name, count)?;
-    Ok(text.push_number(number)?)
+    pushed(text.push_number(number))
 }
 
-fn push_long(text: &mut Text, log: &mut Log<MemKeeper>, words: &str) -> Result<(), LogFault> {
+/// Want of memory for an answer is one of the log.
+fn pushed(pushed: Result<(), AllocError>) -> Result<(), LogFault> {
+    match pushed {
+        Ok(()) => Ok(()),
+        Err(_) => Err(LogFault::NoMemory),
+    }
+}
+
+fn push_long<K: Keeper>(text: &mut Text, log: &mut Log<K>, words: &str) -> Result<(), LogFault> {
     let (name, count) = parted(words);
     push_written(text, log, name, number(count))
 }
 
-fn push_writes(text: &mut Text, log: &mut Log<MemKeeper>, words: &str) -> Result<(), LogFault> {
+fn push_writes<K: Keeper>(text: &mut Text, log: &mut Log<K>, words: &str) -> Result<(), LogFault> {
     let (name, times) = parted(words);
     for turn in 0..number(times) {
-        push_gap(text, turn > 0)?;
+        pushed(push_gap(text, turn > 0))?;
         push_written(text, log, name, 4)?;
     }
     Ok(())
@@ -175,56 +173,79 @@ fn push_numbers(text: &mut Text, page: &[Event]) -> Result<(), AllocError> {
     Ok(())
 }
 
-fn push_page(text: &mut Text, log: &mut Log<MemKeeper>, words: &str) -> Result<(), LogFault> {
+fn push_page<K: Keeper>(text: &mut Text, log: &mut Log<K>, words: &str) -> Result<(), LogFault> {
     let (name, numbers) = parted(words);
     let (after, max) = parted(numbers);
     let page = page_of(log, text.alloc(), name, number(after), max)?;
-    Ok(push_numbers(text, page.as_slice())?)
+    pushed(push_numbers(text, page.as_slice()))
 }
 
-fn page_of(
-    log: &mut Log<MemKeeper>,
+fn page_of<K: Keeper>(
+    log: &mut Log<K>,
     alloc: Global,
     name: &str,
     after: u64,
     max: &str,
 ) -> Result<List<Event>, LogFault> {
     let max = max.parse::<u32>().unwrap_or(1).max(1);
-    let channel = channel(alloc, name)?;
+    let channel = named(alloc, name)?;
     log.page(&channel, after, max)
 }
 
-fn push_ends(text: &mut Text, log: &mut Log<MemKeeper>, name: &str) -> Result<(), LogFault> {
+fn push_ends<K: Keeper>(text: &mut Text, log: &mut Log<K>, name: &str) -> Result<(), LogFault> {
     let (first, last) = ends_of(log, text.alloc(), name)?;
+    pushed(push_range(text, first, last))
+}
+
+fn push_range(text: &mut Text, first: u64, last: u64) -> Result<(), AllocError> {
     text.push_number(first)?;
     text.push_str("-")?;
-    Ok(text.push_number(last)?)
+    text.push_number(last)
 }
 
-fn ends_of(log: &mut Log<MemKeeper>, alloc: Global, name: &str) -> Result<(u64, u64), LogFault> {
-    let channel = channel(alloc, name)?;
-    Ok((log.first(&channel)?, log.last(&channel)?))
+fn ends_of<K: Keeper>(log: &mut Log<K>, alloc: Global, name: &str) -> Result<(u64, u64), LogFault> {
+    Ok((first(log, alloc, name)?, last(log, alloc, name)?))
 }
 
-fn push_armed(text: &mut Text, log: &Log<MemKeeper>) -> Result<(), AllocError> {
-    text.push_str(if log.is_armed() { "true" } else { "false" })
+fn first<K: Keeper>(log: &mut Log<K>, alloc: Global, name: &str) -> Result<u64, LogFault> {
+    log.first(&named(alloc, name)?)
+}
+
+fn last<K: Keeper>(log: &mut Log<K>, alloc: Global, name: &str) -> Result<u64, LogFault> {
+    log.last(&named(alloc, name)?)
+}
+
+/// A name that is none counts as want of memory.
+fn named(alloc: Global, name: &str) -> Result<ChannelName, LogFault> {
+    match channel(alloc, name) {
+        Ok(channel) => Ok(channel),
+        Err(_) => Err(LogFault::NoMemory),
+    }
+}
+
+fn push_first<K: Keeper>(text: &mut Text, log: &mut Log<K>, name: &str) -> Result<(), LogFault> {
+    let first = first(log, text.alloc(), name)?;
+    pushed(text.push_number(first))
+}
+
+fn push_last<K: Keeper>(text: &mut Text, log: &mut Log<K>, name: &str) -> Result<(), LogFault> {
+    let last = last(log, text.alloc(), name)?;
+    pushed(text.push_number(last))
 }
 
 /// Does a step, and appends its answer.
-fn push_answer(text: &mut Text, log: &mut Log<MemKeeper>, step: &str) -> Result<(), LogFault> {
+fn push_done<K: Keeper>(text: &mut Text, log: &mut Log<K>, step: &str) -> Result<(), LogFault> {
     let (word, rest) = parted(step);
     match word {
-        "write" => push_writes(text, log, rest)?,
-        "long" => push_long(text, log, rest)?,
-        "page" => push_page(text, log, rest)?,
-        "ends" => push_ends(text, log, rest)?,
-        "boot" => text.push_number(log.boot())?,
-        "armed" => push_armed(text, log)?,
-        "fail" => log.fail_next(rest == "after"),
-        "calm" => log.calm(),
-        _ => text.push_str("no step")?,
+        "write" => push_writes(text, log, rest),
+        "long" => push_long(text, log, rest),
+        "page" => push_page(text, log, rest),
+        "ends" => push_ends(text, log, rest),
+        "first" => push_first(text, log, rest),
+        "last" => push_last(text, log, rest),
+        "boot" => pushed(text.push_number(log.boot())),
+        _ => pushed(text.push_str("no step")),
     }
-    Ok(())
 }
 
 fn push_fault(text: &mut Text, fault: LogFault) -> Result<(), AllocError> {
@@ -236,14 +257,38 @@ fn push_fault(text: &mut Text, fault: LogFault) -> Result<(), AllocError> {
     })
 }
 
-fn push_steps(text: &mut Text, log: &mut Log<MemKeeper>, steps: &str) -> Result<(), AllocError> {
-    for step in steps.split(';') {
-        if let Err(fault) = push_answer(text, log, step) {
-            push_fault(text, fault)?;
+impl Does for Log<MemKeeper> {
+    fn push_answer(&mut self, text: &mut Text, step: &str) -> Result<(), AllocError> {
+        match step {
+            "armed" => text.push_str(if self.is_armed() { "true" } else { "false" })?,
+            "fail before" => self.fail_next(false),
+            "fail after" => self.fail_next(true),
+            "calm" => self.calm(),
+            _ => {
+                if let Err(fault) = push_done(text, self, step) {
+                    push_fault(text, fault)?;
+                }
+            }
         }
-        text.push_str(";")?;
+        Ok(())
     }
-    Ok(())
+}
+
+impl Does for Log<FailingKeeper> {
+    fn push_answer(&mut self, text: &mut Text, step: &str) -> Result<(), AllocError> {
+        match push_done(text, self, step) {
+            Ok(()) => Ok(()),
+            Err(fault) => push_fault(text, fault),
+        }
+    }
+}
+
+fn start<K: Keeper>(
+    alloc: Global,
+    keeper: K,
+    capacity: u64,
+) -> Result<Log<K>, (K, LogFault)> {
+    Log::start(alloc, keeper, capacity.clamp(1, 1_000_000))
 }
 
 /// Starts a log over a store, does the steps, and gives the store back.
@@ -253,8 +298,8 @@ fn push_started(
     capacity: u64,
     steps: &str,
 ) -> Result<MemKeeper, AllocError> {
-    match Log::start(text.alloc(), keeper, capacity.clamp(1, 1_000_000)) {
-        Ok(log) => push_done(text, log, steps),
+    match start(text.alloc(), keeper, capacity) {
+        Ok(log) => push_steps_of(text, log, steps),
         Err((keeper, fault)) => {
             push_fault(text, fault)?;
             Ok(keeper)
@@ -262,7 +307,11 @@ fn push_started(
     }
 }
 
-fn push_done(text: &mut Text, log: Log<MemKeeper>, steps: &str) -> Result<MemKeeper, AllocError> {
+fn push_steps_of(
+    text: &mut Text,
+    log: Log<MemKeeper>,
+    steps: &str,
+) -> Result<MemKeeper, AllocError> {
     let mut log = log;
     push_steps(text, &mut log, steps)?;
     Ok(log.into_keeper())
@@ -303,16 +352,10 @@ fn row_of(alloc: Global, held: &Held) -> Result<Row, AllocError> {
     })
 }
 
-fn put(alloc: Global, held: &Held) -> Result<List<Change>, AllocError> {
-    let mut changes = List::new(alloc);
-    changes.push(Change::Put(row_of(alloc, held)?))?;
-    Ok(changes)
-}
-
 /// A store with one row.
 fn holding(alloc: Global, held: &Held) -> Result<MemKeeper, KeeperFault> {
     let mut keeper = MemKeeper::new(alloc);
-    keeper.commit(&put(alloc, held)?)?;
+    keep(&mut keeper, row_of(alloc, held)?)?;
     Ok(keeper)
 }
 
@@ -327,6 +370,49 @@ fn ran_over(alloc: Global, held: &Held, steps: &str) -> Result<Text, Fail> {
 fn logs_go_on_from_what_is_held(rt: HostRuntime) -> Result<(), Fail> {
     for (held, steps, want) in HELD {
         assert_eq!(rt; ran_over(rt.alloc(), held, steps)?.as_str(), *want);
+    }
+    Ok(())
+}
+
+/// Starts a log over a store, and once more where that fails.
+fn started_again(
+    text: &mut Text,
+    keeper: FailingKeeper,
+    capacity: u64,
+) -> Result<Option<Log<FailingKeeper>>, AllocError> {
+    let (keeper, fault) = match start(text.alloc(), keeper, capacity) {
+        Ok(log) => return Ok(Some(log)),
+        Err(refused) => refused,
+    };
+    push_fault(text, fault)?;
+    text.push_str(";")?;
+    match start(text.alloc(), keeper, capacity) {
+        Ok(log) => Ok(Some(log)),
+        Err(_) => Ok(None),
+    }
+}
+
+/// What the steps of a log answer over a store of which a commit fails.
+fn ran_failing(
+    alloc: Global,
+    commit: u64,
+    keeps: bool,
+    capacity: u64,
+    steps: &str,
+) -> Result<Text, AllocError> {
+    let mut text = Text::new(alloc);
+    let keeper = FailingKeeper::new(alloc, FailsAt::Commit(commit), keeps);
+    if let Some(mut log) = started_again(&mut text, keeper, capacity)? {
+        push_steps(&mut text, &mut log, steps)?;
+    }
+    Ok(text)
+}
+
+#[test]
+fn logs_find_what_a_failed_commit_left(rt: HostRuntime) -> Result<(), Fail> {
+    for &(commit, keeps, capacity, steps, want) in FAILURES {
+        let text = ran_failing(rt.alloc(), commit, keeps, capacity, steps)?;
+        assert_eq!(rt; text.as_str(), want, "at {commit} {keeps}: {steps}");
     }
     Ok(())
 }

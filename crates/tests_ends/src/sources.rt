@@ -1,18 +1,18 @@
 //! Sources by example: what is done with a source, in words, and what is answered.
 
+use crate::failing::{FailingKeeper, FailsAt};
+use crate::steps::{Does, channel, event_of, number, parted, push_id, push_steps};
 use std::alloc::{AllocError, Global};
 use std::test::Fail;
-use wef_base::{ChannelName, List, SourceName, SubId, Text, ValueFault, is_xml_text};
+use wef_base::{ChannelName, List, Moment, SourceName, SubId, Text, ValueFault};
 use wef_batch::{Batch, Item};
 use wef_bookmark::Bookmark;
-use wef_event::{Event, EventFault, PlainEvent};
+use wef_event::EventFault;
 use wef_eventing::{Offer, Subscribe};
 use wef_ids::{FaultName, MessageId};
-use wef_keeper::MemKeeper;
+use wef_keeper::{Keeper, MemKeeper};
 use wef_query::QueryList;
 use wef_source::{Delivery, Moved, Poll, Reply, SourceEnd, SourceFault};
-
-type Source = SourceEnd<MemKeeper>;
 
 /// The steps of a source that keeps four records a channel, those once it is started again, and what
 /// all of them answer. An id is the number of the start and that of the message.
@@ -62,10 +62,6 @@ const RUNS: &[(&str, &str, &str)] = &[
     ),
 ];
 
-fn channel(alloc: Global, name: &str) -> Result<ChannelName, ValueFault> {
-    ChannelName::read(&Text::from_str(alloc, name)?)
-}
-
 /// A name that is none counts as want of memory.
 fn known<T>(read: Result<T, ValueFault>) -> Result<T, SourceFault> {
     match read {
@@ -90,64 +86,23 @@ fn id_of(alloc: Global, word: &str) -> MessageId {
     }
 }
 
-fn push_half(text: &mut Text, half: u128) -> Result<(), AllocError> {
-    text.push_number(u64::try_from(half).unwrap_or(0))
-}
-
-fn push_id(text: &mut Text, id: &MessageId) -> Result<(), AllocError> {
-    let value = id.value.unwrap_or(0);
-    push_half(text, value / 18_446_744_073_709_551_616)?;
-    text.push_str(".")?;
-    push_half(text, value % 18_446_744_073_709_551_616)
-}
-
-fn number(word: &str) -> u64 {
-    word.parse::<u64>().unwrap_or(0)
-}
-
-/// A word and what follows it.
-fn parted(words: &str) -> (&str, &str) {
-    words.split_once(' ').unwrap_or((words, ""))
-}
-
-/// A word of the letter x, so often.
-fn letters(alloc: Global, count: u64) -> Result<Text, AllocError> {
-    let mut word = Text::new(alloc);
-    for _ in 0..count {
-        word.push('x')?;
-    }
-    Ok(word)
-}
-
-/// The event of so many letters, before it has a number.
-fn event_of(alloc: Global, name: &str, count: u64) -> Result<Event, SourceFault> {
-    let channel = known(channel(alloc, name))?;
-    let word = letters(alloc, count)?;
-    if !is_xml_text(&word)? {
-        return Err(SourceFault::NoMemory);
-    }
-    let event = PlainEvent {
-        channel,
-        id: 7,
-        level: 4,
-        word,
-    };
-    match event.to_event() {
-        Ok(event) => Ok(event),
+/// Writes an event of so many letters.
+fn write<K: Keeper>(
+    source: &mut SourceEnd<K>,
+    alloc: Global,
+    name: &str,
+    count: u64,
+) -> Result<u64, SourceFault> {
+    match event_of(alloc, name, count) {
+        Ok(event) => source.write(&event),
         Err(EventFault::TooLong) => Err(SourceFault::TooLong),
         Err(_) => Err(SourceFault::NoMemory),
     }
 }
 
-/// Writes an event of so many letters.
-fn write(source: &mut Source, alloc: Global, name: &str, count: u64) -> Result<u64, SourceFault> {
-    let event = event_of(alloc, name, count)?;
-    source.write(&event)
-}
-
-fn push_written(
+fn push_written<K: Keeper>(
     text: &mut Text,
-    source: &mut Source,
+    source: &mut SourceEnd<K>,
     name: &str,
     count: u64,
 ) -> Result<(), SourceFault> {
@@ -155,12 +110,12 @@ fn push_written(
     Ok(text.push_number(number)?)
 }
 
-fn push_long(text: &mut Text, source: &mut Source, words: &str) -> Result<(), SourceFault> {
+fn push_long<K: Keeper>(text: &mut Text, source: &mut SourceEnd<K>, words: &str) -> Result<(), SourceFault> {
     let (name, count) = parted(words);
     push_written(text, source, name, number(count))
 }
 
-fn push_writes(text: &mut Text, source: &mut Source, words: &str) -> Result<(), SourceFault> {
+fn push_writes<K: Keeper>(text: &mut Text, source: &mut SourceEnd<K>, words: &str) -> Result<(), SourceFault> {
     let (name, times) = parted(words);
     for turn in 0..number(times) {
         text.push_str(if turn > 0 { " " } else { "" })?;
@@ -214,19 +169,19 @@ fn offers_of(alloc: Global, words: &str) -> Result<List<Offer>, ValueFault> {
 }
 
 /// Asks, and adopts an offer of so many items and bytes a batch.
-fn push_served(text: &mut Text, source: &mut Source, words: &str) -> Result<(), SourceFault> {
+fn push_served<K: Keeper>(text: &mut Text, source: &mut SourceEnd<K>, words: &str) -> Result<(), SourceFault> {
     let offers = known(offers_of(text.alloc(), words))?;
     let id = source.ask()?;
     push_adopted(text, source, &id, &offers)
 }
 
-fn push_adopted(
+fn push_adopted<K: Keeper>(
     text: &mut Text,
-    source: &mut Source,
+    source: &mut SourceEnd<K>,
     id: &MessageId,
     offers: &List<Offer>,
 ) -> Result<(), SourceFault> {
-    let count = source.adopt(id, offers, 0)?;
+    let count = source.adopt(id, offers, Moment::first())?;
     push_id(text, id)?;
     text.push_str(" adopted ")?;
     text.push_number(count)?;
@@ -235,17 +190,17 @@ fn push_adopted(
 }
 
 /// Adopts no offer.
-fn push_none(text: &mut Text, source: &mut Source, id: &str) -> Result<(), SourceFault> {
+fn push_none<K: Keeper>(text: &mut Text, source: &mut SourceEnd<K>, id: &str) -> Result<(), SourceFault> {
     let id = id_of(text.alloc(), id);
     push_adopted(text, source, &id, &List::new(text.alloc()))
 }
 
-fn push_sessions(text: &mut Text, source: &Source) -> Result<(), SourceFault> {
+fn push_sessions<K: Keeper>(text: &mut Text, source: &SourceEnd<K>) -> Result<(), SourceFault> {
     let sessions = source.sessions()?;
     Ok(text.push_number(sessions.len() as u64)?)
 }
 
-fn push_asked(text: &mut Text, source: &mut Source) -> Result<(), SourceFault> {
+fn push_asked<K: Keeper>(text: &mut Text, source: &mut SourceEnd<K>) -> Result<(), SourceFault> {
     let id = source.ask()?;
     Ok(push_id(text, &id)?)
 }
@@ -304,19 +259,19 @@ fn push_poll(text: &mut Text, poll: &Poll) -> Result<(), AllocError> {
     }
 }
 
-fn push_polled(text: &mut Text, source: &mut Source) -> Result<(), SourceFault> {
+fn push_polled<K: Keeper>(text: &mut Text, source: &mut SourceEnd<K>) -> Result<(), SourceFault> {
     let poll = polled(source, text.alloc())?;
     Ok(push_poll(text, &poll)?)
 }
 
-fn polled(source: &mut Source, alloc: Global) -> Result<Poll, SourceFault> {
+fn polled<K: Keeper>(source: &mut SourceEnd<K>, alloc: Global) -> Result<Poll, SourceFault> {
     let sub = subscription(alloc)?;
-    source.poll(&sub, 1)
+    source.poll(&sub, Moment::first())
 }
 
-fn push_moved(
+fn push_moved<K: Keeper>(
     text: &mut Text,
-    source: &mut Source,
+    source: &mut SourceEnd<K>,
     id: &str,
     reply: &Reply,
 ) -> Result<(), SourceFault> {
@@ -332,37 +287,42 @@ fn push_move(text: &mut Text, moved: Moved) -> Result<(), AllocError> {
     })
 }
 
-fn push_refused(
+fn push_refused<K: Keeper>(
     text: &mut Text,
-    source: &mut Source,
+    source: &mut SourceEnd<K>,
     id: &str,
     fault: FaultName,
 ) -> Result<(), SourceFault> {
     push_moved(text, source, id, &Reply::Fault(fault))
 }
 
-fn lose(alloc: Global, source: &mut Source) -> Result<(), SourceFault> {
+fn lose<K: Keeper>(alloc: Global, source: &mut SourceEnd<K>) -> Result<(), SourceFault> {
     source.on_lost(&subscription(alloc)?)
 }
 
 /// Does a step that the log takes, and appends its answer.
-fn push_kept(text: &mut Text, source: &mut Source, step: &str) -> Result<(), SourceFault> {
+fn push_kept<K: Keeper>(
+    text: &mut Text,
+    source: &mut SourceEnd<K>,
+    step: &str,
+) -> Result<(), SourceFault> {
     let (word, rest) = parted(step);
     match word {
         "write" => push_writes(text, source, rest)?,
         "long" => push_long(text, source, rest)?,
         "boot" => text.push_number(source.boot())?,
         "name" => text.push_str(source.name().as_text().as_str())?,
-        "armed" => text.push_str(if source.is_armed() { "true" } else { "false" })?,
-        "fail" => source.fail_next(rest == "after"),
-        "calm" => source.calm(),
         _ => text.push_str("no step")?,
     }
     Ok(())
 }
 
 /// Does a step, and appends its answer.
-fn push_answer(text: &mut Text, source: &mut Source, step: &str) -> Result<(), SourceFault> {
+fn push_done<K: Keeper>(
+    text: &mut Text,
+    source: &mut SourceEnd<K>,
+    step: &str,
+) -> Result<(), SourceFault> {
     let (word, rest) = parted(step);
     match word {
         "serve" => push_served(text, source, rest),
@@ -390,19 +350,38 @@ fn push_fault(text: &mut Text, fault: SourceFault) -> Result<(), AllocError> {
     })
 }
 
-fn push_steps(text: &mut Text, source: &mut Source, steps: &str) -> Result<(), AllocError> {
-    for step in steps.split_terminator(';') {
-        if let Err(fault) = push_answer(text, source, step) {
-            push_fault(text, fault)?;
+impl Does for SourceEnd<MemKeeper> {
+    fn push_answer(&mut self, text: &mut Text, step: &str) -> Result<(), AllocError> {
+        match step {
+            "armed" => text.push_str(if self.is_armed() { "true" } else { "false" })?,
+            "fail before" => self.fail_next(false),
+            "fail after" => self.fail_next(true),
+            "calm" => self.calm(),
+            _ => {
+                if let Err(fault) = push_done(text, self, step) {
+                    push_fault(text, fault)?;
+                }
+            }
         }
-        text.push_str(";")?;
+        Ok(())
     }
-    Ok(())
 }
 
-fn started(alloc: Global, keeper: MemKeeper) -> Result<Source, SourceFault> {
-    let name = known(SourceName::read(&Text::from_str(alloc, "s")?))?;
-    match SourceEnd::start(alloc, keeper, name, 4) {
+impl Does for SourceEnd<FailingKeeper> {
+    fn push_answer(&mut self, text: &mut Text, step: &str) -> Result<(), AllocError> {
+        match push_done(text, self, step) {
+            Ok(()) => Ok(()),
+            Err(fault) => push_fault(text, fault),
+        }
+    }
+}
+
+fn named(alloc: Global) -> Result<SourceName, SourceFault> {
+    known(SourceName::read(&Text::from_str(alloc, "s")?))
+}
+
+fn started(alloc: Global, keeper: MemKeeper) -> Result<SourceEnd<MemKeeper>, SourceFault> {
+    match SourceEnd::start(alloc, keeper, named(alloc)?, 4) {
         Ok(source) => Ok(source),
         Err((_, fault)) => Err(fault),
     }
@@ -427,6 +406,87 @@ fn ran(alloc: Global, steps: &str, again: &str) -> Result<Text, SourceFault> {
 fn sources_send_what_they_have(rt: HostRuntime) -> Result<(), Fail> {
     for (steps, again, want) in RUNS {
         assert_eq!(rt; ran(rt.alloc(), steps, again)?.as_str(), *want);
+    }
+    Ok(())
+}
+
+/// A commit of a store that fails, whether an opening finds its changes, the steps of a source over
+/// it, and what the starts and the steps answer: a start that fails is made again.
+const FAILURES: &[(u64, bool, &str, &str)] = &[
+    // The start.
+    (1, false, "boot;ask;write application 1", "Failed;1;1.1;1;"),
+    (1, true, "boot;ask;write application 1", "Failed;2;2.1;1;"),
+    // A write, and each call behind it: a poll sends what is found, and one more is written.
+    (
+        2,
+        false,
+        "serve 20 512000;write application 1;poll;write application 1;poll;ack 1.2;poll",
+        "1.1 adopted 1 of 1;Failed;nothing;1;1.2 application 1, to application 1;moved;nothing;",
+    ),
+    (
+        2,
+        true,
+        "serve 20 512000;write application 1;poll;write application 1;poll;ack 1.2;poll",
+        "1.1 adopted 1 of 1;Failed;1.2 application 1, to application 1;2;nothing;moved;1.3 application 2, to application 2;",
+    ),
+    // What asks for nothing of the store leaves the doubt to the next call that does.
+    (
+        3,
+        false,
+        "serve 20 512000;write application 1;poll;write application 1;poll;lost;ask;sessions;boot;name;ack 1.2;poll",
+        "1.1 adopted 1 of 1;1;1.2 application 1, to application 1;Failed;nothing;;1.3;1;1;s;NotAsked;1.4 application 1, to application 1;",
+    ),
+    (
+        3,
+        true,
+        "serve 20 512000;write application 1;poll;write application 1;poll;lost;ask;sessions;boot;name;ack 1.2;poll",
+        "1.1 adopted 1 of 1;1;1.2 application 1, to application 1;Failed;nothing;;1.3;1;1;s;NotAsked;1.4 application 1, application 2, to application 2;",
+    ),
+    (
+        2,
+        true,
+        "serve 20 512000;write application 1;refuse 1.2;adopt 1.1;write application 1;poll",
+        "1.1 adopted 1 of 1;Failed;NotAsked;NotAsked;2;1.2 application 1, application 2, to application 2;",
+    ),
+];
+
+/// Starts a source over a store, and once more where that fails.
+fn started_again(
+    text: &mut Text,
+    keeper: FailingKeeper,
+) -> Result<SourceEnd<FailingKeeper>, SourceFault> {
+    let alloc = text.alloc();
+    let (keeper, fault) = match SourceEnd::start(alloc, keeper, named(alloc)?, 4) {
+        Ok(source) => return Ok(source),
+        Err(refused) => refused,
+    };
+    push_fault(text, fault)?;
+    text.push_str(";")?;
+    match SourceEnd::start(alloc, keeper, named(alloc)?, 4) {
+        Ok(source) => Ok(source),
+        Err((_, fault)) => Err(fault),
+    }
+}
+
+/// What the steps of a source answer over a store of which a commit fails.
+fn ran_failing(
+    alloc: Global,
+    commit: u64,
+    keeps: bool,
+    steps: &str,
+) -> Result<Text, SourceFault> {
+    let mut text = Text::new(alloc);
+    let keeper = FailingKeeper::new(alloc, FailsAt::Commit(commit), keeps);
+    let mut source = started_again(&mut text, keeper)?;
+    push_steps(&mut text, &mut source, steps)?;
+    Ok(text)
+}
+
+#[test]
+fn sources_find_what_a_failed_commit_left(rt: HostRuntime) -> Result<(), Fail> {
+    for &(commit, keeps, steps, want) in FAILURES {
+        let text = ran_failing(rt.alloc(), commit, keeps, steps)?;
+        assert_eq!(rt; text.as_str(), want, "at {commit} {keeps}: {steps}");
     }
     Ok(())
 }

@@ -1,13 +1,15 @@
 //! A keeper in memory that fails where it is told to, and pages of a thousand rows.
 
 ghost use Rattle.std.specs.Prelude.{◌≡◌, ◌≤◌, take, IfOk, OnOk};
+ghost use Rattle.wef_keeper.specs.Forms.{AreWithin};
 ghost use Rattle.wef_keeper.specs.Keeping.{OfRows, raised};
 ghost use Rattle.wef_keeper.specs.Rows.{applied, rows_after};
 
 use std::alloc::{AllocError, Global};
 use std::test::Fail;
+use wef_base::numbers::MAX;
 use wef_base::{List, Text};
-use wef_keeper::{Change, Keeper, KeeperFault, Key, MemKeeper, Row};
+use wef_keeper::{Change, Changes, Form, Keeper, KeeperFault, Key, MemKeeper, Row};
 
 /// Pages of a thousand rows: the number that each begins behind, and its greatest length.
 const PAGES: &[(u64, u32)] = &[
@@ -37,17 +39,39 @@ fn key(alloc: Global, number: u64) -> Key {
     }
 }
 
-fn put(alloc: Global, number: u64, value: u64) -> Change {
-    Change::Put(Row {
+/// No condition on a row.
+struct AnyForm;
+
+impl Form for AnyForm {
+    ghost use Rattle.std.specs.Prelude.{true};
+
+    ghost passes = { λ _. true };
+
+    fn is_formed(_row: &Row) -> Result<bool, AllocError> {
+        Ok(true)
+    }
+}
+
+/// Puts a row. One whose number or value is too great is left out.
+fn put(
+    alloc: Global,
+    changes: &mut Changes<AnyForm>,
+    number: u64,
+    value: u64,
+) -> Result<(), AllocError> {
+    if number > MAX || value > MAX {
+        return Ok(());
+    }
+    changes.put(Row {
         key: key(alloc, number),
         value,
         body: Text::new(alloc),
     })
 }
 
-fn one(alloc: Global, number: u64, value: u64) -> Result<List<Change>, AllocError> {
-    let mut changes = List::new(alloc);
-    changes.push(put(alloc, number, value))?;
+fn one(alloc: Global, number: u64, value: u64) -> Result<Changes<AnyForm>, AllocError> {
+    let mut changes = Changes::new(alloc);
+    put(alloc, &mut changes, number, value)?;
     Ok(changes)
 }
 
@@ -68,7 +92,9 @@ fn page_of_both<K: Keeper>(
     after: &Key,
     max: u32,
 ) -> Result<List<Row>, KeeperFault>
-    requires { 1 ≤ max }
+    requires max { 1 ≤ max }
+    requires first { AreWithin first.now }
+    requires second { AreWithin second.now }
     ensures tries { OnOk result ((K.store keeper.new).tries ≡ raised (raised (K.store keeper.old).tries)) }
     ensures reads { OnOk result ((K.store keeper.new).reads ≡ raised (K.store keeper.old).reads) }
     ensures page { OfRows (K.store keeper.old) (K.store keeper.new) (λ before now. IfOk result (λ page. page ≡ take max (rows_after after.now (applied second.now (applied first.now before))))) }
@@ -84,7 +110,13 @@ fn a_page_has_both_commits(rt: HostRuntime) -> Result<(), Fail> {
     let mut keeper = MemKeeper::new(alloc);
     let first = one(alloc, 1, 5)?;
     let second = one(alloc, 2, 7)?;
-    let page = page_of_both(&mut keeper, &first, &second, &key(alloc, 0), 3)?;
+    let page = page_of_both(
+        &mut keeper,
+        first.as_list(),
+        second.as_list(),
+        &key(alloc, 0),
+        3,
+    )?;
     assert_eq!(rt; page.len(), 2);
     Ok(())
 }
@@ -101,10 +133,10 @@ fn value_left_in(
     after: bool,
     crashes: bool,
 ) -> Result<u64, KeeperFault> {
-    keeper.commit(&one(alloc, 1, 5)?)?;
+    keeper.commit(one(alloc, 1, 5)?.as_list())?;
     keeper.fail_next(after);
-    let _failed = keeper.commit(&one(alloc, 1, 8)?);
-    let _in_doubt = keeper.commit(&one(alloc, 1, 9)?);
+    let _failed = keeper.commit(one(alloc, 1, 8)?.as_list());
+    let _in_doubt = keeper.commit(one(alloc, 1, 9)?.as_list());
     if crashes {
         keeper.crash();
     } else {
@@ -126,7 +158,7 @@ fn a_commit_fails_as_it_is_armed(rt: HostRuntime) -> Result<(), Fail> {
 fn calmed(keeper: &mut MemKeeper, alloc: Global) -> Result<(bool, u64), KeeperFault> {
     keeper.fail_next(true);
     keeper.calm();
-    keeper.commit(&one(alloc, 4, 6)?)?;
+    keeper.commit(one(alloc, 4, 6)?.as_list())?;
     Ok((keeper.is_armed(), value_at(keeper, alloc, 4)?))
 }
 
@@ -139,10 +171,10 @@ fn a_calmed_commit_is_done(rt: HostRuntime) -> Result<(), Fail> {
 }
 
 /// A thousand rows, numbered from 1.
-fn thousand(alloc: Global) -> Result<List<Change>, AllocError> {
-    let mut changes = List::new(alloc);
+fn thousand(alloc: Global) -> Result<Changes<AnyForm>, AllocError> {
+    let mut changes = Changes::new(alloc);
     for number in 1..=1000 {
-        changes.push(put(alloc, number, number))?;
+        put(alloc, &mut changes, number, number)?;
     }
     Ok(changes)
 }
@@ -159,7 +191,7 @@ fn length<K: Keeper>(
 
 /// The lengths of the pages.
 fn lengths(keeper: &mut MemKeeper, alloc: Global) -> Result<Text, KeeperFault> {
-    keeper.commit(&thousand(alloc)?)?;
+    keeper.commit(thousand(alloc)?.as_list())?;
     let mut text = Text::new(alloc);
     for &(after, max) in PAGES {
         text.push_number(length(keeper, alloc, after, max)? as u64)?;

@@ -2,6 +2,7 @@
 
 use crate::tasks::{channel, letters};
 use std::alloc::{AllocError, Global};
+use wef_base::numbers::MAX;
 use wef_base::{ChannelName, Text, ValueFault};
 use wef_bookmark::Bookmark;
 
@@ -49,6 +50,9 @@ fn raise_each(alloc: Global, bookmark: &mut Bookmark, words: &str) -> Result<(),
 fn raise(alloc: Global, bookmark: &mut Bookmark, word: &str) -> Result<(), ValueFault> {
     let (name, number) = word.split_once(':').ok_or(ValueFault::BadName)?;
     let number = number.parse::<u64>().ok().ok_or(ValueFault::NotANumber)?;
+    if number > MAX {
+        return Err(ValueFault::TooLarge);
+    }
     match bookmark.raise(&channel(alloc, name)?, number) {
         Ok(()) => Ok(()),
         Err(_) => Err(ValueFault::NoMemory),

@@ -13,6 +13,7 @@ use Rattle.std.specs.List.{All, AllByRecursion, list_all}
 use Rattle.std.specs.Ordering.{eq_by_cmp, nat_cmp}
 use Rattle.std.specs.Str.{is_utf8}
 use Rattle.wef_base.specs.Names.{channel_name}
+use Rattle.wef_batch.specs.Numbers.{AreNumbered, IsNumbered}
 use Rattle.wef_batch.specs.declared.items.Batch.{Batch}
 use Rattle.wef_batch.specs.declared.items.Item.{Item}
 use Rattle.wef_batch.specs.declared.items.Item.TheVariants as item
@@ -144,6 +145,23 @@ sound_batch u s b e =
       items = all_sound b.items inner.1;
       to = λ c n found. reached (finite.entries b.to) outer.1 c n (sym (finite.get-entries b.to c) ∙ found);
     }
+
+numbered : (i : Item) → is_item i ≡ true → IsNumbered i
+numbered (item.Event event) e = tt
+numbered (item.Dropped channel first last) e =
+    let outer = and_parts (is_channel channel && is_number first) (is_number last) e in
+    ((between 1 9223372036854775807 first (and_parts (is_channel channel) (is_number first) outer.0).1).1, (between 1 9223372036854775807 last outer.1).1)
+numbered (item.Loose count) e = tt
+
+all_numbered : (items : List Item) → list_all is_item items ≡ true → AreNumbered items
+all_numbered [] e = tt
+all_numbered (i ∷ items) e = let parts = and_parts (is_item i) (list_all is_item items) e in (numbered i parts.0, all_numbered items parts.1)
+
+-- the numbers of a line's batch are such as records have
+pub numbered_batch : (u s : List ℕ) (b : Batch) → is_line (lines.Batch u s b) ≡ true → AreNumbered b.items
+numbered_batch u s b e =
+    let words = (and_parts (is_subscription u && is_source s && is_no_collector s) (are_words b) e).1 in
+    all_numbered b.items (and_parts (has_word b) (list_all is_item b.items) (and_parts (has_word b && list_all is_item b.items) (list_all is_reach (finite.entries b.to)) words).0).1
 
 -- ---- a write
 

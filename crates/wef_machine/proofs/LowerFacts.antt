@@ -29,7 +29,6 @@ boot_is : (rows : Rows) (all : Histories) (capacity boot : ℕ) → IsWindow row
 boot_is rows all capacity boot window = ap (λ (o : Option Cell). unwrap_or (option_map (λ (cell : Cell). cell.value) o) 0) window.boot_row ∙ last_cell-number boot
 
 last_within : (rows : Rows) (c : List ℕ) → log.AreFormed rows → last_of rows c ≤ 9223372036854775807
-unfolding log.AreFormed
 last_within rows c formed = by_cell (finite.get rows (last_key c)) (formed (last_key c))
   where
     by_cell : (o : Option Cell) → IfSome o (λ cell. log.is_formed (row_of (last_key c, cell)) ≡ true) → unwrap_or (option_map (λ (cell : Cell). cell.value) o) 0 ≤ 9223372036854775807

@@ -23,7 +23,7 @@ use Rattle.wef_base.specs.Characters.{is_xml_text}
 use Rattle.wef_event.specs.PlainEvent.{plain_event, plain_text}
 use Rattle.wef_event.specs.Events.{Event, is_event}
 use Rattle.wef_event.proofs.PlainTrees.{plain_is_read}
-use Rattle.wef_replay.specs.BatchWords.{added, batch_word, colon_joined, data_word, dropped_word, empty_batch, event_word, if_word, if_xml_text, is_nothing, loose_word, reach_word, read_words, spelled, word_of}
+use Rattle.wef_replay.specs.BatchWords.{added, batch_word, colon_joined, data_word, dropped_word, empty_batch, event_word, if_word, if_xml_text, IsWithin, is_nothing, loose_word, reach_word, read_words, spelled, word_of}
 use Rattle.wef_replay.specs.Good.{are_words, has_word, is_channel, is_count, is_item, is_number, is_one, is_reach}
 use Rattle.wef_replay.specs.PlainEvents.{IsPlainItem}
 use Rattle.wef_replay.specs.Values.{channel_word, number_word}
@@ -32,7 +32,7 @@ use Rattle.wef_replay.specs.declared.batches.BatchWord.TheVariants.{Item, Reach,
 use Rattle.wef_replay.proofs.Cuts.{HasFirst, has_first}
 use Rattle.wef_replay.proofs.Gifts.{AllOf, all_of-if, all_of-map, all_of-tested, all_of-then}
 use Rattle.wef_replay.proofs.GoodNames.{decoded_is_text, good-channel, kept_channel}
-use Rattle.wef_replay.proofs.GoodNumbers.{count_from_between, good-number, is_count-max, of_record}
+use Rattle.wef_replay.proofs.GoodNumbers.{count_from_between, good-number, is_count-max, most, of_record}
 
 -- ---- one word
 
@@ -103,6 +103,14 @@ good-word_of (kind ∷ channel ∷ number ∷ []) = good-if_word kind (codes "t"
 good-word_of (kind ∷ channel ∷ number ∷ piece ∷ more) =
     all_of-if IsGoodWord (same kind (codes "d") && is_nothing more) (dropped_word channel number piece) (if_word kind (codes "e") (event_word channel number piece more))
     (good-dropped_word channel number piece) (good-if_word kind (codes "e") (event_word channel number piece more) (good-event_word channel number piece more))
+
+pub within_word : (word : List ℕ) (said : BatchWord) → batch_word word ≡ Some said → IsWithin said
+within_word word said is = by said (subst (AllOf IsGoodWord) is (good-word_of (parts 58 word)))
+  where
+    by : (said : BatchWord) → IsGoodWord said → IsWithin said
+    by (Item i) good = tt
+    by (Reach c n) good = most n (and_parts (is_channel c) (is_count n) good).1
+    by Ack good = tt
 
 -- ---- a bookmark that is raised
 

@@ -1,7 +1,6 @@
 -- Names that words give are such as their readers give: texts that read back as themselves.
-use Rattle.std.proofs.Common.{◌≡◌, ℕ, Bool, true, false, ◌&&◌, cond, List, [], ◌∷◌, map, refl, ap, sym, ◌∙◌, arith, encode_utf8_all}
+use Rattle.std.proofs.Common.{◌≡◌, ℕ, Bool, true, false, ◌&&◌, cond, List, [], ◌∷◌, map, refl, ap, sym, ◌∙◌, encode_utf8_all}
 use Rattle.std.specs.Prelude.{Option, Some, None, IsUtf8, codes, not}
-use Rattle.std.specs.Char.{to_ascii_lowercase}
 use Rattle.std.specs.Cmp.Lexicographic.{nat_list_eq_equiv, slice_cmp, texts_ties}
 use Rattle.std.specs.FinMap.{nat_cmp-IsAntisymmetric, slice_cmp-IsAntisymmetric}
 use Rattle.std.specs.Ordering.{is_eq, nat_cmp}
@@ -9,54 +8,17 @@ use Rattle.std.specs.Str.{all_scalars, chars, is_utf8}
 use Rattle.std.specs.declared.cmp.Ordering.{Ordering}
 use Rattle.std.specs.declared.cmp.Ordering.TheVariants.{Less, Equal, Greater}
 use Rattle.std.proofs.lemmas.Bool.{and_from, and_parts}
-use Rattle.std.proofs.lemmas.Bool.Decides.{nat_tests}
 use Rattle.std.proofs.lemmas.Str.{IsUtf8-from_is_utf8, is_utf8-from_IsUtf8, scalars-chars}
-use lib.Utf8.{scalar}
-use Rattle.wef_base.specs.Names.{channel_name, is_space, name_of, name_of_characters, same, source_name, spelt, subscription_name, trimmed_characters, unless_last_space, without_end, without_start}
+use Rattle.wef_base.specs.Names.{channel_name, name_of, name_of_characters, same, source_name, spelt, subscription_name, trimmed_characters, without_start}
 use Rattle.wef_base.specs.Words.{decoded, utf8}
 use Rattle.wef_base.specs.declared.names.Letters.{Letters}
 use Rattle.wef_base.specs.declared.names.Letters.TheVariants.{Kept, Small}
-use Rattle.wef_base.proofs.Kept.{name_kept}
+use Rattle.wef_base.proofs.Kept.{name_kept, scalars-map_spelt, scalars-without_end, scalars-without_start}
 use Rattle.wef_replay.specs.Good.{is_channel, is_no_collector, is_one, is_source, is_subscription}
 use Rattle.wef_replay.specs.Values.{channel_word, sending_source_word, source_word, subscription_word, unless_collector}
 use Rattle.wef_replay.proofs.Gifts.{AllOf, all_of-then}
 
 -- ---- a name is a text
-
-scalars-without_start : (cs : List ℕ) → all_scalars cs ≡ true → all_scalars (without_start cs) ≡ true
-scalars-without_start [] h = h
-scalars-without_start (c ∷ cs) h = by (is_space c) (scalars-without_start cs (and_parts (scalar c) (all_scalars cs) h).1)
-  where
-    by : (b : Bool) → all_scalars (without_start cs) ≡ true → all_scalars (cond b (without_start cs) (c ∷ cs)) ≡ true
-    by true rest = rest
-    by false rest = h
-
-scalars-unless_last_space : (c : ℕ) (cs : List ℕ) → scalar c ≡ true → all_scalars cs ≡ true → all_scalars (unless_last_space c cs) ≡ true
-scalars-unless_last_space c [] one rest = by (is_space c)
-  where
-    by : (b : Bool) → all_scalars (cond b [] (c ∷ [])) ≡ true
-    by true = refl
-    by false = and_from (scalar c) true one refl
-scalars-unless_last_space c (d ∷ ds) one rest = and_from (scalar c) (all_scalars (d ∷ ds)) one rest
-
-scalars-without_end : (cs : List ℕ) → all_scalars cs ≡ true → all_scalars (without_end cs) ≡ true
-scalars-without_end [] h = h
-scalars-without_end (c ∷ cs) h =
-    let parts = and_parts (scalar c) (all_scalars cs) h in
-    scalars-unless_last_space c (without_end cs) parts.0 (scalars-without_end cs parts.1)
-
-scalar-small : (c : ℕ) → scalar c ≡ true → scalar (to_ascii_lowercase c) ≡ true
-scalar-small c h = grind (arith, nat_tests)
-
-scalar-spelt : (letters : Letters) (c : ℕ) → scalar c ≡ true → scalar (spelt letters c) ≡ true
-scalar-spelt Kept c h = h
-scalar-spelt Small c h = scalar-small c h
-
-scalars-spelt : (letters : Letters) (cs : List ℕ) → all_scalars cs ≡ true → all_scalars (map (spelt letters) cs) ≡ true
-scalars-spelt letters [] h = h
-scalars-spelt letters (c ∷ cs) h =
-    let parts = and_parts (scalar c) (all_scalars cs) h in
-    and_from (scalar (spelt letters c)) _ (scalar-spelt letters c parts.0) (scalars-spelt letters cs parts.1)
 
 -- the name of characters is these, as it spells them
 name_is : (letters : Letters) (limit : ℕ) (cs name : List ℕ) → name_of_characters letters limit cs ≡ Some name → encode_utf8_all (map (spelt letters) cs) ≡ name
@@ -74,7 +36,7 @@ name_is_text : (letters : Letters) (limit : ℕ) (text name : List ℕ) → IsUt
 name_is_text letters limit text name utf8 e =
     let cs = trimmed_characters (chars text) in
     let scalars : all_scalars cs ≡ true = scalars-without_end (without_start (chars text)) (scalars-without_start (chars text) (scalars-chars text utf8)) in
-    ap is_utf8 (sym (name_is letters limit cs name e)) ∙ encoded_is_text (map (spelt letters) cs) (scalars-spelt letters cs scalars)
+    ap is_utf8 (sym (name_is letters limit cs name e)) ∙ encoded_is_text (map (spelt letters) cs) (scalars-map_spelt letters cs scalars)
 
 -- ---- a name reads back
 

@@ -20,15 +20,15 @@ good-number least greatest word =
     all_of-then (λ n. nat_le n greatest ≡ true) (λ n. is_between least greatest n ≡ true) (at_least least) (plain_number greatest word) (within_greatest greatest word)
     (λ n most. all_of-tested (λ n. is_between least greatest n ≡ true) (nat_le least n) n (λ e. and_from (nat_le least n) (nat_le n greatest) e most))
 
+pub most : (n : ℕ) → is_count n ≡ true → n ≤ MAX
+most n h = grind (arith, nat_tests, h)
+
 -- the number of a record is within its limits
 pub of_record : (n : ℕ) → is_number n ≡ true → (1 ≤ n) × (n ≤ MAX)
-of_record n h = (least n h, most n h)
+of_record n h = (least n h, most n (and_parts (nat_le 1 n) (is_count n) h).1)
   where
     least : (n : ℕ) → is_number n ≡ true → 1 ≤ n
     least n h = grind (arith, nat_tests, h)
-
-    most : (n : ℕ) → is_number n ≡ true → n ≤ MAX
-    most n h = grind (arith, nat_tests, h)
 
 -- a number from 0 on has no least
 pub count_from_between : (n : ℕ) → is_between 0 MAX n ≡ true → is_count n ≡ true

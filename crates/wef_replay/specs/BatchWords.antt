@@ -5,7 +5,7 @@
 --     t:CHANNEL:NUMBER         how far the batch reads the channel
 --     ack                      the source wants to hear that the batch is kept
 -- Names and DATA are percent-decoded. DATA is all that follows the third colon, other colons too.
-use Rattle.std.specs.Prelude.{ℕ, ◌&&◌, Bool, true, false, List, [], ◌∷◌, ◌++◌, Option, Some, None, if◌then◌else◌, unwrap_or, codes}
+use Rattle.std.specs.Prelude.{ℕ, ◌≤◌, ◌&&◌, Bool, true, false, List, [], ◌∷◌, ◌++◌, Option, Some, None, if◌then◌else◌, unwrap_or, codes}
 use Rattle.std.specs.FinMap as map
 use Rattle.std.specs.List.{flat_map}
 use Rattle.std.specs.Option.{option_and_then, option_map}
@@ -69,6 +69,11 @@ word_of (kind ∷ channel ∷ number ∷ piece ∷ more) = long_word kind channe
 
 abbrev pub batch_word : List ℕ → Option BatchWord
 batch_word word = word_of (parts 58 word)
+
+-- how far a word reads a channel is the number of a record, or 0
+abbrev pub IsWithin : BatchWord → Type 0
+IsWithin (Reach c n) = n ≤ MAX
+IsWithin _ = Unit {0}
 
 -- the batch with one word more
 abbrev pub added : BatchWord → batch.Batch → batch.Batch

@@ -4,7 +4,7 @@ ghost use Rattle.std.specs.Prelude.{◌≡◌, is_some, IsTrue, IfOk, OnOk};
 ghost use Rattle.wef_base.specs.Characters.{is_xml_text};
 ghost use Rattle.wef_base.specs.Words.{parts};
 ghost use Rattle.wef_replay.specs.Reading.{Gives};
-ghost use Rattle.wef_replay.specs.BatchWords.{empty_batch, added, batch_word, colon_joined, data_word, event_word, dropped_word, long_word, loose_word, reach_word, word_of, read_words};
+ghost use Rattle.wef_replay.specs.BatchWords.{empty_batch, added, batch_word, IsWithin, colon_joined, data_word, event_word, dropped_word, long_word, loose_word, reach_word, word_of, read_words};
 
 use crate::cutting::Parts;
 use crate::values::{LineFault, channel_of, is_word, number_of, text_of};
@@ -66,6 +66,7 @@ pub fn batch_of(alloc: Global, words: &[u8]) -> Result<Batch, LineFault>
 }
 
 fn add(batch: &mut Batch, word: BatchWord) -> Result<(), AllocError>
+    requires { IsWithin word }
     ensures { OnOk result (batch.new ≡ added word batch.old) }
 {
     match word {

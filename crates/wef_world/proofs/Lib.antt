@@ -3,6 +3,7 @@ pub mod CollectorCalls
 pub mod Delivered
 pub mod LastNumbers
 pub mod Lent
+pub mod Numbered
 pub mod Opened
 pub mod Ready
 pub mod Settled

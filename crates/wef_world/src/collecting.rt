@@ -6,13 +6,13 @@ ghost use Rattle.wef_collector_rows.specs.Forms as forms;
 ghost use Rattle.wef_keeper.specs.Calls.{IsCall};
 ghost use Rattle.wef_machine.specs.Collecting.{collector_opened, collector_opening};
 ghost use Rattle.wef_world.specs.Collected.{collector_of};
-ghost use Rattle.wef_world.specs.Made.{effect_of};
+ghost use Rattle.wef_world.specs.Made.{IsAllowed, effect_of};
 ghost use Rattle.wef_world.specs.Places as places;
 
 use crate::faults::WorldFault;
 use crate::places::{Called, End, Placed, Used};
 use std::alloc::Global;
-use wef_base::{SourceName, SubId};
+use wef_base::{Moment, SourceName, SubId};
 use wef_batch::Batch;
 use wef_collector::{Collector, CollectorFault};
 use wef_eventing::Subscription;
@@ -95,7 +95,7 @@ pub fn open(collector: &mut CollectorPlace, alloc: Global) -> Result<Fate, World
 }
 
 /// A call of the collector that changes rows.
-#[derive(Drop)]
+#[derive(Clone, Copy)]
 pub enum Call<'a> {
     /// Adds a subscription.
     Add(&'a Subscription),
@@ -106,7 +106,7 @@ pub enum Call<'a> {
         sub: &'a SubId,
         source: &'a SourceName,
         batch: &'a Batch,
-        now: u64,
+        now: &'a Moment,
     },
 }
 
@@ -117,6 +117,7 @@ pub fn make_call(
     call: Call<'_>,
 ) -> Result<Used<Called<(), CollectorFault>>, WorldFault>
     requires formed { forms.AreFormed (collector_of collector.old).rows }
+    requires allowed { IsAllowed call }
     ensures collector { OnOk result (collector_of collector.new ≡ places.called_at (collector_opened (collector_of collector.old)) (effect_of call.entry)) }
     ensures called { IfOk result (places.CameTo (collector_opening (collector_of collector.old)) (collector_opened (collector_of collector.old)) (effect_of call.entry) (λ _. tt)) }
 {
@@ -130,6 +131,7 @@ pub fn make_call(
 
 /// What a collector that runs answers to a call.
 fn answer_to(collector: &mut Collector<MemKeeper>, call: Call<'_>) -> Result<(), CollectorFault>
+    requires { IsAllowed call }
     ensures call { IsCall collector_store forms.AreFormed (effect_of call.entry) (λ _. tt) result (⟦<MemKeeper as Keeper>⟧.store collector.old.keeper) (⟦<MemKeeper as Keeper>⟧.store collector.new.keeper) }
     ensures ids { collector.new.ids ≡ collector.old.ids }
 {
@@ -141,6 +143,6 @@ fn answer_to(collector: &mut Collector<MemKeeper>, call: Call<'_>) -> Result<(),
             source,
             batch,
             now,
-        } => collector.take(sub, source, batch, now),
+        } => collector.take(sub, source, batch, *now),
     }
 }

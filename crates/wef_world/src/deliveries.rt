@@ -3,6 +3,7 @@
 ghost use Rattle.std.specs.Prelude.{◌≡◌, ◌+◌, ◌-◌, ◌==◌, length, slice_get, Some, Err, if◌then◌else◌, IfOk, OnOk};
 ghost use Rattle.std.specs.FinMap as map;
 ghost use Rattle.std.specs.Option.{option_copied};
+ghost use Rattle.wef_batch.specs.Numbers.{AreNumbered};
 ghost use Rattle.wef_collector_rows.specs.Forms.{AreFormed};
 ghost use Rattle.wef_collector.specs.Offers.{offers};
 ghost use Rattle.wef_ids.specs.Ids.{with_drawn};
@@ -26,7 +27,7 @@ use crate::printing::{
 };
 use crate::sources::Sources;
 use std::alloc::{AllocError, Global};
-use wef_base::{List, SourceName, SubId, Text};
+use wef_base::{List, Moment, SourceName, SubId, Text};
 use wef_batch::Batch;
 use wef_collector::{Collector, CollectorFault};
 use wef_eventing::{Offer, source_in, subscription_in};
@@ -160,9 +161,10 @@ fn take_events(
     collector: &mut CollectorPlace,
     source: &SourceName,
     delivery: &Delivery,
-    now: u64,
+    now: Moment,
 ) -> Result<Taken, WorldFault>
     requires formed { AreFormed (collector_of collector.old).rows }
+    requires numbered { AreNumbered delivery.now.batch.items }
     ensures collector { OnOk result (collector_of collector.new ≡ outcomes.events_left (collector_of collector.old) source.now delivery.now now) }
     ensures taken { IfOk result (λ taken. taken ≡ outcomes.events_of (collector_of collector.old) source.now delivery.now now) }
 {
@@ -247,9 +249,10 @@ fn take_delivery(
     collector: &mut CollectorPlace,
     alloc: Global,
     delivery: &Delivery,
-    now: u64,
+    now: Moment,
 ) -> Result<TakenBatch, WorldFault>
     requires formed { AreFormed (collector_of collector.old).rows }
+    requires numbered { AreNumbered delivery.now.batch.items }
     ensures collector { OnOk result (collector_of collector.new
         ≡ places.called_at (collecting.collector_opened (collector_of collector.old)) (λ rows. steps.delivery_effect rows delivery.now now)) }
     ensures outcome { IfOk result (places.CameTo (collecting.collector_opening (collector_of collector.old)) (collecting.collector_opened (collector_of collector.old))
@@ -272,9 +275,10 @@ pub(crate) fn take_batch(
     sub: &SubId,
     source: &SourceName,
     batch: &Batch,
-    now: u64,
+    now: Moment,
 ) -> Result<TakenBatch, WorldFault>
     requires formed { AreFormed (collector_of collector.old).rows }
+    requires numbered { AreNumbered batch.now.items }
     ensures collector { OnOk result (collector_of collector.new
         ≡ places.called_at (collecting.collector_opened (collector_of collector.old)) (λ rows. steps.batch_effect rows sub.now source.now batch.now now)) }
     ensures outcome { IfOk result (places.CameTo (collecting.collector_opening (collector_of collector.old)) (collecting.collector_opened (collector_of collector.old))
@@ -284,7 +288,7 @@ pub(crate) fn take_batch(
         sub,
         source,
         batch,
-        now,
+        now: &now,
     };
     let taken = collecting::make_call(collector, alloc, call)?;
     Ok(answered_batch(taken))
@@ -422,7 +426,7 @@ fn give_offers(
     source: &SourceName,
     relates: &MessageId,
     offers: &List<Offer>,
-    now: u64,
+    now: Moment,
 ) -> Result<Text, WorldFault>
     requires { slots.IsFormedAt (map.get sources.old source.now) }
     ensures sources { OnOk result (sources.new ≡ slots.given_to sources.old source.now (λ end. steps.after_offers end relates.now offers.now now)) }

@@ -6,8 +6,10 @@ ghost use Rattle.wef_machine.specs.Kept.{IsKept};
 ghost use Rattle.wef_machine.specs.Printed as texts;
 ghost use Rattle.wef_machine.specs.States as states;
 ghost use Rattle.wef_machine.specs.Steps as steps;
+ghost use Rattle.wef_batch.specs.Numbers.{AreNumbered};
 ghost use Rattle.wef_collector_rows.specs.Forms.{AreFormed};
 ghost use Rattle.wef_world.specs.Collected as collected;
+ghost use Rattle.wef_world.specs.Made as made;
 ghost use Rattle.wef_replay.specs.Good.{allows, has_end, is_among};
 
 use crate::collecting::{self, Call, CollectorPlace};
@@ -20,7 +22,7 @@ use crate::sources::Sources;
 use std::alloc::{AllocError, Global};
 use std::collections::BTreeSet;
 use std::marker::Model;
-use wef_base::{ChannelName, List, SourceName, SubId, Text};
+use wef_base::{ChannelName, List, Moment, SourceName, SubId, Text};
 use wef_batch::Batch;
 use wef_collector::CollectorFault;
 use wef_eventing::{SubKind, Subscription};
@@ -41,7 +43,7 @@ pub struct Ends {
     pub(crate) sources: Sources,
     /// A message's number is its place, counted from 1.
     pub(crate) messages: List<Message>,
-    pub(crate) moment: u64,
+    pub(crate) moment: Moment,
     pub(crate) alloc: Global,
 }
 
@@ -79,7 +81,7 @@ impl Ends {
             foreign: BTreeSet::new(alloc),
             sources: Sources::new(alloc),
             messages: List::new(alloc),
-            moment: 0,
+            moment: Moment::first(),
             alloc,
         }
     }
@@ -186,6 +188,7 @@ impl Ends {
         query: &QueryList,
     ) -> Result<Text, WorldFault>
         requires formed { AreFormed self.old.collector.rows }
+        requires back { made.ReadsBack (steps.subscription_of sub.now items bytes beat query.now) }
         ensures state { OnOk result (self.new ≡ collecting.at_collector self.old (λ ids. steps.subscribe_at (steps.subscription_of sub.now items bytes beat query.now))) }
         ensures printed { IfOk result (λ text. text ≡ collecting.print_at_collector self.old steps.closed_line (λ ids. steps.subscribe_text (steps.subscription_of sub.now items bytes beat query.now))) }
     {
@@ -207,6 +210,7 @@ impl Ends {
 
     fn take(&mut self, sub: &SubId, source: &SourceName, batch: &Batch) -> Result<Text, WorldFault>
         requires formed { AreFormed self.old.collector.rows }
+        requires numbered { AreNumbered batch.now.items }
         ensures state { OnOk result (self.new ≡ collecting.at_collector (states.with_foreign self.old source.now) (λ ids. steps.batch_at sub.now source.now batch.now)) }
         ensures printed { IfOk result (λ text. text
             ≡ collecting.print_at_collector (states.with_foreign self.old source.now) (steps.closed_batch sub.now source.now) (λ ids. steps.batch_line sub.now source.now batch.now)) }

@@ -11,7 +11,7 @@ use crate::histories::Histories;
 use crate::places::{Called, End, Placed, Used};
 use std::alloc::Global;
 use std::marker::Model;
-use wef_base::{List, SourceName, SubId};
+use wef_base::{List, Moment, SourceName, SubId};
 use wef_event::Event;
 use wef_eventing::Offer;
 use wef_ids::MessageId;
@@ -265,7 +265,7 @@ impl Slot {
     }
 
     /// What a session has to send, at a moment.
-    pub fn poll(&mut self, alloc: Global, sub: &SubId, now: u64) -> Result<Used<Polled>, WorldFault>
+    pub fn poll(&mut self, alloc: Global, sub: &SubId, now: Moment) -> Result<Used<Polled>, WorldFault>
         requires formed { AreFormed self.old.place.rows }
         ensures { IfOk result (slots.PollsAs self.old self.new sub.now now) }
     {
@@ -304,7 +304,7 @@ impl Slot {
         alloc: Global,
         relates: &MessageId,
         offers: &List<Offer>,
-        now: u64,
+        now: Moment,
     ) -> Result<Used<Option<u64>>, WorldFault>
         requires formed { AreFormed self.old.place.rows }
         ensures slot { OnOk result (self.new ≡ slots.slot_changed self.old (λ end. after_offers end relates.now offers.now now)) }

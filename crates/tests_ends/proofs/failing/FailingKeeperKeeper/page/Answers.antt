@@ -8,7 +8,7 @@ use Rattle.tests_ends.proofs.failing.FailingKeeperKeeper.page.Goals as goal
 pub returns-clause-behind : goal.returns-clause-behind
 returns-clause-behind c =
     let after = c.args.after.now in
-    let rows = c.is_listed.new.self.rows in
+    let rows = c.begin_read.new.self.rows in
     let whole = All-map (λ (row : Row). is_after after row.key ≡ true) row_of _ (filter_passes (λ entry. is_after after entry.0) (finite.entries rows)) in
     let P : List Row → Type 0 = All (λ (row : Row). is_after after row.key ≡ true) in
     subst P (sym c.in_ok-page.ensures) (All-take (λ (row : Row). is_after after row.key ≡ true) c.args.max (rows_after after rows) whole)
