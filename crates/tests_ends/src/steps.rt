@@ -2,7 +2,7 @@
 
 use std::alloc::{AllocError, Global};
 use wef_base::{ChannelName, Text, ValueFault, is_xml_text};
-use wef_envelope::MessageId;
+use wef_ids::MessageId;
 use wef_event::{Event, EventFault, PlainEvent};
 
 /// An end that does steps.
