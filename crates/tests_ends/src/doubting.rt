@@ -28,23 +28,68 @@ const FAILURES: &[(u64, &str, &str, &str)] = &[
     (2, "add u;list", "Failed;;", "Failed;u live;"),
     (2, "add u;offers", "Failed;;", "Failed;at 0;"),
     (2, "add u;bookmark u", "Failed;NoSubscription;", "Failed;0;"),
-    (2, "add u;report", "Failed;end\n;", "Failed;subscription u live\nend\n;"),
+    (
+        2,
+        "add u;report",
+        "Failed;end\n;",
+        "Failed;subscription u live\nend\n;",
+    ),
     (2, "add u;draw", "Failed;1.1;", "Failed;1.1;"),
     // Its end.
-    (3, "add u;end u;add u", "ok;Failed;Exists;", "ok;Failed;Exists;"),
+    (
+        3,
+        "add u;end u;add u",
+        "ok;Failed;Exists;",
+        "ok;Failed;Exists;",
+    ),
     (3, "add u;end u;end u", "ok;Failed;ok;", "ok;Failed;Ended;"),
-    (3, "add u;end u;take u 7", "ok;Failed;ok;", "ok;Failed;Ended;"),
-    (3, "add u;end u;state u", "ok;Failed;live;", "ok;Failed;Ended;"),
+    (
+        3,
+        "add u;end u;take u 7",
+        "ok;Failed;ok;",
+        "ok;Failed;Ended;",
+    ),
+    (
+        3,
+        "add u;end u;state u",
+        "ok;Failed;live;",
+        "ok;Failed;Ended;",
+    ),
     (3, "add u;end u;page u", "ok;Failed;;", "ok;Failed;;"),
-    (3, "add u;end u;list", "ok;Failed;u live;", "ok;Failed;u ended;"),
+    (
+        3,
+        "add u;end u;list",
+        "ok;Failed;u live;",
+        "ok;Failed;u ended;",
+    ),
     (3, "add u;end u;offers", "ok;Failed;at 0;", "ok;Failed;;"),
     // A batch.
-    (3, "add u;take u 7;take u 7", "ok;Failed;ok;", "ok;Failed;ok;"),
+    (
+        3,
+        "add u;take u 7;take u 7",
+        "ok;Failed;ok;",
+        "ok;Failed;ok;",
+    ),
     (3, "add u;take u 7;end u", "ok;Failed;ok;", "ok;Failed;ok;"),
-    (3, "add u;take u 7;state u", "ok;Failed;live;", "ok;Failed;live;"),
+    (
+        3,
+        "add u;take u 7;state u",
+        "ok;Failed;live;",
+        "ok;Failed;live;",
+    ),
     (3, "add u;take u 7;page u", "ok;Failed;;", "ok;Failed;7;"),
-    (3, "add u;take u 7;offers", "ok;Failed;at 0;", "ok;Failed;at 7;"),
-    (3, "add u;take u 7;bookmark u", "ok;Failed;0;", "ok;Failed;7;"),
+    (
+        3,
+        "add u;take u 7;offers",
+        "ok;Failed;at 0;",
+        "ok;Failed;at 7;",
+    ),
+    (
+        3,
+        "add u;take u 7;bookmark u",
+        "ok;Failed;0;",
+        "ok;Failed;7;",
+    ),
     (
         3,
         "add u;take u 7;report",
@@ -62,7 +107,15 @@ const FAILURES: &[(u64, &str, &str, &str)] = &[
 
 /// A row that stands when a collector is started: its kind, subscription, source, channel, number,
 /// value and body.
-type Kept = (u8, &'static str, &'static str, &'static str, u64, u64, &'static str);
+type Kept = (
+    u8,
+    &'static str,
+    &'static str,
+    &'static str,
+    u64,
+    u64,
+    &'static str,
+);
 
 const LIVE: Kept = (1, "u", "", "", 0, 0, "20 512000 900000 all security");
 

@@ -99,18 +99,72 @@ const FAILURES: &[(u64, bool, u64, &str, &str)] = &[
     // A write, and each call behind it.
     (2, false, 4, "write a 1;first a;last a", "Failed;1;0;"),
     (2, true, 4, "write a 1;first a;last a", "Failed;1;1;"),
-    (3, false, 4, "write a 1;write a 1;last a;boot", "1;Failed;1;1;"),
-    (3, true, 4, "write a 1;write a 1;last a;boot", "1;Failed;2;1;"),
+    (
+        3,
+        false,
+        4,
+        "write a 1;write a 1;last a;boot",
+        "1;Failed;1;1;",
+    ),
+    (
+        3,
+        true,
+        4,
+        "write a 1;write a 1;last a;boot",
+        "1;Failed;2;1;",
+    ),
     (3, false, 4, "write a 1;write a 1;page a 0 9", "1;Failed;1;"),
-    (3, true, 4, "write a 1;write a 1;page a 0 9", "1;Failed;1 2;"),
-    (3, false, 4, "write a 1;write b 1;write a 1;page b 0 9", "1;Failed;2;;"),
-    (3, true, 4, "write a 1;write b 1;write a 1;page b 0 9", "1;Failed;2;1;"),
+    (
+        3,
+        true,
+        4,
+        "write a 1;write a 1;page a 0 9",
+        "1;Failed;1 2;",
+    ),
+    (
+        3,
+        false,
+        4,
+        "write a 1;write b 1;write a 1;page b 0 9",
+        "1;Failed;2;;",
+    ),
+    (
+        3,
+        true,
+        4,
+        "write a 1;write b 1;write a 1;page b 0 9",
+        "1;Failed;2;1;",
+    ),
     // A write that is made again.
-    (3, false, 4, "write a 1;write a 1;write a 1;page a 0 9", "1;Failed;2;1 2;"),
-    (3, true, 4, "write a 1;write a 1;write a 1;page a 0 9", "1;Failed;3;1 2 3;"),
+    (
+        3,
+        false,
+        4,
+        "write a 1;write a 1;write a 1;page a 0 9",
+        "1;Failed;2;1 2;",
+    ),
+    (
+        3,
+        true,
+        4,
+        "write a 1;write a 1;write a 1;page a 0 9",
+        "1;Failed;3;1 2 3;",
+    ),
     // One behind which a record leaves the window.
-    (4, false, 2, "write a 2;write a 1;ends a;page a 0 9", "1 2;Failed;1-2;1 2;"),
-    (4, true, 2, "write a 2;write a 1;ends a;page a 0 9", "1 2;Failed;2-3;2 3;"),
+    (
+        4,
+        false,
+        2,
+        "write a 2;write a 1;ends a;page a 0 9",
+        "1 2;Failed;1-2;1 2;",
+    ),
+    (
+        4,
+        true,
+        2,
+        "write a 2;write a 1;ends a;page a 0 9",
+        "1 2;Failed;2-3;2 3;",
+    ),
 ];
 
 /// Writes an event of so many letters.
@@ -283,11 +337,7 @@ impl Does for Log<FailingKeeper> {
     }
 }
 
-fn start<K: Keeper>(
-    alloc: Global,
-    keeper: K,
-    capacity: u64,
-) -> Result<Log<K>, (K, LogFault)> {
+fn start<K: Keeper>(alloc: Global, keeper: K, capacity: u64) -> Result<Log<K>, (K, LogFault)> {
     Log::start(alloc, keeper, capacity.clamp(1, 1_000_000))
 }
 

@@ -110,12 +110,20 @@ fn push_written<K: Keeper>(
     Ok(text.push_number(number)?)
 }
 
-fn push_long<K: Keeper>(text: &mut Text, source: &mut SourceEnd<K>, words: &str) -> Result<(), SourceFault> {
+fn push_long<K: Keeper>(
+    text: &mut Text,
+    source: &mut SourceEnd<K>,
+    words: &str,
+) -> Result<(), SourceFault> {
     let (name, count) = parted(words);
     push_written(text, source, name, number(count))
 }
 
-fn push_writes<K: Keeper>(text: &mut Text, source: &mut SourceEnd<K>, words: &str) -> Result<(), SourceFault> {
+fn push_writes<K: Keeper>(
+    text: &mut Text,
+    source: &mut SourceEnd<K>,
+    words: &str,
+) -> Result<(), SourceFault> {
     let (name, times) = parted(words);
     for turn in 0..number(times) {
         text.push_str(if turn > 0 { " " } else { "" })?;
@@ -169,7 +177,11 @@ fn offers_of(alloc: Global, words: &str) -> Result<List<Offer>, ValueFault> {
 }
 
 /// Asks, and adopts an offer of so many items and bytes a batch.
-fn push_served<K: Keeper>(text: &mut Text, source: &mut SourceEnd<K>, words: &str) -> Result<(), SourceFault> {
+fn push_served<K: Keeper>(
+    text: &mut Text,
+    source: &mut SourceEnd<K>,
+    words: &str,
+) -> Result<(), SourceFault> {
     let offers = known(offers_of(text.alloc(), words))?;
     let id = source.ask()?;
     push_adopted(text, source, &id, &offers)
@@ -190,7 +202,11 @@ fn push_adopted<K: Keeper>(
 }
 
 /// Adopts no offer.
-fn push_none<K: Keeper>(text: &mut Text, source: &mut SourceEnd<K>, id: &str) -> Result<(), SourceFault> {
+fn push_none<K: Keeper>(
+    text: &mut Text,
+    source: &mut SourceEnd<K>,
+    id: &str,
+) -> Result<(), SourceFault> {
     let id = id_of(text.alloc(), id);
     push_adopted(text, source, &id, &List::new(text.alloc()))
 }
@@ -469,12 +485,7 @@ fn started_again(
 }
 
 /// What the steps of a source answer over a store of which a commit fails.
-fn ran_failing(
-    alloc: Global,
-    commit: u64,
-    keeps: bool,
-    steps: &str,
-) -> Result<Text, SourceFault> {
+fn ran_failing(alloc: Global, commit: u64, keeps: bool, steps: &str) -> Result<Text, SourceFault> {
     let mut text = Text::new(alloc);
     let keeper = FailingKeeper::new(alloc, FailsAt::Commit(commit), keeps);
     let mut source = started_again(&mut text, keeper)?;

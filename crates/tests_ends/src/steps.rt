@@ -2,8 +2,8 @@
 
 use std::alloc::{AllocError, Global};
 use wef_base::{ChannelName, Text, ValueFault, is_xml_text};
-use wef_ids::MessageId;
 use wef_event::{Event, EventFault, PlainEvent};
+use wef_ids::MessageId;
 
 /// An end that does steps.
 pub trait Does {

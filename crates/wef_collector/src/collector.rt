@@ -36,9 +36,9 @@ use wef_batch::Batch;
 use wef_bookmark::Bookmark;
 use wef_collector_reports::listing::Listed;
 use wef_collector_rows::faults::CollectorFault;
-use wef_ids::{Ids, MessageId};
 use wef_event::Event;
 use wef_eventing::{Offer, Subscription};
+use wef_ids::{Ids, MessageId};
 use wef_keeper::{Keeper, MemKeeper, Plan};
 
 /// Keeps subscriptions, and for each subscription and source the events that were delivered,

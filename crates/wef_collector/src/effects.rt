@@ -31,8 +31,8 @@ use wef_collector_rows::faults::CollectorFault;
 use wef_collector_rows::keys::{boot_key, subscription_key, subscriptions_start};
 use wef_collector_rows::numbers::number_at;
 use wef_collector_rows::standings::{live_in, subscription_cell};
-use wef_ids::Ids;
 use wef_eventing::{Subscription, kept_words, read_kept};
+use wef_ids::Ids;
 use wef_keeper::forms::formed_page;
 use wef_keeper::{Cell, Changes, Depth, Keeper, Key, StoreFault};
 use wef_query::channels;
@@ -108,8 +108,7 @@ fn is_full<K: Keeper>(keeper: &mut K, alloc: Global) -> Result<bool, StoreFault>
     ensures reads { access.Reads AreFormed (access.fails result) (K.store keeper.old) (K.store keeper.new) }
 {
     let start = subscriptions_start(alloc);
-    let page =
-        formed_page::<CollectorForm, K>(keeper, &start, Depth::Kind, MOST_SUBSCRIPTIONS)?;
+    let page = formed_page::<CollectorForm, K>(keeper, &start, Depth::Kind, MOST_SUBSCRIPTIONS)?;
     Ok(page.len() == MOST_SUBSCRIPTIONS as usize)
 }
 
@@ -192,14 +191,7 @@ fn live_changes<K: Keeper>(
     if !judge(batch, channels.as_slice()) {
         return Err(CollectorFault::NotWellFormed);
     }
-    Ok(batch_changes(
-        keeper,
-        sub,
-        source,
-        channels.as_slice(),
-        batch,
-        now,
-    )?)
+    Ok(batch_changes(keeper, sub, source, channels.as_slice(), batch, now)?)
 }
 
 /// What a start commits, and the ids that it begins with.

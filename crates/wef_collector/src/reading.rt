@@ -86,7 +86,8 @@ pub fn list_in<K: Keeper>(keeper: &mut K, alloc: Global) -> Result<List<Listed>,
 /// batches come to the host.
 #[tactic(auto, using(wef_keeper::proofs::Calls::looks_by))]
 pub fn offers_in<K: Keeper>(
-    keeper: &mut K, alloc: Global,
+    keeper: &mut K,
+    alloc: Global,
     source: &SourceName,
     host: &Text,
 ) -> Result<List<Offer>, CollectorFault>
@@ -101,7 +102,11 @@ pub fn offers_in<K: Keeper>(
 
 /// How far a source was served for a subscription; also for one that has ended.
 #[tactic(auto, using(wef_keeper::proofs::Calls::looks_by))]
-pub fn bookmark_in<K: Keeper>(keeper: &mut K, sub: &SubId, source: &SourceName) -> Result<Bookmark, CollectorFault>
+pub fn bookmark_in<K: Keeper>(
+    keeper: &mut K,
+    sub: &SubId,
+    source: &SourceName,
+) -> Result<Bookmark, CollectorFault>
     ensures known { IfSome (K.store keeper.new).rows (λ rows. OnOk result (answers.is_known (standings.standing rows sub.now) ≡ true)) }
     ensures ok { IfSome (K.store keeper.new).rows (λ rows. IfOk result (λ bookmark. bookmark ≡ bookmark_of rows sub.now source.now)) }
     ensures judged { IfSome (K.store keeper.new).rows (λ rows. OnOk result (IsFormedAt (subscription_key sub.now) rows × AreAllFormed (bookmark_rows rows sub.now source.now))) }

@@ -18,8 +18,8 @@ use wef_base::{SourceName, SubId};
 use wef_batch::Batch;
 use wef_collector_rows::CollectorForm;
 use wef_collector_rows::faults::CollectorFault;
-use wef_ids::Ids;
 use wef_eventing::Subscription;
+use wef_ids::Ids;
 use wef_keeper::access::{commit, open};
 use wef_keeper::{Changes, Keeper};
 

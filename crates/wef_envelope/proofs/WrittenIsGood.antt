@@ -139,18 +139,37 @@ standing_good ((h, None) ∷ ps) room good = standing_good ps room good.1
 standing_good ((h, Some e) ∷ ps) room good = (good.0, standing_good ps room good.1)
 
 places_good : (e : Envelope) (room : ℕ) → HasGoodParts e (suc (suc room)) → AreGoodPlaces (places e) (suc (suc room))
-places_good e room good =
-    (text_good the.To e.to (suc room) refl good.to,
-    (text_good the.Resource e.resource (suc room) refl good.resource,
-    (reply_good the.ReplyTo e.reply_to room refl good.reply_to,
-    (leaf_good (space_of the.Action) (name_of the.Action) e.action (suc room) (space_good the.Action) (name_good the.Action refl) good.action,
-    (leaf_good (space_of the.MessageId) (name_of the.MessageId) e.id.text (suc room) (space_good the.MessageId) (name_good the.MessageId refl) good.id,
-    (id_good the.Relates e.relates (suc room) refl good.relates,
-    (text_good the.Machine e.machine (suc room) refl good.machine,
-    (text_good the.MaxSize e.max_size (suc room) refl good.max_size,
-    (text_good the.Identifier e.identifier (suc room) refl good.identifier,
-    (good.bookmark,
-    (flag_good the.AckRequested e.ack_wanted (suc room) refl, tt)))))))))))
+places_good e room good = (
+  text_good the.To e.to (suc room) refl good.to,
+  (
+    text_good the.Resource e.resource (suc room) refl good.resource,
+    (
+      reply_good the.ReplyTo e.reply_to room refl good.reply_to,
+      (
+        leaf_good (space_of the.Action) (name_of the.Action) e.action (suc room) (space_good the.Action) (name_good the.Action refl) good.action,
+        (
+          leaf_good (space_of the.MessageId) (name_of the.MessageId) e.id.text (suc room) (space_good the.MessageId) (name_good the.MessageId refl) good.id,
+          (
+            id_good the.Relates e.relates (suc room) refl good.relates,
+            (
+              text_good the.Machine e.machine (suc room) refl good.machine,
+              (
+                text_good the.MaxSize e.max_size (suc room) refl good.max_size,
+                (
+                  text_good the.Identifier e.identifier (suc room) refl good.identifier,
+                  (
+                    good.bookmark,
+                    (flag_good the.AckRequested e.ack_wanted (suc room) refl, tt),
+                  ),
+                ),
+              ),
+            ),
+          ),
+        ),
+      ),
+    ),
+  ),
+)
 
 -- ---- the law
 
@@ -159,6 +178,7 @@ unfolding written
 written_is_good e room good =
     let header : Element = part (codes "Header") (standing (places e)) in
     let body : Element = part (codes "Body") e.body in
-    holder_good soap (codes "Envelope") (header ∷ body ∷ []) (suc (suc (suc room))) soap_good envelope_good
-    (holder_good soap (codes "Header") (standing (places e)) (suc (suc room)) soap_good header_good (standing_good (places e) (suc (suc room)) (places_good e room good)),
-    (holder_good soap (codes "Body") e.body (suc (suc room)) soap_good body_good good.body, tt))
+    holder_good soap (codes "Envelope") (header ∷ body ∷ []) (suc (suc (suc room))) soap_good envelope_good (
+      holder_good soap (codes "Header") (standing (places e)) (suc (suc room)) soap_good header_good (standing_good (places e) (suc (suc room)) (places_good e room good)),
+      (holder_good soap (codes "Body") e.body (suc (suc room)) soap_good body_good good.body, tt),
+    )

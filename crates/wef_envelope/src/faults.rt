@@ -297,7 +297,11 @@ fn value(alloc: Global, text: &str) -> Result<Element, AllocError>
 }
 
 /// Appends the Subcode of a name, but for MustUnderstand, whose code is its name.
-fn push_subcode(alloc: Global, parts: &mut List<Element>, name: &FaultName) -> Result<(), AllocError>
+fn push_subcode(
+    alloc: Global,
+    parts: &mut List<Element>,
+    name: &FaultName,
+) -> Result<(), AllocError>
     ensures { OnOk result (parts.new ≡ parts.old ++ subcode_of name.now) }
 {
     if let FaultName::MustUnderstand = name {

@@ -45,7 +45,11 @@ fn copy_list(alloc: Global, elements: &List<Element>) -> Result<List<Element>, A
 
 /// An element of SOAP that holds elements.
 #[tactic(auto, unfolding(crate::specs::Spaces::soap))]
-pub(crate) fn part(alloc: Global, name: &str, elements: List<Element>) -> Result<Element, AllocError>
+pub(crate) fn part(
+    alloc: Global,
+    name: &str,
+    elements: List<Element>,
+) -> Result<Element, AllocError>
     ensures { IfOk result (λ e. e ≡ part name.now elements) }
 {
     with_elements(space(alloc, SOAP)?, name, elements)

@@ -44,7 +44,9 @@ const FRAME: usize = 253;
 
 /// The room that a plain event's text takes, where nothing has to be escaped.
 fn room_for(channel: &str, word: &str) -> usize {
-    FRAME.saturating_add(channel.len()).saturating_add(word.len())
+    FRAME
+        .saturating_add(channel.len())
+        .saturating_add(word.len())
 }
 
 /// An empty text with room for so many bytes.

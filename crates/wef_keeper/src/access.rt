@@ -158,10 +158,7 @@ pub fn last_key_of(after: Key, page: &[Row]) -> Result<Key, AllocError>
 }
 
 /// Commits a list of changes. One that changes nothing begins no commit.
-pub fn commit<F: Form, K: Keeper>(
-    keeper: &mut K,
-    changes: &Changes<F>,
-) -> Result<(), StoreFault>
+pub fn commit<F: Form, K: Keeper>(keeper: &mut K, changes: &Changes<F>) -> Result<(), StoreFault>
     requires { access.IsReady (K.store keeper.old) }
     ensures put { ArePut F.passes changes.now }
     ensures leaves { access.Leaves changes.now result (K.store keeper.old) (K.store keeper.new) }

@@ -109,10 +109,7 @@ pub fn formed_cell<F: Form, K: Keeper>(
 }
 
 /// The row of a key, or none where there is none. `Failed` where it isn't of its form.
-pub fn formed_row<F: Form, K: Keeper>(
-    keeper: &mut K,
-    key: &Key,
-) -> Result<Option<Row>, StoreFault>
+pub fn formed_row<F: Form, K: Keeper>(keeper: &mut K, key: &Key) -> Result<Option<Row>, StoreFault>
     requires { access.IsReady (K.store keeper.old) }
     ensures row { IfSome (K.store keeper.new).rows (λ rows. IfOk result (λ row. row ≡ row_at key.now rows)) }
     ensures formed { IfOk result (λ found. IfSome found (λ row. F.passes row ≡ true)) }

@@ -265,7 +265,12 @@ impl Slot {
     }
 
     /// What a session has to send, at a moment.
-    pub fn poll(&mut self, alloc: Global, sub: &SubId, now: Moment) -> Result<Used<Polled>, WorldFault>
+    pub fn poll(
+        &mut self,
+        alloc: Global,
+        sub: &SubId,
+        now: Moment,
+    ) -> Result<Used<Polled>, WorldFault>
         requires formed { AreFormed self.old.place.rows }
         ensures { IfOk result (slots.PollsAs self.old self.new sub.now now) }
     {

@@ -10,4 +10,4 @@ returns-then-not-branch-clause-reads g c =
     let ill : list_all g.F.Form.passes c.in_ok-page.page ≡ false = search rules in
     let store = g.K.Keeper.store c.section_page.new.keeper in
     ill_formed (ArePassed g.F.Form.passes) (g.K.Keeper.store c.args.keeper.now) store c.in_ok-page.ensures.reads.0
-        (no_page g.F.Form.passes store.rows c.args.max c.args.depth c.args.after.now c.in_ok-page.page ill c.in_ok-page.ensures.page)
+    (no_page g.F.Form.passes store.rows c.args.max c.args.depth c.args.after.now c.in_ok-page.page ill c.in_ok-page.ensures.page)

@@ -10,4 +10,4 @@ returns-then-not-branch-clause-reads g c =
     let ill : list_all g.F.Form.passes c.in_ok-section.section ≡ false = search rules in
     let store = g.K.Keeper.store c.section.new.keeper in
     ill_formed (ArePassed g.F.Form.passes) (g.K.Keeper.store c.args.keeper.now) store c.in_ok-section.ensures.reads.0
-        (no_section g.F.Form.passes store.rows c.args.depth c.args.after.now c.in_ok-section.section ill c.in_ok-section.ensures.section)
+    (no_section g.F.Form.passes store.rows c.args.depth c.args.after.now c.in_ok-section.section ill c.in_ok-section.ensures.section)
