@@ -1,16 +1,13 @@
 -- A call of the collector, by where it ends: it opens the store, reads, and commits what it changes.
-use Rattle.std.proofs.Common.{◌≡◌, Bool, true, false, List, [], ◌∷◌, ◌∙◌, refl, sym, ap}
-use Rattle.std.specs.Prelude.{Option, Some, None, Result, Ok, Err, IfSome, OnOk, is_some}
-use Rattle.wef_keeper.specs.Access.{AnyRows, Finds, From, HasRead, IsRefused, Leaves, LeavesPlanned, OpensAndReads, Reads, fails as store_fails}
-use Rattle.wef_keeper.specs.Calls.{IsCall, is_failure}
-use Rattle.wef_keeper.specs.Forms.{ArePut}
-use Rattle.wef_keeper.specs.Keeping.{Follows, Store, WhereTold}
+use Rattle.std.proofs.Common.{◌≡◌, List}
+use Rattle.std.specs.Prelude.{Option, Some, None, Result, Ok, Err, IfSome, OnOk}
+use Rattle.wef_keeper.specs.Access.{Finds, From, HasRead}
+use Rattle.wef_keeper.specs.Calls.{IsCall}
+use Rattle.wef_keeper.specs.Keeping.{Follows, Store}
 use Rattle.wef_keeper.specs.Rows.{Rows, applied}
-use Rattle.wef_keeper.specs.declared.access.StoreFault.{StoreFault}
 use Rattle.wef_keeper.specs.declared.keys.Change.{Change}
 use Rattle.wef_keeper.proofs.Calls.{finds_still, from_found, from_weaker}
 use Rattle.wef_keeper.proofs.Told.{follows_with}
-use Rattle.wef_eventing.specs.Kept.{kept_words}
 use Rattle.wef_collector_rows.specs.Faults.{collector_store}
 use Rattle.wef_collector_rows.specs.Forms.{AreFormed}
 use Rattle.wef_collector_rows.specs.declared.faults.CollectorFault.{CollectorFault}

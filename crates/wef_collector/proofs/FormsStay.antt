@@ -1,7 +1,6 @@
 -- Rows of their form stay so, whatever the collector does.
 use Rattle.std.proofs.Common.{◌≡◌, ℕ, ◌+◌, ◌<◌, ◌≤◌, ◌==◌, nat_le, nat_lt, max, Bool, true, false, cond, ◌&&◌, List, [], ◌∷◌, ◌++◌, refl, ap, sym, ◌∙◌, subst, arith, if◌then◌else◌}
 use Rattle.std.proofs.lemmas.Bool.{and_parts}
-use Rattle.std.proofs.lemmas.Bool.Decides.{nat_tests}
 use Rattle.std.proofs.lemmas.Str.{IsUtf8-from_is_utf8}
 use Rattle.std.specs.Cmp.Lexicographic.{slice_cmp}
 use Rattle.std.specs.FinMap as finite
@@ -13,15 +12,13 @@ use Rattle.std.specs.Str.{is_utf8}
 use Rattle.std.specs.declared.cmp.Ordering.{Ordering}
 use Rattle.std.specs.declared.cmp.Ordering.TheVariants.{Less, Equal, Greater}
 use Rattle.wef_base.specs.Names.{channel_name, same}
-use Rattle.wef_base.specs.Numbers.{plain_number}
 use Rattle.wef_base.specs.Words.{decoded, parts, utf8}
 use Rattle.wef_base.specs.declared.names.Letters.TheVariants.{Small}
-use Rattle.wef_base.proofs.Decimals.{plain_number-decimal}
 use Rattle.wef_base.proofs.Kept.{name_kept}
 use Rattle.wef_base.specs.declared.moments.TheConstants.{LAST_MOMENT}
 use Rattle.wef_base.specs.declared.numbers.TheConstants.{MAX}
 use Rattle.wef_batch.specs.Reach.{last_after, last_in, later, loose_sum, reach, reach_of, span_in}
-use Rattle.wef_batch.specs.WellFormed.{follows, is_above, is_at_least, is_in_order, is_listed, is_well_formed, rises}
+use Rattle.wef_batch.specs.WellFormed.{is_at_least, is_in_order, is_listed, is_well_formed, rises}
 use Rattle.wef_batch.specs.declared.items.Batch.{Batch}
 use Rattle.wef_batch.specs.declared.items.Item.{Item}
 use Rattle.wef_batch.specs.declared.items.Item.TheVariants.{Event, Dropped, Loose}
@@ -32,18 +29,16 @@ use Rattle.wef_eventing.specs.Subscriptions.{all_events}
 use Rattle.wef_eventing.specs.declared.subscriptions.Subscription.{Subscription}
 use Rattle.wef_keeper.proofs.StayFormed.{applied_formed}
 use Rattle.wef_keeper.specs.Forms.{ArePut, IsPut}
-use Rattle.wef_keeper.specs.Rows.{Rows, applied, cell_of, cell_of_row, changed, key_cmp, key_of, row_of}
+use Rattle.wef_keeper.specs.Rows.{Rows, key_cmp, row_of}
 use Rattle.wef_keeper.specs.declared.keys.Cell.{Cell}
 use Rattle.wef_keeper.specs.declared.keys.Change.{Change}
-use Rattle.wef_keeper.specs.declared.keys.Change.TheVariants.{Delete, Put}
-use Rattle.wef_keeper.specs.declared.keys.Key.{Key}
 use Rattle.wef_query.specs.Order.{with_name, with_names}
 use Rattle.wef_query.specs.Queries.{all_events_of}
 use Rattle.wef_query.specs.Selected.{selects}
 use Rattle.wef_collector_rows.specs.Answers.{channels_read}
 use Rattle.wef_collector_rows.specs.Bookmarks.{bookmark_at, is_one}
 use Rattle.wef_collector.specs.Boots.{boot_of}
-use Rattle.wef_collector_rows.specs.Forms.{AreFormed, is_boot_row, is_bookmark_row, is_channel_name, is_formed, is_heard_row, is_held_row, is_loose_row, is_mark_row, is_source_name, is_subscription_name, is_subscription_row, names_channel}
+use Rattle.wef_collector_rows.specs.Forms.{AreFormed, is_channel_name, is_formed, is_source_name, is_subscription_name, is_subscription_row}
 use Rattle.wef_collector.specs.FormsStay.{FormsStay, IsSoundItem, IsSoundBatch}
 use Rattle.wef_collector_rows.specs.Keys.{bookmark_key, boot_key, heard_key, held_key, loose_key, mark_key, subscription_key}
 use Rattle.wef_collector_rows.specs.Standing.{kept_body, standing, standing_by, standing_of}

@@ -10,3 +10,4 @@ pub mod OfStore
 pub mod OwnKeys
 pub mod Pages
 pub mod Taking
+pub mod Whole

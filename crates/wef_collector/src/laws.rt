@@ -3,6 +3,7 @@
 ghost use Rattle.wef_collector.specs.FormsStay.{FormsStay};
 ghost use Rattle.wef_collector.specs.Laws.{BookmarkMoves, BookmarkNeverFalls, EventsAreHeld, OthersStay};
 ghost use Rattle.wef_collector.specs.There.{ListedAreThere, OwnKeysStay};
+ghost use Rattle.wef_collector.specs.Whole.{SkipsNothing};
 
 /// What any run of batches of a subscription and source leaves: by number, the events that stood above the bookmark when their batch came; a bookmark at the greatest reach, and none
 /// that fell; and the rows of all other subscriptions and sources as they were.
@@ -25,4 +26,10 @@ pub fn listed_are_there()
 /// a start, where a subscription is added or ends, and over a batch that is taken.
 pub fn forms_stay()
     ensures { FormsStay }
+{}
+
+/// Where the rows that a call reads are of their form, it passes none of them over: each row of a
+/// subscription is listed, each bookmark row is in the bookmark, and a name whose row stands is known.
+pub fn nothing_is_skipped()
+    ensures { SkipsNothing }
 {}

@@ -2,7 +2,6 @@ use Rattle.std.proofs.Common.{◌≡◌, refl}
 use Rattle.std.proofs.lemmas.Result.{err_from_is_err_and}
 use Rattle.wef_keeper.proofs.Calls.{committed, not_committed, not_opened, refused}
 use Rattle.wef_keeper.proofs.StayFormed.{applied_formed}
-use Rattle.wef_keeper.specs.Rows.{Rows}
 use Rattle.wef_keeper.proofs.Told.{told_any}
 use Rattle.wef_collector.specs.Requests.{IsJudged, effect_of}
 use Rattle.wef_collector.proofs.Answered.{all_judged, none_judged, stands_behind}

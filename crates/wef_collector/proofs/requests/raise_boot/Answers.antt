@@ -1,8 +1,7 @@
-use Rattle.std.proofs.Common.{◌≡◌, refl}
+use Rattle.std.proofs.Common.{refl}
 use Rattle.std.proofs.lemmas.Result.{err_from_is_err_and}
 use Rattle.wef_keeper.proofs.Calls.{committed, not_committed, not_opened, refused}
 use Rattle.wef_keeper.proofs.StayFormed.{applied_formed}
-use Rattle.wef_keeper.specs.Rows.{Rows}
 use Rattle.wef_collector_rows.specs.Judged.{IsFormedAt}
 use Rattle.wef_collector_rows.specs.Keys.{boot_key}
 use Rattle.wef_collector.specs.Boots.{ids_begun}
