@@ -1,6 +1,6 @@
 //! The words of a batch, parted by one space.
 
-ghost use Rattle.std.specs.Prelude.{◌≡◌, is_some, IsTrue, IfOk, OnOk};
+ghost use Rattle.std.specs.Prelude.{◌≡◌, [], is_some, IsTrue, IfOk, OnOk};
 ghost use Rattle.wef_base.specs.Characters.{is_xml_text};
 ghost use Rattle.wef_base.specs.Words.{parts};
 ghost use Rattle.wef_replay.specs.Reading.{Gives};
@@ -55,7 +55,7 @@ pub fn batch_of(alloc: Global, words: &[u8]) -> Result<Batch, LineFault>
     ensures { Gives result (read_words empty_batch (parts 32 words.now)) }
 {
     let mut batch = Batch {
-        items: List::new(alloc),
+        items: room_for(alloc, words)?,
         to: Bookmark::new(alloc),
         ack_wanted: false,
     };
@@ -63,6 +63,14 @@ pub fn batch_of(alloc: Global, words: &[u8]) -> Result<Batch, LineFault>
         add(&mut batch, word_of(alloc, word)?)?;
     }
     Ok(batch)
+}
+
+/// No item, and room for as many as there are words.
+fn room_for(alloc: Global, words: &[u8]) -> Result<List<Item>, AllocError>
+    ensures { IfOk result (λ items. items ≡ []) }
+{
+    let spaces = words.iter().filter(|byte| **byte == b' ').count();
+    Ok(List::from(Vec::with_capacity(alloc, spaces.saturating_add(1))?))
 }
 
 fn add(batch: &mut Batch, word: BatchWord) -> Result<(), AllocError>
