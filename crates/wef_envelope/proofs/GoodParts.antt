@@ -4,7 +4,6 @@ use Rattle.wef_base.specs.declared.tree.Element.{Element}
 use Rattle.wef_base.specs.declared.tree.Node.{Node, Chars}
 use Rattle.wef_base.specs.declared.tree.Node.TheVariants.{Element as Child}
 use Rattle.wef_elements.specs.Children.{as_nodes, with_elements, with_text}
-use Rattle.wef_elements.specs.Texts.{only_text}
 use Rattle.wef_xml.specs.Good.{AreGoodNodes, IsGoodElement, IsGoodHead, IsLocalName, IsXmlText, are_apart}
 use Rattle.wef_xml.proofs.GoodNodes.{good_child, is_no_text}
 use Rattle.wef_envelope.specs.Laws.{AreGood}
