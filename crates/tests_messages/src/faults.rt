@@ -41,14 +41,23 @@ fn push_parts(shown: &mut Text, fault: &Fault) -> Result<(), AllocError> {
 /// The action and the tree of the fault of a name.
 pub(crate) fn push_named(shown: &mut Text, line: &str) -> Result<(), AllocError> {
     match line {
-        "DeliveryModeRequestedUnavailable" => push_known(shown, FaultName::DeliveryModeRequestedUnavailable),
-        "FilteringRequestedUnavailable" => push_known(shown, FaultName::FilteringRequestedUnavailable),
+        "DeliveryModeRequestedUnavailable" => push_known(
+            shown,
+            FaultName::DeliveryModeRequestedUnavailable,
+        ),
+        "FilteringRequestedUnavailable" => push_known(
+            shown,
+            FaultName::FilteringRequestedUnavailable,
+        ),
         "InvalidExpirationTime" => push_known(shown, FaultName::InvalidExpirationTime),
         "InvalidMessage" => push_known(shown, FaultName::InvalidMessage),
         "UnableToRenew" => push_known(shown, FaultName::UnableToRenew),
         "ActionNotSupported" => push_known(shown, FaultName::ActionNotSupported),
         "DestinationUnreachable" => push_known(shown, FaultName::DestinationUnreachable),
-        "MessageInformationHeaderRequired" => push_known(shown, FaultName::MessageInformationHeaderRequired),
+        "MessageInformationHeaderRequired" => push_known(
+            shown,
+            FaultName::MessageInformationHeaderRequired,
+        ),
         "InvalidBookmark" => push_known(shown, FaultName::InvalidBookmark),
         "EncodingLimit" => push_known(shown, FaultName::EncodingLimit),
         "InternalError" => push_known(shown, FaultName::InternalError),
