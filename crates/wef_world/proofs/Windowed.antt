@@ -19,7 +19,6 @@ nothing_is n e = grind (arith, nat_tests, e)
 
 -- a channel's history has at most as many records as there are numbers
 pub history_within : (rows : Rows) (all : Histories) (capacity boot : ℕ) (c : List ℕ) → AreFormed rows → IsWindow rows all capacity boot → length (history all c) ≤ 9223372036854775807
-unfolding AreFormed
 history_within rows all capacity boot c formed window =
     let holds = formed (last_key c) in
     by (length (history all c)) (length (history all c) == 0) refl (subst (λ (o : Option Cell). IfSome o (λ cell. is_formed (row_of (last_key c, cell)) ≡ true)) (window.last_rows c) holds)

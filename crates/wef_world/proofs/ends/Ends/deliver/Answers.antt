@@ -7,6 +7,7 @@ use Rattle.wef_machine.specs.declared.messages.Message.{Message}
 use Rattle.wef_machine.specs.declared.messages.Message.TheVariants as sent
 use Rattle.wef_source.specs.Machine.{End}
 use Rattle.wef_world.proofs.Delivered.{delivers, delivers_text}
+use Rattle.wef_world.proofs.Numbered.{delivery_numbers}
 use Rattle.wef_world.proofs.Ready.{formed_before}
 use Rattle.wef_world.proofs.Takings.{asked_state, events_state, events_text}
 use Rattle.wef_world.proofs.Used.{given_state, done_as, said_as, where_ok}
@@ -18,6 +19,11 @@ use Rattle.wef_world.specs.contracts.ends.Ends.{the_view}
 -- the message of a number among those that a slice has
 abbrev among : List Message → ℕ → Option Message
 among messages k = if k == 0 then None else slice_get messages (k - 1)
+
+pub take_events-requires-clause-numbered : goal.take_events-requires-clause-numbered
+take_events-requires-clause-numbered c =
+    let found = sym (c.in-Some.ensures ∙ ap (λ (messages : List Message). among messages c.args.number) c.as_slice.ensures) ∙ ap Some c.in-Events.is in
+    delivery_numbers (the_view c.self.inside) c.args.self.now c.args.number c.in-Events.source c.in-Events.delivery found c.self.view_is c.requires.kept
 
 pub give_offers-requires : goal.give_offers-requires
 give_offers-requires c = formed_before (the_view c.self.inside) c.args.self.now c.in-Offers.source c.self.view_is c.requires.kept

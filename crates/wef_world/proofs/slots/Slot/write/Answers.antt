@@ -65,3 +65,15 @@ returns-else-is_recorded-clause-slot c =
     (λ i. record { capacity = slot.capacity; histories = histories_by slot c.args.event.now (recorded i); place = place i })
     ∙ stands (slot_opening slot) (slot_opened slot) c.args.event.now c.in_ok-called.called ready came
     ∙ ap (λ (s : Slot). slot_wrote s c.args.event.now) c.self.view_is
+
+pub returns-else-is_recorded-clause-written : goal.returns-else-is_recorded-clause-written
+returns-else-is_recorded-clause-written c =
+    let slot : Slot = the_view c.self.inside in
+    let ready = subst (λ (s : Slot). IsReady (slot_opened s)) (sym c.self.view_is) c.requires.ready in
+    let opened : source_of c.open.new.self ≡ (slot_opened slot).place = c.in_ok-fate.ensures.opened ∙ opened_alike slot.place (start_of (next_boot slot.place.rows)) (log.start_effect slot.place.rows slot.capacity) in
+    let formed = subst (λ (p : Place End). AreFormed p.rows) (sym opened) ready.formed in
+    let left = leaves (λ (e : SourceEnd MemKeeper). e.keeper) (λ (e : SourceEnd MemKeeper). e.memory) source_store AreFormed (λ rows. write_effect rows c.args.event.now) (λ rows. next_number rows c.args.event.now)
+    c.open.new.self c.in-Some.source.now c.write-answer.new.self c.write-answer.result c.settle_call.new.self c.in_ok-called.called c.in-Some.ensures.value c.in_ok-fate.ensures.planned formed c.write-answer.ensures.call
+    c.write-answer.ensures.memory c.in_ok-called.ensures in
+    let came = subst (λ (p : Place End). CameTo (slot_opening slot) p (λ rows. write_effect rows c.args.event.now) (λ rows. next_number rows c.args.event.now) (Answered c.in_ok-called.called)) opened (left.came (slot_opening slot)) in
+    subst (λ (s : Slot). WritesAs s c.args.event.now (Answered c.in_ok-called.called)) c.self.view_is came
