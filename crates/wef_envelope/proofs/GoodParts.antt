@@ -4,6 +4,7 @@ use Rattle.wef_base.specs.declared.tree.Element.{Element}
 use Rattle.wef_base.specs.declared.tree.Node.{Node, Chars}
 use Rattle.wef_base.specs.declared.tree.Node.TheVariants.{Element as Child}
 use Rattle.wef_elements.specs.Children.{as_nodes, with_elements, with_text}
+use Rattle.wef_elements.specs.Texts.{only_text}
 use Rattle.wef_xml.specs.Good.{AreGoodNodes, IsGoodElement, IsGoodHead, IsLocalName, IsXmlText, are_apart}
 use Rattle.wef_xml.proofs.GoodNodes.{good_child, is_no_text}
 use Rattle.wef_envelope.specs.Laws.{AreGood}
@@ -23,13 +24,17 @@ elements_good : (es : List Element) (room : ℕ) → AreGood es room → AreGood
 elements_good [] room good = (refl, tt)
 elements_good (e ∷ es) room good = with_one e (as_nodes es) room good.0 (elements_good es room good.1)
 
--- an element that has a text
-pub leaf_good : (space name text : List ℕ) (room : ℕ) → IsXmlText space → IsLocalName name → IsXmlText text → IsGoodElement (with_text space name text) (suc room)
-leaf_good space name text room in_space named allowed = let inner = by (length text == 0) refl in (bare_head space name in_space named, inner.0, inner.1)
+-- a text as the children of an element
+pub children_of_text : (text : List ℕ) (room : ℕ) → IsXmlText text → (are_apart false (only_text text) ≡ true) × AreGoodNodes (only_text text) room
+children_of_text text room allowed = by (length text == 0) refl
   where
     by : (b : Bool) → (length text == 0) ≡ b → AreGoodChildren (cond b [] (Chars text ∷ [])) room
     by true e = (refl, tt)
     by false e = (refl, (record { allowed = allowed; some = e }, tt))
+
+-- an element that has a text
+pub leaf_good : (space name text : List ℕ) (room : ℕ) → IsXmlText space → IsLocalName name → IsXmlText text → IsGoodElement (with_text space name text) (suc room)
+leaf_good space name text room in_space named allowed = let inner = children_of_text text room allowed in (bare_head space name in_space named, inner.0, inner.1)
 
 -- one that has elements
 pub holder_good : (space name : List ℕ) (es : List Element) (room : ℕ) → IsXmlText space → IsLocalName name → AreGood es room → IsGoodElement (with_elements space name es) (suc room)

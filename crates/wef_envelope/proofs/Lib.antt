@@ -1,3 +1,4 @@
+pub mod FaultsAreGood
 pub mod FaultsAreRead
 pub mod GoodParts
 pub mod Places

@@ -1,5 +1,5 @@
 -- Faults as they stand in a Body (SOAP 1.2, 5.4): a code, and below it the name of what went wrong.
-use Rattle.std.specs.Prelude.{◌≡◌, ℕ, ◌==◌, Bool, true, false, List, [], ◌∷◌, ◌++◌, codes, encode_utf8_all, unwrap_or, Option, Some, None, Result, if◌then◌else◌}
+use Rattle.std.specs.Prelude.{◌≡◌, ℕ, suc, ◌==◌, Bool, true, false, List, [], ◌∷◌, ◌++◌, codes, encode_utf8_all, unwrap_or, Option, Some, None, Result, if◌then◌else◌}
 use Rattle.std.specs.List.{list_any}
 use Rattle.std.specs.Option.{option_and_then, option_map}
 use Rattle.std.specs.Str.{chars}
@@ -12,6 +12,7 @@ use Rattle.wef_elements.specs.Texts.{only_text, said_in}
 use Rattle.wef_ids.specs.Faults.{fault_text}
 use Rattle.wef_ids.specs.declared.FaultName.{FaultName}
 use Rattle.wef_ids.specs.declared.FaultName.TheVariants as the
+use Rattle.wef_xml.specs.Good.{IsGoodElement}
 use Rattle.wef_xml.specs.Spaces.{xml_space}
 use Rattle.wef_envelope.specs.Envelopes.{is_part}
 use Rattle.wef_envelope.specs.Spaces.{soap}
@@ -185,3 +186,7 @@ fault_tree f =
 -- A fault as the table has it is what its element is.
 abbrev pub FaultsAreRead : Type 0
 FaultsAreRead = (name : FaultName) → is_known name ≡ true → fault_in (fault_tree (fault_of name)) ≡ Some (fault_of name)
+
+-- The element of such a fault is a good tree, and goes four elements deep.
+abbrev pub FaultsAreGood : Type 0
+FaultsAreGood = (name : FaultName) (room : ℕ) → is_known name ≡ true → IsGoodElement (fault_tree (fault_of name)) (suc (suc (suc (suc room))))

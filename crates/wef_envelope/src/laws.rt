@@ -1,6 +1,6 @@
 //! Laws of envelopes, each the contract of a function that does nothing.
 
-ghost use Rattle.wef_envelope.specs.Faults.{FaultsAreRead};
+ghost use Rattle.wef_envelope.specs.Faults.{FaultsAreGood, FaultsAreRead};
 ghost use Rattle.wef_envelope.specs.Laws.{WrittenIsGood, WrittenIsRead};
 ghost use Rattle.wef_envelope.specs.Spaces.{HavePrefixes};
 
@@ -18,7 +18,8 @@ pub fn written_is_read_again()
     ensures good { WrittenIsGood }
 {}
 
-/// What is written for a fault of the table is read as this fault.
+/// What is written for a fault of the table is a good tree, and is read as this fault.
 pub fn faults_are_read_again()
-    ensures { FaultsAreRead }
+    ensures read { FaultsAreRead }
+    ensures good { FaultsAreGood }
 {}
