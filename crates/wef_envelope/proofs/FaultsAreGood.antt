@@ -135,7 +135,8 @@ unfolding fault_tree
 faults_are_good name room known =
     let code : Element = part (codes "Code") (value (code_text (code_of name)) ∷ subcode_of name) in
     let reason : Element = part (codes "Reason") (reason_text name ∷ []) in
-    holder_good soap (codes "Fault") (code ∷ reason ∷ []) (suc (suc (suc room))) soap_good fault_good
-    (holder_good soap (codes "Code") (value (code_text (code_of name)) ∷ subcode_of name) (suc (suc room)) soap_good code_good
-    (valued_good (code_text (code_of name)) (suc room) (codes_good (code_of name)), subcodes_good name room known),
-    (holder_good soap (codes "Reason") (reason_text name ∷ []) (suc (suc room)) soap_good reason_good (reasons_good name (suc room) (names_good name known), tt), tt))
+    holder_good soap (codes "Fault") (code ∷ reason ∷ []) (suc (suc (suc room))) soap_good fault_good (
+      holder_good soap (codes "Code") (value (code_text (code_of name)) ∷ subcode_of name) (suc (suc room)) soap_good code_good
+          (valued_good (code_text (code_of name)) (suc room) (codes_good (code_of name)), subcodes_good name room known),
+      (holder_good soap (codes "Reason") (reason_text name ∷ []) (suc (suc room)) soap_good reason_good (reasons_good name (suc room) (names_good name known), tt), tt),
+    )
