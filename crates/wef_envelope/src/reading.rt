@@ -92,6 +92,7 @@ fn with_header<'a>(header: &'a Element, body: &'a Element) -> Option<(&'a [Node]
     Some((header.children.as_slice(), body.children.as_slice()))
 }
 
+/// Whether an element is this part of SOAP's: Envelope, Header, Body.
 #[tactic(auto, unfolding(crate::specs::Spaces::soap))]
 pub(crate) fn is_part(name: &str, element: &Element) -> bool
     ensures { result ≡ is_part name.now element.now }
