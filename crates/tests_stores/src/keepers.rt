@@ -29,7 +29,9 @@ const FAILURES: [(bool, bool, u64); 4] = [
     (true, false, 8),
 ];
 
-fn key(alloc: Global, number: u64) -> Key {
+fn key(alloc: Global, number: u64) -> Key
+    ensures { result.number ≡ number }
+{
     Key {
         kind: 3,
         sub: Text::new(alloc),
