@@ -411,13 +411,15 @@ fn holding(alloc: Global, rows: &[Kept]) -> Result<MemKeeper, Fail> {
 /// What the steps of a collector answer over a store with these rows.
 fn ran_over(alloc: Global, rows: &[Kept], steps: &str) -> Result<Text, Fail> {
     let mut text = Text::new(alloc);
-    match Collector::start(alloc, holding(alloc, rows)?) {
-        Ok(mut collector) => push_steps(&mut text, &mut collector, steps)?,
-        Err((_, fault)) => {
-            push_fault(&mut text, fault)?;
-            text.push_str(";")?;
+    let (_keeper, fault) = match Collector::start(alloc, holding(alloc, rows)?) {
+        Ok(mut collector) => {
+            push_steps(&mut text, &mut collector, steps)?;
+            return Ok(text);
         }
-    }
+        Err(refused) => refused,
+    };
+    push_fault(&mut text, fault)?;
+    text.push_str(";")?;
     Ok(text)
 }
 
