@@ -1,7 +1,6 @@
 //! Values, names and the outside: what every crate of the forwarder speaks of.
 #![tactic(auto)]
 
-pub mod bytes;
 pub mod characters;
 pub mod list;
 pub mod memory;
@@ -15,9 +14,8 @@ pub mod text;
 pub mod tree;
 pub mod words;
 
-pub use bytes::Bytes;
 pub use characters::{is_xml_char, is_xml_text};
-pub use list::List;
+pub use list::{Bytes, List};
 pub use memory::{MemSink, MemSource};
 pub use moments::Moment;
 pub use names::{ChannelName, SourceName, SubId, ValueFault};

@@ -73,6 +73,28 @@ impl<T> List<T> {
     }
 }
 
+/// Bytes, which contracts see as a list of numbers below 256.
+pub type Bytes = List<u8>;
+
+impl List<u8> {
+    /// A copy of bytes.
+    pub fn from_slice(alloc: Global, bytes: &[u8]) -> Result<Bytes, AllocError>
+        ensures { IfOk result (λ b. b ≡ bytes.now) }
+    {
+        Ok(List {
+            items: Vec::from_slice(alloc, bytes)?,
+        })
+    }
+
+    /// Appends bytes.
+    pub fn extend(&mut self, more: &[u8]) -> Result<(), AllocError>
+        ensures ok { OnOk result (self.new ≡ self.old ++ more.now) }
+        ensures err { OnErr result (self.new ≡ self.old) }
+    {
+        self.items.extend_from_slice(more)
+    }
+}
+
 impl<T> From<Vec<T>> for List<T> {
     ghost from_gives = { λ items l. l ≡ items.items };
 
