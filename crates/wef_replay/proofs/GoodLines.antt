@@ -14,8 +14,8 @@ use Rattle.wef_event.specs.Unnumbered.{plain_numbered}
 use Rattle.wef_event.specs.declared.unnumbered.PlainEvent.{PlainEvent}
 use Rattle.wef_query.specs.Queries.{all_events_of}
 use Rattle.wef_replay.specs.BatchWords.{empty_batch, read_words}
-use Rattle.wef_replay.specs.Good.{are_all, asks_for_all, fits_always, is_channel, is_end, is_line, is_no_collector, is_source, is_subscription}
-use Rattle.wef_replay.specs.Grammar.{all_of, ask_line, back_line, batch_line, calm_line, crash_line, deliver_line, does_nothing, end_line, event_if_xml, event_words, fail_line, failure_line_of, fitting_event, if_fits, line_of_words, lost_line, meaning, other_line, poll_line, print_line, show_line, source_line, source_line_of, stop_line, subscribe_line, subscribe_numbers, write_line}
+use Rattle.wef_replay.specs.Good.{are_all, asks_for_all, fits_always, is_channel, is_count, is_end, is_line, is_no_collector, is_source, is_subscription}
+use Rattle.wef_replay.specs.Grammar.{all_of, ask_line, back_line, batch_line, calm_line, commit_words, crash_line, deliver_line, does_nothing, end_line, event_if_xml, event_words, fail_line, failure_line_of, fitting_event, if_fits, line_of_words, lost_line, meaning, message_words, other_line, pair_words, poll_line, print_line, show_line, source_line, source_line_of, stop_line, subscribe_line, subscribe_numbers, write_line}
 use Rattle.wef_replay.specs.PlainEvents.{HasPlainEvents}
 use Rattle.wef_replay.specs.Reading.{with_first}
 use Rattle.wef_replay.specs.Values.{after_word, channel_word, channel_words, end_word, number_word, sending_source_word, source_word, subscription_word}
@@ -138,31 +138,30 @@ good-ask_line [] = tt
 good-ask_line (source ∷ []) = all_of-map _ IsGoodLine (λ s. Ask s) (source_word source) (good-source source) (λ s h. (h, tt))
 good-ask_line (a ∷ b ∷ more) = tt
 
+good-pair_words : (words : List (List ℕ)) → AllOf (λ pair. (is_source pair.0 && is_subscription pair.1) ≡ true) (pair_words words)
+good-pair_words [] = tt
+good-pair_words (a ∷ []) = tt
+good-pair_words (source ∷ sub ∷ []) =
+    all_of-then _ (λ pair. (is_source pair.0 && is_subscription pair.1) ≡ true) _ (source_word source) (good-source source) (λ s is_s.
+    all_of-map _ (λ pair. (is_source pair.0 && is_subscription pair.1) ≡ true) (λ u. (s, u)) (subscription_word sub) (good-subscription sub) (λ u is_u i. is_s i && is_u i))
+good-pair_words (a ∷ b ∷ c ∷ more) = tt
+
 good-poll_line : (words : List (List ℕ)) → AllOf IsGoodLine (poll_line words)
-good-poll_line [] = tt
-good-poll_line (a ∷ []) = tt
-good-poll_line (source ∷ sub ∷ []) =
-    all_of-then _ IsGoodLine _ (source_word source) (good-source source) (λ s is_s.
-    all_of-map _ IsGoodLine (λ u. Poll s u) (subscription_word sub) (good-subscription sub) (λ u is_u. (λ i. is_s i && is_u i, tt)))
-good-poll_line (a ∷ b ∷ c ∷ more) = tt
+good-poll_line words = all_of-map _ IsGoodLine (λ pair. Poll pair.0 pair.1) (pair_words words) (good-pair_words words) (λ pair h. (h, tt))
 
 good-lost_line : (words : List (List ℕ)) → AllOf IsGoodLine (lost_line words)
-good-lost_line [] = tt
-good-lost_line (a ∷ []) = tt
-good-lost_line (source ∷ sub ∷ []) =
-    all_of-then _ IsGoodLine _ (source_word source) (good-source source) (λ s is_s.
-    all_of-map _ IsGoodLine (λ u. Lost s u) (subscription_word sub) (good-subscription sub) (λ u is_u. (λ i. is_s i && is_u i, tt)))
-good-lost_line (a ∷ b ∷ c ∷ more) = tt
+good-lost_line words = all_of-map _ IsGoodLine (λ pair. Lost pair.0 pair.1) (pair_words words) (good-pair_words words) (λ pair h. (h, tt))
+
+good-message_words : (words : List (List ℕ)) → AllOf (λ n. is_count n ≡ true) (message_words words)
+good-message_words [] = tt
+good-message_words (number ∷ []) = all_of-then _ (λ n. is_count n ≡ true) (λ n. Some n) (number_word 0 MAX number) (good-number 0 MAX number) (λ n h. count_from_between n h)
+good-message_words (a ∷ b ∷ more) = tt
 
 good-deliver_line : (words : List (List ℕ)) → AllOf IsGoodLine (deliver_line words)
-good-deliver_line [] = tt
-good-deliver_line (number ∷ []) = all_of-map _ IsGoodLine (λ n. Deliver n) (number_word 0 MAX number) (good-number 0 MAX number) (λ n h. (count_from_between n h, tt))
-good-deliver_line (a ∷ b ∷ more) = tt
+good-deliver_line words = all_of-map _ IsGoodLine (λ n. Deliver n) (message_words words) (good-message_words words) (λ n h. (h, tt))
 
 good-back_line : (words : List (List ℕ)) → AllOf IsGoodLine (back_line words)
-good-back_line [] = tt
-good-back_line (number ∷ []) = all_of-map _ IsGoodLine (λ n. Back n) (number_word 0 MAX number) (good-number 0 MAX number) (λ n h. (count_from_between n h, tt))
-good-back_line (a ∷ b ∷ more) = tt
+good-back_line words = all_of-map _ IsGoodLine (λ n. Back n) (message_words words) (good-message_words words) (λ n h. (h, tt))
 
 -- ---- what is printed
 
@@ -187,33 +186,29 @@ good-end_word word =
     all_of-if (λ e. is_end e ≡ true) (same word (codes "collector")) (Some end.Collector) _ refl
     (all_of-map _ (λ e. is_end e ≡ true) (λ s. end.Source s) (sending_source_word word) (good-sending_source word) (λ s h. h))
 
--- a line of an end and of `before` or `after`
-good-armed : (line : EndName → Bool → Line) → ((e : EndName) (after : Bool) → is_end e ≡ true → IsGoodLine (line e after)) → (end when : List ℕ)
-    → AllOf IsGoodLine (option_and_then (λ e. option_map (λ after. line e after) (after_word when)) (end_word end))
-good-armed line good end when =
-    all_of-then _ IsGoodLine _ (end_word end) (good-end_word end) (λ e is_e.
-    all_of-map (λ _. Unit {0}) IsGoodLine (λ after. line e after) (after_word when) (any (after_word when)) (λ after _. good e after is_e))
-  where
-    any : (given : Option Bool) → AllOf (λ _. Unit {0}) given
-    any None = tt
-    any (Some after) = tt
-
 good-crash_line : (words : List (List ℕ)) → AllOf IsGoodLine (crash_line words)
 good-crash_line [] = tt
 good-crash_line (end ∷ []) = all_of-map _ IsGoodLine (λ e. Crash e) (end_word end) (good-end_word end) (λ e h. (h, tt))
 good-crash_line (a ∷ b ∷ more) = tt
 
+-- an end and `before` or `after`
+good-commit_words : (words : List (List ℕ)) → AllOf (λ commit. is_end commit.0 ≡ true) (commit_words words)
+good-commit_words [] = tt
+good-commit_words (a ∷ []) = tt
+good-commit_words (end ∷ when ∷ []) =
+    all_of-then _ (λ commit. is_end commit.0 ≡ true) _ (end_word end) (good-end_word end) (λ e is_e.
+    all_of-map (λ _. Unit {0}) (λ commit. is_end commit.0 ≡ true) (λ after. (e, after)) (after_word when) (any (after_word when)) (λ after _. is_e))
+  where
+    any : (given : Option Bool) → AllOf (λ _. Unit {0}) given
+    any None = tt
+    any (Some after) = tt
+good-commit_words (a ∷ b ∷ c ∷ more) = tt
+
 good-fail_line : (words : List (List ℕ)) → AllOf IsGoodLine (fail_line words)
-good-fail_line [] = tt
-good-fail_line (a ∷ []) = tt
-good-fail_line (end ∷ when ∷ []) = good-armed (λ e after. Fail e after) (λ e after h. (h, tt)) end when
-good-fail_line (a ∷ b ∷ c ∷ more) = tt
+good-fail_line words = all_of-map _ IsGoodLine (λ commit. Fail commit.0 commit.1) (commit_words words) (good-commit_words words) (λ commit h. (h, tt))
 
 good-stop_line : (words : List (List ℕ)) → AllOf IsGoodLine (stop_line words)
-good-stop_line [] = tt
-good-stop_line (a ∷ []) = tt
-good-stop_line (end ∷ when ∷ []) = good-armed (λ e after. Stop e after) (λ e after h. (h, tt)) end when
-good-stop_line (a ∷ b ∷ c ∷ more) = tt
+good-stop_line words = all_of-map _ IsGoodLine (λ commit. Stop commit.0 commit.1) (commit_words words) (good-commit_words words) (λ commit h. (h, tt))
 
 good-calm_line : (words : List (List ℕ)) → AllOf IsGoodLine (calm_line words)
 good-calm_line [] = (refl, tt)

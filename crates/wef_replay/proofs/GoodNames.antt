@@ -44,6 +44,10 @@ name_is_text letters limit text name utf8 e =
 pub kept_is_one : (name : List ℕ) (given : Option (List ℕ)) → is_utf8 name ≡ true → given ≡ Some name → (is_utf8 name && is_one name given) ≡ true
 kept_is_one name given utf8 kept = (λ i. utf8 i && is_one name (kept i)) ∙ nat_list_eq_equiv.refl name
 
+-- a name whose text reads back is good
+pub is_kept_name : (name text : List ℕ) (given : Option (List ℕ)) → text ≡ name → IsUtf8 text → given ≡ Some name → true ≡ (is_utf8 name && is_one name given)
+is_kept_name name text given same utf8 kept = sym (kept_is_one name given (ap is_utf8 (sym same) ∙ is_utf8-from_IsUtf8 text utf8) kept)
+
 tie : (r : Ordering) → is_eq r ≡ true → r ≡ Equal
 tie Less e = cc
 tie Equal e = refl

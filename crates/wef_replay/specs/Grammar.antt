@@ -16,7 +16,7 @@
 --     stop END before          stop END after
 --     calm
 -- An empty line and one that begins with `#` do nothing. A line that isn't UTF-8 is never good.
-use Rattle.std.specs.Prelude.{◌≡◌, refl, ℕ, ◌==◌, Bool, true, false, is_some, List, [], ◌∷◌, Option, Some, None, if◌then◌else◌, codes}
+use Rattle.std.specs.Prelude.{◌≡◌, refl, ℕ, ◌==◌, Bool, true, false, is_some, List, [], ◌∷◌, ◌×◌, Option, Some, None, if◌then◌else◌, codes}
 use Rattle.std.specs.Option.{option_and_then, option_map}
 use Rattle.std.specs.Str.{is_utf8}
 use Rattle.wef_base.specs.Names.{same}
@@ -29,6 +29,7 @@ use Rattle.wef_query.specs.declared.QueryList.{QueryList}
 use Rattle.wef_query.specs.Queries.{all_events_of}
 use Rattle.wef_replay.specs.BatchWords.{read_words, empty_batch}
 use Rattle.wef_replay.specs.Values.{subscription_word, source_word, channel_word, sending_source_word, end_word, after_word, number_word, channel_words}
+use Rattle.wef_replay.specs.declared.lines.EndName.{EndName}
 use Rattle.wef_replay.specs.declared.lines.Line.{Line}
 use Rattle.wef_replay.specs.declared.lines.Line.TheVariants.{Subscribe, End, Batch, Source, Write, Ask, Poll, Deliver, Back, Lost, Show, Print, Crash, Fail, Stop, Calm}
 
@@ -89,21 +90,27 @@ abbrev pub ask_line : List (List ℕ) → Option Line
 ask_line (source ∷ []) = option_map (λ s. Ask s) (source_word source)
 ask_line _ = None
 
+-- a source and a subscription
+abbrev pub pair_words : List (List ℕ) → Option (List ℕ × List ℕ)
+pair_words (source ∷ sub ∷ []) = option_and_then (λ s. option_map (λ u. (s, u)) (subscription_word sub)) (source_word source)
+pair_words _ = None
+
 abbrev pub poll_line : List (List ℕ) → Option Line
-poll_line (source ∷ sub ∷ []) = option_and_then (λ s. option_map (λ u. Poll s u) (subscription_word sub)) (source_word source)
-poll_line _ = None
+poll_line words = option_map (λ pair. Poll pair.0 pair.1) (pair_words words)
 
 abbrev pub lost_line : List (List ℕ) → Option Line
-lost_line (source ∷ sub ∷ []) = option_and_then (λ s. option_map (λ u. Lost s u) (subscription_word sub)) (source_word source)
-lost_line _ = None
+lost_line words = option_map (λ pair. Lost pair.0 pair.1) (pair_words words)
+
+-- the number of a message
+abbrev pub message_words : List (List ℕ) → Option ℕ
+message_words (number ∷ []) = number_word 0 MAX number
+message_words _ = None
 
 abbrev pub deliver_line : List (List ℕ) → Option Line
-deliver_line (number ∷ []) = option_map (λ n. Deliver n) (number_word 0 MAX number)
-deliver_line _ = None
+deliver_line words = option_map (λ n. Deliver n) (message_words words)
 
 abbrev pub back_line : List (List ℕ) → Option Line
-back_line (number ∷ []) = option_map (λ n. Back n) (number_word 0 MAX number)
-back_line _ = None
+back_line words = option_map (λ n. Back n) (message_words words)
 
 abbrev pub show_line : List (List ℕ) → Option Line
 show_line [] = Some Show
@@ -118,13 +125,16 @@ abbrev pub crash_line : List (List ℕ) → Option Line
 crash_line (end ∷ []) = option_map (λ e. Crash e) (end_word end)
 crash_line _ = None
 
+-- an end, and whether a commit's changes are kept
+abbrev pub commit_words : List (List ℕ) → Option (EndName × Bool)
+commit_words (end ∷ when ∷ []) = option_and_then (λ e. option_map (λ after. (e, after)) (after_word when)) (end_word end)
+commit_words _ = None
+
 abbrev pub fail_line : List (List ℕ) → Option Line
-fail_line (end ∷ when ∷ []) = option_and_then (λ e. option_map (λ after. Fail e after) (after_word when)) (end_word end)
-fail_line _ = None
+fail_line words = option_map (λ commit. Fail commit.0 commit.1) (commit_words words)
 
 abbrev pub stop_line : List (List ℕ) → Option Line
-stop_line (end ∷ when ∷ []) = option_and_then (λ e. option_map (λ after. Stop e after) (after_word when)) (end_word end)
-stop_line _ = None
+stop_line words = option_map (λ commit. Stop commit.0 commit.1) (commit_words words)
 
 abbrev pub calm_line : List (List ℕ) → Option Line
 calm_line [] = Some Calm

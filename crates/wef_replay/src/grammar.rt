@@ -2,12 +2,12 @@
 
 ghost use Rattle.std.specs.Prelude.{◌≡◌};
 ghost use Rattle.wef_base.specs.Words.{parts};
-ghost use Rattle.wef_replay.specs.Grammar.{ask_line, back_line, batch_line, batch_of_source, calm_line, crash_line, deliver_line, does_nothing, end_line, event_words, fail_line, failure_line_of, fitting_event, line_of_words, lost_line, meaning, other_line, poll_line, print_line, show_line, source_line, source_line_of, stop_line, subscribe_line, subscribe_numbers, write_line};
+ghost use Rattle.wef_replay.specs.Grammar.{ask_line, back_line, batch_line, batch_of_source, calm_line, commit_words, crash_line, deliver_line, does_nothing, end_line, event_words, fail_line, failure_line_of, fitting_event, line_of_words, lost_line, meaning, message_words, other_line, pair_words, poll_line, print_line, show_line, source_line, source_line_of, stop_line, subscribe_line, subscribe_numbers, write_line};
 ghost use Rattle.wef_replay.specs.Parts.{parts_behind};
 ghost use Rattle.wef_replay.specs.Reading.{Gives};
 
 use crate::cutting::cut;
-use crate::lines::Line;
+use crate::lines::{EndName, Line};
 use crate::spelled::SpelledBatch;
 use crate::values::{
     LineFault, after_of, channel_of, channels_of, end_of, is_word, number_of, sending_source_of,
@@ -16,7 +16,7 @@ use crate::values::{
 use std::alloc::Global;
 use wef_base::numbers::MAX;
 use wef_base::words::{is_text, split};
-use wef_base::{Bytes, ChannelName, SubId, Text, is_xml_text};
+use wef_base::{Bytes, ChannelName, SourceName, SubId, Text, is_xml_text};
 use wef_event::PlainEvent;
 use wef_query::QueryList;
 
@@ -272,28 +272,40 @@ fn ask_of(alloc: Global, words: &[Bytes]) -> Result<Line, LineFault>
     }
 }
 
-fn poll_of(alloc: Global, words: &[Bytes]) -> Result<Line, LineFault>
-    ensures { Gives result (poll_line words.now) }
+/// A source and a subscription.
+fn pair_of(alloc: Global, words: &[Bytes]) -> Result<(SourceName, SubId), LineFault>
+    ensures { Gives result (pair_words words.now) }
 {
     match words {
         [source, sub] => {
             let source = source_of(alloc, source)?;
             let sub = subscription_of(alloc, sub)?;
-            Ok(Line::Poll { source, sub })
+            Ok((source, sub))
         }
         _ => Err(LineFault::NotUnderstood),
     }
 }
 
+fn poll_of(alloc: Global, words: &[Bytes]) -> Result<Line, LineFault>
+    ensures { Gives result (poll_line words.now) }
+{
+    let (source, sub) = pair_of(alloc, words)?;
+    Ok(Line::Poll { source, sub })
+}
+
 fn lost_of(alloc: Global, words: &[Bytes]) -> Result<Line, LineFault>
     ensures { Gives result (lost_line words.now) }
 {
+    let (source, sub) = pair_of(alloc, words)?;
+    Ok(Line::Lost { source, sub })
+}
+
+/// The number of a message.
+fn message_of(words: &[Bytes]) -> Result<u64, LineFault>
+    ensures { Gives result (message_words words.now) }
+{
     match words {
-        [source, sub] => {
-            let source = source_of(alloc, source)?;
-            let sub = subscription_of(alloc, sub)?;
-            Ok(Line::Lost { source, sub })
-        }
+        [number] => number_of(number, 0, MAX),
         _ => Err(LineFault::NotUnderstood),
     }
 }
@@ -301,25 +313,15 @@ fn lost_of(alloc: Global, words: &[Bytes]) -> Result<Line, LineFault>
 fn deliver_of(words: &[Bytes]) -> Result<Line, LineFault>
     ensures { Gives result (deliver_line words.now) }
 {
-    match words {
-        [number] => {
-            let number = number_of(number, 0, MAX)?;
-            Ok(Line::Deliver { number })
-        }
-        _ => Err(LineFault::NotUnderstood),
-    }
+    let number = message_of(words)?;
+    Ok(Line::Deliver { number })
 }
 
 fn back_of(words: &[Bytes]) -> Result<Line, LineFault>
     ensures { Gives result (back_line words.now) }
 {
-    match words {
-        [number] => {
-            let number = number_of(number, 0, MAX)?;
-            Ok(Line::Back { number })
-        }
-        _ => Err(LineFault::NotUnderstood),
-    }
+    let number = message_of(words)?;
+    Ok(Line::Back { number })
 }
 
 fn show_of(words: &[Bytes]) -> Result<Line, LineFault>
@@ -361,30 +363,32 @@ fn crash_of(alloc: Global, words: &[Bytes]) -> Result<Line, LineFault>
     }
 }
 
-fn fail_of(alloc: Global, words: &[Bytes]) -> Result<Line, LineFault>
-    ensures { Gives result (fail_line words.now) }
+/// An end, and whether a commit's changes are kept.
+fn commit_of(alloc: Global, words: &[Bytes]) -> Result<(EndName, bool), LineFault>
+    ensures { Gives result (commit_words words.now) }
 {
     match words {
         [end, when] => {
             let end = end_of(alloc, end)?;
             let after = after_of(when)?;
-            Ok(Line::Fail { end, after })
+            Ok((end, after))
         }
         _ => Err(LineFault::NotUnderstood),
     }
 }
 
+fn fail_of(alloc: Global, words: &[Bytes]) -> Result<Line, LineFault>
+    ensures { Gives result (fail_line words.now) }
+{
+    let (end, after) = commit_of(alloc, words)?;
+    Ok(Line::Fail { end, after })
+}
+
 fn stop_of(alloc: Global, words: &[Bytes]) -> Result<Line, LineFault>
     ensures { Gives result (stop_line words.now) }
 {
-    match words {
-        [end, when] => {
-            let end = end_of(alloc, end)?;
-            let after = after_of(when)?;
-            Ok(Line::Stop { end, after })
-        }
-        _ => Err(LineFault::NotUnderstood),
-    }
+    let (end, after) = commit_of(alloc, words)?;
+    Ok(Line::Stop { end, after })
 }
 
 fn calm_of(words: &[Bytes]) -> Result<Line, LineFault>

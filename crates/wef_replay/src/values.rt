@@ -9,16 +9,19 @@ ghost use Rattle.wef_replay.specs.Values.{subscription_word, source_word, channe
 
 use crate::lines::EndName;
 use std::alloc::{AllocError, Global};
+use thiserror::Error;
 use wef_base::numbers::read_plain_number;
 use wef_base::words::decode;
 use wef_base::{Bytes, ChannelName, List, SourceName, SubId, Text, ValueFault};
 use wef_event::EventFault;
 
 /// Why a line isn't read.
-#[derive(Clone, Copy, PartialEq, Eq)]
+#[derive(Clone, Copy, Debug, PartialEq, Eq, Error)]
 pub enum LineFault {
+    #[error("no memory")]
     NoMemory,
     /// The line isn't one of a schedule.
+    #[error("not understood")]
     NotUnderstood,
 }
 
