@@ -22,7 +22,9 @@ use Rattle.wef_eventing.specs.declared.bodies.Subscribe.{Subscribe}
 use Rattle.wef_query.specs.Selected.{channels_of}
 use Rattle.wef_source.specs.Serving.{AreKept, HasAll, HasEach, IsCovered}
 use Rattle.wef_source.proofs.InOrder.{none_in_order}
-use Rattle.wef_source.specs.Sessions.{acknowledged, moved_by, sending, session_from, settled, with_channels}
+use Rattle.wef_source.specs.Sessions.{acknowledged, answered, moved_by, sending, session_from, settled, with_channels}
+use Rattle.wef_source.specs.declared.serving.Answer.{Answer}
+use Rattle.wef_source.specs.declared.serving.Answer.TheVariants.{Taken, Refused}
 use Rattle.wef_source.specs.declared.sessions.Outstanding.{Outstanding}
 use Rattle.wef_source.specs.declared.sessions.Session.{Session}
 
@@ -70,6 +72,10 @@ acknowledged_covered s h = by s.outstanding
       queried = λ c in_query. joined_has s.positions outstanding.to c ∙ either _ _ (h.queried c in_query);
       awaited = has_nothing (joined s.positions outstanding.to);
     }
+
+pub answered_covered : (answer : Answer) (s : Session) → IsCovered s → IsCovered (answered answer s)
+answered_covered Taken s h = acknowledged_covered s h
+answered_covered Refused s h = settled_covered s h
 
 -- sessions of which one was changed in a way that keeps it covered
 pub changed_covered : (change : Session → Session) → ((s : Session) → IsCovered s → IsCovered (change s)) → (ss : List Session) (k : ℕ) (s t : Session)

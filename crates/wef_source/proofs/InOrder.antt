@@ -6,7 +6,9 @@ use Rattle.std.specs.Cmp.Lexicographic.{slice_cmp}
 use Rattle.std.specs.Ordering.{nat_cmp}
 use Rattle.std.specs.declared.cmp.Ordering.TheVariants.{Less}
 use Rattle.wef_query.specs.Order.{IsInOrder}
-use Rattle.wef_source.specs.Sessions.{acknowledged, moved_by, names_of, sending, settled, with_changed, without}
+use Rattle.wef_source.specs.Sessions.{acknowledged, answered, moved_by, names_of, sending, settled, with_changed, without}
+use Rattle.wef_source.specs.declared.serving.Answer.{Answer}
+use Rattle.wef_source.specs.declared.serving.Answer.TheVariants.{Taken, Refused}
 use Rattle.wef_source.specs.declared.sessions.Outstanding.{Outstanding}
 use Rattle.wef_source.specs.declared.sessions.Session.{Session}
 use Rattle.std.specs.Prelude.{Option}
@@ -24,6 +26,10 @@ moved_name (Some outstanding) s = refl
 
 pub acknowledged_name : (s : Session) → (acknowledged s).name ≡ s.name
 acknowledged_name s = moved_name s.outstanding s
+
+pub answered_name : (answer : Answer) (s : Session) → (answered answer s).name ≡ s.name
+answered_name Taken s = acknowledged_name s
+answered_name Refused s = settled_name s
 
 -- what changes no name leaves the names as they are
 names_changed : (test : Session → Bool) (change : Session → Session) → ((s : Session) → (change s).name ≡ s.name) → (ss : List Session) → names_of (with_changed test change ss) ≡ names_of ss

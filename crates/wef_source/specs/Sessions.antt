@@ -10,6 +10,8 @@ use Rattle.wef_eventing.specs.Addresses.{subscription_in}
 use Rattle.wef_eventing.specs.declared.bodies.Offer.{Offer}
 use Rattle.wef_eventing.specs.declared.bodies.Subscribe.{Subscribe}
 use Rattle.wef_query.specs.Selected.{channels_of}
+use Rattle.wef_source.specs.declared.serving.Answer.{Answer}
+use Rattle.wef_source.specs.declared.serving.Answer.TheVariants.{Taken, Refused}
 use Rattle.wef_source.specs.declared.sessions.Outstanding.{Outstanding}
 use Rattle.wef_source.specs.declared.sessions.Session.{Session}
 
@@ -106,6 +108,11 @@ moved_by (Some outstanding) s = record s { outstanding = None; positions = joine
 
 abbrev pub acknowledged : Session → Session
 acknowledged s = moved_by s.outstanding s
+
+-- a session that had this answer
+abbrev pub answered : Answer → Session → Session
+answered Taken s = acknowledged s
+answered Refused s = settled s
 
 -- the names of sessions
 abbrev pub names_of : List Session → List (List ℕ)

@@ -19,7 +19,7 @@ use crate::adopting::sessions_of;
 use crate::building::built;
 use crate::faults::SourceFault;
 use crate::messages::{Delivery, Moved, Poll, Reply};
-use crate::serving::{move_waiting, place_of_name, refuse_waiting, send, settle_named};
+use crate::serving::{Answer, answer_waiting, place_of_name, refuse_waiting, send, settle_named};
 use crate::sessions::{Outstanding, Session, copied_address};
 use std::alloc::{AllocError, Global};
 use std::marker::Model;
@@ -193,7 +193,7 @@ impl Memory {
         ensures refusal { IfErr result (answers.RefusesId self.old id) }
         ensures err { OnErr result (self.new ≡ self.old) }
     {
-        if !move_waiting(&mut self.sessions, id) {
+        if !answer_waiting(&mut self.sessions, id, Answer::Taken) {
             return Err(SourceFault::NotAsked);
         }
         Ok(Moved::Moved)

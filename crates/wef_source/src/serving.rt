@@ -51,35 +51,28 @@ pub fn settle_named(sessions: &mut Vec<Session>, sub: &SubId) -> bool
     true
 }
 
-/// Has the first session that waits for the answer to an id wait for nothing, and answers whether
-/// there is one.
-fn settle_waiting(sessions: &mut Vec<Session>, id: u128) -> bool
-    requires { AreKept sessions.old.items }
-    ensures there { result ≡ is_some (spec.waiting sessions.old.items id) }
-    ensures changed { sessions.new.items ≡ spec.with_changed (spec.waits_for id) spec.settled sessions.old.items }
-    ensures absent { result ≡ false → sessions.new.items ≡ sessions.old.items }
-    ensures kept { AreKept sessions.new.items }
-{
-    let Some(place) = place_of_id(sessions.as_slice(), id) else {
-        return false;
-    };
-    settle(&mut sessions[place]);
-    true
+/// What an answer makes of the session that waits for it.
+#[derive(Clone, Copy)]
+pub enum Answer {
+    /// It goes on behind its delivery.
+    Taken,
+    /// It waits for nothing.
+    Refused,
 }
 
-/// Moves the first session that waits for the answer to an id behind its delivery, and answers
-/// whether there is one.
-pub fn move_waiting(sessions: &mut Vec<Session>, id: u128) -> bool
+/// Gives the first session that waits for the answer to an id this one, and answers whether there is
+/// one.
+pub fn answer_waiting(sessions: &mut Vec<Session>, id: u128, answer: Answer) -> bool
     requires { AreKept sessions.old.items }
     ensures there { result ≡ is_some (spec.waiting sessions.old.items id) }
-    ensures changed { sessions.new.items ≡ spec.with_changed (spec.waits_for id) spec.acknowledged sessions.old.items }
+    ensures changed { sessions.new.items ≡ spec.with_changed (spec.waits_for id) (spec.answered answer) sessions.old.items }
     ensures absent { result ≡ false → sessions.new.items ≡ sessions.old.items }
     ensures kept { AreKept sessions.new.items }
 {
     let Some(place) = place_of_id(sessions.as_slice(), id) else {
         return false;
     };
-    acknowledge(&mut sessions[place]);
+    take_answer(&mut sessions[place], answer);
     true
 }
 
@@ -97,7 +90,7 @@ pub fn refuse_waiting(sessions: &mut Vec<Session>, id: u128, fault: &FaultName) 
     if matches!(fault, FaultName::DestinationUnreachable) {
         return end_waiting(sessions, id);
     }
-    settle_waiting(sessions, id)
+    answer_waiting(sessions, id, Answer::Refused)
 }
 
 /// Ends the first session that waits for the answer to an id, and answers whether there is one.
@@ -127,6 +120,16 @@ fn settle(session: &mut Session)
     ensures { session.new ≡ spec.settled session.old }
 {
     session.outstanding = None;
+}
+
+fn take_answer(session: &mut Session, answer: Answer)
+    requires { IsCovered session.old }
+    ensures { session.new ≡ spec.answered answer session.old }
+{
+    match answer {
+        Answer::Taken => acknowledge(session),
+        Answer::Refused => settle(session),
+    }
 }
 
 /// Moves a session behind its delivery. It takes no memory.
