@@ -10,22 +10,10 @@ mod events;
 mod tasks;
 mod trees;
 
-use escapes::escaped;
 use std::io;
 use tasks::Task;
+use tests_tasks::answer_lines;
 
 fn main(rt: HostRuntime) -> io::Result<()> {
-    let alloc = rt.alloc();
-    let mut task = Task::Utf8;
-    for line in rt.lines(alloc) {
-        let line = line?;
-        println!(rt; "{line}")?;
-        if let Some(heading) = line.strip_prefix("=== ") {
-            task = Task::of_heading(heading).ok_or(io::ErrorKind::InvalidData)?;
-        } else {
-            let answer = task.answer(alloc, line.as_str())?;
-            println!(rt; "    {}", escaped(&answer)?.as_str())?;
-        }
-    }
-    Ok(())
+    answer_lines(&rt, Task::Utf8)
 }

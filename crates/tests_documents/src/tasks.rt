@@ -1,9 +1,10 @@
 //! What is done with a line.
 
-use crate::escapes::unescaped;
+use crate::escapes::{escaped, unescaped};
 use crate::events::{push_event, push_numbered, push_parts, push_plain};
 use crate::trees::{push_cuts, push_reading, push_written};
 use std::alloc::{AllocError, Global};
+use tests_tasks::Tasks;
 use wef_base::{Charset, Text, is_xml_text};
 
 /// What is done with a line.
@@ -29,9 +30,8 @@ pub(crate) enum Task {
     Plain,
 }
 
-impl Task {
-    /// The task that stands before the colon of a heading.
-    pub(crate) fn of_heading(heading: &str) -> Option<Task> {
+impl Tasks for Task {
+    fn of_heading(heading: &str) -> Option<Task> {
         let (task, _) = heading.split_once(':')?;
         match task {
             "utf-8" => Some(Task::Utf8),
@@ -49,8 +49,7 @@ impl Task {
         }
     }
 
-    /// What is printed for a line.
-    pub(crate) fn answer(&self, alloc: Global, line: &str) -> Result<Text, AllocError> {
+    fn answer(&self, alloc: Global, line: &str) -> Result<Text, AllocError> {
         let bytes = unescaped(alloc, line)?;
         let bytes = bytes.as_slice();
         let mut shown = Text::new(alloc);
@@ -64,9 +63,11 @@ impl Task {
                 Err(_) => shown.push_str("no UTF-8")?,
             },
         }
-        Ok(shown)
+        escaped(&shown)
     }
+}
 
+impl Task {
     /// Appends what is printed for a line that is a text.
     fn push_answer(&self, shown: &mut Text, text: &Text) -> Result<(), AllocError> {
         match self {

@@ -6,6 +6,7 @@ use crate::bookmarks::push_bookmarks;
 use crate::queries::push_queries;
 use crate::subscriptions::push_kept;
 use std::alloc::{AllocError, Global};
+use tests_tasks::Tasks;
 use wef_base::{ChannelName, List, Text, ValueFault};
 
 /// What is done with a line.
@@ -25,9 +26,8 @@ pub(crate) enum Task {
     Address,
 }
 
-impl Task {
-    /// The task that stands before the colon of a heading.
-    pub(crate) fn of_heading(heading: &str) -> Option<Task> {
+impl Tasks for Task {
+    fn of_heading(heading: &str) -> Option<Task> {
         let (task, _) = heading.split_once(':')?;
         match task {
             "bookmarks" => Some(Task::Bookmarks),
@@ -40,8 +40,7 @@ impl Task {
         }
     }
 
-    /// What is printed for a line.
-    pub(crate) fn answer(self, alloc: Global, line: &str) -> Result<Text, AllocError> {
+    fn answer(&self, alloc: Global, line: &str) -> Result<Text, AllocError> {
         let mut shown = Text::new(alloc);
         match self.push_answer(&mut shown, line) {
             Ok(()) => {}
@@ -50,7 +49,9 @@ impl Task {
         }
         Ok(shown)
     }
+}
 
+impl Task {
     fn push_answer(self, shown: &mut Text, line: &str) -> Result<(), ValueFault> {
         match self {
             Task::Bookmarks => push_bookmarks(shown, line),
