@@ -5,7 +5,7 @@ ghost use Rattle.std.specs.Fmt.{decimal};
 ghost use Rattle.std.specs.Cmp.{partial_equiv_from_equiv};
 ghost use Rattle.std.specs.Cmp.Lexicographic.{pointwise, slice_cmp, nat_list_eq_equiv, nat_list_cmp_total, texts_po};
 ghost use Rattle.std.specs.Ordering.{nat_cmp};
-ghost use Rattle.std.specs.Prelude.{ℕ, nat_eq, refl};
+ghost use Rattle.std.specs.Prelude.{ℕ, nat_eq, refl, string_bytes};
 ghost use Rattle.std.specs.declared.option.Option.TheVariants.{Some};
 ghost use Rattle.std.specs.Str.{IsUtf8, chars};
 ghost use Rattle.wef_base.specs.Names.{trimmed};
@@ -17,20 +17,32 @@ use std::alloc::{AllocError, Global};
 use std::cmp::Ordering;
 use std::fmt;
 use std::marker::Model;
+use std::rc::Rc;
 
-/// A text of its own, in UTF-8. Two texts compare by their bytes, which is the order of their
-/// characters.
-#[derive(Debug, Drop)]
+/// A text in UTF-8. Two texts compare by their bytes, which is the order of their characters.
+///
+/// All copies of a text share its bytes; one that is changed gets bytes of its own first, where it
+/// isn't their only owner.
+#[derive(Debug)]
 pub struct Text {
-    inner: String,
+    alloc: Global,
+    shared: Option<Rc<String>>,
 }
 
 impl Model for Text {
-    ghost use Rattle.std.specs.Prelude.{ℕ, List, string_bytes};
+    ghost use Rattle.std.specs.Prelude.{ℕ, List, [], string_bytes};
+    ghost use Rattle.std.specs.Option.{option_map_or};
 
     ghost Value = { List ℕ };
 
-    ghost view = { λ t. string_bytes t.inner };
+    ghost view = { λ t. option_map_or (λ s. string_bytes s.value) t.shared [] };
+}
+
+impl Drop for Text {
+    fn drop(self) {
+        let Text { alloc: _, shared } = self;
+        drop(shared);
+    }
 }
 
 impl Text {
@@ -39,7 +51,8 @@ impl Text {
         ensures { result ≡ [] }
     {
         Text {
-            inner: String::new(alloc),
+            alloc,
+            shared: None,
         }
     }
 
@@ -47,8 +60,17 @@ impl Text {
     pub fn from_str(alloc: Global, text: &str) -> Result<Text, AllocError>
         ensures { IfOk result (λ t. t ≡ text.now) }
     {
+        Text::from_string(String::from_str(alloc, text)?)
+    }
+
+    /// The text of a string, which keeps the room that is set aside in it.
+    pub fn from_string(string: String) -> Result<Text, AllocError>
+        ensures { IfOk result (λ t. t ≡ string_bytes string) }
+    {
+        let alloc = *string.allocator();
         Ok(Text {
-            inner: String::from_str(alloc, text)?,
+            alloc,
+            shared: Some(Rc::new(alloc, string)?),
         })
     }
 
@@ -56,26 +78,29 @@ impl Text {
     pub fn as_str(&self) -> &str
         ensures { result.now ≡ self.now }
     {
-        self.inner.as_str()
+        match &self.shared {
+            Some(shared) => shared.as_str(),
+            None => "",
+        }
     }
 
     /// The length in bytes.
     pub fn len(&self) -> usize
         ensures { result ≡ length self.now }
     {
-        self.inner.len()
+        self.as_str().len()
     }
 
     /// Whether there is no character.
     pub fn is_empty(&self) -> bool
         ensures { result ≡ (length self.now == 0) }
     {
-        self.inner.len() == 0
+        self.as_str().len() == 0
     }
 
     /// The allocator that the text was made with.
     pub fn alloc(&self) -> Global {
-        *self.inner.allocator()
+        self.alloc
     }
 
     /// Appends a text.
@@ -83,7 +108,13 @@ impl Text {
         ensures ok { OnOk result (self.new ≡ self.old ++ more.now) }
         ensures err { OnErr result (self.new ≡ self.old) }
     {
-        self.inner.push_str(more)
+        match &mut self.shared {
+            Some(shared) => append(self.alloc, shared, more),
+            None => {
+                *self = Text::from_str(self.alloc, more)?;
+                Ok(())
+            }
+        }
     }
 
     /// Appends a character.
@@ -91,7 +122,7 @@ impl Text {
         ensures ok { OnOk result (self.new ≡ self.old ++ encode_utf8 character) }
         ensures err { OnErr result (self.new ≡ self.old) }
     {
-        self.inner.push(character)
+        self.push_str(character.encode_utf8(&mut [0; 4]))
     }
 
     /// Appends a number in decimal digits, without leading zeros.
@@ -100,7 +131,7 @@ impl Text {
         ensures err { OnErr result (self.new ≡ self.old) }
     {
         let digits = number.to_string(self.alloc())?;
-        self.inner.push_str(digits.as_str())
+        self.push_str(digits.as_str())
     }
 
     /// Appends a name as printed lines show it: every byte below 0x21 or above 0x7E, `%` and `:` as
@@ -109,7 +140,9 @@ impl Text {
         ensures ok { OnOk result (self.new ≡ self.old ++ printed name.now) }
         ensures err { OnErr result (self.new ≡ self.old) }
     {
-        push_printed(&mut self.inner, name.as_str())
+        let mut shown = String::new(self.alloc);
+        push_printed(&mut shown, name.as_str())?;
+        self.push_str(shown.as_str())
     }
 
     /// The text without the spaces at both ends (XML 1.0, rule S).
@@ -133,22 +166,39 @@ impl Text {
         self.as_str().chars().collect(self.alloc())
     }
 
-    /// A copy of the text, in memory of its own.
+    /// The same text again, which shares the bytes.
     pub fn clone(&self) -> Result<Text, AllocError>
         ensures { IfOk result (λ copy. copy ≡ self.now) }
     {
-        Text::from_str(self.alloc(), self.as_str())
+        match &self.shared {
+            Some(shared) => Ok(Text {
+                alloc: self.alloc,
+                shared: Some(shared.clone()?),
+            }),
+            None => Ok(Text::new(self.alloc)),
+        }
     }
 }
 
-impl From<String> for Text {
-    ghost use Rattle.std.specs.Prelude.{◌≡◌, string_bytes};
-
-    ghost from_gives = { λ text t. t ≡ string_bytes text };
-
-    fn from(inner: String) -> Text {
-        Text { inner }
+/// Appends to a string that others may share: where they do, to one of its own.
+fn append(alloc: Global, shared: &mut Rc<String>, more: &str) -> Result<(), AllocError>
+    ensures ok { OnOk result (string_bytes shared.new.value ≡ string_bytes shared.old.value ++ more.now) }
+    ensures err { OnErr result (string_bytes shared.new.value ≡ string_bytes shared.old.value) }
+{
+    if let Some(string) = Rc::get_mut(shared) {
+        return string.push_str(more);
     }
+    *shared = appended(alloc, shared.as_str(), more)?;
+    Ok(())
+}
+
+/// A string of its own with one text and another behind it.
+fn appended(alloc: Global, text: &str, more: &str) -> Result<Rc<String>, AllocError>
+    ensures { IfOk result (λ shared. string_bytes shared.value ≡ text.now ++ more.now) }
+{
+    let mut string = String::from_str(alloc, text)?;
+    string.push_str(more)?;
+    Ok(Rc::new(alloc, string)?)
 }
 
 impl fmt::Display for Text {

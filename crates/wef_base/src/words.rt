@@ -46,7 +46,7 @@ pub fn decode(alloc: Global, word: &[u8]) -> Result<Option<Text>, AllocError>
     ensures { IfOk result (λ text. text ≡ decoded word.now) }
 {
     match percent_decode(word).decode_utf8(alloc) {
-        Ok(text) => Ok(Some(Text::from(text.into_owned(alloc)?))),
+        Ok(text) => Ok(Some(Text::from_string(text.into_owned(alloc)?)?)),
         Err(DecodeError::Utf8(_)) => Ok(None),
         Err(DecodeError::OutOfMemory) => Err(AllocError),
     }

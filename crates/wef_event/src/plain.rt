@@ -53,7 +53,7 @@ fn room_for(channel: &str, word: &str) -> usize {
 fn empty_text(alloc: Global, room: usize) -> Result<Text, AllocError>
     ensures { IfOk result (λ text. text ≡ []) }
 {
-    Ok(Text::from(String::with_capacity(alloc, room)?))
+    Text::from_string(String::with_capacity(alloc, room)?)
 }
 
 fn plain_text(

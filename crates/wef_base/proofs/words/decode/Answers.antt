@@ -5,10 +5,10 @@ use Rattle.wef_base.specs.Words.{decoded, utf8}
 use Rattle.wef_base.proofs.Utf8.{text_of, no_text_of}
 use Rattle.wef_base.proofs.words.decode.Goals as goal
 
-pub returns-in_ok-into_owned-in-Ok : goal.returns-in_ok-into_owned-in-Ok
+pub returns-in_ok-from_string-in-Ok : goal.returns-in_ok-from_string-in-Ok
 unfolding decoded
-returns-in_ok-into_owned-in-Ok c =
-    let bytes = c.from.ensures ∙ c.in_ok-into_owned-in-Ok.ensures.ok ∙ c.in-Ok.ensures.value in
+returns-in_ok-from_string-in-Ok c =
+    let bytes = c.in_ok-from_string-in-Ok.ensures ∙ c.in_ok-into_owned-in-Ok.ensures.ok ∙ c.in-Ok.ensures.value in
     ap (λ (t : List ℕ). Some t) bytes ∙ sym (text_of (percent_decode c.percent_decode.result.bytes.now) c.in-Ok.ensures.ok_only_if_utf8) ∙ ap utf8 c.percent_decode.ensures.bytes
 
 pub returns-in-Err-Utf8 : goal.returns-in-Err-Utf8
