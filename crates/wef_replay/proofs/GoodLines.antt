@@ -2,7 +2,6 @@
 use Rattle.std.proofs.Common.{◌≡◌, ℕ, ◌+◌, Bool, true, false, ◌&&◌, List, [], ◌∷◌, length, refl, arith}
 use Rattle.std.specs.Prelude.{◌==◌, Option, Some, None, codes, is_some, not}
 use Rattle.std.specs.List.{list_all}
-use Rattle.std.specs.Option.{option_and_then, option_map}
 use Rattle.std.specs.Str.{is_utf8}
 use Rattle.std.proofs.lemmas.Bool.{and_parts}
 use Rattle.std.proofs.lemmas.Bool.Decides.{nat_tests}
@@ -14,12 +13,11 @@ use Rattle.wef_event.specs.Unnumbered.{plain_numbered}
 use Rattle.wef_event.specs.declared.unnumbered.PlainEvent.{PlainEvent}
 use Rattle.wef_query.specs.Queries.{all_events_of}
 use Rattle.wef_replay.specs.BatchWords.{empty_batch, read_words}
-use Rattle.wef_replay.specs.Good.{are_all, asks_for_all, fits_always, is_channel, is_count, is_end, is_line, is_no_collector, is_source, is_subscription}
+use Rattle.wef_replay.specs.Good.{are_all, asks_for_all, fits_always, is_between, is_channel, is_count, is_end, is_line, is_no_collector, is_source, is_subscription}
 use Rattle.wef_replay.specs.Grammar.{all_of, ask_line, back_line, batch_line, calm_line, commit_words, crash_line, deliver_line, does_nothing, end_line, event_if_xml, event_words, fail_line, failure_line_of, fitting_event, if_fits, line_of_words, lost_line, meaning, message_words, other_line, pair_words, poll_line, print_line, show_line, source_line, source_line_of, stop_line, subscribe_line, subscribe_numbers, write_line}
 use Rattle.wef_replay.specs.PlainEvents.{HasPlainEvents}
 use Rattle.wef_replay.specs.Reading.{with_first}
 use Rattle.wef_replay.specs.Values.{after_word, channel_word, channel_words, end_word, number_word, sending_source_word, source_word, subscription_word}
-use Rattle.wef_replay.specs.declared.lines.EndName.{EndName}
 use Rattle.wef_replay.specs.declared.lines.EndName.TheVariants as end
 use Rattle.wef_replay.specs.declared.lines.Line.{Line}
 use Rattle.wef_replay.specs.declared.lines.Line.TheVariants.{Subscribe, End, Batch, Source, Write, Ask, Poll, Deliver, Back, Lost, Print, Crash, Fail, Stop}
@@ -152,9 +150,13 @@ good-poll_line words = all_of-map _ IsGoodLine (λ pair. Poll pair.0 pair.1) (pa
 good-lost_line : (words : List (List ℕ)) → AllOf IsGoodLine (lost_line words)
 good-lost_line words = all_of-map _ IsGoodLine (λ pair. Lost pair.0 pair.1) (pair_words words) (good-pair_words words) (λ pair h. (h, tt))
 
+counts : (given : Option ℕ) → AllOf (λ n. is_between 0 MAX n ≡ true) given → AllOf (λ n. is_count n ≡ true) given
+counts None h = tt
+counts (Some n) h = count_from_between n h
+
 good-message_words : (words : List (List ℕ)) → AllOf (λ n. is_count n ≡ true) (message_words words)
 good-message_words [] = tt
-good-message_words (number ∷ []) = all_of-then _ (λ n. is_count n ≡ true) (λ n. Some n) (number_word 0 MAX number) (good-number 0 MAX number) (λ n h. count_from_between n h)
+good-message_words (number ∷ []) = counts (number_word 0 MAX number) (good-number 0 MAX number)
 good-message_words (a ∷ b ∷ more) = tt
 
 good-deliver_line : (words : List (List ℕ)) → AllOf IsGoodLine (deliver_line words)
