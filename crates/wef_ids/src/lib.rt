@@ -3,13 +3,14 @@
 
 ghost use Rattle.std.specs.Prelude.{◌≡◌, ◌+◌, ◌*◌, IfOk};
 ghost use Rattle.wef_ids.specs.Faults.{fault_text};
+ghost use Rattle.wef_ids.specs.IdTexts.{id_of_value};
 ghost use Rattle.wef_ids.specs.Ids.{ids_agree};
 
 pub mod ids;
 pub mod texts;
 
 pub use ids::Ids;
-use std::alloc::AllocError;
+use std::alloc::{AllocError, Global};
 pub use texts::{id_text, read_id};
 use wef_base::Text;
 
@@ -27,6 +28,16 @@ impl MessageId {
         ensures value { result ≡ boot * 18446744073709551616 + seq }
     {
         u128::from(boot) * 18_446_744_073_709_551_616 + u128::from(seq)
+    }
+
+    /// The id of a message that an end sends: a value, and its text.
+    pub fn of_value(alloc: Global, value: u128) -> Result<MessageId, AllocError>
+        ensures { IfOk result (λ id. id ≡ id_of_value value) }
+    {
+        Ok(MessageId {
+            value: Some(value),
+            text: id_text(alloc, value)?,
+        })
     }
 
     /// Whether both ids have a value, and the same one. Their texts may differ.
