@@ -38,7 +38,7 @@ less Equal p = absurd p
 less Greater p = absurd p
 
 -- a name below each key of a list isn't found in it
-below : (q : List ℕ) (es : List (List ℕ × ℕ)) → T (below_all order q es) → find order q es ≡ None
+pub below : (q : List ℕ) (es : List (List ℕ × ℕ)) → T (below_all order q es) → find order q es ≡ None
 below q [] h = refl
 below q (e ∷ es) h =
     let parts = both (is_lt (order q e.0)) (below_all order q es) h in

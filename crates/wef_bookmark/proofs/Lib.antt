@@ -1,3 +1,4 @@
 pub mod Maps
 pub mod Joining
 pub mod Kept
+pub mod WrittenRead

@@ -2,6 +2,7 @@
 #![tactic(auto)]
 
 pub mod marking;
+pub mod nodes;
 pub mod order;
 
 pub use marking::{Bookmark, BookmarkFault};

@@ -1,6 +1,6 @@
 //! A bookmark, which contracts see as a finite map from the bytes of a channel's name to a number.
 
-ghost use Rattle.std.specs.Prelude.{◌≡◌, ◌==◌, ◌≤◌, ℕ, List, IsTrue, ◌↔◌, IsSome, is_some, IsOk, IfOk, OnOk, OnErr};
+ghost use Rattle.std.specs.Prelude.{◌≡◌, ◌==◌, ◌≤◌, ℕ, List, IsTrue, ◌↔◌, IsSome, is_some, IsOk, IfErr, IfOk, OnOk, OnErr};
 ghost use Rattle.std.specs.FinMap as map;
 ghost use Rattle.std.specs.Ordering.{nat_cmp};
 ghost use Rattle.std.specs.Cmp.Lexicographic.{slice_cmp};
@@ -15,11 +15,13 @@ use thiserror::Error;
 use wef_base::ChannelName;
 use wef_base::numbers::MAX;
 
-/// Why a bookmark couldn't be changed.
+/// Why a bookmark couldn't be changed or read.
 #[derive(Clone, Copy, Debug, PartialEq, Eq, Error)]
 pub enum BookmarkFault {
     #[error("no memory")]
     NoMemory,
+    #[error("no bookmark")]
+    BadBookmark,
 }
 
 impl From<AllocError> for BookmarkFault {
@@ -70,6 +72,11 @@ impl Bookmark {
         }
     }
 
+    /// The allocator that the bookmark is made with.
+    pub(crate) fn alloc(&self) -> Global {
+        self.alloc
+    }
+
     /// A channel's number: 0 where the bookmark doesn't have the channel.
     pub fn at(&self, channel: &ChannelName) -> u64
         ensures number { result ≡ number_at self.now channel.now }
@@ -101,6 +108,7 @@ impl Bookmark {
         ensures err { OnErr result (self.new ≡ self.old) }
         ensures keeps { IsAtMost self.old self.new }
         ensures present_succeeds { IsSome (map.get self.old channel.now) → IsOk result }
+        ensures wants_memory { IfErr result (λ fault. fault ≡ BookmarkFault.NoMemory) }
     {
         // The text is asked for since it says that the name reads back.
         let _text = channel.as_text();

@@ -2,6 +2,7 @@
 use Rattle.std.specs.Prelude.{ℕ, Bool, false, ◌&&◌, not, List, [], map, Option, Some, None}
 use Rattle.std.specs.List.{filter_map, find, list_all, list_any}
 use Rattle.wef_base.specs.Names.{is_space, same}
+use Rattle.wef_base.specs.declared.tree.Attribute.{Attribute}
 use Rattle.wef_base.specs.declared.tree.Element.{Element}
 use Rattle.wef_base.specs.declared.tree.Node.{Node, out-Node, Node-F}
 use Rattle.wef_base.specs.declared.tree.Node.TheVariants.{Element as Child}
@@ -35,9 +36,13 @@ first_called space name nodes = find (is_called space name) (elements_in nodes)
 abbrev pub as_nodes : List Element → List Node
 as_nodes es = map (λ e. Child e) es
 
+-- an element that has attributes and a text
+abbrev pub with_attributes : List ℕ → List ℕ → List Attribute → List ℕ → Element
+with_attributes space name attributes text = record { space = space; name = name; attributes = attributes; children = only_text text }
+
 -- an element without attributes that has a text, and one that has elements
 abbrev pub with_text : List ℕ → List ℕ → List ℕ → Element
-with_text space name text = record { space = space; name = name; attributes = []; children = only_text text }
+with_text space name text = with_attributes space name [] text
 
 abbrev pub with_elements : List ℕ → List ℕ → List Element → Element
 with_elements space name es = record { space = space; name = name; attributes = []; children = as_nodes es }

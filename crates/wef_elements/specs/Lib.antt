@@ -1,2 +1,4 @@
 pub mod Children
+pub mod Spaces
 pub mod Texts
+pub mod Values

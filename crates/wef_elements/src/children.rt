@@ -3,11 +3,11 @@
 ghost use Rattle.std.specs.Prelude.{◌≡◌, not, ◌++◌, ◌∷◌, [], option_copied, slice_get, IfOk, OnOk};
 ghost use Rattle.std.specs.List.{list_all};
 ghost use Rattle.wef_base.specs.Names.{is_space};
-ghost use Rattle.wef_elements.specs.Children.{as_nodes, element_of, elements_in, first_called, has_words, is_called, is_words, with_elements, with_text};
+ghost use Rattle.wef_elements.specs.Children.{as_nodes, element_of, elements_in, first_called, has_words, is_called, is_words, with_attributes, with_elements, with_text};
 ghost use Rattle.wef_elements.specs.Texts.{only_text};
 
 use std::alloc::{AllocError, Global};
-use wef_base::{Element, List, Namespace, Node, Text};
+use wef_base::{Attribute, Element, List, Namespace, Node, Text};
 
 /// The element that a node is.
 pub fn element_of(node: &Node) -> Option<&Element>
@@ -108,12 +108,24 @@ fn push_element(copies: &mut List<Element>, node: &Node) -> Result<(), AllocErro
 pub fn with_text(space: Namespace, name: &str, text: Text) -> Result<Element, AllocError>
     ensures { IfOk result (λ e. e ≡ with_text space name.now text) }
 {
-    let alloc = text.alloc();
-    let name = Text::from_str(alloc, name)?;
+    let attributes = List::new(text.alloc());
+    with_attributes(space, name, attributes, text)
+}
+
+/// An element that has attributes and a text.
+pub fn with_attributes(
+    space: Namespace,
+    name: &str,
+    attributes: List<Attribute>,
+    text: Text,
+) -> Result<Element, AllocError>
+    ensures { IfOk result (λ e. e ≡ with_attributes space name.now attributes text) }
+{
+    let name = Text::from_str(text.alloc(), name)?;
     Ok(Element {
         space,
         name,
-        attributes: List::new(alloc),
+        attributes,
         children: only_text(text)?,
     })
 }

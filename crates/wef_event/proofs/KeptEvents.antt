@@ -8,7 +8,8 @@ use Rattle.wef_base.specs.Numbers.{is_numeral, number_within, value_from}
 use Rattle.wef_base.specs.declared.numbers.TheConstants.{MAX}
 use Rattle.wef_base.specs.declared.tree.Element.{Element}
 use Rattle.wef_event.specs.Events.{Event, HasTree, is_event}
-use Rattle.wef_event.specs.Paths.{field_in, number_in, number_of_digits, text_inside, unless_zero}
+use Rattle.wef_elements.specs.Texts.{text_inside}
+use Rattle.wef_event.specs.Paths.{field_in, number_in, number_of_digits, unless_zero}
 use Rattle.wef_event.proofs.Made.{is_read, made}
 
 le_holds : (m n : ℕ) → nat_le m n ≡ true → m ≤ n

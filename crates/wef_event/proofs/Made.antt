@@ -16,7 +16,8 @@ use Rattle.wef_xml.specs.declared.faults.TreeFault.{TreeFault}
 use Rattle.wef_tree_reading.proofs.Functions.{is_given}
 use Rattle.wef_tree.proofs.SpellsAgain.{spells_again}
 use Rattle.wef_event.specs.Events.{Event, HasTree, IsEventOf, event_in, event_limit, event_of, event_or_none, is_event, is_event_root, is_found, number_or, text_of_tree, unless_long, with_number_found}
-use Rattle.wef_event.specs.Paths.{channel_in, field_in, number_in, number_of_digits, text_inside, unless_zero}
+use Rattle.wef_elements.specs.Texts.{text_inside}
+use Rattle.wef_event.specs.Paths.{channel_in, field_in, number_in, number_of_digits, unless_zero}
 use Rattle.wef_event.specs.declared.records.EventFault.{EventFault}
 
 -- what was found in a tree whose event this is

@@ -21,11 +21,13 @@ use Rattle.wef_tree_reading.proofs.GoodOpens.{AreGoodChildren, with_good_child}
 use Rattle.wef_tree.proofs.GoodPrefixes.{plain_name_is}
 use Rattle.wef_event.specs.Events.{Event, Gives, IsEventOf, event_limit, event_of, event_or_none, number_or, text_of_tree, unless_long, with_number_found}
 use Rattle.wef_event.specs.Numbering.{NumberedEventsAreRead, new_field, numbered, numbered_by, numbered_children, numbered_root, numbered_system, record_id, with_first_changed, with_number, with_only}
-use Rattle.wef_event.specs.Paths.{channel_in, field_in, first_child, number_in, number_of_digits, text_inside}
+use Rattle.wef_elements.specs.Texts.{text_inside}
+use Rattle.wef_event.specs.Paths.{channel_in, field_in, first_child, number_in, number_of_digits}
 use Rattle.wef_event.specs.PlainEvent.{MakesEvent}
 use Rattle.wef_event.specs.declared.records.EventFault.{EventFault}
 use Rattle.wef_event.proofs.Children.{KeepsGood, changed_apart, changed_good, first_changed, first_more, first_other, named_otherwise, named_so}
-use Rattle.wef_event.proofs.DigitsRead.{decimal_digits, decimal_parts, digits_read}
+use Rattle.wef_elements.proofs.DigitsRead.{decimal_digits, decimal_parts}
+use Rattle.wef_event.proofs.DigitsRead.{digits_read}
 use Rattle.wef_event.proofs.Made.{event_tree, is_read, made}
 
 abbrev system_name : List ℕ

@@ -13,8 +13,9 @@ use Rattle.wef_base.specs.declared.tree.Node.{Node, Chars, Node-F}
 use Rattle.wef_base.specs.declared.tree.Node.TheVariants.{Element as Child, outs-Element}
 use Rattle.wef_xml.specs.Spaces.{is_empty}
 use Rattle.wef_event.specs.Events.{Event, event_limit, event_of, number_or, text_of_tree, unless_long, with_channel_found, with_number_found}
-use Rattle.wef_event.specs.Paths.{channel_in, first_child, if_named, named, number_in, number_of_digits, text_in, text_inside, unless_zero}
-use Rattle.wef_event.specs.PlainEvent.{event_space, only_text, plain_event, plain_text, plain_tree}
+use Rattle.wef_elements.specs.Texts.{only_text, text_in, text_inside}
+use Rattle.wef_event.specs.Paths.{channel_in, first_child, if_named, named, number_in, number_of_digits, unless_zero}
+use Rattle.wef_event.specs.PlainEvent.{event_space, plain_event, plain_text, plain_tree}
 use Rattle.wef_event.specs.declared.records.EventFault.{EventFault}
 use Rattle.wef_event.proofs.Digits.{decimal_digits, decimal_read, digits_trimmed}
 

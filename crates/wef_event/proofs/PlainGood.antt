@@ -19,7 +19,8 @@ use Rattle.wef_xml.specs.Good.{AreGoodNodes, IsGoodElement, IsGoodHead, IsGoodTr
 use Rattle.wef_xml.specs.Spaces.{is_empty}
 use Rattle.wef_xml.proofs.GoodNodes.{good_child, is_no_text}
 use Rattle.wef_tree.proofs.GoodPrefixes.{plain_name_is, plain_text_is}
-use Rattle.wef_event.specs.PlainEvent.{event_space, only_text, plain_tree}
+use Rattle.wef_elements.specs.Texts.{only_text}
+use Rattle.wef_event.specs.PlainEvent.{event_space, plain_tree}
 use Rattle.wef_event.proofs.Digits.{decimal_digits, digits_text}
 use Rattle.wef_event.proofs.PlainFields.{event_data, fields, from_channel, from_level, from_number, leaf, system}
 

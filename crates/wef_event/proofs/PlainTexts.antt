@@ -13,9 +13,10 @@ use Rattle.wef_xml.specs.Prefixes.{Scope, inside, is_soap, outermost, root_bindi
 use Rattle.wef_xml.specs.Spaces.{is_empty, is_xml_space, xml_space}
 use Rattle.wef_tree.proofs.EncodedAgain.{written8}
 use Rattle.wef_tree_writing.proofs.WrittenNodes.{node_text}
+use Rattle.wef_elements.specs.Texts.{only_text}
 use Rattle.wef_event.specs.Characters.{escaped}
 use Rattle.wef_event.specs.Events.{text_of_tree}
-use Rattle.wef_event.specs.PlainEvent.{event_space, only_text, plain_text, plain_tree}
+use Rattle.wef_event.specs.PlainEvent.{event_space, plain_text, plain_tree}
 use Rattle.wef_event.proofs.Digits.{decimal_digits}
 use Rattle.wef_event.proofs.Escaped.{escaped_digits, escaped_is}
 use Rattle.wef_event.proofs.PlainFields.{event_data, fields, from_channel, from_level, from_number, leaf, nothing}

@@ -9,7 +9,7 @@ use Rattle.wef_base.specs.declared.tree.Element.{Element}
 use Rattle.wef_tree_reading.specs.Documents.{tree_of}
 use Rattle.wef_tree_reading.proofs.Functions.{is_given, is_spelt_by}
 use Rattle.wef_tree_reading.proofs.Readings.{has_no_fault}
-use Rattle.wef_event.specs.Events.{Event, event_in, event_limit, event_of, event_or_none, is_event, is_event_root, is_found, number_or, text_of_tree, with_number_found}
+use Rattle.wef_event.specs.Events.{Event, Finds, event_in, event_limit, event_of, event_or_none, is_event, is_event_root, is_found, number_or, text_of_tree, with_number_found}
 use Rattle.wef_event.specs.Paths.{channel_in, number_in}
 use Rattle.wef_event.specs.Reading.{AsksForNoNumber, IsFaulty, ReadsEvent, Says}
 use Rattle.wef_event.specs.declared.records.EventFault.{EventFault}
@@ -33,6 +33,15 @@ faulty text at fault = by (tree_of Utf8 text) refl
 bad : (text : List ℕ) (at : ℕ) → IsFaulty text at ⊎ Says true text (Err (BadEvent at)) → event_in text ≡ None
 bad text at (inl fault) = faulty text at fault
 bad text at (inr says) = said text (Err (BadEvent at)) says
+
+-- what reading answers is the event that the text says
+pub finds : (text : List ℕ) (result : Result Event EventFault) → ReadsEvent true text result → Finds result (event_in text)
+finds text (Ok event) reads = said text (Ok event) reads
+finds text (Err NoMemory) reads = tt
+finds text (Err (BadEvent at)) reads = bad text at reads
+finds text (Err NoChannel) reads = said text (Err NoChannel) reads
+finds text (Err NoRecordId) reads = said text (Err NoRecordId) reads
+finds text (Err TooLong) reads = said text (Err TooLong) reads
 
 -- where reading refuses a text, no event is the one that it says
 pub no_event : (event : Event) (fault : EventFault) → (fault ≡ NoMemory → ⊥) → ReadsEvent true event.text (Err fault) → false ≡ is_event event

@@ -83,6 +83,15 @@ event_or_none (Err fault) = None
 unfoldable pub event_in : List ℕ → Option Event
 event_in text = option_and_then (λ root. event_or_none (event_of true root)) (tree_of Utf8 text)
 
+-- A reader gives the event that there is, and a fault where there is none, but for want of memory.
+abbrev pub Finds : Result Event EventFault → Option Event → Type 0
+Finds (Ok event) given = given ≡ Some event
+Finds (Err NoMemory) given = Unit {0}
+Finds (Err (BadEvent at)) given = given ≡ None
+Finds (Err NoChannel) given = given ≡ None
+Finds (Err NoRecordId) given = given ≡ None
+Finds (Err TooLong) given = given ≡ None
+
 -- whether an event is the one that was found
 abbrev pub is_found : Event → Option Event → Bool
 is_found event None = false

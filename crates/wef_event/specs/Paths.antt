@@ -1,13 +1,13 @@
 -- Where an event says its channel and its number. Names are local names, whatever the namespace; of several children of one
 -- name the first counts.
-use Rattle.std.specs.Prelude.{ℕ, nat_lt, List, [], ◌∷◌, ◌++◌, Option, Some, None, codes, if◌then◌else◌}
-use Rattle.std.specs.List.{flat_map}
+use Rattle.std.specs.Prelude.{ℕ, nat_lt, List, [], ◌∷◌, Option, Some, None, codes, if◌then◌else◌}
 use Rattle.std.specs.Option.{option_and_then, option_or}
 use Rattle.wef_base.specs.Names.{channel_name, same, trimmed}
 use Rattle.wef_base.specs.Numbers.{is_numeral, number_within}
 use Rattle.wef_base.specs.declared.numbers.TheConstants.{MAX}
 use Rattle.wef_base.specs.declared.tree.Element.{Element}
-use Rattle.wef_base.specs.declared.tree.Node.{Node, Chars, Element', Row_of-Node, end_of-Node, more_of-Node, out-Node, Node-F}
+use Rattle.wef_base.specs.declared.tree.Node.{Node, out-Node, Node-F}
+use Rattle.wef_elements.specs.Texts.{text_inside}
 
 -- an element, where it has this name
 abbrev pub if_named : List ℕ → Element → Option Element
@@ -25,20 +25,6 @@ first_child name (n ∷ ns) = option_or (named name n) (first_child name ns)
 -- the field of a name in an event: the root's first child System has it as its first child of this name
 abbrev pub field_in : List ℕ → Element → Option Element
 field_in name root = option_and_then (λ (system : Element). first_child name system.children) (first_child (codes "System") root.children)
-
--- all text inside a node, also that of elements inside it
-abbrev mutual
-  pub text_in : Node → List ℕ
-  text_in (Chars text) = text
-  text_in (Element' space name attributes shape row) = text_in_row row
-
-  pub text_in_row : {m : _} → Row_of-Node m → List ℕ
-  text_in_row end_of-Node = []
-  text_in_row (more_of-Node n rest) = text_in n ++ text_in_row rest
-
--- all text inside an element
-abbrev pub text_inside : Element → List ℕ
-text_inside e = flat_map text_in e.children
 
 -- the channel of an event, where its field is a channel's name
 unfoldable pub channel_in : Element → Option (List ℕ)

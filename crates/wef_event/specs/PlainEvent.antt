@@ -7,9 +7,9 @@ use Rattle.wef_base.specs.Characters.{is_xml_text}
 use Rattle.wef_base.specs.Names.{channel_name}
 use Rattle.wef_base.specs.declared.numbers.TheConstants.{MAX}
 use Rattle.wef_base.specs.declared.tree.Element.{Element}
-use Rattle.wef_base.specs.declared.tree.Node.{Node, Chars}
+use Rattle.wef_base.specs.declared.tree.Node.{Node}
 use Rattle.wef_base.specs.declared.tree.Node.TheVariants.{Element as Child}
-use Rattle.wef_xml.specs.Spaces.{is_empty}
+use Rattle.wef_elements.specs.Texts.{only_text}
 pub use Rattle.wef_event.specs.Characters.{escape, escaped}
 use Rattle.wef_event.specs.Events.{Event, IsEventOf, event_limit, is_event}
 use Rattle.wef_event.specs.declared.records.EventFault.{EventFault}
@@ -45,10 +45,6 @@ MakesEvent (Err NoRecordId) given = ⊥
 -- the namespace of all its elements
 unfoldable pub event_space : List ℕ
 event_space = codes "http://schemas.microsoft.com/win/2004/08/events/event"
-
--- a text as the children of an element: an empty one is no child
-abbrev pub only_text : List ℕ → List Node
-only_text text = if is_empty text then [] else Chars text ∷ []
 
 -- an element of the namespace of events
 abbrev pub element : List ℕ → List Node → Node

@@ -1,13 +1,14 @@
 //! Finding where an event says its channel and its number. Namespaces don't matter, and of several
 //! children of one name the first counts.
 
-ghost use Rattle.std.specs.Prelude.{◌≡◌, ◌++◌, option_copied, IfOk, OnOk};
-ghost use Rattle.wef_base.specs.Names.{channel_name, trimmed};
-ghost use Rattle.wef_event.specs.Paths.{channel_in, field_in, first_child, if_named, named, number_in, number_of_digits, text_in, text_inside, unless_zero};
+ghost use Rattle.std.specs.Prelude.{◌≡◌, option_copied, IfOk};
+ghost use Rattle.wef_base.specs.Names.{trimmed};
+ghost use Rattle.wef_event.specs.Paths.{channel_in, field_in, first_child, if_named, named, number_in, number_of_digits, unless_zero};
 
 use std::alloc::AllocError;
 use wef_base::numbers::read_number;
 use wef_base::{ChannelName, Element, Node, Text, ValueFault};
+use wef_elements::{channel_said, text_inside};
 
 /// The channel of an event, where its field is a channel's name.
 #[tactic(auto, unfolding(crate::specs::Paths::channel_in))]
@@ -15,7 +16,7 @@ pub(crate) fn channel_in(root: &Element) -> Result<Option<ChannelName>, AllocErr
     ensures { IfOk result (λ found. found ≡ channel_in root.now) }
 {
     match field_in("Channel", root) {
-        Some(field) => channel_of(&text_inside(field)?),
+        Some(field) => channel_said(&text_inside(field)?),
         None => Ok(None),
     }
 }
@@ -28,16 +29,6 @@ pub(crate) fn number_in(root: &Element) -> Result<Option<u64>, AllocError>
     match field_in("EventRecordID", root) {
         Some(field) => number_of(&text_inside(field)?),
         None => Ok(None),
-    }
-}
-
-fn channel_of(text: &Text) -> Result<Option<ChannelName>, AllocError>
-    ensures { IfOk result (λ found. found ≡ channel_name text.now) }
-{
-    match ChannelName::read(text) {
-        Ok(name) => Ok(Some(name)),
-        Err(ValueFault::NoMemory) => Err(AllocError),
-        Err(_) => Ok(None),
     }
 }
 
@@ -94,35 +85,4 @@ fn if_named<'a>(name: &str, element: &'a Element) -> Option<&'a Element>
     } else {
         None
     }
-}
-
-/// All text inside an element.
-fn text_inside(element: &Element) -> Result<Text, AllocError>
-    ensures { IfOk result (λ text. text ≡ text_inside element.now) }
-{
-    let mut text = Text::new(element.name.alloc());
-    push_inside(&mut text, element)?;
-    Ok(text)
-}
-
-/// Appends all text inside a node, also that of elements inside it.
-#[cycle(joining)]
-fn push_node(text: &mut Text, node: &Node) -> Result<(), AllocError>
-    ensures { OnOk result (text.new ≡ text.old ++ text_in node.now) }
-{
-    match node {
-        Node::Chars(characters) => text.push_str(characters.as_str()),
-        Node::Element(element) => push_inside(text, element),
-    }
-}
-
-/// Appends all text inside an element.
-#[cycle(joining)]
-fn push_inside(text: &mut Text, element: &Element) -> Result<(), AllocError>
-    ensures { OnOk result (text.new ≡ text.old ++ text_inside element.now) }
-{
-    for child in element.children.as_slice() {
-        push_node(text, child)?;
-    }
-    Ok(())
 }

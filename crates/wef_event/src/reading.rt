@@ -4,7 +4,7 @@ ghost use Rattle.std.specs.Prelude.{◌≡◌, true, false, ◌&&◌, ◌==◌, 
 ghost use Rattle.wef_base.specs.Names.{same};
 ghost use Rattle.wef_xml.specs.Good.{IsGoodTree};
 ghost use Rattle.wef_event.specs.Events as events;
-ghost use Rattle.wef_event.specs.Events.{Gives, IsEventOf, is_event_root, number_or, text_of_tree};
+ghost use Rattle.wef_event.specs.Events.{Finds, Gives, IsEventOf, is_event_root, number_or, text_of_tree};
 ghost use Rattle.wef_event.specs.Reading.{AsksForNoNumber, ReadsEvent, short_text};
 
 use crate::paths::{channel_in, number_in};
@@ -18,7 +18,8 @@ use wef_tree::{TreeFault, read_tree, write_tree_within};
 /// channel and its number stand in the fields Channel and EventRecordID of its System, whatever the
 /// namespaces. The text that is kept is the one text of the tree.
 pub fn read_event(text: &Text) -> Result<Event, EventFault>
-    ensures { ReadsEvent true text.now result }
+    ensures read { ReadsEvent true text.now result }
+    ensures found { Finds result (events.event_in text.now) }
 {
     read(true, text)
 }

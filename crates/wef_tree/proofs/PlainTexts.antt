@@ -1,4 +1,4 @@
--- The text of a good tree has no CR, and its characters can be encoded.
+-- The text of a good tree has characters that XML allows, so they can be encoded, and no CR.
 use Rattle.std.proofs.Common.{◌≡◌, ℕ, zero, suc, ◌==◌, Bool, true, false, ◌&&◌, ◌||◌, not, cond, List, [], ◌∷◌, ◌++◌, refl, ap, sym, subst, arith}
 use Rattle.std.specs.Prelude.{Option, Some, None, codes, is_some}
 use Rattle.std.specs.List.{flat_map, list_all}
@@ -9,21 +9,22 @@ use lib.Utf8.{scalar}
 use Rattle.wef_base.specs.Characters.{is_xml_char}
 use Rattle.wef_base.specs.Names.{same}
 use Rattle.wef_base.specs.declared.tree.Attribute.{Attribute}
+use Rattle.wef_base.specs.declared.tree.Charset.TheVariants.{Utf8}
 use Rattle.wef_base.specs.declared.tree.Element.{Element}
 use Rattle.wef_base.specs.declared.tree.Node.{Node, Chars, Element', Row_of-Node, end_of-Node, more_of-Node}
-use Rattle.wef_xml.specs.Canonical.{assigned, attribute_of, canonical, declaration_of, default_of, end_of, name_of, node_of, row_of, start_of, text_char, text_of, value_char, value_of}
+use Rattle.wef_xml.specs.Canonical.{assigned, attribute_of, canonical, declaration_of, default_of, encoded, end_of, name_of, node_of, row_of, start_of, text_char, text_of, value_char, value_of}
 use Rattle.wef_xml.specs.Good.{AreGoodAttributes, AreGoodNodes, IsGoodAttribute, IsGoodHead, IsGoodNode, IsGoodRow, IsGoodTree, IsLocalName, IsXmlText}
 use Rattle.wef_xml.specs.Letters.{is_name_char, is_name_start}
 use Rattle.wef_xml.specs.Prefixes.{Scope, attribute_prefix, element_prefix, inside, is_soap, new_bindings, nine, outermost, root_bindings}
 use Rattle.wef_xml.specs.declared.bindings.Binding.{Binding}
-use Rattle.wef_tree.proofs.EncodedAgain.{has_no_cr}
+use Rattle.wef_tree.proofs.EncodedAgain.{has_no_cr, written8}
 use Rattle.wef_tree.proofs.GoodPrefixes.{attribute_prefix_good, bound_by_good, element_prefix_good, new_are_good, nine_are_good}
 use Rattle.wef_tree.proofs.Spelled.{AreGoodBindings, IsGoodBinding}
 use Rattle.wef_tree.proofs.TextsAgain.{name_chars, text_chars, xml_is_scalar}
 
--- a character that can be encoded, and is no CR
+-- a character that XML allows, and is no CR
 abbrev pub is_plain : ℕ → Bool
-is_plain c = scalar c && not (c == 13)
+is_plain c = is_xml_char c && not (c == 13)
 
 abbrev pub ArePlain : List ℕ → Type 0
 ArePlain cs = list_all is_plain cs ≡ true
@@ -38,7 +39,7 @@ plain_append (x ∷ xs) ys h k =
 
 text_char_plain : (c : ℕ) → is_xml_char c ≡ true → ArePlain (text_char c)
 text_char_plain c h =
-    by (c == 38) (c == 60) (c == 62) (c == 9) (c == 10) (c == 13) (λ e. and_from (scalar c) (not (c == 13)) (xml_is_scalar c h) (ap not e))
+    by (c == 38) (c == 60) (c == 62) (c == 9) (c == 10) (c == 13) (λ e. and_from (is_xml_char c) (not (c == 13)) h (ap not e))
   where
     by :
         (amp lt gt tab lf cr : Bool) → (cr ≡ false → is_plain c ≡ true) →
@@ -94,14 +95,14 @@ pub plain_scalars : (cs : List ℕ) → ArePlain cs → all_scalars cs ≡ true
 plain_scalars [] h = refl
 plain_scalars (c ∷ cs) h =
     let parts = and_parts (is_plain c) (list_all is_plain cs) h in
-    and_from (scalar c) (all_scalars cs) (and_parts (scalar c) (not (c == 13)) parts.0).0 (plain_scalars cs parts.1)
+    and_from (scalar c) (all_scalars cs) (xml_is_scalar c (and_parts (is_xml_char c) (not (c == 13)) parts.0).0) (plain_scalars cs parts.1)
 
 -- what is plain has no CR
 pub plain_has_no_cr : (cs : List ℕ) → ArePlain cs → has_no_cr cs ≡ true
 plain_has_no_cr [] h = refl
 plain_has_no_cr (c ∷ cs) h =
     let parts = and_parts (is_plain c) (list_all is_plain cs) h in
-    by (c == 13) (and_parts (scalar c) (not (c == 13)) parts.0).1 (plain_has_no_cr cs parts.1)
+    by (c == 13) (and_parts (is_xml_char c) (not (c == 13)) parts.0).1 (plain_has_no_cr cs parts.1)
   where
     by : (cr : Bool) → not cr ≡ true → has_no_cr cs ≡ true → cond cr false (has_no_cr cs) ≡ true
     by true e rest = e
@@ -225,3 +226,14 @@ canonical_plain root good =
     element_plain (root_bindings root.space) scope root.space root.name root.attributes
     (flat_map (λ n. node_of n (inside scope root.space root.attributes)) root.children) first bound good.0
     (nodes_plain root.children 63 (inside scope root.space root.attributes) good.2 (inside_good scope root.space root.attributes bound good.0.attributed))
+
+plain_allowed : (cs : List ℕ) → ArePlain cs → list_all is_xml_char cs ≡ true
+plain_allowed [] h = refl
+plain_allowed (c ∷ cs) h =
+    let parts = and_parts (is_plain c) (list_all is_plain cs) h in
+    and_from (is_xml_char c) (list_all is_xml_char cs) (and_parts (is_xml_char c) (not (c == 13)) parts.0).0 (plain_allowed cs parts.1)
+
+-- so it is a text that XML allows
+pub canonical_text : (root : Element) → IsGoodTree root → IsXmlText (encoded Utf8 (canonical root))
+canonical_text root good =
+    record { characters = canonical root; spelt = written8 (canonical root); allowed = plain_allowed (canonical root) (canonical_plain root good) }
