@@ -34,7 +34,7 @@ pub enum ScheduleFault {
 }
 
 impl From<AllocError> for ScheduleFault {
-    ghost use Rattle.std.specs.Prelude.{◌≡◌, IfOk};
+    ghost use Rattle.std.specs.Prelude.{◌≡◌};
     ghost use Rattle.wef_replay.specs.declared.schedule.ScheduleFault.TheVariants.{NoMemory};
 
     ghost from_gives = { λ _ e. e ≡ NoMemory };
