@@ -81,6 +81,7 @@ impl<K: Keeper> Log<K> {
     }
 
     /// The first number of a channel's window: 1 where nothing was written.
+    #[tactic(auto, using(crate::proofs::Looking::looked_then, crate::proofs::Looking::not_looked))]
     pub fn first(&mut self, channel: &ChannelName) -> Result<u64, LogFault>
         ensures ok { IfSome (K.store self.new.keeper).rows (λ rows. IfOk result (λ number. number ≡ windows.first_of rows channel.now)) }
         ensures within { IfOk result (λ number. number ≤ MAX + 1) }
@@ -94,6 +95,7 @@ impl<K: Keeper> Log<K> {
     }
 
     /// The last number of a channel: 0 where nothing was written.
+    #[tactic(auto, using(crate::proofs::Looking::looked_then, crate::proofs::Looking::not_looked))]
     pub fn last(&mut self, channel: &ChannelName) -> Result<u64, LogFault>
         ensures ok { IfSome (K.store self.new.keeper).rows (λ rows. IfOk result (λ number. number ≡ windows.last_of rows channel.now)) }
         ensures within { IfOk result (λ number. number ≤ MAX) }
@@ -108,6 +110,7 @@ impl<K: Keeper> Log<K> {
 
     /// The first `max` records of a channel's window above a number, by number. The rest are those
     /// above the page's last number.
+    #[tactic(auto, using(crate::proofs::Looking::looked_then, crate::proofs::Looking::not_looked))]
     pub fn page(
         &mut self,
         channel: &ChannelName,
