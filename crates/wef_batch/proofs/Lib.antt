@@ -1,2 +1,6 @@
+pub mod CostTexts
 pub mod Costs
+pub mod InnerTrees
+pub mod Opened
 pub mod Reached
+pub mod WrittenRead

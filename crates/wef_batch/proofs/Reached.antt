@@ -21,7 +21,7 @@ equal Equal e = refl
 equal Greater e = cc
 
 -- names that are the same byte for byte are one
-one_name : (a b : List ℕ) → same a b ≡ true → a ≡ b
+pub one_name : (a b : List ℕ) → same a b ≡ true → a ≡ b
 one_name a b e = exact_bytes a b (equal (slice_cmp nat_cmp a b) (sym (texts_ties a b) ∙ e))
 
 both_true : (a b : Bool) → a && b ≡ true → (a ≡ true) × (b ≡ true)

@@ -107,7 +107,11 @@ fn as_list(node: &Node) -> Option<&Element>
     ensures { option_copied result ≡ slice_get (lists_in (node.now ∷ [])) 0 }
 {
     let element = element_of(node)?;
-    if is_list(element) { Some(element) } else { None }
+    if is_list(element) {
+        Some(element)
+    } else {
+        None
+    }
 }
 
 #[tactic(auto, unfolding(crate::specs::Nodes::earliest, crate::specs::Nodes::of_text))]
@@ -194,10 +198,7 @@ fn earliest(alloc: Global) -> Result<Text, AllocError>
     Text::from_str(alloc, EARLIEST)
 }
 
-fn full_header(
-    alloc: Global,
-    entries: &BTreeMap<ChannelName, u64>,
-) -> Result<Element, AllocError>
+fn full_header(alloc: Global, entries: &BTreeMap<ChannelName, u64>) -> Result<Element, AllocError>
     ensures { IfOk result (λ node. node ≡ with_elements management (codes "Bookmark") (list_element entries.now.entries ∷ [])) }
 {
     let mut lists = List::new(alloc);

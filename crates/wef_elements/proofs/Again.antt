@@ -10,7 +10,7 @@ use Rattle.wef_base.specs.declared.tree.Node.TheVariants.{Element as Child, outs
 use Rattle.wef_elements.specs.Children.{as_nodes, element_of, elements_in, has_words, is_words, with_text}
 use Rattle.wef_elements.specs.Texts.{only_text, said_in, text_in}
 
-child_is : (e : Element) → element_of (Child e) ≡ Some e
+pub child_is : (e : Element) → element_of (Child e) ≡ Some e
 child_is e = ap (λ o. elim o [ Node-F.Element x ↦ Some x | Node-F.Chars text ↦ None ]) (outs-Element e)
 
 no_words : (e : Element) → is_words (Child e) ≡ false
@@ -24,7 +24,7 @@ pub wordless : (es : List Element) → has_words (as_nodes es) ≡ false
 wordless [] = refl
 wordless (e ∷ es) = λ i. no_words e i || wordless es i
 
-text_again : (text : List ℕ) → flat_map text_in (only_text text) ≡ text
+pub text_again : (text : List ℕ) → flat_map text_in (only_text text) ≡ text
 text_again [] = refl
 text_again (c ∷ cs) = let more : (suc (length cs) == 0) ≡ false = grind (arith, nat_tests) in rw more (append-nil (c ∷ cs))
 

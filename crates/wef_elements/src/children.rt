@@ -63,7 +63,8 @@ pub fn has_words(nodes: &[Node]) -> bool
     nodes.iter().any(|node| is_words(node))
 }
 
-fn is_words(node: &Node) -> bool
+/// Whether a node is a text that isn't spaces alone.
+pub fn is_words(node: &Node) -> bool
     ensures { result ≡ is_words node.now }
 {
     match node {

@@ -1,0 +1,11 @@
+use Rattle.std.proofs.Common.{List, ap, sym, ◌∙◌}
+use Rattle.std.specs.Prelude.{slice_get}
+use Rattle.wef_base.specs.declared.tree.Node.{Node}
+use Rattle.wef_elements.specs.Children.{elements_in}
+use Rattle.wef_batch.proofs.InnerTrees.{root_good}
+use Rattle.wef_batch.proofs.reading.event_at.Goals as goal
+
+pub event_of_root-requires : goal.event_of_root-requires
+event_of_root-requires c =
+    root_good c.args.element.now c.in-Some.root.now c.requires
+    (ap (λ (ns : List Node). slice_get (elements_in ns) 0) (sym c.as_slice-nodes.ensures) ∙ sym c.in-Some.ensures)

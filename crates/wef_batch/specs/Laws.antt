@@ -1,0 +1,25 @@
+-- What is written for a batch is read as it.
+use Rattle.std.specs.Prelude.{◌≡◌, ℕ, ◌≤◌, true, List, [], ◌∷◌, Some}
+use Rattle.std.specs.List.{AllByRecursion}
+use Rattle.std.specs.declared.result.Result.TheVariants.{Ok}
+use Rattle.wef_base.specs.Names.{channel_name}
+use Rattle.wef_base.specs.declared.numbers.TheConstants.{MAX}
+use Rattle.wef_bookmark.specs.Entries.{AreEntries}
+use Rattle.wef_bookmark.specs.Nodes.{bookmark_element}
+use Rattle.wef_event.specs.Events.{is_event}
+use Rattle.wef_batch.specs.Elements.{batch_element}
+use Rattle.wef_batch.specs.Reading.{batch_of}
+use Rattle.wef_batch.specs.declared.items.Batch.{Batch}
+use Rattle.wef_batch.specs.declared.items.Item.{Item}
+use Rattle.wef_batch.specs.declared.items.Item.TheVariants.{Event, Dropped, Loose}
+
+-- An event that is the one its text says; numbers of records in order, from 1 on, of a channel's name; a count that is kept.
+abbrev pub IsPlain : Item → Type 0
+IsPlain (Event event) = is_event event ≡ true
+IsPlain (Dropped channel first last) = (channel_name channel ≡ Some channel) × (1 ≤ first) × (first ≤ last) × (last ≤ MAX)
+IsPlain (Loose count) = count ≤ MAX
+
+abbrev pub WrittenIsRead : Type 0
+WrittenIsRead =
+    (batch : Batch) → AllByRecursion IsPlain batch.items → AreEntries batch.to →
+    batch_of (Some (bookmark_element batch.to)) batch.ack_wanted (batch_element batch.items ∷ []) ≡ Ok batch

@@ -1,0 +1,15 @@
+//! Laws of batches as elements of a message, each the contract of a function that does nothing.
+
+ghost use Rattle.wef_batch.specs.Envelopes.{CostsAreOfTexts};
+ghost use Rattle.wef_batch.specs.Laws.{WrittenIsRead};
+
+/// What is written for a batch is read as it. Its events must be those that their texts say, and its
+/// ranges must begin at 1 or above.
+pub fn written_is_read_again()
+    ensures { WrittenIsRead }
+{}
+
+/// An item costs the bytes that its element has in UTF-8 as a part of a written envelope.
+pub fn costs_are_of_texts()
+    ensures { CostsAreOfTexts }
+{}
