@@ -6,8 +6,7 @@ ghost use Rattle.std.specs.Io.{ReadsAtMost, WritesAtMost};
 ghost use Rattle.std.specs.Io.KnownBytes.{ReadConsumes, WriteAppends};
 ghost use Rattle.wef_base.specs.Counts.{CountsFaults, HasCause, Gives, is_told};
 
-use crate::list::Bytes;
-use crate::list::List;
+use crate::list::{Bytes, List};
 use crate::ports::{IoFailed, Sink, Source};
 use std::alloc::Global;
 

@@ -4,8 +4,7 @@ ghost use Rattle.std.specs.Prelude.{◌≡◌, true, IsTrue, ◌↔◌, IfOk};
 ghost use Rattle.std.specs.Str.{is_utf8};
 ghost use Rattle.wef_base.specs.Words.{decoded, parts};
 
-use crate::list::Bytes;
-use crate::list::List;
+use crate::list::{Bytes, List};
 use crate::text::Text;
 use percent_encoding::{DecodeError, percent_decode};
 use std::alloc::{AllocError, Global};
