@@ -1,7 +1,8 @@
 //! The collector.
 
-ghost use Rattle.std.specs.Prelude.{◌≡◌, ◌≤◌, [], ◌++◌, true, take, Some, Ok, Err, IfOk, IfErr, IfSome, OnOk};
+ghost use Rattle.std.specs.Prelude.{◌≡◌, ◌≤◌, ◌++◌, true, take, Some, Ok, Err, IfOk, IfErr, IfSome, OnOk};
 ghost use Rattle.wef_batch.specs.Numbers.{AreNumbered};
+ghost use Rattle.wef_ids.specs.IdTexts.{id_of_value};
 ghost use Rattle.wef_ids.specs.Ids.{next_id, with_drawn};
 ghost use Rattle.wef_eventing.specs.Kept.{kept_words, read_kept};
 ghost use Rattle.wef_keeper.specs.Access.{From};
@@ -84,18 +85,18 @@ impl<K: Keeper> Collector<K> {
         }
     }
 
-    /// Draws the id of a message that the collector sends. The store isn't asked.
+    /// Draws the id of a message that the collector sends. The store isn't asked. Where there is no
+    /// memory for its text it isn't drawn.
     pub fn draw(&mut self) -> Result<MessageId, CollectorFault>
-        ensures id { IfOk result (λ id. id ≡ record { value = Some (next_id self.old.ids); text = [] }) }
+        ensures id { IfOk result (λ id. id ≡ id_of_value (next_id self.old.ids)) }
         ensures drawn { OnOk result (self.new.ids ≡ with_drawn 1 self.old.ids) }
         ensures refusal { IfErr result (λ fault. (fault ≡ NoMemory) × (self.new.ids ≡ self.old.ids)) }
         ensures keeper { self.new.keeper ≡ self.old.keeper }
     {
-        let value = self.ids.draw();
-        Ok(MessageId {
-            value: Some(value),
-            text: Text::new(self.alloc),
-        })
+        let mut ids = self.ids;
+        let id = MessageId::of_value(self.alloc, ids.draw())?;
+        self.ids = ids;
+        Ok(id)
     }
 
     /// The keeper, with all that is kept.

@@ -13,6 +13,7 @@ use Rattle.wef_bookmark.specs.Order.{Marks, number_at}
 use Rattle.wef_collector.proofs.Hits.{not_both}
 use Rattle.wef_collector_rows.specs.Bookmarks.{bookmark_of}
 use Rattle.wef_collector.specs.Offers.{offers}
+use Rattle.wef_ids.specs.IdTexts.{id_of_value}
 use Rattle.wef_ids.specs.Ids.{ids_agree}
 use Rattle.wef_ids.specs.declared.FaultName.{FaultName}
 use Rattle.wef_ids.specs.declared.FaultName.TheVariants.{InternalError}
@@ -200,7 +201,7 @@ write_stands lower past state s event kept all = at_source_stands lower past sta
 
 ask_stands : Lower → (past : List State) (state : State) (s : List ℕ) → IsKept state → Stands past state → Stands past (ask_step state s)
 ask_stands lower past state s kept all = at_source_stands lower past state s (ask_at s) kept all (λ now slot end kept_now all_now opened there runs.
-    let m : Message = sent.Ask s (record { value = Some (next_id end); text = [] }) in
+    let m : Message = sent.Ask s (id_of_value (next_id end)) in
     cond_both (is_spent end) now (with_message (with_end now s slot (asked end)) m) (Stands past) (λ spent. all_now)
     (λ left. message_moves past (with_end now s slot (asked end)) m (end_moves past now s slot (asked end) all_now (end_stands past now s slot end all_now there runs)) tt))
 

@@ -11,6 +11,7 @@ use Rattle.wef_batch.specs.WellFormed.{is_in}
 use Rattle.wef_collector.proofs.Hits.{one_name}
 use Rattle.wef_collector_rows.specs.Answers.{channels_read}
 use Rattle.wef_collector_rows.specs.Bookmarks.{bookmark_at}
+use Rattle.wef_ids.specs.IdTexts.{id_of_value}
 use Rattle.wef_ids.specs.Ids.{ids_agree}
 use Rattle.wef_ids.specs.declared.FaultName.{FaultName}
 use Rattle.wef_ids.specs.declared.MessageId.{MessageId}
@@ -401,12 +402,12 @@ fresh_id : (slot : Slot) (end : End) → slot.place.memory ≡ Some end → last
 fresh_id slot end runs = subst (λ (o : Option End). last_id slot o < next_id end) (sym runs) (omega arith)
 
 asked_kept : (state : State) (s : List ℕ) (slot : Slot) (end : End) → IsKept state → slot_of state s ≡ Some slot → slot.place.memory ≡ Some end → is_spent end ≡ false →
-    IsKept (with_message (with_end state s slot (asked end)) (Ask s (record { value = Some (next_id end); text = [] })))
+    IsKept (with_message (with_end state s slot (asked end)) (Ask s (id_of_value (next_id end))))
 asked_kept state s slot end kept there runs left =
     let source = kept.sources s slot there in
     let is = running_is state s slot end source runs in
     let new : Slot = running_with slot (asked end) in
-    let m : Message = Ask s (record { value = Some (next_id end); text = [] }) in
+    let m : Message = Ask s (id_of_value (next_id end)) in
     kept_draw state s slot new m (next_id end) kept there (draws slot end (asked end) runs refl refl)
     (source_with_end state.collector.rows state.messages (state.messages ++ m ∷ []) s slot (asked end) source is.0.boot is.1 (below_most end.drawn left)
     (all_later state s m end.sessions is.0.sessions))
@@ -415,7 +416,7 @@ asked_kept state s slot end kept there runs left =
 
 pub ask_keeps : Lower → (state : State) (s : List ℕ) → IsKept state → IsKept (ask_step state s)
 ask_keeps lower state s kept = at_source_keeps lower state s (ask_at s) kept (λ now slot end kept_now opened there runs.
-    cond_both (is_spent end) now (with_message (with_end now s slot (asked end)) (Ask s (record { value = Some (next_id end); text = [] }))) IsKept
+    cond_both (is_spent end) now (with_message (with_end now s slot (asked end)) (Ask s (id_of_value (next_id end)))) IsKept
     (λ spent. kept_now) (λ left. asked_kept now s slot end kept_now there runs left))
 
 -- ---- sending a batch

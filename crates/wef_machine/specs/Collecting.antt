@@ -1,8 +1,9 @@
 -- What lines and deliveries do at the collector, which is opened by each that uses it.
-use Rattle.std.specs.Prelude.{ℕ, List, [], Option, Some, None}
+use Rattle.std.specs.Prelude.{ℕ, List, Option, Some, None}
 use Rattle.std.specs.Option.{option_map}
 use Rattle.wef_collector.specs.Boots.{ids_begun}
 use Rattle.wef_collector.specs.Calls.{boot_effect}
+use Rattle.wef_ids.specs.IdTexts.{id_of_value}
 use Rattle.wef_ids.specs.Ids.{next_id, with_drawn}
 use Rattle.wef_ids.specs.declared.ids.Ids.{Ids}
 use Rattle.wef_ids.specs.declared.MessageId.{MessageId}
@@ -52,7 +53,7 @@ draws count c = record c { memory = option_map (with_drawn count) c.memory }
 
 -- the id that a reply has
 abbrev pub reply_id : Ids → MessageId
-reply_id ids = record { value = Some (next_id ids); text = [] }
+reply_id ids = id_of_value (next_id ids)
 
 -- a world with a reply of the collector, which drew so many ids for it
 abbrev pub with_reply : ℕ → State → Message → State

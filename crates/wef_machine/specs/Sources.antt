@@ -3,6 +3,7 @@
 use Rattle.std.specs.Prelude.{ℕ, ◌+◌, List, [], Option, Some, None, Ok, Err, codes, if◌then◌else◌}
 use Rattle.std.specs.FinMap as map
 use Rattle.wef_event.specs.Events.{Event}
+use Rattle.wef_ids.specs.IdTexts.{id_of_value}
 use Rattle.wef_keeper.specs.Calls.{Effect}
 use Rattle.wef_keeper.specs.declared.keys.Change.{Change}
 use Rattle.wef_source_log.specs.Answers.{next_boot, next_text, start_effect, write_effect}
@@ -105,7 +106,7 @@ write_text s event state slot end = write_text_by s slot event (write_effect slo
 abbrev pub ask_at : List ℕ → State → Slot → End → State
 ask_at s state slot end =
     if is_spent end then state
-    else with_message (with_end state s slot (asked end)) (Ask s (record { value = Some (next_id end); text = [] }))
+    else with_message (with_end state s slot (asked end)) (Ask s (id_of_value (next_id end)))
 
 abbrev pub ask_text : List ℕ → State → Slot → End → List ℕ
 ask_text s state slot end = if is_spent end then name_line (codes "spent") s else sent_ask_line (next_number state) s

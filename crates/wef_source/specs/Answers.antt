@@ -1,7 +1,8 @@
 -- What the calls of a source answer, by what it holds as the call begins.
-use Rattle.std.specs.Prelude.{◌≡◌, ℕ, ◌+◌, Bool, true, false, List, [], length, is_none, is_some, Option, Some, None}
+use Rattle.std.specs.Prelude.{◌≡◌, ℕ, ◌+◌, Bool, true, false, List, length, is_none, is_some, Option, Some, None}
 use Rattle.wef_batch.specs.Numbers.{AreNumbered}
 use Rattle.wef_bookmark.specs.Order.{Marks}
+use Rattle.wef_ids.specs.IdTexts.{id_of_value}
 use Rattle.wef_ids.specs.Ids.{ids_agree}
 use Rattle.wef_ids.specs.declared.MessageId.{MessageId}
 use Rattle.wef_eventing.specs.declared.bodies.Offer.{Offer}
@@ -50,12 +51,17 @@ RefusesRead Spent = ⊥
 
 -- An ask draws the next id.
 abbrev pub Asks : End → End → MessageId → Type 0
-Asks end end' id = (is_spent end ≡ false) × (id ≡ record { value = Some (next_id end); text = [] }) × (end' ≡ asked end)
+Asks end end' id = (is_spent end ≡ false) × (id ≡ id_of_value (next_id end)) × (end' ≡ asked end)
 
--- It is refused exactly where no id is left, and takes no memory.
+-- no id is left
+abbrev pub IsSpent : SourceFault → End → Type 0
+IsSpent Spent end = is_spent end ≡ true
+IsSpent _ end = ⊥
+
+-- It is refused exactly where no id is left, or for want of memory.
 abbrev pub RefusesAsk : SourceFault → End → Type 0
-RefusesAsk Spent end = is_spent end ≡ true
-RefusesAsk _ end = ⊥
+RefusesAsk NoMemory end = Unit {0}
+RefusesAsk fault end = IsSpent fault end
 
 -- Offers are taken where they answer the ask.
 abbrev pub Adopts : End → End → MessageId → List Offer → ℕ → ℕ → Type 0
@@ -114,7 +120,7 @@ may_send (Some session) = is_none session.outstanding
 abbrev pub SendsFrom : End → End → Session → List ℕ → ℕ → poll.Poll → Type 0
 SendsFrom end end' session u now polls.Nothing = end' ≡ end
 SendsFrom end end' session u now (polls.Send delivery) =
-    (is_some session.outstanding ≡ false) × (is_spent end ≡ false) × (delivery.id ≡ record { value = Some (next_id end); text = [] })
+    (is_some session.outstanding ≡ false) × (is_spent end ≡ false) × (delivery.id ≡ id_of_value (next_id end))
     × (end' ≡ sent_to end u delivery.batch.to now)
 
 -- in every answer the session of the name is there

@@ -1,6 +1,7 @@
 -- A source as a machine: what it holds, and what each call makes of it.
 use Rattle.std.specs.Prelude.{ℕ, ◌+◌, ◌*◌, ◌==◌, nat_le, Bool, true, false, List, [], length, is_some, Option, Some, None, if◌then◌else◌}
 use Rattle.wef_eventing.specs.declared.bodies.Offer.{Offer}
+use Rattle.wef_ids.specs.IdTexts.{id_of_value}
 use Rattle.wef_ids.specs.declared.FaultName.{FaultName}
 use Rattle.wef_ids.specs.declared.FaultName.TheVariants.{DestinationUnreachable}
 use Rattle.wef_keeper.specs.Rows.{Rows}
@@ -48,7 +49,7 @@ is_idle rows session = if is_some session.outstanding then true else length (bui
 -- the delivery that a session sends next
 abbrev pub delivery_of : Rows → End → Session → Delivery
 delivery_of rows end session = record {
-  id = record { value = Some (next_id end); text = [] };
+  id = id_of_value (next_id end);
   notify_to = session.notify_to;
   identifier = session.identifier;
   batch = built rows session;

@@ -1,5 +1,6 @@
 -- What a session's poll prepares before anything changes: the delivery, and what its answer will be awaited by.
-use Rattle.std.specs.Prelude.{◌≡◌, [], true, false, is_some, Option, Some, None}
+use Rattle.std.specs.Prelude.{◌≡◌, true, false, is_some, Option, Some, None}
+use Rattle.wef_ids.specs.IdTexts.{id_of_value}
 use Rattle.wef_keeper.specs.Rows.{Rows}
 use Rattle.wef_source.specs.Building.{built}
 use Rattle.wef_source.specs.Machine.{End, delivery_of, is_idle, is_spent, next_id}
@@ -23,7 +24,7 @@ Prepares rows end session (Some prepared) =
 -- a delivery of the next id of a session that awaits no answer, and what waits for its answer
 abbrev pub Draws : End → Session → Delivery → Outstanding → Type 0
 Draws end session delivery outstanding =
-    (is_some session.outstanding ≡ false) × (is_spent end ≡ false) × (delivery.id ≡ record { value = Some (next_id end); text = [] })
+    (is_some session.outstanding ≡ false) × (is_spent end ≡ false) × (delivery.id ≡ id_of_value (next_id end))
     × (outstanding ≡ record { id = next_id end; to = delivery.batch.to }) × HasAll session.positions outstanding.to
 
 -- what is prepared draws the next id, also where the rows aren't told

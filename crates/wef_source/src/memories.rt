@@ -1,7 +1,8 @@
 //! What a source remembers while it runs. It is lost where the source ends.
 
-ghost use Rattle.std.specs.Prelude.{◌≡◌, [], false, true, is_some, Some, IfOk, IfErr, IfSome, OnOk, OnErr};
+ghost use Rattle.std.specs.Prelude.{◌≡◌, false, true, is_some, Some, IfOk, IfErr, IfSome, OnOk, OnErr};
 ghost use Rattle.wef_batch.specs.Numbers.{AreNumbered};
+ghost use Rattle.wef_ids.specs.IdTexts.{id_of_value};
 ghost use Rattle.wef_ids.specs.Ids.{ids_agree};
 ghost use Rattle.wef_keeper.specs.Access as access;
 ghost use Rattle.wef_keeper.specs.Calls.{Looks, fails};
@@ -24,7 +25,7 @@ use crate::sessions::{Outstanding, Session, copied_address};
 use std::alloc::{AllocError, Global};
 use std::marker::Model;
 use wef_base::moments::Moment;
-use wef_base::{List, SubId, Text};
+use wef_base::{List, SubId};
 use wef_batch::Batch;
 use wef_bookmark::Bookmark;
 use wef_eventing::Offer;
@@ -86,16 +87,18 @@ impl Memory {
         self.boot
     }
 
-    /// Draws the id of an ask for subscriptions. An older ask isn't answered any more. It takes no memory.
+    /// Draws the id of an ask for subscriptions. An older ask isn't answered any more. Where there is
+    /// no memory for the id's text it isn't drawn.
     pub fn ask(&mut self) -> Result<MessageId, SourceFault>
         ensures ok { IfOk result (answers.Asks self.old self.new) }
         ensures refusal { IfErr result (λ fault. answers.RefusesAsk fault self.old) }
         ensures err { OnErr result (self.new ≡ self.old) }
     {
-        let id = self.next_id()?;
+        let value = self.next_id()?;
+        let id = MessageId::of_value(self.alloc, value)?;
         self.drawn += 1;
-        self.ask = Some(id);
-        Ok(message_id(self.alloc, id))
+        self.ask = Some(value);
+        Ok(id)
     }
 
     /// Takes the offers that answer the ask, at a moment: the sessions are theirs from now on, and begin where
@@ -269,7 +272,7 @@ impl Memory {
         batch: Batch,
     ) -> Result<(Delivery, Outstanding), SourceFault>
         ensures delivery { IfOk result (λ prepared. prepared.0 ≡ record {
-          id = record { value = Some (machine.next_id self.now); text = [] };
+          id = id_of_value (machine.next_id self.now);
           notify_to = session.now.notify_to;
           identifier = session.now.identifier;
           batch = batch;
@@ -302,7 +305,7 @@ impl Memory {
     fn next_id(&self) -> Result<u128, SourceFault>
         ensures left { IfOk result (λ id. machine.is_spent self.now ≡ false) }
         ensures id { IfOk result (λ id. id ≡ machine.next_id self.now) }
-        ensures spent { IfErr result (λ fault. answers.RefusesAsk fault self.now) }
+        ensures spent { IfErr result (λ fault. answers.IsSpent fault self.now) }
     {
         if self.drawn == u64::MAX {
             return Err(SourceFault::Spent);
@@ -321,15 +324,6 @@ fn agree(asked: Option<u128>, given: Option<u128>) -> bool
     }
 }
 
-fn message_id(alloc: Global, id: u128) -> MessageId
-    ensures { result ≡ record { value = Some id; text = [] } }
-{
-    MessageId {
-        value: Some(id),
-        text: Text::new(alloc),
-    }
-}
-
 /// The delivery of a batch to a session, under an id.
 fn addressed(
     alloc: Global,
@@ -338,15 +332,16 @@ fn addressed(
     batch: Batch,
 ) -> Result<Delivery, AllocError>
     ensures { IfOk result (λ delivery. delivery ≡ record {
-      id = record { value = Some id; text = [] };
+      id = id_of_value id;
       notify_to = session.now.notify_to;
       identifier = session.now.identifier;
       batch = batch;
     }) }
 {
+    let id = MessageId::of_value(alloc, id)?;
     let (notify_to, identifier) = copied_address(&session.notify_to, &session.identifier)?;
     Ok(Delivery {
-        id: message_id(alloc, id),
+        id,
         notify_to,
         identifier,
         batch,

@@ -107,7 +107,8 @@ impl<K: Keeper> SourceEnd<K> {
         handed(self.log.write(event))
     }
 
-    /// Draws the id of an ask for subscriptions. An older ask isn't answered any more. It takes no memory.
+    /// Draws the id of an ask for subscriptions. An older ask isn't answered any more. Where there is
+    /// no memory for the id's text it isn't drawn.
     pub fn ask(&mut self) -> Result<MessageId, SourceFault>
         ensures ok { IfOk result (answers.Asks self.old.memory self.new.memory) }
         ensures refusal { IfErr result (λ fault. answers.RefusesAsk fault self.old.memory) }

@@ -5,6 +5,7 @@ use Rattle.std.specs.Cmp.Lexicographic.{nat_list_cmp_total, slice_cmp}
 use Rattle.std.specs.FinMap.{FinMap, get, get-insert, insert, same_map}
 use Rattle.std.specs.Ordering.{eq_by_cmp, nat_cmp}
 use Rattle.std.specs.Prelude.{Option, Some, None, Result, Ok, Err, IfOk, OnOk, codes, is_some}
+use Rattle.wef_ids.specs.IdTexts.{id_of_value}
 use Rattle.wef_ids.specs.declared.MessageId.{MessageId}
 use Rattle.wef_event.specs.Events.{Event}
 use Rattle.wef_keeper.specs.Calls.{Effect}
@@ -128,13 +129,13 @@ asked_state state s slot slot' used there asks =
     by (Closed how) = refl
     by (Answered None) = λ end h. ap (with_slot state s) h.1
         ∙ when_true (is_spent end) (with_opened state s slot)
-        (with_message (with_end (with_opened state s slot) s (slot_opened slot) (asked end)) (Ask s (record { value = Some (next_id end); text = [] }))) h.0
+        (with_message (with_end (with_opened state s slot) s (slot_opened slot) (asked end)) (Ask s (id_of_value (next_id end)))) h.0
     by (Answered (Some id)) = λ end h.
         (λ i. with_message (with_slot state s (h.2 i)) (Ask s (h.1 i)))
-        ∙ sym (ap (λ (w : State). with_message w (Ask s (record { value = Some (next_id end); text = [] })))
+        ∙ sym (ap (λ (w : State). with_message w (Ask s (id_of_value (next_id end))))
         (with_slot_twice state s (slot_opened slot) (slot_with (slot_opened slot) (remembering (slot_opened slot).place (asked end)))))
         ∙ when_false (is_spent end) (with_opened state s slot)
-        (with_message (with_end (with_opened state s slot) s (slot_opened slot) (asked end)) (Ask s (record { value = Some (next_id end); text = [] }))) h.0
+        (with_message (with_end (with_opened state s slot) s (slot_opened slot) (asked end)) (Ask s (id_of_value (next_id end)))) h.0
 
 pub asked_text : (state : State) (s : List ℕ) (slot slot' : Slot) (used : Used (Option MessageId)) → Some slot ≡ slot_of state s → AsksAs slot slot' used
     → asked_line s (next_message state) used ≡ print_at_source state s (closed_line s) (ask_text s)

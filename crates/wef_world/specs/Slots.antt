@@ -1,6 +1,7 @@
 -- What using a declared source does to it and answers. It is opened first.
 use Rattle.std.specs.Prelude.{◌≡◌, ℕ, ◌+◌, Bool, true, false, List, [], length, is_some, Option, Some, None, Ok, Err, codes, if◌then◌else◌}
 use Rattle.std.specs.FinMap as map
+use Rattle.wef_ids.specs.IdTexts.{id_of_value}
 use Rattle.wef_ids.specs.Ids.{ids_agree}
 use Rattle.wef_ids.specs.declared.MessageId.{MessageId}
 use Rattle.wef_event.specs.Events.{Event}
@@ -93,7 +94,7 @@ written_line s event (Answered (Refused fault)) = refused_line s event fault
 abbrev pub AsksBy : Slot → Slot → End → Option MessageId → Type 0
 AsksBy slot slot' end None = (is_spent end ≡ true) × (slot' ≡ slot)
 AsksBy slot slot' end (Some id) =
-    (is_spent end ≡ false) × (id ≡ record { value = Some (next_id end); text = [] }) × (slot' ≡ slot_with slot (remembering slot.place (asked end)))
+    (is_spent end ≡ false) × (id ≡ id_of_value (next_id end)) × (slot' ≡ slot_with slot (remembering slot.place (asked end)))
 
 abbrev pub AsksAs : Slot → Slot → Used (Option MessageId) → Type 0
 AsksAs slot slot' = Uses slot slot' (AsksBy (slot_opened slot) slot')

@@ -260,7 +260,8 @@ impl Slot {
         };
         match source.ask() {
             Ok(id) => Ok(Used::Answered(Some(id))),
-            Err(_) => Ok(Used::Answered(None)),
+            Err(SourceFault::Spent) => Ok(Used::Answered(None)),
+            Err(_) => Err(WorldFault::NoMemory),
         }
     }
 
