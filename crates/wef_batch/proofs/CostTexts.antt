@@ -11,7 +11,7 @@ use Rattle.std.proofs.lemmas.Str.{encodes-append}
 use Rattle.wef_base.specs.Numbers.{is_digit}
 use Rattle.wef_base.specs.declared.tree.Attribute.{Attribute}
 use Rattle.wef_base.specs.declared.tree.Element.{Element}
-use Rattle.wef_base.specs.declared.tree.Node.{Node, Chars}
+use Rattle.wef_base.specs.declared.tree.Node.{Chars}
 use Rattle.wef_base.specs.declared.tree.Node.TheVariants.{Element as Child}
 use Rattle.wef_elements.specs.Children.{with_attributes}
 use Rattle.wef_elements.specs.Spaces.{management, profile}

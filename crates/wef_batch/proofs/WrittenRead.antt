@@ -1,11 +1,11 @@
 -- What is written for a batch is read as it.
-use Rattle.std.proofs.Common.{◌≡◌, ℕ, ◌+◌, ◌-◌, ◌==◌, ◌≤◌, Bool, true, false, ◌&&◌, cond, List, [], ◌∷◌, ◌++◌, map, refl, ap, sym, ◌∙◌, append_assoc, append-nil, arith}
+use Rattle.std.proofs.Common.{◌≡◌, ℕ, ◌+◌, ◌-◌, ◌==◌, ◌≤◌, true, false, ◌&&◌, cond, List, [], ◌∷◌, ◌++◌, map, refl, ap, sym, ◌∙◌, append_assoc, append-nil, arith}
 use Rattle.std.specs.Prelude.{Option, Some, None, codes}
 use Rattle.std.specs.Fmt.{decimal}
 use Rattle.std.specs.List.{AllByRecursion}
 use Rattle.std.specs.Option.{option_and_then, option_map}
 use Rattle.std.specs.Cmp.Lexicographic.{nat_list_eq_equiv}
-use Rattle.std.specs.declared.result.Result.TheVariants.{Ok, Err}
+use Rattle.std.specs.declared.result.Result.TheVariants.{Ok}
 use Rattle.std.proofs.lemmas.Bool.{and_parts}
 use Rattle.std.proofs.lemmas.Bool.Decides.{nat_tests}
 use Rattle.wef_base.specs.Names.{channel_name, same}
@@ -13,7 +13,7 @@ use Rattle.wef_base.specs.declared.numbers.TheConstants.{MAX}
 use Rattle.wef_base.specs.declared.tree.Attribute.{Attribute}
 use Rattle.wef_base.specs.declared.tree.Element.{Element}
 use Rattle.wef_base.specs.declared.tree.Node.TheVariants.{Element as Child}
-use Rattle.wef_elements.specs.Children.{as_nodes, element_of, is_called, is_words}
+use Rattle.wef_elements.specs.Children.{as_nodes, is_called, is_words}
 use Rattle.wef_elements.specs.Spaces.{management, profile}
 use Rattle.wef_elements.specs.Values.{number_said}
 use Rattle.wef_elements.proofs.Again.{child_is, none_inside, text_again}
@@ -23,7 +23,7 @@ use Rattle.wef_event.specs.Events as events
 use Rattle.wef_event.specs.Events.{event_in, is_event, is_found}
 use Rattle.wef_batch.specs.Elements.{batch_element, event_element, gone_element, item_element, range_attributes, range_element}
 use Rattle.wef_batch.specs.Laws.{IsPlain, WrittenIsRead}
-use Rattle.wef_batch.specs.Reading.{by_head, event_at, event_by, gone_at, gone_in, is_range, item_of, items_from, made, mark, only_events, range_by, range_in, then_items, with_item, with_node}
+use Rattle.wef_batch.specs.Reading.{by_head, event_at, event_by, gone_at, gone_in, is_range, item_of, items_from, made, only_events, range_by, then_items, with_item, with_node}
 use Rattle.wef_batch.specs.declared.items.Item.{Item}
 use Rattle.wef_batch.specs.declared.items.Item.TheVariants.{Event, Dropped, Loose}
 use Rattle.wef_batch.proofs.Reached.{one_name}

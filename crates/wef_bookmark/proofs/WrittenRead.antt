@@ -1,5 +1,5 @@
 -- What is written for a bookmark is read as it.
-use Rattle.std.proofs.Common.{◌≡◌, ℕ, Bool, true, false, ◌&&◌, cond, List, [], ◌∷◌, map, refl, ap, ◌∙◌, sym}
+use Rattle.std.proofs.Common.{◌≡◌, ℕ, Bool, true, false, ◌&&◌, cond, List, [], ◌∷◌, map, refl, ap, ◌∙◌}
 use Rattle.std.specs.Prelude.{Option, Some, None, T, codes}
 use Rattle.std.specs.Cmp.{tied_itself}
 use Rattle.std.specs.Cmp.Lexicographic.{nat_list_cmp_total, nat_list_eq_equiv}
@@ -14,12 +14,11 @@ use Rattle.wef_base.specs.Names.{same, trimmed}
 use Rattle.wef_base.specs.declared.tree.Element.{Element}
 use Rattle.wef_base.specs.declared.tree.Node.{Node-F}
 use Rattle.wef_base.specs.declared.tree.Node.TheVariants.{Element as Child, outs-Element}
-use Rattle.wef_elements.specs.Children.{as_nodes, elements_in, has_words, with_elements, with_text}
+use Rattle.wef_elements.specs.Children.{as_nodes, with_elements, with_text}
 use Rattle.wef_elements.specs.Spaces.{management}
-use Rattle.wef_elements.specs.Texts.{only_text}
 use Rattle.wef_elements.proofs.Again.{elements_again, none_inside, said_again, wordless}
 use Rattle.wef_elements.proofs.DigitsRead.{digits_say}
-use Rattle.wef_bookmark.specs.Entries.{AreEntries, IsEntry}
+use Rattle.wef_bookmark.specs.Entries.{IsEntry}
 use Rattle.wef_bookmark.specs.Nodes.{WrittenIsRead, bookmark_in, by_lists, earliest, entry_element, header_of, in_header, in_list, is_list, list_element, of_text, raised_entry, raised_node, raised_nodes, raised_where}
 use Rattle.wef_bookmark.specs.Order.{Marks, raised, raised_by}
 use Rattle.wef_bookmark.proofs.Joining.{below, both, joined_empty, one_name, order}

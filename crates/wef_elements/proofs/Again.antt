@@ -1,11 +1,11 @@
 -- What is made of elements and texts has these elements and texts again.
-use Rattle.std.proofs.Common.{◌≡◌, ℕ, suc, ◌==◌, Bool, true, false, not, ◌||◌, cond, List, [], ◌∷◌, ◌++◌, length, refl, ap, ◌∙◌, arith, append-nil}
+use Rattle.std.proofs.Common.{◌≡◌, ℕ, suc, ◌==◌, Bool, true, false, not, ◌||◌, cond, List, [], ◌∷◌, length, refl, ap, ◌∙◌, arith, append-nil}
 use Rattle.std.specs.Prelude.{Some, None}
 use Rattle.std.specs.List.{cons_option, flat_map, list_all}
 use Rattle.std.proofs.lemmas.Bool.Decides.{nat_tests}
 use Rattle.wef_base.specs.Names.{is_space, trimmed}
 use Rattle.wef_base.specs.declared.tree.Element.{Element}
-use Rattle.wef_base.specs.declared.tree.Node.{Node, Chars, Node-F}
+use Rattle.wef_base.specs.declared.tree.Node.{Chars, Node-F}
 use Rattle.wef_base.specs.declared.tree.Node.TheVariants.{Element as Child, outs-Chars, outs-Element}
 use Rattle.wef_elements.specs.Children.{as_nodes, element_of, elements_in, has_words, is_words, with_text}
 use Rattle.wef_elements.specs.Texts.{only_text, said_in, text_in}
