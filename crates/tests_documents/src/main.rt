@@ -5,6 +5,7 @@
 //! `\u{FEFF}`.
 #![tactic(auto)]
 
+mod batches;
 mod escapes;
 mod events;
 mod tasks;

@@ -1,5 +1,6 @@
 //! What is done with a line.
 
+use crate::batches::{push_batch, push_bookmark, push_written_item};
 use crate::escapes::{escaped, unescaped};
 use crate::events::{push_event, push_numbered, push_parts, push_plain};
 use crate::trees::{push_cuts, push_reading, push_written};
@@ -26,6 +27,12 @@ pub(crate) enum Task {
     Number,
     /// `parts`: whether `CHANNEL NUMBER TEXT` is an event.
     Parts,
+    /// `bookmark`: its bookmark.
+    Bookmark,
+    /// `batch`: the batch of `HEADER|ELEMENT|ELEMENT`.
+    Batch,
+    /// `item`: what the item costs, and its tree.
+    Item,
     /// `plain`: the plain event of `NUMBER ID LEVEL WORD`.
     Plain,
 }
@@ -44,6 +51,9 @@ impl Tasks for Task {
             "event" => Some(Task::Event),
             "number" => Some(Task::Number),
             "parts" => Some(Task::Parts),
+            "bookmark" => Some(Task::Bookmark),
+            "batch" => Some(Task::Batch),
+            "item" => Some(Task::Item),
             "plain" => Some(Task::Plain),
             _ => None,
         }
@@ -74,6 +84,9 @@ impl Task {
             Task::Event => push_event(shown, text),
             Task::Number => push_numbered(shown, text),
             Task::Parts => push_parts(shown, text),
+            Task::Bookmark => push_bookmark(shown, text),
+            Task::Batch => push_batch(shown, text),
+            Task::Item => push_written_item(shown, text),
             Task::Plain => push_plain(shown, text),
             _ => push_judgement(shown, text),
         }

@@ -93,7 +93,7 @@ fn push_fault(shown: &mut Text, fault: TreeFault) -> Result<(), AllocError> {
 }
 
 #[cycle(showing)]
-fn push_element(shown: &mut Text, element: &Element) -> Result<(), AllocError> {
+pub(crate) fn push_element(shown: &mut Text, element: &Element) -> Result<(), AllocError> {
     push_name(shown, &element.space, &element.name)?;
     push_attributes(shown, &element.attributes)?;
     if element.children.is_empty() {
