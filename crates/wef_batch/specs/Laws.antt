@@ -1,9 +1,10 @@
--- What is written for a batch is read as it.
-use Rattle.std.specs.Prelude.{◌≡◌, ◌≤◌, true, [], ◌∷◌, Some}
+-- What is written for a batch is read as it, and what is read has numbers of records.
+use Rattle.std.specs.Prelude.{◌≡◌, ◌≤◌, Bool, true, List, [], ◌∷◌, Option, Some}
 use Rattle.std.specs.List.{AllByRecursion}
 use Rattle.std.specs.declared.result.Result.TheVariants.{Ok}
 use Rattle.wef_base.specs.Names.{channel_name}
 use Rattle.wef_base.specs.declared.numbers.TheConstants.{MAX}
+use Rattle.wef_base.specs.declared.tree.Element.{Element}
 use Rattle.wef_bookmark.specs.Entries.{AreEntries}
 use Rattle.wef_bookmark.specs.Nodes.{bookmark_element}
 use Rattle.wef_event.specs.Events.{is_event}
@@ -23,3 +24,12 @@ abbrev pub WrittenIsRead : Type 0
 WrittenIsRead =
     (batch : Batch) → AllByRecursion IsPlain batch.items → AreEntries batch.to →
     batch_of (Some (bookmark_element batch.to)) batch.ack_wanted (batch_element batch.items ∷ []) ≡ Ok batch
+
+-- Numbers of records in order, from 1 on, and a count that can be kept.
+abbrev pub IsSound : Item → Type 0
+IsSound (Event event) = Unit {0}
+IsSound (Dropped channel first last) = (1 ≤ first) × (first ≤ last) × (last ≤ MAX)
+IsSound (Loose count) = count ≤ MAX
+
+abbrev pub ReadItemsAreSound : Type 0
+ReadItemsAreSound = (header : Option Element) (ack : Bool) (body : List Element) (batch : Batch) → batch_of header ack body ≡ Ok batch → AllByRecursion IsSound batch.items
