@@ -73,7 +73,7 @@ impl ChannelName {
         &self.text
     }
 
-    /// A copy of the name, in memory of its own.
+    /// A copy of the name, which shares its text.
     pub fn clone(&self) -> Result<ChannelName, AllocError>
         ensures { IfOk result (λ copy. copy ≡ self.now) }
     {
@@ -121,7 +121,7 @@ impl SourceName {
         &self.text
     }
 
-    /// A copy of the name, in memory of its own.
+    /// A copy of the name, which shares its text.
     pub fn clone(&self) -> Result<SourceName, AllocError>
         ensures { IfOk result (λ copy. copy ≡ self.now) }
     {
@@ -169,7 +169,7 @@ impl SubId {
         &self.text
     }
 
-    /// A copy of the name, in memory of its own.
+    /// A copy of the name, which shares its text.
     pub fn clone(&self) -> Result<SubId, AllocError>
         ensures { IfOk result (λ copy. copy ≡ self.now) }
     {

@@ -51,7 +51,7 @@ pub struct Attribute {
 }
 
 impl Node {
-    /// A copy of the node with all inside it, in memory of its own. It goes as deep as the node does.
+    /// A copy of the node with all inside it, which shares its texts. It goes as deep as the node does.
     #[cycle(copying)]
     pub fn clone(&self) -> Result<Node, AllocError>
         ensures { IfOk result (λ copy. copy ≡ self.now) }
@@ -64,7 +64,7 @@ impl Node {
 }
 
 impl Element {
-    /// A copy of the element with all inside it, in memory of its own. It goes as deep as the element
+    /// A copy of the element with all inside it, which shares its texts. It goes as deep as the element
     /// does.
     #[cycle(copying)]
     pub fn clone(&self) -> Result<Element, AllocError>
@@ -94,7 +94,7 @@ fn clone_attributes(alloc: Global, attributes: &[Attribute]) -> Result<List<Attr
 }
 
 impl Attribute {
-    /// A copy of the attribute, in memory of its own.
+    /// A copy of the attribute, which shares its texts.
     pub fn clone(&self) -> Result<Attribute, AllocError>
         ensures { IfOk result (λ copy. copy ≡ self.now) }
     {

@@ -136,7 +136,7 @@ impl Bookmark {
         Ok(())
     }
 
-    /// A copy of the bookmark, in memory of its own.
+    /// A copy of the bookmark, which shares its texts.
     pub fn clone(&self) -> Result<Bookmark, AllocError>
         ensures { IfOk result (λ copy. copy ≡ self.now) }
     {
@@ -148,7 +148,7 @@ impl Bookmark {
     }
 }
 
-/// A copy of numbers in order, in memory of its own.
+/// A copy of numbers in order, which shares its texts.
 fn copied(
     alloc: Global,
     given: &BTreeMap<ChannelName, u64>,

@@ -85,7 +85,7 @@ fn is_space(byte: u8) -> bool
     byte == b' ' || byte == b'\t' || byte == b'\n' || byte == b'\r'
 }
 
-/// Copies of the elements among nodes, in memory of their own.
+/// Copies of the elements among nodes, which share their texts.
 pub fn copy_elements(alloc: Global, nodes: &[Node]) -> Result<List<Element>, AllocError>
     ensures { IfOk result (λ copies. copies ≡ elements_in nodes.now) }
 {

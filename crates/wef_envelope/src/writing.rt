@@ -32,7 +32,7 @@ fn two(alloc: Global, one: Element, other: Element) -> Result<List<Element>, All
     Ok(elements)
 }
 
-/// Copies of elements, in memory of their own.
+/// Copies of elements, which share their texts.
 fn copy_list(alloc: Global, elements: &List<Element>) -> Result<List<Element>, AllocError>
     ensures { IfOk result (λ copies. copies ≡ elements.now) }
 {

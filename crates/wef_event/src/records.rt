@@ -80,7 +80,7 @@ impl Event {
         (channel, number, text)
     }
 
-    /// A copy of the event, in memory of its own.
+    /// A copy of the event, which shares its texts.
     pub fn clone(&self) -> Result<Event, AllocError>
         ensures { IfOk result (λ copy. copy ≡ self.now) }
     {

@@ -60,7 +60,7 @@ impl PlainEvent {
         FRAME + id + level + decimal_length(number) + channel + word <= EVENT_LIMIT
     }
 
-    /// A copy of the event, in memory of its own.
+    /// A copy of the event, which shares its texts.
     pub fn clone(&self) -> Result<PlainEvent, AllocError>
         ensures { IfOk result (λ copy. copy ≡ self.now) }
     {

@@ -24,7 +24,7 @@ pub struct SourceAt {
 }
 
 impl SourceAt {
-    /// A copy, in memory of its own.
+    /// A copy, which shares its texts.
     pub fn clone(&self) -> Result<SourceAt, AllocError>
         ensures { IfOk result (λ copy. copy ≡ self.now) }
     {
@@ -108,7 +108,7 @@ impl Subscription {
         })
     }
 
-    /// A copy, in memory of its own.
+    /// A copy, which shares its texts.
     pub fn clone(&self) -> Result<Subscription, AllocError>
         ensures { IfOk result (λ copy. copy ≡ self.now) }
     {

@@ -50,7 +50,7 @@ impl MessageId {
         }
     }
 
-    /// A copy of the id, in memory of its own.
+    /// A copy of the id, which shares its texts.
     pub fn clone(&self) -> Result<MessageId, AllocError>
         ensures { IfOk result (λ copy. copy ≡ self.now) }
     {
@@ -127,7 +127,7 @@ impl FaultName {
         }
     }
 
-    /// A copy of the name, in memory of its own.
+    /// A copy of the name, which shares its text.
     pub fn clone(&self) -> Result<FaultName, AllocError>
         ensures { IfOk result (λ copy. copy ≡ self.now) }
     {

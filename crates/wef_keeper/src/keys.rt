@@ -32,7 +32,7 @@ impl Drop for Key {
 }
 
 impl Key {
-    /// A copy of the key, in memory of its own.
+    /// A copy of the key, which shares its texts.
     pub fn clone(&self) -> Result<Key, AllocError>
         ensures { IfOk result (λ copy. copy ≡ self.now) }
     {
@@ -62,7 +62,7 @@ pub struct Row {
 }
 
 impl Row {
-    /// A copy of the row, in memory of its own.
+    /// A copy of the row, which shares its texts.
     pub fn clone(&self) -> Result<Row, AllocError>
         ensures { IfOk result (λ copy. copy ≡ self.now) }
     {
@@ -92,7 +92,7 @@ impl Drop for Change {
 }
 
 impl Change {
-    /// A copy of the change, in memory of its own.
+    /// A copy of the change, which shares its texts.
     pub fn clone(&self) -> Result<Change, AllocError>
         ensures { IfOk result (λ copy. copy ≡ self.now) }
     {

@@ -57,7 +57,7 @@ impl QueryList {
         Ok(QueryList { items })
     }
 
-    /// A copy of the list, in memory of its own.
+    /// A copy of the list, which shares its texts.
     pub fn clone(&self, alloc: Global) -> Result<QueryList, AllocError>
         ensures { IfOk result (λ copy. copy ≡ self.now) }
     {

@@ -8,7 +8,7 @@ use Rattle.wef_tree_writing.proofs.prefixes.next_free.Goals as goal
 pub loop-turn-preserved : goal.loop-turn-preserved
 loop-turn-preserved c =
     let test = c.if-not-contains.false in
-    let means = c.contains-in-loop-turn.ensures in
+    let means = c.contains.ensures in
     let prefix = c.in_ok-numbered_prefix.ensures in
     let is_taken : list_any (same (numbered_prefix c.loop-turn.number)) c.args.taken.now ≡ true = rw prefix at (sym means ∙ test) in
     let within : c.loop-turn._turn < length c.args.taken.now =
