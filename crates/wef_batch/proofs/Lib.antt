@@ -5,4 +5,5 @@ pub mod Opened
 pub mod Reached
 pub mod Rooms
 pub mod Sound
+pub mod WrittenGood
 pub mod WrittenRead

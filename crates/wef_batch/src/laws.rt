@@ -1,12 +1,13 @@
 //! Laws of batches as elements of a message, each the contract of a function that does nothing.
 
 ghost use Rattle.wef_batch.specs.Envelopes.{CostsAreOfTexts, RoomsAreOfBytes};
-ghost use Rattle.wef_batch.specs.Laws.{ReadItemsAreSound, WrittenIsRead};
+ghost use Rattle.wef_batch.specs.Laws.{ReadItemsAreSound, WrittenIsGood, WrittenIsRead};
 
-/// What is written for a batch is read as it. Its events must be those that their texts say, and its
-/// ranges must begin at 1 or above.
+/// What is written for a batch is read as it, and is a good tree. To be read its events must be those
+/// that their texts say, and its ranges must begin at 1 or above.
 pub fn written_is_read_again()
-    ensures { WrittenIsRead }
+    ensures says { WrittenIsRead }
+    ensures good { WrittenIsGood }
 {}
 
 /// An item costs the bytes that its element has in UTF-8 as a part of a written envelope.

@@ -46,8 +46,8 @@ impl From<AllocError> for BatchFault {
 }
 
 /// Reads the batch of a message: `header` is its header Bookmark, if it has one, and `ack_wanted` says
-/// that the source wants to be told. Of an event as text at most as much is kept as its bytes are, and
-/// each is refused that has more than `EVENT_LIMIT`.
+/// that the source wants to be told. An event as text is read as `read_event` reads it, so it takes no
+/// more than its bytes and an event's limit.
 pub fn read_batch(
     alloc: Global,
     header: Option<&Element>,

@@ -46,7 +46,7 @@ all_allowed (c ∷ cs) s f =
     and_from _ _ (one_allowed c one.0 none.0) (all_allowed cs one.1 none.1)
 
 -- XML allows each character of a channel's name
-name_text : (channel : List ℕ) → IsUtf8 channel → channel_name channel ≡ Some channel → IsXmlText channel
+pub name_text : (channel : List ℕ) → IsUtf8 channel → channel_name channel ≡ Some channel → IsXmlText channel
 unfolding channel_name
 name_text channel utf8 named = xml_text channel utf8 (all_allowed (chars channel) (scalars-chars channel utf8) (name_allowed Small 256 channel utf8 named))
 
