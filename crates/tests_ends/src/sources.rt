@@ -30,6 +30,17 @@ const RUNS: &[(&str, &str, &str)] = &[
         "",
         "1.1 adopted 1 of 1;1;1.2 application gone 1-1, to application 1;moved;2;1.3 application 2, to application 2;moved;",
     ),
+    // A batch is sent up to its last byte, and none past it.
+    (
+        "serve 20 8192;long application 1647;long application 1647;poll",
+        "",
+        "1.1 adopted 1 of 1;1;2;1.2 application 1, application 2, to application 2;",
+    ),
+    (
+        "serve 20 8192;long application 1647;long application 1648;poll;ack 1.2;poll",
+        "",
+        "1.1 adopted 1 of 1;1;2;1.2 application 1, to application 1;moved;1.3 application 2, to application 2;",
+    ),
     // A batch may end between two channels.
     (
         "serve 1 512000;write system 1;write application 1;poll;ack 1.2;poll;ack 1.3;poll",

@@ -2,10 +2,10 @@
 
 use std::alloc::{AllocError, Global};
 use wef_base::{Charset, Element, Text};
-use wef_envelope::spaces::{
+use wef_tree::read_tree;
+use wef_xml::messages::{
     ADDRESSING, ENUMERATION, EVENTING, MACHINE, MANAGEMENT, PROFILE, SOAP, SUBSCRIPTION, WINDOWS,
 };
-use wef_tree::read_tree;
 
 /// The prefixes of written messages.
 const PREFIXES: &[char] = &['s', 'a', 'e', 'n', 'w', 'p', 'm', 'i', 'u'];

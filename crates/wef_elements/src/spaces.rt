@@ -9,12 +9,7 @@ use crate::children::is_called;
 use crate::values::value_of;
 use std::alloc::{AllocError, Global};
 use wef_base::{Attribute, Element, Namespace, Text};
-
-/// WS-Management.
-pub const MANAGEMENT: &str = "http://schemas.dmtf.org/wbem/wsman/1/wsman.xsd";
-
-/// What this project adds.
-pub const PROFILE: &str = "urn:wef:profile";
+use wef_xml::messages::{MANAGEMENT, PROFILE};
 
 /// The namespace of WS-Management.
 #[tactic(auto, unfolding(crate::specs::Spaces::management))]

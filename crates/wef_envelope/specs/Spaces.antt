@@ -1,7 +1,7 @@
 -- The namespaces of messages.
 use Rattle.std.specs.Prelude.{◌≡◌, ℕ, List, [], ◌∷◌, codes}
 use Rattle.wef_xml.specs.Prefixes.{nine}
-use Rattle.wef_envelope.specs.declared.spaces.TheConstants.{SOAP, ADDRESSING, EVENTING, ENUMERATION, MANAGEMENT, WINDOWS, SUBSCRIPTION, MACHINE, PROFILE}
+use Rattle.wef_xml.specs.declared.messages.TheConstants.{SOAP, ADDRESSING, EVENTING, ENUMERATION, MANAGEMENT, WINDOWS, SUBSCRIPTION, MACHINE, PROFILE}
 
 unfoldable pub soap : List ℕ
 soap = SOAP.now

@@ -9,12 +9,12 @@ ghost use Rattle.wef_envelope.specs.Written.{part};
 use crate::actions::{ADDRESSING_FAULT, ENUMERATION_FAULT, EVENTING_FAULT, MANAGEMENT_FAULT};
 use crate::envelopes::EnvelopeFault;
 use crate::reading::is_part;
-use crate::spaces::SOAP;
 use crate::writing::{part, space};
 use std::alloc::{AllocError, Global};
 use wef_base::{Attribute, Element, List, Text};
 use wef_elements::{first_called, said_in, with_text};
 use wef_ids::FaultName;
+use wef_xml::messages::SOAP;
 use wef_xml::spaces::xml_space;
 
 /// Who is at fault.

@@ -5,9 +5,9 @@ ghost use Rattle.std.specs.List.{find};
 ghost use Rattle.wef_elements.specs.Children.{elements_in};
 ghost use Rattle.wef_envelope.specs.Headers.{first, header_of, is_header, is_of, is_private, name_of, number_of, space_of};
 
-use crate::spaces::{ADDRESSING, EVENTING, MACHINE, MANAGEMENT, WINDOWS};
 use wef_base::{Element, Node};
 use wef_elements::{element_of, is_called};
+use wef_xml::messages::{ADDRESSING, EVENTING, MACHINE, MANAGEMENT, WINDOWS};
 
 /// A header that is known: first those that are kept, in the order in which they are written, then
 /// those that aren't.

@@ -7,7 +7,6 @@ pub mod faults;
 pub mod headers;
 pub mod laws;
 pub mod reading;
-pub mod spaces;
 pub mod writing;
 
 pub use envelopes::{Envelope, EnvelopeFault};

@@ -11,13 +11,13 @@ ghost use Rattle.wef_ids.specs.IdTexts.{id_of};
 
 use crate::envelopes::{Envelope, EnvelopeFault};
 use crate::headers::{Header, first, is_header};
-use crate::spaces::{ADDRESSING, SOAP};
 use std::alloc::{AllocError, Global};
 use wef_base::{Attribute, Element, Node, Text};
 use wef_elements::{
     copy_elements, element_at, element_of, first_called, has_words, is_called, said_in,
 };
 use wef_ids::{MessageId, read_id};
+use wef_xml::messages::{ADDRESSING, SOAP};
 
 /// Reads an envelope. Headers are told by their namespaces and local names, in whatever order. It is
 /// refused for the first of these that holds: it isn't an envelope of SOAP; a known header comes

@@ -6,10 +6,10 @@ ghost use Rattle.wef_envelope.specs.Written.{address_header, empty_header, part,
 
 use crate::envelopes::Envelope;
 use crate::headers::Header;
-use crate::spaces::{ADDRESSING, SOAP};
 use std::alloc::{AllocError, Global};
 use wef_base::{Element, List, Namespace, Text};
 use wef_elements::{with_elements, with_text};
+use wef_xml::messages::{ADDRESSING, SOAP};
 
 /// The tree of an envelope. The headers that are there stand in one order, and no header has
 /// attributes of its own.

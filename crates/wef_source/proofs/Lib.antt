@@ -16,5 +16,6 @@ pub mod Numbered
 pub mod Places
 pub mod Polling
 pub mod Reaches
+pub mod Rooms
 pub mod Sendable
 pub mod Told

@@ -1,6 +1,7 @@
 -- What is true of the batches that sources build.
 use Rattle.std.specs.Prelude.{◌≡◌, ℕ, ◌+◌, ◌<◌, ◌≤◌, true, List, [], ◌∷◌, ◌++◌, length, sum_by}
-use Rattle.wef_batch.specs.Cost.{cost}
+use Rattle.wef_batch.specs.Cost.{cost, most as greatest}
+use Rattle.wef_batch.specs.Envelopes.{size_of}
 use Rattle.wef_batch.specs.WellFormed.{is_in}
 use Rattle.wef_batch.specs.declared.items.Item.{Item}
 use Rattle.wef_bookmark.specs.Order.{IsAtMost, Marks, number_at}
@@ -37,6 +38,18 @@ IsFull session items (next ∷ left) = (length items + 1 ≤ session.max_items) 
 -- No longer row of candidates would do.
 abbrev pub BuiltItemsAreMost : Type 0
 BuiltItemsAreMost = (rows : Rows) (session : Session) → IsFull session (built_items rows session) (left_items rows session)
+
+-- The same in bytes: what the items have as parts of a written message keeps the room.
+abbrev pub BuiltItemsKeepTheirRoom : Type 0
+BuiltItemsKeepTheirRoom = (rows : Rows) (session : Session) → session.max_bytes < greatest → sum_by size_of (built_items rows session) ≤ room_of session.max_bytes
+
+-- one item more would be too many, or have too many bytes
+abbrev pub IsFullOfBytes : Session → List Item → List Item → Type 0
+IsFullOfBytes session items [] = Unit {0}
+IsFullOfBytes session items (next ∷ left) = (length items + 1 ≤ session.max_items) → room_of session.max_bytes < sum_by size_of (items ++ next ∷ [])
+
+abbrev pub BuiltItemsFillTheirRoom : Type 0
+BuiltItemsFillTheirRoom = (rows : Rows) (session : Session) → session.max_bytes < greatest → IsFullOfBytes session (built_items rows session) (left_items rows session)
 
 -- A session's batches may have an item and 8,192 bytes at least, and its channels' names have at most 256 bytes.
 pub record MaySendOne (session : Session) : Type 0 where

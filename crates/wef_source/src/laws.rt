@@ -1,6 +1,6 @@
 //! What is true of the batches that sources build, as contracts.
 
-ghost use Rattle.wef_source.specs.Laws.{BuiltBatchesFit, BuiltItemsAreInFront, BuiltItemsAreMost, EmptyMeansNothingToSend};
+ghost use Rattle.wef_source.specs.Laws.{BuiltBatchesFit, BuiltItemsAreInFront, BuiltItemsAreMost, BuiltItemsFillTheirRoom, BuiltItemsKeepTheirRoom, EmptyMeansNothingToSend};
 
 /// A batch that is built above a session's positions fits above every bookmark that is at least there.
 pub fn built_batches_fit()
@@ -11,6 +11,13 @@ pub fn built_batches_fit()
 pub fn built_items_are_the_longest_row()
     ensures front { BuiltItemsAreInFront }
     ensures most { BuiltItemsAreMost }
+{}
+
+/// The items of a batch have at most as many bytes in a written message as its session has room for;
+/// where a candidate is left, it would pass the room or the count.
+pub fn built_items_keep_their_room()
+    ensures kept { BuiltItemsKeepTheirRoom }
+    ensures filled { BuiltItemsFillTheirRoom }
 {}
 
 /// A batch has an item wherever there is something to send.

@@ -9,23 +9,21 @@ use std::alloc::{AllocError, Global};
 use std::marker::Model;
 use wef_base::{List, Namespace, Text};
 use wef_xml::Binding;
-
-const SOAP_SPACE: &str = "http://www.w3.org/2003/05/soap-envelope";
+use wef_xml::messages::{
+    ADDRESSING, ENUMERATION, EVENTING, MACHINE, MANAGEMENT, PROFILE, SOAP, SUBSCRIPTION, WINDOWS,
+};
 
 /// The nine prefixes and their namespaces, in the order in which the root declares them.
 const NINE: &[(&str, &str)] = &[
-    ("s", SOAP_SPACE),
-    ("a", "http://schemas.xmlsoap.org/ws/2004/08/addressing"),
-    ("e", "http://schemas.xmlsoap.org/ws/2004/08/eventing"),
-    ("n", "http://schemas.xmlsoap.org/ws/2004/09/enumeration"),
-    ("w", "http://schemas.dmtf.org/wbem/wsman/1/wsman.xsd"),
-    ("p", "http://schemas.microsoft.com/wbem/wsman/1/wsman.xsd"),
-    (
-        "m",
-        "http://schemas.microsoft.com/wbem/wsman/1/subscription",
-    ),
-    ("i", "http://schemas.microsoft.com/wbem/wsman/1/machineid"),
-    ("u", "urn:wef:profile"),
+    ("s", SOAP),
+    ("a", ADDRESSING),
+    ("e", EVENTING),
+    ("n", ENUMERATION),
+    ("w", MANAGEMENT),
+    ("p", WINDOWS),
+    ("m", SUBSCRIPTION),
+    ("i", MACHINE),
+    ("u", PROFILE),
 ];
 
 /// The prefixes that a root declares for all inside it, the nine or none. Contracts see whether it
@@ -116,5 +114,5 @@ fn binding(alloc: Global, prefix: &str, space: &str) -> Result<Binding, AllocErr
 fn is_soap(space: &Namespace) -> bool
     ensures { result ≡ is_soap space.now }
 {
-    space.as_text().as_str() == SOAP_SPACE
+    space.as_text().as_str() == SOAP
 }

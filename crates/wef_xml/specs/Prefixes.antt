@@ -10,6 +10,7 @@ use Rattle.wef_base.specs.Names.{same}
 use Rattle.wef_base.specs.declared.tree.Attribute.{Attribute}
 use Rattle.wef_xml.specs.Spaces.{is_empty, is_xml_space}
 use Rattle.wef_xml.specs.declared.bindings.Binding.{Binding}
+use Rattle.wef_xml.specs.declared.messages.TheConstants.{SOAP, ADDRESSING, EVENTING, ENUMERATION, MANAGEMENT, WINDOWS, SUBSCRIPTION, MACHINE, PROFILE}
 
 -- What is in force where an element is written: the default namespace, whether the root declared the nine prefixes, and
 -- the prefixes that stand for a namespace, the innermost first.
@@ -19,7 +20,7 @@ pub record Scope : Type 0 where
   pub bound : List Binding
 
 unfoldable pub soap_space : List ℕ
-soap_space = codes "http://www.w3.org/2003/05/soap-envelope"
+soap_space = SOAP.now
 
 unfoldable pub is_soap : List ℕ → Bool
 is_soap space = same space soap_space
@@ -28,14 +29,14 @@ is_soap space = same space soap_space
 unfoldable pub nine : List Binding
 nine =
     record { prefix = codes "s"; space = soap_space } ∷
-    record { prefix = codes "a"; space = codes "http://schemas.xmlsoap.org/ws/2004/08/addressing" } ∷
-    record { prefix = codes "e"; space = codes "http://schemas.xmlsoap.org/ws/2004/08/eventing" } ∷
-    record { prefix = codes "n"; space = codes "http://schemas.xmlsoap.org/ws/2004/09/enumeration" } ∷
-    record { prefix = codes "w"; space = codes "http://schemas.dmtf.org/wbem/wsman/1/wsman.xsd" } ∷
-    record { prefix = codes "p"; space = codes "http://schemas.microsoft.com/wbem/wsman/1/wsman.xsd" } ∷
-    record { prefix = codes "m"; space = codes "http://schemas.microsoft.com/wbem/wsman/1/subscription" } ∷
-    record { prefix = codes "i"; space = codes "http://schemas.microsoft.com/wbem/wsman/1/machineid" } ∷
-    record { prefix = codes "u"; space = codes "urn:wef:profile" } ∷ []
+    record { prefix = codes "a"; space = ADDRESSING.now } ∷
+    record { prefix = codes "e"; space = EVENTING.now } ∷
+    record { prefix = codes "n"; space = ENUMERATION.now } ∷
+    record { prefix = codes "w"; space = MANAGEMENT.now } ∷
+    record { prefix = codes "p"; space = WINDOWS.now } ∷
+    record { prefix = codes "m"; space = SUBSCRIPTION.now } ∷
+    record { prefix = codes "i"; space = MACHINE.now } ∷
+    record { prefix = codes "u"; space = PROFILE.now } ∷ []
 
 -- what the root declares besides its own needs
 abbrev pub root_bindings : List ℕ → List Binding

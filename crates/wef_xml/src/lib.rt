@@ -11,6 +11,7 @@ pub mod fronts;
 pub mod letters;
 pub mod line_ends;
 pub mod lookups;
+pub mod messages;
 pub mod places;
 pub mod spaces;
 mod utf16;

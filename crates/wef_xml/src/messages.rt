@@ -1,4 +1,4 @@
-//! The namespaces of messages. Each written message declares the prefixes that are named here.
+//! The namespaces of messages. A written message declares the prefixes that are named here.
 
 /// SOAP 1.2, with the prefix `s`.
 pub const SOAP: &str = "http://www.w3.org/2003/05/soap-envelope";
