@@ -9,7 +9,7 @@ use Rattle.wef_source.specs.Machine.{End}
 use Rattle.wef_world.proofs.Delivered.{delivers, delivers_text}
 use Rattle.wef_world.proofs.Numbered.{delivery_numbers}
 use Rattle.wef_world.proofs.Ready.{formed_before}
-use Rattle.wef_world.proofs.Takings.{asked_state, events_state, events_text}
+use Rattle.wef_world.proofs.Takings.{asked_state, asked_text, events_state, events_text}
 use Rattle.wef_world.proofs.Used.{given_state, done_as, said_as, where_ok}
 use Rattle.wef_world.proofs.ends.Ends.deliver.Goals as goal
 use Rattle.wef_world.specs.Outcomes.{with_told}
@@ -41,6 +41,15 @@ returns-in_ok-taken-in-Ask-clause-state c =
     done_as c.tell.result c.tell.new.self _ _
     ((λ i. with_told (with_collector before (c.in_ok-taken-in-Ask.ensures.collector i)) (c.in_ok-taken-in-Ask.ensures.taken i).answer)
     ∙ asked_state before c.in-Ask.source c.in-Ask.id ∙ delivers before c.args.self.now c.args.number (sent.Ask c.in-Ask.source c.in-Ask.id) found c.self.view_is) c.tell.ensures.state
+
+pub returns-in_ok-taken-in-Ask-clause-printed : goal.returns-in_ok-taken-in-Ask-clause-printed
+returns-in_ok-taken-in-Ask-clause-printed c =
+    let before : State = the_view c.self.inside in
+    let found = sym (c.in-Some.ensures ∙ ap (λ (messages : List Message). among messages c.args.number) c.as_slice.ensures) ∙ ap Some c.in-Ask.is in
+    said_as c.tell.result _ _
+    ((λ i. took_text c.args.number (c.in_ok-taken-in-Ask.ensures.taken i).word (c.in_ok-taken-in-Ask.ensures.taken i).answer (next_number before))
+    ∙ asked_text before c.args.number c.in-Ask.source c.in-Ask.id
+    ∙ delivers_text before c.args.self.now c.args.number (sent.Ask c.in-Ask.source c.in-Ask.id) found c.self.view_is) c.tell.ensures.printed
 
 pub returns-in_ok-taken-in-Events-clause-state : goal.returns-in_ok-taken-in-Events-clause-state
 returns-in_ok-taken-in-Events-clause-state c =
