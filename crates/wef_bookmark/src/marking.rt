@@ -129,6 +129,7 @@ impl Bookmark {
         ensures err { OnErr result (self.new ≡ self.old) }
         ensures keeps { IsAtMost self.old self.new }
         ensures takes { OnOk result (IsAtMost other.now self.new) }
+        ensures wants_memory { IfErr result (λ fault. fault ≡ BookmarkFault.NoMemory) }
     {
         let mut numbers = copied(self.alloc, &self.numbers)?;
         raise_each(&mut numbers, &other.numbers)?;
