@@ -21,7 +21,7 @@ use Rattle.wef_xml.specs.Prefixes.{Scope, inside, is_soap, nine, outermost, soap
 use Rattle.wef_xml.specs.Spaces.{is_xml_space, xml_space}
 use Rattle.wef_tree_writing.proofs.WrittenNodes.{node_text}
 use Rattle.wef_event.specs.Characters.{escape, escaped}
-use Rattle.wef_event.proofs.Digits.{decimal_digits, digits_chars}
+use Rattle.wef_elements.proofs.DecimalDigits.{decimal_digits, digits_chars}
 use Rattle.wef_event.proofs.Escaped.{escaped_digits, escaped_is}
 use Rattle.wef_batch.specs.Cost.{cost, most, quoted, quoted_character, written, written_dropped, written_event, written_loose}
 use Rattle.wef_batch.specs.Elements.{action_attribute, event_action, event_element, gone_element, item_element, profiled, range_attributes, range_element}

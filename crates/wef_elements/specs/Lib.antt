@@ -1,4 +1,5 @@
 pub mod Children
+pub mod Good
 pub mod Spaces
 pub mod Texts
 pub mod Values

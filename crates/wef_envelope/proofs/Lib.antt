@@ -1,6 +1,5 @@
 pub mod FaultsAreGood
 pub mod FaultsAreRead
-pub mod GoodParts
 pub mod Places
 pub mod WrittenIsGood
 pub mod WrittenIsRead

@@ -2,107 +2,74 @@
 use Rattle.std.proofs.Common.{◌≡◌, ℕ, suc, Bool, true, false, List, [], ◌∷◌, refl}
 use Rattle.std.specs.Prelude.{Option, Some, None, IfSome, codes}
 use Rattle.std.specs.Option.{option_map}
-use Rattle.std.proofs.Math.Utf8.{encode}
 use Rattle.wef_base.specs.declared.tree.Element.{Element}
 use Rattle.wef_elements.specs.Children.{with_text}
+use Rattle.wef_elements.specs.Good.{AreGoodElements}
+use Rattle.wef_elements.proofs.GoodTexts.{addressing_text, empty_text, eventing_text, machine_text, management_text, soap_text, windows_text}
+use Rattle.wef_elements.proofs.GoodTrees.{holder_good, leaf_good}
 use Rattle.wef_ids.specs.declared.MessageId.{MessageId}
 use Rattle.wef_xml.specs.Good.{IsGoodElement, IsLocalName, IsXmlText}
+use Rattle.wef_xml.proofs.Ascii.{plain_name}
 use Rattle.wef_envelope.specs.Envelopes.{may_repeat}
 use Rattle.wef_envelope.specs.Headers.{name_of, space_of}
-use Rattle.wef_envelope.specs.Laws.{AreGood, HasGoodParts}
+use Rattle.wef_envelope.specs.Laws.{HasGoodParts}
 use Rattle.wef_envelope.specs.Spaces.{addressing, eventing, machine, management, soap, windows}
 use Rattle.wef_envelope.specs.Written.{Place, address_header, empty_header, part, places, standing, text_header, written}
 use Rattle.wef_envelope.specs.declared.envelopes.Envelope.{Envelope}
 use Rattle.wef_envelope.specs.declared.headers.Header.{Header}
 use Rattle.wef_envelope.specs.declared.headers.Header.TheVariants as the
-use Rattle.wef_envelope.proofs.GoodParts.{holder_good, leaf_good}
 
 -- ---- names and namespaces
 
 pub soap_good : IsXmlText soap
-unfolding soap encode
-soap_good = record { characters = soap; spelt = refl; allowed = refl }
+unfolding soap
+soap_good = soap_text
 
 addressing_good : IsXmlText addressing
-unfolding addressing encode
-addressing_good = record { characters = addressing; spelt = refl; allowed = refl }
-
-eventing_good : IsXmlText eventing
-unfolding eventing encode
-eventing_good = record { characters = eventing; spelt = refl; allowed = refl }
-
-machine_good : IsXmlText machine
-unfolding machine encode
-machine_good = record { characters = machine; spelt = refl; allowed = refl }
-
-management_good : IsXmlText management
-unfolding management encode
-management_good = record { characters = management; spelt = refl; allowed = refl }
-
-windows_good : IsXmlText windows
-unfolding windows encode
-windows_good = record { characters = windows; spelt = refl; allowed = refl }
+unfolding addressing
+addressing_good = addressing_text
 
 space_good : (h : Header) → IsXmlText (space_of h)
-unfolding space_of
-space_good the.To = addressing_good
-space_good the.Resource = management_good
-space_good the.ReplyTo = addressing_good
-space_good the.Action = addressing_good
-space_good the.MessageId = addressing_good
-space_good the.Relates = addressing_good
-space_good the.Machine = machine_good
-space_good the.MaxSize = management_good
-space_good the.Identifier = eventing_good
-space_good the.Bookmark = management_good
-space_good the.AckRequested = management_good
-space_good the.From = addressing_good
-space_good the.FaultTo = addressing_good
-space_good the.Locale = management_good
-space_good the.OperationTimeout = management_good
-space_good the.SelectorSet = management_good
-space_good the.OptionSet = management_good
-space_good the.Private = windows_good
+unfolding space_of addressing eventing machine management windows
+space_good the.To = addressing_text
+space_good the.Resource = management_text
+space_good the.ReplyTo = addressing_text
+space_good the.Action = addressing_text
+space_good the.MessageId = addressing_text
+space_good the.Relates = addressing_text
+space_good the.Machine = machine_text
+space_good the.MaxSize = management_text
+space_good the.Identifier = eventing_text
+space_good the.Bookmark = management_text
+space_good the.AckRequested = management_text
+space_good the.From = addressing_text
+space_good the.FaultTo = addressing_text
+space_good the.Locale = management_text
+space_good the.OperationTimeout = management_text
+space_good the.SelectorSet = management_text
+space_good the.OptionSet = management_text
+space_good the.Private = windows_text
 
 name_good : (h : Header) → may_repeat h ≡ false → IsLocalName (name_of h)
-unfolding name_of encode
-name_good the.To once = record { first = 84; more = codes "o"; spelt = refl; begins = refl; goes_on = refl }
-name_good the.Resource once = record { first = 82; more = codes "esourceURI"; spelt = refl; begins = refl; goes_on = refl }
-name_good the.ReplyTo once = record { first = 82; more = codes "eplyTo"; spelt = refl; begins = refl; goes_on = refl }
-name_good the.Action once = record { first = 65; more = codes "ction"; spelt = refl; begins = refl; goes_on = refl }
-name_good the.MessageId once = record { first = 77; more = codes "essageID"; spelt = refl; begins = refl; goes_on = refl }
-name_good the.Relates once = record { first = 82; more = codes "elatesTo"; spelt = refl; begins = refl; goes_on = refl }
-name_good the.Machine once = record { first = 77; more = codes "achineID"; spelt = refl; begins = refl; goes_on = refl }
-name_good the.MaxSize once = record { first = 77; more = codes "axEnvelopeSize"; spelt = refl; begins = refl; goes_on = refl }
-name_good the.Identifier once = record { first = 73; more = codes "dentifier"; spelt = refl; begins = refl; goes_on = refl }
-name_good the.Bookmark once = record { first = 66; more = codes "ookmark"; spelt = refl; begins = refl; goes_on = refl }
-name_good the.AckRequested once = record { first = 65; more = codes "ckRequested"; spelt = refl; begins = refl; goes_on = refl }
-name_good the.From once = record { first = 70; more = codes "rom"; spelt = refl; begins = refl; goes_on = refl }
-name_good the.FaultTo once = record { first = 70; more = codes "aultTo"; spelt = refl; begins = refl; goes_on = refl }
-name_good the.Locale once = record { first = 76; more = codes "ocale"; spelt = refl; begins = refl; goes_on = refl }
-name_good the.OperationTimeout once = record { first = 79; more = codes "perationTimeout"; spelt = refl; begins = refl; goes_on = refl }
-name_good the.SelectorSet once = record { first = 83; more = codes "electorSet"; spelt = refl; begins = refl; goes_on = refl }
-name_good the.OptionSet once = record { first = 79; more = codes "ptionSet"; spelt = refl; begins = refl; goes_on = refl }
+unfolding name_of
+name_good the.To once = plain_name (codes "To") refl
+name_good the.Resource once = plain_name (codes "ResourceURI") refl
+name_good the.ReplyTo once = plain_name (codes "ReplyTo") refl
+name_good the.Action once = plain_name (codes "Action") refl
+name_good the.MessageId once = plain_name (codes "MessageID") refl
+name_good the.Relates once = plain_name (codes "RelatesTo") refl
+name_good the.Machine once = plain_name (codes "MachineID") refl
+name_good the.MaxSize once = plain_name (codes "MaxEnvelopeSize") refl
+name_good the.Identifier once = plain_name (codes "Identifier") refl
+name_good the.Bookmark once = plain_name (codes "Bookmark") refl
+name_good the.AckRequested once = plain_name (codes "AckRequested") refl
+name_good the.From once = plain_name (codes "From") refl
+name_good the.FaultTo once = plain_name (codes "FaultTo") refl
+name_good the.Locale once = plain_name (codes "Locale") refl
+name_good the.OperationTimeout once = plain_name (codes "OperationTimeout") refl
+name_good the.SelectorSet once = plain_name (codes "SelectorSet") refl
+name_good the.OptionSet once = plain_name (codes "OptionSet") refl
 name_good the.Private once = let bad : ⊥ = cc in absurd bad
-
-address_good : IsLocalName (codes "Address")
-unfolding encode
-address_good = record { first = 65; more = codes "ddress"; spelt = refl; begins = refl; goes_on = refl }
-
-envelope_good : IsLocalName (codes "Envelope")
-unfolding encode
-envelope_good = record { first = 69; more = codes "nvelope"; spelt = refl; begins = refl; goes_on = refl }
-
-header_good : IsLocalName (codes "Header")
-unfolding encode
-header_good = record { first = 72; more = codes "eader"; spelt = refl; begins = refl; goes_on = refl }
-
-body_good : IsLocalName (codes "Body")
-unfolding encode
-body_good = record { first = 66; more = codes "ody"; spelt = refl; begins = refl; goes_on = refl }
-
-empty_text : IsXmlText []
-empty_text = record { characters = []; spelt = refl; allowed = refl }
 
 -- ---- places
 
@@ -118,7 +85,7 @@ reply_good : (h : Header) (text : Option (List ℕ)) (room : ℕ) → may_repeat
 reply_good h None room once is = tt
 reply_good h (Some t) room once is =
     holder_good (space_of h) (name_of h) (with_text addressing (codes "Address") t ∷ []) (suc room) (space_good h) (name_good h once)
-    (leaf_good addressing (codes "Address") t room addressing_good address_good is, tt)
+    (leaf_good addressing (codes "Address") t room addressing_good (plain_name (codes "Address") refl) is, tt)
 
 id_good : (h : Header) (id : Option MessageId) (room : ℕ) → may_repeat h ≡ false → IfSome id (λ (x : MessageId). IsXmlText x.text)
     → IsGoodPlace (option_map (λ (x : MessageId). text_header h x.text) id) (suc room)
@@ -133,7 +100,7 @@ abbrev AreGoodPlaces : List Place → ℕ → Type 0
 AreGoodPlaces [] room = Unit {0}
 AreGoodPlaces (p ∷ ps) room = IsGoodPlace p.1 room × AreGoodPlaces ps room
 
-standing_good : (ps : List Place) (room : ℕ) → AreGoodPlaces ps room → AreGood (standing ps) room
+standing_good : (ps : List Place) (room : ℕ) → AreGoodPlaces ps room → AreGoodElements (standing ps) room
 standing_good [] room good = tt
 standing_good ((h, None) ∷ ps) room good = standing_good ps room good.1
 standing_good ((h, Some e) ∷ ps) room good = (good.0, standing_good ps room good.1)
@@ -178,7 +145,7 @@ unfolding written
 written_is_good e room good =
     let header : Element = part (codes "Header") (standing (places e)) in
     let body : Element = part (codes "Body") e.body in
-    holder_good soap (codes "Envelope") (header ∷ body ∷ []) (suc (suc (suc room))) soap_good envelope_good (
-      holder_good soap (codes "Header") (standing (places e)) (suc (suc room)) soap_good header_good (standing_good (places e) (suc (suc room)) (places_good e room good)),
-      (holder_good soap (codes "Body") e.body (suc (suc room)) soap_good body_good good.body, tt),
+    holder_good soap (codes "Envelope") (header ∷ body ∷ []) (suc (suc (suc room))) soap_good (plain_name (codes "Envelope") refl) (
+      holder_good soap (codes "Header") (standing (places e)) (suc (suc room)) soap_good (plain_name (codes "Header") refl) (standing_good (places e) (suc (suc room)) (places_good e room good)),
+      (holder_good soap (codes "Body") e.body (suc (suc room)) soap_good (plain_name (codes "Body") refl) good.body, tt),
     )

@@ -1,9 +1,8 @@
 -- What is written for an envelope says it, and is a good tree.
 use Rattle.std.specs.Prelude.{◌≡◌, ℕ, suc, List, Some, IfSome}
-use Rattle.std.specs.List.{AllByRecursion}
 use Rattle.std.specs.declared.result.Result.TheVariants.{Ok}
 use Rattle.wef_base.specs.Names.{trimmed}
-use Rattle.wef_base.specs.declared.tree.Element.{Element}
+use Rattle.wef_elements.specs.Good.{AreGoodElements}
 use Rattle.wef_ids.specs.IdTexts.{id_value}
 use Rattle.wef_ids.specs.declared.MessageId.{MessageId}
 use Rattle.wef_xml.specs.Good.{IsGoodElement, IsXmlText}
@@ -40,10 +39,6 @@ pub record IsPlain (e : Envelope) : Type 0 where
 abbrev pub WrittenIsRead : Type 0
 WrittenIsRead = (e : Envelope) → IsPlain e → said (written e) ≡ Ok e
 
--- each of some elements is good, with room for so many in one another
-abbrev pub AreGood : List Element → ℕ → Type 0
-AreGood es room = AllByRecursion (λ (e : Element). IsGoodElement e room) es
-
 -- The texts of an envelope hold characters that XML allows, and its elements have so much room.
 pub record HasGoodParts (e : Envelope) (room : ℕ) : Type 0 where
   pub to : IfSome e.to IsXmlText
@@ -56,7 +51,7 @@ pub record HasGoodParts (e : Envelope) (room : ℕ) : Type 0 where
   pub max_size : IfSome e.max_size IsXmlText
   pub identifier : IfSome e.identifier IsXmlText
   pub bookmark : IfSome e.bookmark (λ header. IsGoodElement header room)
-  pub body : AreGood e.body room
+  pub body : AreGoodElements e.body room
 
 -- The tree of such an envelope is good: it goes two elements deeper. The address in a header needs two itself.
 abbrev pub WrittenIsGood : Type 0

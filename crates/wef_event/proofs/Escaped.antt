@@ -7,7 +7,8 @@ use Rattle.std.proofs.lemmas.Str.{chars_past_char, encodes-append}
 use Rattle.wef_base.specs.Numbers.{is_digit}
 use Rattle.wef_xml.specs.Canonical.{text_char, text_of}
 use Rattle.wef_event.specs.Characters.{escape, escaped}
-use Rattle.wef_event.proofs.Digits.{digits_encoded, digits_text_of}
+use Rattle.wef_elements.proofs.DecimalDigits.{digits_encoded}
+use Rattle.wef_event.proofs.Digits.{digits_text_of}
 
 -- a character as it stands in text, by the references that there are
 pub escape_by : (c : ℕ) → escape c ≡ cond (c == 38) (codes "&amp;") (cond (c == 60) (codes "&lt;") (cond (c == 62) (codes "&gt;") (cond (c == 9) (codes "&#x9;") (cond (c == 10) (codes "&#xA;") (cond (c == 13) (codes "&#xD;") (encode_utf8 c))))))

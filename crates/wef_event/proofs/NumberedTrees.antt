@@ -5,11 +5,8 @@ use Rattle.std.specs.Fmt.{decimal}
 use Rattle.std.specs.List.{list_all}
 use Rattle.std.specs.Option.{option_and_then, option_or}
 use Rattle.std.specs.declared.result.Result.TheVariants.{Ok, Err}
-use Rattle.std.proofs.lemmas.Bool.{and_from, and_parts}
+use Rattle.std.proofs.lemmas.Bool.{and_parts}
 use Rattle.std.proofs.lemmas.Bool.Decides.{nat_tests}
-use Rattle.std.proofs.lemmas.Fmt.{IsAscii-decimal}
-use Rattle.std.proofs.lemmas.Str.{encodes-IsAscii}
-use Rattle.wef_base.specs.Characters.{is_xml_char}
 use Rattle.wef_base.specs.Names.{channel_name, trimmed}
 use Rattle.wef_base.specs.Numbers.{is_digit}
 use Rattle.wef_base.specs.declared.numbers.TheConstants.{MAX}
@@ -17,8 +14,8 @@ use Rattle.wef_base.specs.declared.tree.Element.{Element}
 use Rattle.wef_base.specs.declared.tree.Node.{Node, Chars}
 use Rattle.wef_base.specs.declared.tree.Node.TheVariants.{Element as Child}
 use Rattle.wef_xml.specs.Good.{AreGoodNodes, IsGoodElement, IsGoodText, IsGoodTree, IsXmlText}
+use Rattle.wef_xml.proofs.Ascii.{plain_name}
 use Rattle.wef_tree_reading.proofs.GoodOpens.{AreGoodChildren, with_good_child}
-use Rattle.wef_tree.proofs.GoodPrefixes.{plain_name_is}
 use Rattle.wef_event.specs.Events.{Event, Gives, IsEventOf, event_limit, event_of, event_or_none, number_or, text_of_tree, unless_long, with_number_found}
 use Rattle.wef_event.specs.Numbering.{NumberedEventsAreRead, new_field, numbered, numbered_by, numbered_children, numbered_root, numbered_system, record_id, with_first_changed, with_number, with_only}
 use Rattle.wef_elements.specs.Texts.{text_inside}
@@ -26,7 +23,8 @@ use Rattle.wef_event.specs.Paths.{channel_in, field_in, first_child, number_in, 
 use Rattle.wef_event.specs.PlainEvent.{MakesEvent}
 use Rattle.wef_event.specs.declared.records.EventFault.{EventFault}
 use Rattle.wef_event.proofs.Children.{KeepsGood, changed_apart, changed_good, first_changed, first_more, first_other, named_otherwise, named_so}
-use Rattle.wef_elements.proofs.DigitsRead.{decimal_digits, decimal_parts}
+use Rattle.wef_elements.proofs.DecimalDigits.{number_text}
+use Rattle.wef_elements.proofs.DigitsRead.{decimal_parts}
 use Rattle.wef_event.proofs.DigitsRead.{digits_read}
 use Rattle.wef_event.proofs.Made.{event_tree, is_read, made}
 
@@ -38,26 +36,13 @@ channel_field = codes "Channel"
 
 -- ---- it is good
 
-digit_is_allowed : (c : ℕ) → is_digit c ≡ true → is_xml_char c ≡ true
-digit_is_allowed c h = grind (arith, nat_tests)
-
-digits_are_allowed : (cs : List ℕ) → list_all is_digit cs ≡ true → list_all is_xml_char cs ≡ true
-digits_are_allowed [] digits = refl
-digits_are_allowed (c ∷ cs) digits =
-    let parts = and_parts (is_digit c) (list_all is_digit cs) digits in
-    and_from (is_xml_char c) (list_all is_xml_char cs) (digit_is_allowed c parts.0) (digits_are_allowed cs parts.1)
-
 not_empty : (n : ℕ) → nat_lt 0 n ≡ true → (n == 0) ≡ false
 not_empty n h = grind (arith, nat_tests)
 
 -- the digits of a number are a text of an element
 pub good_digits : (n : ℕ) → n ≤ MAX → IsGoodText (decimal n)
 good_digits n small = record {
-  allowed = record {
-    characters = decimal n;
-    spelt = sym (encodes-IsAscii (decimal n) (IsAscii-decimal n (omega arith)));
-    allowed = digits_are_allowed (decimal n) (decimal_digits n small);
-  };
+  allowed = number_text n;
   some = not_empty (length (decimal n)) (and_parts (nat_lt 0 (length (decimal n))) (list_all is_digit (decimal n)) (decimal_parts n small).0).0;
 }
 
@@ -72,7 +57,7 @@ with_only_good text (suc room) good e is = (is.0, refl, alone text room good)
 new_field_good : (space text : List ℕ) (room : ℕ) → IsXmlText space → IsGoodText text → IsGoodElement (new_field space text) (suc room)
 new_field_good space text room in_space good = (
   record {
-    named = plain_name_is 69 (codes "ventRecordID") refl refl refl;
+    named = plain_name (codes "EventRecordID") refl;
     in_space = in_space;
     attributed = tt;
     different = refl;

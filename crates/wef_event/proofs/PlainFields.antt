@@ -17,7 +17,8 @@ use Rattle.wef_elements.specs.Texts.{only_text, text_in, text_inside}
 use Rattle.wef_event.specs.Paths.{channel_in, first_child, if_named, named, number_in, number_of_digits, unless_zero}
 use Rattle.wef_event.specs.PlainEvent.{event_space, plain_event, plain_text, plain_tree}
 use Rattle.wef_event.specs.declared.records.EventFault.{EventFault}
-use Rattle.wef_event.proofs.Digits.{decimal_digits, decimal_read, digits_trimmed}
+use Rattle.wef_elements.proofs.DecimalDigits.{decimal_trimmed}
+use Rattle.wef_event.proofs.Digits.{decimal_read}
 
 -- a child is the element that it is
 named_is : (name : List ℕ) (e : Element) → named name (Child e) ≡ if_named name e
@@ -113,7 +114,7 @@ says_number channel number id level word h =
     ap (λ o. number_of (child_of (codes "EventRecordID") o)) (system_found channel number id level word)
     ∙ ap number_of (number_found channel number id level)
     ∙ ap (λ text. number_of_digits (trimmed text)) (leaf_text (codes "EventRecordID") (decimal number))
-    ∙ ap number_of_digits (digits_trimmed (decimal number) (decimal_digits number))
+    ∙ ap number_of_digits (decimal_trimmed number)
     ∙ decimal_read number h
 
 -- 0 stands for no number

@@ -17,7 +17,7 @@ use Rattle.wef_elements.specs.Texts.{only_text}
 use Rattle.wef_event.specs.Characters.{escaped}
 use Rattle.wef_event.specs.Events.{text_of_tree}
 use Rattle.wef_event.specs.PlainEvent.{event_space, plain_text, plain_tree}
-use Rattle.wef_event.proofs.Digits.{decimal_digits}
+use Rattle.wef_elements.proofs.DecimalDigits.{decimal_digits}
 use Rattle.wef_event.proofs.Escaped.{escaped_digits, escaped_is}
 use Rattle.wef_event.proofs.PlainFields.{event_data, fields, from_channel, from_level, from_number, leaf, nothing}
 

@@ -1,13 +1,12 @@
 -- The prefixes that a writer uses are names without `:`, and their namespaces may be declared.
-use Rattle.std.proofs.Common.{◌≡◌, ℕ, suc, ◌<◌, Bool, true, false, ◌&&◌, not, is_some, if◌then◌else◌, nat_lt, List, [], ◌∷◌, ◌++◌, length, codes, encode_utf8_all, Option, Some, None, refl, ap, sym, subst, ◌∙◌, ⊎_elim, arith}
+use Rattle.std.proofs.Common.{◌≡◌, ℕ, suc, ◌<◌, Bool, true, false, ◌&&◌, not, is_some, if◌then◌else◌, List, [], ◌∷◌, ◌++◌, length, codes, Option, Some, None, refl, sym, subst, ⊎_elim}
 use Rattle.std.specs.Fmt.{digit_glyph}
 use Rattle.std.specs.List.{list_all, list_any}
 use Rattle.std.proofs.lemmas.Bool.{and_from, and_parts}
-use Rattle.std.proofs.lemmas.Bool.Decides.{nat_tests}
-use Rattle.std.proofs.lemmas.Str.{encode_ascii}
 use Rattle.wef_base.specs.Characters.{is_xml_char}
 use Rattle.wef_base.specs.Names.{same}
 use Rattle.wef_base.specs.declared.tree.Attribute.{Attribute}
+use Rattle.wef_xml.proofs.Ascii.{is_plain, plain_name, plain_name_is, plain_text_is}
 use Rattle.wef_xml.proofs.Glyphs.{digits_pass, each_glyph}
 use Rattle.wef_xml.specs.Good.{AreGoodAttributes, IsLocalName, IsXmlText}
 use Rattle.wef_xml.specs.Letters.{is_name_char, is_name_start}
@@ -17,33 +16,12 @@ use Rattle.wef_xml.specs.declared.bindings.Binding.{Binding}
 use Rattle.wef_tree_reading.proofs.Inversions.{cond_is, none_some, some_is, unless_some}
 use Rattle.wef_tree.proofs.Spelled.{AreGoodBindings, IsGoodBinding}
 
--- characters of ASCII are their own UTF-8
-abbrev pub is_plain : ℕ → Bool
-is_plain c = nat_lt c 128
-
--- what the test tells
-plain_one : (c : ℕ) → is_plain c ≡ true → c < 128
-plain_one c h = grind (arith, nat_tests)
-
-pub plain_is : (cs : List ℕ) → list_all is_plain cs ≡ true → cs ≡ encode_utf8_all cs
-plain_is [] h = refl
-plain_is (c ∷ cs) h =
-    let parts = and_parts (is_plain c) (list_all is_plain cs) h in
-    ap (λ t. c ∷ t) (plain_is cs parts.1) ∙ ap (λ t. t ++ encode_utf8_all cs) (sym (encode_ascii c (plain_one c parts.0)))
-
--- a name and a text of ASCII
-pub plain_name_is : (c : ℕ) (cs : List ℕ) → list_all is_plain (c ∷ cs) ≡ true → is_name_start c ≡ true → list_all is_name_char cs ≡ true → IsLocalName (c ∷ cs)
-plain_name_is c cs plain begins on = record { first = c; more = cs; spelt = plain_is (c ∷ cs) plain; begins = begins; goes_on = on }
-
-pub plain_text_is : (cs : List ℕ) → list_all is_plain cs ≡ true → list_all is_xml_char cs ≡ true → IsXmlText cs
-plain_text_is cs plain allowed = record { characters = cs; spelt = plain_is cs plain; allowed = allowed }
-
 -- the two reserved prefixes
 pub xml_is_name : IsLocalName (codes "xml")
-xml_is_name = plain_name_is 120 (109 ∷ 108 ∷ []) refl refl refl
+xml_is_name = plain_name (codes "xml") refl
 
 pub xmlns_is_name : IsLocalName (codes "xmlns")
-xmlns_is_name = plain_name_is 120 (109 ∷ 108 ∷ 110 ∷ 115 ∷ []) refl refl refl
+xmlns_is_name = plain_name (codes "xmlns") refl
 
 -- the nine prefixes
 

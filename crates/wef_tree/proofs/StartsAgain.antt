@@ -21,7 +21,8 @@ use Rattle.wef_tree_reading.specs.declared.names.Name.{Name}
 use Rattle.wef_tree_reading.specs.declared.pieces.Piece.{Piece}
 use Rattle.wef_tree_reading.specs.declared.pieces.Piece.TheVariants.{Comment, Declaration, End, Section, Start}
 use Rattle.wef_tree_reading.specs.declared.tags.Given.{Given}
-use Rattle.wef_tree.proofs.GoodPrefixes.{attribute_prefix_good, bound_by_good, element_prefix_good, new_are_good, plain_is, xmlns_is_name}
+use Rattle.wef_xml.proofs.Ascii.{plain_is}
+use Rattle.wef_tree.proofs.GoodPrefixes.{attribute_prefix_good, bound_by_good, element_prefix_good, new_are_good, xmlns_is_name}
 use Rattle.wef_tree.proofs.Spelled.{AreGoodBindings, EndAgain, IsGoodBinding, StartAgain, attribute_given, declaration_given, default_given}
 use Rattle.wef_tree.proofs.TextsAgain.{name_chars, value_again}
 

@@ -1,3 +1,4 @@
+pub mod Ascii
 pub mod Glyphs
 pub mod GoodNodes
 pub mod Maps

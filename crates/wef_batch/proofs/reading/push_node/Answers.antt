@@ -1,5 +1,5 @@
 use Rattle.std.proofs.Common.{sym}
-use Rattle.wef_batch.proofs.InnerTrees.{good_element}
+use Rattle.wef_elements.proofs.InnerTrees.{good_element}
 use Rattle.wef_batch.proofs.reading.push_node.Goals as goal
 
 pub item_of-requires : goal.item_of-requires
