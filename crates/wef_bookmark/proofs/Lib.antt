@@ -1,4 +1,6 @@
-pub mod Maps
+pub mod EachEntry
 pub mod Joining
 pub mod Kept
+pub mod Maps
+pub mod WrittenGood
 pub mod WrittenRead

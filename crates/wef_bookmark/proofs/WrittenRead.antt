@@ -1,13 +1,10 @@
 -- What is written for a bookmark is read as it.
-use Rattle.std.proofs.Common.{◌≡◌, ℕ, Bool, true, false, ◌&&◌, cond, List, [], ◌∷◌, map, refl, ap, ◌∙◌}
-use Rattle.std.specs.Prelude.{Option, Some, None, T, codes}
-use Rattle.std.specs.Cmp.{tied_itself}
-use Rattle.std.specs.Cmp.Lexicographic.{nat_list_cmp_total, nat_list_eq_equiv}
-use Rattle.std.specs.FinMap.{empty, entries, entries_sorted, find, get-entries, is_sorted}
-use Rattle.std.specs.FinMap.Entries.{below_all}
+use Rattle.std.proofs.Common.{◌≡◌, ℕ, true, ◌&&◌, cond, List, [], ◌∷◌, map, refl, ap, ◌∙◌}
+use Rattle.std.specs.Prelude.{Some, None, codes}
+use Rattle.std.specs.Cmp.Lexicographic.{nat_list_eq_equiv}
+use Rattle.std.specs.FinMap.{empty, entries}
 use Rattle.std.specs.List.{AllByRecursion, filter}
 use Rattle.std.specs.Option.{option_and_then}
-use Rattle.std.specs.Ordering.{eq_by_cmp, is_eq}
 use Rattle.std.specs.Str.{chars}
 use Rattle.std.proofs.Math.Utf8.{encode}
 use Rattle.wef_base.specs.Names.{same, trimmed}
@@ -21,33 +18,12 @@ use Rattle.wef_elements.proofs.DigitsRead.{digits_say}
 use Rattle.wef_bookmark.specs.Entries.{IsEntry}
 use Rattle.wef_bookmark.specs.Nodes.{WrittenIsRead, bookmark_in, by_lists, earliest, entry_element, header_of, in_header, in_list, is_list, list_element, of_text, raised_entry, raised_node, raised_nodes, raised_where}
 use Rattle.wef_bookmark.specs.Order.{Marks, raised, raised_by}
-use Rattle.wef_bookmark.proofs.Joining.{below, both, joined_empty, one_name, order}
-
--- ---- entries
+use Rattle.wef_bookmark.proofs.EachEntry.{each_entry}
+use Rattle.wef_bookmark.proofs.Joining.{joined_empty}
 
 -- an entry's name reads back as itself, and its number is that of a record at most
 abbrev IsGiven : (List ℕ × ℕ) → Type 0
 IsGiven e = IsEntry e.0 e.1
-
-first_found : (e : List ℕ × ℕ) (es : List (List ℕ × ℕ)) → find order e.0 (e ∷ es) ≡ Some e.1
-first_found e es = ap (λ r. cond (is_eq r) (Some e.1) (find order e.0 es)) (tied_itself nat_list_cmp_total e.0)
-
-none_is_some : (o : Option ℕ) (n : ℕ) → o ≡ None → o ≡ Some n → ⊥
-none_is_some o n none some = cc
-
--- what is found behind the first is found with it
-found_behind : (e : List ℕ × ℕ) (es : List (List ℕ × ℕ)) (c : List ℕ) (n : ℕ) → T (below_all order e.0 es) → find order c es ≡ Some n → find order c (e ∷ es) ≡ Some n
-found_behind e es c n small is = by (eq_by_cmp order c e.0) refl
-  where
-    by : (t : Bool) → eq_by_cmp order c e.0 ≡ t → cond t (Some e.1) (find order c es) ≡ Some n
-    by true tied = absurd (none_is_some (find order c es) n (ap (λ x. find order x es) (one_name c e.0 tied) ∙ below e.0 es small) is)
-    by false tied = is
-
-all_given : (es : List (List ℕ × ℕ)) → T (is_sorted order es) → ((c : List ℕ) (n : ℕ) → find order c es ≡ Some n → IsEntry c n) → AllByRecursion IsGiven es
-all_given [] sorted kept = tt
-all_given (e ∷ es) sorted kept =
-    let parts = both (below_all order e.0 es) (is_sorted order es) sorted in
-    (kept e.0 e.1 (first_found e es), all_given es parts.1 (λ c n is. kept c n (found_behind e es c n parts.0 is)))
 
 -- ---- lists
 
@@ -100,5 +76,4 @@ header_again [] given = empty_again
 header_again (e ∷ es) given = list_again (list_element (e ∷ es)) refl ∙ entries_again empty (e ∷ es) given
 
 pub written_is_read : WrittenIsRead
-written_is_read b kept =
-    header_again (entries b) (all_given (entries b) (entries_sorted b) (λ c n is. kept c n (get-entries b c ∙ is))) ∙ ap Some (joined_empty b)
+written_is_read b kept = header_again (entries b) (each_entry IsEntry b kept) ∙ ap Some (joined_empty b)

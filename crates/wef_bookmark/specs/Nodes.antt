@@ -1,11 +1,12 @@
 -- A bookmark as a tree. The header Bookmark of WS-Management holds a BookmarkList, or says that nothing was read yet; a
 -- BookmarkList holds an element Bookmark for each channel, with the attributes Channel and RecordId. In lists names are local
 -- names, whatever the namespace; other elements and other attributes don't matter.
-use Rattle.std.specs.Prelude.{◌≡◌, ℕ, Bool, List, [], ◌∷◌, codes, map, Option, Some, None, Result, if◌then◌else◌}
+use Rattle.std.specs.Prelude.{◌≡◌, ℕ, suc, Bool, true, List, [], ◌∷◌, codes, map, Option, Some, None, Result, if◌then◌else◌}
 use Rattle.std.specs.Fmt.{decimal}
 use Rattle.std.specs.FinMap as map
 use Rattle.std.specs.List.{filter}
 use Rattle.std.specs.Option.{option_and_then}
+use Rattle.std.specs.Str.{is_utf8}
 use Rattle.std.specs.declared.result.Result.TheVariants.{Ok, Err}
 use Rattle.wef_base.specs.Names.{channel_name, same}
 use Rattle.wef_base.specs.declared.tree.Attribute.{Attribute}
@@ -15,6 +16,7 @@ use Rattle.wef_elements.specs.Children.{elements_in, has_words, is_called, with_
 use Rattle.wef_elements.specs.Spaces.{management}
 use Rattle.wef_elements.specs.Texts.{said_in}
 use Rattle.wef_elements.specs.Values.{number_said, value_of}
+use Rattle.wef_xml.specs.Good.{IsGoodElement}
 use Rattle.wef_bookmark.specs.Entries.{AreEntries}
 use Rattle.wef_bookmark.specs.Order.{Marks, raised}
 use Rattle.wef_bookmark.specs.declared.marking.BookmarkFault.{BookmarkFault}
@@ -122,3 +124,11 @@ bookmark_element b = header_of (map.entries b)
 -- What is written for a bookmark is read as it.
 abbrev pub WrittenIsRead : Type 0
 WrittenIsRead = (b : Marks) → AreEntries b → bookmark_in (bookmark_element b) ≡ Some b
+
+-- each channel's name is UTF-8
+abbrev pub AreTexts : Marks → Type 0
+AreTexts b = (c : List ℕ) (n : ℕ) → map.get b c ≡ Some n → is_utf8 c ≡ true
+
+-- What is written for a bookmark of such names is a good tree, which has room for the header, its list and an entry.
+abbrev pub WrittenIsGood : Type 0
+WrittenIsGood = (b : Marks) (room : ℕ) → AreEntries b → AreTexts b → IsGoodElement (bookmark_element b) (suc (suc (suc room)))

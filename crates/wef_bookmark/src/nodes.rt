@@ -4,7 +4,7 @@ ghost use Rattle.std.specs.Prelude.{◌≡◌, ◌≤◌, ◌∷◌, [], codes, 
 ghost use Rattle.wef_base.specs.declared.numbers.TheConstants.{MAX};
 ghost use Rattle.wef_elements.specs.Children.{with_elements};
 ghost use Rattle.wef_elements.specs.Spaces.{management};
-ghost use Rattle.wef_bookmark.specs.Nodes.{Reads, Takes, WrittenIsRead, bookmark_element, bookmark_in, channel_of, earliest, entry_element, header_of, in_header, in_list, is_entry, is_header, is_list, list_element, lists_in, marked, number_of, of_text, raised_entry, raised_node, raised_nodes};
+ghost use Rattle.wef_bookmark.specs.Nodes.{Reads, Takes, WrittenIsGood, WrittenIsRead, bookmark_element, bookmark_in, channel_of, earliest, entry_element, header_of, in_header, in_list, is_entry, is_header, is_list, list_element, lists_in, marked, number_of, of_text, raised_entry, raised_node, raised_nodes};
 
 use crate::marking::{Bookmark, BookmarkFault};
 use std::alloc::{AllocError, Global};
@@ -47,9 +47,11 @@ impl Bookmark {
     }
 }
 
-/// What is written for a bookmark is read as it.
+/// What is written for a bookmark is read as it, and is a good tree. For that its channels' names must
+/// be UTF-8.
 pub fn written_is_read_again()
-    ensures { WrittenIsRead }
+    ensures says { WrittenIsRead }
+    ensures good { WrittenIsGood }
 {}
 
 fn is_header(node: &Element) -> bool

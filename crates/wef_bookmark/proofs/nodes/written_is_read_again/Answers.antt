@@ -1,5 +1,9 @@
+use Rattle.wef_bookmark.proofs.WrittenGood.{written_is_good}
 use Rattle.wef_bookmark.proofs.WrittenRead.{written_is_read}
 use Rattle.wef_bookmark.proofs.nodes.written_is_read_again.Goals as goal
 
-pub returns : goal.returns
-returns c = written_is_read
+pub returns-clause-says : goal.returns-clause-says
+returns-clause-says c = written_is_read
+
+pub returns-clause-good : goal.returns-clause-good
+returns-clause-good c = written_is_good
