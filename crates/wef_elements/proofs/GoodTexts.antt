@@ -1,4 +1,4 @@
--- Texts that XML allows: those of names, and the namespaces of messages.
+-- Texts that XML allows: those of names, and the namespaces of batches and bookmarks.
 use Rattle.std.proofs.Common.{◌≡◌, ℕ, Bool, true, false, ◌||◌, List, [], ◌∷◌, IsUtf8, refl, sym, arith}
 use Rattle.std.specs.Prelude.{Some}
 use Rattle.std.specs.List.{list_all, list_any}
@@ -12,7 +12,6 @@ use Rattle.wef_base.specs.Names.{channel_name, is_forbidden}
 use Rattle.wef_base.specs.declared.names.Letters.TheVariants.{Small}
 use Rattle.wef_base.proofs.Kept.{name_allowed}
 use Rattle.wef_xml.specs.Good.{IsXmlText}
-use Rattle.wef_xml.specs.declared.messages.TheConstants.{SOAP, ADDRESSING, EVENTING, ENUMERATION, MANAGEMENT, WINDOWS, SUBSCRIPTION, MACHINE, PROFILE}
 use Rattle.wef_xml.proofs.Ascii.{plain_text}
 use Rattle.wef_elements.specs.Spaces.{management, profile}
 
@@ -45,40 +44,12 @@ pub name_text : (channel : List ℕ) → IsUtf8 channel → channel_name channel
 unfolding channel_name
 name_text channel utf8 named = xml_text channel utf8 (all_allowed (chars channel) (scalars-chars channel utf8) (name_allowed Small 256 channel utf8 named))
 
--- ---- the namespaces of messages
+-- ---- the namespaces of batches and bookmarks
 
-pub soap_text : IsXmlText SOAP.now
-soap_text = plain_text SOAP.now refl
-
-pub addressing_text : IsXmlText ADDRESSING.now
-addressing_text = plain_text ADDRESSING.now refl
-
-pub eventing_text : IsXmlText EVENTING.now
-eventing_text = plain_text EVENTING.now refl
-
-pub enumeration_text : IsXmlText ENUMERATION.now
-enumeration_text = plain_text ENUMERATION.now refl
-
-pub management_text : IsXmlText MANAGEMENT.now
-management_text = plain_text MANAGEMENT.now refl
-
-pub windows_text : IsXmlText WINDOWS.now
-windows_text = plain_text WINDOWS.now refl
-
-pub subscription_text : IsXmlText SUBSCRIPTION.now
-subscription_text = plain_text SUBSCRIPTION.now refl
-
-pub machine_text : IsXmlText MACHINE.now
-machine_text = plain_text MACHINE.now refl
-
-pub profile_text : IsXmlText PROFILE.now
-profile_text = plain_text PROFILE.now refl
-
--- those by the names that batches and bookmarks have for them
 pub management_good : IsXmlText management
 unfolding management
-management_good = management_text
+management_good = plain_text management refl
 
 pub profile_good : IsXmlText profile
 unfolding profile
-profile_good = profile_text
+profile_good = plain_text profile refl

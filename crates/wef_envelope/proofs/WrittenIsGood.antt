@@ -1,15 +1,15 @@
 -- The tree of an envelope of good parts is good.
-use Rattle.std.proofs.Common.{◌≡◌, ℕ, suc, Bool, true, false, List, [], ◌∷◌, refl}
+use Rattle.std.proofs.Common.{◌≡◌, ℕ, suc, Bool, true, false, ◌||◌, List, [], ◌∷◌, refl}
 use Rattle.std.specs.Prelude.{Option, Some, None, IfSome, codes}
 use Rattle.std.specs.Option.{option_map}
 use Rattle.wef_base.specs.declared.tree.Element.{Element}
 use Rattle.wef_elements.specs.Children.{with_text}
 use Rattle.wef_elements.specs.Good.{AreGoodElements}
-use Rattle.wef_elements.proofs.GoodTexts.{addressing_text, empty_text, eventing_text, machine_text, management_text, soap_text, windows_text}
+use Rattle.wef_elements.proofs.GoodTexts.{empty_text}
 use Rattle.wef_elements.proofs.GoodTrees.{holder_good, leaf_good}
 use Rattle.wef_ids.specs.declared.MessageId.{MessageId}
 use Rattle.wef_xml.specs.Good.{IsGoodElement, IsLocalName, IsXmlText}
-use Rattle.wef_xml.proofs.Ascii.{plain_name}
+use Rattle.wef_xml.proofs.Ascii.{is_plain_name, is_plain_text, plain_name, plain_text}
 use Rattle.wef_envelope.specs.Envelopes.{may_repeat}
 use Rattle.wef_envelope.specs.Headers.{name_of, space_of}
 use Rattle.wef_envelope.specs.Laws.{HasGoodParts}
@@ -18,58 +18,26 @@ use Rattle.wef_envelope.specs.Written.{Place, address_header, empty_header, part
 use Rattle.wef_envelope.specs.declared.envelopes.Envelope.{Envelope}
 use Rattle.wef_envelope.specs.declared.headers.Header.{Header}
 use Rattle.wef_envelope.specs.declared.headers.Header.TheVariants as the
+use Rattle.wef_envelope.proofs.Tables.{each_header}
 
 -- ---- names and namespaces
 
 pub soap_good : IsXmlText soap
 unfolding soap
-soap_good = soap_text
+soap_good = plain_text soap refl
 
 addressing_good : IsXmlText addressing
 unfolding addressing
-addressing_good = addressing_text
+addressing_good = plain_text addressing refl
 
 space_good : (h : Header) → IsXmlText (space_of h)
 unfolding space_of addressing eventing machine management windows
-space_good the.To = addressing_text
-space_good the.Resource = management_text
-space_good the.ReplyTo = addressing_text
-space_good the.Action = addressing_text
-space_good the.MessageId = addressing_text
-space_good the.Relates = addressing_text
-space_good the.Machine = machine_text
-space_good the.MaxSize = management_text
-space_good the.Identifier = eventing_text
-space_good the.Bookmark = management_text
-space_good the.AckRequested = management_text
-space_good the.From = addressing_text
-space_good the.FaultTo = addressing_text
-space_good the.Locale = management_text
-space_good the.OperationTimeout = management_text
-space_good the.SelectorSet = management_text
-space_good the.OptionSet = management_text
-space_good the.Private = windows_text
+space_good h = plain_text (space_of h) (each_header (λ x. is_plain_text (space_of x)) refl h)
 
+-- each header that stands once has a name
 name_good : (h : Header) → may_repeat h ≡ false → IsLocalName (name_of h)
 unfolding name_of
-name_good the.To once = plain_name (codes "To") refl
-name_good the.Resource once = plain_name (codes "ResourceURI") refl
-name_good the.ReplyTo once = plain_name (codes "ReplyTo") refl
-name_good the.Action once = plain_name (codes "Action") refl
-name_good the.MessageId once = plain_name (codes "MessageID") refl
-name_good the.Relates once = plain_name (codes "RelatesTo") refl
-name_good the.Machine once = plain_name (codes "MachineID") refl
-name_good the.MaxSize once = plain_name (codes "MaxEnvelopeSize") refl
-name_good the.Identifier once = plain_name (codes "Identifier") refl
-name_good the.Bookmark once = plain_name (codes "Bookmark") refl
-name_good the.AckRequested once = plain_name (codes "AckRequested") refl
-name_good the.From once = plain_name (codes "From") refl
-name_good the.FaultTo once = plain_name (codes "FaultTo") refl
-name_good the.Locale once = plain_name (codes "Locale") refl
-name_good the.OperationTimeout once = plain_name (codes "OperationTimeout") refl
-name_good the.SelectorSet once = plain_name (codes "SelectorSet") refl
-name_good the.OptionSet once = plain_name (codes "OptionSet") refl
-name_good the.Private once = let bad : ⊥ = cc in absurd bad
+name_good h once = plain_name (name_of h) (rw once at (each_header (λ x. may_repeat x || is_plain_name (name_of x)) refl h))
 
 -- ---- places
 

@@ -166,9 +166,12 @@ abbrev pub prefixed : FaultName → List ℕ
 prefixed name = prefix_of name ++ codes ":" ++ fault_text name
 
 -- a Subcode, but for MustUnderstand, whose code is its name
+abbrev pub has_subcode : FaultName → Bool
+has_subcode the.MustUnderstand = false
+has_subcode _ = true
+
 abbrev pub subcode_of : FaultName → List Element
-subcode_of the.MustUnderstand = []
-subcode_of name = part (codes "Subcode") (value (prefixed name) ∷ []) ∷ []
+subcode_of name = if has_subcode name then part (codes "Subcode") (value (prefixed name) ∷ []) ∷ [] else []
 
 unfoldable pub language : Attribute
 language = record { space = xml_space; name = codes "lang"; value = codes "en-US" }

@@ -41,5 +41,8 @@ plain_name (c ∷ cs) h =
     let inner = and_parts (list_all is_plain (c ∷ cs)) (is_name_start c) outer.0 in
     plain_name_is c cs inner.0 inner.1 outer.1
 
-pub plain_text : (text : List ℕ) → (list_all is_plain text && list_all is_xml_char text) ≡ true → IsXmlText text
+abbrev pub is_plain_text : List ℕ → Bool
+is_plain_text text = list_all is_plain text && list_all is_xml_char text
+
+pub plain_text : (text : List ℕ) → is_plain_text text ≡ true → IsXmlText text
 plain_text text h = let parts = and_parts (list_all is_plain text) (list_all is_xml_char text) h in plain_text_is text parts.0 parts.1
