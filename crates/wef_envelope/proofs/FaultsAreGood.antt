@@ -9,7 +9,7 @@ use Rattle.wef_ids.specs.declared.FaultName.{FaultName}
 use Rattle.wef_xml.specs.Good.{IsGoodAttribute, IsGoodElement, IsXmlText}
 use Rattle.wef_xml.proofs.Ascii.{is_plain_text, plain_name, plain_text}
 use Rattle.wef_xml.specs.Spaces.{xml_space}
-use Rattle.wef_envelope.specs.Faults.{code_of, code_text, fault_of, fault_tree, has_subcode, is_known, language, prefix_of, prefixed, reason_text, subcode_of, value}
+use Rattle.wef_envelope.specs.Faults.{code_of, code_text, fault_of, fault_tree, has_subcode, is_known, language, prefix_by, prefixed, reason_text, subcode_of, value}
 use Rattle.wef_envelope.specs.Spaces.{soap}
 use Rattle.wef_envelope.specs.Written.{part}
 use Rattle.wef_envelope.specs.declared.faults.FaultCode.{FaultCode}
@@ -34,7 +34,7 @@ unfolding fault_text
 names_good name known = plain_text (fault_text name) (each_known (λ x. is_plain_text (fault_text x)) refl name known)
 
 prefixed_good : (name : FaultName) → is_known name ≡ true → IsXmlText (prefixed name)
-unfolding fault_text prefix_of
+unfolding fault_text prefix_by
 prefixed_good name known = plain_text (prefixed name) (each_known (λ x. is_plain_text (prefixed x)) refl name known)
 
 -- ---- parts

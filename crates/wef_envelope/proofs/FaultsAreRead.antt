@@ -13,7 +13,7 @@ use Rattle.wef_elements.proofs.Again.{elements_again, said_again}
 use Rattle.wef_ids.specs.Faults.{fault_text}
 use Rattle.wef_ids.specs.declared.FaultName.{FaultName}
 use Rattle.wef_ids.specs.declared.FaultName.TheVariants as the
-use Rattle.wef_envelope.specs.Faults.{behind_last, code_in, code_text, fault_in, fault_in_code, fault_of, fault_said, fault_tree, is_colon, is_known, name_in, prefix_of, reason_text, subcode_in, value, value_in}
+use Rattle.wef_envelope.specs.Faults.{behind_last, code_in, code_text, fault_in, fault_in_code, fault_of, fault_said, fault_tree, is_colon, is_known, name_in, prefix_by, reason_text, subcode_in, value, value_in}
 use Rattle.wef_envelope.specs.Spaces.{soap}
 use Rattle.wef_envelope.specs.Written.{part}
 
@@ -63,7 +63,7 @@ reason name = part (codes "Reason") (reason_text name ∷ [])
 -- ---- the law
 
 pub faults_are_read : (name : FaultName) → is_known name ≡ true → fault_in (fault_tree (fault_of name)) ≡ Some (fault_of name)
-unfolding fault_tree prefix_of fault_text code_text code_in name_in chars encode
+unfolding fault_tree prefix_by fault_text code_text code_in name_in chars encode
 faults_are_read the.DeliveryModeRequestedUnavailable known = with_subcode (codes "s:Sender") (codes "e:DeliveryModeRequestedUnavailable") (reason the.DeliveryModeRequestedUnavailable) refl refl
 faults_are_read the.FilteringRequestedUnavailable known = with_subcode (codes "s:Sender") (codes "e:FilteringRequestedUnavailable") (reason the.FilteringRequestedUnavailable) refl refl
 faults_are_read the.InvalidExpirationTime known = with_subcode (codes "s:Sender") (codes "e:InvalidExpirationTime") (reason the.InvalidExpirationTime) refl refl

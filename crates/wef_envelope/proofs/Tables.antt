@@ -1,13 +1,15 @@
 -- A test of all headers, and one of all names of faults, is one list that computes.
-use Rattle.std.proofs.Common.{◌≡◌, ℕ, zero, suc, Bool, true, ◌∷◌, List, [], refl, subst}
+use Rattle.std.proofs.Common.{◌≡◌, ℕ, zero, suc, Bool, true, List, [], ◌∷◌, ◌++◌, refl, subst}
 use Rattle.std.specs.Prelude.{Some, slice_get}
 use Rattle.std.specs.List.{list_all}
 use Rattle.std.proofs.lemmas.Bool.{and_parts}
 use Rattle.wef_ids.specs.declared.FaultName.{FaultName}
 use Rattle.wef_ids.specs.declared.FaultName.TheVariants as name
 use Rattle.wef_envelope.specs.Faults.{is_known}
+use Rattle.wef_envelope.specs.Headers.{number_of}
 use Rattle.wef_envelope.specs.declared.headers.Header.{Header}
 use Rattle.wef_envelope.specs.declared.headers.Header.TheVariants as the
+use Rattle.wef_envelope.specs.declared.headers.TheConstants.{NAMED}
 
 -- what all pass is passed at each place
 passes_at : {A : Type 0} (test : A → Bool) (xs : List A) → list_all test xs ≡ true → (place : ℕ) (x : A) → slice_get xs place ≡ Some x → test x ≡ true
@@ -18,27 +20,31 @@ passes_at test (y ∷ ys) all (suc place) x is = passes_at test ys (and_parts (t
 -- ---- headers
 
 abbrev pub headers : List Header
-headers = the.To ∷ the.Resource ∷ the.ReplyTo ∷ the.Action ∷ the.MessageId ∷ the.Relates ∷ the.Machine ∷ the.MaxSize ∷ the.Identifier ∷ the.Bookmark ∷ the.AckRequested ∷ the.From ∷ the.FaultTo ∷ the.Locale ∷ the.OperationTimeout ∷ the.SelectorSet ∷ the.OptionSet ∷ the.Private ∷ []
+headers = NAMED.now ++ the.Private ∷ []
+
+-- each stands at its number
+placed : (header : Header) → slice_get headers (number_of header) ≡ Some header
+placed the.To = refl
+placed the.Resource = refl
+placed the.ReplyTo = refl
+placed the.Action = refl
+placed the.MessageId = refl
+placed the.Relates = refl
+placed the.Machine = refl
+placed the.MaxSize = refl
+placed the.Identifier = refl
+placed the.Bookmark = refl
+placed the.AckRequested = refl
+placed the.From = refl
+placed the.FaultTo = refl
+placed the.Locale = refl
+placed the.OperationTimeout = refl
+placed the.SelectorSet = refl
+placed the.OptionSet = refl
+placed the.Private = refl
 
 pub each_header : (test : Header → Bool) → list_all test headers ≡ true → (header : Header) → test header ≡ true
-each_header test all the.To = passes_at test headers all 0 the.To refl
-each_header test all the.Resource = passes_at test headers all 1 the.Resource refl
-each_header test all the.ReplyTo = passes_at test headers all 2 the.ReplyTo refl
-each_header test all the.Action = passes_at test headers all 3 the.Action refl
-each_header test all the.MessageId = passes_at test headers all 4 the.MessageId refl
-each_header test all the.Relates = passes_at test headers all 5 the.Relates refl
-each_header test all the.Machine = passes_at test headers all 6 the.Machine refl
-each_header test all the.MaxSize = passes_at test headers all 7 the.MaxSize refl
-each_header test all the.Identifier = passes_at test headers all 8 the.Identifier refl
-each_header test all the.Bookmark = passes_at test headers all 9 the.Bookmark refl
-each_header test all the.AckRequested = passes_at test headers all 10 the.AckRequested refl
-each_header test all the.From = passes_at test headers all 11 the.From refl
-each_header test all the.FaultTo = passes_at test headers all 12 the.FaultTo refl
-each_header test all the.Locale = passes_at test headers all 13 the.Locale refl
-each_header test all the.OperationTimeout = passes_at test headers all 14 the.OperationTimeout refl
-each_header test all the.SelectorSet = passes_at test headers all 15 the.SelectorSet refl
-each_header test all the.OptionSet = passes_at test headers all 16 the.OptionSet refl
-each_header test all the.Private = passes_at test headers all 17 the.Private refl
+each_header test all header = passes_at test headers all (number_of header) header (placed header)
 
 -- ---- names of faults
 

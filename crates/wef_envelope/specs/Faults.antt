@@ -23,59 +23,54 @@ use Rattle.wef_envelope.specs.declared.envelopes.EnvelopeFault.TheVariants.{NoMe
 use Rattle.wef_envelope.specs.declared.faults.Fault.{Fault}
 use Rattle.wef_envelope.specs.declared.faults.FaultCode.{FaultCode}
 use Rattle.wef_envelope.specs.declared.faults.FaultCode.TheVariants as of
+use Rattle.wef_envelope.specs.declared.faults.Standard.{Standard}
+use Rattle.wef_envelope.specs.declared.faults.Standard.TheVariants as standard
 
 -- ---- the table of names
 
--- the prefix of a name, by the standard that has it
-unfoldable pub prefix_of : FaultName → List ℕ
-prefix_of the.DeliveryModeRequestedUnavailable = codes "e"
-prefix_of the.FilteringRequestedUnavailable = codes "e"
-prefix_of the.InvalidExpirationTime = codes "e"
-prefix_of the.InvalidMessage = codes "e"
-prefix_of the.UnableToRenew = codes "e"
-prefix_of the.ActionNotSupported = codes "a"
-prefix_of the.DestinationUnreachable = codes "a"
-prefix_of the.MessageInformationHeaderRequired = codes "a"
-prefix_of the.InvalidBookmark = codes "w"
-prefix_of the.EncodingLimit = codes "w"
-prefix_of the.InternalError = codes "w"
-prefix_of the.InvalidEnumerationContext = codes "n"
-prefix_of the.MustUnderstand = codes "s"
-prefix_of (the.Other text) = []
+-- who is at fault, and the standard that has the name
+abbrev pub row_of : FaultName → FaultCode × Option Standard
+row_of the.DeliveryModeRequestedUnavailable = (of.Sender, Some standard.Eventing)
+row_of the.FilteringRequestedUnavailable = (of.Sender, Some standard.Eventing)
+row_of the.InvalidExpirationTime = (of.Sender, Some standard.Eventing)
+row_of the.InvalidMessage = (of.Sender, Some standard.Eventing)
+row_of the.UnableToRenew = (of.Receiver, Some standard.Eventing)
+row_of the.ActionNotSupported = (of.Sender, Some standard.Addressing)
+row_of the.DestinationUnreachable = (of.Sender, Some standard.Addressing)
+row_of the.MessageInformationHeaderRequired = (of.Sender, Some standard.Addressing)
+row_of the.InvalidBookmark = (of.Sender, Some standard.Management)
+row_of the.EncodingLimit = (of.Sender, Some standard.Management)
+row_of the.InternalError = (of.Receiver, Some standard.Management)
+row_of the.InvalidEnumerationContext = (of.Receiver, Some standard.Enumeration)
+row_of the.MustUnderstand = (of.MustUnderstand, Some standard.Soap)
+row_of (the.Other text) = (of.Receiver, None)
 
--- who is at fault
 abbrev pub code_of : FaultName → FaultCode
-code_of the.DeliveryModeRequestedUnavailable = of.Sender
-code_of the.FilteringRequestedUnavailable = of.Sender
-code_of the.InvalidExpirationTime = of.Sender
-code_of the.InvalidMessage = of.Sender
-code_of the.UnableToRenew = of.Receiver
-code_of the.ActionNotSupported = of.Sender
-code_of the.DestinationUnreachable = of.Sender
-code_of the.MessageInformationHeaderRequired = of.Sender
-code_of the.InvalidBookmark = of.Sender
-code_of the.EncodingLimit = of.Sender
-code_of the.InternalError = of.Receiver
-code_of the.InvalidEnumerationContext = of.Receiver
-code_of the.MustUnderstand = of.MustUnderstand
-code_of (the.Other text) = of.Receiver
+code_of name = (row_of name).0
 
--- the action of a message that has the fault
+abbrev pub standard_of : FaultName → Option Standard
+standard_of name = (row_of name).1
+
+-- the prefix of a standard's names
+unfoldable pub prefix_by : Option Standard → List ℕ
+prefix_by (Some standard.Soap) = codes "s"
+prefix_by (Some standard.Addressing) = codes "a"
+prefix_by (Some standard.Eventing) = codes "e"
+prefix_by (Some standard.Management) = codes "w"
+prefix_by (Some standard.Enumeration) = codes "n"
+prefix_by None = []
+
+-- the action of a message that has a fault, by the standard of the fault's name
+abbrev pub action_by : Option Standard → List ℕ
+action_by (Some standard.Soap) = ADDRESSING_FAULT.now
+action_by (Some standard.Addressing) = ADDRESSING_FAULT.now
+action_by (Some standard.Eventing) = EVENTING_FAULT.now
+action_by (Some standard.Management) = MANAGEMENT_FAULT.now
+action_by (Some standard.Enumeration) = ENUMERATION_FAULT.now
+action_by None = MANAGEMENT_FAULT.now
+
 abbrev pub action_of : FaultName → List ℕ
-action_of the.DeliveryModeRequestedUnavailable = EVENTING_FAULT.now
-action_of the.FilteringRequestedUnavailable = EVENTING_FAULT.now
-action_of the.InvalidExpirationTime = EVENTING_FAULT.now
-action_of the.InvalidMessage = EVENTING_FAULT.now
-action_of the.UnableToRenew = EVENTING_FAULT.now
-action_of the.ActionNotSupported = ADDRESSING_FAULT.now
-action_of the.DestinationUnreachable = ADDRESSING_FAULT.now
-action_of the.MessageInformationHeaderRequired = ADDRESSING_FAULT.now
-action_of the.InvalidBookmark = MANAGEMENT_FAULT.now
-action_of the.EncodingLimit = MANAGEMENT_FAULT.now
-action_of the.InternalError = MANAGEMENT_FAULT.now
-action_of the.InvalidEnumerationContext = ENUMERATION_FAULT.now
-action_of the.MustUnderstand = ADDRESSING_FAULT.now
-action_of (the.Other text) = MANAGEMENT_FAULT.now
+action_of name = action_by (standard_of name)
 
 -- a name of the table
 abbrev pub is_known : FaultName → Bool
@@ -163,7 +158,7 @@ value text = with_text soap (codes "Value") text
 
 -- the name with its prefix
 abbrev pub prefixed : FaultName → List ℕ
-prefixed name = prefix_of name ++ codes ":" ++ fault_text name
+prefixed name = prefix_by (standard_of name) ++ codes ":" ++ fault_text name
 
 -- a Subcode, but for MustUnderstand, whose code is its name
 abbrev pub has_subcode : FaultName → Bool

@@ -2,7 +2,7 @@
 
 ghost use Rattle.std.specs.Prelude.{◌≡◌, ◌++◌, ◌∷◌, [], true, codes, unwrap_or, option_copied, IfOk, OnOk};
 ghost use Rattle.wef_elements.specs.Children.{first_called};
-ghost use Rattle.wef_envelope.specs.Faults.{ReadsFault, action_of, behind_last, code_in, code_of, code_text, fault_in, fault_in_code, fault_of, fault_said, fault_tree, is_known, language, local_of, name_in, prefix_of, prefixed, reason_text, subcode_in, subcode_of, value, value_in};
+ghost use Rattle.wef_envelope.specs.Faults.{ReadsFault, action_by, action_of, behind_last, code_in, code_of, code_text, fault_in, fault_in_code, fault_of, fault_said, fault_tree, is_known, language, local_of, name_in, prefix_by, prefixed, reason_text, row_of, standard_of, subcode_in, subcode_of, value, value_in};
 ghost use Rattle.wef_envelope.specs.Spaces.{soap};
 ghost use Rattle.wef_envelope.specs.Written.{part};
 
@@ -56,43 +56,81 @@ impl Fault {
     pub fn action(&self) -> &'static str
         ensures { result.now ≡ action_of self.now.name }
     {
-        match &self.name {
-            FaultName::DeliveryModeRequestedUnavailable
-            | FaultName::FilteringRequestedUnavailable
-            | FaultName::InvalidExpirationTime
-            | FaultName::InvalidMessage
-            | FaultName::UnableToRenew => EVENTING_FAULT,
-            FaultName::ActionNotSupported
-            | FaultName::DestinationUnreachable
-            | FaultName::MessageInformationHeaderRequired
-            | FaultName::MustUnderstand => ADDRESSING_FAULT,
-            FaultName::InvalidBookmark
-            | FaultName::EncodingLimit
-            | FaultName::InternalError
-            | FaultName::Other(_) => MANAGEMENT_FAULT,
-            FaultName::InvalidEnumerationContext => ENUMERATION_FAULT,
+        action_by(standard_of(&self.name))
+    }
+}
+
+/// A standard that has names of faults.
+#[derive(Clone, Copy, Debug)]
+pub enum Standard {
+    Soap,
+    Addressing,
+    Eventing,
+    Management,
+    Enumeration,
+}
+
+/// Who is at fault, and the standard that has the name.
+fn row_of(name: &FaultName) -> (FaultCode, Option<Standard>)
+    ensures { result ≡ row_of name.now }
+{
+    match name {
+        FaultName::DeliveryModeRequestedUnavailable
+        | FaultName::FilteringRequestedUnavailable
+        | FaultName::InvalidExpirationTime
+        | FaultName::InvalidMessage => (FaultCode::Sender, Some(Standard::Eventing)),
+        FaultName::UnableToRenew => (FaultCode::Receiver, Some(Standard::Eventing)),
+        FaultName::ActionNotSupported
+        | FaultName::DestinationUnreachable
+        | FaultName::MessageInformationHeaderRequired => {
+            (FaultCode::Sender, Some(Standard::Addressing))
         }
+        FaultName::InvalidBookmark | FaultName::EncodingLimit => {
+            (FaultCode::Sender, Some(Standard::Management))
+        }
+        FaultName::InternalError => (FaultCode::Receiver, Some(Standard::Management)),
+        FaultName::InvalidEnumerationContext => (FaultCode::Receiver, Some(Standard::Enumeration)),
+        FaultName::MustUnderstand => (FaultCode::MustUnderstand, Some(Standard::Soap)),
+        FaultName::Other(_) => (FaultCode::Receiver, None),
     }
 }
 
 fn code_of(name: &FaultName) -> FaultCode
     ensures { result ≡ code_of name.now }
 {
-    match name {
-        FaultName::UnableToRenew
-        | FaultName::InternalError
-        | FaultName::InvalidEnumerationContext
-        | FaultName::Other(_) => FaultCode::Receiver,
-        FaultName::MustUnderstand => FaultCode::MustUnderstand,
-        FaultName::DeliveryModeRequestedUnavailable
-        | FaultName::FilteringRequestedUnavailable
-        | FaultName::InvalidExpirationTime
-        | FaultName::InvalidMessage
-        | FaultName::ActionNotSupported
-        | FaultName::DestinationUnreachable
-        | FaultName::MessageInformationHeaderRequired
-        | FaultName::InvalidBookmark
-        | FaultName::EncodingLimit => FaultCode::Sender,
+    row_of(name).0
+}
+
+fn standard_of(name: &FaultName) -> Option<Standard>
+    ensures { result ≡ standard_of name.now }
+{
+    row_of(name).1
+}
+
+/// The prefix of a standard's names.
+#[tactic(auto, unfolding(crate::specs::Faults::prefix_by))]
+fn prefix_by(standard: Option<Standard>) -> &'static str
+    ensures { result.now ≡ prefix_by standard }
+{
+    match standard {
+        Some(Standard::Soap) => "s",
+        Some(Standard::Addressing) => "a",
+        Some(Standard::Eventing) => "e",
+        Some(Standard::Management) => "w",
+        Some(Standard::Enumeration) => "n",
+        None => "",
+    }
+}
+
+/// The action of a message that has a fault, by the standard of the fault's name.
+fn action_by(standard: Option<Standard>) -> &'static str
+    ensures { result.now ≡ action_by standard }
+{
+    match standard {
+        Some(Standard::Soap | Standard::Addressing) => ADDRESSING_FAULT,
+        Some(Standard::Eventing) => EVENTING_FAULT,
+        Some(Standard::Management) | None => MANAGEMENT_FAULT,
+        Some(Standard::Enumeration) => ENUMERATION_FAULT,
     }
 }
 
@@ -317,30 +355,10 @@ fn push_subcode(
 fn prefixed(alloc: Global, name: &FaultName) -> Result<Text, AllocError>
     ensures { IfOk result (λ text. text ≡ prefixed name.now) }
 {
-    let mut text = Text::from_str(alloc, prefix_of(name))?;
+    let mut text = Text::from_str(alloc, prefix_by(standard_of(name)))?;
     text.push_str(":")?;
     text.push_str(name.as_str())?;
     Ok(text)
-}
-
-#[tactic(auto, unfolding(crate::specs::Faults::prefix_of))]
-fn prefix_of(name: &FaultName) -> &'static str
-    ensures { result.now ≡ prefix_of name.now }
-{
-    match name {
-        FaultName::DeliveryModeRequestedUnavailable
-        | FaultName::FilteringRequestedUnavailable
-        | FaultName::InvalidExpirationTime
-        | FaultName::InvalidMessage
-        | FaultName::UnableToRenew => "e",
-        FaultName::ActionNotSupported
-        | FaultName::DestinationUnreachable
-        | FaultName::MessageInformationHeaderRequired => "a",
-        FaultName::InvalidBookmark | FaultName::EncodingLimit | FaultName::InternalError => "w",
-        FaultName::InvalidEnumerationContext => "n",
-        FaultName::MustUnderstand => "s",
-        FaultName::Other(_) => "",
-    }
 }
 
 fn reason_node(alloc: Global, name: &FaultName) -> Result<Element, AllocError>
