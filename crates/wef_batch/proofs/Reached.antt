@@ -1,13 +1,9 @@
 -- A well-formed batch reads each listed channel at least as far as its items go.
 use Rattle.std.proofs.Common.{◌≡◌, ℕ, ◌≤◌, ◌<◌, List, [], ◌∷◌, Bool, true, false, ◌&&◌, ◌||◌, refl, ap, sym, subst, ◌∙◌, Some, None, arith, nat_le, nat_lt}
 use Rattle.std.specs.Prelude.{Option, T}
-use Rattle.std.specs.declared.cmp.Ordering.{Ordering}
-use Rattle.std.specs.declared.cmp.Ordering.TheVariants.{Less, Equal, Greater}
-use Rattle.std.specs.Ordering.{nat_cmp, is_eq}
-use Rattle.std.specs.Cmp.Lexicographic.{slice_cmp, texts_ties}
+use Rattle.std.specs.Cmp.Lexicographic.{bytes_decides}
 use Rattle.std.specs.List.{list_all}
 use Rattle.std.specs.FinMap as map
-use Rattle.std.proofs.lemmas.Map.Lookups.{exact_bytes}
 use Rattle.std.proofs.lemmas.Bool.Decides.{nat_tests}
 use Rattle.wef_base.specs.Names.{same}
 use Rattle.wef_base.specs.declared.numbers.TheConstants.{MAX}
@@ -15,14 +11,9 @@ use Rattle.wef_batch.specs.declared.items.Item.{Item}
 use Rattle.wef_batch.specs.Reach.{span_in, later, last_after, last_in, reach_of, loose_sum}
 use Rattle.wef_batch.specs.WellFormed.{is_in, is_listed, follows, rises, is_at_least, is_in_order, ends_by, ItemsAreReached}
 
-equal : (r : Ordering) → is_eq r ≡ true → r ≡ Equal
-equal Less e = cc
-equal Equal e = refl
-equal Greater e = cc
-
 -- names that are the same byte for byte are one
 pub one_name : (a b : List ℕ) → same a b ≡ true → a ≡ b
-one_name a b e = exact_bytes a b (equal (slice_cmp nat_cmp a b) (sym (texts_ties a b) ∙ e))
+one_name a b e = (bytes_decides a b).0 e
 
 both_true : (a b : Bool) → a && b ≡ true → (a ≡ true) × (b ≡ true)
 both_true true b e = (refl, e)

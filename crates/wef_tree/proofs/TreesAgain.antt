@@ -27,6 +27,7 @@ use Rattle.wef_tree_reading.specs.declared.pieces.Piece.TheVariants.{Start, End}
 use Rattle.wef_tree_reading.specs.declared.stack.Open.{Open}
 use Rattle.wef_tree_reading.proofs.GoodPieces.{no_text}
 use Rattle.wef_tree_writing.specs.Levels.{bound_to}
+use Rattle.wef_tree_reading.proofs.GoodTrees.{text_length}
 use Rattle.wef_tree.proofs.GoodPrefixes.{bound_by_good, nine_are_good}
 use Rattle.wef_tree_reading.proofs.Inversions.{none_some, some_is, unless_some}
 use Rattle.wef_tree.proofs.OpensAgain.{opened_again}
@@ -84,18 +85,7 @@ flush_is text o os kids = by (length text == 0)
     by true = refl
     by false = refl
 
--- a text that goes into the innermost element changes neither how many are open nor what they declare
-length_with_text : (text : List ℕ) (os : List Open) → length (with_text text os) ≡ length os
-length_with_text text os = by (length text == 0)
-  where
-    child : (os : List Open) → length (with_child (Chars text) os) ≡ length os
-    child [] = refl
-    child (o ∷ os) = refl
-
-    by : (b : Bool) → length (cond b os (with_child (Chars text) os)) ≡ length os
-    by true = refl
-    by false = child os
-
+-- a text that goes into the innermost element doesn't change what the open ones declare
 declared_with_text : (text : List ℕ) (os : List Open) (prefix : List ℕ) → declared_outside (with_text text os) prefix ≡ declared_outside os prefix
 declared_with_text text os prefix = by (length text == 0)
   where
@@ -280,7 +270,7 @@ element_again begun around before first scope space name attributes body kids ta
     let x : Open = opens.element in
     let xs : List Open = with_text before around in
     let ending : List ℕ = end_of scope space name ++ tail in
-    let filled = fill x xs ending (opens.agrees xs (declared_with_text before around)) (length_with_text before around) (behind_first ending, refl) in
+    let filled = fill x xs ending (opens.agrees xs (declared_with_text before around)) (text_length before around) (behind_first ending, refl) in
     let P : Open → Type 0 = λ o. Goes b (start_of first scope space name attributes ++ (body ++ ending)) (inner (o ∷ xs) []) (body ++ ending) in
     let Q : Element → Type 0 = λ e. Goes (inner (with_kids x filled.more ∷ xs) filled.waits) ending (placed e (inner xs [])) tail in
     let begins : P x =

@@ -3,8 +3,8 @@ use Rattle.std.proofs.Common.{◌≡◌, ℕ, suc, Bool, true, false, ◌&&◌, 
 use Rattle.std.specs.Prelude.{Option, Some, None, is_some, not, codes}
 use Rattle.std.specs.List.{list_any}
 use Rattle.std.specs.Option.{option_or, option_and_then}
-use Rattle.std.specs.Ordering.{eq_by_cmp, is_eq, nat_cmp}
-use Rattle.std.specs.Cmp.Lexicographic.{slice_cmp, nat_list_cmp_total, texts_ties}
+use Rattle.std.specs.Ordering.{eq_by_cmp, nat_cmp}
+use Rattle.std.specs.Cmp.Lexicographic.{bytes_decides, slice_cmp, nat_list_cmp_total}
 use Rattle.std.specs.declared.cmp.Ordering.{Ordering}
 use Rattle.std.specs.declared.cmp.Ordering.TheVariants.{Less, Equal, Greater}
 use Rattle.std.specs.FinMap as map
@@ -69,13 +69,8 @@ pub or_right : (b c : Bool) → c ≡ true → (b || c) ≡ true
 or_right true c e = refl
 or_right false c e = e
 
-tie : (r : Ordering) → is_eq r ≡ true → r ≡ Equal
-tie Less e = cc
-tie Equal e = refl
-tie Greater e = cc
-
 pub one_name : (x y : List ℕ) → same x y ≡ true → x ≡ y
-one_name x y e = exact_bytes x y (tie (slice_cmp nat_cmp x y) (sym (texts_ties x y) ∙ e))
+one_name x y e = (bytes_decides x y).0 e
 
 xml_is_some : (is_empty xml_space) ≡ false
 unfolding xml_space

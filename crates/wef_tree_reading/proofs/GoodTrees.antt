@@ -107,7 +107,8 @@ text_good text os room good fresh is = by (is_empty text) refl
     by true e = good
     by false e = some os good fresh e
 
-text_length : (text : List ℕ) (os : List Open) → length (with_text text os) ≡ length os
+-- a text that goes into the innermost element doesn't change how many are open
+pub text_length : (text : List ℕ) (os : List Open) → length (with_text text os) ≡ length os
 text_length text os = by (is_empty text)
   where
     child : (os : List Open) → length (with_child (Chars text) os) ≡ length os

@@ -1,7 +1,8 @@
 use Rattle.std.proofs.Common.{subst, sym, ap, ◌∙◌, arith, refl, Some, None, IsSome}
 use Rattle.std.specs.FinMap as map
 use Rattle.wef_bookmark.specs.Order.{raised}
-use Rattle.wef_bookmark.proofs.Maps.{raised_given, given_at}
+use Rattle.wef_xml.proofs.Maps.{given_at}
+use Rattle.wef_bookmark.proofs.Maps.{raised_given}
 use Rattle.wef_bookmark.proofs.marking.raise_in.Goals as goal
 
 pub returns-in-Some-clause-ok : goal.returns-in-Some-clause-ok

@@ -1,6 +1,6 @@
 use Rattle.std.proofs.Common.{subst, sym, ap, ◌∙◌, IsSome, IsOk}
 use Rattle.std.specs.FinMap as map
-use Rattle.wef_bookmark.proofs.Maps.{get_given}
+use Rattle.wef_xml.proofs.Maps.{get_given}
 use Rattle.wef_bookmark.specs.Order.{raised, IsAtMost}
 use Rattle.wef_bookmark.specs.Entries.{AreEntries}
 use Rattle.wef_bookmark.proofs.Joining.{raised_keeps}
