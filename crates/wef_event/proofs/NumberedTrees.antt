@@ -25,7 +25,7 @@ use Rattle.wef_event.specs.declared.records.EventFault.{EventFault}
 use Rattle.wef_event.proofs.Children.{KeepsGood, changed_apart, changed_good, first_changed, first_more, first_other, named_otherwise, named_so}
 use Rattle.wef_elements.proofs.DecimalDigits.{number_text}
 use Rattle.wef_elements.proofs.DigitsRead.{decimal_parts}
-use Rattle.wef_event.proofs.DigitsRead.{digits_read}
+use Rattle.wef_event.proofs.Digits.{digits_read}
 use Rattle.wef_event.proofs.Made.{event_tree, is_read, made}
 
 abbrev system_name : List ℕ

@@ -1,22 +1,21 @@
 -- What the tree of a plain event says: its channel and its number.
-use Rattle.std.proofs.Common.{◌≡◌, ℕ, ◌≤◌, Bool, true, false, cond, List, [], ◌∷◌, length, nat_lt, refl, ap, sym, ◌∙◌, append-nil, arith}
+use Rattle.std.proofs.Common.{◌≡◌, ℕ, ◌≤◌, Bool, true, false, cond, List, [], ◌∷◌, length, nat_lt, refl, ap, ◌∙◌, arith}
 use Rattle.std.specs.Prelude.{Option, Some, None, Result, codes}
 use Rattle.std.specs.Fmt.{decimal}
-use Rattle.std.specs.List.{flat_map}
 use Rattle.std.specs.Option.{option_and_then, option_or}
 use Rattle.std.specs.declared.result.Result.TheVariants.{Ok, Err}
 use Rattle.std.proofs.lemmas.Bool.Decides.{nat_tests}
 use Rattle.wef_base.specs.Names.{channel_name, same, trimmed}
 use Rattle.wef_base.specs.declared.numbers.TheConstants.{MAX}
 use Rattle.wef_base.specs.declared.tree.Element.{Element}
-use Rattle.wef_base.specs.declared.tree.Node.{Node, Chars, Node-F}
+use Rattle.wef_base.specs.declared.tree.Node.{Node, Node-F}
 use Rattle.wef_base.specs.declared.tree.Node.TheVariants.{Element as Child, outs-Element}
-use Rattle.wef_xml.specs.Spaces.{is_empty}
 use Rattle.wef_event.specs.Events.{Event, event_limit, event_of, number_or, text_of_tree, unless_long, with_channel_found, with_number_found}
-use Rattle.wef_elements.specs.Texts.{only_text, text_in, text_inside}
+use Rattle.wef_elements.specs.Texts.{only_text, text_inside}
 use Rattle.wef_event.specs.Paths.{channel_in, first_child, if_named, named, number_in, number_of_digits, unless_zero}
 use Rattle.wef_event.specs.PlainEvent.{event_space, plain_event, plain_text, plain_tree}
 use Rattle.wef_event.specs.declared.records.EventFault.{EventFault}
+use Rattle.wef_elements.proofs.Again.{text_again}
 use Rattle.wef_elements.proofs.DecimalDigits.{decimal_trimmed}
 use Rattle.wef_event.proofs.Digits.{decimal_read}
 
@@ -58,18 +57,9 @@ system channel number id level = record { space = event_space; name = codes "Sys
 abbrev pub event_data : List ℕ → Element
 event_data word = record { space = event_space; name = codes "EventData"; attributes = []; children = Child (leaf (codes "Data") word) ∷ [] }
 
--- a text that is empty has nothing
-pub nothing : (text : List ℕ) → is_empty text ≡ true → text ≡ []
-nothing [] e = refl
-nothing (c ∷ cs) e = absurd (grind (arith, nat_tests, e))
-
 -- the text inside such an element is this text
 pub leaf_text : (name text : List ℕ) → text_inside (leaf name text) ≡ text
-leaf_text name text = by (is_empty text) refl
-  where
-    by : (b : Bool) → is_empty text ≡ b → flat_map text_in (cond b [] (Chars text ∷ [])) ≡ text
-    by true e = sym (nothing text e)
-    by false e = append-nil text
+leaf_text name text = text_again text
 
 -- the fields
 system_found : (channel : List ℕ) (number id level : ℕ) (word : List ℕ) → first_child (codes "System") (plain_tree channel number id level word).children ≡ Some (system channel number id level)

@@ -1,10 +1,11 @@
 -- The text of a plain event is the one text of its tree.
-use Rattle.std.proofs.Common.{◌≡◌, ℕ, Bool, true, false, cond, List, [], ◌∷◌, ◌++◌, codes, encode_utf8_all, refl, ap, sym, ◌∙◌, append_assoc, append-nil}
+use Rattle.std.proofs.Common.{◌≡◌, ℕ, Bool, true, false, cond, List, [], ◌∷◌, ◌++◌, codes, encode_utf8_all, refl, ap, sym, ◌∙◌, append_assoc, append-nil, arith}
 use Rattle.std.specs.Fmt.{decimal}
 use Rattle.std.specs.List.{flat_map}
 use Rattle.std.specs.Str.{chars}
 use Rattle.std.proofs.Math.Utf8.{encode}
 use Rattle.std.proofs.lemmas.Str.{encodes-append}
+use Rattle.std.proofs.lemmas.Bool.Decides.{nat_tests}
 use Rattle.wef_base.specs.declared.tree.Element.{Element}
 use Rattle.wef_base.specs.declared.tree.Node.{Node, Chars}
 use Rattle.wef_base.specs.declared.tree.Node.TheVariants.{Element as Child}
@@ -19,7 +20,7 @@ use Rattle.wef_event.specs.Events.{text_of_tree}
 use Rattle.wef_event.specs.PlainEvent.{event_space, plain_text, plain_tree}
 use Rattle.wef_elements.proofs.DecimalDigits.{decimal_digits}
 use Rattle.wef_event.proofs.Escaped.{escaped_digits, escaped_is}
-use Rattle.wef_event.proofs.PlainFields.{event_data, fields, from_channel, from_level, from_number, leaf, nothing}
+use Rattle.wef_event.proofs.PlainFields.{event_data, fields, from_channel, from_level, from_number, leaf}
 
 -- what is in force inside the root
 abbrev scope : Scope
@@ -60,6 +61,11 @@ child_bytes name start end body more children ns starts ends inner behind =
 none_escaped : escaped [] ≡ []
 unfolding chars
 none_escaped = refl
+
+-- a text that is empty has nothing
+nothing : (text : List ℕ) → is_empty text ≡ true → text ≡ []
+nothing [] e = refl
+nothing (c ∷ cs) e = absurd (grind (arith, nat_tests, e))
 
 -- a text, or none
 text_bytes : (text : List ℕ) → bytes_of (only_text text) ≡ escaped text
