@@ -14,7 +14,7 @@ use Rattle.wef_collector_rows.specs.declared.faults.CollectorFault.{CollectorFau
 use Rattle.wef_collector.specs.Calls.{Effect}
 use Rattle.wef_collector.specs.Requests.{IsAllowed, Stands, effect_of}
 use Rattle.wef_collector.specs.declared.requests.Request.{Request}
-use Rattle.wef_collector.specs.declared.requests.Request.TheVariants.{Add, End, Take}
+use Rattle.wef_collector.specs.declared.requests.Request.TheVariants.{Add, End, Take, TakeUnread}
 use Rattle.wef_collector.proofs.Live.{added_lives}
 
 -- of a call that is refused no row is said to be judged
@@ -40,3 +40,4 @@ pub stands_behind : (request : Request) (mid now : Option Rows) (changes : List 
 stands_behind (Add subscription) mid now changes follows made kept = added_lives mid now subscription.now changes follows made kept
 stands_behind (End sub) mid now changes follows made kept = any_stands now
 stands_behind (Take sub source batch moment) mid now changes follows made kept = any_stands now
+stands_behind (TakeUnread sub) mid now changes follows made kept = any_stands now

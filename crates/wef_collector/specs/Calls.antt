@@ -55,6 +55,15 @@ take_by (is.Live subscription) rows u s batch now =
 abbrev pub take_effect : Rows → List ℕ → List ℕ → Batch → ℕ → Effect
 take_effect rows u s batch now = take_by (standing rows u) rows u s batch now
 
+abbrev pub unread_by : state.Standing → Effect
+unread_by is.Unknown = Err NoSubscription
+unread_by (is.Ended subscription) = Err Ended
+unread_by (is.Live subscription) = Err NotWellFormed
+
+-- a batch that couldn't be read is refused as one that isn't well-formed
+abbrev pub unread_effect : Rows → List ℕ → Effect
+unread_effect rows u = unread_by (standing rows u)
+
 -- the boot number rises by one, below the greatest
 abbrev pub boot_effect : Rows → Effect
 boot_effect rows =

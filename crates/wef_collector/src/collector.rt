@@ -1,6 +1,6 @@
 //! The collector.
 
-ghost use Rattle.std.specs.Prelude.{◌≡◌, ◌≤◌, ◌++◌, true, take, Some, Ok, Err, IfOk, IfErr, IfSome, OnOk};
+ghost use Rattle.std.specs.Prelude.{◌≡◌, ◌≤◌, ◌++◌, true, take, Some, Ok, Err, IfOk, IfErr, IsErr, IfSome, OnOk};
 ghost use Rattle.wef_batch.specs.Numbers.{AreNumbered};
 ghost use Rattle.wef_ids.specs.IdTexts.{id_of_value};
 ghost use Rattle.wef_ids.specs.Ids.{next_id, with_drawn};
@@ -156,6 +156,17 @@ impl<K: Keeper> Collector<K> {
             now,
         };
         answer(&mut self.keeper, self.alloc, &request)
+    }
+
+    /// Takes a batch for a subscription that couldn't be read: it is refused as one that isn't
+    /// well-formed, and no commit is made.
+    pub fn take_unread(&mut self, sub: &SubId) -> Result<(), CollectorFault>
+        ensures refused { IsErr result }
+        ensures call { IsCall collector_store AreFormed (λ rows. calls.unread_effect rows sub.now) (λ _. tt) result (K.store self.old.keeper) (K.store self.new.keeper) }
+        ensures listed { IfErr result calls.OfTake }
+        ensures ids { self.new.ids ≡ self.old.ids }
+    {
+        answer(&mut self.keeper, self.alloc, &Request::TakeUnread(sub))
     }
 
     /// A live subscription.

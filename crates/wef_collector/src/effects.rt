@@ -1,6 +1,6 @@
 //! What the collector's calls change, or why they are refused.
 
-ghost use Rattle.std.specs.Prelude.{◌≡◌, ◌≤◌, true, false, [], ◌∷◌, take, is_some, Some, Ok, IfErr, IfOk, IfSome, OnOk};
+ghost use Rattle.std.specs.Prelude.{◌≡◌, ◌≤◌, true, false, [], ◌∷◌, take, is_some, Some, Ok, IsErr, IfErr, IfOk, IfSome, OnOk};
 ghost use Rattle.std.specs.FinMap as map;
 ghost use Rattle.wef_batch.specs.Numbers.{AreNumbered};
 ghost use Rattle.wef_eventing.specs.Kept.{read_kept};
@@ -168,6 +168,21 @@ pub fn take_changes<K: Keeper>(
 {
     let subscription = live_in(keeper, sub)?;
     live_changes(keeper, alloc, sub, source, &subscription, batch, now)
+}
+
+/// Refuses a batch that couldn't be read: of a live subscription, it isn't well-formed.
+pub fn unread_changes<K: Keeper>(
+    keeper: &mut K,
+    sub: &SubId,
+) -> Result<Changes<CollectorForm>, CollectorFault>
+    requires { access.IsReady (K.store keeper.old) }
+    ensures refused { IsErr result }
+    ensures effect { IfSome (K.store keeper.new).rows (λ rows. Tells collector_store result (calls.unread_effect rows sub.now)) }
+    ensures listed { IfErr result calls.OfTake }
+    ensures reads { access.Reads AreFormed (fails collector_store result) (K.store keeper.old) (K.store keeper.new) }
+{
+    live_in(keeper, sub)?;
+    Err(CollectorFault::NotWellFormed)
 }
 
 /// What a batch changes that is well-formed for the channels of a live subscription.

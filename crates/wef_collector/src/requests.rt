@@ -11,7 +11,7 @@ ghost use Rattle.wef_collector.specs.Boots.{ids_begun};
 ghost use Rattle.wef_collector.specs.Calls as calls;
 ghost use Rattle.wef_collector.specs.Requests as spec;
 
-use crate::effects::{add_changes, boot_changes, end_changes, take_changes};
+use crate::effects::{add_changes, boot_changes, end_changes, take_changes, unread_changes};
 use std::alloc::Global;
 use wef_base::moments::Moment;
 use wef_base::{SourceName, SubId};
@@ -37,6 +37,8 @@ pub enum Request<'a> {
         batch: &'a Batch,
         now: Moment,
     },
+    /// A batch for a subscription came that couldn't be read.
+    TakeUnread(&'a SubId),
 }
 
 /// Does what is asked, in one commit.
@@ -49,6 +51,7 @@ pub fn answer<K: Keeper>(
     ensures call { IsCall collector_store AreFormed (spec.effect_of request.now) (λ _. tt) result (K.store keeper.old) (K.store keeper.new) }
     ensures judged { access.From (K.store keeper.old) (K.store keeper.new) (λ found after. OnOk result (spec.IsJudged request.now found)) }
     ensures stands { IfSome (K.store keeper.new).rows (λ rows. OnOk result (spec.Stands request.now rows)) }
+    ensures done { OnOk result (spec.MayBeDone request.now) }
     ensures listed { IfErr result (spec.IsRefusal request.now) }
 {
     open(keeper)?;
@@ -67,6 +70,7 @@ fn changes_of<K: Keeper>(
     requires ready { access.IsReady (K.store keeper.old) }
     ensures effect { IfSome (K.store keeper.new).rows (λ rows. Tells collector_store result (spec.effect_of request.now rows)) }
     ensures judged { IfSome (K.store keeper.new).rows (λ rows. OnOk result (spec.IsJudged request.now rows)) }
+    ensures done { OnOk result (spec.MayBeDone request.now) }
     ensures listed { IfErr result (spec.IsRefusal request.now) }
     ensures reads { access.Reads AreFormed (fails collector_store result) (K.store keeper.old) (K.store keeper.new) }
 {
@@ -79,6 +83,7 @@ fn changes_of<K: Keeper>(
             batch,
             now,
         } => take_changes(keeper, alloc, sub, source, batch, *now),
+        Request::TakeUnread(sub) => unread_changes(keeper, sub),
     }
 }
 

@@ -1,0 +1,130 @@
+-- Where the collector says that its store failed, it did.
+use Rattle.std.proofs.Common.{◌≡◌, ℕ, Bool, true, false, cond, List, refl, sym, ◌∙◌, subst}
+use Rattle.std.specs.Prelude.{Option, Some, None, Result, Ok, Err, IfErr}
+use Rattle.wef_base.specs.declared.tree.Charset.{Charset}
+use Rattle.wef_base.specs.declared.tree.Element.{Element}
+use Rattle.wef_batch.specs.declared.items.Batch.{Batch}
+use Rattle.wef_batch.specs.declared.reading.BatchFault.{BatchFault}
+use Rattle.wef_envelope.specs.Envelopes.{said}
+use Rattle.wef_envelope.specs.declared.envelopes.Envelope.{Envelope}
+use Rattle.wef_envelope.specs.declared.envelopes.EnvelopeFault.{EnvelopeFault}
+use Rattle.wef_envelope.specs.declared.envelopes.EnvelopeFault.TheVariants as envelope
+use Rattle.wef_ids.specs.declared.FaultName.{FaultName}
+use Rattle.wef_ids.specs.declared.FaultName.TheVariants as the
+use Rattle.wef_ids.specs.declared.ids.Ids.{Ids}
+use Rattle.wef_base.specs.Names.{same, source_name, subscription_name}
+use Rattle.wef_envelope.specs.declared.actions.TheConstants.{EVENTS}
+use Rattle.wef_xml.specs.declared.faults.TreeFault.{TreeFault}
+use Rattle.wef_xml.specs.declared.faults.TreeFault.TheVariants as tree
+use Rattle.wef_keeper.specs.Access.{HasCause}
+use Rattle.wef_keeper.specs.Keeping.{Store}
+use Rattle.wef_keeper.specs.Rows.{Rows}
+use Rattle.wef_collector_rows.specs.Forms.{AreFormed}
+use Rattle.wef_collector_rows.specs.declared.faults.CollectorFault.{CollectorFault}
+use Rattle.wef_collector_rows.specs.declared.faults.CollectorFault.TheVariants.{NoMemory, NoSubscription, Exists, Ended, NotWellFormed, TooMany, Failed, Full}
+use Rattle.wef_collector.specs.Calls.{Effect}
+use Rattle.wef_front.specs.Heard.{Hears, HearsRead, asked_at, asked_by, asked_of, batch_in, events_asked, heard_in, is_nameless}
+use Rattle.wef_front.specs.Replies.{IsAnswer}
+use Rattle.wef_front.specs.Steps.{IsAnswered, Says, Steps, effect_in}
+use Rattle.wef_front.specs.declared.hearing.Asked.{Asked}
+use Rattle.wef_front.specs.declared.hearing.Asked.TheVariants.{Refused, Unread, Take}
+use Rattle.wef_front.specs.declared.answering.Answer.{Answer}
+use Rattle.wef_front.specs.declared.hearing.Heard.{Heard}
+use Rattle.wef_front.specs.declared.saying.Said.{Said}
+use Rattle.wef_front.specs.declared.targets.Target.{Target}
+use Rattle.wef_front.specs.declared.targets.Target.TheVariants.{Manager, Delivery, Root}
+use Rattle.wef_front.specs.declared.saying.Said.TheVariants.{Ack, Quiet, Fault}
+
+abbrev is_internal : FaultName → Bool
+is_internal the.InternalError = true
+is_internal _ = false
+
+-- ---- no message is refused so by itself
+
+abbrev IsOther : Asked → Type 0
+IsOther (Refused name) = is_internal name ≡ false
+IsOther (Unread u) = Unit {0}
+IsOther (Take u s batch) = Unit {0}
+
+events_other : (sub source : Option (List ℕ)) (batch : Result Batch BatchFault) → IsOther (events_asked sub source batch)
+events_other None source batch = refl
+events_other (Some u) None batch = tt
+events_other (Some u) (Some s) (Err fault) = tt
+events_other (Some u) (Some s) (Ok batch) = tt
+
+at_other : (target : Target) (e : Envelope) → IsOther (asked_at target e)
+at_other Manager e = refl
+at_other Root e = refl
+at_other (Delivery sub source) e = by (same e.action EVENTS.now)
+  where
+    by : (batch : Bool) → IsOther (cond batch (events_asked (subscription_name sub) (source_name source) (batch_in e)) (Refused the.ActionNotSupported))
+    by true = events_other (subscription_name sub) (source_name source) (batch_in e)
+    by false = refl
+
+by_other : (target : Target) (e : Envelope) → IsOther (asked_by target e)
+by_other target e = by (is_nameless e)
+  where
+    by : (nameless : Bool) → IsOther (cond nameless (Refused the.MessageInformationHeaderRequired) (asked_at target e))
+    by true = refl
+    by false = at_other target e
+
+of_other : (target : Target) (given : Result Envelope EnvelopeFault) → IsOther (asked_of target given)
+of_other target (Ok e) = by_other target e
+of_other target (Err envelope.NoMemory) = refl
+of_other target (Err envelope.NotSoap) = refl
+of_other target (Err (envelope.MustUnderstand name)) = refl
+of_other target (Err (envelope.HeaderRequired name)) = refl
+of_other target (Err (envelope.RepeatedHeader name)) = refl
+
+read_other : (target : Target) (read : Result Element TreeFault) (heard : Heard) → HearsRead target read heard → IsOther heard.asked
+read_other target (Ok root) heard is = let P : Heard → Type 0 = λ h. IsOther h.asked in subst P (sym is) (of_other target (said root))
+read_other target (Err tree.NoMemory) heard is = absurd is
+read_other target (Err (tree.BadCharset at)) heard is = let P : Heard → Type 0 = λ h. IsOther h.asked in subst P (sym is) refl
+read_other target (Err (tree.TooDeep at)) heard is = let P : Heard → Type 0 = λ h. IsOther h.asked in subst P (sym is) refl
+read_other target (Err (tree.BadXml at)) heard is = let P : Heard → Type 0 = λ h. IsOther h.asked in subst P (sym is) refl
+read_other target (Err (tree.Refused at)) heard is = let P : Heard → Type 0 = λ h. IsOther h.asked in subst P (sym is) refl
+
+-- ---- and each call that is answered so failed
+
+no_ack : (ack : Bool) → cond ack Ack Quiet ≡ Fault the.InternalError → ⊥
+no_ack true is = cc
+no_ack false is = cc
+
+says_cause : (ack : Bool) (effect : Rows → Effect) (said : Said) (before now : Store) → Says ack effect said before now → said ≡ Fault the.InternalError → HasCause AreFormed true before now
+says_cause ack effect said before now (Ok done, call, answered, is) internal = absurd (no_ack ack (sym is ∙ internal))
+says_cause ack effect said before now (Err NoSubscription, call, answered, is) internal = let bad : ⊥ = cc in absurd bad
+says_cause ack effect said before now (Err Ended, call, answered, is) internal = let bad : ⊥ = cc in absurd bad
+says_cause ack effect said before now (Err NotWellFormed, call, answered, is) internal = let bad : ⊥ = cc in absurd bad
+says_cause ack effect said before now (Err Failed, call, answered, is) internal = call.cause
+says_cause ack effect said before now (Err NoMemory, call, answered, is) internal = absurd answered
+says_cause ack effect said before now (Err Exists, call, answered, is) internal = absurd answered
+says_cause ack effect said before now (Err TooMany, call, answered, is) internal = absurd answered
+says_cause ack effect said before now (Err Full, call, answered, is) internal = absurd answered
+
+name_internal : (name : FaultName) → is_internal name ≡ false → Fault name ≡ Fault the.InternalError → ⊥
+name_internal the.InternalError other is = cc
+name_internal the.DeliveryModeRequestedUnavailable other is = cc
+name_internal the.FilteringRequestedUnavailable other is = cc
+name_internal the.InvalidExpirationTime other is = cc
+name_internal the.InvalidMessage other is = cc
+name_internal the.UnableToRenew other is = cc
+name_internal the.ActionNotSupported other is = cc
+name_internal the.DestinationUnreachable other is = cc
+name_internal the.MessageInformationHeaderRequired other is = cc
+name_internal the.InvalidBookmark other is = cc
+name_internal the.EncodingLimit other is = cc
+name_internal the.InvalidEnumerationContext other is = cc
+name_internal the.MustUnderstand other is = cc
+name_internal (the.Other text) other is = cc
+
+steps_cause : (asked : Asked) (moment : ℕ) (said : Said) (before now : Store) → IsOther asked → Steps asked moment said before now → said ≡ Fault the.InternalError → HasCause AreFormed true before now
+steps_cause (Refused name) moment said before now other stepped internal = absurd (name_internal name other (sym stepped.0 ∙ internal))
+steps_cause (Unread u) moment said before now other stepped internal = says_cause false (effect_in (Unread u) moment) said before now stepped internal
+steps_cause (Take u s batch) moment said before now other stepped internal = says_cause batch.ack_wanted (effect_in (Take u s batch) moment) said before now stepped internal
+
+pub internal_errors_have_a_cause :
+    (target : Target) (charset charset_of_answer : Charset) (bytes : List ℕ) (heard : Heard) (moment : ℕ) (answer : Answer) (ids ids_now : Ids) (before now : Store) →
+    Hears target charset bytes heard → (is : IsAnswer heard charset_of_answer moment answer ids ids_now before now) → is.said ≡ Fault the.InternalError →
+    HasCause AreFormed true before now
+internal_errors_have_a_cause target charset charset_of_answer bytes heard moment answer ids ids_now before now hears is internal =
+    steps_cause heard.asked moment is.said before now (read_other target hears.0 heard hears.2) is.stepped internal

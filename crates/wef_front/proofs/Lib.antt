@@ -1,0 +1,7 @@
+pub mod ByRows
+pub mod Causes
+pub mod IdTexts
+pub mod Numbered
+pub mod ReadIsGood
+pub mod RepliesAreGood
+pub mod SaidOfCalls

@@ -1,0 +1,4 @@
+use Rattle.wef_front.proofs.saying.say.Goals as goal
+
+pub returns-in-Take-clause-said : goal.returns-in-Take-clause-said
+returns-in-Take-clause-said g c = rw c.in-Take.is c.take.ensures.said

@@ -1,0 +1,111 @@
+-- What a message asks of the collector, by where it came to and by its tree; or why it is refused, where nothing that is kept
+-- decides that.
+use Rattle.std.specs.Prelude.{◌≡◌, ℕ, Bool, true, ◌&&◌, not, is_some, IfSome, List, Option, Some, None, Result, if◌then◌else◌}
+use Rattle.std.specs.declared.result.Result.TheVariants.{Ok, Err}
+use Rattle.wef_base.specs.Names.{same, source_name, subscription_name}
+use Rattle.wef_base.specs.declared.tree.Charset.{Charset}
+use Rattle.wef_base.specs.declared.tree.Element.{Element}
+use Rattle.wef_batch.specs.Numbers.{AreNumbered}
+use Rattle.wef_batch.specs.Reading.{batch_of}
+use Rattle.wef_batch.specs.declared.items.Batch.{Batch}
+use Rattle.wef_batch.specs.declared.reading.BatchFault.{BatchFault}
+use Rattle.wef_envelope.specs.Envelopes.{id_in, said}
+use Rattle.wef_envelope.specs.Faults.{is_known}
+use Rattle.wef_envelope.specs.declared.actions.TheConstants.{ENUMERATE, EVENTS}
+use Rattle.wef_envelope.specs.declared.envelopes.Envelope.{Envelope}
+use Rattle.wef_envelope.specs.declared.envelopes.EnvelopeFault.{EnvelopeFault}
+use Rattle.wef_envelope.specs.declared.envelopes.EnvelopeFault.TheVariants as envelope
+use Rattle.wef_ids.specs.declared.FaultName.{FaultName}
+use Rattle.wef_ids.specs.declared.FaultName.TheVariants as the
+use Rattle.wef_ids.specs.declared.MessageId.{MessageId}
+use Rattle.wef_tree_reading.specs.Spelling.{ReadsTree}
+use Rattle.wef_xml.specs.Good.{IsXmlText}
+use Rattle.wef_xml.specs.declared.faults.TreeFault.{TreeFault}
+use Rattle.wef_xml.specs.declared.faults.TreeFault.TheVariants as tree
+use Rattle.wef_front.specs.declared.hearing.Asked.{Asked}
+use Rattle.wef_front.specs.declared.hearing.Asked.TheVariants.{Refused, Unread, Take}
+use Rattle.wef_front.specs.declared.hearing.Heard.{Heard}
+use Rattle.wef_front.specs.declared.targets.Target.{Target}
+use Rattle.wef_front.specs.declared.targets.Target.TheVariants.{Manager, Delivery, Root}
+
+-- ---- batches
+
+-- A batch for a subscription: one that isn't good, or comes from no source's name, is refused by the subscription that
+-- it is for. No subscription has a name that isn't one.
+abbrev pub events_asked : Option (List ℕ) → Option (List ℕ) → Result Batch BatchFault → Asked
+events_asked None source batch = Refused the.DestinationUnreachable
+events_asked (Some u) None batch = Unread u
+events_asked (Some u) (Some s) (Err fault) = Unread u
+events_asked (Some u) (Some s) (Ok batch) = Take u s batch
+
+-- the batch that an envelope says
+abbrev pub batch_in : Envelope → Result Batch BatchFault
+batch_in e = batch_of e.bookmark e.ack_wanted e.body
+
+-- ---- actions
+
+-- whether an envelope asks for the subscriptions of a source, and doesn't name it
+abbrev pub is_nameless : Envelope → Bool
+is_nameless e = same e.action ENUMERATE.now && not (is_some e.machine)
+
+-- what an envelope asks where a source delivers, by its action
+abbrev pub delivery_asked : List ℕ → List ℕ → Envelope → Asked
+delivery_asked sub source e =
+    if same e.action EVENTS.now then events_asked (subscription_name sub) (source_name source) (batch_in e) else Refused the.ActionNotSupported
+
+-- what it asks at a target; no action is one of the others yet
+abbrev pub asked_at : Target → Envelope → Asked
+asked_at Manager e = Refused the.ActionNotSupported
+asked_at (Delivery sub source) e = delivery_asked sub source e
+asked_at Root e = Refused the.ActionNotSupported
+
+abbrev pub asked_by : Target → Envelope → Asked
+asked_by target e = if is_nameless e then Refused the.MessageInformationHeaderRequired else asked_at target e
+
+-- ---- trees and documents
+
+-- what is answered where a tree says no envelope; want of memory isn't among what a tree says
+abbrev pub envelope_refused : EnvelopeFault → FaultName
+envelope_refused envelope.NoMemory = the.InvalidMessage
+envelope_refused envelope.NotSoap = the.InvalidMessage
+envelope_refused (envelope.MustUnderstand name) = the.MustUnderstand
+envelope_refused (envelope.HeaderRequired name) = the.MessageInformationHeaderRequired
+envelope_refused (envelope.RepeatedHeader name) = the.InvalidMessage
+
+abbrev pub asked_of : Target → Result Envelope EnvelopeFault → Asked
+asked_of target (Ok e) = asked_by target e
+asked_of target (Err fault) = Refused (envelope_refused fault)
+
+-- what a tree asks, and the id that the answer relates to
+abbrev pub heard_in : Target → Element → Heard
+heard_in target root = record { relates = id_in root; asked = asked_of target (said root) }
+
+-- what is heard of a document that is no tree
+abbrev pub unheard : FaultName → Heard
+unheard name = record { relates = None; asked = Refused name }
+
+-- What is heard of a document, by what reading it gave.
+abbrev pub HearsRead : Target → Result Element TreeFault → Heard → Type 0
+HearsRead target (Ok root) heard = heard ≡ heard_in target root
+HearsRead target (Err tree.NoMemory) heard = ⊥
+HearsRead target (Err (tree.BadCharset at)) heard = heard ≡ unheard the.EncodingLimit
+HearsRead target (Err (tree.TooDeep at)) heard = heard ≡ unheard the.EncodingLimit
+HearsRead target (Err (tree.BadXml at)) heard = heard ≡ unheard the.InvalidMessage
+HearsRead target (Err (tree.Refused at)) heard = heard ≡ unheard the.InvalidMessage
+
+-- What is heard of bytes in a charset, as the one tree that they spell, or as the fault of the first piece that isn't good.
+abbrev pub Hears : Target → Charset → List ℕ → Heard → Type 0
+Hears target charset bytes heard = (read : Result Element TreeFault) × ReadsTree charset bytes read × HearsRead target read heard
+
+-- ---- what is known of what was heard
+
+-- a fault that is answered has a name of the table, and a batch has numbers of records
+abbrev pub IsSoundAsk : Asked → Type 0
+IsSoundAsk (Refused name) = is_known name ≡ true
+IsSoundAsk (Unread u) = Unit {0}
+IsSoundAsk (Take u s batch) = AreNumbered batch.items
+
+-- and the id that the answer relates to can be written
+pub record IsSound (heard : Heard) : Type 0 where
+  pub asked : IsSoundAsk heard.asked
+  pub relates : IfSome heard.relates (λ (id : MessageId). IsXmlText id.text)

@@ -1,0 +1,91 @@
+-- The collector's answers are the replies that the rows which it finds give, unless its store fails; and it says so only where
+-- it fails.
+use Rattle.std.specs.Prelude.{◌≡◌, ℕ, Bool, true, ◌⊎◌, List, [], Some, Ok, Err, IfSome, if◌then◌else◌}
+use Rattle.wef_base.specs.declared.tree.Charset.{Charset}
+use Rattle.wef_ids.specs.declared.FaultName.TheVariants.{InternalError}
+use Rattle.wef_ids.specs.declared.ids.Ids.{Ids}
+use Rattle.wef_keeper.specs.Access.{From, HasCause, is_planned, tries_with}
+use Rattle.wef_keeper.specs.Calls.{OnFaultImages}
+use Rattle.wef_keeper.specs.Keeping.{Store}
+use Rattle.wef_keeper.specs.Rows.{Rows}
+use Rattle.wef_keeper.specs.declared.access.StoreFault.TheVariants.{Failed}
+use Rattle.wef_keeper.specs.declared.keeping.Plan.{Plan}
+use Rattle.wef_collector_rows.specs.Forms.{AreFormed}
+use Rattle.wef_collector.specs.Calls.{Effect}
+use Rattle.wef_front.specs.Heard.{Hears}
+use Rattle.wef_front.specs.Replies.{IsAnswer, answer_of, ids_behind, reply}
+use Rattle.wef_front.specs.Steps.{effect_in, said_by}
+use Rattle.wef_front.specs.declared.answering.Answer.{Answer}
+use Rattle.wef_front.specs.declared.hearing.Asked.{Asked}
+use Rattle.wef_front.specs.declared.hearing.Asked.TheVariants.{Refused, Unread, Take}
+use Rattle.wef_front.specs.declared.hearing.Heard.{Heard}
+use Rattle.wef_front.specs.declared.saying.Said.{Said}
+use Rattle.wef_front.specs.declared.saying.Said.TheVariants.{Fault}
+use Rattle.wef_front.specs.declared.targets.Target.{Target}
+
+-- ---- by rows
+
+-- the count of commits after a call that does this: one that changes nothing begins none
+abbrev pub tries_by : Effect → ℕ → ℕ
+tries_by (Ok changes) tries = tries_with changes tries
+tries_by (Err fault) tries = tries
+
+-- an answer is the reply to what was heard, and at most one commit began
+pub record IsReply (heard : Heard) (charset : Charset) (moment : ℕ) (answer : Answer) (ids ids_now : Ids) (before now : Store) (found after : Rows) : Type 0 where
+  pub reply : record { answer = answer; rows = after; ids = ids_now } ≡ reply heard charset moment ids found
+  pub tries : now.tries ≡ tries_by (effect_in heard.asked moment found) before.tries
+
+-- An answer says that the store failed: the count of its faults rose, or rows aren't told or not of their form. An opening
+-- finds rows that one could find before, with what the message changes or without.
+pub record HasFailed (heard : Heard) (charset : Charset) (moment : ℕ) (answer : Answer) (ids ids_now : Ids) (before now : Store) : Type 0 where
+  pub written : answer ≡ answer_of ids charset heard.relates (Fault InternalError)
+  pub drawn : ids_now ≡ ids_behind ids (Fault InternalError)
+  pub cause : HasCause AreFormed true before now
+  pub images : OnFaultImages (Some Failed) (effect_in heard.asked moment) before now
+
+-- where nothing that is kept decides the answer, the store isn't asked
+abbrev pub IsAside : Heard → Charset → Answer → Ids → Ids → Store → Store → Said → Type 0
+IsAside heard charset answer ids ids_now before now said =
+    (answer ≡ answer_of ids charset heard.relates said) × (ids_now ≡ ids_behind ids said) × (now ≡ before)
+
+-- by what was heard
+abbrev pub GoesByRows : Asked → Heard → Charset → ℕ → Answer → Ids → Ids → Store → Store → Type 0
+GoesByRows (Refused name) heard charset moment answer ids ids_now before now = IsAside heard charset answer ids ids_now before now (Fault name)
+GoesByRows _ heard charset moment answer ids ids_now before now =
+    From before now (λ found after.
+    IsReply heard charset moment answer ids ids_now before now found after ⊎ HasFailed heard charset moment answer ids ids_now before now)
+
+abbrev pub AnswersAreReplies : Type 0
+AnswersAreReplies =
+    (heard : Heard) (charset : Charset) (moment : ℕ) (answer : Answer) (ids ids_now : Ids) (before now : Store) →
+    IsAnswer heard charset moment answer ids ids_now before now →
+    GoesByRows heard.asked heard charset moment answer ids ids_now before now
+
+-- ---- by plan
+
+-- what is said where a commit goes as it is planned
+abbrev pub said_planned : Plan → Asked → Effect → Said
+said_planned planned asked (Ok changes) = if is_planned changes planned then said_by asked (Ok changes) else Fault InternalError
+said_planned planned asked (Err fault) = said_by asked (Err fault)
+
+-- over rows of their form, and a store that tells its plan, the answer goes by it alone
+abbrev pub GoesByPlan : Asked → Heard → Charset → ℕ → Answer → Ids → Store → Store → Type 0
+GoesByPlan (Refused name) heard charset moment answer ids before now = Unit {0}
+GoesByPlan asked heard charset moment answer ids before now =
+    From before now (λ found after. IfSome before.plan (λ planned.
+    AreFormed found → answer ≡ answer_of ids charset heard.relates (said_planned planned asked (effect_in asked moment found))))
+
+abbrev pub AnswersGoByPlan : Type 0
+AnswersGoByPlan =
+    (heard : Heard) (charset : Charset) (moment : ℕ) (answer : Answer) (ids ids_now : Ids) (before now : Store) →
+    IsAnswer heard charset moment answer ids ids_now before now →
+    GoesByPlan heard.asked heard charset moment answer ids before now
+
+-- ---- the cause of InternalError
+
+-- The collector says so only where the count of its store's faults rose, or its rows aren't told or not of their form.
+abbrev pub InternalErrorsHaveACause : Type 0
+InternalErrorsHaveACause =
+    (target : Target) (charset charset_of_answer : Charset) (bytes : List ℕ) (heard : Heard) (moment : ℕ) (answer : Answer) (ids ids_now : Ids) (before now : Store) →
+    Hears target charset bytes heard → (is : IsAnswer heard charset_of_answer moment answer ids ids_now before now) → is.said ≡ Fault InternalError →
+    HasCause AreFormed true before now

@@ -1,0 +1,4 @@
+pub mod Heard
+pub mod Laws
+pub mod Replies
+pub mod Steps

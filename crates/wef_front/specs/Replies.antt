@@ -1,0 +1,99 @@
+-- The replies of the collector, as they are written.
+use Rattle.std.specs.Prelude.{◌≡◌, ℕ, false, ◌⊎◌, List, [], ◌∷◌, Option, Some, None, Ok, Err}
+use Rattle.wef_base.specs.declared.tree.Charset.{Charset}
+use Rattle.wef_base.specs.declared.tree.Element.{Element}
+use Rattle.wef_envelope.specs.Faults.{action_of, fault_of, fault_tree}
+use Rattle.wef_envelope.specs.Written.{written}
+use Rattle.wef_envelope.specs.declared.actions.TheConstants.{ACK, ANONYMOUS}
+use Rattle.wef_envelope.specs.declared.envelopes.Envelope.{Envelope}
+use Rattle.wef_ids.specs.IdTexts.{id_of_value}
+use Rattle.wef_ids.specs.Ids.{next_id, with_drawn}
+use Rattle.wef_ids.specs.declared.FaultName.{FaultName}
+use Rattle.wef_ids.specs.declared.MessageId.{MessageId}
+use Rattle.wef_ids.specs.declared.ids.Ids.{Ids}
+use Rattle.wef_keeper.specs.Keeping.{Store}
+use Rattle.wef_keeper.specs.Rows.{Rows, applied}
+use Rattle.wef_collector.specs.Calls.{Effect}
+use Rattle.wef_xml.specs.Canonical.{canonical, encoded}
+use Rattle.wef_front.specs.Steps.{HasStepped, Steps, effect_in, said_by}
+use Rattle.wef_front.specs.declared.answering.Answer.{Answer}
+use Rattle.wef_front.specs.declared.hearing.Heard.{Heard}
+use Rattle.wef_front.specs.declared.saying.Said.{Said}
+use Rattle.wef_front.specs.declared.saying.Said.TheVariants.{Ack, Quiet, Fault}
+
+-- an envelope that answers another: it goes to whoever asked
+abbrev pub envelope_with : List ℕ → List Element → MessageId → Option MessageId → Envelope
+envelope_with action body id relates = record {
+  to = Some ANONYMOUS.now;
+  resource = None;
+  reply_to = None;
+  action = action;
+  id = id;
+  relates = relates;
+  machine = None;
+  max_size = None;
+  identifier = None;
+  bookmark = None;
+  ack_wanted = false;
+  body = body;
+}
+
+abbrev pub ack_envelope : MessageId → Option MessageId → Envelope
+ack_envelope id relates = envelope_with ACK.now [] id relates
+
+abbrev pub fault_envelope : FaultName → MessageId → Option MessageId → Envelope
+fault_envelope name id relates = envelope_with (action_of name) (fault_tree (fault_of name) ∷ []) id relates
+
+-- an answer that has an envelope
+abbrev pub answer_with : ℕ → Charset → Envelope → Answer
+answer_with status charset e = record { status = status; body = encoded charset (canonical (written e)) }
+
+-- the answer in which something is said, under an id
+abbrev pub answer_under : MessageId → Charset → Option MessageId → Said → Answer
+answer_under id charset relates Quiet = record { status = 204; body = [] }
+answer_under id charset relates Ack = answer_with 200 charset (ack_envelope id relates)
+answer_under id charset relates (Fault name) = answer_with 500 charset (fault_envelope name id relates)
+
+-- the same under the next id of an end
+abbrev pub answer_of : Ids → Charset → Option MessageId → Said → Answer
+answer_of ids charset relates said = answer_under (id_of_value (next_id ids)) charset relates said
+
+-- the ids behind it: what has no envelope has no id
+abbrev pub ids_behind : Ids → Said → Ids
+ids_behind ids Quiet = ids
+ids_behind ids Ack = with_drawn 1 ids
+ids_behind ids (Fault name) = with_drawn 1 ids
+
+-- What the collector answers, the rows that it leaves, and its ids then.
+pub record Reply : Type 0 where
+  pub answer : Answer
+  pub rows : Rows
+  pub ids : Ids
+
+-- the rows with what a call changes, where it isn't refused
+abbrev pub rows_by : Effect → Rows → Rows
+rows_by (Ok changes) rows = applied changes rows
+rows_by (Err fault) rows = rows
+
+-- The reply to what was heard at a moment, by the rows that the collector finds, where its store doesn't fail.
+abbrev pub reply : Heard → Charset → ℕ → Ids → Rows → Reply
+reply heard charset moment ids rows = record {
+  answer = answer_of ids charset heard.relates (said_by heard.asked (effect_in heard.asked moment rows));
+  rows = rows_by (effect_in heard.asked moment rows) rows;
+  ids = ids_behind ids (said_by heard.asked (effect_in heard.asked moment rows));
+}
+
+-- where there was no memory for the answer, an id may be drawn
+abbrev pub MayHaveDrawn : Ids → Ids → Type 0
+MayHaveDrawn before now = (now ≡ before) ⊎ (now ≡ with_drawn 1 before)
+
+-- An answer to what was heard at a moment: what the collector did with it, what it said, and how that is written.
+pub record IsAnswer (heard : Heard) (charset : Charset) (moment : ℕ) (answer : Answer) (ids ids_now : Ids) (before now : Store) : Type 0 where
+  pub said : Said
+  pub stepped : Steps heard.asked moment said before now
+  pub written : answer ≡ answer_of ids charset heard.relates said
+  pub drawn : ids_now ≡ ids_behind ids said
+
+-- Where there was no memory for the answer: nothing was done, or the step of a message, and an id may be drawn.
+abbrev pub IsUnanswered : Heard → ℕ → Ids → Ids → Store → Store → Type 0
+IsUnanswered heard moment ids ids_now before now = HasStepped heard.asked moment before now × MayHaveDrawn ids ids_now

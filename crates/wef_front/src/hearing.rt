@@ -1,0 +1,191 @@
+//! What a message asks of the collector.
+
+ghost use Rattle.std.specs.Prelude.{◌≡◌, IfOk};
+ghost use Rattle.wef_base.specs.Names.{source_name, subscription_name};
+ghost use Rattle.wef_batch.specs.Numbers.{AreNumbered};
+ghost use Rattle.wef_batch.specs.Reading.{AreGoodTrees, Reads};
+ghost use Rattle.wef_envelope.specs.Envelopes.{said};
+ghost use Rattle.wef_xml.specs.Good.{IsGoodTree};
+ghost use Rattle.wef_front.specs.Heard.{Hears, IsSound, IsSoundAsk, asked_by, asked_of, batch_in, delivery_asked, events_asked, heard_in, is_nameless, unheard};
+
+use crate::targets::Target;
+use std::alloc::{AllocError, Global};
+use wef_base::{Charset, Element, SourceName, SubId, Text, ValueFault};
+use wef_batch::{Batch, BatchFault, read_batch};
+use wef_envelope::actions::{ENUMERATE, EVENTS};
+use wef_envelope::{Envelope, EnvelopeFault, FaultName, MessageId, from_node, id_in};
+use wef_tree_reading::read_tree;
+use wef_xml::TreeFault;
+
+/// What a message asks.
+#[derive(Debug, Drop)]
+pub enum Asked {
+    /// Nothing that is kept decides how it is answered.
+    Refused(FaultName),
+    /// A batch for a subscription that can't be read.
+    Unread(SubId),
+    /// A batch of a source for a subscription.
+    Take {
+        sub: SubId,
+        source: SourceName,
+        batch: Batch,
+    },
+}
+
+/// What a message asks, and the id that the answer relates to.
+#[derive(Debug, Drop)]
+pub struct Heard {
+    pub relates: Option<MessageId>,
+    pub asked: Asked,
+}
+
+/// Reads what a message asks at a target. A document that is no tree says no id.
+pub fn hear(
+    alloc: Global,
+    target: &Target,
+    charset: Charset,
+    body: &[u8],
+) -> Result<Heard, AllocError>
+    ensures heard { IfOk result (λ heard. Hears target.now charset body.now heard) }
+    ensures sound { IfOk result IsSound }
+{
+    match read_tree(alloc, body, charset) {
+        Ok(root) => heard_in(target, &root),
+        Err(TreeFault::NoMemory) => Err(AllocError),
+        Err(TreeFault::BadCharset { .. } | TreeFault::TooDeep { .. }) => {
+            Ok(unheard(FaultName::EncodingLimit))
+        }
+        Err(TreeFault::BadXml { .. } | TreeFault::Refused { .. }) => {
+            Ok(unheard(FaultName::InvalidMessage))
+        }
+    }
+}
+
+fn unheard(name: FaultName) -> Heard
+    ensures { result ≡ unheard name }
+{
+    Heard {
+        relates: None,
+        asked: Asked::Refused(name),
+    }
+}
+
+#[tactic(auto, using(crate::proofs::ReadIsGood::id_is_text))]
+fn heard_in(target: &Target, root: &Element) -> Result<Heard, AllocError>
+    requires { IsGoodTree root.now }
+    ensures heard { IfOk result (λ heard. heard ≡ heard_in target.now root.now) }
+    ensures sound { IfOk result IsSound }
+{
+    let relates = id_in(root)?;
+    let asked = asked_in(target, root)?;
+    Ok(Heard { relates, asked })
+}
+
+#[tactic(auto, using(crate::proofs::ReadIsGood::body_is_good))]
+fn asked_in(target: &Target, root: &Element) -> Result<Asked, AllocError>
+    requires { IsGoodTree root.now }
+    ensures asked { IfOk result (λ asked. asked ≡ asked_of target.now (said root.now)) }
+    ensures sound { IfOk result IsSoundAsk }
+{
+    match &from_node(root) {
+        Ok(envelope) => asked_by(target, envelope),
+        Err(EnvelopeFault::NoMemory) => Err(AllocError),
+        Err(EnvelopeFault::NotSoap | EnvelopeFault::RepeatedHeader { .. }) => {
+            Ok(Asked::Refused(FaultName::InvalidMessage))
+        }
+        Err(EnvelopeFault::MustUnderstand { .. }) => Ok(Asked::Refused(FaultName::MustUnderstand)),
+        Err(EnvelopeFault::HeaderRequired { .. }) => Ok(Asked::Refused(
+            FaultName::MessageInformationHeaderRequired,
+        )),
+    }
+}
+
+/// What an envelope asks at a target, by its action.
+fn asked_by(target: &Target, envelope: &Envelope) -> Result<Asked, AllocError>
+    requires { AreGoodTrees envelope.now.body }
+    ensures asked { IfOk result (λ asked. asked ≡ asked_by target.now envelope.now) }
+    ensures sound { IfOk result IsSoundAsk }
+{
+    if is_nameless(envelope) {
+        return Ok(Asked::Refused(FaultName::MessageInformationHeaderRequired));
+    }
+    match target {
+        Target::Delivery { sub, source } => delivery_asked(sub, source, envelope),
+        Target::Manager | Target::Root => Ok(Asked::Refused(FaultName::ActionNotSupported)),
+    }
+}
+
+/// Whether an envelope asks for the subscriptions of a source that it doesn't name.
+fn is_nameless(envelope: &Envelope) -> bool
+    ensures { result ≡ is_nameless envelope.now }
+{
+    envelope.action.as_str() == ENUMERATE && envelope.machine.is_none()
+}
+
+/// What an envelope asks where a source delivers for a subscription.
+fn delivery_asked(sub: &Text, source: &Text, envelope: &Envelope) -> Result<Asked, AllocError>
+    requires { AreGoodTrees envelope.now.body }
+    ensures asked { IfOk result (λ asked. asked ≡ delivery_asked sub.now source.now envelope.now) }
+    ensures sound { IfOk result IsSoundAsk }
+{
+    if envelope.action.as_str() == EVENTS {
+        return events_asked(sub, source, envelope);
+    }
+    Ok(Asked::Refused(FaultName::ActionNotSupported))
+}
+
+/// What a batch asks that came to the path of a subscription and a source.
+fn events_asked(sub: &Text, source: &Text, envelope: &Envelope) -> Result<Asked, AllocError>
+    requires { AreGoodTrees envelope.now.body }
+    ensures asked { IfOk result (λ asked. asked ≡ events_asked (subscription_name sub.now) (source_name source.now) (batch_in envelope.now)) }
+    ensures sound { IfOk result IsSoundAsk }
+{
+    let Some(sub) = subscription_named(sub)? else {
+        return Ok(Asked::Refused(FaultName::DestinationUnreachable));
+    };
+    let Some(source) = source_named(source)? else {
+        return Ok(Asked::Unread(sub));
+    };
+    match batch_in(envelope) {
+        Ok(batch) => Ok(Asked::Take { sub, source, batch }),
+        Err(BatchFault::NoMemory) => Err(AllocError),
+        Err(BatchFault::BadHead | BatchFault::BadBatch { .. }) => Ok(Asked::Unread(sub)),
+    }
+}
+
+#[tactic(auto, using(crate::proofs::Numbered::as_read))]
+fn batch_in(envelope: &Envelope) -> Result<Batch, BatchFault>
+    requires { AreGoodTrees envelope.now.body }
+    ensures batch { Reads result (batch_in envelope.now) }
+    ensures numbered { IfOk result (λ batch. AreNumbered batch.items) }
+{
+    let alloc = envelope.action.alloc();
+    read_batch(
+        alloc,
+        envelope.bookmark.as_ref(),
+        envelope.ack_wanted,
+        envelope.body.as_slice(),
+    )
+}
+
+/// The subscription's name that a text is.
+fn subscription_named(text: &Text) -> Result<Option<SubId>, AllocError>
+    ensures { IfOk result (λ sub. sub ≡ subscription_name text.now) }
+{
+    match SubId::read(text) {
+        Ok(sub) => Ok(Some(sub)),
+        Err(ValueFault::NoMemory) => Err(AllocError),
+        Err(_) => Ok(None),
+    }
+}
+
+/// The source's name that a text is.
+fn source_named(text: &Text) -> Result<Option<SourceName>, AllocError>
+    ensures { IfOk result (λ source. source ≡ source_name text.now) }
+{
+    match SourceName::read(text) {
+        Ok(source) => Ok(Some(source)),
+        Err(ValueFault::NoMemory) => Err(AllocError),
+        Err(_) => Ok(None),
+    }
+}
