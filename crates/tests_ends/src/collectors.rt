@@ -5,7 +5,8 @@ ghost use Rattle.wef_batch.specs.Numbers.{AreNumbered};
 ghost use Rattle.wef_eventing.specs.Subscriptions.{IsAllEvents};
 
 use crate::failing::{FailingKeeper, FailsAt};
-use crate::rows::keep;
+use crate::rows::holding;
+use crate::steps::Refusal;
 use std::alloc::{AllocError, Global};
 use std::test::Fail;
 use wef_base::numbers::MAX;
@@ -15,22 +16,22 @@ use wef_bookmark::Bookmark;
 use wef_collector::{Collector, CollectorFault};
 use wef_event::{Event, plain_event};
 use wef_eventing::{Offer, Subscription, kept_words};
-use wef_keeper::{Keeper, KeeperFault, Key, MemKeeper, Row};
+use wef_keeper::{Keeper, MemKeeper};
 
-pub(crate) fn channel(alloc: Global) -> Result<ChannelName, Fail> {
+pub(crate) fn channel(alloc: Global) -> Result<ChannelName, Refusal> {
     Ok(ChannelName::read(&Text::from_str(alloc, "security")?)?)
 }
 
-pub(crate) fn source(alloc: Global) -> Result<SourceName, Fail> {
+pub(crate) fn source(alloc: Global) -> Result<SourceName, Refusal> {
     Ok(SourceName::read(&Text::from_str(alloc, "host-1")?)?)
 }
 
-pub(crate) fn id(alloc: Global, name: &str) -> Result<SubId, Fail> {
+pub(crate) fn id(alloc: Global, name: &str) -> Result<SubId, Refusal> {
     Ok(SubId::read(&Text::from_str(alloc, name)?)?)
 }
 
 /// A subscription to all events of the channel.
-pub(crate) fn subscription(alloc: Global, name: &str) -> Result<Subscription, Fail>
+pub(crate) fn subscription(alloc: Global, name: &str) -> Result<Subscription, Refusal>
     ensures { IfOk result IsAllEvents }
 {
     let name = id(alloc, name)?;
@@ -38,7 +39,7 @@ pub(crate) fn subscription(alloc: Global, name: &str) -> Result<Subscription, Fa
     Ok(Subscription::all_events(name, channels, 20, 512_000, 900_000)?)
 }
 
-fn channels(alloc: Global) -> Result<List<ChannelName>, Fail>
+fn channels(alloc: Global) -> Result<List<ChannelName>, Refusal>
     ensures { IfOk result (λ channels. 0 < length channels) }
 {
     let mut channels = List::new(alloc);
@@ -47,7 +48,7 @@ fn channels(alloc: Global) -> Result<List<ChannelName>, Fail>
 }
 
 /// The channel's event of a number, or a fault where there is none.
-fn event_of(alloc: Global, number: u64) -> Result<Event, Fail> {
+fn event_of(alloc: Global, number: u64) -> Result<Event, Refusal> {
     let word = Text::from_str(alloc, "event")?;
     if number > MAX || !is_xml_text(&word)? {
         return Err(ValueFault::TooLarge.into());
@@ -56,7 +57,7 @@ fn event_of(alloc: Global, number: u64) -> Result<Event, Fail> {
 }
 
 /// A batch of one event, which reads the channel to its number.
-pub(crate) fn batch_to(alloc: Global, number: u64) -> Result<Batch, Fail>
+pub(crate) fn batch_to(alloc: Global, number: u64) -> Result<Batch, Refusal>
     ensures { IfOk result (λ batch. AreNumbered batch.items) }
 {
     Ok(Batch {
@@ -66,7 +67,7 @@ pub(crate) fn batch_to(alloc: Global, number: u64) -> Result<Batch, Fail>
     })
 }
 
-fn items_of(alloc: Global, number: u64) -> Result<List<Item>, Fail>
+fn items_of(alloc: Global, number: u64) -> Result<List<Item>, Refusal>
     ensures { IfOk result AreNumbered }
 {
     let mut items = List::new(alloc);
@@ -74,7 +75,7 @@ fn items_of(alloc: Global, number: u64) -> Result<List<Item>, Fail>
     Ok(items)
 }
 
-fn reach_of(alloc: Global, number: u64) -> Result<Bookmark, Fail> {
+fn reach_of(alloc: Global, number: u64) -> Result<Bookmark, Refusal> {
     let mut to = Bookmark::new(alloc);
     if number > MAX {
         return Err(ValueFault::TooLarge.into());
@@ -83,32 +84,10 @@ fn reach_of(alloc: Global, number: u64) -> Result<Bookmark, Fail> {
     Ok(to)
 }
 
-/// The key of the row that keeps the boot number.
-fn boot_key(alloc: Global) -> Key {
-    Key {
-        kind: 8,
-        sub: Text::new(alloc),
-        source: Text::new(alloc),
-        channel: Text::new(alloc),
-        number: 0,
-    }
-}
-
-/// A store of a collector that was started so often.
-fn keeper_of(alloc: Global, boot: u64) -> Result<MemKeeper, KeeperFault> {
-    let mut keeper = MemKeeper::new(alloc);
-    let row = Row {
-        key: boot_key(alloc),
-        value: boot,
-        body: Text::new(alloc),
-    };
-    keep(&mut keeper, row)?;
-    Ok(keeper)
-}
-
 /// The fault of a start behind so many.
 fn start_fault(alloc: Global, boot: u64) -> Result<Option<CollectorFault>, Fail> {
-    Ok(match Collector::start(alloc, keeper_of(alloc, boot)?) {
+    let keeper = holding(alloc, &[(8, "", "", "", 0, boot, "")])?;
+    Ok(match Collector::start(alloc, keeper) {
         Ok(_) => None,
         Err((_, fault)) => Some(fault),
     })

@@ -2,120 +2,80 @@
 //! finds, in words.
 
 use crate::collectors::{add, batch_to, channel, id, source, subscription};
-use crate::failing::{FailingKeeper, FailsAt};
-use crate::rows::keep;
-use crate::steps::{number, parted, push_id};
-use std::alloc::{AllocError, Global};
+use crate::failing::FailingKeeper;
+use crate::failures::{Failure, Started, Starts, others, started};
+use crate::rows::{Kept, holding};
+use crate::steps::{Answer, Does, Refusal, number, parted, push_id, push_refusal, push_steps};
+use crate::writing::push_numbers;
+use std::alloc::Global;
 use std::test::Fail;
 use wef_base::{ChannelName, List, Moment, Text};
-use wef_collector::{Collector, CollectorFault, Listed};
-use wef_event::Event;
+use wef_collector::Collector;
 use wef_eventing::Offer;
-use wef_keeper::{Keeper, Key, MemKeeper, Row};
+use wef_keeper::Keeper;
 
-/// A commit of a store that fails, the steps of a collector over it, and what the starts and the steps
-/// answer where an opening finds the rows before the commit, and where it finds those with its
-/// changes: a start that fails is made again.
-const FAILURES: &[(u64, &str, &str, &str)] = &[
+const FAILURES: &[Failure] = &[
     // The start.
-    (1, "draw;list", "Failed;1.1;;", "Failed;2.1;;"),
+    (1, "", "Failed;", &[("draw;list", "1.1;;", "2.1;;")]),
     // A subscription, and each call behind it.
-    (2, "add u;add u", "Failed;ok;", "Failed;Exists;"),
-    (2, "add u;end u", "Failed;NoSubscription;", "Failed;ok;"),
-    (2, "add u;take u 7", "Failed;NoSubscription;", "Failed;ok;"),
-    (2, "add u;state u", "Failed;NoSubscription;", "Failed;live;"),
-    (2, "add u;page u", "Failed;NoSubscription;", "Failed;;"),
-    (2, "add u;list", "Failed;;", "Failed;u live;"),
-    (2, "add u;offers", "Failed;;", "Failed;at 0;"),
-    (2, "add u;bookmark u", "Failed;NoSubscription;", "Failed;0;"),
     (
         2,
-        "add u;report",
-        "Failed;end\n;",
-        "Failed;subscription u live\nend\n;",
+        "add u",
+        "Failed;",
+        &[
+            ("add u", "ok;", "Exists;"),
+            ("end u", "NoSubscription;", "ok;"),
+            ("take u 7", "NoSubscription;", "ok;"),
+            ("state u", "NoSubscription;", "live;"),
+            ("page u", "NoSubscription;", ";"),
+            ("list", ";", "u live;"),
+            ("offers", ";", "at 0;"),
+            ("bookmark u", "NoSubscription;", "0;"),
+            ("report", "end\n;", "subscription u live\nend\n;"),
+            ("draw", "1.1;", "1.1;"),
+        ],
     ),
-    (2, "add u;draw", "Failed;1.1;", "Failed;1.1;"),
     // Its end.
     (
         3,
-        "add u;end u;add u",
-        "ok;Failed;Exists;",
-        "ok;Failed;Exists;",
+        "add u;end u",
+        "ok;Failed;",
+        &[
+            ("add u", "Exists;", "Exists;"),
+            ("end u", "ok;", "Ended;"),
+            ("take u 7", "ok;", "Ended;"),
+            ("state u", "live;", "Ended;"),
+            ("page u", ";", ";"),
+            ("list", "u live;", "u ended;"),
+            ("offers", "at 0;", ";"),
+        ],
     ),
-    (3, "add u;end u;end u", "ok;Failed;ok;", "ok;Failed;Ended;"),
-    (
-        3,
-        "add u;end u;take u 7",
-        "ok;Failed;ok;",
-        "ok;Failed;Ended;",
-    ),
-    (
-        3,
-        "add u;end u;state u",
-        "ok;Failed;live;",
-        "ok;Failed;Ended;",
-    ),
-    (3, "add u;end u;page u", "ok;Failed;;", "ok;Failed;;"),
-    (
-        3,
-        "add u;end u;list",
-        "ok;Failed;u live;",
-        "ok;Failed;u ended;",
-    ),
-    (3, "add u;end u;offers", "ok;Failed;at 0;", "ok;Failed;;"),
     // A batch.
     (
         3,
-        "add u;take u 7;take u 7",
-        "ok;Failed;ok;",
-        "ok;Failed;ok;",
-    ),
-    (3, "add u;take u 7;end u", "ok;Failed;ok;", "ok;Failed;ok;"),
-    (
-        3,
-        "add u;take u 7;state u",
-        "ok;Failed;live;",
-        "ok;Failed;live;",
-    ),
-    (3, "add u;take u 7;page u", "ok;Failed;;", "ok;Failed;7;"),
-    (
-        3,
-        "add u;take u 7;offers",
-        "ok;Failed;at 0;",
-        "ok;Failed;at 7;",
-    ),
-    (
-        3,
-        "add u;take u 7;bookmark u",
-        "ok;Failed;0;",
-        "ok;Failed;7;",
-    ),
-    (
-        3,
-        "add u;take u 7;report",
-        "ok;Failed;subscription u live\nend\n;",
-        "ok;Failed;subscription u live\n source host-1\n  channel security bookmark 7\n   held 7\nend\n;",
-    ),
-    // Calls that follow each other.
-    (
-        3,
-        "add u;take u 7;draw;take u 7;page u;bookmark u;end u;list;offers;state u",
-        "ok;Failed;1.1;ok;7;7;ok;u ended;;Ended;",
-        "ok;Failed;1.1;ok;7;7;ok;u ended;;Ended;",
+        "add u;take u 7",
+        "ok;Failed;",
+        &[
+            ("take u 7", "ok;", "ok;"),
+            ("end u", "ok;", "ok;"),
+            ("state u", "live;", "live;"),
+            ("page u", ";", "7;"),
+            ("offers", "at 0;", "at 7;"),
+            ("bookmark u", "0;", "7;"),
+            (
+                "report",
+                "subscription u live\nend\n;",
+                "subscription u live\n source host-1\n  channel security bookmark 7\n   held 7\nend\n;",
+            ),
+            // Calls that follow each other.
+            (
+                "draw;take u 7;page u;bookmark u;end u;list;offers;state u",
+                "1.1;ok;7;7;ok;u ended;;Ended;",
+                "1.1;ok;7;7;ok;u ended;;Ended;",
+            ),
+        ],
     ),
 ];
-
-/// A row that stands when a collector is started: its kind, subscription, source, channel, number,
-/// value and body.
-type Kept = (
-    u8,
-    &'static str,
-    &'static str,
-    &'static str,
-    u64,
-    u64,
-    &'static str,
-);
 
 const LIVE: Kept = (1, "u", "", "", 0, 0, "20 512000 900000 all security");
 
@@ -157,127 +117,51 @@ const SPOILT: &[(&[Kept], &str, &str)] = &[
     (&[(8, "", "", "", 0, 3, "spoilt")], "list", "Failed;"),
 ];
 
-fn push_fault(text: &mut Text, fault: CollectorFault) -> Result<(), AllocError> {
-    text.push_str(match fault {
-        CollectorFault::NoMemory => return Err(AllocError),
-        CollectorFault::NoSubscription => "NoSubscription",
-        CollectorFault::Exists => "Exists",
-        CollectorFault::Ended => "Ended",
-        CollectorFault::NotWellFormed => "NotWellFormed",
-        CollectorFault::TooMany => "TooMany",
-        CollectorFault::Failed => "Failed",
-        CollectorFault::Full => "Full",
-    })
+fn push_added<K: Keeper>(text: &mut Text, collector: &mut Collector<K>, name: &str) -> Answer {
+    add(collector, &subscription(text.alloc(), name)?)?;
+    Ok(text.push_str("ok")?)
 }
 
-/// What is said of a call that is done, by the word for it.
-fn push_done(
-    text: &mut Text,
-    answer: Result<(), CollectorFault>,
-    word: &str,
-) -> Result<(), AllocError> {
-    match answer {
-        Ok(()) => text.push_str(word),
-        Err(fault) => push_fault(text, fault),
-    }
+fn push_ended<K: Keeper>(text: &mut Text, collector: &mut Collector<K>, name: &str) -> Answer {
+    collector.end(&id(text.alloc(), name)?)?;
+    Ok(text.push_str("ok")?)
 }
 
-fn push_added<K: Keeper>(
-    text: &mut Text,
-    collector: &mut Collector<K>,
-    name: &str,
-) -> Result<(), Fail> {
-    let subscription = subscription(text.alloc(), name)?;
-    Ok(push_done(text, add(collector, &subscription), "ok")?)
-}
-
-fn push_ended<K: Keeper>(
-    text: &mut Text,
-    collector: &mut Collector<K>,
-    name: &str,
-) -> Result<(), Fail> {
-    let answer = collector.end(&id(text.alloc(), name)?);
-    Ok(push_done(text, answer, "ok")?)
-}
-
-fn push_taken<K: Keeper>(
-    text: &mut Text,
-    collector: &mut Collector<K>,
-    words: &str,
-) -> Result<(), Fail> {
+fn push_taken<K: Keeper>(text: &mut Text, collector: &mut Collector<K>, words: &str) -> Answer {
     let alloc = text.alloc();
-    let (name, number_word) = parted(words);
-    let (sub, source) = (id(alloc, name)?, source(alloc)?);
-    let batch = batch_to(alloc, number(number_word))?;
-    let answer = collector.take(&sub, &source, &batch, Moment::first());
-    Ok(push_done(text, answer, "ok")?)
+    let (name, last) = parted(words);
+    let batch = batch_to(alloc, number(last))?;
+    collector.take(&id(alloc, name)?, &source(alloc)?, &batch, Moment::first())?;
+    Ok(text.push_str("ok")?)
 }
 
-fn push_state<K: Keeper>(
-    text: &mut Text,
-    collector: &mut Collector<K>,
-    name: &str,
-) -> Result<(), Fail> {
-    match collector.state(&id(text.alloc(), name)?) {
-        Ok(_) => text.push_str("live")?,
-        Err(fault) => push_fault(text, fault)?,
-    }
-    Ok(())
+fn push_state<K: Keeper>(text: &mut Text, collector: &mut Collector<K>, name: &str) -> Answer {
+    let _state = collector.state(&id(text.alloc(), name)?)?;
+    Ok(text.push_str("live")?)
 }
 
-fn push_page<K: Keeper>(
-    text: &mut Text,
-    collector: &mut Collector<K>,
-    name: &str,
-) -> Result<(), Fail> {
+fn push_page<K: Keeper>(text: &mut Text, collector: &mut Collector<K>, name: &str) -> Answer {
     let alloc = text.alloc();
     let (sub, source) = (id(alloc, name)?, source(alloc)?);
-    match collector.held_page(&sub, &source, &channel(alloc)?, 0, 9) {
-        Ok(page) => push_numbers(text, page.as_slice())?,
-        Err(fault) => push_fault(text, fault)?,
-    }
-    Ok(())
+    let page = collector.held_page(&sub, &source, &channel(alloc)?, 0, 9)?;
+    push_numbers(text, page.as_slice())
 }
 
-fn push_numbers(text: &mut Text, page: &[Event]) -> Result<(), AllocError> {
-    let mut is_first = true;
-    for event in page {
-        text.push_str(if is_first { "" } else { " " })?;
-        text.push_number(event.number)?;
-        is_first = false;
-    }
-    Ok(())
-}
-
-fn push_list<K: Keeper>(text: &mut Text, collector: &mut Collector<K>) -> Result<(), AllocError> {
-    match collector.list() {
-        Ok(list) => push_listed(text, list.as_slice()),
-        Err(fault) => push_fault(text, fault),
-    }
-}
-
-fn push_listed(text: &mut Text, list: &[Listed]) -> Result<(), AllocError> {
-    for listed in list {
+fn push_list<K: Keeper>(text: &mut Text, collector: &mut Collector<K>) -> Answer {
+    for listed in collector.list()?.as_slice() {
         text.push_str(listed.subscription.name.as_text().as_str())?;
         text.push_str(if listed.live { " live" } else { " ended" })?;
     }
     Ok(())
 }
 
-fn push_offers<K: Keeper>(text: &mut Text, collector: &mut Collector<K>) -> Result<(), Fail> {
+fn push_offers<K: Keeper>(text: &mut Text, collector: &mut Collector<K>) -> Answer {
     let alloc = text.alloc();
-    match collector.offers(&source(alloc)?, &Text::from_str(alloc, "h")?) {
-        Ok(offers) => push_offered(text, &offers, &channel(alloc)?)?,
-        Err(fault) => push_fault(text, fault)?,
-    }
-    Ok(())
+    let offers = collector.offers(&source(alloc)?, &Text::from_str(alloc, "h")?)?;
+    push_offered(text, &offers, &channel(alloc)?)
 }
 
-fn push_offered(
-    text: &mut Text,
-    offers: &List<Offer>,
-    channel: &ChannelName,
-) -> Result<(), AllocError> {
+fn push_offered(text: &mut Text, offers: &List<Offer>, channel: &ChannelName) -> Answer {
     for offer in offers.as_slice() {
         text.push_str("at ")?;
         text.push_number(offer.subscribe.from.at(channel))?;
@@ -285,127 +169,50 @@ fn push_offered(
     Ok(())
 }
 
-fn push_bookmark<K: Keeper>(
-    text: &mut Text,
-    collector: &mut Collector<K>,
-    name: &str,
-) -> Result<(), Fail> {
+fn push_bookmark<K: Keeper>(text: &mut Text, collector: &mut Collector<K>, name: &str) -> Answer {
     let alloc = text.alloc();
-    match collector.bookmark(&id(alloc, name)?, &source(alloc)?) {
-        Ok(bookmark) => text.push_number(bookmark.at(&channel(alloc)?))?,
-        Err(fault) => push_fault(text, fault)?,
-    }
-    Ok(())
+    let bookmark = collector.bookmark(&id(alloc, name)?, &source(alloc)?)?;
+    Ok(text.push_number(bookmark.at(&channel(alloc)?))?)
 }
 
-fn push_report<K: Keeper>(text: &mut Text, collector: &mut Collector<K>) -> Result<(), AllocError> {
-    match collector.report() {
-        Ok(report) => text.push_str(report.as_str()),
-        Err(fault) => push_fault(text, fault),
-    }
+fn push_report<K: Keeper>(text: &mut Text, collector: &mut Collector<K>) -> Answer {
+    Ok(text.push_str(collector.report()?.as_str())?)
 }
 
-fn push_drawn<K: Keeper>(text: &mut Text, collector: &mut Collector<K>) -> Result<(), AllocError> {
-    match collector.draw() {
-        Ok(id) => push_id(text, &id),
-        Err(fault) => push_fault(text, fault),
-    }
+fn push_drawn<K: Keeper>(text: &mut Text, collector: &mut Collector<K>) -> Answer {
+    Ok(push_id(text, &collector.draw()?)?)
 }
 
-/// Does a step, and appends its answer.
-fn push_answer<K: Keeper>(
-    text: &mut Text,
-    collector: &mut Collector<K>,
-    step: &str,
-) -> Result<(), Fail> {
-    let (word, rest) = parted(step);
-    match word {
-        "add" => push_added(text, collector, rest)?,
-        "end" => push_ended(text, collector, rest)?,
-        "take" => push_taken(text, collector, rest)?,
-        "state" => push_state(text, collector, rest)?,
-        "page" => push_page(text, collector, rest)?,
-        "list" => push_list(text, collector)?,
-        "offers" => push_offers(text, collector)?,
-        "bookmark" => push_bookmark(text, collector, rest)?,
-        "report" => push_report(text, collector)?,
-        "draw" => push_drawn(text, collector)?,
-        _ => text.push_str("no step")?,
-    }
-    Ok(())
-}
-
-fn push_steps<K: Keeper>(
-    text: &mut Text,
-    collector: &mut Collector<K>,
-    steps: &str,
-) -> Result<(), Fail> {
-    for step in steps.split_terminator(';') {
-        push_answer(text, collector, step)?;
-        text.push_str(";")?;
-    }
-    Ok(())
-}
-
-/// Starts a collector over a store, and once more where that fails.
-fn started(
-    text: &mut Text,
-    keeper: FailingKeeper,
-) -> Result<Collector<FailingKeeper>, CollectorFault> {
-    let (keeper, fault) = match Collector::start(text.alloc(), keeper) {
-        Ok(collector) => return Ok(collector),
-        Err(refused) => refused,
-    };
-    push_fault(text, fault)?;
-    text.push_str(";")?;
-    match Collector::start(text.alloc(), keeper) {
-        Ok(collector) => Ok(collector),
-        Err((_, fault)) => Err(fault),
+impl<K: Keeper> Does for Collector<K> {
+    fn push_answer(&mut self, text: &mut Text, step: &str) -> Answer {
+        let (word, rest) = parted(step);
+        match word {
+            "add" => push_added(text, self, rest),
+            "end" => push_ended(text, self, rest),
+            "take" => push_taken(text, self, rest),
+            "state" => push_state(text, self, rest),
+            "page" => push_page(text, self, rest),
+            "list" => push_list(text, self),
+            "offers" => push_offers(text, self),
+            "bookmark" => push_bookmark(text, self, rest),
+            "report" => push_report(text, self),
+            "draw" => push_drawn(text, self),
+            _ => Err(Refusal::Word("no step")),
+        }
     }
 }
 
-/// What the steps of a collector answer over a store of which a commit fails.
-fn ran_failing(alloc: Global, commit: u64, keeps: bool, steps: &str) -> Result<Text, Fail> {
-    let mut text = Text::new(alloc);
-    let keeper = FailingKeeper::new(alloc, FailsAt::Commit(commit), keeps);
-    let mut collector = started(&mut text, keeper)?;
-    push_steps(&mut text, &mut collector, steps)?;
-    Ok(text)
+impl Starts for Collector<FailingKeeper> {
+    fn start_over(alloc: Global, keeper: FailingKeeper) -> Started<Collector<FailingKeeper>> {
+        started(Collector::start(alloc, keeper))
+    }
 }
 
 #[test]
 fn collectors_find_what_a_failed_commit_left(rt: HostRuntime) -> Result<(), Fail> {
-    for &(commit, steps, before, after) in FAILURES {
-        let text = ran_failing(rt.alloc(), commit, false, steps)?;
-        assert_eq!(rt; text.as_str(), before, "before {commit}: {steps}");
-        let text = ran_failing(rt.alloc(), commit, true, steps)?;
-        assert_eq!(rt; text.as_str(), after, "after {commit}: {steps}");
-    }
+    let others = others::<Collector<FailingKeeper>>(rt.alloc(), FAILURES)?;
+    assert_eq!(rt; others.as_str(), "");
     Ok(())
-}
-
-fn row_of(alloc: Global, kept: &Kept) -> Result<Row, AllocError> {
-    let (kind, sub, source, channel, number, value, body) = *kept;
-    Ok(Row {
-        key: Key {
-            kind,
-            sub: Text::from_str(alloc, sub)?,
-            source: Text::from_str(alloc, source)?,
-            channel: Text::from_str(alloc, channel)?,
-            number,
-        },
-        value,
-        body: Text::from_str(alloc, body)?,
-    })
-}
-
-/// A store with these rows.
-fn holding(alloc: Global, rows: &[Kept]) -> Result<MemKeeper, Fail> {
-    let mut keeper = MemKeeper::new(alloc);
-    for row in rows {
-        keep(&mut keeper, row_of(alloc, row)?)?;
-    }
-    Ok(keeper)
 }
 
 /// What the steps of a collector answer over a store with these rows.
@@ -418,7 +225,7 @@ fn ran_over(alloc: Global, rows: &[Kept], steps: &str) -> Result<Text, Fail> {
         }
         Err(refused) => refused,
     };
-    push_fault(&mut text, fault)?;
+    push_refusal(&mut text, Refusal::from(fault))?;
     text.push_str(";")?;
     Ok(text)
 }

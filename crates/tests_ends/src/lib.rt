@@ -9,6 +9,8 @@ mod doubting;
 #[cfg(test)]
 mod failing;
 #[cfg(test)]
+mod failures;
+#[cfg(test)]
 mod limits;
 #[cfg(test)]
 mod logs;
@@ -18,3 +20,5 @@ mod rows;
 mod sources;
 #[cfg(test)]
 mod steps;
+#[cfg(test)]
+mod writing;

@@ -1,18 +1,20 @@
 //! Sources by example: what is done with a source, in words, and what is answered.
 
-use crate::failing::{FailingKeeper, FailsAt};
-use crate::steps::{Does, channel, event_of, number, parted, push_id, push_steps};
+use crate::failing::FailingKeeper;
+use crate::failures::{Failure, Started, Starts, others, started};
+use crate::steps::{Answer, Does, Refusal, channel, number, parted, push_id, push_steps};
+use crate::writing::{Writes, push_long, push_writes};
 use std::alloc::{AllocError, Global};
 use std::test::Fail;
 use wef_base::{ChannelName, List, Moment, SourceName, SubId, Text, ValueFault};
 use wef_batch::{Batch, Item};
 use wef_bookmark::Bookmark;
-use wef_event::EventFault;
+use wef_event::Event;
 use wef_eventing::{Offer, Subscribe};
 use wef_ids::{FaultName, MessageId};
 use wef_keeper::{Keeper, MemKeeper};
 use wef_query::QueryList;
-use wef_source::{Delivery, Moved, Poll, Reply, SourceEnd, SourceFault};
+use wef_source::{Delivery, Moved, Poll, Reply, SourceEnd};
 
 /// The steps of a source that keeps four records a channel, those once it is started again, and what
 /// all of them answer. An id is the number of the start and that of the message.
@@ -73,16 +75,8 @@ const RUNS: &[(&str, &str, &str)] = &[
     ),
 ];
 
-/// A name that is none counts as want of memory.
-fn known<T>(read: Result<T, ValueFault>) -> Result<T, SourceFault> {
-    match read {
-        Ok(value) => Ok(value),
-        Err(_) => Err(SourceFault::NoMemory),
-    }
-}
-
-fn subscription(alloc: Global) -> Result<SubId, SourceFault> {
-    known(SubId::read(&Text::from_str(alloc, "u")?))
+fn subscription(alloc: Global) -> Result<SubId, ValueFault> {
+    SubId::read(&Text::from_str(alloc, "u")?)
 }
 
 /// The id of `START.MESSAGE`, or one that is no UUID.
@@ -97,50 +91,10 @@ fn id_of(alloc: Global, word: &str) -> MessageId {
     }
 }
 
-/// Writes an event of so many letters.
-fn write<K: Keeper>(
-    source: &mut SourceEnd<K>,
-    alloc: Global,
-    name: &str,
-    count: u64,
-) -> Result<u64, SourceFault> {
-    match event_of(alloc, name, count) {
-        Ok(event) => source.write(&event),
-        Err(EventFault::TooLong) => Err(SourceFault::TooLong),
-        Err(_) => Err(SourceFault::NoMemory),
+impl<K: Keeper> Writes for SourceEnd<K> {
+    fn write_event(&mut self, event: &Event) -> Result<u64, Refusal> {
+        Ok(self.write(event)?)
     }
-}
-
-fn push_written<K: Keeper>(
-    text: &mut Text,
-    source: &mut SourceEnd<K>,
-    name: &str,
-    count: u64,
-) -> Result<(), SourceFault> {
-    let number = write(source, text.alloc(), name, count)?;
-    Ok(text.push_number(number)?)
-}
-
-fn push_long<K: Keeper>(
-    text: &mut Text,
-    source: &mut SourceEnd<K>,
-    words: &str,
-) -> Result<(), SourceFault> {
-    let (name, count) = parted(words);
-    push_written(text, source, name, number(count))
-}
-
-fn push_writes<K: Keeper>(
-    text: &mut Text,
-    source: &mut SourceEnd<K>,
-    words: &str,
-) -> Result<(), SourceFault> {
-    let (name, times) = parted(words);
-    for turn in 0..number(times) {
-        text.push_str(if turn > 0 { " " } else { "" })?;
-        push_written(text, source, name, 1)?;
-    }
-    Ok(())
 }
 
 /// All events of two channels.
@@ -188,12 +142,8 @@ fn offers_of(alloc: Global, words: &str) -> Result<List<Offer>, ValueFault> {
 }
 
 /// Asks, and adopts an offer of so many items and bytes a batch.
-fn push_served<K: Keeper>(
-    text: &mut Text,
-    source: &mut SourceEnd<K>,
-    words: &str,
-) -> Result<(), SourceFault> {
-    let offers = known(offers_of(text.alloc(), words))?;
+fn push_served<K: Keeper>(text: &mut Text, source: &mut SourceEnd<K>, words: &str) -> Answer {
+    let offers = offers_of(text.alloc(), words)?;
     let id = source.ask()?;
     push_adopted(text, source, &id, &offers)
 }
@@ -203,7 +153,7 @@ fn push_adopted<K: Keeper>(
     source: &mut SourceEnd<K>,
     id: &MessageId,
     offers: &List<Offer>,
-) -> Result<(), SourceFault> {
+) -> Answer {
     let count = source.adopt(id, offers, Moment::first())?;
     push_id(text, id)?;
     text.push_str(" adopted ")?;
@@ -213,21 +163,17 @@ fn push_adopted<K: Keeper>(
 }
 
 /// Adopts no offer.
-fn push_none<K: Keeper>(
-    text: &mut Text,
-    source: &mut SourceEnd<K>,
-    id: &str,
-) -> Result<(), SourceFault> {
+fn push_none<K: Keeper>(text: &mut Text, source: &mut SourceEnd<K>, id: &str) -> Answer {
     let id = id_of(text.alloc(), id);
     push_adopted(text, source, &id, &List::new(text.alloc()))
 }
 
-fn push_sessions<K: Keeper>(text: &mut Text, source: &SourceEnd<K>) -> Result<(), SourceFault> {
+fn push_sessions<K: Keeper>(text: &mut Text, source: &SourceEnd<K>) -> Answer {
     let sessions = source.sessions()?;
     Ok(text.push_number(sessions.len() as u64)?)
 }
 
-fn push_asked<K: Keeper>(text: &mut Text, source: &mut SourceEnd<K>) -> Result<(), SourceFault> {
+fn push_asked<K: Keeper>(text: &mut Text, source: &mut SourceEnd<K>) -> Answer {
     let id = source.ask()?;
     Ok(push_id(text, &id)?)
 }
@@ -286,14 +232,14 @@ fn push_poll(text: &mut Text, poll: &Poll) -> Result<(), AllocError> {
     }
 }
 
-fn push_polled<K: Keeper>(text: &mut Text, source: &mut SourceEnd<K>) -> Result<(), SourceFault> {
+fn push_polled<K: Keeper>(text: &mut Text, source: &mut SourceEnd<K>) -> Answer {
     let poll = polled(source, text.alloc())?;
     Ok(push_poll(text, &poll)?)
 }
 
-fn polled<K: Keeper>(source: &mut SourceEnd<K>, alloc: Global) -> Result<Poll, SourceFault> {
+fn polled<K: Keeper>(source: &mut SourceEnd<K>, alloc: Global) -> Result<Poll, Refusal> {
     let sub = subscription(alloc)?;
-    source.poll(&sub, Moment::first())
+    Ok(source.poll(&sub, Moment::first())?)
 }
 
 fn push_moved<K: Keeper>(
@@ -301,7 +247,7 @@ fn push_moved<K: Keeper>(
     source: &mut SourceEnd<K>,
     id: &str,
     reply: &Reply,
-) -> Result<(), SourceFault> {
+) -> Answer {
     let id = id_of(text.alloc(), id);
     let moved = source.on_reply(&id, reply)?;
     Ok(push_move(text, moved)?)
@@ -319,37 +265,29 @@ fn push_refused<K: Keeper>(
     source: &mut SourceEnd<K>,
     id: &str,
     fault: FaultName,
-) -> Result<(), SourceFault> {
+) -> Answer {
     push_moved(text, source, id, &Reply::Fault(fault))
 }
 
-fn lose<K: Keeper>(alloc: Global, source: &mut SourceEnd<K>) -> Result<(), SourceFault> {
-    source.on_lost(&subscription(alloc)?)
+fn lose<K: Keeper>(alloc: Global, source: &mut SourceEnd<K>) -> Answer {
+    Ok(source.on_lost(&subscription(alloc)?)?)
 }
 
 /// Does a step that the log takes, and appends its answer.
-fn push_kept<K: Keeper>(
-    text: &mut Text,
-    source: &mut SourceEnd<K>,
-    step: &str,
-) -> Result<(), SourceFault> {
+fn push_kept<K: Keeper>(text: &mut Text, source: &mut SourceEnd<K>, step: &str) -> Answer {
     let (word, rest) = parted(step);
     match word {
         "write" => push_writes(text, source, rest)?,
         "long" => push_long(text, source, rest)?,
         "boot" => text.push_number(source.boot())?,
         "name" => text.push_str(source.name().as_text().as_str())?,
-        _ => text.push_str("no step")?,
+        _ => return Err(Refusal::Word("no step")),
     }
     Ok(())
 }
 
 /// Does a step, and appends its answer.
-fn push_done<K: Keeper>(
-    text: &mut Text,
-    source: &mut SourceEnd<K>,
-    step: &str,
-) -> Result<(), SourceFault> {
+fn push_done<K: Keeper>(text: &mut Text, source: &mut SourceEnd<K>, step: &str) -> Answer {
     let (word, rest) = parted(step);
     match word {
         "serve" => push_served(text, source, rest),
@@ -365,64 +303,45 @@ fn push_done<K: Keeper>(
     }
 }
 
-fn push_fault(text: &mut Text, fault: SourceFault) -> Result<(), AllocError> {
-    text.push_str(match fault {
-        SourceFault::NoMemory => return Err(AllocError),
-        SourceFault::Failed => "Failed",
-        SourceFault::Full => "Full",
-        SourceFault::TooLong => "TooLong",
-        SourceFault::NotAsked => "NotAsked",
-        SourceFault::UnknownSubscription => "UnknownSubscription",
-        SourceFault::Spent => "Spent",
-    })
-}
-
 impl Does for SourceEnd<MemKeeper> {
-    fn push_answer(&mut self, text: &mut Text, step: &str) -> Result<(), AllocError> {
+    fn push_answer(&mut self, text: &mut Text, step: &str) -> Answer {
         match step {
             "armed" => text.push_str(if self.is_armed() { "true" } else { "false" })?,
             "fail before" => self.fail_next(false),
             "fail after" => self.fail_next(true),
             "calm" => self.calm(),
-            _ => {
-                if let Err(fault) = push_done(text, self, step) {
-                    push_fault(text, fault)?;
-                }
-            }
+            _ => push_done(text, self, step)?,
         }
         Ok(())
     }
 }
 
 impl Does for SourceEnd<FailingKeeper> {
-    fn push_answer(&mut self, text: &mut Text, step: &str) -> Result<(), AllocError> {
-        match push_done(text, self, step) {
-            Ok(()) => Ok(()),
-            Err(fault) => push_fault(text, fault),
-        }
+    fn push_answer(&mut self, text: &mut Text, step: &str) -> Answer {
+        push_done(text, self, step)
     }
 }
 
-fn named(alloc: Global) -> Result<SourceName, SourceFault> {
-    known(SourceName::read(&Text::from_str(alloc, "s")?))
+fn named(alloc: Global) -> Result<SourceName, ValueFault> {
+    SourceName::read(&Text::from_str(alloc, "s")?)
 }
 
-fn started(alloc: Global, keeper: MemKeeper) -> Result<SourceEnd<MemKeeper>, SourceFault> {
+fn start(alloc: Global, keeper: MemKeeper) -> Result<SourceEnd<MemKeeper>, Refusal> {
     match SourceEnd::start(alloc, keeper, named(alloc)?, 4) {
         Ok(source) => Ok(source),
-        Err((_, fault)) => Err(fault),
+        Err((_, fault)) => Err(Refusal::from(fault)),
     }
 }
 
 /// Starts a source over a store, does the steps, and gives the store back.
-fn push_started(text: &mut Text, keeper: MemKeeper, steps: &str) -> Result<MemKeeper, SourceFault> {
-    let mut source = started(text.alloc(), keeper)?;
+fn push_started(text: &mut Text, keeper: MemKeeper, steps: &str) -> Result<MemKeeper, Refusal> {
+    let mut source = start(text.alloc(), keeper)?;
     push_steps(text, &mut source, steps)?;
     Ok(source.into_keeper())
 }
 
 /// What the steps of a source answer, and those once it is started again.
-fn ran(alloc: Global, steps: &str, again: &str) -> Result<Text, SourceFault> {
+fn ran(alloc: Global, steps: &str, again: &str) -> Result<Text, Refusal> {
     let mut text = Text::new(alloc);
     let keeper = push_started(&mut text, MemKeeper::new(alloc), steps)?;
     let _keeper = push_started(&mut text, keeper, again)?;
@@ -437,78 +356,58 @@ fn sources_send_what_they_have(rt: HostRuntime) -> Result<(), Fail> {
     Ok(())
 }
 
-/// A commit of a store that fails, whether an opening finds its changes, the steps of a source over
-/// it, and what the starts and the steps answer: a start that fails is made again.
-const FAILURES: &[(u64, bool, &str, &str)] = &[
+const FAILURES: &[Failure] = &[
     // The start.
-    (1, false, "boot;ask;write application 1", "Failed;1;1.1;1;"),
-    (1, true, "boot;ask;write application 1", "Failed;2;2.1;1;"),
+    (
+        1,
+        "",
+        "Failed;",
+        &[("boot;ask;write application 1", "1;1.1;1;", "2;2.1;1;")],
+    ),
     // A write, and each call behind it: a poll sends what is found, and one more is written.
     (
         2,
-        false,
-        "serve 20 512000;write application 1;poll;write application 1;poll;ack 1.2;poll",
-        "1.1 adopted 1 of 1;Failed;nothing;1;1.2 application 1, to application 1;moved;nothing;",
-    ),
-    (
-        2,
-        true,
-        "serve 20 512000;write application 1;poll;write application 1;poll;ack 1.2;poll",
-        "1.1 adopted 1 of 1;Failed;1.2 application 1, to application 1;2;nothing;moved;1.3 application 2, to application 2;",
+        "serve 20 512000;write application 1",
+        "1.1 adopted 1 of 1;Failed;",
+        &[
+            (
+                "poll;write application 1;poll;ack 1.2;poll",
+                "nothing;1;1.2 application 1, to application 1;moved;nothing;",
+                "1.2 application 1, to application 1;2;nothing;moved;1.3 application 2, to application 2;",
+            ),
+            (
+                "refuse 1.2;adopt 1.1;write application 1;poll",
+                "NotAsked;NotAsked;1;1.2 application 1, to application 1;",
+                "NotAsked;NotAsked;2;1.2 application 1, application 2, to application 2;",
+            ),
+        ],
     ),
     // What asks for nothing of the store leaves the doubt to the next call that does.
     (
         3,
-        false,
-        "serve 20 512000;write application 1;poll;write application 1;poll;lost;ask;sessions;boot;name;ack 1.2;poll",
-        "1.1 adopted 1 of 1;1;1.2 application 1, to application 1;Failed;nothing;;1.3;1;1;s;NotAsked;1.4 application 1, to application 1;",
-    ),
-    (
-        3,
-        true,
-        "serve 20 512000;write application 1;poll;write application 1;poll;lost;ask;sessions;boot;name;ack 1.2;poll",
-        "1.1 adopted 1 of 1;1;1.2 application 1, to application 1;Failed;nothing;;1.3;1;1;s;NotAsked;1.4 application 1, application 2, to application 2;",
-    ),
-    (
-        2,
-        true,
-        "serve 20 512000;write application 1;refuse 1.2;adopt 1.1;write application 1;poll",
-        "1.1 adopted 1 of 1;Failed;NotAsked;NotAsked;2;1.2 application 1, application 2, to application 2;",
+        "serve 20 512000;write application 1;poll;write application 1",
+        "1.1 adopted 1 of 1;1;1.2 application 1, to application 1;Failed;",
+        &[(
+            "poll;lost;ask;sessions;boot;name;ack 1.2;poll",
+            "nothing;;1.3;1;1;s;NotAsked;1.4 application 1, to application 1;",
+            "nothing;;1.3;1;1;s;NotAsked;1.4 application 1, application 2, to application 2;",
+        )],
     ),
 ];
 
-/// Starts a source over a store, and once more where that fails.
-fn started_again(
-    text: &mut Text,
-    keeper: FailingKeeper,
-) -> Result<SourceEnd<FailingKeeper>, SourceFault> {
-    let alloc = text.alloc();
-    let (keeper, fault) = match SourceEnd::start(alloc, keeper, named(alloc)?, 4) {
-        Ok(source) => return Ok(source),
-        Err(refused) => refused,
-    };
-    push_fault(text, fault)?;
-    text.push_str(";")?;
-    match SourceEnd::start(alloc, keeper, named(alloc)?, 4) {
-        Ok(source) => Ok(source),
-        Err((_, fault)) => Err(fault),
+impl Starts for SourceEnd<FailingKeeper> {
+    fn start_over(alloc: Global, keeper: FailingKeeper) -> Started<SourceEnd<FailingKeeper>> {
+        let name = match named(alloc) {
+            Ok(name) => name,
+            Err(fault) => return Err((keeper, Refusal::from(fault))),
+        };
+        started(SourceEnd::start(alloc, keeper, name, 4))
     }
-}
-
-/// What the steps of a source answer over a store of which a commit fails.
-fn ran_failing(alloc: Global, commit: u64, keeps: bool, steps: &str) -> Result<Text, SourceFault> {
-    let mut text = Text::new(alloc);
-    let keeper = FailingKeeper::new(alloc, FailsAt::Commit(commit), keeps);
-    let mut source = started_again(&mut text, keeper)?;
-    push_steps(&mut text, &mut source, steps)?;
-    Ok(text)
 }
 
 #[test]
 fn sources_find_what_a_failed_commit_left(rt: HostRuntime) -> Result<(), Fail> {
-    for &(commit, keeps, steps, want) in FAILURES {
-        let text = ran_failing(rt.alloc(), commit, keeps, steps)?;
-        assert_eq!(rt; text.as_str(), want, "at {commit} {keeps}: {steps}");
-    }
+    let others = others::<SourceEnd<FailingKeeper>>(rt.alloc(), FAILURES)?;
+    assert_eq!(rt; others.as_str(), "");
     Ok(())
 }

@@ -1,20 +1,114 @@
-//! The steps of an end, in words, and the events that they write.
+//! The steps of an end, in words, and why one isn't done.
 
 use std::alloc::{AllocError, Global};
-use wef_base::{ChannelName, Text, ValueFault, is_xml_text};
-use wef_event::{Event, EventFault, PlainEvent};
+use wef_base::{ChannelName, Text, ValueFault};
+use wef_bookmark::BookmarkFault;
+use wef_collector::CollectorFault;
+use wef_event::EventFault;
 use wef_ids::MessageId;
+use wef_source::SourceFault;
+use wef_source_log::LogFault;
+
+/// Why a step isn't done.
+#[derive(Clone, Copy, Debug)]
+pub enum Refusal {
+    NoMemory,
+    /// The word for it.
+    Word(&'static str),
+}
+
+/// Whether a step is done, which appends what is answered.
+pub type Answer = Result<(), Refusal>;
+
+impl From<AllocError> for Refusal {
+    fn from(_error: AllocError) -> Refusal {
+        Refusal::NoMemory
+    }
+}
+
+impl From<ValueFault> for Refusal {
+    fn from(fault: ValueFault) -> Refusal {
+        match fault {
+            ValueFault::NoMemory => Refusal::NoMemory,
+            _ => Refusal::Word("no value"),
+        }
+    }
+}
+
+impl From<BookmarkFault> for Refusal {
+    fn from(fault: BookmarkFault) -> Refusal {
+        match fault {
+            BookmarkFault::NoMemory => Refusal::NoMemory,
+            BookmarkFault::BadBookmark => Refusal::Word("no bookmark"),
+        }
+    }
+}
+
+impl From<EventFault> for Refusal {
+    fn from(fault: EventFault) -> Refusal {
+        match fault {
+            EventFault::NoMemory => Refusal::NoMemory,
+            EventFault::TooLong => Refusal::Word("TooLong"),
+            _ => Refusal::Word("no event"),
+        }
+    }
+}
+
+impl From<LogFault> for Refusal {
+    fn from(fault: LogFault) -> Refusal {
+        Refusal::from(SourceFault::from(fault))
+    }
+}
+
+impl From<SourceFault> for Refusal {
+    fn from(fault: SourceFault) -> Refusal {
+        Refusal::Word(match fault {
+            SourceFault::NoMemory => return Refusal::NoMemory,
+            SourceFault::Failed => "Failed",
+            SourceFault::Full => "Full",
+            SourceFault::TooLong => "TooLong",
+            SourceFault::NotAsked => "NotAsked",
+            SourceFault::UnknownSubscription => "UnknownSubscription",
+            SourceFault::Spent => "Spent",
+        })
+    }
+}
+
+impl From<CollectorFault> for Refusal {
+    fn from(fault: CollectorFault) -> Refusal {
+        Refusal::Word(match fault {
+            CollectorFault::NoMemory => return Refusal::NoMemory,
+            CollectorFault::NoSubscription => "NoSubscription",
+            CollectorFault::Exists => "Exists",
+            CollectorFault::Ended => "Ended",
+            CollectorFault::NotWellFormed => "NotWellFormed",
+            CollectorFault::TooMany => "TooMany",
+            CollectorFault::Failed => "Failed",
+            CollectorFault::Full => "Full",
+        })
+    }
+}
+
+/// Appends the word for a refusal; want of memory is one here too.
+pub fn push_refusal(text: &mut Text, refusal: Refusal) -> Answer {
+    match refusal {
+        Refusal::NoMemory => Err(refusal),
+        Refusal::Word(word) => Ok(text.push_str(word)?),
+    }
+}
 
 /// An end that does steps.
 pub trait Does {
     /// Does a step, and appends what is answered.
-    fn push_answer(&mut self, text: &mut Text, step: &str) -> Result<(), AllocError>;
+    fn push_answer(&mut self, text: &mut Text, step: &str) -> Answer;
 }
 
-/// Does steps, and appends what each answers.
-pub fn push_steps<D: Does>(text: &mut Text, end: &mut D, steps: &str) -> Result<(), AllocError> {
+/// Does steps, and appends what each answers, or why it isn't done.
+pub fn push_steps<D: Does>(text: &mut Text, end: &mut D, steps: &str) -> Answer {
     for step in steps.split_terminator(';') {
-        end.push_answer(text, step)?;
+        if let Err(refusal) = end.push_answer(text, step) {
+            push_refusal(text, refusal)?;
+        }
         text.push_str(";")?;
     }
     Ok(())
@@ -32,31 +126,6 @@ pub fn parted(words: &str) -> (&str, &str) {
 
 pub fn channel(alloc: Global, name: &str) -> Result<ChannelName, ValueFault> {
     ChannelName::read(&Text::from_str(alloc, name)?)
-}
-
-/// The event of a word of so many letters, before it has a number. A name that is none counts as
-/// want of memory.
-pub fn event_of(alloc: Global, name: &str, count: u64) -> Result<Event, EventFault> {
-    let word = letters(alloc, count)?;
-    match channel(alloc, name) {
-        Ok(channel) if is_xml_text(&word)? => PlainEvent {
-            channel,
-            id: 7,
-            level: 4,
-            word,
-        }
-        .to_event(),
-        _ => Err(EventFault::NoMemory),
-    }
-}
-
-/// A word of the letter x, so often.
-fn letters(alloc: Global, count: u64) -> Result<Text, AllocError> {
-    let mut word = Text::new(alloc);
-    for _ in 0..count {
-        word.push('x')?;
-    }
-    Ok(word)
 }
 
 /// Appends an id, as the boot number and the number of the message.
