@@ -6,14 +6,15 @@ ghost use Rattle.wef_keeper.specs.Access as access;
 ghost use Rattle.wef_collector_rows.specs.Forms.{AreFormed, is_held_row};
 ghost use Rattle.wef_collector_rows.specs.Held as spec;
 ghost use Rattle.wef_collector_rows.specs.Judged.{AreAllFormed};
+ghost use Rattle.wef_collector_rows.specs.Keys as keys;
 
-use std::alloc::Global;
+use std::alloc::{AllocError, Global};
 use wef_base::{ChannelName, List, SourceName, SubId};
 use wef_collector_rows::forms::held_event;
 use wef_collector_rows::keys::held_key;
 use wef_event::Event;
 use wef_keeper::access::section_page;
-use wef_keeper::{Depth, Keeper, Row, StoreFault};
+use wef_keeper::{Depth, Keeper, Key, Row, StoreFault};
 
 /// The first `max` events that are held of a source's channel above a number. The rest are those
 /// above the page's last number.
@@ -33,9 +34,21 @@ pub fn held_page<K: Keeper>(
     ensures judged { IfSome (K.store keeper.new).rows (λ rows. OnOk result (AreAllFormed (take max (spec.held_rows rows sub.now source.now channel.now after)))) }
     ensures reads { access.Reads AreFormed (access.fails result) (K.store keeper.old) (K.store keeper.new) }
 {
-    let start = held_key(sub.as_text(), source.as_text(), channel.as_text(), after)?;
+    let start = held_start(sub, source, channel, after)?;
     let page = section_page(keeper, &start, Depth::Channel, max)?;
     events_of(channel.as_text().alloc(), page.as_slice())
+}
+
+/// The key of the event of a number, behind which a page begins.
+fn held_start(
+    sub: &SubId,
+    source: &SourceName,
+    channel: &ChannelName,
+    after: u64,
+) -> Result<Key, AllocError>
+    ensures { IfOk result (λ start. start ≡ keys.held_key sub.now source.now channel.now after) }
+{
+    held_key(sub.as_text(), source.as_text(), channel.as_text(), after)
 }
 
 /// The events of held rows. It fails where a row isn't of its form.

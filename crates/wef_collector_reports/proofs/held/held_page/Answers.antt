@@ -7,7 +7,6 @@ use Rattle.wef_keeper.proofs.ReadsOf.{may_be_ill}
 use Rattle.wef_collector_rows.specs.Forms.{AreFormed, is_formed}
 use Rattle.wef_keeper.proofs.Told.{told_ok}
 use Rattle.wef_collector_rows.specs.Held.{held_after, last_number, own_event}
-use Rattle.wef_collector_rows.specs.Keys.{held_key}
 use Rattle.wef_keeper.proofs.Forming.{no_page}
 use Rattle.wef_collector_reports.proofs.HeldPages.{held_as_formed, is_page, is_rest, own_events, page_judged}
 use Rattle.wef_collector_reports.proofs.held.held_page.Goals as goal
@@ -16,9 +15,8 @@ pub returns-clause-reads : goal.returns-clause-reads
 returns-clause-reads g c =
     let start = c.in_ok-start.start in
     let page = c.in_ok-page.page in
-    let begins : c.in_ok-start.start ≡ held_key c.args.sub.now c.args.source.now c.args.channel.now c.args.after = c.in_ok-start.ensures ∙ (λ i. held_key (c.as_text.ensures.value i) (c.as_text-2.ensures.value i) (c.as_text-3.ensures.value i) c.args.after) in
     let behind = c.in_ok-page.ensures.behind in
-    let as_formed = held_as_formed c.args.sub.now c.args.source.now c.args.channel.now c.args.after start page begins behind in
+    let as_formed = held_as_formed c.args.sub.now c.args.source.now c.args.channel.now c.args.after start page c.in_ok-start.ensures behind in
     let now = g.K.Keeper.store c.section_page.new.keeper in
     let items = c.as_slice.ensures in
     may_be_ill AreFormed (fails c.events_of.result) (g.K.Keeper.store c.args.keeper.now) now c.in_ok-page.ensures.reads
@@ -26,37 +24,28 @@ returns-clause-reads g c =
 
 pub returns-clause-page : goal.returns-clause-page
 returns-clause-page g c =
-    let u = c.args.sub.now in
-    let s = c.args.source.now in
-    let channel = c.args.channel.now in
     let start = c.in_ok-start.start in
     let page = c.in_ok-page.page in
-    let begins : c.in_ok-start.start ≡ held_key c.args.sub.now c.args.source.now c.args.channel.now c.args.after = c.in_ok-start.ensures ∙ (λ i. held_key (c.as_text.ensures.value i) (c.as_text-2.ensures.value i) (c.as_text-3.ensures.value i) c.args.after) in
     let now = g.K.Keeper.store c.section_page.new.keeper in
-    let own = own_events u s channel c.args.after start page begins c.in_ok-page.ensures.behind in
+    let own = own_events c.args.sub.now c.args.source.now c.args.channel.now c.args.after start page c.in_ok-start.ensures c.in_ok-page.ensures.behind in
     told_ok c.events_of.result now.rows (λ events. events ≡ map own_event page) (λ rows. page ≡ take c.args.max (rows_under Channel start rows)) (λ rows. page ≡ take c.args.max (rows_under Channel start rows))
-    (λ rows (events : List Event). events ≡ take c.args.max (held_after rows u s channel c.args.after))
+    (λ rows (events : List Event). events ≡ take c.args.max (held_after rows c.args.sub.now c.args.source.now c.args.channel.now c.args.after))
     (rw c.as_slice.ensures at c.events_of.ensures.value) c.in_ok-page.ensures.page c.in_ok-page.ensures.page
-    (λ rows events are is _. are ∙ own ∙ is_page c.args.max rows u s channel c.args.after start page begins is)
+    (λ rows events are is _. are ∙ own ∙ is_page c.args.max rows c.args.sub.now c.args.source.now c.args.channel.now c.args.after start page c.in_ok-start.ensures is)
 
 pub returns-clause-rest : goal.returns-clause-rest
 returns-clause-rest g c =
-    let u = c.args.sub.now in
-    let s = c.args.source.now in
-    let channel = c.args.channel.now in
     let start = c.in_ok-start.start in
     let page = c.in_ok-page.page in
-    let begins : c.in_ok-start.start ≡ held_key c.args.sub.now c.args.source.now c.args.channel.now c.args.after = c.in_ok-start.ensures ∙ (λ i. held_key (c.as_text.ensures.value i) (c.as_text-2.ensures.value i) (c.as_text-3.ensures.value i) c.args.after) in
     let now = g.K.Keeper.store c.section_page.new.keeper in
-    let own = own_events u s channel c.args.after start page begins c.in_ok-page.ensures.behind in
+    let own = own_events c.args.sub.now c.args.source.now c.args.channel.now c.args.after start page c.in_ok-start.ensures c.in_ok-page.ensures.behind in
     told_ok c.events_of.result now.rows (λ events. events ≡ map own_event page) (λ rows. page ≡ take c.args.max (rows_under Channel start rows)) (λ rows. rows_under Channel start rows ≡ page ++ rows_under Channel (last_key start page) rows)
-    (λ rows (events : List Event). held_after rows u s channel c.args.after ≡ events ++ held_after rows u s channel (last_number c.args.after events))
+    (λ rows (events : List Event). held_after rows c.args.sub.now c.args.source.now c.args.channel.now c.args.after ≡ events ++ held_after rows c.args.sub.now c.args.source.now c.args.channel.now (last_number c.args.after events))
     (rw c.as_slice.ensures at c.events_of.ensures.value) c.in_ok-page.ensures.page c.in_ok-page.ensures.rest
-    (λ rows events are is splits. rw (are ∙ own) (is_rest c.args.max rows u s channel c.args.after start page begins is splits))
+    (λ rows events are is splits. rw (are ∙ own) (is_rest c.args.max rows c.args.sub.now c.args.source.now c.args.channel.now c.args.after start page c.in_ok-start.ensures is splits))
 
 pub returns-clause-judged : goal.returns-clause-judged
 returns-clause-judged g c =
-    let begins : c.in_ok-start.start ≡ held_key c.args.sub.now c.args.source.now c.args.channel.now c.args.after = c.in_ok-start.ensures ∙ (λ i. held_key (c.as_text.ensures.value i) (c.as_text-2.ensures.value i) (c.as_text-3.ensures.value i) c.args.after) in
     let held = rw c.as_slice.ensures at c.events_of.ensures.formed in
     page_judged c.events_of.result (g.K.Keeper.store c.section_page.new.keeper).rows c.args.max c.args.sub.now c.args.source.now c.args.channel.now c.args.after c.in_ok-start.start c.in_ok-page.page
-    begins c.in_ok-page.ensures.behind held c.in_ok-page.ensures.page
+    c.in_ok-start.ensures c.in_ok-page.ensures.behind held c.in_ok-page.ensures.page

@@ -18,14 +18,11 @@ returns-then-is_last-clause-text g c =
     let page = c.in_ok-page.page in
     let after = c.loop-page.after in
     let writer = c.loop-page.writer in
-    let before = g.K.Keeper.store c.loop-page.keeper in
     let now = g.K.Keeper.store c.formed_page.new.keeper in
-    let size = c.len.ensures in
-    let test = c.if-is_last.true in
-    let short : length page < 256 = omega arith in
+    let short : length page < 256 = omega (arith, c.len.ensures, c.if-is_last.true) in
     let text_of = λ (xs : List Row). writer.text ++ runs_text (runs_from writer.running (map (span_of c.args.spans) xs)) in
     let whole_text = λ (rows : Rows). c.args.writer.now.text ++ runs_text (runs_from c.args.writer.now.running (map (span_of c.args.spans) (rows_under Channel c.args.after.now rows))) in
-    let done = told_still before.rows now.rows (λ rows. text_of (rows_under Channel after rows) ≡ whole_text rows) c.in_ok-page.ensures.reads.0.1 c.loop-page.invariant.rest in
+    let done = told_still (g.K.Keeper.store c.loop-page.keeper).rows now.rows (λ rows. text_of (rows_under Channel after rows) ≡ whole_text rows) c.in_ok-page.ensures.reads.0.1 c.loop-page.invariant.rest in
     let told = rw c.as_slice.ensures at (c.in_ok-add_page.ensures []) in
     let whole = told_both now.rows (λ rows. page ≡ take 256 (rows_under Channel after rows)) (λ rows. rows_under Channel after rows ≡ page ++ rows_under Channel (last_key after page) rows)
     (λ rows. rows_under Channel after rows ≡ page) c.in_ok-page.ensures.page c.in_ok-page.ensures.rest (λ rows is splits. last_page 256 _ page _ is splits short) in
@@ -36,12 +33,9 @@ pub returns-then-is_last-clause-judged : goal.returns-then-is_last-clause-judged
 returns-then-is_last-clause-judged g c =
     let page = c.in_ok-page.page in
     let after = c.loop-page.after in
-    let before = g.K.Keeper.store c.loop-page.keeper in
     let now = g.K.Keeper.store c.formed_page.new.keeper in
-    let size = c.len.ensures in
-    let test = c.if-is_last.true in
-    let short : length page < 256 = omega arith in
-    let same = told_still before.rows now.rows (λ rows. list_all is_formed (rows_under Channel after rows) ≡ list_all is_formed (rows_under Channel c.args.after.now rows)) c.in_ok-page.ensures.reads.0.1 c.loop-page.invariant.formed in
+    let short : length page < 256 = omega (arith, c.len.ensures, c.if-is_last.true) in
+    let same = told_still (g.K.Keeper.store c.loop-page.keeper).rows now.rows (λ rows. list_all is_formed (rows_under Channel after rows) ≡ list_all is_formed (rows_under Channel c.args.after.now rows)) c.in_ok-page.ensures.reads.0.1 c.loop-page.invariant.formed in
     let whole = told_both now.rows (λ rows. page ≡ take 256 (rows_under Channel after rows)) (λ rows. rows_under Channel after rows ≡ page ++ rows_under Channel (last_key after page) rows)
     (λ rows. rows_under Channel after rows ≡ page) c.in_ok-page.ensures.page c.in_ok-page.ensures.rest (λ rows is splits. last_page 256 _ page _ is splits short) in
     told_both now.rows (λ rows. rows_under Channel after rows ≡ page) (λ rows. list_all is_formed (rows_under Channel after rows) ≡ list_all is_formed (rows_under Channel c.args.after.now rows))
