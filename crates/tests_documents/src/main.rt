@@ -6,7 +6,6 @@
 #![tactic(auto)]
 
 mod batches;
-mod escapes;
 mod events;
 mod tasks;
 mod trees;

@@ -1,11 +1,11 @@
 //! What is done with a line.
 
 use crate::batches::{push_batch, push_bookmark, push_written_item};
-use crate::escapes::{escaped, unescaped};
 use crate::events::{push_event, push_numbered, push_parts, push_plain};
 use crate::trees::{push_cuts, push_reading, push_written};
 use std::alloc::{AllocError, Global};
 use tests_tasks::Tasks;
+use tests_tasks::escapes::{escaped, unescaped};
 use wef_base::{Charset, Text, is_xml_text};
 
 /// What is done with a line.

@@ -4,6 +4,7 @@
 ghost use Rattle.wef_xml.specs.Good.{IsGoodTree};
 
 use std::alloc::{AllocError, Global};
+use tests_tasks::hexadecimal::push_hexadecimal;
 use wef_base::{Attribute, Charset, Element, List, Namespace, Node, Text};
 use wef_tree::{TreeFault, read_tree, write_tree};
 
@@ -41,15 +42,6 @@ fn push_text(shown: &mut Text, charset: Charset, root: &Element) -> Result<(), A
             Err(_) => push_hexadecimal(shown, bytes.as_slice()),
         },
     }
-}
-
-fn push_hexadecimal(shown: &mut Text, bytes: &[u8]) -> Result<(), AllocError> {
-    for &byte in bytes {
-        for digit in [byte / 16, byte % 16] {
-            shown.push(char::from_digit(u32::from(digit), 16).unwrap_or('?'))?;
-        }
-    }
-    Ok(())
 }
 
 /// Whether each front of a document but the whole has a fault, none behind its end.

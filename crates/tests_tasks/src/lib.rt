@@ -2,6 +2,9 @@
 //! of each.
 #![tactic(auto)]
 
+pub mod escapes;
+pub mod hexadecimal;
+
 use std::alloc::{AllocError, Global};
 use std::io;
 use wef_base::Text;

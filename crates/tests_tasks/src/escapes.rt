@@ -4,7 +4,7 @@ use std::alloc::{AllocError, Global};
 use wef_base::{Bytes, Text};
 
 /// What a line spells. A backslash that begins no escape is left out.
-pub(crate) fn unescaped(alloc: Global, line: &str) -> Result<Bytes, AllocError> {
+pub fn unescaped(alloc: Global, line: &str) -> Result<Bytes, AllocError> {
     let mut bytes = Bytes::new(alloc);
     let mut is_escape = false;
     for part in line.split('\\') {
@@ -45,7 +45,7 @@ fn push_scalar(bytes: &mut Bytes, code: &str) -> Result<(), AllocError> {
 }
 
 /// A text as ASCII, with escapes for what isn't printed.
-pub(crate) fn escaped(text: &Text) -> Result<Text, AllocError> {
+pub fn escaped(text: &Text) -> Result<Text, AllocError> {
     let mut shown = Text::new(text.alloc());
     for character in text.as_str().chars() {
         if (' '..='~').contains(&character) {

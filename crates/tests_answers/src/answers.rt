@@ -1,0 +1,175 @@
+//! Answers to requests, written out.
+
+use crate::collectors::{collector_of, push_left};
+use crate::deliveries::edited;
+use std::alloc::{AllocError, Global};
+use tests_tasks::escapes::unescaped;
+use wef_base::{Bytes, Charset, Element, Moment, Text};
+use wef_collector::Collector;
+use wef_envelope::actions::ACK;
+use wef_envelope::{Envelope, MessageId, from_node, read_fault};
+use wef_front::{Answer, Target, collector_answer};
+use wef_keeper::MemKeeper;
+use wef_tree::read_tree;
+
+/// Where a delivery of the source `pc1` for the subscription `base` goes to.
+pub(crate) fn base_path(alloc: Global) -> Result<Target, AllocError> {
+    Ok(Target::Delivery {
+        sub: Text::from_str(alloc, "base")?,
+        source: Text::from_str(alloc, "pc1")?,
+    })
+}
+
+/// Asks the collector, at a second.
+pub(crate) fn asked(
+    alloc: Global,
+    collector: &mut Collector<MemKeeper>,
+    target: &Target,
+    charset: Charset,
+    body: &Bytes,
+    second: u64,
+) -> Result<Answer, AllocError> {
+    let host = Text::from_str(alloc, "collector:5985")?;
+    let now = Moment::of(second.saturating_mul(1_000)).unwrap_or(Moment::first());
+    collector_answer(alloc, collector, target, &host, charset, body, now)
+}
+
+/// The whole answer to a document, and what is kept behind it.
+pub(crate) fn push_whole(shown: &mut Text, document: &str) -> Result<(), AllocError> {
+    let alloc = shown.alloc();
+    let mut collector = collector_of(alloc, true)?;
+    let body = unescaped(alloc, document)?;
+    let answer = asked(alloc, &mut collector, &base_path(alloc)?, Charset::Utf8, &body, 1)?;
+    push_bytes(shown, &answer)?;
+    push_left(shown, collector, true)
+}
+
+fn push_bytes(shown: &mut Text, answer: &Answer) -> Result<(), AllocError> {
+    shown.push_number(u64::from(answer.status))?;
+    shown.push_str(" ")?;
+    shown.push_str(str::from_utf8(answer.body.as_slice()).unwrap_or("no UTF-8"))
+}
+
+/// What is said to a request at a target, and what is kept behind it.
+pub(crate) fn push_answered(
+    shown: &mut Text,
+    target: &Target,
+    edits: &str,
+    is_live: bool,
+) -> Result<(), AllocError> {
+    let alloc = shown.alloc();
+    let mut collector = collector_of(alloc, is_live)?;
+    let body = edited(alloc, edits)?;
+    let answer = asked(alloc, &mut collector, target, Charset::Utf8, &body, 1)?;
+    push_said(shown, Charset::Utf8, &answer)?;
+    push_left(shown, collector, is_live)
+}
+
+/// What is said to `SUBSCRIPTION; SOURCE; REQUEST`, and what is kept behind it.
+pub(crate) fn push_at_path(
+    shown: &mut Text,
+    line: &str,
+    is_live: bool,
+) -> Result<(), AllocError> {
+    let Some((target, edits)) = path_in(shown.alloc(), line)? else {
+        return shown.push_str("no row");
+    };
+    push_answered(shown, &target, edits, is_live)
+}
+
+fn path_in<'a>(alloc: Global, line: &'a str) -> Result<Option<(Target, &'a str)>, AllocError> {
+    let Some((sub, rest)) = line.split_once("; ") else {
+        return Ok(None);
+    };
+    let Some((source, edits)) = rest.split_once("; ") else {
+        return Ok(None);
+    };
+    let target = Target::Delivery {
+        sub: segment(alloc, sub)?,
+        source: segment(alloc, source)?,
+    };
+    Ok(Some((target, edits)))
+}
+
+fn segment(alloc: Global, word: &str) -> Result<Text, AllocError> {
+    let bytes = unescaped(alloc, word)?;
+    Text::from_str(alloc, str::from_utf8(bytes.as_slice()).unwrap_or("no UTF-8"))
+}
+
+/// What is said to requests that follow each other, with ` then ` between them, and what is kept
+/// behind the last.
+pub(crate) fn push_sequence(
+    shown: &mut Text,
+    collector: Collector<MemKeeper>,
+    requests: &str,
+) -> Result<(), AllocError> {
+    let alloc = shown.alloc();
+    let mut collector = collector;
+    let target = base_path(alloc)?;
+    let mut second = 0;
+    for edits in requests.split(" then ") {
+        shown.push_str(if second > 0 { " then " } else { "" })?;
+        second = second.saturating_add(1);
+        let body = edited(alloc, edits)?;
+        let answer = asked(alloc, &mut collector, &target, Charset::Utf8, &body, second)?;
+        push_said(shown, Charset::Utf8, &answer)?;
+    }
+    push_left(shown, collector, true)
+}
+
+/// An answer, as its status and what its envelope says.
+pub(crate) fn push_said(
+    shown: &mut Text,
+    charset: Charset,
+    answer: &Answer,
+) -> Result<(), AllocError> {
+    shown.push_number(u64::from(answer.status))?;
+    if answer.body.is_empty() {
+        return shown.push_str(" nothing");
+    }
+    shown.push_str(" ")?;
+    match read_tree(shown.alloc(), answer.body.as_slice(), charset) {
+        Ok(root) => push_reply(shown, &root),
+        Err(_) => shown.push_str("no document"),
+    }
+}
+
+fn push_reply(shown: &mut Text, root: &Element) -> Result<(), AllocError> {
+    match from_node(root) {
+        Ok(envelope) => push_envelope(shown, &envelope),
+        Err(_) => shown.push_str("no envelope"),
+    }
+}
+
+fn push_envelope(shown: &mut Text, envelope: &Envelope) -> Result<(), AllocError> {
+    match envelope.body.as_slice() {
+        [element, ..] => push_fault(shown, element)?,
+        _ if envelope.action.as_str() == ACK => shown.push_str("Ack")?,
+        _ => shown.push_str("another action")?,
+    }
+    shown.push_str(" ")?;
+    push_number(shown, &envelope.id)?;
+    match &envelope.relates {
+        Some(id) => {
+            shown.push_str(" to ")?;
+            shown.push_str(id.text.as_str())
+        }
+        None => shown.push_str(" to none"),
+    }
+}
+
+fn push_fault(shown: &mut Text, element: &Element) -> Result<(), AllocError> {
+    match read_fault(element) {
+        Ok(fault) => shown.push_str(fault.name.as_str()),
+        Err(_) => shown.push_str("no fault"),
+    }
+}
+
+/// The number of an id that the collector drew, or its text where it is another's.
+fn push_number(shown: &mut Text, id: &MessageId) -> Result<(), AllocError> {
+    let text = id.text.as_str();
+    shown.push_str(
+        text.strip_prefix("uuid:00000000-0000-0001-0000-00000000")
+            .unwrap_or(text),
+    )
+}

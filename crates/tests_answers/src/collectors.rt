@@ -1,0 +1,161 @@
+//! The collector that is asked, and what it keeps.
+
+ghost use Rattle.std.specs.Prelude.{◌<◌, length, IfOk};
+ghost use Rattle.wef_eventing.specs.Subscriptions.{IsAllEvents};
+
+use std::alloc::{AllocError, Global};
+use wef_base::{ChannelName, List, SubId, Text};
+use wef_collector::Collector;
+use wef_collector_rows::keys::HEARD;
+use wef_eventing::{Subscription, kept_words};
+use wef_keeper::{Keeper, Key, MemKeeper, Row};
+
+/// A collector of boot 1 with a subscription `base` to all events of `application`.
+pub(crate) fn collector_of(
+    alloc: Global,
+    is_live: bool,
+) -> Result<Collector<MemKeeper>, AllocError> {
+    let mut collector = started(alloc)?;
+    add(&mut collector, &subscription(alloc)?)?;
+    if !is_live {
+        end(&mut collector, &base(alloc)?)?;
+    }
+    Ok(collector)
+}
+
+fn started(alloc: Global) -> Result<Collector<MemKeeper>, AllocError> {
+    match Collector::start(alloc, MemKeeper::new(alloc)) {
+        Ok(collector) => Ok(collector),
+        Err(_) => Err(AllocError),
+    }
+}
+
+fn base(alloc: Global) -> Result<SubId, AllocError> {
+    match SubId::read(&Text::from_str(alloc, "base")?) {
+        Ok(sub) => Ok(sub),
+        Err(_) => Err(AllocError),
+    }
+}
+
+fn application(alloc: Global) -> Result<ChannelName, AllocError> {
+    match ChannelName::read(&Text::from_str(alloc, "application")?) {
+        Ok(channel) => Ok(channel),
+        Err(_) => Err(AllocError),
+    }
+}
+
+fn channels(alloc: Global) -> Result<List<ChannelName>, AllocError>
+    ensures { IfOk result (λ channels. 0 < length channels) }
+{
+    let mut channels = List::new(alloc);
+    channels.push(application(alloc)?)?;
+    Ok(channels)
+}
+
+fn subscription(alloc: Global) -> Result<Subscription, AllocError>
+    ensures { IfOk result IsAllEvents }
+{
+    let name = base(alloc)?;
+    let channels = channels(alloc)?;
+    Subscription::all_events(name, channels, 20, 512_000, 900_000)
+}
+
+fn add(
+    collector: &mut Collector<MemKeeper>,
+    subscription: &Subscription,
+) -> Result<(), AllocError>
+    requires { IsAllEvents subscription.now }
+{
+    // The words that keep it are made since they say that it reads back.
+    let _words = kept_words(subscription)?;
+    match collector.add(subscription) {
+        Ok(()) => Ok(()),
+        Err(_) => Err(AllocError),
+    }
+}
+
+fn end(collector: &mut Collector<MemKeeper>, sub: &SubId) -> Result<(), AllocError> {
+    match collector.end(sub) {
+        Ok(()) => Ok(()),
+        Err(_) => Err(AllocError),
+    }
+}
+
+/// What is kept behind an answer: `rows as before` where no row of a new collector differs, or the
+/// report and the moments at which sources were heard.
+pub(crate) fn push_left(
+    shown: &mut Text,
+    collector: Collector<MemKeeper>,
+    is_live: bool,
+) -> Result<(), AllocError> {
+    let mut collector = collector;
+    let report = report(&mut collector)?;
+    let alloc = shown.alloc();
+    let before = rows_of(alloc, collector_of(alloc, is_live)?)?;
+    let rows = rows_of(alloc, collector)?;
+    if is_same(before.as_slice(), rows.as_slice()) {
+        return shown.push_str("; rows as before");
+    }
+    push_lines(shown, report.as_str())?;
+    push_heard(shown, rows.as_slice())
+}
+
+fn report(collector: &mut Collector<MemKeeper>) -> Result<Text, AllocError> {
+    match collector.report() {
+        Ok(report) => Ok(report),
+        Err(_) => Err(AllocError),
+    }
+}
+
+fn rows_of(alloc: Global, collector: Collector<MemKeeper>) -> Result<List<Row>, AllocError> {
+    let mut keeper = collector.into_keeper();
+    match keeper.page(&first_key(alloc), 1_000) {
+        Ok(rows) => Ok(rows),
+        Err(_) => Err(AllocError),
+    }
+}
+
+/// A key before those of all rows.
+fn first_key(alloc: Global) -> Key {
+    Key {
+        kind: 0,
+        sub: Text::new(alloc),
+        source: Text::new(alloc),
+        channel: Text::new(alloc),
+        number: 0,
+    }
+}
+
+fn is_same(before: &[Row], rows: &[Row]) -> bool {
+    if before.len() != rows.len() {
+        return false;
+    }
+    for (index, row) in rows.iter().enumerate() {
+        if !is_row(&before[index], row) {
+            return false;
+        }
+    }
+    true
+}
+
+fn is_row(before: &Row, row: &Row) -> bool {
+    before.key == row.key && before.value == row.value && before.body == row.body
+}
+
+fn push_lines(shown: &mut Text, report: &str) -> Result<(), AllocError> {
+    for line in report.split_terminator('\n') {
+        shown.push_str("\n    ")?;
+        shown.push_str(line)?;
+    }
+    Ok(())
+}
+
+fn push_heard(shown: &mut Text, rows: &[Row]) -> Result<(), AllocError> {
+    for row in rows {
+        if row.key.kind == HEARD {
+            shown.push_str("\n    heard ")?;
+            shown.push_number(row.value)?;
+        }
+    }
+    Ok(())
+}

@@ -1,0 +1,22 @@
+//! Answers the requests of its input as a collector does, and prints each with the answer, and with
+//! what is kept behind it.
+//!
+//! A line `=== TASK: TITLE` says what is done with each line behind it, each to a new collector. Most
+//! lines say how a request differs from one delivery: `OLD => NEW` with ` | ` between them, or
+//! `as it is`. What they hold has the escapes of Rust's literals.
+#![tactic(auto)]
+
+mod answers;
+mod collectors;
+mod cuts;
+mod deliveries;
+mod tasks;
+mod utf16;
+
+use std::io;
+use tasks::Task;
+use tests_tasks::answer_lines;
+
+fn main(rt: HostRuntime) -> io::Result<()> {
+    answer_lines(&rt, Task::Whole)
+}

@@ -1,0 +1,93 @@
+//! Requests in UTF-16.
+
+use crate::answers::{asked, base_path, push_said};
+use crate::collectors::{collector_of, push_left};
+use crate::deliveries::edited;
+use std::alloc::{AllocError, Global};
+use tests_tasks::hexadecimal::push_hexadecimal;
+use wef_base::{Bytes, Charset, Text};
+
+/// The order of the two bytes of a unit.
+#[derive(Clone, Copy)]
+enum Order {
+    Little,
+    Big,
+}
+
+/// What is said to a request in UTF-16, spelt as the front of the line says, and what is kept behind
+/// it.
+pub(crate) fn push_spelt(shown: &mut Text, line: &str) -> Result<(), AllocError> {
+    let alloc = shown.alloc();
+    let body = spelt(alloc, line)?;
+    let mut collector = collector_of(alloc, true)?;
+    let answer = asked(alloc, &mut collector, &base_path(alloc)?, Charset::Utf16, &body, 1)?;
+    push_said(shown, Charset::Utf16, &answer)?;
+    push_left(shown, collector, true)
+}
+
+/// The bytes of an answer to a request in UTF-16, in hexadecimal.
+pub(crate) fn push_spelt_bytes(shown: &mut Text, line: &str) -> Result<(), AllocError> {
+    let alloc = shown.alloc();
+    let body = spelt(alloc, line)?;
+    let mut collector = collector_of(alloc, true)?;
+    let answer = asked(alloc, &mut collector, &base_path(alloc)?, Charset::Utf16, &body, 1)?;
+    push_hexadecimal(shown, answer.body.as_slice())
+}
+
+/// The bytes of `SPELLING: EDITS`.
+pub(crate) fn spelt(alloc: Global, line: &str) -> Result<Bytes, AllocError> {
+    let (spelling, edits) = line.split_once(": ").unwrap_or((line, "as it is"));
+    let document = edited(alloc, edits)?;
+    let text = str::from_utf8(document.as_slice()).unwrap_or("no UTF-8");
+    match spelling {
+        "little" => units(alloc, Order::Little, "", text),
+        "big" => units(alloc, Order::Big, "", text),
+        "little with a mark" => units(alloc, Order::Little, "\u{FEFF}", text),
+        "big with a mark" => units(alloc, Order::Big, "\u{FEFF}", text),
+        "a byte more" => with_byte(units(alloc, Order::Little, "\u{FEFF}", text)?),
+        _ => Ok(document),
+    }
+}
+
+fn with_byte(bytes: Bytes) -> Result<Bytes, AllocError> {
+    let mut bytes = bytes;
+    bytes.push(0)?;
+    Ok(bytes)
+}
+
+fn units(alloc: Global, order: Order, mark: &str, text: &str) -> Result<Bytes, AllocError> {
+    let mut bytes = Bytes::new(alloc);
+    push_units(&mut bytes, order, mark)?;
+    push_units(&mut bytes, order, text)?;
+    Ok(bytes)
+}
+
+fn push_units(bytes: &mut Bytes, order: Order, text: &str) -> Result<(), AllocError> {
+    for character in text.chars() {
+        push_character(bytes, order, u32::from(character))?;
+    }
+    Ok(())
+}
+
+/// Appends a character. U+E000 stands for a high surrogate alone, and U+E001 for a low one.
+fn push_character(bytes: &mut Bytes, order: Order, code: u32) -> Result<(), AllocError> {
+    match code {
+        0xE000 => push_unit(bytes, order, 0xD800),
+        0xE001 => push_unit(bytes, order, 0xDC00),
+        _ if code < 0x1_0000 => push_unit(bytes, order, code),
+        _ => {
+            let rest = code.saturating_sub(0x1_0000);
+            push_unit(bytes, order, 0xD800_u32.saturating_add(rest / 1024))?;
+            push_unit(bytes, order, 0xDC00_u32.saturating_add(rest % 1024))
+        }
+    }
+}
+
+fn push_unit(bytes: &mut Bytes, order: Order, unit: u32) -> Result<(), AllocError> {
+    let (high, low) = ((unit / 256 % 256) as u8, (unit % 256) as u8);
+    let pair = match order {
+        Order::Little => [low, high],
+        Order::Big => [high, low],
+    };
+    bytes.extend(&pair)
+}
