@@ -1,8 +1,8 @@
 //! Answers to requests, written out.
 
 use crate::collectors::{collector_of, push_left};
-use crate::deliveries::edited;
 use std::alloc::{AllocError, Global};
+use tests_tasks::deliveries::edited;
 use tests_tasks::escapes::unescaped;
 use wef_base::{Bytes, Charset, Element, Moment, Text};
 use wef_collector::Collector;
@@ -14,8 +14,13 @@ use wef_tree::read_tree;
 
 /// Where a delivery of the source `pc1` for the subscription `base` goes to.
 pub(crate) fn base_path(alloc: Global) -> Result<Target, AllocError> {
+    path_to(alloc, "base")
+}
+
+/// Where a delivery of the source `pc1` for a subscription goes to.
+pub(crate) fn path_to(alloc: Global, sub: &str) -> Result<Target, AllocError> {
     Ok(Target::Delivery {
-        sub: Text::from_str(alloc, "base")?,
+        sub: Text::from_str(alloc, sub)?,
         source: Text::from_str(alloc, "pc1")?,
     })
 }
@@ -35,11 +40,15 @@ pub(crate) fn asked(
 }
 
 /// The whole answer to a document, and what is kept behind it.
-pub(crate) fn push_whole(shown: &mut Text, document: &str) -> Result<(), AllocError> {
+pub(crate) fn push_whole(
+    shown: &mut Text,
+    target: &Target,
+    document: &str,
+) -> Result<(), AllocError> {
     let alloc = shown.alloc();
     let mut collector = collector_of(alloc, true)?;
     let body = unescaped(alloc, document)?;
-    let answer = asked(alloc, &mut collector, &base_path(alloc)?, Charset::Utf8, &body, 1)?;
+    let answer = asked(alloc, &mut collector, target, Charset::Utf8, &body, 1)?;
     push_bytes(shown, &answer)?;
     push_left(shown, collector, true)
 }
@@ -66,11 +75,7 @@ pub(crate) fn push_answered(
 }
 
 /// What is said to `SUBSCRIPTION; SOURCE; REQUEST`, and what is kept behind it.
-pub(crate) fn push_at_path(
-    shown: &mut Text,
-    line: &str,
-    is_live: bool,
-) -> Result<(), AllocError> {
+pub(crate) fn push_at_path(shown: &mut Text, line: &str, is_live: bool) -> Result<(), AllocError> {
     let Some((target, edits)) = path_in(shown.alloc(), line)? else {
         return shown.push_str("no row");
     };
@@ -93,7 +98,10 @@ fn path_in<'a>(alloc: Global, line: &'a str) -> Result<Option<(Target, &'a str)>
 
 fn segment(alloc: Global, word: &str) -> Result<Text, AllocError> {
     let bytes = unescaped(alloc, word)?;
-    Text::from_str(alloc, str::from_utf8(bytes.as_slice()).unwrap_or("no UTF-8"))
+    Text::from_str(
+        alloc,
+        str::from_utf8(bytes.as_slice()).unwrap_or("no UTF-8"),
+    )
 }
 
 /// What is said to requests that follow each other, with ` then ` between them, and what is kept
@@ -106,7 +114,7 @@ pub(crate) fn push_sequence(
     let alloc = shown.alloc();
     let mut collector = collector;
     let target = base_path(alloc)?;
-    let mut second = 0;
+    let mut second: u64 = 0;
     for edits in requests.split(" then ") {
         shown.push_str(if second > 0 { " then " } else { "" })?;
         second = second.saturating_add(1);
@@ -151,8 +159,9 @@ fn push_envelope(shown: &mut Text, envelope: &Envelope) -> Result<(), AllocError
     push_number(shown, &envelope.id)?;
     match &envelope.relates {
         Some(id) => {
-            shown.push_str(" to ")?;
-            shown.push_str(id.text.as_str())
+            shown.push_str(" to \"")?;
+            shown.push_str(id.text.as_str())?;
+            shown.push_str("\"")
         }
         None => shown.push_str(" to none"),
     }

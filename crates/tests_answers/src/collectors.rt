@@ -60,10 +60,7 @@ fn subscription(alloc: Global) -> Result<Subscription, AllocError>
     Subscription::all_events(name, channels, 20, 512_000, 900_000)
 }
 
-fn add(
-    collector: &mut Collector<MemKeeper>,
-    subscription: &Subscription,
-) -> Result<(), AllocError>
+fn add(collector: &mut Collector<MemKeeper>, subscription: &Subscription) -> Result<(), AllocError>
     requires { IsAllEvents subscription.now }
 {
     // The words that keep it are made since they say that it reads back.

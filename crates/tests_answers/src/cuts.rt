@@ -7,26 +7,29 @@ use wef_base::{Bytes, Charset, Text};
 
 /// What is said to each front of a request and what is kept behind it, `FIRST-LAST: ANSWER` for
 /// fronts of so many bytes.
-pub(crate) fn push_cuts(
-    shown: &mut Text,
-    charset: Charset,
-    body: &Bytes,
-) -> Result<(), AllocError> {
+pub(crate) fn push_cuts(shown: &mut Text, body: &Bytes) -> Result<(), AllocError> {
     let mut runs = Runs::new(shown.alloc());
     for length in 0..=body.len() {
         let front = &body.as_slice()[..length];
-        let said = said_to(shown.alloc(), charset, front)?;
+        let said = said_to(shown.alloc(), front)?;
         runs.add(shown, length as u64, said)?;
     }
     runs.push_last(shown)
 }
 
-fn said_to(alloc: Global, charset: Charset, front: &[u8]) -> Result<Text, AllocError> {
+fn said_to(alloc: Global, front: &[u8]) -> Result<Text, AllocError> {
     let mut said = Text::new(alloc);
     let mut collector = collector_of(alloc, true)?;
     let body = Bytes::from_slice(alloc, front)?;
-    let answer = asked(alloc, &mut collector, &base_path(alloc)?, charset, &body, 1)?;
-    push_said(&mut said, charset, &answer)?;
+    let answer = asked(
+        alloc,
+        &mut collector,
+        &base_path(alloc)?,
+        Charset::Utf8,
+        &body,
+        1,
+    )?;
+    push_said(&mut said, Charset::Utf8, &answer)?;
     push_left(&mut said, collector, true)?;
     Ok(said)
 }

@@ -9,7 +9,6 @@
 mod answers;
 mod collectors;
 mod cuts;
-mod deliveries;
 mod tasks;
 mod utf16;
 

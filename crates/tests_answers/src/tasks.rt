@@ -1,13 +1,13 @@
 //! What is done with a line.
 
-use crate::answers::{base_path, push_answered, push_at_path, push_sequence, push_whole};
+use crate::answers::{base_path, path_to, push_answered, push_at_path, push_sequence, push_whole};
 use crate::collectors::collector_of;
 use crate::cuts::push_cuts;
-use crate::deliveries::edited;
-use crate::utf16::{push_spelt, push_spelt_bytes, spelt};
+use crate::utf16::{push_spelt, push_spelt_bytes};
 use std::alloc::{AllocError, Global};
 use tests_tasks::Tasks;
-use wef_base::{Charset, Text};
+use tests_tasks::deliveries::edited;
+use wef_base::Text;
 use wef_front::Target;
 
 /// What is done with a line.
@@ -15,6 +15,8 @@ use wef_front::Target;
 pub(crate) enum Task {
     /// `whole`: the whole answer to a document.
     Whole,
+    /// `unknown`: the whole answer to a document for the subscription `none`.
+    Unknown,
     /// `edited`: what is said to a request.
     Edited,
     /// `manager`: what is said to a request at the path of the subscriptions.
@@ -37,8 +39,6 @@ pub(crate) enum Task {
     Utf16Bytes,
     /// `cut`: what is said to each front of a request.
     Cut,
-    /// `cut utf-16`: what is said to each front of `SPELLING: REQUEST`.
-    CutUtf16,
 }
 
 impl Tasks for Task {
@@ -46,6 +46,7 @@ impl Tasks for Task {
         let (task, _) = heading.split_once(':')?;
         match task {
             "whole" => Some(Task::Whole),
+            "unknown" => Some(Task::Unknown),
             "edited" => Some(Task::Edited),
             "manager" => Some(Task::Manager),
             "root" => Some(Task::Root),
@@ -57,7 +58,6 @@ impl Tasks for Task {
             "utf-16" => Some(Task::Utf16),
             "utf-16 bytes" => Some(Task::Utf16Bytes),
             "cut" => Some(Task::Cut),
-            "cut utf-16" => Some(Task::CutUtf16),
             _ => None,
         }
     }
@@ -65,7 +65,8 @@ impl Tasks for Task {
     fn answer(&self, alloc: Global, line: &str) -> Result<Text, AllocError> {
         let mut shown = Text::new(alloc);
         match self {
-            Task::Whole => push_whole(&mut shown, line)?,
+            Task::Whole => push_whole(&mut shown, &base_path(alloc)?, line)?,
+            Task::Unknown => push_whole(&mut shown, &path_to(alloc, "none")?, line)?,
             Task::Edited => push_answered(&mut shown, &base_path(alloc)?, line, true)?,
             Task::Manager => push_answered(&mut shown, &Target::Manager, line, true)?,
             Task::Root => push_answered(&mut shown, &Target::Root, line, true)?,
@@ -76,8 +77,7 @@ impl Tasks for Task {
             Task::FailingAfter => push_failing(&mut shown, true, line)?,
             Task::Utf16 => push_spelt(&mut shown, line)?,
             Task::Utf16Bytes => push_spelt_bytes(&mut shown, line)?,
-            Task::Cut => push_cuts(&mut shown, Charset::Utf8, &edited(alloc, line)?)?,
-            Task::CutUtf16 => push_cuts(&mut shown, Charset::Utf16, &spelt(alloc, line)?)?,
+            Task::Cut => push_cuts(&mut shown, &edited(alloc, line)?)?,
         }
         Ok(shown)
     }

@@ -2,8 +2,8 @@
 
 use crate::answers::{asked, base_path, push_said};
 use crate::collectors::{collector_of, push_left};
-use crate::deliveries::edited;
 use std::alloc::{AllocError, Global};
+use tests_tasks::deliveries::edited;
 use tests_tasks::hexadecimal::push_hexadecimal;
 use wef_base::{Bytes, Charset, Text};
 
@@ -20,7 +20,14 @@ pub(crate) fn push_spelt(shown: &mut Text, line: &str) -> Result<(), AllocError>
     let alloc = shown.alloc();
     let body = spelt(alloc, line)?;
     let mut collector = collector_of(alloc, true)?;
-    let answer = asked(alloc, &mut collector, &base_path(alloc)?, Charset::Utf16, &body, 1)?;
+    let answer = asked(
+        alloc,
+        &mut collector,
+        &base_path(alloc)?,
+        Charset::Utf16,
+        &body,
+        1,
+    )?;
     push_said(shown, Charset::Utf16, &answer)?;
     push_left(shown, collector, true)
 }
@@ -30,12 +37,19 @@ pub(crate) fn push_spelt_bytes(shown: &mut Text, line: &str) -> Result<(), Alloc
     let alloc = shown.alloc();
     let body = spelt(alloc, line)?;
     let mut collector = collector_of(alloc, true)?;
-    let answer = asked(alloc, &mut collector, &base_path(alloc)?, Charset::Utf16, &body, 1)?;
+    let answer = asked(
+        alloc,
+        &mut collector,
+        &base_path(alloc)?,
+        Charset::Utf16,
+        &body,
+        1,
+    )?;
     push_hexadecimal(shown, answer.body.as_slice())
 }
 
 /// The bytes of `SPELLING: EDITS`.
-pub(crate) fn spelt(alloc: Global, line: &str) -> Result<Bytes, AllocError> {
+fn spelt(alloc: Global, line: &str) -> Result<Bytes, AllocError> {
     let (spelling, edits) = line.split_once(": ").unwrap_or((line, "as it is"));
     let document = edited(alloc, edits)?;
     let text = str::from_utf8(document.as_slice()).unwrap_or("no UTF-8");

@@ -101,7 +101,11 @@ fn a_boot_number_has_an_end(rt: HostRuntime) -> Result<(), Fail> {
     Ok(())
 }
 
-fn start<K: Keeper + Drop>(alloc: Global, keeper: K) -> Result<Collector<K>, CollectorFault> {
+/// Starts a collector over a store.
+pub(crate) fn start<K: Keeper + Drop>(
+    alloc: Global,
+    keeper: K,
+) -> Result<Collector<K>, CollectorFault> {
     match Collector::start(alloc, keeper) {
         Ok(collector) => Ok(collector),
         Err((_, fault)) => Err(fault),

@@ -2,6 +2,7 @@
 //! of each.
 #![tactic(auto)]
 
+pub mod deliveries;
 pub mod escapes;
 pub mod hexadecimal;
 
