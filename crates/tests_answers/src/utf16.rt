@@ -6,6 +6,9 @@ use std::alloc::{AllocError, Global};
 use tests_tasks::deliveries::edited;
 use tests_tasks::hexadecimal::push_hexadecimal;
 use wef_base::{Bytes, Charset, Text};
+use wef_collector::Collector;
+use wef_front::Answer;
+use wef_keeper::MemKeeper;
 
 /// The order of the two bytes of a unit.
 #[derive(Clone, Copy)]
@@ -17,35 +20,27 @@ enum Order {
 /// What is said to a request in UTF-16, spelt as the front of the line says, and what is kept behind
 /// it.
 pub(crate) fn push_spelt(shown: &mut Text, line: &str) -> Result<(), AllocError> {
-    let alloc = shown.alloc();
-    let body = spelt(alloc, line)?;
-    let mut collector = collector_of(alloc, true)?;
-    let answer = asked(
-        alloc,
-        &mut collector,
-        &base_path(alloc)?,
-        Charset::Utf16,
-        &body,
-        1,
-    )?;
+    let mut collector = collector_of(shown.alloc(), true)?;
+    let answer = answer_spelt(shown.alloc(), &mut collector, line)?;
     push_said(shown, Charset::Utf16, &answer)?;
     push_left(shown, collector, true)
 }
 
 /// The bytes of an answer to a request in UTF-16, in hexadecimal.
 pub(crate) fn push_spelt_bytes(shown: &mut Text, line: &str) -> Result<(), AllocError> {
-    let alloc = shown.alloc();
-    let body = spelt(alloc, line)?;
-    let mut collector = collector_of(alloc, true)?;
-    let answer = asked(
-        alloc,
-        &mut collector,
-        &base_path(alloc)?,
-        Charset::Utf16,
-        &body,
-        1,
-    )?;
+    let mut collector = collector_of(shown.alloc(), true)?;
+    let answer = answer_spelt(shown.alloc(), &mut collector, line)?;
     push_hexadecimal(shown, answer.body.as_slice())
+}
+
+fn answer_spelt(
+    alloc: Global,
+    collector: &mut Collector<MemKeeper>,
+    line: &str,
+) -> Result<Answer, AllocError> {
+    let body = spelt(alloc, line)?;
+    let target = base_path(alloc)?;
+    asked(alloc, collector, &target, Charset::Utf16, &body, 1)
 }
 
 /// The bytes of `SPELLING: EDITS`.

@@ -14,89 +14,24 @@ use wef_keeper::Keeper;
 const BEFORE: u64 = 7;
 
 /// The subscription that a request is for, how it differs from the delivery, the call of the store
-/// that fails from then on, and what is answered and kept where an opening finds the rows before a
-/// commit that failed, and where it finds those with its changes: behind the request, and behind the
-/// delivery as it is.
-const ASKED: &[(&str, &str, u64, &str, &str)] = &[
-    // The opening, the three readings, and the commit.
-    (
-        "base",
-        "",
-        1,
-        "500 1 InternalError;before;200 2 ;after;",
-        "500 1 InternalError;before;200 2 ;after;",
-    ),
-    (
-        "base",
-        "",
-        2,
-        "500 1 InternalError;before;200 2 ;after;",
-        "500 1 InternalError;before;200 2 ;after;",
-    ),
-    (
-        "base",
-        "",
-        3,
-        "500 1 InternalError;before;200 2 ;after;",
-        "500 1 InternalError;before;200 2 ;after;",
-    ),
-    (
-        "base",
-        "",
-        4,
-        "500 1 InternalError;before;200 2 ;after;",
-        "500 1 InternalError;before;200 2 ;after;",
-    ),
-    (
-        "base",
-        "",
-        5,
-        "500 1 InternalError;before;200 2 ;after;",
-        "500 1 InternalError;after;200 2 ;after;",
-    ),
-    // The report behind it.
-    (
-        "base",
-        "",
-        6,
-        "200 1 ;Failed;200 2 ;after;",
-        "200 1 ;Failed;200 2 ;after;",
-    ),
-    (
-        "base",
-        "",
-        99,
-        "200 1 ;after;200 2 ;after;",
-        "200 1 ;after;200 2 ;after;",
-    ),
-    // A source that doesn't want to be told.
-    (
-        "base",
-        QUIET,
-        4,
-        "500 1 InternalError;before;200 2 ;after;",
-        "500 1 InternalError;before;200 2 ;after;",
-    ),
-    (
-        "base",
-        QUIET,
-        5,
-        "500 1 InternalError;before;200 2 ;after;",
-        "500 1 InternalError;after;200 2 ;after;",
-    ),
-    (
-        "base",
-        QUIET,
-        99,
-        "204;after;200 1 ;after;",
-        "204;after;200 1 ;after;",
-    ),
+/// that fails from then on, and what is answered and kept: behind the request, and behind the delivery
+/// as it is.
+const ASKED: &[(&str, &str, u64, &str)] = &[
+    // The opening, and the three readings.
+    ("base", "", 1, "500 1 InternalError;before;200 2 ;after;"),
+    ("base", "", 2, "500 1 InternalError;before;200 2 ;after;"),
+    ("base", "", 3, "500 1 InternalError;before;200 2 ;after;"),
+    ("base", "", 4, "500 1 InternalError;before;200 2 ;after;"),
+    ("base", QUIET, 4, "500 1 InternalError;before;200 2 ;after;"),
+    // The report behind the commit, and nothing.
+    ("base", "", 6, "200 1 ;Failed;200 2 ;after;"),
+    ("base", "", 99, "200 1 ;after;200 2 ;after;"),
+    ("base", QUIET, 99, "204;after;200 1 ;after;"),
     // A store that isn't asked doesn't fail.
     (
         "base",
         "<s:Envelope => \\xFF<s:Envelope",
         1,
-        "500 1 EncodingLimit;Failed;200 2 ;after;",
         "500 1 EncodingLimit;Failed;200 2 ;after;",
     ),
     (
@@ -104,13 +39,11 @@ const ASKED: &[(&str, &str, u64, &str, &str)] = &[
         "</s:Body> => &</s:Body>",
         1,
         "500 1 InvalidMessage;Failed;200 2 ;after;",
-        "500 1 InvalidMessage;Failed;200 2 ;after;",
     ),
     (
         "base",
         "</s:Header> => <x s:mustUnderstand=\"1\"/></s:Header>",
         1,
-        "500 1 MustUnderstand;Failed;200 2 ;after;",
         "500 1 MustUnderstand;Failed;200 2 ;after;",
     ),
     (
@@ -118,42 +51,26 @@ const ASKED: &[(&str, &str, u64, &str, &str)] = &[
         "<a:MessageID> => <a:Other> | </a:MessageID> => </a:Other>",
         1,
         "500 1 MessageInformationHeaderRequired;Failed;200 2 ;after;",
-        "500 1 MessageInformationHeaderRequired;Failed;200 2 ;after;",
     ),
     (
         "base",
         "wsman/Events => wsman/Other",
         1,
         "500 1 ActionNotSupported;Failed;200 2 ;after;",
-        "500 1 ActionNotSupported;Failed;200 2 ;after;",
     ),
     (
         "",
         "",
         1,
-        "500 1 DestinationUnreachable;Failed;200 2 ;after;",
         "500 1 DestinationUnreachable;Failed;200 2 ;after;",
     ),
     // A subscription that isn't there.
-    (
-        "none",
-        "",
-        1,
-        "500 1 InternalError;before;200 2 ;after;",
-        "500 1 InternalError;before;200 2 ;after;",
-    ),
-    (
-        "none",
-        "",
-        2,
-        "500 1 InternalError;before;200 2 ;after;",
-        "500 1 InternalError;before;200 2 ;after;",
-    ),
+    ("none", "", 1, "500 1 InternalError;before;200 2 ;after;"),
+    ("none", "", 2, "500 1 InternalError;before;200 2 ;after;"),
     (
         "none",
         "",
         3,
-        "500 1 DestinationUnreachable;Failed;200 2 ;after;",
         "500 1 DestinationUnreachable;Failed;200 2 ;after;",
     ),
     // A batch that isn't good, and one that isn't well-formed.
@@ -162,13 +79,11 @@ const ASKED: &[(&str, &str, u64, &str, &str)] = &[
         ">8< => >0<",
         1,
         "500 1 InternalError;before;200 2 ;after;",
-        "500 1 InternalError;before;200 2 ;after;",
     ),
     (
         "base",
         ">8< => >0<",
         2,
-        "500 1 InternalError;before;200 2 ;after;",
         "500 1 InternalError;before;200 2 ;after;",
     ),
     (
@@ -176,13 +91,11 @@ const ASKED: &[(&str, &str, u64, &str, &str)] = &[
         ">8< => >0<",
         3,
         "500 1 InvalidMessage;Failed;200 2 ;after;",
-        "500 1 InvalidMessage;Failed;200 2 ;after;",
     ),
     (
         "base",
         ">8< => >10<",
         2,
-        "500 1 InternalError;before;200 2 ;after;",
         "500 1 InternalError;before;200 2 ;after;",
     ),
     (
@@ -190,8 +103,19 @@ const ASKED: &[(&str, &str, u64, &str, &str)] = &[
         ">8< => >10<",
         3,
         "500 1 InvalidMessage;Failed;200 2 ;after;",
-        "500 1 InvalidMessage;Failed;200 2 ;after;",
     ),
+];
+
+/// The call of the store in which a delivery is committed.
+const COMMIT: u64 = 5;
+
+/// How a request differs from the delivery, whether an opening finds the changes of its commit, which
+/// fails, and what is answered and kept.
+const COMMITTED: &[(&str, bool, &str)] = &[
+    ("", false, "500 1 InternalError;before;200 2 ;after;"),
+    ("", true, "500 1 InternalError;after;200 2 ;after;"),
+    (QUIET, false, "500 1 InternalError;before;200 2 ;after;"),
+    (QUIET, true, "500 1 InternalError;after;200 2 ;after;"),
 ];
 
 /// Without the wish to be told.
@@ -298,11 +222,20 @@ fn asked(alloc: Global, sub: &str, edits: &str, fails_at: u64, keeps: bool) -> R
 
 #[test]
 fn a_store_that_fails_is_an_internal_error(rt: HostRuntime) -> Result<(), Fail> {
-    for &(sub, edits, fails_at, before, after) in ASKED {
-        let text = asked(rt.alloc(), sub, edits, fails_at, false)?;
-        assert_eq!(rt; text.as_str(), before, "before {fails_at}: {sub} {edits}");
-        let text = asked(rt.alloc(), sub, edits, fails_at, true)?;
-        assert_eq!(rt; text.as_str(), after, "after {fails_at}: {sub} {edits}");
+    for &(sub, edits, fails_at, want) in ASKED {
+        for keeps in [false, true] {
+            let text = asked(rt.alloc(), sub, edits, fails_at, keeps)?;
+            assert_eq!(rt; text.as_str(), want, "at {fails_at} {keeps}: {sub} {edits}");
+        }
+    }
+    Ok(())
+}
+
+#[test]
+fn a_commit_that_fails_is_an_internal_error(rt: HostRuntime) -> Result<(), Fail> {
+    for &(edits, keeps, want) in COMMITTED {
+        let text = asked(rt.alloc(), "base", edits, COMMIT, keeps)?;
+        assert_eq!(rt; text.as_str(), want, "{keeps}: {edits}");
     }
     Ok(())
 }
