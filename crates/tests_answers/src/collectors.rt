@@ -128,7 +128,10 @@ fn is_same(before: &[Row], rows: &[Row]) -> bool {
         return false;
     }
     for (index, row) in rows.iter().enumerate() {
-        if !is_row(&before[index], row) {
+        let Some(was) = before.get(index) else {
+            return false;
+        };
+        if !is_row(was, row) {
             return false;
         }
     }

@@ -8,12 +8,14 @@ use wef_base::{Bytes, Charset, Text};
 /// What is said to each front of a request and what is kept behind it, `FIRST-LAST: ANSWER` for
 /// fronts of so many bytes.
 pub(crate) fn push_cuts(shown: &mut Text, body: &Bytes) -> Result<(), AllocError> {
-    let mut runs = Runs::new(shown.alloc());
-    for length in 0..=body.len() {
-        let front = &body.as_slice()[..length];
-        let said = said_to(shown.alloc(), front)?;
-        runs.add(shown, length as u64, said)?;
+    let alloc = shown.alloc();
+    let bytes = body.as_slice();
+    let mut runs = Runs::new(alloc);
+    for cut in 0..bytes.len() {
+        let said = said_to(alloc, &bytes[..cut])?;
+        runs.add(shown, cut as u64, said)?;
     }
+    runs.add(shown, bytes.len() as u64, said_to(alloc, bytes)?)?;
     runs.push_last(shown)
 }
 
