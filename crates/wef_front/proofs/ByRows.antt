@@ -1,13 +1,12 @@
 -- The answers of the collector, by the rows that it finds and by the plan of its store.
-use Rattle.std.proofs.Common.{◌≡◌, ℕ, Bool, true, false, cond, List, [], refl, sym, ap, ◌∙◌, subst, inl, inr}
-use Rattle.std.specs.Prelude.{Option, Some, None, Result, Ok, Err, IfErr, IfSome, ◌⊎◌}
+use Rattle.std.proofs.Common.{◌≡◌, ℕ, Bool, true, false, cond, List, refl, sym, ap, ◌∙◌, subst, inl, inr}
+use Rattle.std.specs.Prelude.{Option, Some, Ok, Err, IfSome, ◌⊎◌}
 use Rattle.wef_base.specs.declared.tree.Charset.{Charset}
-use Rattle.wef_ids.specs.declared.FaultName.{FaultName}
 use Rattle.wef_ids.specs.declared.FaultName.TheVariants as the
 use Rattle.wef_ids.specs.declared.MessageId.{MessageId}
 use Rattle.wef_ids.specs.declared.ids.Ids.{Ids}
 use Rattle.wef_keeper.specs.Access.{From, HasCause, is_planned, plan_with, tries_with}
-use Rattle.wef_keeper.specs.Calls.{ByPlan, Did, Makes, OnFaultImages, WhereMade}
+use Rattle.wef_keeper.specs.Calls.{Makes, OnFaultImages, WhereMade}
 use Rattle.wef_keeper.specs.Keeping.{Store, outcome}
 use Rattle.wef_keeper.specs.Rows.{Rows}
 use Rattle.wef_keeper.specs.declared.access.StoreFault.TheVariants as store
@@ -16,14 +15,13 @@ use Rattle.wef_keeper.specs.declared.keeping.Plan.TheVariants.{Done}
 use Rattle.wef_keeper.specs.declared.keys.Change.{Change}
 use Rattle.wef_keeper.proofs.Calls.{from_weaker}
 use Rattle.wef_keeper.proofs.Told.{told_map}
-use Rattle.wef_collector_rows.specs.Faults.{collector_store}
 use Rattle.wef_collector_rows.specs.Forms.{AreFormed}
 use Rattle.wef_collector_rows.specs.declared.faults.CollectorFault.{CollectorFault}
 use Rattle.wef_collector_rows.specs.declared.faults.CollectorFault.TheVariants.{NoMemory, NoSubscription, Exists, Ended, NotWellFormed, TooMany, Failed, Full}
 use Rattle.wef_collector.specs.Calls.{Effect}
 use Rattle.wef_front.specs.Laws.{GoesByPlan, GoesByRows, HasFailed, IsReply, said_planned, tries_by}
 use Rattle.wef_front.specs.Replies.{IsAnswer, answer_of, ids_behind, reply, rows_by}
-use Rattle.wef_front.specs.Steps.{Calls, IsAnswered, Says, done_said, effect_in, fault_for, said_by, said_of}
+use Rattle.wef_front.specs.Steps.{Says, done_said, effect_in, fault_for, said_by, said_of}
 use Rattle.wef_front.specs.declared.answering.Answer.{Answer}
 use Rattle.wef_front.specs.declared.hearing.Asked.{Asked}
 use Rattle.wef_front.specs.declared.hearing.Asked.TheVariants.{Refused, Unread, Take}
@@ -89,7 +87,7 @@ reply_goes relates asked ack charset moment answer ids ids_now before now same i
     let heard : Heard = record { relates = relates; asked = asked } in
     from_weaker _ (λ found after. IsReply heard charset moment answer ids ids_now before now found after ⊎ HasFailed heard charset moment answer ids ids_now before now) before now
     (λ found after either. elim either [
-      inl goes ↦ inl (let said = goes.0 ∙ same (effect_in asked moment found) in record {
+      | inl goes ↦ inl (let said = goes.0 ∙ same (effect_in asked moment found) in record {
         reply = λ i. record {
           answer = (is.written ∙ ap (answer_of ids charset relates) said) i;
           rows = goes.1 i;

@@ -1,6 +1,6 @@
 -- Where the collector says that its store failed, it did.
 use Rattle.std.proofs.Common.{◌≡◌, ℕ, Bool, true, false, cond, List, refl, sym, ◌∙◌, subst}
-use Rattle.std.specs.Prelude.{Option, Some, None, Result, Ok, Err, IfErr}
+use Rattle.std.specs.Prelude.{Option, Some, None, Result, Ok, Err}
 use Rattle.wef_base.specs.declared.tree.Charset.{Charset}
 use Rattle.wef_base.specs.declared.tree.Element.{Element}
 use Rattle.wef_batch.specs.declared.items.Batch.{Batch}
@@ -20,12 +20,11 @@ use Rattle.wef_keeper.specs.Access.{HasCause}
 use Rattle.wef_keeper.specs.Keeping.{Store}
 use Rattle.wef_keeper.specs.Rows.{Rows}
 use Rattle.wef_collector_rows.specs.Forms.{AreFormed}
-use Rattle.wef_collector_rows.specs.declared.faults.CollectorFault.{CollectorFault}
 use Rattle.wef_collector_rows.specs.declared.faults.CollectorFault.TheVariants.{NoMemory, NoSubscription, Exists, Ended, NotWellFormed, TooMany, Failed, Full}
 use Rattle.wef_collector.specs.Calls.{Effect}
-use Rattle.wef_front.specs.Heard.{Hears, HearsRead, asked_at, asked_by, asked_of, batch_in, events_asked, heard_in, is_nameless}
+use Rattle.wef_front.specs.Heard.{Hears, HearsRead, asked_at, asked_by, asked_of, batch_in, events_asked, is_nameless}
 use Rattle.wef_front.specs.Replies.{IsAnswer}
-use Rattle.wef_front.specs.Steps.{IsAnswered, Says, Steps, effect_in}
+use Rattle.wef_front.specs.Steps.{Says, Steps, effect_in}
 use Rattle.wef_front.specs.declared.hearing.Asked.{Asked}
 use Rattle.wef_front.specs.declared.hearing.Asked.TheVariants.{Refused, Unread, Take}
 use Rattle.wef_front.specs.declared.answering.Answer.{Answer}

@@ -1,9 +1,9 @@
 -- What an envelope in a good tree says is good: the text of its id, and the elements of its body.
 use Rattle.std.proofs.Common.{◌≡◌, ℕ, Bool, true, false, not, cond, List, [], ◌∷◌, subst}
-use Rattle.std.specs.Prelude.{Option, Some, None, Result, IfOk, IfSome, ◌&&◌, codes}
-use Rattle.std.specs.List.{AllByRecursion, find, list_any}
+use Rattle.std.specs.Prelude.{Option, Some, None, IfOk, IfSome, ◌&&◌, codes}
+use Rattle.std.specs.List.{find, list_any}
 use Rattle.std.specs.Option.{option_and_then, option_map}
-use Rattle.std.specs.declared.result.Result.TheVariants.{Ok, Err}
+use Rattle.std.specs.declared.result.Result.TheVariants.{Ok}
 use Rattle.wef_base.specs.declared.tree.Element.{Element}
 use Rattle.wef_batch.specs.Reading.{AreGoodTrees}
 use Rattle.wef_elements.specs.Children.{elements_in, has_words}

@@ -1,6 +1,6 @@
 -- The collector's answers are the replies that the rows which it finds give, unless its store fails; and it says so only where
 -- it fails.
-use Rattle.std.specs.Prelude.{◌≡◌, ℕ, Bool, true, ◌⊎◌, List, [], Some, Ok, Err, IfSome, if◌then◌else◌}
+use Rattle.std.specs.Prelude.{◌≡◌, ℕ, true, ◌⊎◌, List, Some, Ok, Err, IfSome, if◌then◌else◌}
 use Rattle.wef_base.specs.declared.tree.Charset.{Charset}
 use Rattle.wef_ids.specs.declared.FaultName.TheVariants.{InternalError}
 use Rattle.wef_ids.specs.declared.ids.Ids.{Ids}
@@ -17,7 +17,7 @@ use Rattle.wef_front.specs.Replies.{IsAnswer, answer_of, ids_behind, reply}
 use Rattle.wef_front.specs.Steps.{effect_in, said_by}
 use Rattle.wef_front.specs.declared.answering.Answer.{Answer}
 use Rattle.wef_front.specs.declared.hearing.Asked.{Asked}
-use Rattle.wef_front.specs.declared.hearing.Asked.TheVariants.{Refused, Unread, Take}
+use Rattle.wef_front.specs.declared.hearing.Asked.TheVariants.{Refused}
 use Rattle.wef_front.specs.declared.hearing.Heard.{Heard}
 use Rattle.wef_front.specs.declared.saying.Said.{Said}
 use Rattle.wef_front.specs.declared.saying.Said.TheVariants.{Fault}

@@ -1,6 +1,5 @@
 -- What the collector does with what was heard, and what it says to that.
 use Rattle.std.specs.Prelude.{◌≡◌, ℕ, Bool, true, false, [], Result, Ok, Err, IfErr, if◌then◌else◌}
-use Rattle.wef_batch.specs.declared.items.Batch.{Batch}
 use Rattle.wef_envelope.specs.Faults.{is_known}
 use Rattle.wef_ids.specs.declared.FaultName.{FaultName}
 use Rattle.wef_ids.specs.declared.FaultName.TheVariants as the

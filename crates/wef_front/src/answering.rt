@@ -1,7 +1,7 @@
 //! The collector's answers to messages as bytes.
 
-ghost use Rattle.std.specs.Prelude.{◌≡◌, ◌⊎◌, ◌∷◌, [], true, option_copied, IfErr, IfOk, IfSome, OnErr, OnOk};
-ghost use Rattle.wef_envelope.specs.Faults.{action_of, fault_of, fault_tree, is_known};
+ghost use Rattle.std.specs.Prelude.{◌≡◌, ◌⊎◌, true, option_copied, IfErr, IfOk, IfSome, OnErr, OnOk};
+ghost use Rattle.wef_envelope.specs.Faults.{is_known};
 ghost use Rattle.wef_envelope.specs.Written.{written};
 ghost use Rattle.wef_front.specs.Heard.{Hears, IsSound};
 ghost use Rattle.wef_front.specs.Replies.{IsAnswer, IsUnanswered, MayHaveDrawn, ack_envelope, answer_of, answer_with, envelope_with, fault_envelope, ids_behind};
@@ -20,7 +20,7 @@ use wef_collector::Collector;
 use wef_envelope::actions::{ACK, ANONYMOUS};
 use wef_envelope::{Envelope, Fault, FaultName, MessageId, fault_node, to_node};
 use wef_keeper::Keeper;
-use wef_tree_writing::write_tree;
+use wef_tree::write_tree;
 
 /// An end's answer: a status of HTTP, and the bytes of an envelope or none.
 #[derive(Debug, Drop)]
@@ -32,7 +32,8 @@ pub struct Answer {
 /// Answers the bytes of a request to the collector: 200 with an envelope, 204 with nothing where the
 /// sender doesn't want to be told, or 500 with a fault, which is the profile's status for all of
 /// them. It is written in the charset of the request. Where there is no memory for the answer, what
-/// the message asks is done or it isn't, and an id may be drawn.
+/// the message asks is done or it isn't, and an id may be drawn. `host` is the one that the request
+/// names; it says where batches come to, which no message asks yet.
 pub fn collector_answer<K: Keeper>(
     alloc: Global,
     collector: &mut Collector<K>,

@@ -14,8 +14,7 @@ use wef_base::{Charset, Element, SourceName, SubId, Text, ValueFault};
 use wef_batch::{Batch, BatchFault, read_batch};
 use wef_envelope::actions::{ENUMERATE, EVENTS};
 use wef_envelope::{Envelope, EnvelopeFault, FaultName, MessageId, from_node, id_in};
-use wef_tree_reading::read_tree;
-use wef_xml::TreeFault;
+use wef_tree::{TreeFault, read_tree};
 
 /// What a message asks.
 #[derive(Debug, Drop)]

@@ -1,4 +1,4 @@
-use Rattle.std.proofs.Common.{◌≡◌, [], ap, sym, ◌∙◌, subst}
+use Rattle.std.proofs.Common.{◌≡◌, ap, sym, ◌∙◌, subst}
 use Rattle.std.specs.Prelude.{option_copied}
 use Rattle.wef_envelope.specs.Written.{written}
 use Rattle.wef_envelope.specs.declared.actions.TheConstants.{ACK}
