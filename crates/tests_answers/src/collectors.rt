@@ -30,7 +30,7 @@ fn started(alloc: Global) -> Result<Collector<MemKeeper>, AllocError> {
     }
 }
 
-fn base(alloc: Global) -> Result<SubId, AllocError> {
+pub(crate) fn base(alloc: Global) -> Result<SubId, AllocError> {
     match SubId::read(&Text::from_str(alloc, "base")?) {
         Ok(sub) => Ok(sub),
         Err(_) => Err(AllocError),

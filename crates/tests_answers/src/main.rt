@@ -1,14 +1,15 @@
 //! Answers the requests of its input as a collector does, and prints each with the answer, and with
-//! what is kept behind it.
+//! what is kept behind it; and hears replies as a source does.
 //!
 //! A line `=== TASK: TITLE` says what is done with each line behind it, each to a new collector. Most
-//! lines say how a request differs from one delivery: `OLD => NEW` with ` | ` between them, or
+//! lines say how a request differs from one delivery, or a reply from one acknowledgement: `OLD => NEW` with ` | ` between them, or
 //! `as it is`. What they hold has the escapes of Rust's literals.
 #![tactic(auto)]
 
 mod answers;
 mod collectors;
 mod cuts;
+mod replies;
 mod tasks;
 mod utf16;
 

@@ -3,6 +3,7 @@
 use crate::answers::{base_path, path_to, push_answered, push_at_path, push_sequence, push_whole};
 use crate::collectors::collector_of;
 use crate::cuts::push_cuts;
+use crate::replies::push_heard;
 use crate::utf16::{push_spelt, push_spelt_bytes};
 use std::alloc::{AllocError, Global};
 use tests_tasks::Tasks;
@@ -39,6 +40,8 @@ pub(crate) enum Task {
     Utf16Bytes,
     /// `cut`: what is said to each front of a request.
     Cut,
+    /// `reply`: what a source makes of a reply.
+    Reply,
 }
 
 impl Tasks for Task {
@@ -58,6 +61,7 @@ impl Tasks for Task {
             "utf-16" => Some(Task::Utf16),
             "utf-16 bytes" => Some(Task::Utf16Bytes),
             "cut" => Some(Task::Cut),
+            "reply" => Some(Task::Reply),
             _ => None,
         }
     }
@@ -78,6 +82,7 @@ impl Tasks for Task {
             Task::Utf16 => push_spelt(&mut shown, line)?,
             Task::Utf16Bytes => push_spelt_bytes(&mut shown, line)?,
             Task::Cut => push_cuts(&mut shown, &edited(alloc, line)?)?,
+            Task::Reply => push_heard(&mut shown, line)?,
         }
         Ok(shown)
     }

@@ -8,10 +8,15 @@ use wef_base::{Bytes, Text};
 const DELIVERY: &str =
     "<s:Envelope xmlns:s=\"http://www.w3.org/2003/05/soap-envelope\" xmlns:a=\"http://schemas.xmlsoap.org/ws/2004/08/addressing\" xmlns:w=\"http://schemas.dmtf.org/wbem/wsman/1/wsman.xsd\"><s:Header><a:Action s:mustUnderstand=\"true\">http://schemas.dmtf.org/wbem/wsman/1/wsman/Events</a:Action><a:MessageID>uuid:0A0B0C0D-0000-0000-0000-000000000001</a:MessageID><w:Bookmark><BookmarkList><Bookmark Channel=\"Application\" RecordId=\"9\" IsCurrent=\"true\"/></BookmarkList></w:Bookmark><w:AckRequested/></s:Header><s:Body><w:Events><w:Event Action=\"http://schemas.dmtf.org/wbem/wsman/1/wsman/Event\"><![CDATA[<Event><System><EventRecordID>8</EventRecordID><Channel>Application</Channel></System></Event>]]></w:Event></w:Events></s:Body></s:Envelope>";
 
-/// The delivery with these edits, each `OLD => NEW`, with ` | ` between them; `as it is` for none. It is
-/// `no such text` where an edit's isn't there.
+/// The delivery with these edits.
 pub fn edited(alloc: Global, edits: &str) -> Result<Bytes, AllocError> {
-    let mut document = Text::from_str(alloc, DELIVERY)?;
+    edited_from(alloc, DELIVERY, edits)
+}
+
+/// A document with edits, each `OLD => NEW`, with ` | ` between them; `as it is` for none. It is
+/// `no such text` where an edit's isn't there.
+pub fn edited_from(alloc: Global, document: &str, edits: &str) -> Result<Bytes, AllocError> {
+    let mut document = Text::from_str(alloc, document)?;
     if edits != "as it is" {
         for edit in edits.split(" | ") {
             document = edited_once(alloc, document.as_str(), edit)?;

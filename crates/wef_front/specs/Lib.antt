@@ -1,4 +1,5 @@
 pub mod Heard
+pub mod HeardReplies
 pub mod Laws
 pub mod Replies
 pub mod Steps

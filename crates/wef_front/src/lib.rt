@@ -1,11 +1,13 @@
-//! What an end answers to the bytes of a message.
+//! What both ends make of bytes: the collector of those of a message, a source of those of a reply.
 #![tactic(auto)]
 
 pub mod answering;
 mod hearing;
 pub mod laws;
+pub mod listening;
 mod saying;
 pub mod targets;
 
 pub use answering::{Answer, collector_answer};
+pub use listening::{Hears, source_hears};
 pub use targets::Target;
