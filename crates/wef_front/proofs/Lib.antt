@@ -4,4 +4,5 @@ pub mod IdTexts
 pub mod Numbered
 pub mod ReadIsGood
 pub mod RepliesAreGood
+pub mod RepliesAreHeard
 pub mod SaidOfCalls

@@ -2,7 +2,12 @@
 -- it fails.
 use Rattle.std.specs.Prelude.{◌≡◌, ℕ, true, ◌⊎◌, List, Some, Ok, Err, IfSome, if◌then◌else◌}
 use Rattle.wef_base.specs.declared.tree.Charset.{Charset}
+use Rattle.wef_base.specs.declared.tree.Charset.TheVariants.{Utf8}
+use Rattle.wef_envelope.specs.Faults.{is_known}
+use Rattle.wef_envelope.specs.Laws.{IsSpelt}
+use Rattle.wef_ids.specs.declared.FaultName.{FaultName}
 use Rattle.wef_ids.specs.declared.FaultName.TheVariants.{InternalError}
+use Rattle.wef_ids.specs.declared.MessageId.{MessageId}
 use Rattle.wef_ids.specs.declared.ids.Ids.{Ids}
 use Rattle.wef_keeper.specs.Access.{From, HasCause, is_planned, tries_with}
 use Rattle.wef_keeper.specs.Calls.{OnFaultImages}
@@ -12,7 +17,10 @@ use Rattle.wef_keeper.specs.declared.access.StoreFault.TheVariants.{Failed}
 use Rattle.wef_keeper.specs.declared.keeping.Plan.{Plan}
 use Rattle.wef_collector_rows.specs.Forms.{AreFormed}
 use Rattle.wef_collector.specs.Calls.{Effect}
+use Rattle.wef_source.specs.declared.messages.Reply.TheVariants as replies
+use Rattle.wef_xml.specs.Good.{IsXmlText}
 use Rattle.wef_front.specs.Heard.{Hears}
+use Rattle.wef_front.specs.HeardReplies.{told}
 use Rattle.wef_front.specs.Replies.{IsAnswer, answer_of, ids_behind, reply}
 use Rattle.wef_front.specs.Steps.{effect_in, said_by}
 use Rattle.wef_front.specs.declared.answering.Answer.{Answer}
@@ -20,7 +28,7 @@ use Rattle.wef_front.specs.declared.hearing.Asked.{Asked}
 use Rattle.wef_front.specs.declared.hearing.Asked.TheVariants.{Refused}
 use Rattle.wef_front.specs.declared.hearing.Heard.{Heard}
 use Rattle.wef_front.specs.declared.saying.Said.{Said}
-use Rattle.wef_front.specs.declared.saying.Said.TheVariants.{Fault}
+use Rattle.wef_front.specs.declared.saying.Said.TheVariants.{Ack, Fault}
 use Rattle.wef_front.specs.declared.targets.Target.{Target}
 
 -- ---- by rows
@@ -89,3 +97,13 @@ InternalErrorsHaveACause =
     (target : Target) (charset charset_of_answer : Charset) (bytes : List ℕ) (heard : Heard) (moment : ℕ) (answer : Answer) (ids ids_now : Ids) (before now : Store) →
     Hears target charset bytes heard → (is : IsAnswer heard charset_of_answer moment answer ids ids_now before now) → is.said ≡ Fault InternalError →
     HasCause AreFormed true before now
+
+-- ---- what a source hears of it
+
+-- A source hears the acknowledgement that the collector writes, and each of its faults, as the answer to the message that it
+-- relates to, where that has the id of its text, which XML allows and has no spaces at its ends.
+pub record RepliesAreHeard : Type 0 where
+  pub acknowledgements : (ids : Ids) (relates : MessageId) → IsSpelt relates → IsXmlText relates.text → told (answer_of ids Utf8 (Some relates) Ack).body ≡ Some (relates, replies.Ack)
+  pub faults :
+      (name : FaultName) (ids : Ids) (relates : MessageId) → is_known name ≡ true → IsSpelt relates → IsXmlText relates.text →
+      told (answer_of ids Utf8 (Some relates) (Fault name)).body ≡ Some (relates, replies.Fault name)

@@ -1,6 +1,6 @@
 //! Laws of answers, each the contract of a function that does nothing.
 
-ghost use Rattle.wef_front.specs.Laws.{AnswersAreReplies, AnswersGoByPlan, InternalErrorsHaveACause};
+ghost use Rattle.wef_front.specs.Laws.{AnswersAreReplies, AnswersGoByPlan, InternalErrorsHaveACause, RepliesAreHeard};
 
 /// The collector answers what the rows that it finds give, and leaves what they give, unless its store
 /// fails. No answer takes more than one commit, and one that changes nothing takes none.
@@ -12,4 +12,10 @@ pub fn answers_are_replies()
 /// The collector says `InternalError` only where its store failed.
 pub fn internal_errors_have_a_cause()
     ensures { InternalErrorsHaveACause }
+{}
+
+/// What the collector says to a source, the source hears: an acknowledgement, and each fault that has a
+/// name of the table, as the answer to the message that it relates to.
+pub fn replies_are_heard()
+    ensures { RepliesAreHeard }
 {}

@@ -1,0 +1,115 @@
+-- A source hears what the collector says to it.
+use Rattle.std.proofs.Common.{◌≡◌, ℕ, true, false, cond, List, [], ◌∷◌, refl, ap, ◌∙◌}
+use Rattle.std.specs.Prelude.{Option, Some, None, Ok}
+use Rattle.std.specs.Option.{option_and_then, option_map, option_or}
+use Rattle.std.proofs.Math.Utf8.{encode}
+use Rattle.std.specs.Str.{chars}
+use Rattle.wef_base.specs.Names.{same}
+use Rattle.wef_base.specs.declared.tree.Charset.TheVariants.{Utf8}
+use Rattle.wef_base.specs.declared.tree.Element.{Element}
+use Rattle.wef_envelope.specs.Envelopes.{said}
+use Rattle.wef_envelope.specs.Faults.{action_by, action_of, fault_of, fault_tree, is_known, standard_of}
+use Rattle.wef_envelope.specs.Laws.{IsSpelt, IsTrimmed}
+use Rattle.wef_envelope.specs.Written.{written}
+use Rattle.wef_envelope.specs.declared.actions.TheConstants.{ACK, ANONYMOUS}
+use Rattle.wef_envelope.specs.declared.faults.Fault.{Fault}
+use Rattle.wef_envelope.specs.declared.faults.Standard.{Standard}
+use Rattle.wef_envelope.specs.declared.faults.Standard.TheVariants as the
+use Rattle.wef_envelope.proofs.FaultsAreRead.{faults_are_read}
+use Rattle.wef_envelope.proofs.WrittenIsRead.{written_is_read}
+use Rattle.wef_ids.specs.IdTexts.{id_of, id_of_value}
+use Rattle.wef_ids.specs.Ids.{next_id}
+use Rattle.wef_ids.specs.declared.FaultName.{FaultName}
+use Rattle.wef_ids.specs.declared.MessageId.{MessageId}
+use Rattle.wef_ids.specs.declared.ids.Ids.{Ids}
+use Rattle.wef_source.specs.declared.messages.Reply as reply
+use Rattle.wef_source.specs.declared.messages.Reply.TheVariants as replies
+use Rattle.wef_tree.proofs.BoundPrefixes.{same_self}
+use Rattle.wef_tree.proofs.SpellsAgain.{spells_again}
+use Rattle.wef_tree_reading.proofs.Functions.{is_given}
+use Rattle.wef_xml.specs.Canonical.{canonical, encoded}
+use Rattle.wef_xml.specs.Good.{IsGoodTree, IsXmlText}
+use Rattle.wef_front.specs.HeardReplies.{fault_among, told, told_by, told_in}
+use Rattle.wef_front.specs.Replies.{ack_envelope, answer_of, envelope_with, fault_envelope}
+use Rattle.wef_front.specs.declared.saying.Said.TheVariants.{Ack, Fault as FaultSaid}
+use Rattle.wef_front.proofs.IdTexts.{id_text_good, id_text_trimmed}
+use Rattle.wef_front.proofs.RepliesAreGood.{ack_reply_good, fault_reply_good}
+
+-- ---- envelopes
+
+-- no space is trimmed off the actions
+action_trimmed : (standard : Option Standard) → IsTrimmed (action_by standard)
+unfolding chars encode
+action_trimmed (Some the.Soap) = refl
+action_trimmed (Some the.Addressing) = refl
+action_trimmed (Some the.Eventing) = refl
+action_trimmed (Some the.Management) = refl
+action_trimmed (Some the.Enumeration) = refl
+action_trimmed None = refl
+
+ack_trimmed : IsTrimmed ACK.now
+unfolding chars encode
+ack_trimmed = refl
+
+anonymous_trimmed : IsTrimmed ANONYMOUS.now
+unfolding chars encode
+anonymous_trimmed = refl
+
+-- what is written for an envelope that answers another says it
+reply_said : (action : List ℕ) (body : List Element) (text : List ℕ) (relates : MessageId) → IsTrimmed action → IsTrimmed text → IsSpelt relates
+    → said (written (envelope_with action body (id_of text) (Some relates))) ≡ Ok (envelope_with action body (id_of text) (Some relates))
+reply_said action body text relates named spelt related =
+    written_is_read (envelope_with action body (id_of text) (Some relates)) (record {
+      to = anonymous_trimmed;
+      resource = tt;
+      reply_to = tt;
+      action = named;
+      id = record { trimmed = spelt; value = refl };
+      relates = related;
+      machine = tt;
+      max_size = tt;
+      identifier = tt;
+      bookmark = tt;
+    })
+
+-- the bytes of a good tree tell what the tree does
+tree_told : (root : Element) → IsGoodTree root → told (encoded Utf8 (canonical root)) ≡ told_by (said root)
+tree_told root good = ap (option_and_then (λ (r : Element). told_by (said r))) (is_given Utf8 (encoded Utf8 (canonical root)) root (spells_again Utf8 root good))
+
+-- ---- replies
+
+ack_told : (id relates : MessageId) → IsTrimmed id.text → IsXmlText id.text → IsSpelt relates → IsXmlText relates.text
+    → told (encoded Utf8 (canonical (written (ack_envelope id (Some relates))))) ≡ Some (relates, replies.Ack)
+unfolding written
+ack_told id relates trimmed allowed spelt related =
+    tree_told (written (ack_envelope id (Some relates))) (ack_reply_good id (Some relates) allowed related)
+    ∙ ap told_by (reply_said ACK.now [] id.text relates ack_trimmed trimmed spelt)
+    ∙ ap (λ b. told_in (Some relates) (cond b (Some replies.Ack) None)) (same_self ACK.now)
+
+-- no fault has the action of an acknowledgement
+no_ack : (standard : Option Standard) → same (action_by standard) ACK.now ≡ false
+no_ack (Some the.Soap) = refl
+no_ack (Some the.Addressing) = refl
+no_ack (Some the.Eventing) = refl
+no_ack (Some the.Management) = refl
+no_ack (Some the.Enumeration) = refl
+no_ack None = refl
+
+fault_told : (name : FaultName) (id relates : MessageId) → is_known name ≡ true → IsTrimmed id.text → IsXmlText id.text → IsSpelt relates → IsXmlText relates.text
+    → told (encoded Utf8 (canonical (written (fault_envelope name id (Some relates))))) ≡ Some (relates, replies.Fault name)
+unfolding written
+fault_told name id relates known trimmed allowed spelt related =
+    let body : List Element = fault_tree (fault_of name) ∷ [] in
+    tree_told (written (fault_envelope name id (Some relates))) (fault_reply_good name id (Some relates) known allowed related)
+    ∙ ap told_by (reply_said (action_of name) body id.text relates (action_trimmed (standard_of name)) trimmed spelt)
+    ∙ ap (λ b. told_in (Some relates) (cond b (Some replies.Ack) (fault_among body))) (no_ack (standard_of name))
+    ∙ ap (λ (o : Option Fault). told_in (Some relates) (option_or (option_map (λ (f : Fault). replies.Fault f.name) o) None)) (faults_are_read name known)
+
+pub acks_are_heard : (ids : Ids) (relates : MessageId) → IsSpelt relates → IsXmlText relates.text
+    → told (answer_of ids Utf8 (Some relates) Ack).body ≡ Some (relates, replies.Ack)
+acks_are_heard ids relates spelt related = ack_told (id_of_value (next_id ids)) relates (id_text_trimmed (next_id ids)) (id_text_good (next_id ids)) spelt related
+
+pub faults_are_heard : (name : FaultName) (ids : Ids) (relates : MessageId) → is_known name ≡ true → IsSpelt relates → IsXmlText relates.text
+    → told (answer_of ids Utf8 (Some relates) (FaultSaid name)).body ≡ Some (relates, replies.Fault name)
+faults_are_heard name ids relates known spelt related =
+    fault_told name (id_of_value (next_id ids)) relates known (id_text_trimmed (next_id ids)) (id_text_good (next_id ids)) spelt related
