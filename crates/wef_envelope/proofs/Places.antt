@@ -1,12 +1,13 @@
 -- Headers at places: what is looked up among them is what stands at its place.
-use Rattle.std.proofs.Common.{◌≡◌, ◌==◌, Bool, true, false, ◌&&◌, ◌||◌, not, is_some, cond, List, [], ◌∷◌, refl, ap, ◌∙◌}
+use Rattle.std.proofs.Common.{◌≡◌, ℕ, ◌==◌, Bool, true, false, ◌&&◌, ◌||◌, not, is_some, cond, List, [], ◌∷◌, refl, ap, sym, subst, ◌∙◌, arith}
 use Rattle.std.specs.Prelude.{Option, Some, None, IfSome}
 use Rattle.std.specs.List.{find, list_any}
 use Rattle.std.specs.Option.{option_or}
 use Rattle.std.proofs.lemmas.Bool.{and_parts}
+use Rattle.std.proofs.lemmas.Bool.Decides.{nat_tests}
 use Rattle.wef_base.specs.declared.tree.Element.{Element}
 use Rattle.wef_base.specs.declared.tree.Node.{Node}
-use Rattle.wef_envelope.specs.Envelopes.{comes_again, is_beyond, is_demand, is_kind, may_repeat, repeated}
+use Rattle.wef_envelope.specs.Envelopes.{comes_again, is_beyond, is_demand, is_kind, may_repeat, only, repeated}
 use Rattle.wef_envelope.specs.Headers.{first, header_of, is_header, name_of, number_of, space_of}
 use Rattle.wef_envelope.specs.Spaces.{addressing, eventing, machine, management, windows}
 use Rattle.wef_envelope.specs.Written.{Place, standing}
@@ -85,6 +86,34 @@ and_none : (b c : Bool) → c ≡ false → (b && c) ≡ false
 and_none true c none = none
 and_none false c none = refl
 
+unless : (b : Bool) → not b ≡ true → b ≡ false
+unless true e = let bad : ⊥ = cc in absurd bad
+unless false e = refl
+
+-- the one header of a kind is what stands at its place
+pub only_at : (h : Header) (ps : List Place) → ArePlaced ps → differ ps ≡ true → only h (standing ps) ≡ at_place h ps
+only_at h [] placed apart = refl
+only_at h ((k, None) ∷ ps) placed apart =
+    only_at h ps placed.1 (and_parts (not (list_any (λ (q : Place). number_of k == number_of q.0) ps)) (differ ps) apart).1 ∙ by (number_of h == number_of k)
+  where
+    by : (b : Bool) → at_place h ps ≡ option_or (cond b None None) (at_place h ps)
+    by true = refl
+    by false = refl
+only_at h ((k, Some e) ∷ ps) placed apart =
+    let parts = and_parts (not (list_any (λ (q : Place). number_of k == number_of q.0) ps)) (differ ps) apart in
+    let alone : list_any (λ (q : Place). number_of k == number_of q.0) ps ≡ false = unless (list_any (λ (q : Place). number_of k == number_of q.0) ps) parts.0 in
+    ap (λ o. cond (is_header h o) (cond (list_any (is_kind h) (standing ps)) None (Some e)) (only h (standing ps))) placed.0
+    ∙ by (number_of h == number_of k) refl (only_at h ps placed.1 parts.1)
+    (λ same. absent h ps placed.1 (subst (λ (n : ℕ). list_any (λ (q : Place). n == number_of q.0) ps ≡ false) (sym (same_number (number_of h) (number_of k) same)) alone))
+  where
+    same_number : (n m : ℕ) → (n == m) ≡ true → n ≡ m
+    same_number n m h = grind (arith, nat_tests)
+
+    by : (b : Bool) → (number_of h == number_of k) ≡ b → only h (standing ps) ≡ at_place h ps → ((number_of h == number_of k) ≡ true → list_any (is_kind h) (standing ps) ≡ false)
+        → cond b (cond (list_any (is_kind h) (standing ps)) None (Some e)) (only h (standing ps)) ≡ option_or (cond b (Some e) None) (at_place h ps)
+    by true is rest none = ap (λ (c : Bool). cond c None (Some e)) (none is)
+    by false is rest none = rest
+
 pub none_repeated : (ps : List Place) → ArePlaced ps → differ ps ≡ true → repeated (standing ps) ≡ None
 none_repeated [] placed apart = refl
 none_repeated ((k, None) ∷ ps) placed apart =
@@ -94,10 +123,6 @@ none_repeated ((k, Some e) ∷ ps) placed apart =
     let none : comes_again (header_of e) (standing ps) ≡ false =
     ap (λ o. comes_again o (standing ps)) placed.0 ∙ and_none (not (may_repeat k)) (list_any (is_kind k) (standing ps)) (absent k ps placed.1 (unless (list_any (λ (q : Place). number_of k == number_of q.0) ps) parts.0)) in
     ap (λ (b : Bool). cond b (Some e) (repeated (standing ps))) none ∙ none_repeated ps placed.1 parts.1
-  where
-    unless : (b : Bool) → not b ≡ true → b ≡ false
-    unless true e = let bad : ⊥ = cc in absurd bad
-    unless false e = refl
 
 pub understood : (ps : List Place) → ArePlaced ps → find is_beyond (standing ps) ≡ None
 understood [] placed = refl

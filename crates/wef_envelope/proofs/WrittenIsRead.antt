@@ -9,7 +9,7 @@ use Rattle.wef_elements.specs.Texts.{only_text, said_in}
 use Rattle.wef_elements.proofs.Again.{elements_again, said_again, wordless}
 use Rattle.wef_ids.specs.IdTexts.{id_of}
 use Rattle.wef_ids.specs.declared.MessageId.{MessageId}
-use Rattle.wef_envelope.specs.Envelopes.{address_in, envelope_of, may_repeat, of_parts, parts_among, parts_of, said, text_of, unless_beyond, unless_repeated, with_required}
+use Rattle.wef_envelope.specs.Envelopes.{address_in, envelope_of, id_in, may_repeat, of_parts, only, parts_among, parts_of, said, text_of, unless_beyond, unless_repeated, with_required}
 use Rattle.wef_envelope.specs.Headers.{header_of, name_of, space_of}
 use Rattle.wef_envelope.specs.Laws.{IsPlain, IsSpelt, IsTrimmed}
 use Rattle.wef_envelope.specs.Spaces.{addressing, soap}
@@ -17,7 +17,7 @@ use Rattle.wef_envelope.specs.Written.{address_header, empty_header, part, place
 use Rattle.wef_envelope.specs.declared.envelopes.Envelope.{Envelope}
 use Rattle.wef_envelope.specs.declared.headers.Header.{Header}
 use Rattle.wef_envelope.specs.declared.headers.Header.TheVariants as the
-use Rattle.wef_envelope.proofs.Places.{ArePlaced, at_place, first_at, named_is, none_repeated, understood}
+use Rattle.wef_envelope.proofs.Places.{ArePlaced, at_place, first_at, named_is, none_repeated, only_at, understood}
 
 -- ---- parts
 
@@ -155,3 +155,13 @@ written_is_read e plain =
     ∙ ap (unless_repeated (standing ps) e.body) (none_repeated ps there refl)
     ∙ ap (unless_beyond (standing ps) e.body) (understood ps there)
     ∙ required e plain
+
+-- the id that an answer to it relates to is its own
+pub written_id_is_found : (e : Envelope) → IsPlain e → id_in (written e) ≡ Some e.id
+unfolding written
+written_id_is_found e plain =
+    let ps = places e in
+    ap (λ o. option_map (λ (x : Element). id_of (said_in x)) (option_and_then (λ (parts : List Element × List Element). only the.MessageId parts.0) o)) (parts_read (standing ps) e.body)
+    ∙ ap (option_map (λ (x : Element). id_of (said_in x))) (only_at the.MessageId ps (placed e plain) refl)
+    ∙ ap (λ t. Some (id_of t)) (said_again (space_of the.MessageId) (name_of the.MessageId) e.id.text plain.id.trimmed)
+    ∙ (λ i. Some (record { value = plain.id.value i; text = e.id.text }))

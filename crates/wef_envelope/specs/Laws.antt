@@ -6,7 +6,7 @@ use Rattle.wef_elements.specs.Good.{AreGoodElements}
 use Rattle.wef_ids.specs.IdTexts.{id_value}
 use Rattle.wef_ids.specs.declared.MessageId.{MessageId}
 use Rattle.wef_xml.specs.Good.{IsGoodElement, IsXmlText}
-use Rattle.wef_envelope.specs.Envelopes.{said}
+use Rattle.wef_envelope.specs.Envelopes.{id_in, said}
 use Rattle.wef_envelope.specs.Headers.{header_of}
 use Rattle.wef_envelope.specs.Written.{written}
 use Rattle.wef_envelope.specs.declared.envelopes.Envelope.{Envelope}
@@ -35,9 +35,10 @@ pub record IsPlain (e : Envelope) : Type 0 where
   pub identifier : IfSome e.identifier IsTrimmed
   pub bookmark : IfSome e.bookmark (λ header. header_of header ≡ Some the.Bookmark)
 
--- Such an envelope is what its tree says.
-abbrev pub WrittenIsRead : Type 0
-WrittenIsRead = (e : Envelope) → IsPlain e → said (written e) ≡ Ok e
+-- Such an envelope is what its tree says, and an answer to it relates to its id.
+pub record WrittenIsRead : Type 0 where
+  pub envelope : (e : Envelope) → IsPlain e → said (written e) ≡ Ok e
+  pub id : (e : Envelope) → IsPlain e → id_in (written e) ≡ Some e.id
 
 -- The texts of an envelope hold characters that XML allows, and its elements have so much room.
 pub record HasGoodParts (e : Envelope) (room : ℕ) : Type 0 where

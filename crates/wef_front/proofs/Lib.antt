@@ -1,5 +1,6 @@
 pub mod ByRows
 pub mod Causes
+pub mod DeliveriesAreHeard
 pub mod IdTexts
 pub mod Numbered
 pub mod ReadIsGood

@@ -6,7 +6,7 @@ use Rattle.std.specs.declared.result.Result.TheVariants.{Ok, Err}
 use Rattle.wef_base.specs.declared.numbers.TheConstants.{MAX}
 use Rattle.wef_base.specs.declared.tree.Element.{Element}
 use Rattle.wef_batch.proofs.Sound.{read_items_are_sound}
-use Rattle.wef_batch.specs.Laws.{IsSound}
+use Rattle.wef_batch.specs.Laws.{IsPlain, IsSound}
 use Rattle.wef_batch.specs.Numbers.{AreNumbered, IsNumbered}
 use Rattle.wef_batch.specs.Reading.{Reads, batch_of}
 use Rattle.wef_batch.specs.declared.reading.BatchFault.{BatchFault}
@@ -30,3 +30,13 @@ read_numbered header ack body batch is = all_numbered batch.items (read_items_ar
 pub as_read : (result : Result Batch BatchFault) (header : Option Element) (ack : Bool) (body : List Element) → Reads result (batch_of header ack body) → IfOk result (λ batch. AreNumbered batch.items)
 as_read (Ok batch) header ack body reads = read_numbered header ack body batch reads
 as_read (Err fault) header ack body reads = tt
+
+-- and those of one that can be written and read
+one_plain : (item : Item) → IsPlain item → IsNumbered item
+one_plain (Event event) plain = tt
+one_plain (Dropped channel first last) plain = let ordered : first ≤ last = plain.2 in let below : last ≤ MAX = plain.3 in (omega arith, below)
+one_plain (Loose count) plain = tt
+
+pub plain_numbered : (items : List Item) → AllByRecursion IsPlain items → AreNumbered items
+plain_numbered [] plain = tt
+plain_numbered (item ∷ items) plain = (one_plain item plain.0, plain_numbered items plain.1)

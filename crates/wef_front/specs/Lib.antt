@@ -2,4 +2,5 @@ pub mod Heard
 pub mod HeardReplies
 pub mod Laws
 pub mod Replies
+pub mod Sending
 pub mod Steps

@@ -1,6 +1,7 @@
 //! Laws of answers, each the contract of a function that does nothing.
 
 ghost use Rattle.wef_front.specs.Laws.{AnswersAreReplies, AnswersGoByPlan, InternalErrorsHaveACause, RepliesAreHeard};
+ghost use Rattle.wef_front.specs.Sending.{DeliveriesAreHeard};
 
 /// The collector answers what the rows that it finds give, and leaves what they give, unless its store
 /// fails. No answer takes more than one commit, and one that changes nothing takes none.
@@ -18,4 +19,10 @@ pub fn internal_errors_have_a_cause()
 /// name of the table, as the answer to the message that it relates to.
 pub fn replies_are_heard()
     ensures { RepliesAreHeard }
+{}
+
+/// What a source sends, the collector hears: the batch for the subscription and the source of the path,
+/// with its id.
+pub fn deliveries_are_heard()
+    ensures { DeliveriesAreHeard }
 {}

@@ -6,8 +6,10 @@ mod hearing;
 pub mod laws;
 pub mod listening;
 mod saying;
+pub mod sending;
 pub mod targets;
 
 pub use answering::{Answer, collector_answer};
 pub use listening::{Hears, source_hears};
+pub use sending::write_delivery;
 pub use targets::Target;

@@ -1,0 +1,62 @@
+-- A delivery of a source, as it is written.
+use Rattle.std.specs.Prelude.{◌≡◌, ℕ, List, [], ◌∷◌, Some, None, IfSome}
+use Rattle.std.specs.List.{AllByRecursion}
+use Rattle.wef_base.specs.Names.{source_name, subscription_name}
+use Rattle.wef_base.specs.declared.tree.Charset.TheVariants.{Utf8}
+use Rattle.wef_batch.specs.Elements.{batch_element}
+use Rattle.wef_batch.specs.Laws.{IsKept, IsPlain}
+use Rattle.wef_bookmark.specs.Entries.{AreEntries}
+use Rattle.wef_bookmark.specs.Nodes.{AreTexts, bookmark_element}
+use Rattle.wef_envelope.specs.Laws.{IsSpelt, IsTrimmed}
+use Rattle.wef_envelope.specs.Written.{written}
+use Rattle.wef_envelope.specs.declared.actions.TheConstants.{ANONYMOUS, EVENTS}
+use Rattle.wef_envelope.specs.declared.envelopes.Envelope.{Envelope}
+use Rattle.wef_source.specs.declared.messages.Delivery as source
+use Rattle.wef_xml.specs.Canonical.{canonical, encoded}
+use Rattle.wef_xml.specs.Good.{IsXmlText}
+use Rattle.wef_front.specs.Heard.{Hears}
+use Rattle.wef_front.specs.declared.hearing.Asked.TheVariants.{Take}
+use Rattle.wef_front.specs.declared.targets.Target.TheVariants.{Delivery}
+
+-- the envelope of a delivery: it goes to the address that the offer gave
+abbrev pub delivery_envelope : source.Delivery → Envelope
+delivery_envelope d = record {
+  to = Some d.notify_to;
+  resource = None;
+  reply_to = Some ANONYMOUS.now;
+  action = EVENTS.now;
+  id = d.id;
+  relates = None;
+  machine = None;
+  max_size = None;
+  identifier = d.identifier;
+  bookmark = Some (bookmark_element d.batch.to);
+  ack_wanted = d.batch.ack_wanted;
+  body = batch_element d.batch.items ∷ [];
+}
+
+-- its bytes
+abbrev pub delivery_bytes : source.Delivery → List ℕ
+delivery_bytes d = encoded Utf8 (canonical (written (delivery_envelope d)))
+
+-- a text that a header says as it is
+abbrev pub IsPlainText : List ℕ → Type 0
+IsPlainText text = IsTrimmed text × IsXmlText text
+
+-- A delivery that can be sent: its id is that of its text, texts are such as headers say, and its batch is one that can be
+-- written and read.
+pub record CanBeSent (d : source.Delivery) : Type 0 where
+  pub spelt : IsSpelt d.id
+  pub id : IsXmlText d.id.text
+  pub notify_to : IsPlainText d.notify_to
+  pub identifier : IfSome d.identifier IsPlainText
+  pub plain : AllByRecursion IsPlain d.batch.items
+  pub kept : AllByRecursion IsKept d.batch.items
+  pub entries : AreEntries d.batch.to
+  pub names : AreTexts d.batch.to
+
+-- What a source sends, the collector hears: its batch for the subscription and the source of the path, and its id.
+abbrev pub DeliveriesAreHeard : Type 0
+DeliveriesAreHeard =
+    (d : source.Delivery) (sub source u s : List ℕ) → CanBeSent d → subscription_name sub ≡ Some u → source_name source ≡ Some s →
+    Hears (Delivery sub source) Utf8 (delivery_bytes d) (record { relates = Some d.id; asked = Take u s d.batch })
