@@ -10,6 +10,7 @@ mod answers;
 mod collectors;
 mod cuts;
 mod replies;
+mod sent;
 mod tasks;
 mod utf16;
 

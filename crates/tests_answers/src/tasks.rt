@@ -4,6 +4,7 @@ use crate::answers::{base_path, path_to, push_answered, push_at_path, push_seque
 use crate::collectors::collector_of;
 use crate::cuts::push_cuts;
 use crate::replies::push_heard;
+use crate::sent::push_sent;
 use crate::utf16::{push_spelt, push_spelt_bytes};
 use std::alloc::{AllocError, Global};
 use tests_tasks::Tasks;
@@ -42,6 +43,8 @@ pub(crate) enum Task {
     Cut,
     /// `reply`: what a source makes of a reply.
     Reply,
+    /// `sent`: a delivery of a source, and what is said to it.
+    Sent,
 }
 
 impl Tasks for Task {
@@ -62,6 +65,7 @@ impl Tasks for Task {
             "utf-16 bytes" => Some(Task::Utf16Bytes),
             "cut" => Some(Task::Cut),
             "reply" => Some(Task::Reply),
+            "sent" => Some(Task::Sent),
             _ => None,
         }
     }
@@ -83,6 +87,7 @@ impl Tasks for Task {
             Task::Utf16Bytes => push_spelt_bytes(&mut shown, line)?,
             Task::Cut => push_cuts(&mut shown, &edited(alloc, line)?)?,
             Task::Reply => push_heard(&mut shown, line)?,
+            Task::Sent => push_sent(&mut shown)?,
         }
         Ok(shown)
     }

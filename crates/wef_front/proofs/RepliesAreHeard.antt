@@ -22,7 +22,6 @@ use Rattle.wef_ids.specs.Ids.{next_id}
 use Rattle.wef_ids.specs.declared.FaultName.{FaultName}
 use Rattle.wef_ids.specs.declared.MessageId.{MessageId}
 use Rattle.wef_ids.specs.declared.ids.Ids.{Ids}
-use Rattle.wef_source.specs.declared.messages.Reply as reply
 use Rattle.wef_source.specs.declared.messages.Reply.TheVariants as replies
 use Rattle.wef_tree.proofs.BoundPrefixes.{same_self}
 use Rattle.wef_tree.proofs.SpellsAgain.{spells_again}

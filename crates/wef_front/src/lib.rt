@@ -1,4 +1,4 @@
-//! What both ends make of bytes: the collector of those of a message, a source of those of a reply.
+//! Messages as bytes: what a source sends, what the collector answers, and what the source hears in that.
 #![tactic(auto)]
 
 pub mod answering;
