@@ -111,7 +111,7 @@ replies_by relates (Refused name) charset moment answer ids ids_now before now i
     let stepped = is.stepped in
     (is.written ∙ ap (answer_of ids charset relates) stepped.0, is.drawn ∙ ap (ids_behind ids) stepped.0, stepped.1)
 replies_by relates (Unread u) charset moment answer ids ids_now before now is =
-    reply_goes relates (Unread u) false charset moment answer ids ids_now before now (λ e. refl) is (said_goes false (effect_in (Unread u) moment) is.said before now is.stepped)
+    reply_goes relates (Unread u) false charset moment answer ids ids_now before now (λ e. refl) is (said_goes false (effect_in (Unread u) moment) is.said before now is.stepped.0)
 replies_by relates (Take u s batch) charset moment answer ids ids_now before now is =
     reply_goes relates (Take u s batch) batch.ack_wanted charset moment answer ids ids_now before now (λ e. refl) is
     (said_goes batch.ack_wanted (effect_in (Take u s batch) moment) is.said before now is.stepped)
@@ -187,7 +187,7 @@ plans_by :
     GoesByPlan asked (record { relates = relates; asked = asked }) charset moment answer ids before now
 plans_by relates (Refused name) charset moment answer ids ids_now before now is = tt
 plans_by relates (Unread u) charset moment answer ids ids_now before now is =
-    answer_by_plan relates (Unread u) charset moment answer ids ids_now before now is (said_by_plan (Unread u) false moment is.said before now (λ e. refl) is.stepped)
+    answer_by_plan relates (Unread u) charset moment answer ids ids_now before now is (said_by_plan (Unread u) false moment is.said before now (λ e. refl) is.stepped.0)
 plans_by relates (Take u s batch) charset moment answer ids ids_now before now is =
     answer_by_plan relates (Take u s batch) charset moment answer ids ids_now before now is (said_by_plan (Take u s batch) batch.ack_wanted moment is.said before now (λ e. refl) is.stepped)
 

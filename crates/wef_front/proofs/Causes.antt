@@ -118,7 +118,7 @@ name_internal (the.Other text) other is = cc
 
 steps_cause : (asked : Asked) (moment : ℕ) (said : Said) (before now : Store) → IsOther asked → Steps asked moment said before now → said ≡ Fault the.InternalError → HasCause AreFormed true before now
 steps_cause (Refused name) moment said before now other stepped internal = absurd (name_internal name other (sym stepped.0 ∙ internal))
-steps_cause (Unread u) moment said before now other stepped internal = says_cause false (effect_in (Unread u) moment) said before now stepped internal
+steps_cause (Unread u) moment said before now other stepped internal = says_cause false (effect_in (Unread u) moment) said before now stepped.0 internal
 steps_cause (Take u s batch) moment said before now other stepped internal = says_cause batch.ack_wanted (effect_in (Take u s batch) moment) said before now stepped internal
 
 pub internal_errors_have_a_cause :

@@ -69,10 +69,16 @@ IsAnswered _ = ⊥
 abbrev pub Says : Bool → (Rows → Effect) → Said → Store → Store → Type 0
 Says ack effect said before now = (done : Result (Unit {0}) CollectorFault) × Calls effect done before now × IfErr done IsAnswered × (said ≡ said_of ack done)
 
+-- a fault is said
+abbrev pub IsFault : Said → Type 0
+IsFault Ack = ⊥
+IsFault Quiet = ⊥
+IsFault (Fault name) = Unit {0}
+
 -- What the collector does with what was heard at a moment, and what it says: where nothing that is kept decides that, nothing.
 abbrev pub Steps : Asked → ℕ → Said → Store → Store → Type 0
 Steps (Refused name) moment said before now = (said ≡ Fault name) × (now ≡ before)
-Steps (Unread u) moment said before now = Says false (effect_in (Unread u) moment) said before now
+Steps (Unread u) moment said before now = Says false (effect_in (Unread u) moment) said before now × IsFault said
 Steps (Take u s batch) moment said before now = Says batch.ack_wanted (effect_in (Take u s batch) moment) said before now
 
 -- What it has done where there was no memory for the answer: its step whole, or nothing.

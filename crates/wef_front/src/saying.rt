@@ -1,11 +1,11 @@
 //! What the collector does with what a message asks, and what it says to that.
 
-ghost use Rattle.std.specs.Prelude.{◌≡◌, Result, IfErr, IfOk};
+ghost use Rattle.std.specs.Prelude.{◌≡◌, false, Result, IfErr, IfOk};
 ghost use Rattle.wef_batch.specs.Numbers.{AreNumbered};
-ghost use Rattle.wef_collector.specs.Calls.{OfTake, take_effect};
+ghost use Rattle.wef_collector.specs.Calls.{OfTake, take_effect, unread_effect};
 ghost use Rattle.wef_collector_rows.specs.declared.faults.CollectorFault as fault;
 ghost use Rattle.wef_front.specs.Heard.{IsSoundAsk};
-ghost use Rattle.wef_front.specs.Steps.{Calls, HasStepped, IsAnswered, IsKnownSaid, Says, Steps, said_of};
+ghost use Rattle.wef_front.specs.Steps.{Calls, HasStepped, IsAnswered, IsFault, IsKnownSaid, Says, Steps, said_of};
 
 use crate::hearing::Asked;
 use std::alloc::AllocError;
@@ -27,7 +27,6 @@ pub enum Said {
 }
 
 /// Does what is asked, at a moment.
-#[tactic(auto, using(crate::proofs::SaidOfCalls::says_of))]
 pub fn say<K: Keeper>(
     collector: &mut Collector<K>,
     asked: &Asked,
@@ -41,12 +40,24 @@ pub fn say<K: Keeper>(
 {
     match asked {
         Asked::Refused(name) => Ok(Said::Fault(name.clone()?)),
-        Asked::Unread(sub) => said_of(false, collector.take_unread(sub)),
+        Asked::Unread(sub) => take_unread(collector, sub),
         Asked::Take { sub, source, batch } => take(collector, sub, source, batch, now),
     }
 }
 
+/// Takes a batch for a subscription that couldn't be read.
+#[tactic(auto, using(crate::proofs::SaidOfCalls::unread_of))]
+fn take_unread<K: Keeper>(collector: &mut Collector<K>, sub: &SubId) -> Result<Said, AllocError>
+    ensures said { IfOk result (λ said. Says false (λ rows. unread_effect rows sub.now) said (K.store collector.old.keeper) (K.store collector.new.keeper) × IsFault said) }
+    ensures wants_memory { IfErr result (λ _. (done : Result (Unit {0}) fault.CollectorFault) × Calls (λ rows. unread_effect rows sub.now) done (K.store collector.old.keeper) (K.store collector.new.keeper)) }
+    ensures known { IfOk result IsKnownSaid }
+    ensures ids { collector.new.ids ≡ collector.old.ids }
+{
+    said_of(false, collector.take_unread(sub))
+}
+
 /// Takes a batch of a source for a subscription.
+#[tactic(auto, using(crate::proofs::SaidOfCalls::says_of))]
 fn take<K: Keeper>(
     collector: &mut Collector<K>,
     sub: &SubId,
