@@ -1,18 +1,21 @@
 -- The text of an id that an end draws is one that XML allows.
-use Rattle.std.proofs.Common.{◌≡◌, ℕ, zero, suc, ◌<◌, ◌%◌, ◌/◌, ◌==◌, Bool, true, false, cond, List, [], ◌∷◌, ◌++◌, encode_utf8_all, refl, ap, sym, ◌∙◌, arith}
+use Rattle.std.proofs.Common.{◌≡◌, ℕ, zero, suc, ◌<◌, ◌%◌, ◌/◌, ◌==◌, Bool, true, false, cond, List, [], ◌∷◌, ◌++◌, encode_utf8_all, length, ◌^◌, refl, ap, sym, ◌∙◌, inl, arith}
 use Rattle.std.specs.Prelude.{codes, slice_index}
-use Rattle.std.specs.Int.{to_be_bytes, w128}
-use Rattle.std.specs.List.{list_all}
+use Rattle.std.specs.Int.{byte_at, bytes_high_first, to_be_bytes, w128}
+use Rattle.std.specs.List.{All, list_all}
 use Rattle.std.proofs.lemmas.Bool.{and_from}
 use Rattle.std.proofs.lemmas.Bool.Decides.{nat_tests}
 use Rattle.std.proofs.lemmas.List.Folds.{list_all-append}
 use Rattle.std.proofs.lemmas.Str.{chars-encodes}
 use Rattle.std.proofs.Math.Utf8.{scalar}
 use Rattle.std.specs.Str.{chars}
+use Rattle.uuid.proofs.RoundTrips.{parses_hyphenated}
 use Rattle.uuid.specs.Text.{by_index, digit_place, hex_digit, hyphen, hyphenated_text, is_hyphen_place, lower, nibble}
 use Rattle.wef_base.specs.Characters.{is_xml_char}
 use Rattle.wef_base.specs.Names.{is_space, trimmed, trimmed_characters, unless_last_space, without_end}
-use Rattle.wef_ids.specs.IdTexts.{id_text}
+use Rattle.wef_envelope.specs.Laws.{IsSpelt}
+use Rattle.wef_ids.proofs.IdTexts.{reads_back}
+use Rattle.wef_ids.specs.IdTexts.{id_of_value, id_text}
 use Rattle.wef_xml.specs.Good.{IsXmlText}
 use Rattle.wef_xml.proofs.Ascii.{is_plain, plain_is, plain_text_is}
 
@@ -86,3 +89,30 @@ id_text_trimmed value =
     ap (λ cs. encode_utf8_all (trimmed_characters cs)) read
     ∙ ap encode_utf8_all (end_stays (codes "uuid:" ++ by_index 35 (digit_in bytes)) (digit_in bytes 35) (digit_no_space (nibble bytes 31) (half_below bytes 31)))
     ∙ sym plain
+
+-- ---- the value
+
+bytes_long : (k n : ℕ) → length (bytes_high_first k n) ≡ k
+bytes_long zero n = refl
+bytes_long (suc k) n = ap suc (bytes_long k n)
+
+rest_below : (n : ℕ) → n % 256 < 256
+rest_below n = omega arith
+
+byte_below : (i n : ℕ) → byte_at i n < 256
+byte_below zero n = rest_below n
+byte_below (suc i) n = rest_below (n / 256 ^ suc i)
+
+bytes_small : (k n : ℕ) → All (λ b. b < 256) (bytes_high_first k n)
+bytes_small zero n j d less = absurd (omega arith)
+bytes_small (suc k) n zero d less = byte_below k n
+bytes_small (suc k) n (suc j) d less = bytes_small k n j d (omega arith)
+
+-- an id that an end draws is that of its text
+pub id_spelt : (value : ℕ) → value < 2 ^ 128 → IsSpelt (id_of_value value)
+id_spelt value small =
+    let bytes = to_be_bytes w128 value in
+    record {
+      trimmed = id_text_trimmed value;
+      value = reads_back value bytes (hyphenated_text lower bytes) small refl refl (parses_hyphenated lower bytes (inl refl) (bytes_long 16 value) (bytes_small 16 value));
+    }

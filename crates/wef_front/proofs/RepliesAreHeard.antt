@@ -72,7 +72,7 @@ reply_said action body text relates named spelt related =
     })
 
 -- the bytes of a good tree tell what the tree does
-tree_told : (root : Element) → IsGoodTree root → told (encoded Utf8 (canonical root)) ≡ told_by (said root)
+pub tree_told : (root : Element) → IsGoodTree root → told (encoded Utf8 (canonical root)) ≡ told_by (said root)
 tree_told root good = ap (option_and_then (λ (r : Element). told_by (said r))) (is_given Utf8 (encoded Utf8 (canonical root)) root (spells_again Utf8 root good))
 
 -- ---- replies

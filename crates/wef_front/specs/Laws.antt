@@ -1,10 +1,11 @@
 -- The collector's answers are the replies that the rows which it finds give, unless its store fails; and it says so only where
 -- it fails.
-use Rattle.std.specs.Prelude.{◌≡◌, ℕ, true, ◌⊎◌, List, Some, Ok, Err, IfSome, if◌then◌else◌}
+use Rattle.std.specs.Prelude.{◌≡◌, ℕ, ◌<◌, ◌^◌, true, ◌⊎◌, List, Some, Ok, Err, IfSome, if◌then◌else◌}
 use Rattle.wef_base.specs.declared.tree.Charset.{Charset}
 use Rattle.wef_base.specs.declared.tree.Charset.TheVariants.{Utf8}
 use Rattle.wef_envelope.specs.Faults.{is_known}
 use Rattle.wef_envelope.specs.Laws.{IsSpelt}
+use Rattle.wef_ids.specs.IdTexts.{id_of_value, id_text}
 use Rattle.wef_ids.specs.declared.FaultName.{FaultName}
 use Rattle.wef_ids.specs.declared.FaultName.TheVariants.{InternalError}
 use Rattle.wef_ids.specs.declared.MessageId.{MessageId}
@@ -97,6 +98,13 @@ InternalErrorsHaveACause =
     (target : Target) (charset charset_of_answer : Charset) (bytes : List ℕ) (heard : Heard) (moment : ℕ) (answer : Answer) (ids ids_now : Ids) (before now : Store) →
     Hears target charset bytes heard → (is : IsAnswer heard charset_of_answer moment answer ids ids_now before now) → is.said ≡ Fault InternalError →
     HasCause AreFormed true before now
+
+-- ---- ids
+
+-- An id that an end draws is that of its text, and its text is one that XML allows.
+pub record DrawnIdsAreSpelt : Type 0 where
+  pub spelt : (value : ℕ) → value < 2 ^ 128 → IsSpelt (id_of_value value)
+  pub text : (value : ℕ) → IsXmlText (id_text value)
 
 -- ---- what a source hears of it
 

@@ -1,6 +1,6 @@
 //! Laws of answers, each the contract of a function that does nothing.
 
-ghost use Rattle.wef_front.specs.Laws.{AnswersAreReplies, AnswersGoByPlan, InternalErrorsHaveACause, RepliesAreHeard};
+ghost use Rattle.wef_front.specs.Laws.{AnswersAreReplies, AnswersGoByPlan, DrawnIdsAreSpelt, InternalErrorsHaveACause, RepliesAreHeard};
 ghost use Rattle.wef_front.specs.Sending.{DeliveriesAreHeard};
 
 /// The collector answers what the rows that it finds give, and leaves what they give, unless its store
@@ -25,4 +25,9 @@ pub fn replies_are_heard()
 /// with its id.
 pub fn deliveries_are_heard()
     ensures { DeliveriesAreHeard }
+{}
+
+/// An id that an end draws is that of its text, which can be written.
+pub fn drawn_ids_are_spelt()
+    ensures { DrawnIdsAreSpelt }
 {}
