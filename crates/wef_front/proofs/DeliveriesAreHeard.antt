@@ -30,6 +30,7 @@ use Rattle.wef_tree.proofs.BoundPrefixes.{same_self}
 use Rattle.wef_tree.proofs.SpellsAgain.{spells_again}
 use Rattle.wef_xml.specs.Good.{IsGoodTree, IsXmlText}
 use Rattle.wef_xml.proofs.Ascii.{plain_text}
+use Rattle.wef_front.proofs.RepliesAreHeard.{anonymous_trimmed}
 use Rattle.wef_front.specs.Heard.{Hears, asked_by, asked_of, batch_in, delivery_asked, events_asked}
 use Rattle.wef_front.specs.Sending.{CanBeSent, IsPlainText, delivery_bytes, delivery_envelope}
 use Rattle.wef_front.specs.declared.hearing.Asked.TheVariants.{Refused, Take}
@@ -50,10 +51,6 @@ bookmark_is b = entries_are (map.entries b)
 events_trimmed : IsTrimmed EVENTS.now
 unfolding chars encode
 events_trimmed = refl
-
-anonymous_trimmed : IsTrimmed ANONYMOUS.now
-unfolding chars encode
-anonymous_trimmed = refl
 
 first_part : (o : Option (List ℕ)) → IfSome o IsPlainText → IfSome o IsTrimmed
 first_part None plain = tt

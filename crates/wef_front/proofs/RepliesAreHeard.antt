@@ -50,7 +50,7 @@ ack_trimmed : IsTrimmed ACK.now
 unfolding chars encode
 ack_trimmed = refl
 
-anonymous_trimmed : IsTrimmed ANONYMOUS.now
+pub anonymous_trimmed : IsTrimmed ANONYMOUS.now
 unfolding chars encode
 anonymous_trimmed = refl
 
