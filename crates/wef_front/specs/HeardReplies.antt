@@ -4,7 +4,7 @@ use Rattle.std.specs.Option.{option_and_then, option_map, option_or}
 use Rattle.wef_base.specs.Names.{same}
 use Rattle.wef_base.specs.declared.tree.Charset.TheVariants.{Utf8}
 use Rattle.wef_base.specs.declared.tree.Element.{Element}
-use Rattle.wef_envelope.specs.Envelopes.{said}
+use Rattle.wef_envelope.specs.Envelopes.{id_in, said}
 use Rattle.wef_envelope.specs.Faults.{fault_in}
 use Rattle.wef_envelope.specs.declared.actions.TheConstants.{ACK}
 use Rattle.wef_envelope.specs.declared.envelopes.Envelope.{Envelope}
@@ -49,6 +49,10 @@ told_by (Err fault) = None
 -- knows
 abbrev pub told : List ℕ → Option Told
 told bytes = option_and_then (λ (root : Element). told_by (said root)) (tree_of Utf8 bytes)
+
+-- the id of the message that bytes say
+abbrev pub id_told : List ℕ → Option MessageId
+id_told bytes = option_and_then id_in (tree_of Utf8 bytes)
 
 -- What a source makes of a reply: its session goes on behind the batch or stays where it was; or none waits for it.
 abbrev pub HearsReply : Hears → MessageId → reply.Reply → End → End → Type 0

@@ -1,8 +1,9 @@
 -- The replies of the collector, as they are written.
-use Rattle.std.specs.Prelude.{◌≡◌, ℕ, false, ◌⊎◌, List, [], ◌∷◌, Option, Some, None, Ok, Err}
+use Rattle.std.specs.Prelude.{◌≡◌, ℕ, true, false, ◌⊎◌, List, [], ◌∷◌, Option, Some, None, Ok, Err}
 use Rattle.wef_base.specs.declared.tree.Charset.{Charset}
+use Rattle.wef_base.specs.declared.tree.Charset.TheVariants.{Utf8}
 use Rattle.wef_base.specs.declared.tree.Element.{Element}
-use Rattle.wef_envelope.specs.Faults.{action_of, fault_of, fault_tree}
+use Rattle.wef_envelope.specs.Faults.{action_of, fault_of, fault_tree, is_known}
 use Rattle.wef_envelope.specs.Written.{written}
 use Rattle.wef_envelope.specs.declared.actions.TheConstants.{ACK, ANONYMOUS}
 use Rattle.wef_envelope.specs.declared.envelopes.Envelope.{Envelope}
@@ -14,6 +15,8 @@ use Rattle.wef_ids.specs.declared.ids.Ids.{Ids}
 use Rattle.wef_keeper.specs.Keeping.{Store}
 use Rattle.wef_keeper.specs.Rows.{Rows, applied}
 use Rattle.wef_collector.specs.Calls.{Effect}
+use Rattle.wef_source.specs.declared.messages.Reply as source
+use Rattle.wef_source.specs.declared.messages.Reply.TheVariants as replies
 use Rattle.wef_xml.specs.Canonical.{canonical, encoded}
 use Rattle.wef_front.specs.Steps.{HasStepped, Steps, effect_in, said_by}
 use Rattle.wef_front.specs.declared.answering.Answer.{Answer}
@@ -57,6 +60,16 @@ answer_under id charset relates (Fault name) = answer_with 500 charset (fault_en
 -- the same under the next id of an end
 abbrev pub answer_of : Ids → Charset → Option MessageId → Said → Answer
 answer_of ids charset relates said = answer_under (id_of_value (next_id ids)) charset relates said
+
+-- the bytes of a reply to a source, under an id
+abbrev pub reply_bytes : MessageId → MessageId → source.Reply → List ℕ
+reply_bytes id relates replies.Ack = (answer_with 200 Utf8 (ack_envelope id (Some relates))).body
+reply_bytes id relates (replies.Fault name) = (answer_with 500 Utf8 (fault_envelope name id (Some relates))).body
+
+-- a reply that can be written: its fault has a name of the table
+abbrev pub IsKnownReply : source.Reply → Type 0
+IsKnownReply replies.Ack = Unit {0}
+IsKnownReply (replies.Fault name) = is_known name ≡ true
 
 -- the ids behind it: what has no envelope has no id
 abbrev pub ids_behind : Ids → Said → Ids

@@ -1,20 +1,27 @@
--- A delivery of a source, as it is written.
-use Rattle.std.specs.Prelude.{◌≡◌, ℕ, List, [], ◌∷◌, Some, None, IfSome}
+-- A delivery of a source, as it is written and as it is read.
+use Rattle.std.specs.Prelude.{◌≡◌, ℕ, List, [], ◌∷◌, Option, Some, None, Result, Ok, Err, IfSome, if◌then◌else◌}
 use Rattle.std.specs.List.{AllByRecursion}
-use Rattle.wef_base.specs.Names.{source_name, subscription_name}
+use Rattle.std.specs.Option.{option_and_then}
+use Rattle.std.specs.Result.{result_ok}
+use Rattle.wef_base.specs.Names.{same, source_name, subscription_name}
 use Rattle.wef_base.specs.declared.tree.Charset.TheVariants.{Utf8}
+use Rattle.wef_base.specs.declared.tree.Element.{Element}
 use Rattle.wef_batch.specs.Elements.{batch_element}
 use Rattle.wef_batch.specs.Laws.{IsKept, IsPlain}
+use Rattle.wef_batch.specs.declared.items.Batch.{Batch}
+use Rattle.wef_batch.specs.declared.reading.BatchFault.{BatchFault}
 use Rattle.wef_bookmark.specs.Entries.{AreEntries}
 use Rattle.wef_bookmark.specs.Nodes.{AreTexts, bookmark_element}
+use Rattle.wef_envelope.specs.Envelopes.{said}
 use Rattle.wef_envelope.specs.Laws.{IsSpelt, IsTrimmed}
 use Rattle.wef_envelope.specs.Written.{written}
 use Rattle.wef_envelope.specs.declared.actions.TheConstants.{ANONYMOUS, EVENTS}
 use Rattle.wef_envelope.specs.declared.envelopes.Envelope.{Envelope}
 use Rattle.wef_source.specs.declared.messages.Delivery as source
+use Rattle.wef_tree_reading.specs.Documents.{tree_of}
 use Rattle.wef_xml.specs.Canonical.{canonical, encoded}
 use Rattle.wef_xml.specs.Good.{IsXmlText}
-use Rattle.wef_front.specs.Heard.{Hears}
+use Rattle.wef_front.specs.Heard.{Hears, batch_in}
 use Rattle.wef_front.specs.declared.hearing.Asked.TheVariants.{Take}
 use Rattle.wef_front.specs.declared.targets.Target.TheVariants.{Delivery}
 
@@ -38,6 +45,27 @@ delivery_envelope d = record {
 -- its bytes
 abbrev pub delivery_bytes : source.Delivery → List ℕ
 delivery_bytes d = encoded Utf8 (canonical (written (delivery_envelope d)))
+
+-- ---- the delivery that bytes are
+
+-- the envelope that bytes in UTF-8 say
+abbrev pub envelope_in : List ℕ → Option Envelope
+envelope_in bytes = option_and_then (λ (root : Element). result_ok (said root)) (tree_of Utf8 bytes)
+
+-- the delivery of a batch that came to an address, where the batch is good
+abbrev pub delivery_by : List ℕ → Envelope → Result Batch BatchFault → Option source.Delivery
+delivery_by address e (Ok batch) = Some (record { id = e.id; notify_to = address; identifier = e.identifier; batch = batch })
+delivery_by address e (Err fault) = None
+
+-- the delivery that an envelope is, by its action
+abbrev pub delivery_said : List ℕ → Envelope → Option source.Delivery
+delivery_said address e = if same e.action EVENTS.now then delivery_by address e (batch_in e) else None
+
+-- the delivery that bytes are which came to an address, whatever their header To says
+abbrev pub delivery_in : List ℕ → List ℕ → Option source.Delivery
+delivery_in address bytes = option_and_then (delivery_said address) (envelope_in bytes)
+
+-- ---- what can be sent
 
 -- a text that a header says as it is
 abbrev pub IsPlainText : List ℕ → Type 0
