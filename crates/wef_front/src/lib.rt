@@ -10,6 +10,6 @@ pub mod sending;
 pub mod targets;
 
 pub use answering::{Answer, collector_answer};
-pub use listening::{Hears, source_hears};
+pub use listening::{Hears, read_reply, source_hears};
 pub use sending::write_delivery;
 pub use targets::Target;

@@ -39,14 +39,17 @@ pub fn source_hears<K: Keeper>(
     ensures keeper { source.new.keeper ≡ source.old.keeper }
     ensures name { source.new.name ≡ source.old.name }
 {
-    match told(alloc, body.as_slice())? {
+    match read_reply(alloc, body.as_slice())? {
         Some((relates, reply)) => hear_reply(source, &relates, &reply),
         None => Ok(Hears::Unreadable),
     }
 }
 
-/// What the bytes of a reply tell: which message it answers, and how.
-fn told(alloc: Global, bytes: &[u8]) -> Result<Option<(MessageId, Reply)>, AllocError>
+/// Reads the bytes of a reply, in UTF-8: the message that it answers, by the header RelatesTo of
+/// WS-Addressing, and how. The action Ack of WS-Management acknowledges it; with any other, the first
+/// element of the Body that is a Fault of SOAP 1.2 (5.4) refuses it. Bytes that say no envelope, relate
+/// to nothing or have no such element tell nothing.
+pub fn read_reply(alloc: Global, bytes: &[u8]) -> Result<Option<(MessageId, Reply)>, AllocError>
     ensures { IfOk result (λ found. found ≡ told bytes.now) }
 {
     match read_tree(alloc, bytes, Charset::Utf8) {
