@@ -7,29 +7,32 @@ use Rattle.std.specs.Str.{chars}
 use Rattle.wef_base.specs.Names.{same}
 use Rattle.wef_base.specs.declared.tree.Charset.TheVariants.{Utf8}
 use Rattle.wef_base.specs.declared.tree.Element.{Element}
-use Rattle.wef_envelope.specs.Envelopes.{said}
+use Rattle.wef_envelope.specs.Envelopes.{id_in, said}
 use Rattle.wef_envelope.specs.Faults.{action_by, action_of, fault_of, fault_tree, is_known, standard_of}
-use Rattle.wef_envelope.specs.Laws.{IsSpelt, IsTrimmed}
+use Rattle.wef_envelope.specs.Laws.{IsPlain, IsSpelt, IsTrimmed}
 use Rattle.wef_envelope.specs.Written.{written}
 use Rattle.wef_envelope.specs.declared.actions.TheConstants.{ACK, ANONYMOUS}
 use Rattle.wef_envelope.specs.declared.faults.Fault.{Fault}
 use Rattle.wef_envelope.specs.declared.faults.Standard.{Standard}
 use Rattle.wef_envelope.specs.declared.faults.Standard.TheVariants as the
 use Rattle.wef_envelope.proofs.FaultsAreRead.{faults_are_read}
-use Rattle.wef_envelope.proofs.WrittenIsRead.{written_is_read}
+use Rattle.wef_envelope.proofs.WrittenIsRead.{written_id_is_found, written_is_read}
 use Rattle.wef_ids.specs.IdTexts.{id_of, id_of_value}
 use Rattle.wef_ids.specs.Ids.{next_id}
 use Rattle.wef_ids.specs.declared.FaultName.{FaultName}
 use Rattle.wef_ids.specs.declared.MessageId.{MessageId}
 use Rattle.wef_ids.specs.declared.ids.Ids.{Ids}
+use Rattle.wef_source.specs.declared.messages.Reply as source
 use Rattle.wef_source.specs.declared.messages.Reply.TheVariants as replies
 use Rattle.wef_tree.proofs.BoundPrefixes.{same_self}
 use Rattle.wef_tree.proofs.SpellsAgain.{spells_again}
+use Rattle.wef_tree_reading.specs.Documents.{tree_of}
 use Rattle.wef_tree_reading.proofs.Functions.{is_given}
 use Rattle.wef_xml.specs.Canonical.{canonical, encoded}
 use Rattle.wef_xml.specs.Good.{IsGoodTree, IsXmlText}
-use Rattle.wef_front.specs.HeardReplies.{fault_among, told, told_by, told_in}
-use Rattle.wef_front.specs.Replies.{ack_envelope, answer_of, envelope_with, fault_envelope}
+use Rattle.wef_front.specs.HeardReplies.{fault_among, id_told, told, told_by, told_in}
+use Rattle.wef_front.specs.Laws.{RepliesAreRead}
+use Rattle.wef_front.specs.Replies.{IsKnownReply, ack_envelope, answer_of, envelope_with, fault_envelope, reply_bytes}
 use Rattle.wef_front.specs.declared.saying.Said.TheVariants.{Ack, Fault as FaultSaid}
 use Rattle.wef_front.proofs.IdTexts.{id_text_good, id_text_trimmed}
 use Rattle.wef_front.proofs.RepliesAreGood.{ack_reply_good, fault_reply_good}
@@ -54,26 +57,38 @@ pub anonymous_trimmed : IsTrimmed ANONYMOUS.now
 unfolding chars encode
 anonymous_trimmed = refl
 
--- what is written for an envelope that answers another says it
+-- an envelope that answers another is one that reads back
+reply_plain : (action : List ℕ) (body : List Element) (id relates : MessageId) → IsTrimmed action → IsSpelt id → IsSpelt relates → IsPlain (envelope_with action body id (Some relates))
+reply_plain action body id relates named spelt related = record {
+  to = anonymous_trimmed;
+  resource = tt;
+  reply_to = tt;
+  action = named;
+  id = spelt;
+  relates = related;
+  machine = tt;
+  max_size = tt;
+  identifier = tt;
+  bookmark = tt;
+}
+
+-- what is written for it says it, with the id of the text
 reply_said : (action : List ℕ) (body : List Element) (text : List ℕ) (relates : MessageId) → IsTrimmed action → IsTrimmed text → IsSpelt relates
     → said (written (envelope_with action body (id_of text) (Some relates))) ≡ Ok (envelope_with action body (id_of text) (Some relates))
 reply_said action body text relates named spelt related =
-    written_is_read (envelope_with action body (id_of text) (Some relates)) (record {
-      to = anonymous_trimmed;
-      resource = tt;
-      reply_to = tt;
-      action = named;
-      id = record { trimmed = spelt; value = refl };
-      relates = related;
-      machine = tt;
-      max_size = tt;
-      identifier = tt;
-      bookmark = tt;
-    })
+    written_is_read (envelope_with action body (id_of text) (Some relates)) (reply_plain action body (id_of text) relates named (record { trimmed = spelt; value = refl }) related)
 
--- the bytes of a good tree tell what the tree does
+-- the bytes of a good tree give it
+pub tree_again : (root : Element) → IsGoodTree root → tree_of Utf8 (encoded Utf8 (canonical root)) ≡ Some root
+tree_again root good = is_given Utf8 (encoded Utf8 (canonical root)) root (spells_again Utf8 root good)
+
+-- so they tell what the tree does
 pub tree_told : (root : Element) → IsGoodTree root → told (encoded Utf8 (canonical root)) ≡ told_by (said root)
-tree_told root good = ap (option_and_then (λ (r : Element). told_by (said r))) (is_given Utf8 (encoded Utf8 (canonical root)) root (spells_again Utf8 root good))
+tree_told root good = ap (option_and_then (λ (r : Element). told_by (said r))) (tree_again root good)
+
+-- and say the id that the tree does
+tree_id : (root : Element) → IsGoodTree root → id_told (encoded Utf8 (canonical root)) ≡ id_in root
+tree_id root good = ap (option_and_then id_in) (tree_again root good)
 
 -- ---- replies
 
@@ -112,3 +127,25 @@ pub faults_are_heard : (name : FaultName) (ids : Ids) (relates : MessageId) → 
     → told (answer_of ids Utf8 (Some relates) (FaultSaid name)).body ≡ Some (relates, replies.Fault name)
 faults_are_heard name ids relates known spelt related =
     fault_told name (id_of_value (next_id ids)) relates known (id_text_trimmed (next_id ids)) (id_text_good (next_id ids)) spelt related
+
+-- ---- the bytes of replies
+
+reply_told :
+    (id relates : MessageId) (answer : source.Reply) → IsSpelt id → IsXmlText id.text → IsSpelt relates → IsXmlText relates.text → IsKnownReply answer
+    → told (reply_bytes id relates answer) ≡ Some (relates, answer)
+reply_told id relates replies.Ack own allowed spelt related known = ack_told id relates own.trimmed allowed spelt related
+reply_told id relates (replies.Fault name) own allowed spelt related known = fault_told name id relates known own.trimmed allowed spelt related
+
+reply_id :
+    (id relates : MessageId) (answer : source.Reply) → IsSpelt id → IsXmlText id.text → IsSpelt relates → IsXmlText relates.text → IsKnownReply answer
+    → id_told (reply_bytes id relates answer) ≡ Some id
+reply_id id relates replies.Ack own allowed spelt related known =
+    tree_id (written (ack_envelope id (Some relates))) (ack_reply_good id (Some relates) allowed related)
+    ∙ written_id_is_found (ack_envelope id (Some relates)) (reply_plain ACK.now [] id relates ack_trimmed own spelt)
+reply_id id relates (replies.Fault name) own allowed spelt related known =
+    tree_id (written (fault_envelope name id (Some relates))) (fault_reply_good name id (Some relates) known allowed related)
+    ∙ written_id_is_found (fault_envelope name id (Some relates))
+    (reply_plain (action_of name) (fault_tree (fault_of name) ∷ []) id relates (action_trimmed (standard_of name)) own spelt)
+
+pub replies_are_read : RepliesAreRead
+replies_are_read = record { told = reply_told; id = reply_id }

@@ -18,11 +18,12 @@ use Rattle.wef_keeper.specs.declared.access.StoreFault.TheVariants.{Failed}
 use Rattle.wef_keeper.specs.declared.keeping.Plan.{Plan}
 use Rattle.wef_collector_rows.specs.Forms.{AreFormed}
 use Rattle.wef_collector.specs.Calls.{Effect}
+use Rattle.wef_source.specs.declared.messages.Reply as source
 use Rattle.wef_source.specs.declared.messages.Reply.TheVariants as replies
 use Rattle.wef_xml.specs.Good.{IsXmlText}
 use Rattle.wef_front.specs.Heard.{Hears}
-use Rattle.wef_front.specs.HeardReplies.{told}
-use Rattle.wef_front.specs.Replies.{IsAnswer, answer_of, ids_behind, reply}
+use Rattle.wef_front.specs.HeardReplies.{id_told, told}
+use Rattle.wef_front.specs.Replies.{IsAnswer, IsKnownReply, answer_of, ids_behind, reply, reply_bytes}
 use Rattle.wef_front.specs.Steps.{effect_in, said_by}
 use Rattle.wef_front.specs.declared.answering.Answer.{Answer}
 use Rattle.wef_front.specs.declared.hearing.Asked.{Asked}
@@ -115,3 +116,12 @@ pub record RepliesAreHeard : Type 0 where
   pub faults :
       (name : FaultName) (ids : Ids) (relates : MessageId) → is_known name ≡ true → IsSpelt relates → IsXmlText relates.text →
       told (answer_of ids Utf8 (Some relates) (Fault name)).body ≡ Some (relates, replies.Fault name)
+
+-- The bytes of a reply, under any such id, tell a source this reply to this message, and say this id.
+pub record RepliesAreRead : Type 0 where
+  pub told :
+      (id relates : MessageId) (answer : source.Reply) → IsSpelt id → IsXmlText id.text → IsSpelt relates → IsXmlText relates.text → IsKnownReply answer →
+      told (reply_bytes id relates answer) ≡ Some (relates, answer)
+  pub id :
+      (id relates : MessageId) (answer : source.Reply) → IsSpelt id → IsXmlText id.text → IsSpelt relates → IsXmlText relates.text → IsKnownReply answer →
+      id_told (reply_bytes id relates answer) ≡ Some id

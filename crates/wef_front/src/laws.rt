@@ -1,6 +1,6 @@
 //! Laws of answers, each the contract of a function that does nothing.
 
-ghost use Rattle.wef_front.specs.Laws.{AnswersAreReplies, AnswersGoByPlan, DrawnIdsAreSpelt, InternalErrorsHaveACause, RepliesAreHeard};
+ghost use Rattle.wef_front.specs.Laws.{AnswersAreReplies, AnswersGoByPlan, DrawnIdsAreSpelt, InternalErrorsHaveACause, RepliesAreHeard, RepliesAreRead};
 ghost use Rattle.wef_front.specs.Sending.{DeliveriesAreHeard};
 
 /// The collector answers what the rows that it finds give, and leaves what they give, unless its store
@@ -19,6 +19,12 @@ pub fn internal_errors_have_a_cause()
 /// name of the table, as the answer to the message that it relates to.
 pub fn replies_are_heard()
     ensures { RepliesAreHeard }
+{}
+
+/// What is written for a reply, under whatever id, is read again as that reply to that message; and its
+/// id is found.
+pub fn replies_are_read()
+    ensures { RepliesAreRead }
 {}
 
 /// What a source sends, the collector hears: the batch for the subscription and the source of the path,
