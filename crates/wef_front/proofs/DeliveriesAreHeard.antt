@@ -1,11 +1,14 @@
 -- What a source sends, the collector hears.
 use Rattle.std.proofs.Common.{◌≡◌, ℕ, true, false, Bool, ◌&&◌, cond, List, [], ◌∷◌, refl, ap, sym, ◌∙◌}
-use Rattle.std.specs.Prelude.{Option, Some, None, Ok, IfSome}
+use Rattle.std.specs.Prelude.{Option, Some, None, Result, Ok, IfSome}
+use Rattle.std.specs.Option.{option_and_then}
+use Rattle.std.specs.Result.{result_ok}
 use Rattle.std.specs.FinMap as map
 use Rattle.std.proofs.Math.Utf8.{encode}
 use Rattle.std.specs.Str.{chars}
 use Rattle.wef_base.specs.Names.{same, source_name, subscription_name}
 use Rattle.wef_base.specs.declared.tree.Charset.TheVariants.{Utf8}
+use Rattle.wef_base.specs.declared.tree.Element.{Element}
 use Rattle.wef_batch.proofs.WrittenGood as batch
 use Rattle.wef_batch.proofs.WrittenRead as again
 use Rattle.wef_bookmark.specs.Nodes as nodes
@@ -21,6 +24,7 @@ use Rattle.wef_envelope.specs.Spaces.{management as managed}
 use Rattle.wef_envelope.specs.Written.{written}
 use Rattle.wef_envelope.specs.declared.actions.TheConstants.{ANONYMOUS, ENUMERATE, EVENTS}
 use Rattle.wef_envelope.specs.declared.envelopes.Envelope.{Envelope}
+use Rattle.wef_envelope.specs.declared.envelopes.EnvelopeFault.{EnvelopeFault}
 use Rattle.wef_envelope.specs.declared.headers.Header.TheVariants as the
 use Rattle.wef_envelope.proofs.Places.{named_is}
 use Rattle.wef_envelope.proofs.WrittenIsGood.{written_is_good}
@@ -30,9 +34,9 @@ use Rattle.wef_tree.proofs.BoundPrefixes.{same_self}
 use Rattle.wef_tree.proofs.SpellsAgain.{spells_again}
 use Rattle.wef_xml.specs.Good.{IsGoodTree, IsXmlText}
 use Rattle.wef_xml.proofs.Ascii.{plain_text}
-use Rattle.wef_front.proofs.RepliesAreHeard.{anonymous_trimmed}
+use Rattle.wef_front.proofs.RepliesAreHeard.{anonymous_trimmed, tree_again}
 use Rattle.wef_front.specs.Heard.{Hears, asked_by, asked_of, batch_in, delivery_asked, events_asked}
-use Rattle.wef_front.specs.Sending.{CanBeSent, IsPlainText, delivery_bytes, delivery_envelope}
+use Rattle.wef_front.specs.Sending.{CanBeSent, DeliveriesAreRead, IsPlainText, delivery_by, delivery_bytes, delivery_envelope, delivery_said}
 use Rattle.wef_front.specs.declared.hearing.Asked.TheVariants.{Refused, Take}
 use Rattle.wef_front.specs.declared.targets.Target.TheVariants.{Delivery}
 use Rattle.wef_ids.specs.declared.FaultName.TheVariants as fault
@@ -96,13 +100,17 @@ delivery_good d sent =
 no_enumerate : same EVENTS.now ENUMERATE.now ≡ false
 no_enumerate = refl
 
+-- its batch is read again
+batch_again : (d : source.Delivery) → CanBeSent d → batch_in (delivery_envelope d) ≡ Ok d.batch
+batch_again d sent = again.written_is_read d.batch sent.plain sent.entries
+
 asked_is : (d : source.Delivery) (sub source u s : List ℕ) → CanBeSent d → subscription_name sub ≡ Some u → source_name source ≡ Some s
     → asked_by (Delivery sub source) (delivery_envelope d) ≡ Take u s d.batch
 asked_is d sub source u s sent named from =
     let e : Envelope = delivery_envelope d in
     ap (λ (b : Bool). cond b (Refused fault.MessageInformationHeaderRequired) (delivery_asked sub source e)) no_enumerate'
     ∙ ap (λ (b : Bool). cond b (events_asked (subscription_name sub) (source_name source) (batch_in e)) (Refused fault.ActionNotSupported)) (same_self EVENTS.now)
-    ∙ (λ i. events_asked (named i) (from i) (again.written_is_read d.batch sent.plain sent.entries i))
+    ∙ (λ i. events_asked (named i) (from i) (batch_again d sent i))
   where
     no_enumerate' : (same EVENTS.now ENUMERATE.now && true) ≡ false
     no_enumerate' = refl
@@ -118,3 +126,18 @@ deliveries_are_heard d sub source u s sent named from =
     let heard : record { relates = id_in (written e); asked = asked_of (Delivery sub source) (said (written e)) } ≡ record { relates = Some d.id; asked = Take u s d.batch } =
     λ i. record { relates = id i; asked = asked i } in
     (Ok (written e), spells_again Utf8 (written e) (delivery_good d sent), sym heard)
+
+-- ---- what it is
+
+-- the delivery of the envelope is itself
+said_again : (d : source.Delivery) → CanBeSent d → delivery_said d.notify_to (delivery_envelope d) ≡ Some d
+said_again d sent =
+    let e : Envelope = delivery_envelope d in
+    ap (λ (b : Bool). cond b (delivery_by d.notify_to e (batch_in e)) None) (same_self EVENTS.now) ∙ ap (delivery_by d.notify_to e) (batch_again d sent)
+
+pub deliveries_are_read : DeliveriesAreRead
+deliveries_are_read d sent =
+    ap (λ (o : Option Element). option_and_then (delivery_said d.notify_to) (option_and_then (λ (r : Element). result_ok (said r)) o))
+    (tree_again (written (delivery_envelope d)) (delivery_good d sent))
+    ∙ ap (λ (r : Result Envelope EnvelopeFault). option_and_then (delivery_said d.notify_to) (result_ok r)) (written_is_read (delivery_envelope d) (plain_delivery d sent))
+    ∙ said_again d sent

@@ -88,3 +88,7 @@ abbrev pub DeliveriesAreHeard : Type 0
 DeliveriesAreHeard =
     (d : source.Delivery) (sub source u s : List ℕ) → CanBeSent d → subscription_name sub ≡ Some u → source_name source ≡ Some s →
     Hears (Delivery sub source) Utf8 (delivery_bytes d) (record { relates = Some d.id; asked = Take u s d.batch })
+
+-- The delivery that its bytes are, at the address that they go to, is itself.
+abbrev pub DeliveriesAreRead : Type 0
+DeliveriesAreRead = (d : source.Delivery) → CanBeSent d → delivery_in d.notify_to (delivery_bytes d) ≡ Some d

@@ -1,7 +1,7 @@
 //! Laws of answers, each the contract of a function that does nothing.
 
 ghost use Rattle.wef_front.specs.Laws.{AnswersAreReplies, AnswersGoByPlan, DrawnIdsAreSpelt, InternalErrorsHaveACause, RepliesAreHeard, RepliesAreRead};
-ghost use Rattle.wef_front.specs.Sending.{DeliveriesAreHeard};
+ghost use Rattle.wef_front.specs.Sending.{DeliveriesAreHeard, DeliveriesAreRead};
 
 /// The collector answers what the rows that it finds give, and leaves what they give, unless its store
 /// fails. No answer takes more than one commit, and one that changes nothing takes none.
@@ -31,6 +31,12 @@ pub fn replies_are_read()
 /// with its id.
 pub fn deliveries_are_heard()
     ensures { DeliveriesAreHeard }
+{}
+
+/// What is written for a delivery is read again as that delivery, where it came to the address that it
+/// goes to.
+pub fn deliveries_are_read()
+    ensures { DeliveriesAreRead }
 {}
 
 /// An id that an end draws is that of its text, which can be written.
