@@ -3,6 +3,7 @@ pub mod Causes
 pub mod DeliveriesAreHeard
 pub mod IdTexts
 pub mod Numbered
+pub mod OneIsHeard
 pub mod ReadIsGood
 pub mod RepliesAreGood
 pub mod RepliesAreHeard

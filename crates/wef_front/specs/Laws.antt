@@ -91,6 +91,14 @@ AnswersGoByPlan =
     IsAnswer heard charset moment answer ids ids_now before now →
     GoesByPlan heard.asked heard charset moment answer ids before now
 
+-- ---- what is heard
+
+-- The same bytes at a target are heard in one way.
+abbrev pub OneIsHeard : Type 0
+OneIsHeard =
+    (target : Target) (charset : Charset) (bytes : List ℕ) (heard other : Heard) →
+    Hears target charset bytes heard → Hears target charset bytes other → heard ≡ other
+
 -- ---- the cause of InternalError
 
 -- The collector says so only where the count of its store's faults rose, or its rows aren't told or not of their form.

@@ -1,6 +1,6 @@
 //! Laws of answers, each the contract of a function that does nothing.
 
-ghost use Rattle.wef_front.specs.Laws.{AnswersAreReplies, AnswersGoByPlan, DrawnIdsAreSpelt, InternalErrorsHaveACause, RepliesAreHeard, RepliesAreRead};
+ghost use Rattle.wef_front.specs.Laws.{AnswersAreReplies, AnswersGoByPlan, DrawnIdsAreSpelt, InternalErrorsHaveACause, OneIsHeard, RepliesAreHeard, RepliesAreRead};
 ghost use Rattle.wef_front.specs.Sending.{DeliveriesAreHeard, DeliveriesAreRead};
 
 /// The collector answers what the rows that it finds give, and leaves what they give, unless its store
@@ -37,6 +37,11 @@ pub fn deliveries_are_heard()
 /// goes to.
 pub fn deliveries_are_read()
     ensures { DeliveriesAreRead }
+{}
+
+/// The collector hears no two things in the same bytes.
+pub fn one_is_heard()
+    ensures { OneIsHeard }
 {}
 
 /// An id that an end draws is that of its text, which can be written.
