@@ -1,12 +1,14 @@
 -- A call of the collector, and what is said of how it went.
-use Rattle.std.proofs.Common.{◌≡◌, Bool, false, sym, subst}
+use Rattle.std.proofs.Common.{◌≡◌, Bool, true, false, refl, sym, subst}
 use Rattle.std.specs.Prelude.{Result, IfErr, IfOk, IsErr}
 use Rattle.std.specs.declared.result.Result.TheVariants.{Ok, Err}
 use Rattle.wef_keeper.specs.Keeping.{Store}
 use Rattle.wef_keeper.specs.Rows.{Rows}
 use Rattle.wef_collector_rows.specs.declared.faults.CollectorFault.{CollectorFault}
+use Rattle.wef_collector_rows.specs.declared.faults.CollectorFault.TheVariants.{NoMemory, NoSubscription, Exists, Ended, NotWellFormed, TooMany, Failed, Full}
 use Rattle.wef_collector.specs.Calls.{Effect}
-use Rattle.wef_front.specs.Steps.{Calls, IsAnswered, IsFault, Says, said_of}
+use Rattle.wef_envelope.specs.Faults.{is_known}
+use Rattle.wef_front.specs.Steps.{Calls, IsAnswered, IsFault, IsKnownSaid, Says, fault_for, said_of}
 use Rattle.wef_front.specs.declared.saying.Said.{Said}
 
 pub says_of :
@@ -31,3 +33,24 @@ pub unread_of :
     IfOk result (λ said. Says false effect said before now × IsFault said)
 unread_of effect done result before now call refused answered is =
     if_both (λ said. Says false effect said before now) IsFault result (says_of false effect done result before now call answered is) (refused_said done result refused is)
+
+-- ---- the names of what is said
+
+fault_known : (fault : CollectorFault) → is_known (fault_for fault) ≡ true
+fault_known NoMemory = refl
+fault_known NoSubscription = refl
+fault_known Exists = refl
+fault_known Ended = refl
+fault_known NotWellFormed = refl
+fault_known TooMany = refl
+fault_known Failed = refl
+fault_known Full = refl
+
+-- what is said of a call has a name of the table, if it is a fault
+pub said_known : {T : Type 0} (ack : Bool) (done : Result T CollectorFault) → IsKnownSaid (said_of ack done)
+said_known true (Ok done) = tt
+said_known false (Ok done) = tt
+said_known ack (Err fault) = fault_known fault
+
+pub says_known : (ack : Bool) (effect : Rows → Effect) (said : Said) (before now : Store) → Says ack effect said before now → IsKnownSaid said
+says_known ack effect said before now (done, call, answered, is) = subst IsKnownSaid (sym is) (said_known ack done)
