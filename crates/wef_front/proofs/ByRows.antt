@@ -20,7 +20,7 @@ use Rattle.wef_collector_rows.specs.declared.faults.CollectorFault.{CollectorFau
 use Rattle.wef_collector_rows.specs.declared.faults.CollectorFault.TheVariants.{NoMemory, NoSubscription, Exists, Ended, NotWellFormed, TooMany, Failed, Full}
 use Rattle.wef_collector.specs.Calls.{Effect}
 use Rattle.wef_front.specs.Laws.{GoesByPlan, GoesByRows, HasFailed, IsReply, said_planned, tries_by}
-use Rattle.wef_front.specs.Replies.{IsAnswer, answer_of, ids_behind, reply, rows_by}
+use Rattle.wef_front.specs.Replies.{IsAnswer, answer_of, ids_behind, rows_by}
 use Rattle.wef_front.specs.Steps.{Says, done_said, effect_in, fault_for, said_by, said_of}
 use Rattle.wef_front.specs.declared.answering.Answer.{Answer}
 use Rattle.wef_front.specs.declared.hearing.Asked.{Asked}
