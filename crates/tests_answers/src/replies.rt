@@ -3,11 +3,12 @@
 use crate::collectors::{base, collector_of};
 use std::alloc::{AllocError, Global};
 use tests_tasks::deliveries::edited_from;
-use wef_base::{Moment, SourceName, Text};
+use wef_base::{Bytes, Moment, SourceName, Text};
 use wef_event::read_new_event;
-use wef_front::{Hears, source_hears};
+use wef_front::{Hears, read_reply, source_hears};
+use wef_ids::MessageId;
 use wef_keeper::MemKeeper;
-use wef_source::{Poll, SourceEnd};
+use wef_source::{Poll, Reply, SourceEnd};
 
 /// The acknowledgement that the source waits for.
 const ACKNOWLEDGEMENT: &str =
@@ -17,12 +18,13 @@ const ACKNOWLEDGEMENT: &str =
 const EVENT: &str =
     "<Event xmlns=\"http://schemas.microsoft.com/win/2004/08/events/event\"><System><Channel>application</Channel></System></Event>";
 
-/// What a source makes of a reply that differs so from the acknowledgement that it waits for, and what
-/// it has to send then.
+/// What a reply tells that differs so from the acknowledgement that a source waits for, what the source
+/// makes of it, and what it has to send then.
 pub(crate) fn push_heard(shown: &mut Text, edits: &str) -> Result<(), AllocError> {
     let alloc = shown.alloc();
     let mut source = waiting(alloc)?;
     let body = edited_from(alloc, ACKNOWLEDGEMENT, edits)?;
+    push_read(shown, &body)?;
     let hears = source_hears(alloc, &mut source, &body, Moment::first())?;
     shown.push_str(match hears {
         Hears::Moved => "moved",
@@ -31,6 +33,24 @@ pub(crate) fn push_heard(shown: &mut Text, edits: &str) -> Result<(), AllocError
         Hears::Unreadable => "unreadable",
     })?;
     push_next(shown, &mut source)
+}
+
+/// What a reply tells: how it answers, and which message.
+fn push_read(shown: &mut Text, body: &Bytes) -> Result<(), AllocError> {
+    match read_reply(shown.alloc(), body.as_slice())? {
+        Some((relates, reply)) => push_told(shown, &relates, &reply),
+        None => shown.push_str("nothing; "),
+    }
+}
+
+fn push_told(shown: &mut Text, relates: &MessageId, reply: &Reply) -> Result<(), AllocError> {
+    shown.push_str(match reply {
+        Reply::Ack => "Ack",
+        Reply::Fault(name) => name.as_str(),
+    })?;
+    shown.push_str(" to \"")?;
+    shown.push_str(relates.text.as_str())?;
+    shown.push_str("\"; ")
 }
 
 /// What the source has to send.
