@@ -1,6 +1,6 @@
 -- The text of an id that an end draws is one that XML allows.
-use Rattle.std.proofs.Common.{◌≡◌, ℕ, zero, suc, ◌<◌, ◌%◌, ◌/◌, ◌==◌, Bool, true, false, cond, List, [], ◌∷◌, ◌++◌, encode_utf8_all, length, ◌^◌, refl, ap, sym, ◌∙◌, inl, arith}
-use Rattle.std.specs.Prelude.{codes, slice_index}
+use Rattle.std.proofs.Common.{◌≡◌, ℕ, zero, suc, ◌<◌, ◌%◌, ◌/◌, ◌==◌, Bool, true, false, cond, List, [], ◌∷◌, ◌++◌, encode_utf8_all, length, ◌^◌, refl, ap, sym, ◌∙◌, subst, inl, arith}
+use Rattle.std.specs.Prelude.{Option, IfSome, codes, slice_index}
 use Rattle.std.specs.Int.{byte_at, bytes_high_first, to_be_bytes, w128}
 use Rattle.std.specs.List.{All, list_all}
 use Rattle.std.proofs.lemmas.Bool.{and_from}
@@ -16,6 +16,7 @@ use Rattle.wef_base.specs.Names.{is_space, trimmed, trimmed_characters, unless_l
 use Rattle.wef_envelope.specs.Laws.{IsSpelt}
 use Rattle.wef_ids.proofs.IdTexts.{reads_back}
 use Rattle.wef_ids.specs.IdTexts.{id_of_value, id_text}
+use Rattle.wef_ids.specs.declared.MessageId.{MessageId}
 use Rattle.wef_xml.specs.Good.{IsXmlText}
 use Rattle.wef_xml.proofs.Ascii.{is_plain, plain_is, plain_text_is}
 
@@ -116,3 +117,7 @@ id_spelt value small =
       trimmed = id_text_trimmed value;
       value = reads_back value bytes (hyphenated_text lower bytes) small refl refl (parses_hyphenated lower bytes (inl refl) (bytes_long 16 value) (bytes_small 16 value));
     }
+
+-- the same of an id that was drawn
+pub drawn_spelt : (id : MessageId) (value : ℕ) → IfSome id.value (λ (v : ℕ). v < 2 ^ 128) → id ≡ id_of_value value → IsSpelt (id_of_value value)
+drawn_spelt id value small is = id_spelt value (subst (λ (o : Option ℕ). IfSome o (λ (v : ℕ). v < 2 ^ 128)) (ap (λ (m : MessageId). m.value) is) small)

@@ -4,6 +4,7 @@ use Rattle.wef_base.specs.declared.tree.Charset.{Charset}
 use Rattle.wef_base.specs.declared.tree.Charset.TheVariants.{Utf8}
 use Rattle.wef_base.specs.declared.tree.Element.{Element}
 use Rattle.wef_envelope.specs.Faults.{action_of, fault_of, fault_tree, is_known}
+use Rattle.wef_envelope.specs.Laws.{IsSpelt}
 use Rattle.wef_envelope.specs.Written.{written}
 use Rattle.wef_envelope.specs.declared.actions.TheConstants.{ACK, ANONYMOUS}
 use Rattle.wef_envelope.specs.declared.envelopes.Envelope.{Envelope}
@@ -77,6 +78,12 @@ ids_behind ids Quiet = ids
 ids_behind ids Ack = with_drawn 1 ids
 ids_behind ids (Fault name) = with_drawn 1 ids
 
+-- where something is said under an id, that is the id of its text
+abbrev pub IsSpeltFor : Ids → Said → Type 0
+IsSpeltFor ids Quiet = Unit {0}
+IsSpeltFor ids Ack = IsSpelt (id_of_value (next_id ids))
+IsSpeltFor ids (Fault name) = IsSpelt (id_of_value (next_id ids))
+
 -- What the collector answers, the rows that it leaves, and its ids then.
 pub record Reply : Type 0 where
   pub answer : Answer
@@ -105,6 +112,7 @@ pub record IsAnswer (heard : Heard) (charset : Charset) (moment : ℕ) (answer :
   pub said : Said
   pub stepped : Steps heard.asked moment said before now
   pub written : answer ≡ answer_of ids charset heard.relates said
+  pub spelt : IsSpeltFor ids said
   pub drawn : ids_now ≡ ids_behind ids said
 
 -- Where there was no memory for the answer: nothing was done, or the step of a message, and an id may be drawn.

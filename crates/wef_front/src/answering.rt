@@ -2,9 +2,10 @@
 
 ghost use Rattle.std.specs.Prelude.{◌≡◌, ◌⊎◌, true, option_copied, IfErr, IfOk, IfSome, OnErr, OnOk};
 ghost use Rattle.wef_envelope.specs.Faults.{is_known};
+ghost use Rattle.wef_envelope.specs.Laws.{IsSpelt};
 ghost use Rattle.wef_envelope.specs.Written.{written};
 ghost use Rattle.wef_front.specs.Heard.{Hears, IsSound};
-ghost use Rattle.wef_front.specs.Replies.{IsAnswer, IsUnanswered, MayHaveDrawn, ack_envelope, answer_of, answer_with, envelope_with, fault_envelope, ids_behind};
+ghost use Rattle.wef_front.specs.Replies.{IsAnswer, IsUnanswered, IsSpeltFor, MayHaveDrawn, ack_envelope, answer_of, answer_with, envelope_with, fault_envelope, ids_behind};
 ghost use Rattle.wef_front.specs.Steps.{IsKnownSaid};
 ghost use Rattle.wef_ids.specs.IdTexts.{id_of_value};
 ghost use Rattle.wef_ids.specs.Ids.{next_id, with_drawn};
@@ -80,6 +81,7 @@ fn write_said<K: Keeper>(
     requires known { IsKnownSaid said.now }
     requires relates { IfSome (option_copied relates) (λ id. IsXmlText id.text) }
     ensures answer { IfOk result (λ answer. answer ≡ answer_of collector.old.ids charset (option_copied relates.entry) said.now) }
+    ensures spelt { OnOk result (IsSpeltFor collector.old.ids said.now) }
     ensures drawn { OnOk result (collector.new.ids ≡ ids_behind collector.old.ids said.now) }
     ensures wants_memory { OnErr result (MayHaveDrawn collector.old.ids collector.new.ids) }
     ensures keeper { collector.new.keeper ≡ collector.old.keeper }
@@ -97,6 +99,7 @@ fn write_said<K: Keeper>(
 /// Draws the id of a reply.
 fn draw<K: Keeper>(collector: &mut Collector<K>) -> Result<MessageId, AllocError>
     ensures id { IfOk result (λ id. id ≡ id_of_value (next_id collector.old.ids)) }
+    ensures spelt { OnOk result (IsSpelt (id_of_value (next_id collector.old.ids))) }
     ensures drawn { OnOk result (collector.new.ids ≡ with_drawn 1 collector.old.ids) }
     ensures wants_memory { OnErr result (collector.new.ids ≡ collector.old.ids) }
     ensures keeper { collector.new.keeper ≡ collector.old.keeper }
