@@ -98,13 +98,15 @@ reached_grows : (rows rows' : Rows) (u s : List ℕ) (about : Subscription) (bat
 reached_grows rows rows' u s about batch grows within c t listed reached =
     let more = grows.bookmarks u s c in let less = within c t listed reached in omega arith
 
-pub terms_grow : (rows rows' : Rows) (u s address : List ℕ) (query : QueryList) (max_items max_bytes : ℕ) → RowsGrow rows rows' →
-    AreTerms rows u s address query max_items max_bytes → AreTerms rows' u s address query max_items max_bytes
-terms_grow rows rows' u s address query max_items max_bytes grows terms = record {
+pub terms_grow : (rows rows' : Rows) (u s address : List ℕ) (identifier : Option (List ℕ)) (query : QueryList) (max_items max_bytes : ℕ) → RowsGrow rows rows' →
+    AreTerms rows u s address identifier query max_items max_bytes → AreTerms rows' u s address identifier query max_items max_bytes
+terms_grow rows rows' u s address identifier query max_items max_bytes grows terms = record {
   about = terms.about;
   known = grows.known u terms.about terms.known;
+  address_is = terms.address_is;
   to_subscription = terms.to_subscription;
   to_source = terms.to_source;
+  identifier_is = terms.identifier_is;
   query_is = terms.query_is;
   max_items_is = terms.max_items_is;
   max_bytes_is = terms.max_bytes_is;
@@ -113,7 +115,7 @@ terms_grow rows rows' u s address query max_items max_bytes grows terms = record
 pub offered_grows : (rows rows' : Rows) (s : List ℕ) (subscribe : Subscribe) → RowsGrow rows rows' → IsOffered rows s subscribe → IsOffered rows' s subscribe
 offered_grows rows rows' s subscribe grows offered = record {
   u = offered.u;
-  terms = terms_grow rows rows' offered.u s subscribe.notify_to subscribe.query subscribe.max_items subscribe.max_bytes grows offered.terms;
+  terms = terms_grow rows rows' offered.u s subscribe.notify_to subscribe.identifier subscribe.query subscribe.max_items subscribe.max_bytes grows offered.terms;
   from = behind_grows rows rows' offered.u s subscribe.from grows offered.from;
 }
 
@@ -125,7 +127,7 @@ waits_grow messages messages' s address (Some outstanding) more waits = (waits.0
 pub served_grows : (rows rows' : Rows) (messages messages' : List Message) (s : List ℕ) (session : Session) → RowsGrow rows rows' → MessagesGrow messages messages' →
     IsServed rows messages s session → IsServed rows' messages' s session
 served_grows rows rows' messages messages' s session grows more served = record {
-  terms = terms_grow rows rows' session.name s session.notify_to session.query session.max_items session.max_bytes grows served.terms;
+  terms = terms_grow rows rows' session.name s session.notify_to session.identifier session.query session.max_items session.max_bytes grows served.terms;
   positions = behind_grows rows rows' session.name s session.positions grows served.positions;
   outstanding = waits_grow messages messages' s session.notify_to session.outstanding more served.outstanding;
 }

@@ -44,6 +44,7 @@ use Rattle.wef_replay.proofs.GoodNames.{one_given}
 use Rattle.wef_replay.specs.Good.{is_one, is_source, is_subscription}
 use Rattle.wef_machine.specs.Kept.{IsBehind, IsOffered}
 use Rattle.wef_machine.specs.Safe.{about_of, subscription_at}
+use Rattle.wef_machine.specs.States.{host}
 use Rattle.wef_machine.proofs.RowMoves.{AreRowKeys, known_name}
 use Rattle.wef_machine.proofs.Sent.{all_filter_map, all_map}
 
@@ -222,16 +223,18 @@ leads_back rows s host good l is =
     (back.0, back.1)
 
 -- all that is offered to a source is offered well
-pub all_offers : (rows : Rows) (s host : List ℕ) → AreRowKeys rows → is_source s ≡ true → AllByRecursion (λ (offer : Offer). IsOffered rows s offer.subscribe) (offers rows s host)
-all_offers rows s host keys good = all_made rows s host (λ (offer : Offer). IsOffered rows s offer.subscribe) keys (λ l is.
+pub all_offers : (rows : Rows) (s : List ℕ) → AreRowKeys rows → is_source s ≡ true → AllByRecursion (λ (offer : Offer). IsOffered rows s offer.subscribe) (offers rows s host)
+all_offers rows s keys good = all_made rows s host (λ (offer : Offer). IsOffered rows s offer.subscribe) keys (λ l is.
     let back = leads_back rows s host good l is in
     record {
       u = l.subscription.name;
       terms = record {
         about = l.subscription;
         known = is.known;
+        address_is = refl;
         to_subscription = back.0;
         to_source = back.1;
+        identifier_is = refl;
         query_is = refl;
         max_items_is = refl;
         max_bytes_is = refl;

@@ -105,7 +105,7 @@ session_begins : (rows : Rows) (messages : List Message) (s : List ℕ) (now : �
 session_begins rows messages s now subscribe u leads offered =
     let at : offered.u ≡ u = same_Some offered.u u (sym offered.terms.to_subscription ∙ leads) in
     record {
-      terms = subst (λ (v : List ℕ). AreTerms rows v s subscribe.notify_to subscribe.query subscribe.max_items subscribe.max_bytes) at offered.terms;
+      terms = subst (λ (v : List ℕ). AreTerms rows v s subscribe.notify_to subscribe.identifier subscribe.query subscribe.max_items subscribe.max_bytes) at offered.terms;
       positions = λ c.
           let same_number = with_channels_number subscribe.from (channels_of subscribe.query.items) c in
           let behind = subst (λ (v : List ℕ). IsBehind rows v s subscribe.from) at offered.from c in

@@ -11,7 +11,7 @@ use Rattle.wef_collector_rows.specs.Forms as collector
 use Rattle.wef_collector.specs.FormsStay.{IsSoundBatch}
 use Rattle.wef_collector_rows.specs.Keys.{subscription_key}
 use Rattle.wef_ids.specs.declared.MessageId.{MessageId}
-use Rattle.wef_eventing.specs.Addresses.{source_in, subscription_in}
+use Rattle.wef_eventing.specs.Addresses.{delivery_address, source_in, subscription_in}
 use Rattle.wef_eventing.specs.declared.bodies.Offer.{Offer}
 use Rattle.wef_eventing.specs.declared.bodies.Subscribe.{Subscribe}
 use Rattle.wef_eventing.specs.declared.subscriptions.Subscription.{Subscription}
@@ -29,7 +29,7 @@ use Rattle.wef_source.specs.declared.messages.Delivery.{Delivery}
 use Rattle.wef_source.specs.declared.sessions.Outstanding.{Outstanding}
 use Rattle.wef_source.specs.declared.sessions.Session.{Session}
 use Rattle.wef_machine.specs.Safe.{IsAcknowledged, IsPairSafe, IsUntouched, WasSent, settings_of, subscription_at}
-use Rattle.wef_machine.specs.States.{Slot, Slots, State}
+use Rattle.wef_machine.specs.States.{Slot, Slots, State, host}
 use Rattle.wef_machine.specs.declared.messages.Message.{Message}
 use Rattle.wef_machine.specs.declared.messages.Message.TheVariants.{Ask, Offers, Events, Ack, Fault}
 
@@ -43,13 +43,16 @@ abbrev pub IsBehind : Rows → List ℕ → List ℕ → Marks → Type 0
 IsBehind rows u s b = (c : List ℕ) → number_at b c ≤ bookmark_at rows u s c
 
 -- The terms on which a source serves a subscription are the subscription's own.
-pub record AreTerms (rows : Rows) (u s address : List ℕ) (query : QueryList) (max_items max_bytes : ℕ) : Type 0 where
+pub record AreTerms (rows : Rows) (u s address : List ℕ) (identifier : Option (List ℕ)) (query : QueryList) (max_items max_bytes : ℕ) : Type 0 where
   pub about : Subscription
   -- the subscription is there, live or ended
   pub known : subscription_at rows u ≡ Some about
-  -- the address leads to it and to the source
+  -- the address is the collector's for both, and leads to it and to the source
+  pub address_is : address ≡ delivery_address host u s
   pub to_subscription : subscription_in address ≡ Some u
   pub to_source : source_in address ≡ Some s
+  -- each delivery tells the name
+  pub identifier_is : identifier ≡ Some u
   -- the query and the limits are the subscription's
   pub query_is : query ≡ about.query
   pub max_items_is : max_items ≡ about.max_items
@@ -58,7 +61,7 @@ pub record AreTerms (rows : Rows) (u s address : List ℕ) (query : QueryList) (
 -- An offer to a source has the terms of a subscription, and begins at most at what is kept of it.
 pub record IsOffered (rows : Rows) (s : List ℕ) (subscribe : Subscribe) : Type 0 where
   pub u : List ℕ
-  pub terms : AreTerms rows u s subscribe.notify_to subscribe.query subscribe.max_items subscribe.max_bytes
+  pub terms : AreTerms rows u s subscribe.notify_to subscribe.identifier subscribe.query subscribe.max_items subscribe.max_bytes
   pub from : IsBehind rows u s subscribe.from
 
 -- What a session waits for is the answer to a delivery of its source on its path, and what it remembers of it is how
@@ -71,7 +74,7 @@ WaitsFor messages s address (Some outstanding) =
 
 -- A session of a source has the terms of the subscription of its name, and is at most at what is kept of it.
 pub record IsServed (rows : Rows) (messages : List Message) (s : List ℕ) (session : Session) : Type 0 where
-  pub terms : AreTerms rows session.name s session.notify_to session.query session.max_items session.max_bytes
+  pub terms : AreTerms rows session.name s session.notify_to session.identifier session.query session.max_items session.max_bytes
   pub positions : IsBehind rows session.name s session.positions
   pub outstanding : WaitsFor messages s session.notify_to session.outstanding
 
