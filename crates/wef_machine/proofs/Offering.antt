@@ -154,7 +154,7 @@ bookmark_behind rows u s keys =
 -- ---- names
 
 -- a name that its reader gives
-reads_subscription : (u : List ℕ) → is_subscription u ≡ true → IsUtf8 u × (subscription_name u ≡ Some u)
+pub reads_subscription : (u : List ℕ) → is_subscription u ≡ true → IsUtf8 u × (subscription_name u ≡ Some u)
 reads_subscription u good = let parts = and_parts (is_utf8 u) (is_one u (subscription_name u)) good in (IsUtf8-from_is_utf8 u parts.0, one_given u (subscription_name u) parts.1)
 
 reads_source : (s : List ℕ) → is_source s ≡ true → IsUtf8 s × (source_name s ≡ Some s)

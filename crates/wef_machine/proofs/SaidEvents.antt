@@ -19,6 +19,7 @@ use Rattle.wef_source.specs.declared.sessions.Session.{Session}
 use Rattle.wef_source_log.specs.Histories.{AreEvents, Histories, History, extended, history, text_at}
 use Rattle.wef_source_log.specs.Laws.{ReadsWindow, numbered_from}
 use Rattle.wef_source_log.specs.Windows.{first_for, first_of, records_after}
+use Rattle.wef_machine.proofs.EventTrees.{said_has_number}
 use Rattle.wef_machine.proofs.GoodLines.{IsWritable}
 use Rattle.wef_machine.proofs.Moves.{put_there}
 use Rattle.wef_machine.proofs.Sent.{all_filter_map}
@@ -27,11 +28,11 @@ use Rattle.wef_machine.proofs.Sent.{all_filter_map}
 abbrev pub IsSaid : Event → Type 0
 IsSaid event = is_event event ≡ true
 
--- so is an item's event
+-- so is an item's event; the numbers of a dropped range are those of records, in order, and no item is loose
 abbrev pub IsSaidItem : Item → Type 0
 IsSaidItem (item.Event event) = IsSaid event
-IsSaidItem (item.Dropped channel first last) = Unit {0}
-IsSaidItem (item.Loose count) = Unit {0}
+IsSaidItem (item.Dropped channel first last) = (1 ≤ first) × (first ≤ last)
+IsSaidItem (item.Loose count) = ⊥
 
 -- a text is that of the event of a channel's number
 abbrev pub IsText : List ℕ → ℕ → List ℕ → Type 0
@@ -144,7 +145,7 @@ sized_said : (room : ℕ) (event : Event) → IsSaid event → IsSaidItem (sized
 sized_said room event said = by (nat_lt room (cost (item.Event event)))
   where
     by : (b : Bool) → IsSaidItem (cond b (item.Dropped event.channel event.number event.number) (item.Event event))
-    by true = tt
+    by true = (said_has_number event said, omega arith)
     by false = said
 
 item_said : (query : QueryList) (room : ℕ) (event : Event) (i : Item) → IsSaid event → item_of query room event ≡ Some i → IsSaidItem i
@@ -159,11 +160,14 @@ all_append [] back here there = there
 all_append (i ∷ front) back here there = (here.0, all_append front back here.1 there)
 
 unread_said : (rows : Rows) (c : List ℕ) (position : ℕ) → AllByRecursion IsSaidItem (unread rows c position)
-unread_said rows c position = by (nat_lt (position + 1) (first_of rows c))
+unread_said rows c position = by (nat_lt (position + 1) (first_of rows c)) refl
   where
-    by : (b : Bool) → AllByRecursion IsSaidItem (cond b (item.Dropped c (position + 1) (first_of rows c - 1) ∷ []) [])
-    by true = (tt, tt)
-    by false = tt
+    up : (first : ℕ) → nat_lt (position + 1) first ≡ true → position + 1 ≤ first - 1
+    up first e = grind (arith, nat_tests, e)
+
+    by : (b : Bool) → nat_lt (position + 1) (first_of rows c) ≡ b → AllByRecursion IsSaidItem (cond b (item.Dropped c (position + 1) (first_of rows c - 1) ∷ []) [])
+    by true e = ((omega arith, up (first_of rows c) e), tt)
+    by false e = tt
 
 channel_said : (rows : Rows) (all : Histories) (capacity boot : ℕ) (session : Session) (c : List ℕ) → ReadsWindow rows all capacity boot → AreEvents all
     → AllByRecursion IsSaidItem (channel_candidates rows session c)

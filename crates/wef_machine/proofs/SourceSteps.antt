@@ -441,7 +441,8 @@ session_within state s slot session kept there served c =
     let behind = served.positions c in
     omega arith
 
-delivery_kept : Lower → (state : State) (s : List ℕ) (slot new : Slot) (end : End) (session : Session) → IsKept state → slot_of state s ≡ Some slot → slot.place.memory ≡ Some end →
+-- what a session sends goes to its subscription, and fits
+pub delivery_kept : Lower → (state : State) (s : List ℕ) (slot new : Slot) (end : End) (session : Session) → IsKept state → slot_of state s ≡ Some slot → slot.place.memory ≡ Some end →
     IsServed state.collector.rows state.messages s session → new.histories ≡ slot.histories → new.capacity ≡ slot.capacity → WasDrawn new (Some (next_id end)) →
     IsDelivery state.collector.rows s new (delivery_of slot.place.rows end session)
 delivery_kept lower state s slot new end session kept there runs served same_histories same_capacity drawn =
