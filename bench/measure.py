@@ -1,5 +1,6 @@
 #!/usr/bin/env python3
-"""Runs the program on schedules of two sizes, and compares their processor times and their peak memory."""
+"""Runs the program on schedules of two sizes, and compares their processor times and their peak memory. With a second program
+it compares the two as well."""
 import os
 import subprocess
 import sys
@@ -14,12 +15,16 @@ MEBIBYTE = 1 << 20
 # in front of ten times as many records takes so many times as long at most.
 BACKLOG_ITEMS, BEGUN_POLLS, MOST_POLL_FACTOR = 20, 10_000, 1.3
 
+# A schedule of messages takes so many times as long, and as much memory, as with an older program at most.
+MOST_OLDER_FACTOR = 2.5
+
 
 # Each kind of schedule: its name, what it counts, its numbers of sources, and whether its memory is bounded.
 KINDS = (
     ("events", "events", (1, 50), True),
     ("lines", "lines", (10,), False),
     ("crashes", "lines with crashes", (10,), False),
+    ("messages", "lines of messages", (10,), False),
 )
 
 
@@ -91,8 +96,22 @@ def begins_backlog(program, folder):
     return factor <= MOST_POLL_FACTOR
 
 
+def keeps_up(program, older, folder):
+    """Runs two programs in turn on one schedule. Answers whether the first takes not much more than the older one."""
+    path = schedule("messages", GREAT, 10, folder)
+    pairs = [(run(program, path), run(older, path)) for _ in range(TURNS)]
+    seconds = [min(pair[place][0] for pair in pairs) for place in range(2)]
+    peaks = [max(pair[place][1] for pair in pairs) for place in range(2)]
+    slower, larger = seconds[0] / seconds[1], peaks[0] / peaks[1]
+    print(
+        f"{GREAT:>7} lines of messages, 10 sources: {seconds[0]:.2f} s and {peaks[0] / MEBIBYTE:,.0f} MiB,"
+        f" {slower:.2f} times as long and {larger:.2f} times as much as with {older}"
+    )
+    return slower <= MOST_OLDER_FACTOR and larger <= MOST_OLDER_FACTOR
+
+
 def main():
-    program = sys.argv[1]
+    program, *older = sys.argv[1:]
     with tempfile.TemporaryDirectory() as folder:
         good = [
             meets(program, kind, what, sources, bounded, folder)
@@ -100,6 +119,7 @@ def main():
             for sources in counts
         ]
         good += [sends_backlog(program, folder), begins_backlog(program, folder)]
+        good += [keeps_up(program, one, folder) for one in older]
     if not all(good):
         sys.exit("a bound isn't met")
 

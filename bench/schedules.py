@@ -4,6 +4,7 @@
     bench/schedules.py events SIZE SOURCES > FILE     batches of foreign sources
     bench/schedules.py lines SIZE SOURCES > FILE      writes, polls and deliveries of declared sources
     bench/schedules.py crashes SIZE SOURCES > FILE    the same, with a crash or a failure in every tenth line
+    bench/schedules.py messages SIZE SOURCES > FILE   deliveries by number, of which some come again or count as lost
 
 Or one of a source that writes SIZE records before it sends any:
 
@@ -11,6 +12,7 @@ Or one of a source that writes SIZE records before it sends any:
     bench/schedules.py backlog SIZE ITEMS > FILE      and then all of them, ITEMS in a batch
     bench/schedules.py begun SIZE ITEMS > FILE        and then the first 1,000 batches, each of them ten times
 """
+import itertools
 import sys
 
 BATCH = 20
@@ -63,6 +65,52 @@ def crashes(lines, sources):
     yield "show"
 
 
+class Numbers:
+    """The numbers of messages, in the order in which they are sent."""
+
+    def __init__(self):
+        self.last = 0
+
+    def answered(self):
+        """The deliveries of the next message and of its answer, which comes behind it."""
+        self.last += 2
+        return (f"deliver {self.last - 1}", f"deliver {self.last}")
+
+
+def sendings(name, turn, numbers):
+    """A batch and its answer. In each tenth turn the batch comes again, in each tenth the source never hears the answer."""
+    poll = f"poll {name} base"
+    first, answer = numbers.answered()
+    yield from (poll, first)
+    if turn % 10 == 3:
+        yield f"lost {name} base"
+        again, answer = numbers.answered()
+        yield from (poll, again)
+    yield answer
+    if turn % 10 == 7:
+        numbers.last += 1
+        yield "back 1"
+
+
+def turns(sources):
+    """Turns of the sources without an end: each writes a batch and sends it, and asks in every tenth of its turns."""
+    numbers = Numbers()
+    for turn in itertools.count():
+        name = f"s{turn % sources}"
+        if turn // sources % 10 == 0:
+            yield from (f"ask {name}", *numbers.answered())
+        yield from [f"write {name} application 1 4 a"] * BATCH
+        yield from sendings(name, turn // sources, numbers)
+
+
+def messages(lines, sources):
+    """Turns of the sources, and the report."""
+    yield "subscribe base 20 512000 900000 all application"
+    yield from (f"source s{source} 1000" for source in range(sources))
+    yield from itertools.islice(turns(sources), lines - sources - 2)
+    yield "show"
+
+
 # How many batches of a backlog are sent, and how often each of them, where it isn't sent to its end.
 FIRST, AGAIN = 1000, 10
 
@@ -91,6 +139,7 @@ KINDS = {
     "events": batches,
     "lines": exchanges,
     "crashes": crashes,
+    "messages": messages,
     "written": written,
     "backlog": backlog,
     "begun": begun,
