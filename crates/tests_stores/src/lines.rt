@@ -6,6 +6,10 @@ use wef_replay::{Line, is_line};
 #[test]
 fn a_line_has_a_number_that_can_be_spelled(rt: HostRuntime) {
     for (number, want) in [(MAX, true), (MAX + 1, false)] {
-        assert_eq!(&rt; is_line(&Line::Deliver { number }), want);
+        let line = Line::Deliver {
+            number,
+            seen: false,
+        };
+        assert_eq!(&rt; is_line(&line), want);
     }
 }

@@ -14,7 +14,7 @@ use std::alloc::Global;
 use std::mem;
 use wef_base::{Bytes, IoFailed, List, Sink};
 use wef_replay::Line;
-use wef_world::{World, WorldFault};
+use wef_world::{Shipped, World, WorldFault};
 
 /// How many bytes wait, at least, before they are written.
 pub const WAITING_LIMIT: usize = 65_536;
@@ -48,21 +48,21 @@ fn run_anew<O: Sink>(alloc: Global, lines: List<Line>, out: &mut O) -> Result<()
     ensures err { IfErr result (λ fault. StopsRun fault (O.faults out.old) (O.faults out.new)) }
     ensures part { WritesPart (O.taken out.old) (O.taken out.new) (trail_from start lines) }
 {
-    let mut world = World::new(alloc);
+    let mut world = World::new(alloc, Shipped::new(alloc));
     run_in(alloc, &mut world, lines, out)
 }
 
 /// Does lines that a world admits, one after the other, and writes what they print.
 fn run_in<O: Sink>(
     alloc: Global,
-    world: &mut World,
+    world: &mut World<Shipped>,
     lines: List<Line>,
     out: &mut O,
 ) -> Result<(), RunFault>
-    requires { AreAdmitted world.old lines }
-    ensures ok { OnOk result (Appends (O.taken out.old) (O.taken out.new) (trail_from world.old lines)) }
+    requires { AreAdmitted world.old.held lines }
+    ensures ok { OnOk result (Appends (O.taken out.old) (O.taken out.new) (trail_from world.old.held lines)) }
     ensures err { IfErr result (λ fault. StopsRun fault (O.faults out.old) (O.faults out.new)) }
-    ensures part { WritesPart (O.taken out.old) (O.taken out.new) (trail_from world.old lines) }
+    ensures part { WritesPart (O.taken out.old) (O.taken out.new) (trail_from world.old.held lines) }
 {
     let mut waiting = Bytes::new(alloc);
     for line in lines.into_vec() {
@@ -82,10 +82,10 @@ fn run_in<O: Sink>(
 }
 
 /// Does one line that the world admits, appends what it prints, and lets the line go.
-fn run_one(world: &mut World, line: Line, waiting: &mut Bytes) -> Result<(), WorldFault>
-    requires { admits world.old line ≡ true }
-    ensures state { OnOk result (world.new ≡ step line world.old) }
-    ensures printed { OnOk result (waiting.new ≡ waiting.old ++ printed_by line world.old) }
+fn run_one(world: &mut World<Shipped>, line: Line, waiting: &mut Bytes) -> Result<(), WorldFault>
+    requires { admits world.old.held line ≡ true }
+    ensures state { OnOk result (world.new.held ≡ step line world.old.held) }
+    ensures printed { OnOk result (waiting.new ≡ waiting.old ++ printed_by line world.old.held) }
 {
     let done = world.apply(&line, waiting);
     drop(line);

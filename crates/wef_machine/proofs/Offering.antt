@@ -157,7 +157,7 @@ bookmark_behind rows u s keys =
 pub reads_subscription : (u : List ℕ) → is_subscription u ≡ true → IsUtf8 u × (subscription_name u ≡ Some u)
 reads_subscription u good = let parts = and_parts (is_utf8 u) (is_one u (subscription_name u)) good in (IsUtf8-from_is_utf8 u parts.0, one_given u (subscription_name u) parts.1)
 
-reads_source : (s : List ℕ) → is_source s ≡ true → IsUtf8 s × (source_name s ≡ Some s)
+pub reads_source : (s : List ℕ) → is_source s ≡ true → IsUtf8 s × (source_name s ≡ Some s)
 reads_source s good = let parts = and_parts (is_utf8 s) (is_one s (source_name s)) good in (IsUtf8-from_is_utf8 s parts.0, one_given s (source_name s) parts.1)
 
 -- ---- listed subscriptions

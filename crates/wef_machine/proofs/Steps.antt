@@ -157,7 +157,7 @@ steps_keep lower state (Write s plain) kept good =
     write_keeps lower state s (new_event plain) kept (writable s plain (and_parts (is_line (Write s plain)) (is_among (declared_names state) s) good).0)
 steps_keep lower state (Ask s) kept good = ask_keeps lower state s kept
 steps_keep lower state (Poll s u) kept good = poll_keeps lower state s u kept
-steps_keep lower state (Deliver k) kept good = deliver_keeps lower state k kept
+steps_keep lower state (Deliver k seen) kept good = deliver_keeps lower state k kept
 steps_keep lower state (Back n) kept good = deliver_keeps lower state (number_back state n) kept
 steps_keep lower state (Lost s u) kept good = lost_keeps lower state s u kept
 steps_keep lower state (Crash end) kept good = crash_keeps_end state end kept

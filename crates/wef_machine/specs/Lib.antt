@@ -9,6 +9,7 @@ pub mod Places
 pub mod Printed
 pub mod Rising
 pub mod Safe
+pub mod Seen
 pub mod Sources
 pub mod States
 pub mod Steps

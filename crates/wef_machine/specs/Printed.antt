@@ -53,6 +53,10 @@ took_line k word = codes "took " ++ decimal k ++ 32 ∷ word ++ 10 ∷ []
 unfoldable pub answered_line : ℕ → List ℕ → ℕ → List ℕ
 answered_line k word j = codes "took " ++ decimal k ++ 32 ∷ word ++ codes " sent " ++ decimal j ++ 10 ∷ []
 
+-- `message K TEXT`
+unfoldable pub text_line : ℕ → List ℕ → List ℕ
+text_line k text = codes "message " ++ decimal k ++ 32 ∷ text ++ 10 ∷ []
+
 -- `no message K`
 unfoldable pub no_message_line : ℕ → List ℕ
 no_message_line k = codes "no message " ++ decimal k ++ 10 ∷ []

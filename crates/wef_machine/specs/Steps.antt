@@ -24,6 +24,7 @@ use Rattle.wef_machine.specs.Collecting.{at_collector, print_at_collector, with_
 use Rattle.wef_machine.specs.Deliveries.{answer_word, batch_effect, deliver_printed, deliver_step, number_back}
 use Rattle.wef_machine.specs.Printed.{name_line, batch_text, collector_name, events_text, fate_line, fate_word}
 use Rattle.wef_machine.specs.Places.{armed_with, calmed, crashed}
+use Rattle.wef_machine.specs.Seen.{seen_printed}
 use Rattle.wef_machine.specs.Sources.{ask_printed, ask_step, at_declared, declared_slot, fate_text, lost_printed, lost_step, poll_printed, poll_step, write_printed, write_step}
 use Rattle.wef_machine.specs.States.{State, calmed_slots, names_of, slot_of, start, with_collector, with_foreign, with_slot}
 use Rattle.wef_machine.specs.declared.arming.Armed.{Armed}
@@ -133,7 +134,7 @@ step (Source s capacity) state = with_slot state s (declared_slot capacity)
 step (Write s plain) state = write_step state s (new_event plain)
 step (Ask s) state = ask_step state s
 step (Poll s u) state = poll_step state s u
-step (Deliver k) state = deliver_step state k
+step (Deliver k seen) state = deliver_step state k
 step (Back n) state = deliver_step state (number_back state n)
 step (Lost s u) state = lost_step state s u
 step (Crash end) state = crash_step state end
@@ -143,24 +144,33 @@ step Calm state = calm_step state
 step Show state = at_collector state (λ ids. unchanged)
 step (Print u s c) state = at_collector state (λ ids. unchanged)
 
--- what a line prints, by the state before it
+-- what a line shows before it does anything: a message, where it asks for it
+abbrev pub seen_by : Line → State → List ℕ
+seen_by (Deliver k seen) state = seen_printed state seen k
+seen_by line state = []
+
+-- what a line tells of what it does, by the state before it
+abbrev pub told_by : Line → State → List ℕ
+told_by (Subscribe u items bytes beat query) state = print_at_collector state closed_line (λ ids. subscribe_text (subscription_of u items bytes beat query))
+told_by (End u) state = print_at_collector state closed_line (λ ids. end_text u)
+told_by (Batch u s b) state = print_at_collector (with_foreign state s) (closed_batch u s) (λ ids. batch_line u s b)
+told_by (Source s capacity) state = []
+told_by (Write s plain) state = write_printed state s (new_event plain)
+told_by (Ask s) state = ask_printed state s
+told_by (Poll s u) state = poll_printed state s u
+told_by (Deliver k seen) state = deliver_printed state k
+told_by (Back n) state = deliver_printed state (number_back state n)
+told_by (Lost s u) state = lost_printed state s u
+told_by (Crash end) state = name_line (codes "crashed") (end_name end)
+told_by (Fail end after) state = []
+told_by (Stop end after) state = []
+told_by Calm state = []
+told_by Show state = print_at_collector state closed_line (λ ids. show_text)
+told_by (Print u s c) state = print_at_collector state closed_line (λ ids. print_text u s c)
+
+-- what it prints
 abbrev pub printed_by : Line → State → List ℕ
-printed_by (Subscribe u items bytes beat query) state = print_at_collector state closed_line (λ ids. subscribe_text (subscription_of u items bytes beat query))
-printed_by (End u) state = print_at_collector state closed_line (λ ids. end_text u)
-printed_by (Batch u s b) state = print_at_collector (with_foreign state s) (closed_batch u s) (λ ids. batch_line u s b)
-printed_by (Source s capacity) state = []
-printed_by (Write s plain) state = write_printed state s (new_event plain)
-printed_by (Ask s) state = ask_printed state s
-printed_by (Poll s u) state = poll_printed state s u
-printed_by (Deliver k) state = deliver_printed state k
-printed_by (Back n) state = deliver_printed state (number_back state n)
-printed_by (Lost s u) state = lost_printed state s u
-printed_by (Crash end) state = name_line (codes "crashed") (end_name end)
-printed_by (Fail end after) state = []
-printed_by (Stop end after) state = []
-printed_by Calm state = []
-printed_by Show state = print_at_collector state closed_line (λ ids. show_text)
-printed_by (Print u s c) state = print_at_collector state closed_line (λ ids. print_text u s c)
+printed_by line state = seen_by line state ++ told_by line state
 
 -- the state before each line, and the one after the last
 abbrev pub states_from : State → List Line → List State

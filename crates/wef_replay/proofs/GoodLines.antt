@@ -14,7 +14,7 @@ use Rattle.wef_event.specs.declared.unnumbered.PlainEvent.{PlainEvent}
 use Rattle.wef_query.specs.Queries.{all_events_of}
 use Rattle.wef_replay.specs.BatchWords.{empty_batch, read_words}
 use Rattle.wef_replay.specs.Good.{are_all, asks_for_all, fits_always, is_between, is_channel, is_count, is_end, is_line, is_no_collector, is_source, is_subscription}
-use Rattle.wef_replay.specs.Grammar.{all_of, ask_line, back_line, batch_line, calm_line, commit_words, crash_line, deliver_line, does_nothing, end_line, event_if_xml, event_words, fail_line, failure_line_of, fitting_event, if_fits, line_of_words, lost_line, meaning, message_words, other_line, pair_words, poll_line, print_line, show_line, source_line, source_line_of, stop_line, subscribe_line, subscribe_numbers, write_line}
+use Rattle.wef_replay.specs.Grammar.{all_of, ask_line, back_line, batch_line, calm_line, commit_words, crash_line, deliver_line, does_nothing, end_line, event_if_xml, event_words, fail_line, failure_line_of, fitting_event, if_fits, line_of_words, lost_line, meaning, message_words, other_line, pair_words, poll_line, print_line, seen_words, show_line, source_line, source_line_of, stop_line, subscribe_line, subscribe_numbers, write_line}
 use Rattle.wef_replay.specs.PlainEvents.{HasPlainEvents}
 use Rattle.wef_replay.specs.Reading.{with_first}
 use Rattle.wef_replay.specs.Values.{after_word, channel_word, channel_words, end_word, number_word, sending_source_word, source_word, subscription_word}
@@ -29,6 +29,11 @@ use Rattle.wef_replay.proofs.GoodNumbers.{count_from_between, good-number}
 -- the line's values are of their kinds, and its events are plain
 abbrev pub IsGoodLine : Line → Type 0
 IsGoodLine line = (is_line line ≡ true) × HasPlainEvents line
+
+-- of a truth value there is nothing to say
+any : (given : Option Bool) → AllOf (λ _. Unit {0}) given
+any None = tt
+any (Some given) = tt
 
 -- ---- subscriptions
 
@@ -160,7 +165,10 @@ good-message_words (number ∷ []) = counts (number_word 0 MAX number) (good-num
 good-message_words (a ∷ b ∷ more) = tt
 
 good-deliver_line : (words : List (List ℕ)) → AllOf IsGoodLine (deliver_line words)
-good-deliver_line words = all_of-map _ IsGoodLine (λ n. Deliver n) (message_words words) (good-message_words words) (λ n h. (h, tt))
+good-deliver_line [] = tt
+good-deliver_line (number ∷ words) =
+    all_of-then _ IsGoodLine _ (number_word 0 MAX number) (counts (number_word 0 MAX number) (good-number 0 MAX number)) (λ n is_n.
+    all_of-map (λ _. Unit {0}) IsGoodLine (λ seen. Deliver n seen) (seen_words words) (any (seen_words words)) (λ seen _. (is_n, tt)))
 
 good-back_line : (words : List (List ℕ)) → AllOf IsGoodLine (back_line words)
 good-back_line words = all_of-map _ IsGoodLine (λ n. Back n) (message_words words) (good-message_words words) (λ n h. (h, tt))
@@ -200,10 +208,6 @@ good-commit_words (a ∷ []) = tt
 good-commit_words (end ∷ when ∷ []) =
     all_of-then _ (λ commit. is_end commit.0 ≡ true) _ (end_word end) (good-end_word end) (λ e is_e.
     all_of-map (λ _. Unit {0}) (λ commit. is_end commit.0 ≡ true) (λ after. (e, after)) (after_word when) (any (after_word when)) (λ after _. is_e))
-  where
-    any : (given : Option Bool) → AllOf (λ _. Unit {0}) given
-    any None = tt
-    any (Some after) = tt
 good-commit_words (a ∷ b ∷ c ∷ more) = tt
 
 good-fail_line : (words : List (List ℕ)) → AllOf IsGoodLine (fail_line words)

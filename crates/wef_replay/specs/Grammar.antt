@@ -6,7 +6,7 @@
 --     write SOURCE CHANNEL ID LEVEL DATA               ID and LEVEL below 2^32; DATA of XML Chars, which may be empty; the event has to fit with the greatest number
 --     ask SOURCE
 --     poll SOURCE SUB
---     deliver NUMBER
+--     deliver NUMBER           deliver NUMBER seen
 --     back NUMBER
 --     lost SOURCE SUB
 --     show
@@ -101,13 +101,20 @@ poll_line words = option_map (λ pair. Poll pair.0 pair.1) (pair_words words)
 abbrev pub lost_line : List (List ℕ) → Option Line
 lost_line words = option_map (λ pair. Lost pair.0 pair.1) (pair_words words)
 
--- the number of a message
+-- the number of a message, and nothing more
 abbrev pub message_words : List (List ℕ) → Option ℕ
 message_words (number ∷ []) = number_word 0 MAX number
 message_words _ = None
 
+-- whether what a message says is printed first: no word, or `seen`
+abbrev pub seen_words : List (List ℕ) → Option Bool
+seen_words [] = Some false
+seen_words (word ∷ []) = if same word (codes "seen") then Some true else None
+seen_words _ = None
+
 abbrev pub deliver_line : List (List ℕ) → Option Line
-deliver_line words = option_map (λ n. Deliver n) (message_words words)
+deliver_line (number ∷ words) = option_and_then (λ n. option_map (λ seen. Deliver n seen) (seen_words words)) (number_word 0 MAX number)
+deliver_line [] = None
 
 abbrev pub back_line : List (List ℕ) → Option Line
 back_line words = option_map (λ n. Back n) (message_words words)

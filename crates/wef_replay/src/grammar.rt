@@ -2,7 +2,7 @@
 
 ghost use Rattle.std.specs.Prelude.{◌≡◌};
 ghost use Rattle.wef_base.specs.Words.{parts};
-ghost use Rattle.wef_replay.specs.Grammar.{ask_line, back_line, batch_line, batch_of_source, calm_line, commit_words, crash_line, deliver_line, does_nothing, end_line, event_words, fail_line, failure_line_of, fitting_event, line_of_words, lost_line, meaning, message_words, other_line, pair_words, poll_line, print_line, show_line, source_line, source_line_of, stop_line, subscribe_line, subscribe_numbers, write_line};
+ghost use Rattle.wef_replay.specs.Grammar.{ask_line, back_line, batch_line, batch_of_source, calm_line, commit_words, crash_line, deliver_line, does_nothing, end_line, event_words, fail_line, failure_line_of, fitting_event, line_of_words, lost_line, meaning, message_words, other_line, pair_words, poll_line, print_line, seen_words, show_line, source_line, source_line_of, stop_line, subscribe_line, subscribe_numbers, write_line};
 ghost use Rattle.wef_replay.specs.Parts.{parts_behind};
 ghost use Rattle.wef_replay.specs.Reading.{Gives};
 
@@ -300,7 +300,7 @@ fn lost_of(alloc: Global, words: &[Bytes]) -> Result<Line, LineFault>
     Ok(Line::Lost { source, sub })
 }
 
-/// The number of a message.
+/// The number of a message, and nothing more.
 fn message_of(words: &[Bytes]) -> Result<u64, LineFault>
     ensures { Gives result (message_words words.now) }
 {
@@ -310,11 +310,28 @@ fn message_of(words: &[Bytes]) -> Result<u64, LineFault>
     }
 }
 
+/// Whether what a message says is to be printed first: no word, or `seen`.
+fn seen_of(words: &[Bytes]) -> Result<bool, LineFault>
+    ensures { Gives result (seen_words words.now) }
+{
+    match words {
+        [] => Ok(false),
+        [word] if is_word(word, "seen") => Ok(true),
+        _ => Err(LineFault::NotUnderstood),
+    }
+}
+
 fn deliver_of(words: &[Bytes]) -> Result<Line, LineFault>
     ensures { Gives result (deliver_line words.now) }
 {
-    let number = message_of(words)?;
-    Ok(Line::Deliver { number })
+    match words {
+        [number, words @ ..] => {
+            let number = number_of(number, 0, MAX)?;
+            let seen = seen_of(words)?;
+            Ok(Line::Deliver { number, seen })
+        }
+        [] => Err(LineFault::NotUnderstood),
+    }
 }
 
 fn back_of(words: &[Bytes]) -> Result<Line, LineFault>

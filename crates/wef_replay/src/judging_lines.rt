@@ -38,7 +38,7 @@ pub fn is_line(line: &Line) -> bool
         Line::Write { source, event } => is_source(source) && fits_always(event),
         Line::Ask { source } => is_source(source),
         Line::Poll { source, sub } => is_source(source) && is_subscription(sub),
-        Line::Deliver { number } => is_count(*number),
+        Line::Deliver { number, .. } => is_count(*number),
         Line::Back { number } => is_count(*number),
         Line::Lost { source, sub } => is_source(source) && is_subscription(sub),
         Line::Show => true,

@@ -62,9 +62,10 @@ pub enum Line {
         sub: SubId,
     },
 
-    /// Delivers a message, by its number.
+    /// Delivers a message, by its number. Where it is `seen`, what it says is printed first.
     Deliver {
         number: u64,
+        seen: bool,
     },
 
     /// Delivers the message that so many messages, counted round, came behind.
@@ -136,7 +137,7 @@ impl Drop for Line {
             } => {}
             Line::Ask { source: _ } => {}
             Line::Poll { source: _, sub: _ } => {}
-            Line::Deliver { number: _ } => {}
+            Line::Deliver { number: _, seen: _ } => {}
             Line::Back { number: _ } => {}
             Line::Lost { source: _, sub: _ } => {}
             Line::Print {

@@ -1,7 +1,6 @@
 -- What is lent out of a value that has a model.
-use Rattle.std.proofs.Common.{◌≡◌, Option, Some, None, true, refl, ap}
+use Rattle.std.proofs.Common.{◌≡◌, Option, Some, None, refl, ap}
 use Rattle.std.specs.Option.{IsSome, ghost_name_of, option_copied_mut}
-use Rattle.std.specs.Prelude.{is_some}
 use borrow.Follows.Closed.{read_of}
 use denote.MutBor.{MutBor}
 

@@ -1,11 +1,14 @@
+pub mod Answered
 pub mod Calmed
 pub mod CollectorCalls
 pub mod Delivered
+pub mod Heard
+pub mod Kept
 pub mod LastNumbers
 pub mod Lent
-pub mod Numbered
 pub mod Opened
 pub mod Ready
+pub mod Said
 pub mod Settled
 pub mod Takings
 pub mod Used

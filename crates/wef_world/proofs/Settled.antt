@@ -1,6 +1,6 @@
 -- What a call of an end that runs leaves of it, once what was armed is settled: what the machine says of a call.
-use Rattle.std.proofs.Common.{◌≡◌, Bool, true, false, List, [], ◌∷◌, cond, refl, ap, sym, ◌∙◌, subst, if◌then◌else◌}
-use Rattle.std.specs.Prelude.{Option, Some, None, Result, Ok, Err}
+use Rattle.std.proofs.Common.{◌≡◌, Bool, true, false, ◌&&◌, List, [], ◌∷◌, cond, refl, ap, sym, ◌∙◌, subst, if◌then◌else◌}
+use Rattle.std.specs.Prelude.{Option, Some, None, Result, Ok, Err, is_some, not}
 use Rattle.wef_keeper.specs.Access.{is_planned, plan_with}
 use Rattle.wef_keeper.specs.Calls.{AnswersFault, Effect, FaultByPlan, IsCall, Makes, OfStore, WhereMade}
 use Rattle.wef_keeper.specs.Keeping.{Store, is_armed, outcome}
@@ -16,7 +16,7 @@ use Rattle.wef_machine.specs.Places as machine
 use Rattle.wef_machine.specs.declared.arming.Armed.{Armed}
 use Rattle.wef_machine.specs.declared.arming.Fate as the_fate
 use Rattle.wef_machine.specs.declared.arming.Fate.TheVariants as fates
-use Rattle.wef_world.specs.Places.{CalledAs, CameTo, IsPlanned, Settles, SettlesFault, called_at, end_in, keeper_in, running_with, seen, settled}
+use Rattle.wef_world.specs.Places.{CalledAs, CameTo, IsPlanned, Settles, SettlesFault, called_at, end_in, fate_by, is_used_up, keeper_in, running_with, seen, settled}
 use Rattle.wef_world.specs.declared.places.Called.{Called}
 use Rattle.wef_world.specs.declared.places.Called.TheVariants.{Done, Broken, Refused}
 use Rattle.wef_world.specs.declared.places.Place.{Place}
@@ -88,7 +88,7 @@ failed_undone (Some a) changes planned = stops_undone a.stops
 
 -- ---- a call
 
-settled_seen : {E M : Type 0} (keeper : E → MemKeeper) (memory : E → M) (how : the_fate.Fate) (armed : Option Armed) (end : E)
+pub settled_seen : {E M : Type 0} (keeper : E → MemKeeper) (memory : E → M) (how : the_fate.Fate) (armed : Option Armed) (end : E)
     → seen keeper memory (settled keeper how (running_with armed end))
     ≡ record { rows = (keeper end).rows; memory = if is_stopped how then None else Some (memory end); armed = if is_armed (keeper end).plan then armed else None }
 settled_seen keeper memory fates.Done armed end = refl
@@ -188,3 +188,91 @@ leaves {E} {M} {T} {F} keeper memory of_store AreFormed effect value placed end 
         record { seen_is = did.0; came = λ how. did.1 }
         )
     by (Closed own) there planned formed = absurd (no_end there)
+
+-- ---- a call of which only the store tells how it went
+
+-- what a call came to, by its answer, and by how its commit went
+abbrev broken_or_refused : {T F : Type 0} → Option StoreFault → F → the_fate.Fate → Called T F
+broken_or_refused (Some kind) fault how = Broken how
+broken_or_refused None fault how = Refused fault
+
+abbrev pub called_of : {T F : Type 0} → OfStore F → Result T F → the_fate.Fate → Called T F
+called_of of_store (Ok answer) how = Done answer
+called_of of_store (Err fault) how = broken_or_refused (of_store fault) fault how
+
+-- how its commit went: it is done, but where the store failed; and it didn't want memory
+abbrev GoesByFault : Option StoreFault → the_fate.Fate → Type 0
+GoesByFault (Some store.NoMemory) how = ⊥
+GoesByFault (Some store.Failed) how = is_done how ≡ false
+GoesByFault None how = how ≡ fates.Done
+
+abbrev pub Goes : {T F : Type 0} → OfStore F → Result T F → the_fate.Fate → Type 0
+Goes of_store (Ok answer) how = how ≡ fates.Done
+Goes of_store (Err fault) how = GoesByFault (of_store fault) how
+
+abbrev IsNoWant : Option StoreFault → Type 0
+IsNoWant (Some store.NoMemory) = ⊥
+IsNoWant _ = Unit {0}
+
+-- a call that doesn't want memory
+abbrev pub WantsNothing : {T F : Type 0} → OfStore F → Result T F → Type 0
+WantsNothing of_store (Ok answer) = Unit {0}
+WantsNothing of_store (Err fault) = IsNoWant (of_store fault)
+
+used_where_done : (armed : Option Armed) (changes : List Change) (left : Plan) → is_planned changes (plan_of armed) ≡ true → left ≡ plan_with changes (plan_of armed)
+    → (is_some armed && not (is_armed left)) ≡ false
+used_where_done None changes left planned is = refl
+used_where_done (Some a) [] left planned is = ap (λ (p : Plan). not (is_armed p)) is
+used_where_done (Some a) (change ∷ changes) left planned is = cc
+
+used_where_failed : (armed : Option Armed) (changes : List Change) (left : Plan) → is_planned changes (plan_of armed) ≡ false → left ≡ plans.Done → (is_some armed && not (is_armed left)) ≡ true
+used_where_failed None [] left planned is = cc
+used_where_failed None (change ∷ changes) left planned is = cc
+used_where_failed (Some a) changes left planned is = ap (λ (p : Plan). not (is_armed p)) is
+
+used_where_kept : (armed : Option Armed) (left : Plan) → left ≡ plan_of armed → (is_some armed && not (is_armed left)) ≡ false
+used_where_kept None left is = refl
+used_where_kept (Some a) left is = ap (λ (p : Plan). not (is_armed p)) is
+
+armed_stays : (armed : Option Armed) (left : Plan) → left ≡ plan_of armed → (if is_armed left then armed else None) ≡ armed
+armed_stays None left is = either_none (is_armed left)
+armed_stays (Some a) left is = ap (λ (p : Plan). if is_armed p then Some a else None) is
+
+module _ (T : Type 0) {E F : Type 0} (keeper : E → MemKeeper) (of_store : OfStore F) (AreFormed : Rows → Type 0) (armed : Option Armed) (end end' : E) (left : Placed E) (how : the_fate.Fate) (told : (keeper end).plan ≡ plan_of armed)
+    (goes : how ≡ fate_by (is_used_up keeper (running_with armed end')) armed) (settles : left ≡ settled keeper how (running_with armed end')) where
+  done_settles : (effect : Effect F) (answer : T)
+      → WhereMade effect (λ changes. (is_planned changes (keeper end).plan ≡ true) × (Some (keeper end').plan ≡ Some (plan_with changes (keeper end).plan)))
+      → Settles {F = F} keeper of_store (Ok answer) (running_with armed end') left (Done answer) × (how ≡ fates.Done)
+  done_settles (Ok changes) answer planned =
+      let unused = used_where_done armed changes (keeper end').plan (subst (λ (p : Plan). is_planned changes p ≡ true) told planned.0) (same_plan _ _ planned.1 ∙ ap (plan_with changes) told) in
+      let is_done = goes ∙ ap (λ (b : Bool). fate_by b armed) unused in
+      ((refl, settles ∙ ap (λ (h : the_fate.Fate). settled keeper h (running_with armed end')) is_done), is_done)
+  done_settles (Err fault) answer planned = absurd planned
+
+  failed_settles : (effect : Effect F) (fault : F)
+      → WhereMade effect (λ changes. (is_planned changes (keeper end).plan ≡ false) × (Some (keeper end').plan ≡ Some plans.Done) × ((keeper end').rows ≡ outcome (keeper end).plan changes (keeper end).rows))
+      → SettlesFault {T = T} keeper (Some store.Failed) fault (running_with armed end') left (Broken how) × (is_done how ≡ false)
+  failed_settles (Ok changes) fault planned =
+      let by_plan = subst (λ (p : Plan). is_planned changes p ≡ false) told planned.0 in
+      let fails = goes ∙ ap (λ (b : Bool). fate_by b armed) (used_where_failed armed changes (keeper end').plan by_plan (same_plan _ _ planned.1)) in
+      ((fails, settles), ap is_done fails ∙ failed_undone armed changes by_plan)
+  failed_settles (Err refused) fault planned = absurd planned
+
+  refused_settles : (fault : F) → (keeper end').plan ≡ (keeper end).plan → SettlesFault {T = T} keeper None fault (running_with armed end') left (Refused fault) × (how ≡ fates.Done)
+  refused_settles fault same =
+      let is_done = goes ∙ ap (λ (b : Bool). fate_by b armed) (used_where_kept armed (keeper end').plan (same ∙ told)) in
+      let stays : settled keeper fates.Done (running_with armed end') ≡ running_with armed end' = λ i. record { place = Running end'; armed = armed_stays armed (keeper end').plan (same ∙ told) i } in
+      ((refl, settles ∙ ap (λ (h : the_fate.Fate). settled keeper h (running_with armed end')) is_done ∙ stays), is_done)
+
+  -- what is armed tells how a call went that doesn't say it
+  pub answered_settles : (effect : Rows → Effect F) (value : Rows → T) (answer : Result T F) → AreFormed (keeper end).rows
+      → IsCall of_store AreFormed effect value answer (told_by (keeper end)) (told_by (keeper end')) → WantsNothing of_store answer
+      → Settles keeper of_store answer (running_with armed end') left (called_of of_store answer how) × Goes of_store answer how
+  answered_settles effect value (Ok answer) formed call wants = done_settles (effect (keeper end).rows) answer call.did.planned
+  answered_settles effect value (Err fault) formed call wants = by (of_store fault) call.did.planned wants
+    where
+      by : (kind : Option StoreFault) → FaultByPlan kind AreFormed (keeper end).plan (effect (keeper end).rows) (keeper end).rows (keeper end').rows (told_by (keeper end')) → IsNoWant kind
+          → SettlesFault {T = T} keeper kind fault (running_with armed end') left (broken_or_refused kind fault how) × GoesByFault kind how
+      by (Some store.NoMemory) planned wants = absurd wants
+      by (Some store.Failed) planned wants = failed_settles (effect (keeper end).rows) fault (planned formed)
+      by None planned wants = refused_settles fault (same_plan _ _ planned)

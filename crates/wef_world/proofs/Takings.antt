@@ -1,11 +1,10 @@
 -- What the collector makes of messages, and the world after its answers.
 use Rattle.std.proofs.Common.{◌≡◌, ℕ, Bool, true, false, List, cond, refl, ap, sym, ◌∙◌, subst}
-use Rattle.std.specs.Prelude.{Option, Some, None, Ok, Err, codes, if◌then◌else◌}
+use Rattle.std.specs.Prelude.{Option, Some, None, Ok, Err, if◌then◌else◌}
 use Rattle.wef_batch.specs.WellFormed.{is_well_formed}
 use Rattle.wef_batch.specs.declared.items.Batch.{Batch}
 use Rattle.wef_collector_rows.specs.Answers.{channels_read}
 use Rattle.wef_collector.specs.Calls.{take_by, take_effect}
-use Rattle.wef_collector.specs.Offers.{offers}
 use Rattle.wef_collector_rows.specs.Standing.{standing}
 use Rattle.wef_collector.specs.Taken.{batch_changes}
 use Rattle.wef_collector_rows.specs.declared.faults.CollectorFault.{CollectorFault}
@@ -20,12 +19,12 @@ use Rattle.wef_keeper.specs.Calls.{Effect}
 use Rattle.wef_keeper.specs.Rows.{Rows}
 use Rattle.wef_keeper.specs.declared.keys.Change.{Change}
 use Rattle.wef_machine.specs.Arming.{armed_after, committed, fate, is_done, is_stopped}
-use Rattle.wef_machine.specs.Collecting.{at_collector, collector_opened, collector_opening, draws, print_at_collector, print_where_runs, reply_id, where_runs, with_call, with_opened}
+use Rattle.wef_machine.specs.Collecting.{at_collector, collector_opened, collector_opening, print_at_collector, print_where_runs, reply_id, where_runs, with_call, with_opened}
 use Rattle.wef_machine.specs.Deliveries.{BatchEffect, answer_by, answer_with, answer_word, batch_effect, batch_effect_by, batch_word, closed_text, delivery_effect, events_at, offers_at, offers_text, took_text, with_answer}
 use Rattle.wef_machine.specs.Deliveries as told
 use Rattle.wef_machine.specs.Places.{after_call}
 use Rattle.wef_machine.specs.Printed.{batch_text, fate_word, fault_answer}
-use Rattle.wef_machine.specs.States.{Collector, State, host, next_number, with_collector}
+use Rattle.wef_machine.specs.States.{Collector, State, next_number, with_collector}
 use Rattle.wef_machine.specs.Steps.{batch_line, closed_batch}
 use Rattle.wef_machine.specs.declared.arming.Armed.{Armed}
 use Rattle.wef_machine.specs.declared.arming.Fate as the_fate
@@ -33,7 +32,6 @@ use Rattle.wef_machine.specs.declared.arming.Fate.TheVariants as fates
 use Rattle.wef_machine.specs.declared.messages.Message.{Message}
 use Rattle.wef_machine.specs.declared.messages.Message.TheVariants as sent
 use Rattle.wef_source.specs.declared.messages.Delivery.{Delivery}
-use Rattle.wef_source.specs.declared.messages.Reply.{Reply}
 use Rattle.wef_source.specs.declared.messages.Reply.TheVariants as replies
 use Rattle.wef_world.specs.Outcomes.{answer_for, answered_batch, asked_by, asked_left, asked_left_by, asked_of, batch_fault, drawn_for, events_by, events_left, events_left_by, events_of, outcome_word, reply_to, sent_by, with_told, word_for}
 use Rattle.wef_world.specs.Places.{CalledAs, CameTo, UsedAs, called_at, called_where_runs}

@@ -1,34 +1,42 @@
 -- What a write leaves of a source.
-use Rattle.std.proofs.Common.{◌≡◌, ℕ, ◌+◌, Bool, true, false, List, [], ◌∷◌, cond, length, refl, ap, sym, ◌∙◌, subst}
+use Rattle.std.proofs.Common.{◌≡◌, ℕ, ◌+◌, Bool, true, false, List, [], ◌∷◌, length, refl, ap, sym, ◌∙◌, subst}
 use Rattle.std.proofs.lemmas.Bool.{cond_both}
-use Rattle.std.specs.Prelude.{Option, Some, None, Ok, Err, is_none, if◌then◌else◌}
+use Rattle.std.specs.Prelude.{Option, Some, None, Result, Ok, Err, is_none, if◌then◌else◌}
 use Rattle.wef_event.specs.Events.{Event}
 use Rattle.wef_event.specs.Numbering.{numbered, numbered_text}
 use Rattle.wef_keeper.specs.Access.{is_idle}
-use Rattle.wef_keeper.specs.Calls.{Effect}
+use Rattle.wef_keeper.specs.Calls.{Effect, IsCall}
 use Rattle.wef_keeper.specs.Rows.{Rows}
 use Rattle.wef_keeper.specs.declared.keys.Change.{Change}
+use Rattle.wef_keeper.specs.declared.mem_keeper.MemKeeper.{MemKeeper}
 use Rattle.wef_source.specs.Calls as source
-use Rattle.wef_source.specs.Faults.{source_answer}
-use Rattle.wef_source.specs.Machine.{End}
+use Rattle.wef_source.specs.Faults.{source_answer, source_store}
+use Rattle.wef_source.specs.Machine.{End, start_of}
 use Rattle.wef_source.specs.declared.faults.SourceFault.{SourceFault}
-use Rattle.wef_source_log.specs.Answers.{is_full, next_number, next_text, write_effect}
+use Rattle.wef_source.specs.declared.source.SourceEnd.{SourceEnd}
+use Rattle.wef_source_log.specs.Answers as log
+use Rattle.wef_source_log.specs.Answers.{is_full, next_boot, next_number, next_text, write_effect}
+use Rattle.wef_source_log.specs.Forms.{AreFormed}
 use Rattle.wef_source_log.specs.Histories.{Histories, extended, history}
 use Rattle.wef_source_log.specs.Windows.{boot_of, capacity_of, write_changes}
 use Rattle.wef_source_log.specs.declared.faults.LogFault.{LogFault}
 use Rattle.wef_source_log.specs.declared.faults.LogFault.TheVariants.{Full, TooLong}
-use Rattle.wef_machine.specs.Arming.{fate, fate_of, is_kept}
+use Rattle.wef_machine.specs.Arming.{fate, is_kept}
 use Rattle.wef_machine.specs.Places.{Place, after_call, opened, opened_by, starts}
+use Rattle.wef_machine.specs.Sources.{slot_opened, slot_opening}
 use Rattle.wef_machine.specs.States.{Slot}
 use Rattle.wef_machine.specs.declared.arming.Armed.{Armed}
 use Rattle.wef_machine.specs.declared.arming.Fate as the_fate
 use Rattle.wef_machine.specs.declared.arming.Fate.TheVariants as fates
+use Rattle.wef_world.proofs.Settled.{leaves, told_by}
 use Rattle.wef_world.proofs.Windowed.{last_is}
-use Rattle.wef_world.specs.Places.{CalledAs, CameTo, UsedAs, called_at, called_where_runs}
+use Rattle.wef_world.specs.Places.{CalledAs, CameTo, IsPlanned, Settles, UsedAs, called_at, called_where_runs, end_in, running_with}
 use Rattle.wef_world.specs.Recorded.{is_recorded}
-use Rattle.wef_world.specs.Slots.{IsReady, written_by, written_where_runs}
+use Rattle.wef_world.specs.Slots.{IsReady, slot_wrote, written_by, written_where_runs}
+use Rattle.wef_world.specs.Sourced.{source_of}
 use Rattle.wef_world.specs.declared.places.Called.{Called}
 use Rattle.wef_world.specs.declared.places.Called.TheVariants.{Done, Broken, Refused}
+use Rattle.wef_world.specs.declared.places.Placed.{Placed}
 use Rattle.wef_world.specs.declared.places.Used.TheVariants.{Answered}
 
 -- ---- an opening
@@ -117,3 +125,33 @@ stands how slot event called ready came = by slot.place.memory came
         let effect = write_effect slot.place.rows event in
         let all = stands_by slot event (next_number slot.place.rows event) effect called text (write_is slot.place.rows event) came in
         (λ i. record { capacity = capacity_by effect i; histories = all i; place = place_by effect i })
+
+abbrev the_keeper : SourceEnd MemKeeper → MemKeeper
+the_keeper end = end.keeper
+
+-- What a write of a source that runs came to, and what it left of the place in which it was opened.
+pub record Wrote (slot : Slot) (event : Event) (called : Called ℕ SourceFault) (placed left : Placed (SourceEnd MemKeeper)) : Type 0 where
+  pub came : CameTo (slot_opening slot) (slot_opened slot).place (λ rows. source.write_effect rows event) (λ rows. next_number rows event) (Answered called)
+  pub place : source_of left ≡ called_at (slot_opened slot).place (λ rows. source.write_effect rows event)
+  pub kept : is_kept placed.armed ≡ is_kept (slot_opened slot).place.armed
+
+pub wrote : (slot : Slot) (event : Event) (placed left : Placed (SourceEnd MemKeeper)) (end end' : SourceEnd MemKeeper) (answer : Result ℕ SourceFault) (called : Called ℕ SourceFault) → IsReady (slot_opened slot)
+    → source_of placed ≡ opened slot.place (start_of (next_boot slot.place.rows)) (source.start_effect slot.place.rows slot.capacity) → Some end ≡ end_in placed.place → IsPlanned the_keeper placed
+    → IsCall source_store AreFormed (λ rows. source.write_effect rows event) (λ rows. next_number rows event) answer (told_by end.keeper) (told_by end'.keeper) → end'.memory ≡ end.memory
+    → Settles the_keeper source_store answer (running_with placed.armed end') left called → Wrote slot event called placed left
+wrote slot event placed left end end' answer called ready began there planned call same settles =
+    let is : source_of placed ≡ (slot_opened slot).place = began ∙ opened_alike slot.place (start_of (next_boot slot.place.rows)) (log.start_effect slot.place.rows slot.capacity) in
+    let leaves_so = leaves the_keeper (λ (e : SourceEnd MemKeeper). e.memory) source_store AreFormed (λ rows. source.write_effect rows event) (λ rows. next_number rows event) placed end end' answer left called there planned
+    (subst (λ (p : Place End). AreFormed p.rows) (sym is) ready.formed) call same settles in
+    record {
+      came = subst (λ (p : Place End). CameTo (slot_opening slot) p (λ rows. source.write_effect rows event) (λ rows. next_number rows event) (Answered called)) is (leaves_so.came (slot_opening slot));
+      place = leaves_so.seen_is ∙ ap (λ (p : Place End). called_at p (λ rows. source.write_effect rows event)) is;
+      kept = ap (λ (p : Place End). is_kept p.armed) is;
+    }
+
+-- the source is what it says, by whether the record stands
+pub wrote_slot : (slot : Slot) (event : Event) (called : Called ℕ SourceFault) (placed left : Placed (SourceEnd MemKeeper)) (stays : Bool) → IsReady (slot_opened slot) → Wrote slot event called placed left
+    → stays ≡ is_recorded called (is_kept placed.armed) → record { capacity = slot.capacity; histories = histories_by slot event stays; place = source_of left } ≡ slot_wrote slot event
+wrote_slot slot event called placed left stays ready done is =
+    (λ i. record { capacity = slot.capacity; histories = histories_by slot event ((is ∙ ap (is_recorded called) done.kept) i); place = done.place i })
+    ∙ stands (slot_opening slot) (slot_opened slot) event called ready done.came

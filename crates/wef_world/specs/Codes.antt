@@ -5,12 +5,22 @@ use Rattle.std.specs.FinMap as map
 use Rattle.wef_keeper.specs.Rows.{Rows}
 use Rattle.wef_keeper.specs.contracts.keys.Cell as cell
 use Rattle.wef_keeper.specs.contracts.keys.Key as key
+use Rattle.wef_ids.specs.contracts.MessageId as message_id
+use Rattle.wef_ids.specs.declared.MessageId.{MessageId}
 use Rattle.wef_machine.specs.Places.{Place}
 use Rattle.wef_machine.specs.contracts.arming.Armed as one_armed
 use Rattle.wef_machine.specs.declared.arming.Armed.{Armed}
+use Rattle.wef_source.specs.contracts.messages.Reply as answer
+use Rattle.wef_source.specs.declared.messages.Reply.{Reply}
+use Rattle.wef_world.specs.Bytes.{Replied}
 
 -- where an end is, by a code of what it remembers
 abbrev pub coded_place : {M : Type 0} → Coded M → Coded (Place M)
 coded_place {M} memory = code_by (Rows × (Option M × Option Armed))
     (coded× (map.code key.the_row.coded cell.the_row.coded) (coded× (coded_option memory) (coded_option one_armed.the_row.coded)))
     (λ p. (p.rows, (p.memory, p.armed))) (λ t. record { rows = t.0; memory = t.1.0; armed = t.1.1 }) (λ _. refl)
+
+-- what a reply says
+abbrev pub coded_reply : Coded Replied
+coded_reply = code_by (MessageId × (MessageId × Reply)) (coded× message_id.the_row.coded (coded× message_id.the_row.coded answer.the_row.coded))
+    (λ r. (r.id, (r.relates, r.reply))) (λ t. record { id = t.0; relates = t.1.0; reply = t.1.1 }) (λ _. refl)

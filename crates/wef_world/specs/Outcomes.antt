@@ -2,17 +2,15 @@
 use Rattle.std.specs.Prelude.{ℕ, ◌+◌, List, length, Option, Some, None, Ok, Err, codes, if◌then◌else◌}
 use Rattle.wef_batch.specs.declared.items.Batch.{Batch}
 use Rattle.wef_collector.specs.Offers.{offers}
-use Rattle.wef_collector_rows.specs.Standing.{standing}
 use Rattle.wef_collector_rows.specs.declared.faults.CollectorFault as the_fault
 use Rattle.wef_collector_rows.specs.declared.faults.CollectorFault.TheVariants.{NotWellFormed}
 use Rattle.wef_ids.specs.declared.FaultName.{FaultName}
 use Rattle.wef_ids.specs.declared.FaultName.TheVariants.{InvalidMessage, DestinationUnreachable, InternalError}
 use Rattle.wef_ids.specs.declared.MessageId.{MessageId}
 use Rattle.wef_ids.specs.declared.ids.Ids.{Ids}
-use Rattle.wef_keeper.specs.Rows.{Rows}
 use Rattle.wef_machine.specs.Arming.{fate}
 use Rattle.wef_machine.specs.Collecting.{collector_opened, collector_opening, draws, reply_id}
-use Rattle.wef_machine.specs.Deliveries.{BatchEffect, answer_by, batch_word, delivery_effect, sourceless}
+use Rattle.wef_machine.specs.Deliveries.{BatchEffect, answer_by, batch_word, delivery_effect}
 use Rattle.wef_machine.specs.Places.{after_call}
 use Rattle.wef_machine.specs.Printed.{fate_word, fault_answer}
 use Rattle.wef_machine.specs.States.{Collector, State, host, with_message}
@@ -23,6 +21,7 @@ use Rattle.wef_machine.specs.declared.messages.Message.TheVariants as sent
 use Rattle.wef_source.specs.declared.messages.Delivery.{Delivery}
 use Rattle.wef_source.specs.declared.messages.Reply.{Reply}
 use Rattle.wef_source.specs.declared.messages.Reply.TheVariants as replies
+use Rattle.wef_world.specs.Messages.{reply_message}
 use Rattle.wef_world.specs.declared.deliveries.Taken.{Taken}
 use Rattle.wef_world.specs.declared.places.Called.{Called}
 use Rattle.wef_world.specs.declared.places.Called.TheVariants.{Done, Broken, Refused}
@@ -40,11 +39,6 @@ answered_batch (Closed how) = Closed how
 answered_batch (Answered (Done answer)) = Answered (Done answer)
 answered_batch (Answered (Broken how)) = Answered (Broken how)
 answered_batch (Answered (Refused fault)) = Answered (Refused (batch_fault fault))
-
--- the fault that answers a batch whose address leads to no subscription, or to no source
-abbrev pub refusal_at : Rows → Option (List ℕ) → FaultName
-refusal_at rows None = DestinationUnreachable
-refusal_at rows (Some u) = sourceless (standing rows u)
 
 -- the word for what became of a batch
 abbrev pub broken_word : the_fate.Fate → List ℕ
@@ -67,11 +61,6 @@ reply_to (Closed how) batch = None
 reply_to (Answered (Done answer)) batch = if batch.ack_wanted then Some replies.Ack else None
 reply_to (Answered (Broken how)) batch = broken_reply how
 reply_to (Answered (Refused fault)) batch = Some (replies.Fault fault)
-
--- the message that is a reply to a request
-abbrev pub reply_message : List ℕ → MessageId → MessageId → Reply → Message
-reply_message s id relates replies.Ack = sent.Ack s id relates
-reply_message s id relates (replies.Fault fault) = sent.Fault s id relates fault
 
 -- a collector that runs sends it, with an id that it draws for it
 abbrev pub sent_by : List ℕ → MessageId → Option Reply → Option Ids → Option Message

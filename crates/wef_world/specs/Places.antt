@@ -1,8 +1,8 @@
 -- Where a world holds an end, and what its calls leave there.
-use Rattle.std.specs.Prelude.{◌≡◌, ℕ, Bool, true, false, List, [], ◌∷◌, Option, Some, None, Result, Ok, Err, if◌then◌else◌}
+use Rattle.std.specs.Prelude.{◌≡◌, Bool, false, ◌&&◌, not, is_some, Option, Some, None, Result, Ok, Err, if◌then◌else◌}
 use Rattle.std.specs.FinMap as finite
-use Rattle.wef_keeper.specs.Calls.{Effect, OfStore, is_failure}
-use Rattle.wef_keeper.specs.Keeping.{Store, is_armed}
+use Rattle.wef_keeper.specs.Calls.{Effect, OfStore}
+use Rattle.wef_keeper.specs.Keeping.{is_armed}
 use Rattle.wef_keeper.specs.Rows.{Rows}
 use Rattle.wef_keeper.specs.declared.access.StoreFault.{StoreFault}
 use Rattle.wef_keeper.specs.declared.access.StoreFault.TheVariants.{NoMemory, Failed}
@@ -65,6 +65,10 @@ running_with armed end = record { place = Running end; armed = armed }
 -- how a commit went, by whether the call failed
 abbrev pub fate_by : Bool → Option Armed → the_fate.Fate
 fate_by failed armed = if failed then fate_of armed else Done
+
+-- whether what is armed was used up in a commit: the store plans no failure any more
+abbrev pub is_used_up : {E : Type 0} → (E → MemKeeper) → Placed E → Bool
+is_used_up keeper placed = is_some placed.armed && not (is_armed (keeper_in keeper placed.place).plan)
 
 -- an end that is stopped in a commit runs no more
 abbrev pub place_after : {E : Type 0} → (E → MemKeeper) → the_fate.Fate → Place E → Place E

@@ -7,10 +7,12 @@ use Rattle.wef_ids.specs.declared.MessageId.{MessageId}
 use Rattle.wef_event.specs.Events.{Event}
 use Rattle.wef_event.specs.Numbering.{numbered_text}
 use Rattle.wef_eventing.specs.declared.bodies.Offer.{Offer}
+use Rattle.wef_front.specs.declared.listening.Hears as the_hears
+use Rattle.wef_front.specs.declared.listening.Hears.TheVariants as hears
 use Rattle.wef_keeper.specs.Calls.{Effect}
 use Rattle.wef_source.specs.Answers.{waiting_for}
 use Rattle.wef_source.specs.Calls as source
-use Rattle.wef_source.specs.Machine.{End, adopted, asked, delivery_of, is_idle, is_spent, lost_in, next_id, sent}
+use Rattle.wef_source.specs.Machine.{End, adopted, asked, delivery_of, is_idle, is_spent, next_id, sent}
 use Rattle.wef_source.specs.Sessions.{session_of}
 use Rattle.wef_source.specs.declared.faults.SourceFault as the_fault
 use Rattle.wef_source.specs.declared.faults.SourceFault.TheVariants as faults
@@ -137,9 +139,25 @@ abbrev pub after_reply : End → MessageId → Reply → End
 after_reply end relates replies.Ack = after_ack end relates
 after_reply end relates (replies.Fault fault) = after_fault end relates fault
 
--- whether a session waits for it
-abbrev pub HearsAs : Slot → MessageId → Used Bool → Type 0
-HearsAs slot relates = AnswersAs slot (λ end waits. waits ≡ is_some (waiting_for end relates.value))
+-- the word for what a source heard
+abbrev pub heard_word : the_hears.Hears → List ℕ
+heard_word hears.Moved = codes "moved"
+heard_word hears.Refused = codes "refused"
+heard_word hears.NotAsked = codes "not-asked"
+heard_word hears.Unreadable = codes "not-asked"
+
+-- the word for an answer that a session waited for, or that none did
+abbrev pub waited_word : Bool → Reply → List ℕ
+waited_word waits replies.Ack = if waits then codes "moved" else codes "not-asked"
+waited_word waits (replies.Fault fault) = if waits then codes "refused" else codes "not-asked"
+
+-- the word for an answer to a request
+abbrev pub reply_word : End → MessageId → Reply → List ℕ
+reply_word end relates reply = waited_word (is_some (waiting_for end relates.value)) reply
+
+-- a source hears what the answer is for it
+abbrev pub HearsAs : Slot → MessageId → Reply → Used the_hears.Hears → Type 0
+HearsAs slot relates reply = AnswersAs slot (λ end hears. heard_word hears ≡ reply_word end relates reply)
 
 -- the rows of a source that is declared are of their form
 abbrev pub IsFormedAt : Option Slot → Type 0
@@ -170,11 +188,3 @@ word_by word (Some slot) = word_where_runs (slot_opening slot) word (slot_opened
 
 abbrev pub word_at : Slots → List ℕ → (End → List ℕ) → List ℕ
 word_at sources s word = word_by word (map.get sources s)
-
--- the word for an answer that a session waited for, or that none did
-abbrev pub heard_word : Bool → Reply → List ℕ
-heard_word waits replies.Ack = if waits then codes "moved" else codes "not-asked"
-heard_word waits (replies.Fault fault) = if waits then codes "refused" else codes "not-asked"
-
-abbrev pub reply_word : End → MessageId → Reply → List ℕ
-reply_word end relates reply = heard_word (is_some (waiting_for end relates.value)) reply

@@ -1,6 +1,6 @@
 //! Deliveries of messages.
 
-ghost use Rattle.std.specs.Prelude.{◌≡◌, ◌+◌, ◌-◌, ◌==◌, length, slice_get, Some, Err, if◌then◌else◌, IfOk, OnOk};
+ghost use Rattle.std.specs.Prelude.{◌≡◌, ◌+◌, ◌-◌, ◌==◌, length, slice_get, Some, if◌then◌else◌, IfOk, OnOk};
 ghost use Rattle.std.specs.FinMap as map;
 ghost use Rattle.std.specs.Option.{option_copied};
 ghost use Rattle.wef_batch.specs.Numbers.{AreNumbered};
@@ -11,30 +11,40 @@ ghost use Rattle.wef_machine.specs.Collecting as collecting;
 ghost use Rattle.wef_machine.specs.Deliveries as steps;
 ghost use Rattle.wef_machine.specs.Kept.{IsKept};
 ghost use Rattle.wef_machine.specs.Printed as texts;
+ghost use Rattle.wef_machine.specs.Seen.{message_line, seen_line};
 ghost use Rattle.wef_machine.specs.States as states;
+ghost use Rattle.wef_base.specs.declared.tree.Charset.TheVariants.{Utf8};
+ghost use Rattle.wef_front.specs.Replies.{IsAnswer};
+ghost use Rattle.wef_front.specs.Sending.{CanBeSent};
+ghost use Rattle.wef_keeper.specs.Keeping.{raised};
 ghost use Rattle.wef_machine.specs.declared.messages.Message.TheVariants.{Offers};
+ghost use Rattle.wef_world.specs.Answered as answered;
 ghost use Rattle.wef_world.specs.Collected.{collector_of};
+ghost use Rattle.wef_world.specs.Counted as counts;
 ghost use Rattle.wef_world.specs.Outcomes as outcomes;
 ghost use Rattle.wef_world.specs.Places as places;
 ghost use Rattle.wef_world.specs.Slots as slots;
 
+use crate::answers::Answers;
 use crate::collecting::{self, Call, CollectorPlace};
 use crate::ends::Ends;
 use crate::faults::WorldFault;
+use crate::messages::{Content, DeliveryBytes, ReplyBytes, Sent};
 use crate::places::{Called, Used};
 use crate::printing::{
     adopted_word, answered_line, fate_word, fault_answer, no_message_line, took_line,
 };
 use crate::sources::Sources;
 use std::alloc::{AllocError, Global};
-use wef_base::{List, Moment, SourceName, SubId, Text};
+use wef_base::{Bytes, Charset, List, Moment, SourceName, SubId, Text};
 use wef_batch::Batch;
 use wef_collector::{Collector, CollectorFault};
 use wef_eventing::{Offer, source_in, subscription_in};
+use wef_front::{Answer, Hears, Target, read_reply};
 use wef_ids::{FaultName, MessageId};
-use wef_keeper::MemKeeper;
-use wef_machine::{Fate, Message};
-use wef_source::{Delivery, Reply};
+use wef_keeper::{Keeper, MemKeeper};
+use wef_machine::Fate;
+use wef_source::Reply;
 
 /// Where sources find the collector.
 const HOST: &str = "collector:5985";
@@ -56,27 +66,38 @@ impl Ends {
         }
     }
 
-    /// Delivers the message of a number.
-    pub(crate) fn deliver(&mut self, number: u64) -> Result<Text, WorldFault>
+    /// The line that shows the message of a number: nothing where there is none.
+    pub(crate) fn seen(&self, number: u64) -> Result<Bytes, AllocError>
+        ensures { IfOk result (λ line. line ≡ seen_line number (steps.message_at self.now number)) }
+    {
+        match message_at(self.messages.as_slice(), number) {
+            Some(message) => message_line(self.alloc, number, message),
+            None => Ok(Bytes::new(self.alloc)),
+        }
+    }
+
+    /// Delivers the message of a number. What is made of it is made of its bytes, where it has some.
+    pub(crate) fn deliver<A: Answers>(
+        &mut self,
+        answers: &mut A,
+        number: u64,
+    ) -> Result<Text, WorldFault>
         requires kept { IsKept self.old }
         ensures state { OnOk result (self.new ≡ steps.deliver_step self.old number) }
         ensures printed { IfOk result (λ text. text ≡ steps.deliver_printed self.old number) }
+        ensures calls { OnOk result (A.calls answers.new ≡ counts.counted (counts.is_heard_at self.old number) (A.calls answers.old)) }
     {
         let (alloc, now) = (self.alloc, self.moment);
         let Some(message) = message_at(self.messages.as_slice(), number) else {
             return Ok(no_message_line(alloc, number)?);
         };
-        match message {
-            Message::Ask { source, id } => {
+        let (source, content) = message.parts();
+        match content {
+            Content::Ask(id) => {
                 let taken = take_ask(alloc, &mut self.collector, source, id)?;
                 self.tell(number, taken)
             }
-            Message::Events { source, delivery } => {
-                let taken = take_events(alloc, &mut self.collector, source, delivery, now)?;
-                self.tell(number, taken)
-            }
-            Message::Offers {
-                source,
+            Content::Offers {
                 id: _,
                 relates,
                 offers,
@@ -84,22 +105,13 @@ impl Ends {
                 let word = give_offers(alloc, &mut self.sources, source, relates, offers, now)?;
                 took(alloc, number, word)
             }
-            Message::Ack {
-                source,
-                id: _,
-                relates,
-            } => {
-                let word = give_reply(alloc, &mut self.sources, source, relates, &Reply::Ack)?;
-                took(alloc, number, word)
+            Content::Delivery(delivery) => {
+                let collector = &mut self.collector;
+                let taken = take_delivery(alloc, collector, answers, source, delivery, now)?;
+                self.tell(number, taken)
             }
-            Message::Fault {
-                source,
-                id: _,
-                relates,
-                name,
-            } => {
-                let reply = Reply::Fault(name.clone()?);
-                let word = give_reply(alloc, &mut self.sources, source, relates, &reply)?;
+            Content::Reply(reply) => {
+                let word = give_reply(alloc, &mut self.sources, answers, source, reply, now)?;
                 took(alloc, number, word)
             }
         }
@@ -121,13 +133,28 @@ impl Ends {
     }
 }
 
+/// The line that shows a message.
+#[tactic(auto, unfolding(wef_machine::specs::Printed::text_line))]
+fn message_line(alloc: Global, number: u64, message: &Sent) -> Result<Bytes, AllocError>
+    ensures { IfOk result (λ line. line ≡ message_line number message.now) }
+{
+    let mut head = Text::from_str(alloc, "message ")?;
+    head.push_number(number)?;
+    head.push_str(" ")?;
+    let mut line = Bytes::new(alloc);
+    line.extend(head.as_str().as_bytes())?;
+    message.push_text(&mut line)?;
+    line.push(b'\n')?;
+    Ok(line)
+}
+
 /// What the collector makes of a message.
 #[derive(Drop)]
 struct Taken {
     /// The word that is printed for it.
     word: Text,
     /// The answer, where there is one.
-    answer: Option<Message>,
+    answer: Option<Sent>,
 }
 
 /// Lets the collector take an ask of a source.
@@ -143,10 +170,7 @@ fn take_ask(
 {
     let fate = collecting::open(collector, alloc)?;
     let Some(running) = collector.running() else {
-        return Ok(Taken {
-            word: Text::from_str(alloc, fate_word(fate))?,
-            answer: None,
-        });
+        return Ok(closed(alloc, fate)?);
     };
     let answer = answer_to_ask(alloc, running, source, id)?;
     Ok(Taken {
@@ -155,24 +179,130 @@ fn take_ask(
     })
 }
 
-/// Lets the collector take a delivery of a source, at a moment.
-fn take_events(
+/// What a collector that can't be opened makes of a message.
+fn closed(alloc: Global, fate: Fate) -> Result<Taken, AllocError>
+    ensures { IfOk result (λ taken. taken ≡ outcomes.closed_of fate) }
+{
+    Ok(Taken {
+        word: Text::from_str(alloc, fate_word(fate))?,
+        answer: None,
+    })
+}
+
+/// Lets the collector take the bytes of a delivery of a source, at a moment.
+fn take_delivery<A: Answers>(
     alloc: Global,
     collector: &mut CollectorPlace,
+    answers: &mut A,
     source: &SourceName,
-    delivery: &Delivery,
+    delivery: &DeliveryBytes,
     now: Moment,
 ) -> Result<Taken, WorldFault>
     requires formed { AreFormed (collector_of collector.old).rows }
-    requires numbered { AreNumbered delivery.now.batch.items }
+    requires leads { answered.Leads delivery.now }
     ensures collector { OnOk result (collector_of collector.new ≡ outcomes.events_left (collector_of collector.old) source.now delivery.now now) }
     ensures taken { IfOk result (λ taken. taken ≡ outcomes.events_of (collector_of collector.old) source.now delivery.now now) }
+    ensures calls { OnOk result (A.calls answers.new ≡ counts.counted (counts.is_open (collecting.collector_opened (collector_of collector.old))) (A.calls answers.old)) }
 {
-    let taken = take_delivery(collector, alloc, delivery, now)?;
-    let word = outcome_word(alloc, &taken, &delivery.batch)?;
-    let reply = reply_to(taken, &delivery.batch);
-    let answer = send_reply(collector, source, &delivery.id, &reply)?;
+    let fate = collecting::open(collector, alloc)?;
+    let Some(running) = collector.running() else {
+        return Ok(closed(alloc, fate)?);
+    };
+    let answer = answer_to_delivery(alloc, running, answers, delivery, now)?;
+    let fate = collector.settle_answered(alloc);
+    Ok(taken_by(alloc, source, fate, answer)?)
+}
+
+/// What a collector that runs answers to the bytes of a delivery, at a moment.
+fn answer_to_delivery<A: Answers>(
+    alloc: Global,
+    collector: &mut Collector<MemKeeper>,
+    answers: &mut A,
+    delivery: &DeliveryBytes,
+    now: Moment,
+) -> Result<Answer, WorldFault>
+    requires { answered.Leads delivery.now }
+    ensures answer { IfOk result (λ answer. IsAnswer (answered.heard_of delivery.now) Utf8 now answer collector.old.ids collector.new.ids (⟦<MemKeeper as Keeper>⟧.store collector.old.keeper) (⟦<MemKeeper as Keeper>⟧.store collector.new.keeper)) }
+    ensures sent { OnOk result (CanBeSent delivery.now) }
+    ensures calls { OnOk result (A.calls answers.new ≡ raised (A.calls answers.old)) }
+{
+    let target = target_of(alloc, delivery.address())?;
+    let host = Text::from_str(alloc, HOST)?;
+    let body = delivery.bytes();
+    Ok(answers.collector_answer(collector, &target, &host, Charset::Utf8, body, now)?)
+}
+
+/// What the address of a delivery names: an empty text stands for a name that isn't there, which is
+/// none either.
+fn target_of(alloc: Global, address: &Text) -> Result<Target, AllocError>
+    ensures { IfOk result (λ target. target ≡ answered.target_of address.now) }
+{
+    let sub = match subscription_in(address)? {
+        Some(sub) => sub.as_text().clone()?,
+        None => Text::new(alloc),
+    };
+    let source = match source_in(address)? {
+        Some(source) => source.as_text().clone()?,
+        None => Text::new(alloc),
+    };
+    Ok(Target::Delivery { sub, source })
+}
+
+/// What a collector made of a delivery, by how its commit went and by its answer, which nobody gets
+/// where it was stopped.
+fn taken_by(
+    alloc: Global,
+    source: &SourceName,
+    fate: Fate,
+    answer: Answer,
+) -> Result<Taken, AllocError>
+    requires { answered.IsWritten answer }
+    ensures { IfOk result (λ taken. taken ≡ answered.taken_by source.now fate answer) }
+{
+    if fate == Fate::Stopped {
+        return Ok(Taken {
+            word: Text::from_str(alloc, "stopped")?,
+            answer: None,
+        });
+    }
+    let word = answer_word(alloc, &answer)?;
+    let answer = reply_in(source, answer)?;
     Ok(Taken { word, answer })
+}
+
+/// The word for an answer: a fault is told by its bytes.
+fn answer_word(alloc: Global, answer: &Answer) -> Result<Text, AllocError>
+    ensures { IfOk result (λ word. word ≡ answered.answer_word answer.now) }
+{
+    match answer.status {
+        204 => Text::from_str(alloc, "quiet"),
+        200 => Text::from_str(alloc, "ack"),
+        _ => fault_word(alloc, &read_reply(alloc, answer.body.as_slice())?),
+    }
+}
+
+/// The word for a fault that an answer tells.
+fn fault_word(alloc: Global, told: &Option<(MessageId, Reply)>) -> Result<Text, AllocError>
+    ensures { IfOk result (λ word. word ≡ answered.fault_word told.now) }
+{
+    match told {
+        Some((_, Reply::Fault(name))) => fault_answer(alloc, name),
+        _ => Ok(Text::new(alloc)),
+    }
+}
+
+/// The message that an answer is, where it has an envelope.
+#[tactic(auto, using(crate::proofs::Answered::written_reply))]
+fn reply_in(source: &SourceName, answer: Answer) -> Result<Option<Sent>, AllocError>
+    requires { answered.IsWritten answer }
+    ensures { IfOk result (λ sent. sent ≡ answered.reply_in source.now answer) }
+{
+    let Answer { status, body } = answer;
+    if status == 204 {
+        return Ok(None);
+    }
+    let content = Content::Reply(ReplyBytes::of(body));
+    Ok(Some(Sent::of(source.clone()?, content)))
 }
 
 /// Tells what an end that doesn't answer made of a message, by the word for it.
@@ -183,7 +313,7 @@ fn took(alloc: Global, number: u64, word: Text) -> Result<Text, WorldFault>
 }
 
 /// The message of a number.
-fn message_at(messages: &[Message], number: u64) -> Option<&Message>
+pub(crate) fn message_at(messages: &[Sent], number: u64) -> Option<&Sent>
     ensures { option_copied result ≡ (if number == 0 then None else slice_get messages.now (number - 1)) }
 {
     if number == 0 {
@@ -198,7 +328,7 @@ fn answer_to_ask(
     collector: &mut Collector<MemKeeper>,
     source: &SourceName,
     relates: &MessageId,
-) -> Result<Message, WorldFault>
+) -> Result<Sent, WorldFault>
     requires formed { AreFormed collector.old.keeper.rows }
     ensures rows { OnOk result (collector.new.keeper.rows ≡ collector.old.keeper.rows) }
     ensures ids { OnOk result (collector.new.ids ≡ with_drawn (length (offers collector.old.keeper.rows source.now states.host) + 1) collector.old.ids) }
@@ -208,12 +338,12 @@ fn answer_to_ask(
     match collector.offers(source, &host) {
         Ok(offers) => {
             let id = draw(collector, offers.len())?;
-            Ok(Message::Offers {
-                source: source.clone()?,
+            let content = Content::Offers {
                 id,
                 relates: relates.clone()?,
                 offers,
-            })
+            };
+            Ok(Sent::of(source.clone()?, content))
         }
         Err(_) => Err(WorldFault::NoMemory),
     }
@@ -241,30 +371,6 @@ fn draw_one(collector: &mut Collector<MemKeeper>) -> Result<MessageId, WorldFaul
     match collector.draw() {
         Ok(id) => Ok(id),
         Err(_) => Err(WorldFault::NoMemory),
-    }
-}
-
-/// Lets the collector take a delivery, at a moment.
-fn take_delivery(
-    collector: &mut CollectorPlace,
-    alloc: Global,
-    delivery: &Delivery,
-    now: Moment,
-) -> Result<TakenBatch, WorldFault>
-    requires formed { AreFormed (collector_of collector.old).rows }
-    requires numbered { AreNumbered delivery.now.batch.items }
-    ensures collector { OnOk result (collector_of collector.new
-        ≡ places.called_at (collecting.collector_opened (collector_of collector.old)) (λ rows. steps.delivery_effect rows delivery.now now)) }
-    ensures outcome { IfOk result (places.CameTo (collecting.collector_opening (collector_of collector.old)) (collecting.collector_opened (collector_of collector.old))
-        (λ rows. steps.delivery_effect rows delivery.now now) (λ _. tt)) }
-{
-    let sub = subscription_in(&delivery.notify_to)?;
-    match (sub, source_in(&delivery.notify_to)?) {
-        (Some(sub), Some(source)) => {
-            let batch = &delivery.batch;
-            take_batch(collector, alloc, &sub, &source, batch, now)
-        }
-        (sub, _) => refuse_address(collector, alloc, sub),
     }
 }
 
@@ -311,31 +417,6 @@ fn answered_batch(taken: Used<Called<(), CollectorFault>>) -> TakenBatch
     }
 }
 
-/// Why a batch isn't kept whose address leads to no subscription, or to no source.
-fn refuse_address(
-    collector: &mut CollectorPlace,
-    alloc: Global,
-    sub: Option<SubId>,
-) -> Result<TakenBatch, WorldFault>
-    requires formed { AreFormed (collector_of collector.old).rows }
-    ensures collector { OnOk result (collector_of collector.new ≡ collecting.collector_opened (collector_of collector.old)) }
-    ensures outcome { IfOk result (places.CameTo (collecting.collector_opening (collector_of collector.old)) (collecting.collector_opened (collector_of collector.old))
-        (λ rows. Err (outcomes.refusal_at rows sub)) (λ _. tt)) }
-{
-    let fate = collecting::open(collector, alloc)?;
-    let Some(running) = collector.running() else {
-        return Ok(Used::Closed(fate));
-    };
-    let Some(sub) = sub else {
-        return Ok(Used::Answered(Called::Refused(FaultName::DestinationUnreachable)));
-    };
-    match running.state(&sub) {
-        Ok(_) => Ok(Used::Answered(Called::Refused(FaultName::InvalidMessage))),
-        Err(CollectorFault::NoMemory) => Err(WorldFault::NoMemory),
-        Err(_) => Ok(Used::Answered(Called::Refused(FaultName::DestinationUnreachable))),
-    }
-}
-
 /// The word for what the collector made of a batch.
 pub(crate) fn outcome_word(
     alloc: Global,
@@ -353,69 +434,6 @@ pub(crate) fn outcome_word(
         }
         Used::Answered(Called::Broken(_)) => Text::from_str(alloc, "stopped"),
         Used::Answered(Called::Refused(fault)) => fault_answer(alloc, fault),
-    }
-}
-
-/// The collector's answer to a delivery, where there is one.
-fn reply_to(taken: TakenBatch, batch: &Batch) -> Option<Reply>
-    ensures { result ≡ outcomes.reply_to taken batch.now }
-{
-    match taken {
-        Used::Closed(_) => None,
-        Used::Answered(Called::Done(())) if batch.ack_wanted => Some(Reply::Ack),
-        Used::Answered(Called::Done(())) => None,
-        Used::Answered(Called::Broken(Fate::Failed)) => {
-            Some(Reply::Fault(FaultName::InternalError))
-        }
-        Used::Answered(Called::Broken(_)) => None,
-        Used::Answered(Called::Refused(name)) => Some(Reply::Fault(name)),
-    }
-}
-
-/// The message that is the collector's reply to a request, where it runs and answers. It draws an id
-/// for it.
-fn send_reply(
-    collector: &mut CollectorPlace,
-    source: &SourceName,
-    relates: &MessageId,
-    reply: &Option<Reply>,
-) -> Result<Option<Message>, WorldFault>
-    ensures collector { OnOk result (collector_of collector.new ≡ outcomes.drawn_for reply.now (collector_of collector.old)) }
-    ensures answer { IfOk result (λ answer. answer ≡ outcomes.sent_by source.now relates.now reply.now (collector_of collector.old).memory) }
-{
-    let Some(reply) = reply else {
-        return Ok(None);
-    };
-    let Some(running) = collector.running() else {
-        return Ok(None);
-    };
-    let id = draw(running, 0)?;
-    Ok(Some(reply_message(source, id, relates, reply)?))
-}
-
-/// The message that is a reply to a request.
-fn reply_message(
-    source: &SourceName,
-    id: MessageId,
-    relates: &MessageId,
-    reply: &Reply,
-) -> Result<Message, AllocError>
-    ensures { IfOk result (λ message. message ≡ outcomes.reply_message source.now id relates.now reply.now) }
-{
-    let source = source.clone()?;
-    let relates = relates.clone()?;
-    match reply {
-        Reply::Ack => Ok(Message::Ack {
-            source,
-            id,
-            relates,
-        }),
-        Reply::Fault(name) => Ok(Message::Fault {
-            source,
-            id,
-            relates,
-            name: name.clone()?,
-        }),
     }
 }
 
@@ -442,34 +460,37 @@ fn give_offers(
     }
 }
 
-/// Gives a source the answer to a delivery. Answers the word for what became of it.
-fn give_reply(
+/// Gives a source the bytes of the answer to a delivery, at a moment. Answers the word for what became
+/// of it.
+fn give_reply<A: Answers>(
     alloc: Global,
     sources: &mut Sources,
+    answers: &mut A,
     source: &SourceName,
-    relates: &MessageId,
-    reply: &Reply,
+    reply: &ReplyBytes,
+    now: Moment,
 ) -> Result<Text, WorldFault>
     requires { slots.IsFormedAt (map.get sources.old source.now) }
-    ensures sources { OnOk result (sources.new ≡ slots.given_to sources.old source.now (λ end. slots.after_reply end relates.now reply.now)) }
-    ensures word { IfOk result (λ word. word ≡ slots.word_at sources.old source.now (λ end. slots.reply_word end relates.now reply.now)) }
+    ensures sources { OnOk result (sources.new ≡ slots.given_to sources.old source.now (λ end. slots.after_reply end reply.now.relates reply.now.reply)) }
+    ensures word { IfOk result (λ word. word ≡ slots.word_at sources.old source.now (λ end. slots.reply_word end reply.now.relates reply.now.reply)) }
+    ensures calls { OnOk result (A.calls answers.new ≡ counts.counted (counts.is_open_at (map.get sources.old source.now)) (A.calls answers.old)) }
 {
     let Some(slot) = sources.slot_mut(source) else {
         return Ok(Text::from_str(alloc, "not-asked")?);
     };
-    match slot.hear(alloc, relates, reply)? {
+    match slot.hear(alloc, answers, reply, now)? {
         Used::Closed(fate) => Ok(Text::from_str(alloc, fate_word(fate))?),
-        Used::Answered(waits) => Ok(Text::from_str(alloc, heard_word(waits, reply))?),
+        Used::Answered(hears) => Ok(Text::from_str(alloc, heard_word(hears))?),
     }
 }
 
-/// The word for an answer that a session waited for, or that none did.
-fn heard_word(waits: bool, reply: &Reply) -> &'static str
-    ensures { result.now ≡ slots.heard_word waits reply.now }
+/// The word for what a source heard.
+fn heard_word(hears: Hears) -> &'static str
+    ensures { result.now ≡ slots.heard_word hears }
 {
-    match reply {
-        Reply::Ack if waits => "moved",
-        Reply::Fault(_) if waits => "refused",
-        _ => "not-asked",
+    match hears {
+        Hears::Moved => "moved",
+        Hears::Refused => "refused",
+        Hears::NotAsked | Hears::Unreadable => "not-asked",
     }
 }

@@ -9,12 +9,15 @@ ghost use Rattle.wef_machine.specs.Steps as steps;
 ghost use Rattle.wef_batch.specs.Numbers.{AreNumbered};
 ghost use Rattle.wef_collector_rows.specs.Forms.{AreFormed};
 ghost use Rattle.wef_world.specs.Collected as collected;
+ghost use Rattle.wef_world.specs.Counted.{counted, hears_by};
 ghost use Rattle.wef_world.specs.Made as made;
 ghost use Rattle.wef_replay.specs.Good.{allows, has_end, is_among};
 
+use crate::answers::Answers;
 use crate::collecting::{self, Call, CollectorPlace};
 use crate::deliveries::{outcome_word, take_batch};
 use crate::faults::WorldFault;
+use crate::messages::Sent;
 use crate::places::{Called, Placed, Used};
 use crate::printing::{batch_line, fate_line, held_text, name_line};
 use crate::slots::Capacity;
@@ -22,11 +25,11 @@ use crate::sources::Sources;
 use std::alloc::{AllocError, Global};
 use std::collections::BTreeSet;
 use std::marker::Model;
-use wef_base::{ChannelName, List, Moment, SourceName, SubId, Text};
+use wef_base::{Bytes, ChannelName, List, Moment, SourceName, SubId, Text};
 use wef_batch::Batch;
 use wef_collector::CollectorFault;
 use wef_eventing::{SubKind, Subscription};
-use wef_machine::{Armed, Message};
+use wef_machine::Armed;
 use wef_query::QueryList;
 use wef_replay::{EndName, Line, is_line};
 
@@ -42,7 +45,7 @@ pub struct Ends {
     /// The sources that `source` lines declared.
     pub(crate) sources: Sources,
     /// A message's number is its place, counted from 1.
-    pub(crate) messages: List<Message>,
+    pub(crate) messages: List<Sent>,
     pub(crate) moment: Moment,
     pub(crate) alloc: Global,
 }
@@ -126,12 +129,23 @@ impl Ends {
         self.foreign.contains(source)
     }
 
+    /// What a line shows of a message before it delivers it, where it asks for that.
+    pub fn seen_by(&self, line: &Line) -> Result<Bytes, AllocError>
+        ensures { IfOk result (λ text. text ≡ steps.seen_by line.now self.now) }
+    {
+        match line {
+            Line::Deliver { number, seen } if *seen => self.seen(*number),
+            _ => Ok(Bytes::new(self.alloc)),
+        }
+    }
+
     /// Does one line that the ends admit, and gives what it prints.
-    pub fn run_line(&mut self, line: &Line) -> Result<Text, WorldFault>
+    pub fn run_line<A: Answers>(&mut self, answers: &mut A, line: &Line) -> Result<Text, WorldFault>
         requires admitted { steps.admits self.old line.now ≡ true }
         requires kept { IsKept self.old }
         ensures state { OnOk result (self.new ≡ steps.step line.now self.old) }
-        ensures printed { IfOk result (λ text. text ≡ steps.printed_by line.now self.old) }
+        ensures told { IfOk result (λ text. text ≡ steps.told_by line.now self.old) }
+        ensures calls { OnOk result (A.calls answers.new ≡ counted (hears_by line.now self.old) (A.calls answers.old)) }
     {
         match line {
             Line::Subscribe {
@@ -151,24 +165,12 @@ impl Ends {
             Line::Write { source, event } => self.write_plain(source, event),
             Line::Ask { source } => self.ask(source),
             Line::Poll { source, sub } => self.poll(source, sub),
-            Line::Deliver { number } => self.deliver(*number),
-            Line::Back { number } => self.deliver(self.number_back(*number)),
+            Line::Deliver { number, seen: _ } => self.deliver(answers, *number),
+            Line::Back { number } => self.deliver(answers, self.number_back(*number)),
             Line::Lost { source, sub } => self.lose(source, sub),
             Line::Crash { end } => self.crash(end),
-            Line::Fail { end, after } => self.arm(
-                end,
-                Armed {
-                    after: *after,
-                    stops: false,
-                },
-            ),
-            Line::Stop { end, after } => self.arm(
-                end,
-                Armed {
-                    after: *after,
-                    stops: true,
-                },
-            ),
+            Line::Fail { end, after } => self.arm(end, *after, false),
+            Line::Stop { end, after } => self.arm(end, *after, true),
             Line::Calm => self.calm(),
             Line::Show => self.show(),
             Line::Print {
@@ -285,10 +287,12 @@ impl Ends {
         }
     }
 
-    fn arm(&mut self, end: &EndName, armed: Armed) -> Result<Text, WorldFault>
-        ensures state { OnOk result (self.new ≡ steps.arm_step self.old end.now armed) }
+    /// Has an end's next commit fail, with its changes kept or not; the end may be stopped in it.
+    fn arm(&mut self, end: &EndName, after: bool, stops: bool) -> Result<Text, WorldFault>
+        ensures state { OnOk result (self.new ≡ steps.arm_step self.old end.now (record { after = after; stops = stops })) }
         ensures printed { IfOk result (λ text. text ≡ []) }
     {
+        let armed = Armed { after, stops };
         match end {
             EndName::Collector => self.collector.arm(Some(armed)),
             EndName::Source(source) => {

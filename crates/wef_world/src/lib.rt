@@ -1,11 +1,13 @@
 //! The ends that a schedule moves, and what its lines do to them and print.
 #![tactic(auto)]
 
+pub mod answers;
 pub mod collecting;
 pub mod deliveries;
 mod ends;
 pub mod faults;
 pub mod histories;
+pub mod messages;
 pub mod places;
 mod printing;
 pub mod slots;
@@ -13,6 +15,6 @@ mod source_lines;
 pub mod sources;
 mod world;
 
+pub use answers::{Answers, Shipped};
 pub use faults::WorldFault;
-pub use wef_machine::Message;
 pub use world::World;

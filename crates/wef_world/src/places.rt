@@ -238,6 +238,16 @@ impl<E: End> Placed<E> {
         }
     }
 
+    /// What a call leaves of which only the store tells how it went: it failed where a failure is
+    /// armed that the store doesn't plan any more.
+    pub fn settle_answered(&mut self, alloc: Global) -> Fate
+        ensures fate { result ≡ places.fate_by (places.is_used_up E.keeper self.old) self.old.armed }
+        ensures settled { self.new ≡ places.settled E.keeper result self.old }
+    {
+        let has_failed = self.armed.is_some() && !self.is_planned();
+        self.settle(alloc, has_failed)
+    }
+
     /// Plans the store's next commit as it is armed.
     fn arrange(&mut self)
         ensures { self.new ≡ record self.old { place = places.arranged E.with_plan (arming.plan_of self.old.armed) self.old.place } }

@@ -6,18 +6,21 @@ ghost use Rattle.wef_base.specs.declared.numbers.TheConstants.{MAX};
 ghost use Rattle.wef_event.specs.Numbering.{numbered};
 ghost use Rattle.wef_world.specs.Recorded as records;
 
+use crate::answers::Answers;
 use crate::faults::WorldFault;
 use crate::histories::Histories;
+use crate::messages::ReplyBytes;
 use crate::places::{Called, End, Placed, Used};
 use std::alloc::Global;
 use std::marker::Model;
 use wef_base::{List, Moment, SourceName, SubId};
 use wef_event::Event;
 use wef_eventing::Offer;
+use wef_front::Hears;
 use wef_ids::MessageId;
 use wef_keeper::{MemKeeper, Plan, StoreFault};
 use wef_machine::Armed;
-use wef_source::{Delivery, Memory, Poll, Reply, SourceEnd, SourceFault};
+use wef_source::{Delivery, Memory, Poll, SourceEnd, SourceFault};
 
 /// How many records of a channel a log keeps: from 1 to 1,000,000.
 #[derive(Drop)]
@@ -186,6 +189,7 @@ impl Slot {
     ghost use Rattle.wef_source.specs.Machine.{lost_in};
     ghost use Rattle.wef_source_log.specs.Forms.{AreFormed};
     ghost use Rattle.wef_source_log.specs.Histories.{history};
+    ghost use Rattle.wef_world.specs.Counted as counts;
     ghost use Rattle.wef_world.specs.Slots as slots;
 
     /// A source that was just declared.
@@ -327,22 +331,27 @@ impl Slot {
         }
     }
 
-    /// Gives the source the answer to a delivery. Answers whether a session waits for it.
-    pub fn hear(
+    /// Gives the source the bytes of the answer to a delivery, at a moment. Answers what it heard.
+    pub fn hear<A: Answers>(
         &mut self,
         alloc: Global,
-        relates: &MessageId,
-        reply: &Reply,
-    ) -> Result<Used<bool>, WorldFault>
+        answers: &mut A,
+        reply: &ReplyBytes,
+        now: Moment,
+    ) -> Result<Used<Hears>, WorldFault>
         requires formed { AreFormed self.old.place.rows }
-        ensures slot { OnOk result (self.new ≡ slots.slot_changed self.old (λ end. slots.after_reply end relates.now reply.now)) }
-        ensures answer { IfOk result (slots.HearsAs self.old relates.now) }
+        ensures slot { OnOk result (self.new ≡ slots.slot_changed self.old (λ end. slots.after_reply end reply.now.relates reply.now.reply)) }
+        ensures answer { IfOk result (slots.HearsAs self.old reply.now.relates reply.now.reply) }
+        ensures calls { OnOk result (A.calls answers.new ≡ counts.counted (counts.is_open (slot_opened self.old).place) (A.calls answers.old)) }
     {
         let fate = self.placed.open(alloc, &self.origin)?;
         let Some(source) = self.placed.running() else {
             return Ok(Used::Closed(fate));
         };
-        Ok(Used::Answered(source.on_reply(relates, reply).is_ok()))
+        match answers.source_hears(source, reply.bytes(), now) {
+            Ok(hears) => Ok(Used::Answered(hears)),
+            Err(_) => Err(WorldFault::NoMemory),
+        }
     }
 }
 

@@ -2,14 +2,17 @@
 
 ghost use Rattle.std.specs.Prelude.{◌≡◌, [], IfOk, OnOk};
 ghost use Rattle.wef_event.specs.Unnumbered.{new_event};
+ghost use Rattle.wef_front.specs.Sending.{CanBeSent};
 ghost use Rattle.wef_machine.specs.Kept.{IsKept};
 ghost use Rattle.wef_machine.specs.Sources as steps;
 ghost use Rattle.wef_machine.specs.States as states;
+ghost use Rattle.wef_machine.specs.declared.messages.Message.TheVariants.{Events};
 ghost use Rattle.wef_world.specs.Polls as polls;
 ghost use Rattle.wef_world.specs.Slots as slots;
 
 use crate::ends::Ends;
 use crate::faults::WorldFault;
+use crate::messages::{Content, DeliveryBytes, Sent};
 use crate::places::{Called, Used};
 use crate::printing::{
     fate_line, name_line, pair_line, sent_ask_line, sent_events_line, wrote_line,
@@ -19,8 +22,7 @@ use std::alloc::AllocError;
 use wef_base::{SourceName, SubId, Text};
 use wef_event::{Event, PlainEvent};
 use wef_ids::MessageId;
-use wef_machine::Message;
-use wef_source::SourceFault;
+use wef_source::{Delivery, SourceFault};
 
 impl Ends {
     /// Declares a source.
@@ -124,10 +126,7 @@ impl Ends {
             Used::Closed(fate) => Ok(fate_line(self.alloc, fate, source.as_text().as_str())?),
             Used::Answered(None) => Ok(name_line("spent", source.as_text())?),
             Used::Answered(Some(id)) => {
-                let number = self.send(Message::Ask {
-                    source: source.clone()?,
-                    id,
-                })?;
+                let number = self.send(Sent::of(source.clone()?, Content::Ask(id)))?;
                 Ok(sent_ask_line(number, source)?)
             }
         }
@@ -154,6 +153,7 @@ impl Ends {
         sub: &SubId,
         polled: Used<Polled>,
     ) -> Result<Text, WorldFault>
+        requires { polls.CanBeSentAs polled }
         ensures state { OnOk result (self.new ≡ polls.with_polled self.old source.now polled) }
         ensures printed { IfOk result (λ text. text ≡ polls.polled_line source.now sub.now (states.next_number self.old) polled) }
     {
@@ -164,10 +164,7 @@ impl Ends {
             Used::Answered(Polled::Nothing) => Ok(pair_line("nothing", name, named)?),
             Used::Answered(Polled::Spent) => Ok(name_line("spent", name)?),
             Used::Answered(Polled::Sent(delivery)) => {
-                let number = self.send(Message::Events {
-                    source: source.clone()?,
-                    delivery,
-                })?;
+                let number = self.send_delivery(source, &delivery)?;
                 Ok(sent_events_line(number, source, sub)?)
             }
         }
@@ -189,8 +186,18 @@ impl Ends {
         }
     }
 
+    /// Sends a delivery as its bytes, and answers its number.
+    fn send_delivery(&mut self, source: &SourceName, delivery: &Delivery) -> Result<u64, AllocError>
+        requires { CanBeSent delivery.now }
+        ensures state { OnOk result (self.new ≡ states.with_message self.old (Events source.now delivery.now)) }
+        ensures number { IfOk result (λ number. number ≡ states.next_number self.old) }
+    {
+        let content = Content::Delivery(DeliveryBytes::of(self.alloc, delivery)?);
+        self.send(Sent::of(source.clone()?, content))
+    }
+
     /// Sends a message, and answers its number.
-    pub(crate) fn send(&mut self, message: Message) -> Result<u64, AllocError>
+    pub(crate) fn send(&mut self, message: Sent) -> Result<u64, AllocError>
         ensures state { OnOk result (self.new ≡ states.with_message self.old message) }
         ensures number { IfOk result (λ number. number ≡ states.next_number self.old) }
     {

@@ -4,7 +4,9 @@ ghost use Rattle.std.specs.Prelude.{◌≡◌, ◌++◌, true, OnOk, OnErr};
 ghost use Rattle.wef_machine.specs.Kept.{IsKept};
 ghost use Rattle.wef_machine.specs.States as states;
 ghost use Rattle.wef_machine.specs.Steps as steps;
+ghost use Rattle.wef_world.specs.Counted.{counted, hears_by};
 
+use crate::answers::Answers;
 use crate::ends::Ends;
 use crate::faults::WorldFault;
 use std::alloc::Global;
@@ -13,16 +15,16 @@ use std::mem;
 use wef_base::Bytes;
 use wef_replay::Line;
 
-/// A collector and sources, at a moment, and all messages that they ever sent each other. Each
-/// world is kept: what the collector holds is safe, and no message on its way can change that.
+/// What a world holds: a collector and sources, at a moment, and all messages that they ever sent each
+/// other.
 #[derive(Drop)]
-pub struct World {
+pub struct Held {
     /// None once a line wanted memory.
     ends: Option<Ends>,
     alloc: Global,
 }
 
-impl Model for World {
+impl Model for Held {
     ghost use Rattle.wef_machine.specs.Kept.{IsKept};
     ghost use Rattle.wef_machine.specs.States.{State, held};
     ghost use Rattle.wef_world.specs.contracts.ends.Ends as the_ends;
@@ -36,19 +38,18 @@ impl Model for World {
     ghost invariant = { λ w. IsKept (held w.ends) };
 }
 
-impl World {
-    /// A world in which nothing has happened.
-    pub fn new(alloc: Global) -> World
+impl Held {
+    /// What a world holds in which nothing has happened.
+    fn new(alloc: Global) -> Held
         ensures { result ≡ states.start }
     {
-        World {
+        Held {
             ends: Some(Ends::new(alloc)),
             alloc,
         }
     }
 
-    /// Whether a schedule may have the line next. It takes no memory.
-    pub fn admits(&self, line: &Line) -> bool
+    fn admits(&self, line: &Line) -> bool
         ensures { result ≡ steps.admits self.now line.now }
     {
         match &self.ends {
@@ -57,19 +58,24 @@ impl World {
         }
     }
 
-    /// Does one line that the world admits, and appends what it prints. After a fault the world has
-    /// lost its ends: it is as new, and does no line any more.
-    pub fn apply(&mut self, line: &Line, out: &mut Bytes) -> Result<(), WorldFault>
+    /// Does one line, as `World::apply` does.
+    fn apply<A: Answers>(
+        &mut self,
+        answers: &mut A,
+        line: &Line,
+        out: &mut Bytes,
+    ) -> Result<(), WorldFault>
         requires { steps.admits self.old line.now ≡ true }
         ensures state { OnOk result (self.new ≡ steps.step line.now self.old) }
         ensures printed { OnOk result (out.new ≡ out.old ++ steps.printed_by line.now self.old) }
+        ensures calls { OnOk result (A.calls answers.new ≡ counted (hears_by line.now self.old) (A.calls answers.old)) }
         ensures lost { OnErr result (self.new ≡ states.start) }
         ensures err { OnErr result (out.new ≡ out.old) }
     {
         let Some(mut ends) = self.ends.take() else {
             return Err(WorldFault::NoMemory);
         };
-        match print_line(&mut ends, line, out) {
+        match print_line(&mut ends, answers, line, out) {
             Ok(()) => {
                 drop(mem::replace(&mut self.ends, Some(ends)));
                 Ok(())
@@ -83,14 +89,72 @@ impl World {
 }
 
 /// Does one line that the ends admit, and appends what it prints.
-fn print_line(ends: &mut Ends, line: &Line, out: &mut Bytes) -> Result<(), WorldFault>
+fn print_line<A: Answers>(
+    ends: &mut Ends,
+    answers: &mut A,
+    line: &Line,
+    out: &mut Bytes,
+) -> Result<(), WorldFault>
     requires admitted { steps.admits ends.old line.now ≡ true }
     requires kept { IsKept ends.old }
     ensures state { OnOk result (ends.new ≡ steps.step line.now ends.old) }
     ensures printed { OnOk result (out.new ≡ out.old ++ steps.printed_by line.now ends.old) }
+    ensures calls { OnOk result (A.calls answers.new ≡ counted (hears_by line.now ends.old) (A.calls answers.old)) }
     ensures err { OnErr result (out.new ≡ out.old) }
 {
-    let text = ends.run_line(line)?;
-    out.extend(text.as_str().as_bytes())?;
+    let mut printed = ends.seen_by(line)?;
+    let text = ends.run_line(answers, line)?;
+    printed.extend(text.as_str().as_bytes())?;
+    out.extend(printed.as_slice())?;
     Ok(())
+}
+
+/// A collector and sources, at a moment, and all messages that they ever sent each other; and what
+/// answers these. Each world is kept: what the collector holds is safe, and no message on its way can
+/// change that.
+#[derive(Drop)]
+pub struct World<A> {
+    held: Held,
+    answers: A,
+}
+
+impl<A: Answers> World<A> {
+    /// A world in which nothing has happened. It takes no memory.
+    pub fn new(alloc: Global, answers: A) -> World<A>
+        ensures held { result.held ≡ states.start }
+        ensures answers { result.answers ≡ answers }
+    {
+        World {
+            held: Held::new(alloc),
+            answers,
+        }
+    }
+
+    /// Whether a schedule may have the line next. It takes no memory.
+    pub fn admits(&self, line: &Line) -> bool
+        ensures { result ≡ steps.admits self.now.held line.now }
+    {
+        self.held.admits(line)
+    }
+
+    /// Does one line that the world admits, and appends what it prints. A message that is bytes and
+    /// whose end is open, or can be opened, is handed to the answers. After a fault the world has lost
+    /// its ends: it is as new, and does no line any more.
+    pub fn apply(&mut self, line: &Line, out: &mut Bytes) -> Result<(), WorldFault>
+        requires { steps.admits self.old.held line.now ≡ true }
+        ensures state { OnOk result (self.new.held ≡ steps.step line.now self.old.held) }
+        ensures printed { OnOk result (out.new ≡ out.old ++ steps.printed_by line.now self.old.held) }
+        ensures calls { OnOk result (A.calls self.new.answers ≡ counted (hears_by line.now self.old.held) (A.calls self.old.answers)) }
+        ensures lost { OnErr result (self.new.held ≡ states.start) }
+        ensures err { OnErr result (out.new ≡ out.old) }
+    {
+        self.held.apply(&mut self.answers, line, out)
+    }
+
+    /// What answers its messages.
+    pub fn answers(&self) -> &A
+        ensures { result.now ≡ self.now.answers }
+    {
+        &self.answers
+    }
 }

@@ -17,4 +17,4 @@ returns-in-Ok-clause-answer c =
     let stays = c.offers.ensures.looks.opened.0.0.0 in
     let given = c.in-Ok.ensures.ok ∙ (λ i. offers (stays i) c.args.source.now (c.in_ok-host.ensures i)) in
     let id = c.in_ok-id-in-Ok.ensures.id ∙ ap reply_id c.offers.ensures.ids in
-    (λ i. Offers (c.in_ok-clone-in-Ok.ensures i) (id i) (c.in_ok-clone-in-Ok-2.ensures i) (given i))
+    c.of.ensures ∙ (λ i. Offers (c.in_ok-clone-in-Ok-2.ensures i) (id i) (c.in_ok-clone-in-Ok.ensures i) (given i))

@@ -11,13 +11,13 @@ use Rattle.wef_replay.specs.declared.lines.Line.TheVariants.{Subscribe, Batch}
 use Rattle.wef_world.proofs.ends.Ends.run_line.Goals as goal
 
 pub subscribe-requires-clause-back : goal.subscribe-requires-clause-back
-subscribe-requires-clause-back c =
+subscribe-requires-clause-back g c =
     let line : Line = Subscribe c.in-Subscribe.sub c.in-Subscribe.items c.in-Subscribe.bytes c.in-Subscribe.beat c.in-Subscribe.query in
     let good = subst (λ (l : Line). admits c.args.self.now l ≡ true) c.in-Subscribe.is c.requires.admitted in
     all_events c.in-Subscribe.sub c.in-Subscribe.items c.in-Subscribe.bytes c.in-Subscribe.beat c.in-Subscribe.query (and_parts (is_line line) (allows (names_of c.args.self.now) line) good).0
 
 pub take-requires-clause-numbered : goal.take-requires-clause-numbered
-take-requires-clause-numbered c =
+take-requires-clause-numbered g c =
     let line : Line = Batch c.in-Batch.sub c.in-Batch.source c.in-Batch.batch in
     let good = subst (λ (l : Line). admits c.args.self.now l ≡ true) c.in-Batch.is c.requires.admitted in
     subst (λ (b : TheBatch). AreNumbered b.items) (sym c.in_ok-to_batch-in-Batch.ensures) (numbered_batch c.in-Batch.sub c.in-Batch.source c.in-Batch.batch (and_parts (is_line line) (allows (names_of c.args.self.now) line) good).0)

@@ -1,0 +1,44 @@
+-- How often a line asks the ends to answer bytes, or to hear them.
+use Rattle.std.specs.Prelude.{ℕ, Bool, false, is_some, Option, Some, None, if◌then◌else◌}
+use Rattle.wef_keeper.specs.Keeping.{raised}
+use Rattle.wef_machine.specs.Collecting.{collector_opened}
+use Rattle.wef_machine.specs.Deliveries.{message_at, number_back}
+use Rattle.wef_machine.specs.Places.{Place}
+use Rattle.wef_machine.specs.Sources.{slot_opened}
+use Rattle.wef_machine.specs.States.{Slot, State, slot_of}
+use Rattle.wef_machine.specs.declared.messages.Message.{Message}
+use Rattle.wef_machine.specs.declared.messages.Message.TheVariants as sent
+use Rattle.wef_replay.specs.declared.lines.Line.{Line}
+use Rattle.wef_replay.specs.declared.lines.Line.TheVariants.{Deliver, Back}
+
+-- the count of such calls after a line that makes one, or none
+abbrev pub counted : Bool → ℕ → ℕ
+counted calls count = if calls then raised count else count
+
+-- whether an end runs
+abbrev pub is_open : {M : Type 0} → Place M → Bool
+is_open place = is_some place.memory
+
+-- whether a source is there that runs once it is opened
+abbrev pub is_open_at : Option Slot → Bool
+is_open_at None = false
+is_open_at (Some slot) = is_open (slot_opened slot).place
+
+-- whether a message is bytes, and its end is open or can be opened
+abbrev pub is_heard : State → Option Message → Bool
+is_heard state None = false
+is_heard state (Some (sent.Ask s id)) = false
+is_heard state (Some (sent.Offers s id relates given)) = false
+is_heard state (Some (sent.Events s delivery)) = is_open (collector_opened state.collector)
+is_heard state (Some (sent.Ack s id relates)) = is_open_at (slot_of state s)
+is_heard state (Some (sent.Fault s id relates fault)) = is_open_at (slot_of state s)
+
+-- the same of the message of a number
+abbrev pub is_heard_at : State → ℕ → Bool
+is_heard_at state k = is_heard state (message_at state k)
+
+-- whether a line delivers such a message
+abbrev pub hears_by : Line → State → Bool
+hears_by (Deliver k seen) state = is_heard_at state k
+hears_by (Back n) state = is_heard_at state (number_back state n)
+hears_by line state = false

@@ -1,0 +1,97 @@
+//! What the ends make of messages as bytes, as a world asks for it.
+
+ghost use Rattle.std.specs.Prelude.{◌≡◌};
+
+use std::alloc::{AllocError, Global};
+use wef_base::{Bytes, Charset, Moment, Text};
+use wef_collector::Collector;
+use wef_front::{Answer, Hears, Target};
+use wef_keeper::{Keeper, MemKeeper};
+use wef_source::SourceEnd;
+
+/// The answers to messages, and what is heard in them: each method promises what the function of
+/// wef_front with its name does. A world hands over nothing but bytes, so whoever notes what these
+/// methods are given sees all that the ends are told.
+pub trait Answers: Drop {
+    ghost use Rattle.std.specs.Prelude.{◌≡◌, ◌⊎◌, ℕ, IfErr, IfOk, OnErr};
+    ghost use Rattle.wef_front.specs.Heard as hearing;
+    ghost use Rattle.wef_front.specs.HeardReplies.{HearsTold, told};
+    ghost use Rattle.wef_front.specs.Replies.{IsAnswer, IsUnanswered};
+    ghost use Rattle.wef_front.specs.declared.hearing.Heard as heard;
+    ghost use Rattle.wef_keeper.specs.Keeping.{raised};
+
+    /// How many calls of its methods were made; at 2^64 - 1 it stays.
+    ghost calls: { Self → ℕ };
+
+    /// Answers the bytes of a request to the collector. There may be no memory for the answer.
+    fn collector_answer(
+        &mut self,
+        collector: &mut Collector<MemKeeper>,
+        target: &Target,
+        host: &Text,
+        charset: Charset,
+        body: &Bytes,
+        now: Moment,
+    ) -> Result<Answer, AllocError>
+        ensures answer { IfOk result (λ answer. (said : heard.Heard) × hearing.Hears target.now charset body.now said
+            × IsAnswer said charset now answer collector.old.ids collector.new.ids (⟦<MemKeeper as Keeper>⟧.store collector.old.keeper) (⟦<MemKeeper as Keeper>⟧.store collector.new.keeper)) }
+        ensures wants_memory { IfErr result (λ _. (collector.new ≡ collector.old) ⊎ ((said : heard.Heard) × hearing.Hears target.now charset body.now said
+            × IsUnanswered said now collector.old.ids collector.new.ids (⟦<MemKeeper as Keeper>⟧.store collector.old.keeper) (⟦<MemKeeper as Keeper>⟧.store collector.new.keeper))) }
+        ensures calls { calls self.new ≡ raised (calls self.old) };
+
+    /// Hears the bytes of a reply to a source, in UTF-8. There may be no memory to read it.
+    fn source_hears(
+        &mut self,
+        source: &mut SourceEnd<MemKeeper>,
+        body: &Bytes,
+        now: Moment,
+    ) -> Result<Hears, AllocError>
+        ensures heard { IfOk result (λ hears. HearsTold (told body.now) hears source.old.memory source.new.memory) }
+        ensures wants_memory { OnErr result (source.new.memory ≡ source.old.memory) }
+        ensures keeper { source.new.keeper ≡ source.old.keeper }
+        ensures name { source.new.name ≡ source.old.name }
+        ensures calls { calls self.new ≡ raised (calls self.old) };
+}
+
+/// The answers of the program: those of wef_front.
+#[derive(Drop)]
+pub struct Shipped {
+    alloc: Global,
+    calls: u64,
+}
+
+impl Shipped {
+    /// The answers, of which none was asked for yet. It takes no memory.
+    pub fn new(alloc: Global) -> Shipped
+        ensures { result.calls ≡ 0 }
+    {
+        Shipped { alloc, calls: 0 }
+    }
+}
+
+impl Answers for Shipped {
+    ghost calls = { λ shipped. shipped.calls };
+
+    fn collector_answer(
+        &mut self,
+        collector: &mut Collector<MemKeeper>,
+        target: &Target,
+        host: &Text,
+        charset: Charset,
+        body: &Bytes,
+        now: Moment,
+    ) -> Result<Answer, AllocError> {
+        self.calls = self.calls.saturating_add(1);
+        wef_front::collector_answer(self.alloc, collector, target, host, charset, body, now)
+    }
+
+    fn source_hears(
+        &mut self,
+        source: &mut SourceEnd<MemKeeper>,
+        body: &Bytes,
+        now: Moment,
+    ) -> Result<Hears, AllocError> {
+        self.calls = self.calls.saturating_add(1);
+        wef_front::source_hears(self.alloc, source, body, now)
+    }
+}
