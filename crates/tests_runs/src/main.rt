@@ -17,6 +17,8 @@ mod bad_lines;
 #[cfg(test)]
 mod failures;
 #[cfg(test)]
+mod heard;
+#[cfg(test)]
 mod limits;
 #[cfg(test)]
 mod sources;
