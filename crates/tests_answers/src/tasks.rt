@@ -6,7 +6,7 @@ use crate::cuts::push_cuts;
 use crate::replies::push_heard;
 use crate::sent::push_sent;
 use crate::utf16::{push_spelt, push_spelt_bytes};
-use std::alloc::{AllocError, Global};
+use std::alloc::AllocError;
 use tests_tasks::Tasks;
 use tests_tasks::deliveries::edited;
 use wef_base::Text;
@@ -47,49 +47,49 @@ pub(crate) enum Task {
     Sent,
 }
 
+/// The tasks by their names.
+const TASKS: &[(&str, Task)] = &[
+    ("whole", Task::Whole),
+    ("unknown", Task::Unknown),
+    ("edited", Task::Edited),
+    ("manager", Task::Manager),
+    ("root", Task::Root),
+    ("path", Task::Path),
+    ("ended", Task::Ended),
+    ("sequence", Task::Sequence),
+    ("failing before", Task::FailingBefore),
+    ("failing after", Task::FailingAfter),
+    ("utf-16", Task::Utf16),
+    ("utf-16 bytes", Task::Utf16Bytes),
+    ("cut", Task::Cut),
+    ("reply", Task::Reply),
+    ("sent", Task::Sent),
+];
+
 impl Tasks for Task {
-    fn of_heading(heading: &str) -> Option<Task> {
-        let (task, _) = heading.split_once(':')?;
-        match task {
-            "whole" => Some(Task::Whole),
-            "unknown" => Some(Task::Unknown),
-            "edited" => Some(Task::Edited),
-            "manager" => Some(Task::Manager),
-            "root" => Some(Task::Root),
-            "path" => Some(Task::Path),
-            "ended" => Some(Task::Ended),
-            "sequence" => Some(Task::Sequence),
-            "failing before" => Some(Task::FailingBefore),
-            "failing after" => Some(Task::FailingAfter),
-            "utf-16" => Some(Task::Utf16),
-            "utf-16 bytes" => Some(Task::Utf16Bytes),
-            "cut" => Some(Task::Cut),
-            "reply" => Some(Task::Reply),
-            "sent" => Some(Task::Sent),
-            _ => None,
-        }
+    fn named() -> &'static [(&'static str, Task)] {
+        TASKS
     }
 
-    fn answer(&self, alloc: Global, line: &str) -> Result<Text, AllocError> {
-        let mut shown = Text::new(alloc);
+    fn push_answer(self, shown: &mut Text, line: &str) -> Result<(), AllocError> {
+        let alloc = shown.alloc();
         match self {
-            Task::Whole => push_whole(&mut shown, &base_path(alloc)?, line)?,
-            Task::Unknown => push_whole(&mut shown, &path_to(alloc, "none")?, line)?,
-            Task::Edited => push_answered(&mut shown, &base_path(alloc)?, line, true)?,
-            Task::Manager => push_answered(&mut shown, &Target::Manager, line, true)?,
-            Task::Root => push_answered(&mut shown, &Target::Root, line, true)?,
-            Task::Path => push_at_path(&mut shown, line, true)?,
-            Task::Ended => push_at_path(&mut shown, line, false)?,
-            Task::Sequence => push_sequence(&mut shown, collector_of(alloc, true)?, line)?,
-            Task::FailingBefore => push_failing(&mut shown, false, line)?,
-            Task::FailingAfter => push_failing(&mut shown, true, line)?,
-            Task::Utf16 => push_spelt(&mut shown, line)?,
-            Task::Utf16Bytes => push_spelt_bytes(&mut shown, line)?,
-            Task::Cut => push_cuts(&mut shown, &edited(alloc, line)?)?,
-            Task::Reply => push_heard(&mut shown, line)?,
-            Task::Sent => push_sent(&mut shown)?,
+            Task::Whole => push_whole(shown, &base_path(alloc)?, line),
+            Task::Unknown => push_whole(shown, &path_to(alloc, "none")?, line),
+            Task::Edited => push_answered(shown, &base_path(alloc)?, line, true),
+            Task::Manager => push_answered(shown, &Target::Manager, line, true),
+            Task::Root => push_answered(shown, &Target::Root, line, true),
+            Task::Path => push_at_path(shown, line, true),
+            Task::Ended => push_at_path(shown, line, false),
+            Task::Sequence => push_sequence(shown, collector_of(alloc, true)?, line),
+            Task::FailingBefore => push_failing(shown, false, line),
+            Task::FailingAfter => push_failing(shown, true, line),
+            Task::Utf16 => push_spelt(shown, line),
+            Task::Utf16Bytes => push_spelt_bytes(shown, line),
+            Task::Cut => push_cuts(shown, &edited(alloc, line)?),
+            Task::Reply => push_heard(shown, line),
+            Task::Sent => push_sent(shown),
         }
-        Ok(shown)
     }
 }
 

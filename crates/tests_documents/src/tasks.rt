@@ -3,13 +3,13 @@
 use crate::batches::{push_batch, push_bookmark, push_written_item};
 use crate::events::{push_event, push_numbered, push_parts, push_plain};
 use crate::trees::{push_cuts, push_reading, push_written};
-use std::alloc::{AllocError, Global};
+use std::alloc::AllocError;
 use tests_tasks::Tasks;
 use tests_tasks::escapes::{escaped, unescaped};
 use wef_base::{Charset, Text, is_xml_text};
 
 /// What is done with a line.
-#[derive(Drop)]
+#[derive(Clone, Copy)]
 pub(crate) enum Task {
     /// `utf-8`: its tree.
     Utf8,
@@ -37,49 +37,54 @@ pub(crate) enum Task {
     Plain,
 }
 
+/// The tasks by their names.
+const TASKS: &[(&str, Task)] = &[
+    ("utf-8", Task::Utf8),
+    ("utf-16", Task::Utf16),
+    ("cut", Task::Cut(Charset::Utf8)),
+    ("cut utf-16", Task::Cut(Charset::Utf16)),
+    ("written", Task::Written(Charset::Utf8)),
+    ("written in utf-16", Task::Written(Charset::Utf16)),
+    ("characters", Task::Characters),
+    ("event", Task::Event),
+    ("number", Task::Number),
+    ("parts", Task::Parts),
+    ("bookmark", Task::Bookmark),
+    ("batch", Task::Batch),
+    ("item", Task::Item),
+    ("plain", Task::Plain),
+];
+
 impl Tasks for Task {
-    fn of_heading(heading: &str) -> Option<Task> {
-        let (task, _) = heading.split_once(':')?;
-        match task {
-            "utf-8" => Some(Task::Utf8),
-            "utf-16" => Some(Task::Utf16),
-            "cut" => Some(Task::Cut(Charset::Utf8)),
-            "cut utf-16" => Some(Task::Cut(Charset::Utf16)),
-            "written" => Some(Task::Written(Charset::Utf8)),
-            "written in utf-16" => Some(Task::Written(Charset::Utf16)),
-            "characters" => Some(Task::Characters),
-            "event" => Some(Task::Event),
-            "number" => Some(Task::Number),
-            "parts" => Some(Task::Parts),
-            "bookmark" => Some(Task::Bookmark),
-            "batch" => Some(Task::Batch),
-            "item" => Some(Task::Item),
-            "plain" => Some(Task::Plain),
-            _ => None,
-        }
+    fn named() -> &'static [(&'static str, Task)] {
+        TASKS
     }
 
-    fn answer(&self, alloc: Global, line: &str) -> Result<Text, AllocError> {
-        let bytes = unescaped(alloc, line)?;
-        let bytes = bytes.as_slice();
-        let mut shown = Text::new(alloc);
-        match self {
-            Task::Utf8 => push_reading(&mut shown, Charset::Utf8, bytes)?,
-            Task::Utf16 => push_reading(&mut shown, Charset::Utf16, bytes)?,
-            Task::Cut(charset) => push_cuts(&mut shown, *charset, bytes)?,
-            Task::Written(charset) => push_written(&mut shown, *charset, bytes)?,
-            _ => match str::from_utf8(bytes) {
-                Ok(text) => self.push_answer(&mut shown, &Text::from_str(alloc, text)?)?,
-                Err(_) => shown.push_str("no UTF-8")?,
-            },
-        }
-        escaped(&shown)
+    fn push_answer(self, shown: &mut Text, line: &str) -> Result<(), AllocError> {
+        let alloc = shown.alloc();
+        let mut answer = Text::new(alloc);
+        self.push_of_bytes(&mut answer, unescaped(alloc, line)?.as_slice())?;
+        shown.push_str(escaped(&answer)?.as_str())
     }
 }
 
 impl Task {
+    /// Appends what is printed for the bytes that a line spells.
+    fn push_of_bytes(self, shown: &mut Text, bytes: &[u8]) -> Result<(), AllocError> {
+        match self {
+            Task::Utf8 => push_reading(shown, Charset::Utf8, bytes),
+            Task::Utf16 => push_reading(shown, Charset::Utf16, bytes),
+            Task::Cut(charset) => push_cuts(shown, charset, bytes),
+            Task::Written(charset) => push_written(shown, charset, bytes),
+            _ => match str::from_utf8(bytes) {
+                Ok(text) => self.push_of_text(shown, &Text::from_str(shown.alloc(), text)?),
+                Err(_) => shown.push_str("no UTF-8"),
+            },
+        }
+    }
+
     /// Appends what is printed for a line that is a text.
-    fn push_answer(&self, shown: &mut Text, text: &Text) -> Result<(), AllocError> {
+    fn push_of_text(self, shown: &mut Text, text: &Text) -> Result<(), AllocError> {
         match self {
             Task::Event => push_event(shown, text),
             Task::Number => push_numbered(shown, text),

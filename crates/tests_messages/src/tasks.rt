@@ -4,7 +4,7 @@ use crate::documents::{read_document, read_headers};
 use crate::envelopes::{push_answered, push_envelope, push_written};
 use crate::faults::{push_fault, push_named};
 use crate::ids::{push_id, push_value};
-use std::alloc::{AllocError, Global};
+use std::alloc::AllocError;
 use tests_tasks::Tasks;
 use wef_base::Text;
 
@@ -29,34 +29,34 @@ pub(crate) enum Task {
     Name,
 }
 
+/// The tasks by their names.
+const TASKS: &[(&str, Task)] = &[
+    ("id", Task::Id),
+    ("value", Task::Value),
+    ("envelope", Task::Envelope),
+    ("headers", Task::Headers),
+    ("written", Task::Written),
+    ("answered", Task::Answered),
+    ("fault", Task::Fault),
+    ("name", Task::Name),
+];
+
 impl Tasks for Task {
-    fn of_heading(heading: &str) -> Option<Task> {
-        let (task, _) = heading.split_once(':')?;
-        match task {
-            "id" => Some(Task::Id),
-            "value" => Some(Task::Value),
-            "envelope" => Some(Task::Envelope),
-            "headers" => Some(Task::Headers),
-            "written" => Some(Task::Written),
-            "answered" => Some(Task::Answered),
-            "fault" => Some(Task::Fault),
-            "name" => Some(Task::Name),
-            _ => None,
-        }
+    fn named() -> &'static [(&'static str, Task)] {
+        TASKS
     }
 
-    fn answer(&self, alloc: Global, line: &str) -> Result<Text, AllocError> {
-        let mut shown = Text::new(alloc);
+    fn push_answer(self, shown: &mut Text, line: &str) -> Result<(), AllocError> {
+        let alloc = shown.alloc();
         match self {
-            Task::Id => push_id(&mut shown, line)?,
-            Task::Value => push_value(&mut shown, line)?,
-            Task::Envelope => push_envelope(&mut shown, read_document(alloc, line)?)?,
-            Task::Headers => push_envelope(&mut shown, read_headers(alloc, line)?)?,
-            Task::Written => push_written(&mut shown, read_headers(alloc, line)?)?,
-            Task::Answered => push_answered(&mut shown, read_headers(alloc, line)?)?,
-            Task::Fault => push_fault(&mut shown, read_document(alloc, line)?)?,
-            Task::Name => push_named(&mut shown, line)?,
+            Task::Id => push_id(shown, line),
+            Task::Value => push_value(shown, line),
+            Task::Envelope => push_envelope(shown, read_document(alloc, line)?),
+            Task::Headers => push_envelope(shown, read_headers(alloc, line)?),
+            Task::Written => push_written(shown, read_headers(alloc, line)?),
+            Task::Answered => push_answered(shown, read_headers(alloc, line)?),
+            Task::Fault => push_fault(shown, read_document(alloc, line)?),
+            Task::Name => push_named(shown, line),
         }
-        Ok(shown)
     }
 }

@@ -26,33 +26,32 @@ pub(crate) enum Task {
     Address,
 }
 
+/// The tasks by their names.
+const TASKS: &[(&str, Task)] = &[
+    ("bookmarks", Task::Bookmarks),
+    ("batch", Task::Batch),
+    ("queries", Task::Queries),
+    ("kept", Task::Kept),
+    ("address of", Task::AddressOf),
+    ("address", Task::Address),
+];
+
 impl Tasks for Task {
-    fn of_heading(heading: &str) -> Option<Task> {
-        let (task, _) = heading.split_once(':')?;
-        match task {
-            "bookmarks" => Some(Task::Bookmarks),
-            "batch" => Some(Task::Batch),
-            "queries" => Some(Task::Queries),
-            "kept" => Some(Task::Kept),
-            "address of" => Some(Task::AddressOf),
-            "address" => Some(Task::Address),
-            _ => None,
-        }
+    fn named() -> &'static [(&'static str, Task)] {
+        TASKS
     }
 
-    fn answer(&self, alloc: Global, line: &str) -> Result<Text, AllocError> {
-        let mut shown = Text::new(alloc);
-        match self.push_answer(&mut shown, line) {
-            Ok(()) => {}
-            Err(ValueFault::NoMemory) => return Err(AllocError),
-            Err(_) => shown.push_str("no row")?,
+    fn push_answer(self, shown: &mut Text, line: &str) -> Result<(), AllocError> {
+        match self.push_row(shown, line) {
+            Ok(()) => Ok(()),
+            Err(ValueFault::NoMemory) => Err(AllocError),
+            Err(_) => shown.push_str("no row"),
         }
-        Ok(shown)
     }
 }
 
 impl Task {
-    fn push_answer(self, shown: &mut Text, line: &str) -> Result<(), ValueFault> {
+    fn push_row(self, shown: &mut Text, line: &str) -> Result<(), ValueFault> {
         match self {
             Task::Bookmarks => push_bookmarks(shown, line),
             Task::Batch => push_batch(shown, line),
