@@ -18,6 +18,10 @@ pub enum ValueFault {
     NotANumber,
     #[error("the number is too large")]
     TooLarge,
+    #[error("not a duration")]
+    NotADuration,
+    #[error("not a moment")]
+    NotAMoment,
     #[error("not a name")]
     BadName,
 }

@@ -33,12 +33,6 @@ pub const HEARTBEAT: &str = "http://schemas.dmtf.org/wbem/wsman/1/wsman/Heartbea
 
 pub const ACK: &str = "http://schemas.dmtf.org/wbem/wsman/1/wsman/Ack";
 
-/// The attribute Action of each event in a batch.
-pub const EVENT: &str = "http://schemas.dmtf.org/wbem/wsman/1/wsman/Event";
-
-/// The bookmark that stands before all records.
-pub const EARLIEST: &str = "http://schemas.dmtf.org/wbem/wsman/1/wsman/bookmark/earliest";
-
 /// The actions of faults, by the namespace of their names.
 pub const ADDRESSING_FAULT: &str = "http://schemas.xmlsoap.org/ws/2004/08/addressing/fault";
 
