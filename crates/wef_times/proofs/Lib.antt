@@ -1,0 +1,4 @@
+pub mod Caps
+pub mod DurationTexts
+pub mod Epoch
+pub mod Fronts

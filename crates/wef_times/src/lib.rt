@@ -1,0 +1,13 @@
+//! Durations, instants and expiries, as texts.
+#![tactic(auto)]
+
+mod calendar;
+mod digits;
+pub mod durations;
+pub mod expiry;
+mod forms;
+pub mod instants;
+
+pub use durations::{read_duration, write_duration};
+pub use expiry::read_expiry;
+pub use instants::read_instant;
