@@ -32,7 +32,8 @@ neither : (b c : Bool) → (b || c) ≡ false → (b ≡ false) × (c ≡ false)
 neither false c e = (refl, e)
 neither true c e = let bad : ⊥ = cc in absurd bad
 
-all_allowed : (cs : List ℕ) → all_scalars cs ≡ true → list_any is_forbidden cs ≡ false → list_all is_xml_char cs ≡ true
+-- XML allows each character that names may hold
+pub all_allowed : (cs : List ℕ) → all_scalars cs ≡ true → list_any is_forbidden cs ≡ false → list_all is_xml_char cs ≡ true
 all_allowed [] s f = refl
 all_allowed (c ∷ cs) s f =
     let one = and_parts (scalar c) (all_scalars cs) s in

@@ -1,1 +1,2 @@
 pub mod IdTexts
+pub mod PlainIds
