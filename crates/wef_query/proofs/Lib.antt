@@ -1,2 +1,5 @@
 pub mod Groups
 pub mod Sorting
+pub mod Unconditional
+pub mod WrittenGood
+pub mod WrittenRead

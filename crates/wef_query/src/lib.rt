@@ -4,15 +4,24 @@
 
 ghost use Rattle.std.specs.Prelude.{◌≡◌, IfOk};
 ghost use Rattle.std.specs.List.{list_any};
-ghost use Rattle.wef_query.specs.Queries.{all_events_of};
+ghost use Rattle.wef_query.specs.Queries.{all_events_of, is_unconditional};
 ghost use Rattle.wef_query.specs.Order.{HasSameNames, IsInOrder};
 ghost use Rattle.wef_query.specs.Selected.{channels_of, is_select_of, is_selected, is_selecting, is_suppressed, is_suppress_of, selects};
 
+pub mod path;
+pub mod reading;
+pub mod shared;
+pub mod writing;
+
+pub use path::{And, Axis, Literal, NameTest, Operator, Or, Path, Predicate, Step, Unit, Value};
+pub use reading::{QueryFault, read_query};
+pub use shared::Shared;
 use std::alloc::{AllocError, Global};
 use std::collections::BTreeSet;
-use wef_base::{ChannelName, List};
+use wef_base::{ChannelName, List, Text};
+pub use writing::write_query;
 
-/// One query: all events of a channel, selected or suppressed.
+/// One query: events of a channel, selected or suppressed.
 #[derive(Debug, Drop)]
 pub struct QueryItem {
     /// The query that the item stands in. Items of one group are read together.
@@ -20,6 +29,10 @@ pub struct QueryItem {
     /// Whether the item takes events out of its group, in place of asking for them.
     pub suppress: bool,
     pub channel: ChannelName,
+    /// What it asks of the events, without the spaces at both ends: `*` for all.
+    pub text: Text,
+    /// What the text says.
+    pub path: Shared<Path>,
 }
 
 impl QueryItem {
@@ -30,7 +43,16 @@ impl QueryItem {
             group: self.group,
             suppress: self.suppress,
             channel: self.channel.clone()?,
+            text: self.text.clone()?,
+            path: self.path.clone()?,
         })
+    }
+
+    /// Whether it sets no condition, so that each event of its channel meets it.
+    pub fn is_unconditional(&self) -> bool
+        ensures { result ≡ is_unconditional self.now }
+    {
+        self.text.as_str() == "*" && self.path.get().is_any()
     }
 }
 
@@ -46,12 +68,16 @@ impl QueryList {
     pub fn all(alloc: Global, channels: List<ChannelName>) -> Result<QueryList, AllocError>
         ensures { IfOk result (λ list. list.items ≡ all_events_of channels) }
     {
+        let text = Text::from_str(alloc, "*")?;
+        let path = Shared::new(alloc, Path::any(alloc))?;
         let mut items = List::new(alloc);
         for channel in channels.into_vec() {
             items.push(QueryItem {
                 group: 0,
                 suppress: false,
                 channel,
+                text: text.clone()?,
+                path: path.clone()?,
             })?;
         }
         Ok(QueryList { items })

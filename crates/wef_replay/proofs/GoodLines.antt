@@ -12,6 +12,7 @@ use Rattle.wef_base.specs.declared.numbers.TheConstants.{MAX}
 use Rattle.wef_event.specs.Unnumbered.{plain_numbered}
 use Rattle.wef_event.specs.declared.unnumbered.PlainEvent.{PlainEvent}
 use Rattle.wef_query.specs.Queries.{all_events_of}
+use Rattle.wef_query.proofs.Unconditional.{any_path_is_any}
 use Rattle.wef_replay.specs.BatchWords.{empty_batch, read_words}
 use Rattle.wef_replay.specs.Good.{are_all, asks_for_all, fits_always, is_between, is_channel, is_count, is_end, is_line, is_no_collector, is_source, is_subscription}
 use Rattle.wef_replay.specs.Grammar.{all_of, ask_line, back_line, batch_line, calm_line, commit_words, crash_line, deliver_line, does_nothing, end_line, event_if_xml, event_words, fail_line, failure_line_of, fitting_event, if_fits, line_of_words, lost_line, meaning, message_words, other_line, pair_words, poll_line, print_line, seen_words, show_line, source_line, source_line_of, stop_line, subscribe_line, subscribe_numbers, write_line}
@@ -44,7 +45,7 @@ good-with_first : (first : Option (List ℕ)) (rest : Option (List (List ℕ))) 
 unfolding IsGoodQuery
 good-with_first None rest h k = tt
 good-with_first (Some c) None h k = tt
-good-with_first (Some c) (Some cs) h k = λ i. h i && k i
+good-with_first (Some c) (Some cs) h k = λ i. h i && any_path_is_any i && k i
 
 good-channel_words : (words : List (List ℕ)) → AllOf IsGoodQuery (channel_words words)
 unfolding IsGoodQuery
@@ -63,7 +64,7 @@ good-some_channels word words = by (channel_word word) (channel_words words) (go
     by (Some c) None h k = tt
     by (Some c) (Some cs) h k =
         let some = more_than_none (length (all_events_of (c ∷ cs))) (length (all_events_of cs)) (omega arith) in
-        λ i. some i && (h i && k i)
+        λ i. some i && (h i && any_path_is_any i && k i)
 
 good-subscribe_numbers : (u items bytes beat channel : List ℕ) (channels : List (List ℕ)) → is_subscription u ≡ true → AllOf IsGoodLine (subscribe_numbers u items bytes beat (channel ∷ channels))
 good-subscribe_numbers u items bytes beat channel channels is_u =

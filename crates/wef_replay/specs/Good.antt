@@ -22,6 +22,7 @@ use Rattle.wef_batch.specs.declared.items.Item.TheVariants as item
 use Rattle.wef_event.specs.Events.{is_event}
 use Rattle.wef_event.specs.Unnumbered.{plain_numbered}
 use Rattle.wef_event.specs.declared.unnumbered.PlainEvent.{PlainEvent}
+use Rattle.wef_query.specs.Queries.{is_unconditional}
 use Rattle.wef_query.specs.declared.QueryItem.{QueryItem}
 use Rattle.wef_replay.specs.declared.lines.EndName.{EndName}
 use Rattle.wef_replay.specs.declared.lines.EndName.TheVariants as end
@@ -60,7 +61,7 @@ are_limits items bytes beat = is_between 1 10000 items && is_between 8192 419430
 
 -- all events of a channel, in the one group
 abbrev pub asks_for_all : QueryItem → Bool
-asks_for_all query = query.group == 0 && not query.suppress && is_channel query.channel
+asks_for_all query = query.group == 0 && not query.suppress && is_channel query.channel && is_unconditional query
 
 abbrev pub are_all : List QueryItem → Bool
 are_all queries = not (length queries == 0) && list_all asks_for_all queries

@@ -13,6 +13,8 @@ abbrev pub line_fault : value.ValueFault → LineFault
 line_fault values.NoMemory = NoMemory
 line_fault values.NotANumber = NotUnderstood
 line_fault values.TooLarge = NotUnderstood
+line_fault values.NotADuration = NotUnderstood
+line_fault values.NotAMoment = NotUnderstood
 line_fault values.BadName = NotUnderstood
 
 -- a fault of making an event, as a fault of the line

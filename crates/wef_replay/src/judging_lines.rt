@@ -109,7 +109,7 @@ fn each_asks_for_all(queries: &[QueryItem]) -> bool
 fn asks_for_all(query: &QueryItem) -> bool
     ensures { result ≡ asks_for_all query.now }
 {
-    query.group == 0 && !query.suppress && is_channel(&query.channel)
+    query.group == 0 && !query.suppress && is_channel(&query.channel) && query.is_unconditional()
 }
 
 /// Whether the source isn't the other end.
