@@ -1,4 +1,6 @@
+pub mod AddressTexts
 pub mod AddressesBack
 pub mod AllEvents
 pub mod Back
+pub mod NameTexts
 pub mod Segments

@@ -1,12 +1,20 @@
 -- The addresses that batches go to: `http://HOST/wsman/subscriptions/U/S`, the subscription and the source
 -- percent-encoded (RFC 3986, section 2.1).
-use Rattle.std.specs.Prelude.{◌≡◌, ℕ, ◌==◌, nat_le, Bool, ◌&&◌, ◌||◌, List, [], ◌∷◌, ◌++◌, Option, Some, None, codes, if◌then◌else◌}
-use Rattle.std.specs.List.{flat_map}
+use Rattle.std.specs.Prelude.{◌≡◌, ℕ, ◌<◌, ◌==◌, nat_le, Bool, true, ◌&&◌, ◌||◌, List, [], ◌∷◌, ◌++◌, length, Option, Some, None, codes, if◌then◌else◌}
+use Rattle.std.specs.List.{flat_map, list_all}
 use Rattle.std.specs.Option.{option_and_then}
 use Rattle.std.specs.Str.{IsUtf8}
 use Rattle.percent_encoding.specs.Percent.{percent_encode_byte}
 use Rattle.wef_base.specs.Names.{source_name, subscription_name}
 use Rattle.wef_base.specs.Words.{decoded, parts}
+
+-- a character that is printed: one of ASCII, and no space
+abbrev pub is_printed : ℕ → Bool
+is_printed c = nat_le 33 c && nat_le c 126
+
+-- a host as an address names it: one printed character or more
+abbrev pub IsHost : List ℕ → Type 0
+IsHost host = (0 < length host) × (list_all is_printed host ≡ true)
 
 -- a byte that stands for itself: a letter or digit of ASCII, or one of - . _ ~
 abbrev pub is_unreserved : ℕ → Bool

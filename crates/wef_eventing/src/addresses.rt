@@ -4,7 +4,8 @@ ghost use Rattle.std.specs.Prelude.{◌≡◌, ◌++◌, Some, IfOk, OnOk};
 ghost use Rattle.std.specs.Option.{option_and_then, option_copied};
 ghost use Rattle.std.specs.Str.{IsUtf8};
 ghost use Rattle.wef_base.specs.Words.{decoded, parts};
-ghost use Rattle.wef_eventing.specs.Addresses.{AddressesReadBack, AreNames, last_piece, piece_before_last, segment};
+ghost use Rattle.wef_xml.specs.Good.{IsXmlText};
+ghost use Rattle.wef_eventing.specs.Addresses.{AddressesReadBack, AreNames, IsHost, last_piece, piece_before_last, segment};
 ghost use Rattle.wef_eventing.specs.Addresses as spec;
 
 use percent_encoding::{AsciiSet, NON_ALPHANUMERIC, ascii_set, utf8_percent_encode};
@@ -27,6 +28,7 @@ pub const ESCAPED_IN_SEGMENT: AsciiSet = ascii_set!(
 pub fn delivery_address(host: &Text, sub: &SubId, source: &SourceName) -> Result<Text, AllocError>
     ensures value { IfOk result (λ address. address ≡ spec.delivery_address host.now sub.now source.now) }
     ensures reads_back { IfOk result (λ address. (spec.subscription_in address ≡ Some sub.now) × (spec.source_in address ≡ Some source.now)) }
+    ensures text { IsHost host.now → IfOk result IsXmlText }
 {
     let address = written(host, sub, source)?;
     Ok(address)

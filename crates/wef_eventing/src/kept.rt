@@ -6,6 +6,7 @@ ghost use Rattle.wef_base.specs.Words.{decoded};
 ghost use Rattle.wef_base.specs.declared.numbers.TheConstants.{MAX};
 ghost use Rattle.wef_eventing.specs.Kept.{HasKeptName, channel_of, channels_from, from_words, kept_channel};
 ghost use Rattle.wef_eventing.specs.Kept as kept;
+ghost use Rattle.wef_eventing.specs.Sending.{AreXmlQueries};
 ghost use Rattle.wef_eventing.specs.Subscriptions.{IsAllEvents};
 
 use crate::subscriptions::Subscription;
@@ -65,10 +66,11 @@ fn push_channel(words: &mut Text, item: &QueryItem) -> Result<(), AllocError>
 
 /// The subscription of a name that a text keeps, as `kept_words` writes it. None for a text of
 /// another form: a number that isn't within its limits, a name that isn't one, no channel.
-#[tactic(auto, unfolding(crate::specs::Kept::read_kept))]
+#[tactic(auto, using(crate::proofs::AllEvents::xml_where_one), unfolding(crate::specs::Kept::read_kept))]
 pub fn read_kept(name: &SubId, body: &Text) -> Result<Option<Subscription>, AllocError>
     ensures value { IfOk result (λ read. read ≡ kept.read_kept name.now body.now) }
     ensures is_one { IfOk result (λ read. IfSome read IsAllEvents) }
+    ensures texts { IfOk result (λ read. IfSome read (λ s. AreXmlQueries s.query.items)) }
 {
     let words = split(body.alloc(), body.as_str().as_bytes(), b' ')?;
     read_words(name, words.as_slice())

@@ -2,11 +2,11 @@
 #![tactic(auto)]
 
 pub mod addresses;
-pub mod bodies;
 pub mod kept;
+pub mod offers;
 pub mod subscriptions;
 
 pub use addresses::{delivery_address, source_in, subscription_in};
-pub use bodies::{Body, Offer, Subscribe};
 pub use kept::{kept_words, read_kept};
+pub use offers::{Offer, Subscribe};
 pub use subscriptions::{EndStatus, SourceAt, SubKind, Subscription};

@@ -1,7 +1,6 @@
-//! What the messages of a subscription say.
+//! What a subscription says in messages.
 
-use crate::subscriptions::EndStatus;
-use wef_base::{List, Text};
+use wef_base::Text;
 use wef_bookmark::Bookmark;
 use wef_query::QueryList;
 
@@ -53,43 +52,5 @@ impl Drop for Offer {
             version: _,
             subscribe: _,
         } = self;
-    }
-}
-
-/// A message's body.
-#[derive(Debug)]
-pub enum Body {
-    Enumerate,
-    Offers(List<Offer>),
-    Subscribe(Subscribe),
-    Subscribed { identifier: Text, expires: u64 },
-    Renew { expires: u64 },
-    Renewed { expires: u64 },
-    GetStatus,
-    StatusIs { expires: u64 },
-    Unsubscribe,
-    Unsubscribed,
-    Ended { identifier: Text, status: EndStatus },
-}
-
-/// One call for whoever lets a body go, whatever it holds.
-impl Drop for Body {
-    fn drop(self) {
-        match self {
-            Body::Offers(_) => {}
-            Body::Subscribe(_) => {}
-            Body::Subscribed {
-                identifier: _,
-                expires: _,
-            } => {}
-            Body::Renew { expires: _ } => {}
-            Body::Renewed { expires: _ } => {}
-            Body::StatusIs { expires: _ } => {}
-            Body::Ended {
-                identifier: _,
-                status: _,
-            } => {}
-            Body::Enumerate | Body::GetStatus | Body::Unsubscribe | Body::Unsubscribed => {}
-        }
     }
 }
