@@ -1,0 +1,323 @@
+-- What is written for a body is a good tree.
+use Rattle.std.proofs.Common.{◌≡◌, ℕ, suc, ◌+◌, ◌<◌, ◌/◌, ◌%◌, true, false, List, [], ◌∷◌, ◌++◌, refl, ◌∙◌, arith}
+use Rattle.std.specs.Prelude.{Option, Some, None, IfSome, codes}
+use Rattle.std.specs.Fmt.{decimal}
+use Rattle.std.specs.List.{All, AllByRecursion, list_all}
+use Rattle.std.specs.Option.{option_map, option_to_list}
+use Rattle.std.proofs.lemmas.Bool.{and_from, and_parts}
+use Rattle.std.proofs.lemmas.Bool.Decides.{nat_tests}
+use Rattle.std.proofs.lemmas.List.Elements.{All-from_recursion}
+use Rattle.std.proofs.lemmas.List.Folds.{list_all-append}
+use Rattle.std.proofs.lemmas.Str.{is_utf8-from_IsUtf8}
+use Rattle.wef_base.specs.Numbers.{is_digit}
+use Rattle.wef_base.specs.declared.tree.Element.{Element}
+use Rattle.wef_bookmark.proofs.WrittenGood.{written_is_good as bookmark_good}
+use Rattle.wef_elements.specs.Children.{with_elements, with_text}
+use Rattle.wef_elements.specs.Good.{AreGoodElements}
+use Rattle.wef_elements.specs.Spaces.{management}
+use Rattle.wef_elements.proofs.DecimalDigits.{decimal_digits, number_text}
+use Rattle.wef_elements.proofs.GoodTexts.{empty_text, management_good}
+use Rattle.wef_elements.proofs.GoodTrees.{elements_good, holder_good, leaf_good, said_good}
+use Rattle.wef_envelope.specs.Spaces.{addressing, enumeration, eventing, subscription}
+use Rattle.wef_envelope.specs.Written.{written}
+use Rattle.wef_envelope.proofs.WrittenIsGood.{written_is_good as envelope_good}
+use Rattle.wef_eventing.specs.Addresses.{is_printed}
+use Rattle.wef_eventing.specs.Kept.{HasKeptName}
+use Rattle.wef_eventing.specs.Sending.{AreXmlQueries, HasXmlTexts}
+use Rattle.wef_eventing.specs.declared.offers.Offer.{Offer}
+use Rattle.wef_eventing.specs.declared.offers.Subscribe.{Subscribe}
+use Rattle.wef_eventing.proofs.AddressTexts.{printed_text}
+use Rattle.wef_ids.specs.declared.MessageId.{MessageId}
+use Rattle.wef_query.specs.Laws.{HasXmlTexts as HasXmlItem}
+use Rattle.wef_query.specs.Writing.{query_element}
+use Rattle.wef_query.specs.declared.QueryItem.{QueryItem}
+use Rattle.wef_query.proofs.WrittenGood.{written_is_good as query_good}
+use Rattle.wef_times.specs.Durations.{duration_text, three_digits}
+use Rattle.wef_xml.specs.Good.{IsGoodElement, IsGoodHead, IsLocalName, IsXmlText}
+use Rattle.wef_xml.specs.Spaces.{is_xmlns}
+use Rattle.wef_xml.proofs.Ascii.{plain_name, plain_text}
+use Rattle.wef_bodies.specs.Laws.{IsKeptSubscribe, IsXmlId, OfferCanStand}
+use Rattle.wef_bodies.specs.Spaces.{anonymous, batches, event_log, event_query, most_elements, subscribe}
+use Rattle.wef_bodies.specs.Written.{address_element, count_element, delivery_element, end_element, enumerate_element, expires_element, filter_element, heartbeats_element, last_parts, marked_holder, no_ids, notify_element, offer_element, offer_elements, offer_envelope, offers_element, properties_element, response_element, size_element, subscribe_element, subscribe_parts}
+
+-- ---- namespaces and fixed texts
+
+addressing_good : IsXmlText addressing
+unfolding addressing
+addressing_good = plain_text addressing refl
+
+eventing_good : IsXmlText eventing
+unfolding eventing
+eventing_good = plain_text eventing refl
+
+enumeration_good : IsXmlText enumeration
+unfolding enumeration
+enumeration_good = plain_text enumeration refl
+
+subscription_good : IsXmlText subscription
+unfolding subscription
+subscription_good = plain_text subscription refl
+
+most_good : IsXmlText most_elements
+unfolding most_elements
+most_good = plain_text most_elements refl
+
+batches_good : IsXmlText batches
+unfolding batches
+batches_good = plain_text batches refl
+
+dialect_good : IsXmlText event_query
+unfolding event_query
+dialect_good = plain_text event_query refl
+
+anonymous_good : IsXmlText anonymous
+unfolding anonymous
+anonymous_good = plain_text anonymous refl
+
+log_good : IsXmlText event_log
+unfolding event_log
+log_good = plain_text event_log refl
+
+action_good : IsXmlText subscribe
+unfolding subscribe
+action_good = plain_text subscribe refl
+
+-- ---- durations
+
+digit_printed : (c : ℕ) → is_digit c ≡ true → is_printed c ≡ true
+digit_printed c e = grind (arith, nat_tests)
+
+digits_printed : (cs : List ℕ) → list_all is_digit cs ≡ true → list_all is_printed cs ≡ true
+digits_printed [] e = refl
+digits_printed (c ∷ cs) e =
+    let parts = and_parts (is_digit c) (list_all is_digit cs) e in
+    and_from (is_printed c) (list_all is_printed cs) (digit_printed c parts.0) (digits_printed cs parts.1)
+
+one_printed : (d : ℕ) → d < 10 → is_printed (48 + d) ≡ true
+one_printed d less = grind (arith, nat_tests)
+
+three_printed : (n : ℕ) → n < 1000 → list_all is_printed (three_digits n) ≡ true
+three_printed n less =
+    and_from _ _ (one_printed (n / 100) (omega arith)) (and_from _ _ (one_printed (n / 10 % 10) (omega arith)) (and_from _ _ (one_printed (n % 10) (omega arith)) refl))
+
+joined : (cs ds : List ℕ) → list_all is_printed cs ≡ true → list_all is_printed ds ≡ true → list_all is_printed (cs ++ ds) ≡ true
+joined cs ds one other = list_all-append is_printed cs ds ∙ and_from _ _ one other
+
+thousandths : (ms : ℕ) → ms % 1000 < 1000
+thousandths ms = omega arith
+
+-- XML allows the text of a duration
+pub duration_good : (ms : ℕ) → IsXmlText (duration_text ms)
+unfolding duration_text
+duration_good ms =
+    let seconds = decimal (ms / 1000) in
+    let decimals = three_digits (ms % 1000) in
+    let front = codes "PT" ++ seconds ++ codes "." in
+    (
+    printed_text (duration_text ms)
+    (joined (front ++ decimals) (codes "S")
+    (joined front decimals
+    (joined (codes "PT" ++ seconds) (codes ".") (joined (codes "PT") seconds refl (digits_printed seconds (decimal_digits (ms / 1000)))) refl)
+    (three_printed (ms % 1000) (thousandths ms)))
+    refl)
+    ).1
+
+-- ---- elements with one attribute
+
+-- a name of an attribute without a namespace
+abbrev IsPlainName : List ℕ → Type 0
+IsPlainName name = IsLocalName name × (is_xmlns name ≡ false)
+
+head_good : (space name attribute value : List ℕ) → IsXmlText space → IsLocalName name → IsPlainName attribute → IsXmlText value
+    → IsGoodHead space name (record { space = []; name = attribute; value = value } ∷ [])
+head_good space name attribute value in_space named plain allowed = record {
+  named = named;
+  in_space = in_space;
+  attributed = (record { name = plain.0; space = empty_text; value = allowed; no_declaration = plain.1 }, tt);
+  different = refl;
+}
+
+marked_good : (space name attribute value : List ℕ) (es : List Element) (room : ℕ) → IsXmlText space → IsLocalName name → IsPlainName attribute → IsXmlText value → AreGoodElements es room
+    → IsGoodElement (marked_holder space name attribute value es) (suc room)
+marked_good space name attribute value es room in_space named plain allowed good =
+    let inner = elements_good es room good in
+    (head_good space name attribute value in_space named plain allowed, inner.0, inner.1)
+
+mode_plain : IsPlainName (codes "Mode")
+unfolding is_xmlns
+mode_plain = (plain_name (codes "Mode") refl, refl)
+
+dialect_plain : IsPlainName (codes "Dialect")
+unfolding is_xmlns
+dialect_plain = (plain_name (codes "Dialect") refl, refl)
+
+policy_plain : IsPlainName (codes "Policy")
+unfolding is_xmlns
+policy_plain = (plain_name (codes "Policy") refl, refl)
+
+-- ---- what may be absent
+
+abbrev IsGoodPlace : Option Element → ℕ → Type 0
+IsGoodPlace o room = IfSome o (λ (e : Element). IsGoodElement e room)
+
+with_place : (o : Option Element) (es : List Element) (room : ℕ) → IsGoodPlace o room → AreGoodElements es room → AreGoodElements (option_to_list o ++ es) room
+with_place None es room good rest = rest
+with_place (Some e) es room good rest = (good, rest)
+
+-- ---- a request for offers
+
+pub enumerate_good : (room : ℕ) → IsGoodElement enumerate_element (suc (suc room))
+enumerate_good room =
+    holder_good enumeration (codes "Enumerate") (with_text management (codes "OptimizeEnumeration") [] ∷ with_text management (codes "MaxElements") most_elements ∷ []) (suc room)
+    enumeration_good (plain_name (codes "Enumerate") refl) (
+      leaf_good management (codes "OptimizeEnumeration") [] room management_good (plain_name (codes "OptimizeEnumeration") refl) empty_text,
+      (leaf_good management (codes "MaxElements") most_elements room management_good (plain_name (codes "MaxElements") refl) most_good, tt),
+    )
+
+-- ---- a Subscribe
+
+address_good : (text : List ℕ) (room : ℕ) → IsXmlText text → IsGoodElement (address_element text) (suc room)
+address_good text room allowed = leaf_good addressing (codes "Address") text room addressing_good (plain_name (codes "Address") refl) allowed
+
+end_good : (end : Option (List ℕ)) (room : ℕ) → IfSome end IsXmlText → IsGoodPlace (option_map end_element end) (suc (suc room))
+end_good None room allowed = tt
+end_good (Some text) room allowed =
+    holder_good eventing (codes "EndTo") (address_element text ∷ []) (suc room) eventing_good (plain_name (codes "EndTo") refl) (address_good text room allowed, tt)
+
+properties_good : (identifier : Option (List ℕ)) (room : ℕ) → IfSome identifier IsXmlText → IsGoodPlace (option_map properties_element identifier) (suc (suc room))
+properties_good None room allowed = tt
+properties_good (Some text) room allowed =
+    holder_good addressing (codes "ReferenceProperties") (with_text eventing (codes "Identifier") text ∷ []) (suc room) addressing_good (plain_name (codes "ReferenceProperties") refl)
+    (leaf_good eventing (codes "Identifier") text room eventing_good (plain_name (codes "Identifier") refl) allowed, tt)
+
+properties_deeper : (o : Option Element) (room : ℕ) → IsGoodPlace o room → AreGoodElements (option_to_list o) room
+properties_deeper None room good = tt
+properties_deeper (Some e) room good = (good, tt)
+
+notify_good : (s : Subscribe) (room : ℕ) → HasXmlTexts s → IsGoodElement (notify_element s) (suc (suc (suc room)))
+notify_good s room has =
+    holder_good eventing (codes "NotifyTo") (address_element s.notify_to ∷ option_to_list (option_map properties_element s.identifier)) (suc (suc room))
+    eventing_good (plain_name (codes "NotifyTo") refl) (
+      address_good s.notify_to (suc room) has.notify_to,
+      properties_deeper (option_map properties_element s.identifier) (suc (suc room)) (properties_good s.identifier room has.identifier),
+    )
+
+size_good : (bytes room : ℕ) → IsGoodElement (size_element bytes) (suc room)
+size_good bytes room =
+    said_good management (codes "MaxEnvelopeSize") (record { space = []; name = codes "Policy"; value = codes "Notify" } ∷ []) (decimal bytes) room
+    (head_good management (codes "MaxEnvelopeSize") (codes "Policy") (codes "Notify") management_good (plain_name (codes "MaxEnvelopeSize") refl) policy_plain (plain_text (codes "Notify") refl))
+    (number_text bytes)
+
+delivery_good : (s : Subscribe) (room : ℕ) → HasXmlTexts s → IsGoodElement (delivery_element s) (suc (suc (suc (suc room))))
+delivery_good s room has =
+    marked_good eventing (codes "Delivery") (codes "Mode") batches (heartbeats_element s.heartbeat ∷ notify_element s ∷ count_element s.max_items ∷ size_element s.max_bytes ∷ []) (suc (suc (suc room)))
+    eventing_good (plain_name (codes "Delivery") refl) mode_plain batches_good (
+      leaf_good management (codes "Heartbeats") (duration_text s.heartbeat) (suc (suc room)) management_good (plain_name (codes "Heartbeats") refl) (duration_good s.heartbeat),
+      (
+        notify_good s room has,
+        (
+          leaf_good management (codes "MaxElements") (decimal s.max_items) (suc (suc room)) management_good (plain_name (codes "MaxElements") refl) (number_text s.max_items),
+          (size_good s.max_bytes (suc (suc room)), tt),
+        ),
+      ),
+    )
+
+expires_good : (expires : Option ℕ) (room : ℕ) → IsGoodPlace (option_map expires_element expires) (suc room)
+expires_good None room = tt
+expires_good (Some ms) room = leaf_good eventing (codes "Expires") (duration_text ms) room eventing_good (plain_name (codes "Expires") refl) (duration_good ms)
+
+items_good : (items : List QueryItem) → AllByRecursion HasKeptName items → AreXmlQueries items → AllByRecursion HasXmlItem items
+items_good [] kept texts = tt
+items_good (item ∷ items) kept texts = (record { utf8 = is_utf8-from_IsUtf8 item.channel kept.0.utf8; channel = kept.0.reads_back; text = texts.0 }, items_good items kept.1 texts.1)
+
+filter_good : (items : List QueryItem) (room : ℕ) → AllByRecursion HasKeptName items → AreXmlQueries items → IsGoodElement (filter_element items) (suc (suc (suc (suc room))))
+filter_good items room kept texts =
+    marked_good management (codes "Filter") (codes "Dialect") event_query (query_element items ∷ []) (suc (suc (suc room)))
+    management_good (plain_name (codes "Filter") refl) dialect_plain dialect_good (query_good items room (items_good items kept texts), tt)
+
+parts_good : (s : Subscribe) (room : ℕ) → HasXmlTexts s → IsKeptSubscribe s → AreGoodElements (subscribe_parts s) (suc (suc (suc (suc room))))
+parts_good s room has kept =
+    let room' = suc (suc (suc room)) in
+    with_place (option_map end_element s.end_to) (delivery_element s ∷ (option_to_list (option_map expires_element s.expires) ++ last_parts s)) (suc room') (end_good s.end_to (suc (suc room)) has.end_to) (
+      delivery_good s room has,
+      with_place (option_map expires_element s.expires) (last_parts s) (suc room') (expires_good s.expires room') (
+        filter_good s.query.items room kept.query has.query,
+        (
+          bookmark_good s.from (suc room) kept.entries kept.names,
+          (leaf_good management (codes "SendBookmarks") [] room' management_good (plain_name (codes "SendBookmarks") refl) empty_text, tt),
+        ),
+      ),
+    )
+
+pub subscribe_good : (s : Subscribe) (room : ℕ) → HasXmlTexts s → IsKeptSubscribe s → IsGoodElement (subscribe_element s) (suc (suc (suc (suc (suc room)))))
+unfolding subscribe_element
+subscribe_good s room has kept =
+    holder_good eventing (codes "Subscribe") (subscribe_parts s) (suc (suc (suc (suc room)))) eventing_good (plain_name (codes "Subscribe") refl) (parts_good s room has kept)
+
+-- ---- offers
+
+nested_good : (id : MessageId) (s : Subscribe) (room : ℕ) → IsXmlId id → HasXmlTexts s → IsKeptSubscribe s → IsGoodElement (written (offer_envelope id s)) (suc (suc (suc (suc (suc (suc (suc room)))))))
+unfolding offer_envelope
+nested_good id s room spelt has kept =
+    envelope_good (offer_envelope id s) (suc (suc (suc room))) (record {
+      to = anonymous_good;
+      resource = log_good;
+      reply_to = anonymous_good;
+      action = action_good;
+      id = spelt;
+      relates = tt;
+      machine = tt;
+      max_size = tt;
+      identifier = tt;
+      bookmark = tt;
+      body = (subscribe_good s room has kept, tt);
+    })
+
+pub offer_good : (id : MessageId) (o : Offer) (room : ℕ) → IsXmlId id → IsXmlText o.version → HasXmlTexts o.subscribe → IsKeptSubscribe o.subscribe
+    → IsGoodElement (offer_element id o) (suc (suc (suc (suc (suc (suc (suc (suc room))))))))
+offer_good id o room spelt version has kept =
+    let room' = suc (suc (suc (suc (suc (suc room))))) in
+    holder_good subscription (codes "Subscription") (with_text subscription (codes "Version") o.version ∷ written (offer_envelope id o.subscribe) ∷ []) (suc room')
+    subscription_good (plain_name (codes "Subscription") refl)
+    (leaf_good subscription (codes "Version") o.version room' subscription_good (plain_name (codes "Version") refl) version, (nested_good id o.subscribe room spelt has kept, tt))
+
+pub response_good : (items : List Element) (room : ℕ) → AreGoodElements items room → IsGoodElement (response_element items) (suc (suc room))
+response_good items room good =
+    holder_good enumeration (codes "EnumerateResponse") (with_text enumeration (codes "EnumerationContext") [] ∷ with_elements management (codes "Items") items ∷ with_text management (codes "EndOfSequence") [] ∷ []) (suc room)
+    enumeration_good (plain_name (codes "EnumerateResponse") refl) (
+      leaf_good enumeration (codes "EnumerationContext") [] room enumeration_good (plain_name (codes "EnumerationContext") refl) empty_text,
+      (
+        holder_good management (codes "Items") items room management_good (plain_name (codes "Items") refl) good,
+        (leaf_good management (codes "EndOfSequence") [] room management_good (plain_name (codes "EndOfSequence") refl) empty_text, tt),
+      ),
+    )
+
+offers_good : (ids : List MessageId) (offers : List Offer) (room : ℕ) → AllByRecursion IsXmlId ids → AllByRecursion OfferCanStand offers
+    → AreGoodElements (offer_elements ids offers) (suc (suc (suc (suc (suc (suc (suc (suc room))))))))
+offers_good [] offers room spelt stand = tt
+offers_good (id ∷ ids) [] room spelt stand = tt
+offers_good (id ∷ ids) (o ∷ offers) room spelt stand =
+    (offer_good id o room spelt.0 stand.0.version stand.0.subscribe.0 stand.0.subscribe.1, offers_good ids offers room spelt.1 stand.1)
+
+pub answer_good : (ids : List MessageId) (offers : List Offer) (room : ℕ) → AllByRecursion IsXmlId ids → AllByRecursion OfferCanStand offers
+    → IsGoodElement (offers_element ids offers) (suc (suc (suc (suc (suc (suc (suc (suc (suc (suc room))))))))))
+answer_good ids offers room spelt stand = response_good (offer_elements ids offers) (suc (suc (suc (suc (suc (suc (suc (suc room)))))))) (offers_good ids offers room spelt stand)
+
+-- ids without a text are such as XML allows
+unnamed_good : (offers : List Offer) → AllByRecursion IsXmlId (no_ids offers)
+unnamed_good [] = tt
+unnamed_good (o ∷ offers) = (empty_text, unnamed_good offers)
+
+pub no_ids_good : (offers : List Offer) → All IsXmlId (no_ids offers)
+no_ids_good offers = All-from_recursion IsXmlId (no_ids offers) (unnamed_good offers)
+
+-- ---- lists that grow
+
+pub with_last : (es : List Element) (e : Element) (room : ℕ) → AreGoodElements es room → IsGoodElement e room → AreGoodElements (es ++ e ∷ []) room
+with_last [] e room good last = (last, tt)
+with_last (x ∷ es) e room good last = (good.0, with_last es e room good.1 last)
+
+-- no offer is left
+pub none_left : (ids : List MessageId) → offer_elements ids [] ≡ []
+none_left [] = refl
+none_left (id ∷ ids) = refl

@@ -1,0 +1,8 @@
+use Rattle.std.proofs.Common.{sym, subst, ◌∙◌}
+use Rattle.std.specs.List.{All}
+use Rattle.wef_bodies.specs.Laws.{IsXmlId}
+use Rattle.wef_bodies.proofs.GoodBodies.{no_ids_good}
+use Rattle.wef_bodies.proofs.writing.write_unnamed.Goals as goal
+
+pub write_offers-requires-clause-ids : goal.write_offers-requires-clause-ids
+write_offers-requires-clause-ids c = subst (All IsXmlId) (sym (c.as_slice.ensures ∙ c.in_ok-ids.ensures)) (no_ids_good c.args.offers.now)

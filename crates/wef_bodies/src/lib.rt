@@ -1,0 +1,19 @@
+//! The bodies of messages: what their elements say, and the elements that are written for them.
+#![tactic(auto)]
+
+pub mod addresses;
+pub mod bodies;
+pub mod children;
+pub mod laws;
+pub mod limits;
+pub mod offers;
+pub mod reading;
+pub mod spaces;
+pub mod subscribes;
+pub mod wishes;
+pub mod writing;
+
+pub use bodies::{Body, BodyFault, Part};
+pub use offers::offers_in as read_offers;
+pub use reading::{has_enumerate, read_body};
+pub use writing::{write_body, write_offers};

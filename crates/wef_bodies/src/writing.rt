@@ -1,0 +1,192 @@
+//! Writing bodies.
+
+ghost use Rattle.std.specs.Prelude.{◌≡◌, ◌++◌, ◌∷◌, [], IfOk, OnOk};
+ghost use Rattle.std.specs.List.{All};
+ghost use Rattle.wef_elements.specs.Good.{AreGoodElements};
+ghost use Rattle.wef_eventing.specs.Sending.{CanBeOffered, HasXmlTexts};
+ghost use Rattle.wef_xml.specs.Good.{IsGoodElement};
+ghost use Rattle.wef_bodies.specs.Laws.{CanBeWritten, IsXmlId};
+ghost use Rattle.wef_bodies.specs.Written.{body_elements, enumerate_element, no_ids, offer_element, offer_elements, offer_envelope, offers_element, response_element, subscribe_element};
+
+use crate::bodies::Body;
+use crate::spaces::{anonymous, enumeration, event_log, most_elements, subscribe, subscription};
+use crate::wishes::{names_are_kept, subscribe_element};
+use std::alloc::{AllocError, Global};
+use wef_base::{Element, List, Text};
+use wef_elements::{management, with_elements, with_text};
+use wef_envelope::{Envelope, to_node};
+use wef_eventing::{Offer, Subscribe};
+use wef_ids::{MessageId, read_id};
+
+/// The elements that say a body, as good trees with room for the envelope round them. The envelopes
+/// in offers have an empty MessageID. Texts must hold characters that XML allows; the names in a body
+/// do by themselves.
+pub fn write_body(alloc: Global, body: &Body) -> Result<List<Element>, AllocError>
+    requires { CanBeWritten body.now }
+    ensures value { IfOk result (λ elements. elements ≡ body_elements body.now) }
+    ensures good { IfOk result (λ elements. AreGoodElements elements 62) }
+{
+    match body {
+        Body::Enumerate => write_enumerate(alloc),
+        Body::Offers(offers) => write_unnamed(alloc, offers.as_slice()),
+        Body::Subscribe(wish) => write_subscribe(alloc, wish),
+    }
+}
+
+/// The elements that answer Enumerate with offers, as good trees with room for the envelope round
+/// them. The envelope in each has the next of the ids, so only as many offers are written as there
+/// are ids.
+pub fn write_offers(
+    alloc: Global,
+    offers: &[Offer],
+    ids: &[MessageId],
+) -> Result<List<Element>, AllocError>
+    requires offers { All CanBeOffered offers.now }
+    requires ids { All IsXmlId ids.now }
+    ensures value { IfOk result (λ elements. elements ≡ offers_element ids.now offers.now ∷ []) }
+    ensures good { IfOk result (λ elements. AreGoodElements elements 62) }
+{
+    let items = offer_elements(alloc, offers, ids)?;
+    body_of(alloc, response_element(alloc, items)?)
+}
+
+fn write_enumerate(alloc: Global) -> Result<List<Element>, AllocError>
+    ensures value { IfOk result (λ elements. elements ≡ enumerate_element ∷ []) }
+    ensures good { IfOk result (λ elements. AreGoodElements elements 62) }
+{
+    body_of(alloc, enumerate_element(alloc)?)
+}
+
+fn write_subscribe(alloc: Global, wish: &Subscribe) -> Result<List<Element>, AllocError>
+    requires { HasXmlTexts wish.now }
+    ensures value { IfOk result (λ elements. elements ≡ subscribe_element wish.now ∷ []) }
+    ensures good { IfOk result (λ elements. AreGoodElements elements 62) }
+{
+    names_are_kept(wish);
+    body_of(alloc, subscribe_element(alloc, wish)?)
+}
+
+/// The elements of offers whose envelopes have no id yet.
+fn write_unnamed(alloc: Global, offers: &[Offer]) -> Result<List<Element>, AllocError>
+    requires { All CanBeOffered offers.now }
+    ensures value { IfOk result (λ elements. elements ≡ offers_element (no_ids offers.now) offers.now ∷ []) }
+    ensures good { IfOk result (λ elements. AreGoodElements elements 62) }
+{
+    let ids = no_ids(alloc, offers)?;
+    write_offers(alloc, offers, ids.as_slice())
+}
+
+/// The elements of a Body that has one.
+fn body_of(alloc: Global, element: Element) -> Result<List<Element>, AllocError>
+    requires { IsGoodElement element 62 }
+    ensures value { IfOk result (λ elements. elements ≡ element ∷ []) }
+    ensures good { IfOk result (λ elements. AreGoodElements elements 62) }
+{
+    let elements = only(alloc, element)?;
+    Ok(elements)
+}
+
+/// Ids without a text, one for each offer.
+fn no_ids(alloc: Global, offers: &[Offer]) -> Result<List<MessageId>, AllocError>
+    ensures { IfOk result (λ ids. ids ≡ no_ids offers.now) }
+{
+    let mut ids = List::new(alloc);
+    for _offer in offers {
+        ids.push(read_id(&Text::new(alloc))?)?;
+    }
+    Ok(ids)
+}
+
+fn only(alloc: Global, element: Element) -> Result<List<Element>, AllocError>
+    ensures { IfOk result (λ elements. elements ≡ element ∷ []) }
+{
+    let mut elements = List::new(alloc);
+    elements.push(element)?;
+    Ok(elements)
+}
+
+/// The element that asks for offers.
+fn enumerate_element(alloc: Global) -> Result<Element, AllocError>
+    ensures { IfOk result (λ e. e ≡ enumerate_element) }
+{
+    let mut parts = List::new(alloc);
+    parts.push(with_text(management(alloc)?, "OptimizeEnumeration", Text::new(alloc))?)?;
+    parts.push(with_text(management(alloc)?, "MaxElements", most_elements(alloc)?)?)?;
+    with_elements(enumeration(alloc)?, "Enumerate", parts)
+}
+
+/// The element that answers with the elements of offers.
+fn response_element(alloc: Global, items: List<Element>) -> Result<Element, AllocError>
+    ensures { IfOk result (λ e. e ≡ response_element items) }
+{
+    let mut parts = List::new(alloc);
+    parts.push(with_text(enumeration(alloc)?, "EnumerationContext", Text::new(alloc))?)?;
+    parts.push(with_elements(management(alloc)?, "Items", items)?)?;
+    parts.push(with_text(management(alloc)?, "EndOfSequence", Text::new(alloc))?)?;
+    with_elements(enumeration(alloc)?, "EnumerateResponse", parts)
+}
+
+/// An element for each offer, with the next of the ids.
+fn offer_elements(
+    alloc: Global,
+    offers: &[Offer],
+    ids: &[MessageId],
+) -> Result<List<Element>, AllocError>
+    requires offers { All CanBeOffered offers.now }
+    requires ids { All IsXmlId ids.now }
+    ensures value { IfOk result (λ elements. elements ≡ offer_elements ids.now offers.now) }
+    ensures good { IfOk result (λ elements. AreGoodElements elements 60) }
+{
+    let mut elements = List::new(alloc);
+    let mut left = ids;
+    for offer in offers {
+        let Some((id, more)) = left.split_first() else {
+            return Ok(elements);
+        };
+        elements.push(good_offer(alloc, offer, id)?)?;
+        left = more;
+    }
+    Ok(elements)
+}
+
+fn good_offer(alloc: Global, offer: &Offer, id: &MessageId) -> Result<Element, AllocError>
+    requires offer { CanBeOffered offer.now }
+    requires id { IsXmlId id.now }
+    ensures value { IfOk result (λ e. e ≡ offer_element id.now offer.now) }
+    ensures good { IfOk result (λ e. IsGoodElement e 60) }
+{
+    names_are_kept(&offer.subscribe);
+    let element = offer_element(alloc, offer, id)?;
+    Ok(element)
+}
+
+fn offer_element(alloc: Global, offer: &Offer, id: &MessageId) -> Result<Element, AllocError>
+    ensures { IfOk result (λ e. e ≡ offer_element id.now offer.now) }
+{
+    let nested = to_node(&offer_envelope(alloc, &offer.subscribe, id)?)?;
+    let mut parts = List::new(alloc);
+    parts.push(with_text(subscription(alloc)?, "Version", offer.version.clone()?)?)?;
+    parts.push(nested)?;
+    with_elements(subscription(alloc)?, "Subscription", parts)
+}
+
+/// The envelope that an offer holds.
+#[tactic(auto, unfolding(crate::specs::Written::offer_envelope))]
+fn offer_envelope(alloc: Global, wish: &Subscribe, id: &MessageId) -> Result<Envelope, AllocError>
+    ensures { IfOk result (λ e. e ≡ offer_envelope id.now wish.now) }
+{
+    Ok(Envelope {
+        to: Some(anonymous(alloc)?),
+        resource: Some(event_log(alloc)?),
+        reply_to: Some(anonymous(alloc)?),
+        action: subscribe(alloc)?,
+        id: id.clone()?,
+        relates: None,
+        machine: None,
+        max_size: None,
+        identifier: None,
+        bookmark: None,
+        ack_wanted: false,
+        body: only(alloc, subscribe_element(alloc, wish)?)?,
+    })
+}
