@@ -9,5 +9,6 @@ pub mod Moving
 pub mod OfStore
 pub mod OwnKeys
 pub mod Pages
+pub mod Shown
 pub mod Taking
 pub mod Whole

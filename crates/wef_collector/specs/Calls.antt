@@ -23,6 +23,10 @@ use Rattle.wef_collector_rows.specs.declared.standings.Standing.TheVariants as i
 abbrev pub Effect : Type 0
 Effect = keeper.Effect CollectorFault
 
+-- a call that only reads
+abbrev pub no_effect : Rows → Effect
+no_effect rows = Ok []
+
 -- a subscription more, where its name isn't there and there is room
 abbrev pub add_effect : Rows → Subscription → Effect
 add_effect rows s =

@@ -1,13 +1,14 @@
 -- What the collector offers to a source that asks.
 use Rattle.std.specs.Prelude.{ℕ, Bool, true, false, ◌&&◌, List, Option, Some, None, if◌then◌else◌}
-use Rattle.std.specs.Fmt.{decimal}
-use Rattle.std.specs.List.{filter_map}
+use Rattle.std.specs.List.{All, filter_map}
 use Rattle.wef_bookmark.specs.Order.{Marks}
 use Rattle.wef_eventing.specs.Addresses.{delivery_address}
-use Rattle.wef_eventing.specs.declared.bodies.Offer.{Offer}
+use Rattle.wef_eventing.specs.Sending.{CanBeOffered}
+use Rattle.wef_eventing.specs.declared.offers.Offer.{Offer}
 use Rattle.wef_eventing.specs.declared.subscriptions.SubKind.{SubKind}
 use Rattle.wef_eventing.specs.declared.subscriptions.SubKind.TheVariants.{BySource, ByCollector}
 use Rattle.wef_eventing.specs.declared.subscriptions.Subscription.{Subscription}
+use Rattle.wef_ids.specs.IdTexts.{id_text}
 use Rattle.wef_keeper.specs.Rows.{Rows}
 use Rattle.wef_collector_rows.specs.Bookmarks.{bookmark_of}
 use Rattle.wef_collector_reports.specs.Listing.{listed}
@@ -22,11 +23,11 @@ begins_at_sources ByCollector = false
 abbrev pub is_offered : Listed → Bool
 is_offered l = l.live && begins_at_sources l.subscription.kind
 
--- an offer of a subscription to a source: its version in decimal digits, and a wish for the events above a bookmark,
+-- an offer of a subscription to a source: its version as the text of an id, and a wish for the events above a bookmark,
 -- at the address of both at the host
 abbrev pub offer_from : Marks → List ℕ → List ℕ → Subscription → Offer
 offer_from from s host subscription = record {
-  version = decimal subscription.version;
+  version = id_text subscription.version;
   subscribe = record {
     notify_to = delivery_address host subscription.name s;
     end_to = Some (delivery_address host subscription.name s);
@@ -51,3 +52,7 @@ offer_of rows s host l = if is_offered l then Some (offer_made rows s host l.sub
 -- the offers to a source, whose batches go to the host: one for each subscription that is offered, in the order of names
 abbrev pub offers : Rows → List ℕ → List ℕ → List Offer
 offers rows s host = filter_map (offer_of rows s host) (listed rows)
+
+-- each offer's texts can stand in a message
+abbrev pub CanAllBeOffered : List Offer → Type 0
+CanAllBeOffered list = All CanBeOffered list

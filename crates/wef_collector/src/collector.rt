@@ -25,7 +25,8 @@ ghost use Rattle.wef_collector_reports.specs.Report.{report};
 ghost use Rattle.wef_collector.specs.Boots.{ids_begun};
 ghost use Rattle.wef_collector.specs.Calls as calls;
 ghost use Rattle.wef_collector.specs.Judged as judged;
-ghost use Rattle.wef_collector.specs.Offers.{offers};
+ghost use Rattle.wef_collector.specs.Offers.{CanAllBeOffered, offers};
+ghost use Rattle.wef_eventing.specs.Addresses.{IsHost};
 
 use crate::reading::{bookmark_in, held_in, list_in, offers_in, report_in, state_in};
 use crate::requests::{Request, answer, raise_boot};
@@ -224,7 +225,9 @@ impl<K: Keeper> Collector<K> {
     ) -> Result<List<Offer>, CollectorFault>
         ensures ok { IfSome (K.store self.new.keeper).rows (λ rows. IfOk result (λ list. list ≡ offers rows source.now host.now)) }
         ensures judged { IfSome (K.store self.new.keeper).rows (λ rows. OnOk result (judged.AreOffersJudged rows source.now)) }
+        ensures texts { IsHost host.now → IfOk result CanAllBeOffered }
         ensures refusal { IfErr result answers.IsOfStore }
+        ensures call { IsCall collector_store AreFormed calls.no_effect (λ rows. offers rows source.now host.now) result (K.store self.old.keeper) (K.store self.new.keeper) }
         ensures looks { Looks collector_store AreFormed result (K.store self.old.keeper) (K.store self.new.keeper) }
         ensures ids { self.new.ids ≡ self.old.ids }
     {

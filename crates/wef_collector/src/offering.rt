@@ -1,9 +1,12 @@
 //! The offers to sources that ask for their subscriptions.
 
 ghost use Rattle.std.specs.Prelude.{◌≡◌, [], ◌∷◌, ◌++◌, true, IfOk, IfSome, OnOk};
-ghost use Rattle.std.specs.Fmt.{decimal};
-ghost use Rattle.std.specs.List.{filter_map, list_all};
+ghost use Rattle.std.specs.List.{All, filter_map, list_all};
+ghost use Rattle.wef_eventing.specs.Addresses.{IsHost};
+ghost use Rattle.wef_eventing.specs.Sending.{AreXmlQueries, CanBeOffered};
+ghost use Rattle.wef_xml.specs.Good.{IsXmlText};
 ghost use Rattle.wef_keeper.specs.Access as access;
+ghost use Rattle.wef_collector_reports.specs.Listing.{IsXmlListed};
 ghost use Rattle.wef_collector_rows.specs.Bookmarks.{bookmark_rows};
 ghost use Rattle.wef_collector_rows.specs.Forms.{AreFormed};
 ghost use Rattle.wef_collector_rows.specs.Judged.{AreAllFormed};
@@ -11,11 +14,12 @@ ghost use Rattle.wef_collector.specs.Judged as judged;
 ghost use Rattle.wef_collector.specs.Offers as spec;
 
 use std::alloc::{AllocError, Global};
-use wef_base::{List, SourceName, Text};
+use wef_base::{List, SourceName, SubId, Text};
 use wef_bookmark::Bookmark;
 use wef_collector_reports::listing::{Listed, list_subscriptions};
 use wef_collector_rows::bookmarks::bookmark_of;
 use wef_eventing::{Offer, SubKind, Subscribe, Subscription, delivery_address};
+use wef_ids::id_text;
 use wef_keeper::{Keeper, StoreFault};
 
 /// The offers to a source, in the order of their subscriptions' names. Batches for them go to the
@@ -29,6 +33,7 @@ pub fn offers_to<K: Keeper>(
     requires { access.IsReady (K.store keeper.old) }
     ensures offers { IfSome (K.store keeper.new).rows (λ rows. IfOk result (λ offers. offers ≡ spec.offers rows source.now host.now)) }
     ensures judged { IfSome (K.store keeper.new).rows (λ rows. OnOk result (judged.AreOffersJudged rows source.now)) }
+    ensures texts { IsHost host.now → IfOk result spec.CanAllBeOffered }
     ensures reads { access.Reads AreFormed (access.fails result) (K.store keeper.old) (K.store keeper.new) }
 {
     let subscriptions = list_subscriptions(keeper, alloc)?;
@@ -44,9 +49,11 @@ fn push_offers<K: Keeper>(
     host: &Text,
     subscriptions: &[Listed],
 ) -> Result<(), StoreFault>
-    requires { access.IsReady (K.store keeper.old) }
+    requires ready { access.IsReady (K.store keeper.old) }
+    requires texts { All IsXmlListed subscriptions.now }
     ensures offers { IfSome (K.store keeper.new).rows (λ rows. OnOk result (offers.new ≡ offers.old ++ filter_map (spec.offer_of rows source.now host.now) subscriptions.now)) }
     ensures judged { IfSome (K.store keeper.new).rows (λ rows. OnOk result (list_all (judged.is_offer_formed rows source.now) subscriptions.now ≡ true)) }
+    ensures texts { OnOk result (IsHost host.now → spec.CanAllBeOffered offers.old → spec.CanAllBeOffered offers.new) }
     ensures reads { access.Reads AreFormed (access.fails result) (K.store keeper.old) (K.store keeper.new) }
 {
     for listed in subscriptions {
@@ -62,9 +69,11 @@ fn push_offer<K: Keeper>(
     host: &Text,
     listed: &Listed,
 ) -> Result<(), StoreFault>
-    requires { access.IsReady (K.store keeper.old) }
+    requires ready { access.IsReady (K.store keeper.old) }
+    requires texts { IsXmlListed listed.now }
     ensures offers { IfSome (K.store keeper.new).rows (λ rows. OnOk result (offers.new ≡ offers.old ++ filter_map (spec.offer_of rows source.now host.now) (listed.now ∷ []))) }
     ensures judged { IfSome (K.store keeper.new).rows (λ rows. OnOk result (judged.is_offer_formed rows source.now listed.now ≡ true)) }
+    ensures texts { OnOk result (IsHost host.now → spec.CanAllBeOffered offers.old → spec.CanAllBeOffered offers.new) }
     ensures reads { access.Reads AreFormed (access.fails result) (K.store keeper.old) (K.store keeper.new) }
 {
     if !is_offered(listed) {
@@ -96,9 +105,11 @@ fn offer_made<K: Keeper>(
     host: &Text,
     subscription: &Subscription,
 ) -> Result<Offer, StoreFault>
-    requires { access.IsReady (K.store keeper.old) }
+    requires ready { access.IsReady (K.store keeper.old) }
+    requires texts { AreXmlQueries subscription.now.query.items }
     ensures offer { IfSome (K.store keeper.new).rows (λ rows. IfOk result (λ offer. offer ≡ spec.offer_made rows source.now host.now subscription.now)) }
     ensures judged { IfSome (K.store keeper.new).rows (λ rows. OnOk result (AreAllFormed (bookmark_rows rows subscription.now.name source.now))) }
+    ensures texts { IsHost host.now → IfOk result CanBeOffered }
     ensures reads { access.Reads AreFormed (access.fails result) (K.store keeper.old) (K.store keeper.new) }
 {
     let from = bookmark_of(keeper, &subscription.name, source)?;
@@ -112,16 +123,18 @@ fn offer_from(
     host: &Text,
     subscription: &Subscription,
 ) -> Result<Offer, AllocError>
-    ensures { IfOk result (λ offer. offer ≡ spec.offer_from from source.now host.now subscription.now) }
+    requires { AreXmlQueries subscription.now.query.items }
+    ensures offer { IfOk result (λ offer. offer ≡ spec.offer_from from source.now host.now subscription.now) }
+    ensures texts { IsHost host.now → IfOk result CanBeOffered }
 {
     let name = &subscription.name;
     let address = delivery_address(host, name, source)?;
     Ok(Offer {
-        version: digits(host.alloc(), subscription.version)?,
+        version: id_text(host.alloc(), u128::from(subscription.version))?,
         subscribe: Subscribe {
             end_to: Some(address.clone()?),
             notify_to: address,
-            identifier: Some(name.as_text().clone()?),
+            identifier: Some(text_of(name)?),
             query: subscription.query.clone(host.alloc())?,
             max_items: subscription.max_items,
             max_bytes: subscription.max_bytes,
@@ -132,10 +145,12 @@ fn offer_from(
     })
 }
 
-fn digits(alloc: Global, number: u64) -> Result<Text, AllocError>
-    ensures { IfOk result (λ text. text ≡ decimal number) }
+/// The text of a subscription's name.
+#[tactic(auto, using(wef_eventing::proofs::NameTexts::allowed_name))]
+fn text_of(name: &SubId) -> Result<Text, AllocError>
+    ensures value { IfOk result (λ text. text ≡ name.now) }
+    ensures allowed { IfOk result IsXmlText }
 {
-    let mut text = Text::new(alloc);
-    text.push_number(number)?;
-    Ok(text)
+    let name = name.as_text();
+    Text::from_str(name.alloc(), name.as_str())
 }

@@ -1,7 +1,7 @@
 //! The calls that only read: each opens the store, and tests each row that it reads.
 
 ghost use Rattle.std.specs.Prelude.{◌≡◌, ◌≤◌, ◌++◌, true, take, IfOk, IfErr, IfSome, OnOk};
-ghost use Rattle.wef_keeper.specs.Calls.{Looks};
+ghost use Rattle.wef_keeper.specs.Calls.{IsCall, Looks};
 ghost use Rattle.wef_collector_rows.specs.Answers as answers;
 ghost use Rattle.wef_collector_rows.specs.Bookmarks.{bookmark_of, bookmark_rows};
 ghost use Rattle.wef_collector_rows.specs.Faults.{collector_store};
@@ -14,8 +14,10 @@ ghost use Rattle.wef_collector_rows.specs.declared.standings.Standing.TheVariant
 ghost use Rattle.wef_collector_reports.specs.Judged.{is_report_formed};
 ghost use Rattle.wef_collector_reports.specs.Listing.{listed};
 ghost use Rattle.wef_collector_reports.specs.Report.{report};
+ghost use Rattle.wef_collector.specs.Calls.{no_effect};
 ghost use Rattle.wef_collector.specs.Judged as judged;
-ghost use Rattle.wef_collector.specs.Offers.{offers};
+ghost use Rattle.wef_collector.specs.Offers.{CanAllBeOffered, offers};
+ghost use Rattle.wef_eventing.specs.Addresses.{IsHost};
 
 use crate::offering::offers_to;
 use std::alloc::Global;
@@ -93,7 +95,9 @@ pub fn offers_in<K: Keeper>(
 ) -> Result<List<Offer>, CollectorFault>
     ensures ok { IfSome (K.store keeper.new).rows (λ rows. IfOk result (λ list. list ≡ offers rows source.now host.now)) }
     ensures judged { IfSome (K.store keeper.new).rows (λ rows. OnOk result (judged.AreOffersJudged rows source.now)) }
+    ensures texts { IsHost host.now → IfOk result CanAllBeOffered }
     ensures refusal { IfErr result answers.IsOfStore }
+    ensures call { IsCall collector_store AreFormed no_effect (λ rows. offers rows source.now host.now) result (K.store keeper.old) (K.store keeper.new) }
     ensures looks { Looks collector_store AreFormed result (K.store keeper.old) (K.store keeper.new) }
 {
     open(keeper)?;

@@ -1,9 +1,10 @@
 -- The subscriptions that the rows keep, live or ended.
 use Rattle.std.specs.Prelude.{ℕ, ◌==◌, List, Option}
-use Rattle.std.specs.List.{filter_map}
+use Rattle.std.specs.List.{AllByRecursion, filter_map}
 use Rattle.std.specs.Option.{option_and_then, option_map}
 use Rattle.wef_base.specs.Names.{subscription_name}
 use Rattle.wef_eventing.specs.Kept.{read_kept}
+use Rattle.wef_eventing.specs.Sending.{AreXmlQueries}
 use Rattle.wef_eventing.specs.declared.subscriptions.Subscription.{Subscription}
 use Rattle.wef_keeper.specs.Rows.{Rows}
 use Rattle.wef_keeper.specs.declared.keys.Row.{Row}
@@ -20,3 +21,10 @@ listed_of row = option_and_then (λ u. option_map (listed_by row.value) (read_ke
 -- the subscriptions of all rows that read back, in the order of their names
 abbrev pub listed : Rows → List Listed
 listed rows = filter_map listed_of (subscription_rows rows)
+
+-- each text of the queries of listed subscriptions holds characters that XML allows
+abbrev pub IsXmlListed : Listed → Type 0
+IsXmlListed l = AreXmlQueries l.subscription.query.items
+
+abbrev pub AreXmlListed : List Listed → Type 0
+AreXmlListed list = AllByRecursion IsXmlListed list

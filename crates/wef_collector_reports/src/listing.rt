@@ -32,6 +32,7 @@ pub fn list_subscriptions<K: Keeper>(
     requires { access.IsReady (K.store keeper.old) }
     ensures list { IfSome (K.store keeper.new).rows (λ rows. IfOk result (λ list. list ≡ spec.listed rows)) }
     ensures judged { IfSome (K.store keeper.new).rows (λ rows. OnOk result (AreAllFormed (standings.subscription_rows rows))) }
+    ensures texts { IfOk result spec.AreXmlListed }
     ensures reads { access.Reads AreFormed (access.fails result) (K.store keeper.old) (K.store keeper.new) }
 {
     let subscriptions = subscription_rows(keeper, alloc)?;
@@ -50,7 +51,8 @@ pub fn subscription_rows<K: Keeper>(keeper: &mut K, alloc: Global) -> Result<Lis
 }
 
 fn listed_in(alloc: Global, rows: &[Row]) -> Result<List<Listed>, AllocError>
-    ensures { IfOk result (λ list. list ≡ filter_map spec.listed_of rows.now) }
+    ensures list { IfOk result (λ list. list ≡ filter_map spec.listed_of rows.now) }
+    ensures texts { IfOk result spec.AreXmlListed }
 {
     let mut list = List::new(alloc);
     for row in rows {
@@ -60,7 +62,8 @@ fn listed_in(alloc: Global, rows: &[Row]) -> Result<List<Listed>, AllocError>
 }
 
 fn push_listed(list: &mut List<Listed>, row: &Row) -> Result<(), AllocError>
-    ensures { OnOk result (list.new ≡ list.old ++ filter_map spec.listed_of (row.now ∷ [])) }
+    ensures list { OnOk result (list.new ≡ list.old ++ filter_map spec.listed_of (row.now ∷ [])) }
+    ensures texts { OnOk result (spec.AreXmlListed list.old → spec.AreXmlListed list.new) }
 {
     match listed_of(row)? {
         Some(listed) => list.push(listed),
@@ -69,7 +72,8 @@ fn push_listed(list: &mut List<Listed>, row: &Row) -> Result<(), AllocError>
 }
 
 fn listed_of(row: &Row) -> Result<Option<Listed>, AllocError>
-    ensures { IfOk result (λ listed. listed ≡ spec.listed_of row.now) }
+    ensures listed { IfOk result (λ listed. listed ≡ spec.listed_of row.now) }
+    ensures texts { IfOk result (λ listed. IfSome listed spec.IsXmlListed) }
 {
     let name = match SubId::read(&row.key.sub) {
         Ok(name) => name,

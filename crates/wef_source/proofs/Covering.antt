@@ -18,7 +18,7 @@ use Rattle.wef_base.specs.declared.numbers.TheConstants.{MAX}
 use Rattle.wef_bookmark.specs.Entries.{AreEntries}
 use Rattle.wef_bookmark.specs.Order.{Marks, joined, raised}
 use Rattle.wef_bookmark.proofs.Joining.{both, joined_has, order, raised_has}
-use Rattle.wef_eventing.specs.declared.bodies.Subscribe.{Subscribe}
+use Rattle.wef_eventing.specs.declared.offers.Subscribe.{Subscribe}
 use Rattle.wef_query.specs.Selected.{channels_of}
 use Rattle.wef_source.specs.Serving.{AreKept, HasAll, HasEach, IsCovered}
 use Rattle.wef_source.proofs.InOrder.{none_in_order}

@@ -5,7 +5,7 @@ use Rattle.wef_bookmark.specs.Order.{Marks}
 use Rattle.wef_ids.specs.IdTexts.{id_of_value}
 use Rattle.wef_ids.specs.Ids.{ids_agree}
 use Rattle.wef_ids.specs.declared.MessageId.{MessageId}
-use Rattle.wef_eventing.specs.declared.bodies.Offer.{Offer}
+use Rattle.wef_eventing.specs.declared.offers.Offer.{Offer}
 use Rattle.wef_keeper.specs.Rows.{Rows}
 use Rattle.wef_source.specs.Machine.{End, acknowledged_in, adopted, asked, delivery_of, is_idle, is_spent, lost_in, next_id, refused_in, sent}
 use Rattle.wef_source.specs.Sessions.{is_named, sending, session_of, waiting, with_changed}

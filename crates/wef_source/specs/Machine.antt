@@ -1,6 +1,6 @@
 -- A source as a machine: what it holds, and what each call makes of it.
 use Rattle.std.specs.Prelude.{ℕ, ◌+◌, ◌*◌, ◌==◌, nat_le, Bool, true, false, List, [], length, is_some, Option, Some, None, if◌then◌else◌}
-use Rattle.wef_eventing.specs.declared.bodies.Offer.{Offer}
+use Rattle.wef_eventing.specs.declared.offers.Offer.{Offer}
 use Rattle.wef_ids.specs.IdTexts.{id_of_value}
 use Rattle.wef_ids.specs.declared.FaultName.{FaultName}
 use Rattle.wef_ids.specs.declared.FaultName.TheVariants.{DestinationUnreachable}

@@ -7,8 +7,8 @@ use Rattle.std.specs.declared.cmp.Ordering.TheVariants.{Less, Equal, Greater}
 use Rattle.wef_base.specs.Names.{same}
 use Rattle.wef_bookmark.specs.Order.{Marks, joined, raised}
 use Rattle.wef_eventing.specs.Addresses.{subscription_in}
-use Rattle.wef_eventing.specs.declared.bodies.Offer.{Offer}
-use Rattle.wef_eventing.specs.declared.bodies.Subscribe.{Subscribe}
+use Rattle.wef_eventing.specs.declared.offers.Offer.{Offer}
+use Rattle.wef_eventing.specs.declared.offers.Subscribe.{Subscribe}
 use Rattle.wef_query.specs.Selected.{channels_of}
 use Rattle.wef_source.specs.declared.serving.Answer.{Answer}
 use Rattle.wef_source.specs.declared.serving.Answer.TheVariants.{Taken, Refused}

@@ -1,0 +1,30 @@
+use Rattle.std.proofs.Common.{refl}
+use Rattle.std.proofs.lemmas.Result.{err_from_is_err_and}
+use Rattle.wef_keeper.proofs.Calls.{not_opened}
+use Rattle.wef_collector_rows.specs.Faults.{collector_fault, collector_store}
+use Rattle.wef_collector_rows.specs.Forms.{AreFormed}
+use Rattle.wef_collector.specs.Calls.{no_effect}
+use Rattle.wef_collector.specs.Offers.{offers}
+use Rattle.wef_collector.proofs.OfStore.{of_collector_fault}
+use Rattle.wef_collector.proofs.Shown.{not_shown, shown}
+use Rattle.wef_collector.proofs.reading.offers_in.Goals as goal
+
+pub returns-in_err-open-clause-call : goal.returns-in_err-open-clause-call
+returns-in_err-open-clause-call g c =
+    let fault = c.in_err-open.field-0.0 in
+    let opened = c.in_err-open.ensures in
+    let p = err_from_is_err_and c.from_residual.result c.from_residual.ensures.1 in
+    rw (p.1, p.2) (not_opened collector_store AreFormed no_effect (λ rows. offers rows c.args.source.now c.args.host.now) fault (collector_fault fault)
+    (g.K.Keeper.store c.args.keeper.now) (g.K.Keeper.store c.open.new.keeper) (of_collector_fault fault) (g.met.K.Keeper.few_images c.args.keeper.now) opened.found opened.opened opened.refused)
+
+pub returns-in_err-offers_to-clause-call : goal.returns-in_err-offers_to-clause-call
+returns-in_err-offers_to-clause-call g c =
+    let p = err_from_is_err_and c.from_residual-in_err-offers_to.result c.from_residual-in_err-offers_to.ensures.1 in
+    rw (p.1, p.2) (not_shown (λ rows. offers rows c.args.source.now c.args.host.now) c.in_err-offers_to.field-0.0
+    (g.K.Keeper.store c.args.keeper.now) (g.K.Keeper.store c.open.new.keeper) (g.K.Keeper.store c.offers_to.new.keeper) (c.in_ok-open.ensures.found refl) c.in_ok-open.ensures.opened c.in_err-offers_to.ensures.reads)
+
+pub returns-clause-call : goal.returns-clause-call
+returns-clause-call g c =
+    let now = g.K.Keeper.store c.offers_to.new.keeper in
+    shown (λ rows. offers rows c.args.source.now c.args.host.now) c.in_ok-offers_to.field-0 (g.K.Keeper.store c.args.keeper.now) (g.K.Keeper.store c.open.new.keeper) now
+    (g.met.K.Keeper.no_doubt c.offers_to.new.keeper c.in_ok-offers_to.ensures.reads.0.0.1) (c.in_ok-open.ensures.found refl) c.in_ok-open.ensures.opened c.in_ok-offers_to.ensures.reads c.in_ok-offers_to.ensures.offers
