@@ -13,7 +13,7 @@ use Rattle.wef_ids.specs.declared.FaultName.{FaultName}
 use Rattle.wef_ids.specs.declared.FaultName.TheVariants as the
 use Rattle.wef_ids.specs.declared.ids.Ids.{Ids}
 use Rattle.wef_base.specs.Names.{same, source_name, subscription_name}
-use Rattle.wef_envelope.specs.declared.actions.TheConstants.{EVENTS}
+use Rattle.wef_envelope.specs.declared.actions.TheConstants.{ENUMERATE, EVENTS}
 use Rattle.wef_xml.specs.declared.faults.TreeFault.{TreeFault}
 use Rattle.wef_xml.specs.declared.faults.TreeFault.TheVariants as tree
 use Rattle.wef_keeper.specs.Access.{HasCause}
@@ -21,18 +21,22 @@ use Rattle.wef_keeper.specs.Keeping.{Store}
 use Rattle.wef_keeper.specs.Rows.{Rows}
 use Rattle.wef_collector_rows.specs.Forms.{AreFormed}
 use Rattle.wef_collector_rows.specs.declared.faults.CollectorFault.TheVariants.{NoMemory, NoSubscription, Exists, Ended, NotWellFormed, TooMany, Failed, Full}
-use Rattle.wef_collector.specs.Calls.{Effect}
-use Rattle.wef_front.specs.Heard.{Hears, HearsRead, asked_at, asked_by, asked_of, batch_in, events_asked, is_nameless}
+use Rattle.wef_collector.specs.Calls.{Effect, no_effect}
+use Rattle.wef_collector.specs.Offers.{offers}
+use Rattle.wef_eventing.specs.declared.offers.Offer.{Offer}
+use Rattle.wef_bodies.specs.Reading.{has_enumerate}
+use Rattle.std.specs.Option.{option_and_then}
+use Rattle.wef_front.specs.Heard.{Hears, HearsRead, asked_at, asked_by, asked_of, batch_in, enumerate_asked, events_asked, is_elsewhere, is_nameless, manager_asked, named_asked}
 use Rattle.wef_front.specs.Replies.{IsAnswer}
-use Rattle.wef_front.specs.Steps.{Says, Steps, effect_in}
+use Rattle.wef_front.specs.Steps.{SaysFor, Steps, batch_said, done_said, effect_in}
 use Rattle.wef_front.specs.declared.hearing.Asked.{Asked}
-use Rattle.wef_front.specs.declared.hearing.Asked.TheVariants.{Refused, Unread, Take}
+use Rattle.wef_front.specs.declared.hearing.Asked.TheVariants.{Refused, Enumerate, Unread, Take}
 use Rattle.wef_front.specs.declared.answering.Answer.{Answer}
 use Rattle.wef_front.specs.declared.hearing.Heard.{Heard}
 use Rattle.wef_front.specs.declared.saying.Said.{Said}
 use Rattle.wef_front.specs.declared.targets.Target.{Target}
 use Rattle.wef_front.specs.declared.targets.Target.TheVariants.{Manager, Delivery, Root}
-use Rattle.wef_front.specs.declared.saying.Said.TheVariants.{Ack, Quiet, Fault}
+use Rattle.wef_front.specs.declared.saying.Said.TheVariants.{Offers, Fault}
 
 abbrev is_internal : FaultName → Bool
 is_internal the.InternalError = true
@@ -42,6 +46,7 @@ is_internal _ = false
 
 abbrev IsOther : Asked → Type 0
 IsOther (Refused name) = is_internal name ≡ false
+IsOther (Enumerate s) = Unit {0}
 IsOther (Unread u) = Unit {0}
 IsOther (Take u s batch) = Unit {0}
 
@@ -51,8 +56,27 @@ events_other (Some u) None batch = tt
 events_other (Some u) (Some s) (Err fault) = tt
 events_other (Some u) (Some s) (Ok batch) = tt
 
+named_other : (source : Option (List ℕ)) → IsOther (named_asked source)
+named_other None = refl
+named_other (Some s) = tt
+
+enumerate_other : (e : Envelope) → IsOther (enumerate_asked e)
+enumerate_other e = by (is_elsewhere e.resource) (has_enumerate e.body)
+  where
+    by : (elsewhere there : Bool) → IsOther (cond elsewhere (Refused the.DestinationUnreachable) (cond there (named_asked (option_and_then source_name e.machine)) (Refused the.InvalidMessage)))
+    by true there = refl
+    by false true = named_other (option_and_then source_name e.machine)
+    by false false = refl
+
+manager_other : (e : Envelope) → IsOther (manager_asked e)
+manager_other e = by (same e.action ENUMERATE.now)
+  where
+    by : (asks : Bool) → IsOther (cond asks (enumerate_asked e) (Refused the.ActionNotSupported))
+    by true = enumerate_other e
+    by false = refl
+
 at_other : (target : Target) (e : Envelope) → IsOther (asked_at target e)
-at_other Manager e = refl
+at_other Manager e = manager_other e
 at_other Root e = refl
 at_other (Delivery sub source) e = by (same e.action EVENTS.now)
   where
@@ -85,20 +109,28 @@ read_other target (Err (tree.Refused at)) heard is = let P : Heard → Type 0 = 
 
 -- ---- and each call that is answered so failed
 
-no_ack : (ack : Bool) → cond ack Ack Quiet ≡ Fault the.InternalError → ⊥
+-- what isn't a fault says no such one
+abbrev IsNoFault : {T : Type 0} → (T → Said) → Type 0
+IsNoFault {T = T} tell = (given : T) → tell given ≡ Fault the.InternalError → ⊥
+
+no_ack : (ack : Bool) → done_said ack ≡ Fault the.InternalError → ⊥
 no_ack true is = cc
 no_ack false is = cc
 
-says_cause : (ack : Bool) (effect : Rows → Effect) (said : Said) (before now : Store) → Says ack effect said before now → said ≡ Fault the.InternalError → HasCause AreFormed true before now
-says_cause ack effect said before now (Ok done, call, answered, is) internal = absurd (no_ack ack (sym is ∙ internal))
-says_cause ack effect said before now (Err NoSubscription, call, answered, is) internal = let bad : ⊥ = cc in absurd bad
-says_cause ack effect said before now (Err Ended, call, answered, is) internal = let bad : ⊥ = cc in absurd bad
-says_cause ack effect said before now (Err NotWellFormed, call, answered, is) internal = let bad : ⊥ = cc in absurd bad
-says_cause ack effect said before now (Err Failed, call, answered, is) internal = call.cause
-says_cause ack effect said before now (Err NoMemory, call, answered, is) internal = absurd answered
-says_cause ack effect said before now (Err Exists, call, answered, is) internal = absurd answered
-says_cause ack effect said before now (Err TooMany, call, answered, is) internal = absurd answered
-says_cause ack effect said before now (Err Full, call, answered, is) internal = absurd answered
+no_offers : (list : List Offer) → Offers list ≡ Fault the.InternalError → ⊥
+no_offers list is = cc
+
+says_cause : {T : Type 0} (tell : T → Said) (gives : Rows → T) (effect : Rows → Effect) (said : Said) (before now : Store) → IsNoFault tell → SaysFor tell gives effect said before now
+    → said ≡ Fault the.InternalError → HasCause AreFormed true before now
+says_cause tell gives effect said before now other (Ok done, call, answered, is) internal = absurd (other done (sym is ∙ internal))
+says_cause tell gives effect said before now other (Err NoSubscription, call, answered, is) internal = let bad : ⊥ = cc in absurd bad
+says_cause tell gives effect said before now other (Err Ended, call, answered, is) internal = let bad : ⊥ = cc in absurd bad
+says_cause tell gives effect said before now other (Err NotWellFormed, call, answered, is) internal = let bad : ⊥ = cc in absurd bad
+says_cause tell gives effect said before now other (Err Failed, call, answered, is) internal = call.cause
+says_cause tell gives effect said before now other (Err NoMemory, call, answered, is) internal = absurd answered
+says_cause tell gives effect said before now other (Err Exists, call, answered, is) internal = absurd answered
+says_cause tell gives effect said before now other (Err TooMany, call, answered, is) internal = absurd answered
+says_cause tell gives effect said before now other (Err Full, call, answered, is) internal = absurd answered
 
 name_internal : (name : FaultName) → is_internal name ≡ false → Fault name ≡ Fault the.InternalError → ⊥
 name_internal the.InternalError other is = cc
@@ -116,14 +148,19 @@ name_internal the.InvalidEnumerationContext other is = cc
 name_internal the.MustUnderstand other is = cc
 name_internal (the.Other text) other is = cc
 
-steps_cause : (asked : Asked) (moment : ℕ) (said : Said) (before now : Store) → IsOther asked → Steps asked moment said before now → said ≡ Fault the.InternalError → HasCause AreFormed true before now
-steps_cause (Refused name) moment said before now other stepped internal = absurd (name_internal name other (sym stepped.0 ∙ internal))
-steps_cause (Unread u) moment said before now other stepped internal = says_cause false (effect_in (Unread u) moment) said before now stepped.0 internal
-steps_cause (Take u s batch) moment said before now other stepped internal = says_cause batch.ack_wanted (effect_in (Take u s batch) moment) said before now stepped internal
+steps_cause : (host : List ℕ) (asked : Asked) (moment : ℕ) (said : Said) (before now : Store) → IsOther asked → Steps host asked moment said before now → said ≡ Fault the.InternalError
+    → HasCause AreFormed true before now
+steps_cause host (Refused name) moment said before now other stepped internal = absurd (name_internal name other (sym stepped.0 ∙ internal))
+steps_cause host (Enumerate s) moment said before now other stepped internal =
+    says_cause Offers (λ rows. offers rows s host) no_effect said before now no_offers stepped internal
+steps_cause host (Unread u) moment said before now other stepped internal =
+    says_cause (batch_said false) (λ rows. tt) (effect_in (Unread u) moment) said before now (λ done. no_ack false) stepped.0 internal
+steps_cause host (Take u s batch) moment said before now other stepped internal =
+    says_cause (batch_said batch.ack_wanted) (λ rows. tt) (effect_in (Take u s batch) moment) said before now (λ done. no_ack batch.ack_wanted) stepped internal
 
 pub internal_errors_have_a_cause :
-    (target : Target) (charset charset_of_answer : Charset) (bytes : List ℕ) (heard : Heard) (moment : ℕ) (answer : Answer) (ids ids_now : Ids) (before now : Store) →
-    Hears target charset bytes heard → (is : IsAnswer heard charset_of_answer moment answer ids ids_now before now) → is.said ≡ Fault the.InternalError →
+    (host : List ℕ) (target : Target) (charset charset_of_answer : Charset) (bytes : List ℕ) (heard : Heard) (moment : ℕ) (answer : Answer) (ids ids_now : Ids) (before now : Store) →
+    Hears target charset bytes heard → (is : IsAnswer host heard charset_of_answer moment answer ids ids_now before now) → is.said ≡ Fault the.InternalError →
     HasCause AreFormed true before now
-internal_errors_have_a_cause target charset charset_of_answer bytes heard moment answer ids ids_now before now hears is internal =
-    steps_cause heard.asked moment is.said before now (read_other target hears.0 heard hears.2) is.stepped internal
+internal_errors_have_a_cause host target charset charset_of_answer bytes heard moment answer ids ids_now before now hears is internal =
+    steps_cause host heard.asked moment is.said before now (read_other target hears.0 heard hears.2) is.stepped internal

@@ -1,10 +1,14 @@
 pub mod ByRows
 pub mod Causes
 pub mod DeliveriesAreHeard
+pub mod Draws
+pub mod EnumeratesAreHeard
 pub mod IdTexts
 pub mod Numbered
+pub mod OffersAreHeard
 pub mod OneIsHeard
 pub mod ReadIsGood
 pub mod RepliesAreGood
 pub mod RepliesAreHeard
 pub mod SaidOfCalls
+pub mod SourceNames

@@ -28,7 +28,7 @@ action_good None = plain_text MANAGEMENT_FAULT.now refl
 
 -- ---- envelopes
 
-reply_good : (action : List ℕ) (body : List Element) (id : MessageId) (relates : Option MessageId) → IsXmlText action → AreGoodElements body 62 → IsXmlText id.text
+pub reply_good : (action : List ℕ) (body : List Element) (id : MessageId) (relates : Option MessageId) → IsXmlText action → AreGoodElements body 62 → IsXmlText id.text
     → IfSome relates (λ (x : MessageId). IsXmlText x.text) → IsGoodTree (written (envelope_with action body id relates))
 reply_good action body id relates named good spelt related =
     written_is_good (envelope_with action body id relates) 60 (record {

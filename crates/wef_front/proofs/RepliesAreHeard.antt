@@ -34,7 +34,7 @@ use Rattle.wef_front.specs.HeardReplies.{fault_among, id_told, told, told_by, to
 use Rattle.wef_front.specs.Laws.{RepliesAreRead}
 use Rattle.wef_front.specs.Replies.{IsKnownReply, ack_envelope, answer_of, envelope_with, fault_envelope, reply_bytes}
 use Rattle.wef_front.specs.declared.saying.Said.TheVariants.{Ack, Fault as FaultSaid}
-use Rattle.wef_front.proofs.IdTexts.{id_text_good, id_text_trimmed}
+use Rattle.wef_ids.proofs.PlainIds.{id_text_good, id_text_trimmed}
 use Rattle.wef_front.proofs.RepliesAreGood.{ack_reply_good, fault_reply_good}
 
 -- ---- envelopes
@@ -73,7 +73,7 @@ reply_plain action body id relates named spelt related = record {
 }
 
 -- what is written for it says it, with the id of the text
-reply_said : (action : List ℕ) (body : List Element) (text : List ℕ) (relates : MessageId) → IsTrimmed action → IsTrimmed text → IsSpelt relates
+pub reply_said : (action : List ℕ) (body : List Element) (text : List ℕ) (relates : MessageId) → IsTrimmed action → IsTrimmed text → IsSpelt relates
     → said (written (envelope_with action body (id_of text) (Some relates))) ≡ Ok (envelope_with action body (id_of text) (Some relates))
 reply_said action body text relates named spelt related =
     written_is_read (envelope_with action body (id_of text) (Some relates)) (reply_plain action body (id_of text) relates named (record { trimmed = spelt; value = refl }) related)

@@ -1,21 +1,38 @@
 -- A call of the collector, and what is said of how it went.
-use Rattle.std.proofs.Common.{◌≡◌, Bool, true, false, refl, sym, subst}
+use Rattle.std.proofs.Common.{◌≡◌, ℕ, Bool, true, false, List, refl, sym, subst}
 use Rattle.std.specs.Prelude.{Result, IfErr, IfOk, IsErr}
 use Rattle.std.specs.declared.result.Result.TheVariants.{Ok, Err}
 use Rattle.wef_keeper.specs.Keeping.{Store}
 use Rattle.wef_keeper.specs.Rows.{Rows}
 use Rattle.wef_collector_rows.specs.declared.faults.CollectorFault.{CollectorFault}
 use Rattle.wef_collector_rows.specs.declared.faults.CollectorFault.TheVariants.{NoMemory, NoSubscription, Exists, Ended, NotWellFormed, TooMany, Failed, Full}
-use Rattle.wef_collector.specs.Calls.{Effect}
+use Rattle.wef_collector.specs.Calls.{Effect, no_effect}
 use Rattle.wef_envelope.specs.Faults.{is_known}
-use Rattle.wef_front.specs.Steps.{Calls, IsAnswered, IsFault, IsKnownSaid, Says, fault_for, said_of}
+use Rattle.wef_front.specs.Steps.{Calls, CallsFor, IsAnswered, IsFault, IsKnownSaid, Says, SaysFor, SaysOffers, batch_said, fault_for, said_of, said_with}
+use Rattle.wef_front.specs.declared.saying.Said.TheVariants.{Offers}
+use Rattle.wef_collector.specs.Offers.{CanAllBeOffered, offers}
+use Rattle.wef_eventing.specs.declared.offers.Offer.{Offer}
 use Rattle.wef_front.specs.declared.saying.Said.{Said}
 
+says_for :
+    {T E : Type 0} (tell : T → Said) (gives : Rows → T) (effect : Rows → Effect) (done : Result T CollectorFault) (result : Result Said E) (before now : Store) →
+    CallsFor gives effect done before now → IfOk result (λ said. IfErr done IsAnswered) → IfOk result (λ said. said ≡ said_with tell done) →
+    IfOk result (λ said. SaysFor tell gives effect said before now)
+says_for tell gives effect done (Ok said) before now call answered is = (done, call, answered, is)
+says_for tell gives effect done (Err fault) before now call answered is = tt
+
+-- of a batch
 pub says_of :
     {E : Type 0} (ack : Bool) (effect : Rows → Effect) (done : Result (Unit {0}) CollectorFault) (result : Result Said E) (before now : Store) →
     Calls effect done before now → IfOk result (λ said. IfErr done IsAnswered) → IfOk result (λ said. said ≡ said_of ack done) → IfOk result (λ said. Says ack effect said before now)
-says_of ack effect done (Ok said) before now call answered is = (done, call, answered, is)
-says_of ack effect done (Err fault) before now call answered is = tt
+says_of ack effect done result before now call answered is = says_for (batch_said ack) (λ rows. tt) effect done result before now call answered is
+
+-- of the offers to a source
+pub offers_of :
+    {E : Type 0} (host s : List ℕ) (done : Result (List Offer) CollectorFault) (result : Result Said E) (before now : Store) →
+    CallsFor (λ rows. offers rows s host) no_effect done before now → IfOk result (λ said. IfErr done IsAnswered) → IfOk result (λ said. said ≡ said_with Offers done) →
+    IfOk result (λ said. SaysOffers host s said before now)
+offers_of host s done result before now call answered is = says_for Offers (λ rows. offers rows s host) no_effect done result before now call answered is
 
 -- what is refused is said to be a fault
 refused_said : {E : Type 0} (done : Result (Unit {0}) CollectorFault) (result : Result Said E) → IsErr done → IfOk result (λ said. said ≡ said_of false done) → IfOk result IsFault
@@ -46,11 +63,16 @@ fault_known TooMany = refl
 fault_known Failed = refl
 fault_known Full = refl
 
--- what is said of a call has a name of the table, if it is a fault
-pub said_known : {T : Type 0} (ack : Bool) (done : Result T CollectorFault) → IsKnownSaid (said_of ack done)
+-- what is said of a batch has a name of the table, if it is a fault
+pub said_known : (ack : Bool) (done : Result (Unit {0}) CollectorFault) → IsKnownSaid (said_of ack done)
 said_known true (Ok done) = tt
 said_known false (Ok done) = tt
 said_known ack (Err fault) = fault_known fault
 
 pub says_known : (ack : Bool) (effect : Rows → Effect) (said : Said) (before now : Store) → Says ack effect said before now → IsKnownSaid said
 says_known ack effect said before now (done, call, answered, is) = subst IsKnownSaid (sym is) (said_known ack done)
+
+-- so has what is said where offers were asked for, and their texts can stand in a message
+pub offers_known : (done : Result (List Offer) CollectorFault) → IfOk done CanAllBeOffered → IsKnownSaid (said_with Offers done)
+offers_known (Ok list) can = can
+offers_known (Err fault) can = fault_known fault

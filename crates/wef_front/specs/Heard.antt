@@ -1,6 +1,7 @@
 -- What a message asks of the collector, by where it came to and by its tree; or why it is refused, where nothing that is kept
 -- decides that.
-use Rattle.std.specs.Prelude.{◌≡◌, ℕ, Bool, true, ◌&&◌, not, is_some, IfSome, List, Option, Some, None, Result, if◌then◌else◌}
+use Rattle.std.specs.Option.{option_and_then}
+use Rattle.std.specs.Prelude.{◌≡◌, ℕ, Bool, true, false, ◌&&◌, not, is_some, IfSome, List, Option, Some, None, Result, if◌then◌else◌}
 use Rattle.std.specs.declared.result.Result.TheVariants.{Ok, Err}
 use Rattle.wef_base.specs.Names.{same, source_name, subscription_name}
 use Rattle.wef_base.specs.declared.tree.Charset.{Charset}
@@ -11,7 +12,8 @@ use Rattle.wef_batch.specs.declared.items.Batch.{Batch}
 use Rattle.wef_batch.specs.declared.reading.BatchFault.{BatchFault}
 use Rattle.wef_envelope.specs.Envelopes.{id_in, said}
 use Rattle.wef_envelope.specs.Faults.{is_known}
-use Rattle.wef_envelope.specs.declared.actions.TheConstants.{ENUMERATE, EVENTS}
+use Rattle.wef_bodies.specs.Reading.{has_enumerate}
+use Rattle.wef_envelope.specs.declared.actions.TheConstants.{ENUMERATE, EVENTS, SUBSCRIPTIONS}
 use Rattle.wef_envelope.specs.declared.envelopes.Envelope.{Envelope}
 use Rattle.wef_envelope.specs.declared.envelopes.EnvelopeFault.{EnvelopeFault}
 use Rattle.wef_envelope.specs.declared.envelopes.EnvelopeFault.TheVariants as envelope
@@ -23,7 +25,7 @@ use Rattle.wef_xml.specs.Good.{IsXmlText}
 use Rattle.wef_xml.specs.declared.faults.TreeFault.{TreeFault}
 use Rattle.wef_xml.specs.declared.faults.TreeFault.TheVariants as tree
 use Rattle.wef_front.specs.declared.hearing.Asked.{Asked}
-use Rattle.wef_front.specs.declared.hearing.Asked.TheVariants.{Refused, Unread, Take}
+use Rattle.wef_front.specs.declared.hearing.Asked.TheVariants.{Refused, Enumerate, Unread, Take}
 use Rattle.wef_front.specs.declared.hearing.Heard.{Heard}
 use Rattle.wef_front.specs.declared.targets.Target.{Target}
 use Rattle.wef_front.specs.declared.targets.Target.TheVariants.{Manager, Delivery, Root}
@@ -42,6 +44,24 @@ events_asked (Some u) (Some s) (Ok batch) = Take u s batch
 abbrev pub batch_in : Envelope → Result Batch BatchFault
 batch_in e = batch_of e.bookmark e.ack_wanted e.body
 
+-- ---- subscriptions
+
+-- a resource other than the subscriptions of a collector; one that isn't named counts as this one
+abbrev pub is_elsewhere : Option (List ℕ) → Bool
+is_elsewhere None = false
+is_elsewhere (Some resource) = not (same resource SUBSCRIPTIONS.now)
+
+-- a source's wish for its subscriptions, by the name that it gives
+abbrev pub named_asked : Option (List ℕ) → Asked
+named_asked None = Refused the.InvalidMessage
+named_asked (Some s) = Enumerate s
+
+-- what an Enumerate asks (WS-Enumeration, 3.1)
+abbrev pub enumerate_asked : Envelope → Asked
+enumerate_asked e =
+    if is_elsewhere e.resource then Refused the.DestinationUnreachable
+    else (if has_enumerate e.body then named_asked (option_and_then source_name e.machine) else Refused the.InvalidMessage)
+
 -- ---- actions
 
 -- whether an envelope asks for the subscriptions of a source, and doesn't name it
@@ -53,9 +73,13 @@ abbrev pub delivery_asked : List ℕ → List ℕ → Envelope → Asked
 delivery_asked sub source e =
     if same e.action EVENTS.now then events_asked (subscription_name sub) (source_name source) (batch_in e) else Refused the.ActionNotSupported
 
--- what it asks at a target; no action is one of the others yet
+-- what an envelope asks of the collector itself, by its action
+abbrev pub manager_asked : Envelope → Asked
+manager_asked e = if same e.action ENUMERATE.now then enumerate_asked e else Refused the.ActionNotSupported
+
+-- what it asks at a target; no action is one of a source yet
 abbrev pub asked_at : Target → Envelope → Asked
-asked_at Manager e = Refused the.ActionNotSupported
+asked_at Manager e = manager_asked e
 asked_at (Delivery sub source) e = delivery_asked sub source e
 asked_at Root e = Refused the.ActionNotSupported
 
@@ -102,6 +126,7 @@ Hears target charset bytes heard = (read : Result Element TreeFault) × ReadsTre
 -- a fault that is answered has a name of the table, and a batch has numbers of records
 abbrev pub IsSoundAsk : Asked → Type 0
 IsSoundAsk (Refused name) = is_known name ≡ true
+IsSoundAsk (Enumerate s) = Unit {0}
 IsSoundAsk (Unread u) = Unit {0}
 IsSoundAsk (Take u s batch) = AreNumbered batch.items
 

@@ -1,6 +1,6 @@
 -- The collector's answers are the replies that the rows which it finds give, unless its store fails; and it says so only where
 -- it fails.
-use Rattle.std.specs.Prelude.{◌≡◌, ℕ, ◌<◌, ◌^◌, true, ◌⊎◌, List, Some, Ok, Err, IfSome, if◌then◌else◌}
+use Rattle.std.specs.Prelude.{◌≡◌, ℕ, ◌<◌, ◌^◌, true, ◌⊎◌, List, Some, None, Ok, Err, IfSome, if◌then◌else◌}
 use Rattle.wef_base.specs.declared.tree.Charset.{Charset}
 use Rattle.wef_base.specs.declared.tree.Charset.TheVariants.{Utf8}
 use Rattle.wef_envelope.specs.Faults.{is_known}
@@ -18,19 +18,22 @@ use Rattle.wef_keeper.specs.declared.access.StoreFault.TheVariants.{Failed}
 use Rattle.wef_keeper.specs.declared.keeping.Plan.{Plan}
 use Rattle.wef_collector_rows.specs.Forms.{AreFormed}
 use Rattle.wef_collector.specs.Calls.{Effect}
+use Rattle.wef_bodies.specs.Laws.{IsPlainOffer, OfferCanStand}
+use Rattle.wef_eventing.specs.declared.offers.Offer.{Offer}
+use Rattle.std.specs.List.{AllByRecursion}
 use Rattle.wef_source.specs.declared.messages.Reply as source
 use Rattle.wef_source.specs.declared.messages.Reply.TheVariants as replies
 use Rattle.wef_xml.specs.Good.{IsXmlText}
 use Rattle.wef_front.specs.Heard.{Hears}
-use Rattle.wef_front.specs.HeardReplies.{id_told, told}
-use Rattle.wef_front.specs.Replies.{IsAnswer, IsKnownReply, answer_of, ids_behind, reply, reply_bytes}
+use Rattle.wef_front.specs.HeardReplies.{id_told, offers_told, told}
+use Rattle.wef_front.specs.Replies.{IsAnswer, IsKnownReply, IsSpeltFor, answer_of, ids_behind, reply, reply_bytes}
 use Rattle.wef_front.specs.Steps.{effect_in, said_by}
 use Rattle.wef_front.specs.declared.answering.Answer.{Answer}
 use Rattle.wef_front.specs.declared.hearing.Asked.{Asked}
 use Rattle.wef_front.specs.declared.hearing.Asked.TheVariants.{Refused}
 use Rattle.wef_front.specs.declared.hearing.Heard.{Heard}
 use Rattle.wef_front.specs.declared.saying.Said.{Said}
-use Rattle.wef_front.specs.declared.saying.Said.TheVariants.{Ack, Fault}
+use Rattle.wef_front.specs.declared.saying.Said.TheVariants.{Ack, Fault, Offers}
 use Rattle.wef_front.specs.declared.targets.Target.{Target}
 
 -- ---- by rows
@@ -41,8 +44,8 @@ tries_by (Ok changes) tries = tries_with changes tries
 tries_by (Err fault) tries = tries
 
 -- an answer is the reply to what was heard, and at most one commit began
-pub record IsReply (heard : Heard) (charset : Charset) (moment : ℕ) (answer : Answer) (ids ids_now : Ids) (before now : Store) (found after : Rows) : Type 0 where
-  pub reply : record { answer = answer; rows = after; ids = ids_now } ≡ reply heard charset moment ids found
+pub record IsReply (host : List ℕ) (heard : Heard) (charset : Charset) (moment : ℕ) (answer : Answer) (ids ids_now : Ids) (before now : Store) (found after : Rows) : Type 0 where
+  pub reply : record { answer = answer; rows = after; ids = ids_now } ≡ reply host heard charset moment ids found
   pub tries : now.tries ≡ tries_by (effect_in heard.asked moment found) before.tries
 
 -- An answer says that the store failed: the count of its faults rose, or rows aren't told or not of their form. An opening
@@ -59,37 +62,37 @@ IsAside heard charset answer ids ids_now before now said =
     (answer ≡ answer_of ids charset heard.relates said) × (ids_now ≡ ids_behind ids said) × (now ≡ before)
 
 -- by what was heard
-abbrev pub GoesByRows : Asked → Heard → Charset → ℕ → Answer → Ids → Ids → Store → Store → Type 0
-GoesByRows (Refused name) heard charset moment answer ids ids_now before now = IsAside heard charset answer ids ids_now before now (Fault name)
-GoesByRows _ heard charset moment answer ids ids_now before now =
+abbrev pub GoesByRows : List ℕ → Asked → Heard → Charset → ℕ → Answer → Ids → Ids → Store → Store → Type 0
+GoesByRows host (Refused name) heard charset moment answer ids ids_now before now = IsAside heard charset answer ids ids_now before now (Fault name)
+GoesByRows host _ heard charset moment answer ids ids_now before now =
     From before now (λ found after.
-    IsReply heard charset moment answer ids ids_now before now found after ⊎ HasFailed heard charset moment answer ids ids_now before now)
+    IsReply host heard charset moment answer ids ids_now before now found after ⊎ HasFailed heard charset moment answer ids ids_now before now)
 
 abbrev pub AnswersAreReplies : Type 0
 AnswersAreReplies =
-    (heard : Heard) (charset : Charset) (moment : ℕ) (answer : Answer) (ids ids_now : Ids) (before now : Store) →
-    IsAnswer heard charset moment answer ids ids_now before now →
-    GoesByRows heard.asked heard charset moment answer ids ids_now before now
+    (host : List ℕ) (heard : Heard) (charset : Charset) (moment : ℕ) (answer : Answer) (ids ids_now : Ids) (before now : Store) →
+    IsAnswer host heard charset moment answer ids ids_now before now →
+    GoesByRows host heard.asked heard charset moment answer ids ids_now before now
 
 -- ---- by plan
 
 -- what is said where a commit goes as it is planned
-abbrev pub said_planned : Plan → Asked → Effect → Said
-said_planned planned asked (Ok changes) = if is_planned changes planned then said_by asked (Ok changes) else Fault InternalError
-said_planned planned asked (Err fault) = said_by asked (Err fault)
+abbrev pub said_planned : Plan → List ℕ → Asked → Rows → Effect → Said
+said_planned planned host asked found (Ok changes) = if is_planned changes planned then said_by host asked found (Ok changes) else Fault InternalError
+said_planned planned host asked found (Err fault) = said_by host asked found (Err fault)
 
 -- over rows of their form, and a store that tells its plan, the answer goes by it alone
-abbrev pub GoesByPlan : Asked → Heard → Charset → ℕ → Answer → Ids → Store → Store → Type 0
-GoesByPlan (Refused name) heard charset moment answer ids before now = Unit {0}
-GoesByPlan asked heard charset moment answer ids before now =
+abbrev pub GoesByPlan : List ℕ → Asked → Heard → Charset → ℕ → Answer → Ids → Store → Store → Type 0
+GoesByPlan host (Refused name) heard charset moment answer ids before now = Unit {0}
+GoesByPlan host asked heard charset moment answer ids before now =
     From before now (λ found after. IfSome before.plan (λ planned.
-    AreFormed found → answer ≡ answer_of ids charset heard.relates (said_planned planned asked (effect_in asked moment found))))
+    AreFormed found → answer ≡ answer_of ids charset heard.relates (said_planned planned host asked found (effect_in asked moment found))))
 
 abbrev pub AnswersGoByPlan : Type 0
 AnswersGoByPlan =
-    (heard : Heard) (charset : Charset) (moment : ℕ) (answer : Answer) (ids ids_now : Ids) (before now : Store) →
-    IsAnswer heard charset moment answer ids ids_now before now →
-    GoesByPlan heard.asked heard charset moment answer ids before now
+    (host : List ℕ) (heard : Heard) (charset : Charset) (moment : ℕ) (answer : Answer) (ids ids_now : Ids) (before now : Store) →
+    IsAnswer host heard charset moment answer ids ids_now before now →
+    GoesByPlan host heard.asked heard charset moment answer ids before now
 
 -- ---- what is heard
 
@@ -104,8 +107,8 @@ OneIsHeard =
 -- The collector says so only where the count of its store's faults rose, or its rows aren't told or not of their form.
 abbrev pub InternalErrorsHaveACause : Type 0
 InternalErrorsHaveACause =
-    (target : Target) (charset charset_of_answer : Charset) (bytes : List ℕ) (heard : Heard) (moment : ℕ) (answer : Answer) (ids ids_now : Ids) (before now : Store) →
-    Hears target charset bytes heard → (is : IsAnswer heard charset_of_answer moment answer ids ids_now before now) → is.said ≡ Fault InternalError →
+    (host : List ℕ) (target : Target) (charset charset_of_answer : Charset) (bytes : List ℕ) (heard : Heard) (moment : ℕ) (answer : Answer) (ids ids_now : Ids) (before now : Store) →
+    Hears target charset bytes heard → (is : IsAnswer host heard charset_of_answer moment answer ids ids_now before now) → is.said ≡ Fault InternalError →
     HasCause AreFormed true before now
 
 -- ---- ids
@@ -133,3 +136,11 @@ pub record RepliesAreRead : Type 0 where
   pub id :
       (id relates : MessageId) (answer : source.Reply) → IsSpelt id → IsXmlText id.text → IsSpelt relates → IsXmlText relates.text → IsKnownReply answer →
       id_told (reply_bytes id relates answer) ≡ Some id
+
+-- The answer to an Enumerate tells a source these offers, as the answer to its message, and no other reply. For that they must
+-- be offers that can be written and read again, and ids such as are drawn.
+abbrev pub OffersAreHeard : Type 0
+OffersAreHeard =
+    (now : ℕ) (ids : Ids) (relates : MessageId) (list : List Offer) → IsSpelt relates → IsXmlText relates.text → AllByRecursion IsPlainOffer list → AllByRecursion OfferCanStand list →
+    IsSpeltFor ids (Offers list) →
+    (told (answer_of ids Utf8 (Some relates) (Offers list)).body ≡ None) × (offers_told now (answer_of ids Utf8 (Some relates) (Offers list)).body ≡ Some (relates, list))

@@ -1,12 +1,15 @@
 -- The replies of the collector, as they are written.
-use Rattle.std.specs.Prelude.{◌≡◌, ℕ, true, false, ◌⊎◌, List, [], ◌∷◌, Option, Some, None, Ok, Err}
+use Rattle.std.specs.Prelude.{◌≡◌, ℕ, zero, suc, true, false, List, [], ◌∷◌, length, Option, Some, None, Ok, Err}
+use Rattle.std.specs.List.{AllByRecursion}
 use Rattle.wef_base.specs.declared.tree.Charset.{Charset}
 use Rattle.wef_base.specs.declared.tree.Charset.TheVariants.{Utf8}
 use Rattle.wef_base.specs.declared.tree.Element.{Element}
+use Rattle.wef_bodies.specs.Written.{offers_element}
+use Rattle.wef_eventing.specs.declared.offers.Offer.{Offer}
 use Rattle.wef_envelope.specs.Faults.{action_of, fault_of, fault_tree, is_known}
 use Rattle.wef_envelope.specs.Laws.{IsSpelt}
 use Rattle.wef_envelope.specs.Written.{written}
-use Rattle.wef_envelope.specs.declared.actions.TheConstants.{ACK, ANONYMOUS}
+use Rattle.wef_envelope.specs.declared.actions.TheConstants.{ACK, ANONYMOUS, ENUMERATE_RESPONSE}
 use Rattle.wef_envelope.specs.declared.envelopes.Envelope.{Envelope}
 use Rattle.wef_ids.specs.IdTexts.{id_of_value}
 use Rattle.wef_ids.specs.Ids.{next_id, with_drawn}
@@ -23,7 +26,7 @@ use Rattle.wef_front.specs.Steps.{HasStepped, Steps, effect_in, said_by}
 use Rattle.wef_front.specs.declared.answering.Answer.{Answer}
 use Rattle.wef_front.specs.declared.hearing.Heard.{Heard}
 use Rattle.wef_front.specs.declared.saying.Said.{Said}
-use Rattle.wef_front.specs.declared.saying.Said.TheVariants.{Ack, Quiet, Fault}
+use Rattle.wef_front.specs.declared.saying.Said.TheVariants.{Ack, Quiet, Offers, Fault}
 
 -- an envelope that answers another: it goes to whoever asked
 abbrev pub envelope_with : List ℕ → List Element → MessageId → Option MessageId → Envelope
@@ -48,19 +51,33 @@ ack_envelope id relates = envelope_with ACK.now [] id relates
 abbrev pub fault_envelope : FaultName → MessageId → Option MessageId → Envelope
 fault_envelope name id relates = envelope_with (action_of name) (fault_tree (fault_of name) ∷ []) id relates
 
+-- the ids behind so many draws, one after the other
+abbrev pub ids_after : ℕ → Ids → Ids
+ids_after zero ids = ids
+ids_after (suc more) ids = ids_after more (with_drawn 1 ids)
+
+-- so many ids, as they are drawn one after the other
+abbrev pub drawn_ids : ℕ → Ids → List MessageId
+drawn_ids zero ids = []
+drawn_ids (suc more) ids = id_of_value (next_id ids) ∷ drawn_ids more (with_drawn 1 ids)
+
+-- the ids of the envelopes in offers: those that are drawn behind the answer's own, in the order of the offers
+abbrev pub nested_ids : Ids → List Offer → List MessageId
+nested_ids ids list = drawn_ids (length list) (with_drawn 1 ids)
+
+abbrev pub offers_envelope : MessageId → List MessageId → Option MessageId → List Offer → Envelope
+offers_envelope id nested relates list = envelope_with ENUMERATE_RESPONSE.now (offers_element nested list ∷ []) id relates
+
 -- an answer that has an envelope
 abbrev pub answer_with : ℕ → Charset → Envelope → Answer
 answer_with status charset e = record { status = status; body = encoded charset (canonical (written e)) }
 
--- the answer in which something is said, under an id
-abbrev pub answer_under : MessageId → Charset → Option MessageId → Said → Answer
-answer_under id charset relates Quiet = record { status = 204; body = [] }
-answer_under id charset relates Ack = answer_with 200 charset (ack_envelope id relates)
-answer_under id charset relates (Fault name) = answer_with 500 charset (fault_envelope name id relates)
-
--- the same under the next id of an end
+-- the answer in which something is said, under the next id of an end
 abbrev pub answer_of : Ids → Charset → Option MessageId → Said → Answer
-answer_of ids charset relates said = answer_under (id_of_value (next_id ids)) charset relates said
+answer_of ids charset relates Quiet = record { status = 204; body = [] }
+answer_of ids charset relates Ack = answer_with 200 charset (ack_envelope (id_of_value (next_id ids)) relates)
+answer_of ids charset relates (Offers list) = answer_with 200 charset (offers_envelope (id_of_value (next_id ids)) (nested_ids ids list) relates list)
+answer_of ids charset relates (Fault name) = answer_with 500 charset (fault_envelope name (id_of_value (next_id ids)) relates)
 
 -- the bytes of a reply to a source, under an id
 abbrev pub reply_bytes : MessageId → MessageId → source.Reply → List ℕ
@@ -76,12 +93,14 @@ IsKnownReply (replies.Fault name) = is_known name ≡ true
 abbrev pub ids_behind : Ids → Said → Ids
 ids_behind ids Quiet = ids
 ids_behind ids Ack = with_drawn 1 ids
+ids_behind ids (Offers list) = ids_after (length list) (with_drawn 1 ids)
 ids_behind ids (Fault name) = with_drawn 1 ids
 
--- where something is said under an id, that is the id of its text
+-- where something is said under an id, that is the id of its text; so are those of the envelopes in offers
 abbrev pub IsSpeltFor : Ids → Said → Type 0
 IsSpeltFor ids Quiet = Unit {0}
 IsSpeltFor ids Ack = IsSpelt (id_of_value (next_id ids))
+IsSpeltFor ids (Offers list) = IsSpelt (id_of_value (next_id ids)) × AllByRecursion IsSpelt (nested_ids ids list)
 IsSpeltFor ids (Fault name) = IsSpelt (id_of_value (next_id ids))
 
 -- What the collector answers, the rows that it leaves, and its ids then.
@@ -95,26 +114,27 @@ abbrev pub rows_by : Effect → Rows → Rows
 rows_by (Ok changes) rows = applied changes rows
 rows_by (Err fault) rows = rows
 
--- The reply to what was heard at a moment, by the rows that the collector finds, where its store doesn't fail.
-abbrev pub reply : Heard → Charset → ℕ → Ids → Rows → Reply
-reply heard charset moment ids rows = record {
-  answer = answer_of ids charset heard.relates (said_by heard.asked (effect_in heard.asked moment rows));
+-- The reply to what was heard at a moment, by the rows that the collector finds, where its store doesn't fail. Batches come to
+-- the host.
+abbrev pub reply : List ℕ → Heard → Charset → ℕ → Ids → Rows → Reply
+reply host heard charset moment ids rows = record {
+  answer = answer_of ids charset heard.relates (said_by host heard.asked rows (effect_in heard.asked moment rows));
   rows = rows_by (effect_in heard.asked moment rows) rows;
-  ids = ids_behind ids (said_by heard.asked (effect_in heard.asked moment rows));
+  ids = ids_behind ids (said_by host heard.asked rows (effect_in heard.asked moment rows));
 }
 
--- where there was no memory for the answer, an id may be drawn
+-- where there was no memory for the answer, ids may be drawn
 abbrev pub MayHaveDrawn : Ids → Ids → Type 0
-MayHaveDrawn before now = (now ≡ before) ⊎ (now ≡ with_drawn 1 before)
+MayHaveDrawn before now = (draws : ℕ) × (now ≡ ids_after draws before)
 
 -- An answer to what was heard at a moment: what the collector did with it, what it said, and how that is written.
-pub record IsAnswer (heard : Heard) (charset : Charset) (moment : ℕ) (answer : Answer) (ids ids_now : Ids) (before now : Store) : Type 0 where
+pub record IsAnswer (host : List ℕ) (heard : Heard) (charset : Charset) (moment : ℕ) (answer : Answer) (ids ids_now : Ids) (before now : Store) : Type 0 where
   pub said : Said
-  pub stepped : Steps heard.asked moment said before now
+  pub stepped : Steps host heard.asked moment said before now
   pub written : answer ≡ answer_of ids charset heard.relates said
   pub spelt : IsSpeltFor ids said
   pub drawn : ids_now ≡ ids_behind ids said
 
--- Where there was no memory for the answer: nothing was done, or the step of a message, and an id may be drawn.
-abbrev pub IsUnanswered : Heard → ℕ → Ids → Ids → Store → Store → Type 0
-IsUnanswered heard moment ids ids_now before now = HasStepped heard.asked moment before now × MayHaveDrawn ids ids_now
+-- Where there was no memory for the answer: nothing was done, or the step of a message, and ids may be drawn.
+abbrev pub IsUnanswered : List ℕ → Heard → ℕ → Ids → Ids → Store → Store → Type 0
+IsUnanswered host heard moment ids ids_now before now = HasStepped host heard.asked moment before now × MayHaveDrawn ids ids_now

@@ -1,8 +1,12 @@
 -- A delivery of a source, as it is written and as it is read.
-use Rattle.std.specs.Prelude.{◌≡◌, ℕ, List, [], ◌∷◌, Option, Some, None, Result, Ok, Err, IfSome, if◌then◌else◌}
+use Rattle.std.specs.Prelude.{◌≡◌, ℕ, false, List, [], ◌∷◌, ◌++◌, codes, Option, Some, None, Result, Ok, Err, IfSome, if◌then◌else◌}
 use Rattle.std.specs.List.{AllByRecursion}
 use Rattle.std.specs.Option.{option_and_then}
 use Rattle.std.specs.Result.{result_ok}
+use Rattle.std.specs.Str.{IsUtf8}
+use Rattle.wef_bodies.specs.Written.{enumerate_element}
+use Rattle.wef_eventing.specs.Addresses.{IsHost}
+use Rattle.wef_ids.specs.declared.MessageId.{MessageId}
 use Rattle.wef_base.specs.Names.{same, source_name, subscription_name}
 use Rattle.wef_base.specs.declared.tree.Charset.TheVariants.{Utf8}
 use Rattle.wef_base.specs.declared.tree.Element.{Element}
@@ -15,15 +19,15 @@ use Rattle.wef_bookmark.specs.Nodes.{AreTexts, bookmark_element}
 use Rattle.wef_envelope.specs.Envelopes.{said}
 use Rattle.wef_envelope.specs.Laws.{IsSpelt, IsTrimmed}
 use Rattle.wef_envelope.specs.Written.{written}
-use Rattle.wef_envelope.specs.declared.actions.TheConstants.{ANONYMOUS, EVENTS}
+use Rattle.wef_envelope.specs.declared.actions.TheConstants.{ANONYMOUS, ENUMERATE, EVENTS, SUBSCRIPTIONS}
 use Rattle.wef_envelope.specs.declared.envelopes.Envelope.{Envelope}
 use Rattle.wef_source.specs.declared.messages.Delivery as source
 use Rattle.wef_tree_reading.specs.Documents.{tree_of}
 use Rattle.wef_xml.specs.Canonical.{canonical, encoded}
 use Rattle.wef_xml.specs.Good.{IsXmlText}
 use Rattle.wef_front.specs.Heard.{Hears, batch_in}
-use Rattle.wef_front.specs.declared.hearing.Asked.TheVariants.{Take}
-use Rattle.wef_front.specs.declared.targets.Target.TheVariants.{Delivery}
+use Rattle.wef_front.specs.declared.hearing.Asked.TheVariants.{Enumerate, Take}
+use Rattle.wef_front.specs.declared.targets.Target.TheVariants.{Delivery, Manager}
 
 -- the envelope of a delivery: it goes to the address that the offer gave
 abbrev pub delivery_envelope : source.Delivery → Envelope
@@ -45,6 +49,40 @@ delivery_envelope d = record {
 -- its bytes
 abbrev pub delivery_bytes : source.Delivery → List ℕ
 delivery_bytes d = encoded Utf8 (canonical (written (delivery_envelope d)))
+
+-- ---- the wish for subscriptions
+
+-- where a collector offers subscriptions at a host
+unfoldable pub manager_address : List ℕ → List ℕ
+manager_address host = codes "http://" ++ host ++ codes "/wsman/SubscriptionManager/WEC"
+
+-- the envelope in which a source asks the collector at a host for its subscriptions (WS-Enumeration, 3.1); the header MachineID
+-- names the source
+abbrev pub enumerate_envelope : List ℕ → List ℕ → MessageId → Envelope
+enumerate_envelope host s id = record {
+  to = Some (manager_address host);
+  resource = Some SUBSCRIPTIONS.now;
+  reply_to = Some ANONYMOUS.now;
+  action = ENUMERATE.now;
+  id = id;
+  relates = None;
+  machine = Some s;
+  max_size = None;
+  identifier = None;
+  bookmark = None;
+  ack_wanted = false;
+  body = enumerate_element ∷ [];
+}
+
+abbrev pub enumerate_bytes : List ℕ → List ℕ → MessageId → List ℕ
+enumerate_bytes host s id = encoded Utf8 (canonical (written (enumerate_envelope host s id)))
+
+-- What a source asks with, the collector hears: the wish of this source for its subscriptions, and its id. The name must be
+-- one that a source's name is kept as.
+abbrev pub EnumeratesAreHeard : Type 0
+EnumeratesAreHeard =
+    (host s : List ℕ) (id : MessageId) → IsHost host → IsUtf8 s → source_name s ≡ Some s → IsSpelt id → IsXmlText id.text →
+    Hears Manager Utf8 (enumerate_bytes host s id) (record { relates = Some id; asked = Enumerate s })
 
 -- ---- the delivery that bytes are
 

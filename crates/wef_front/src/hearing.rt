@@ -1,18 +1,20 @@
 //! What a message asks of the collector.
 
-ghost use Rattle.std.specs.Prelude.{◌≡◌, IfOk};
+ghost use Rattle.std.specs.Prelude.{◌≡◌, option_copied, IfOk};
+ghost use Rattle.std.specs.Option.{option_and_then};
 ghost use Rattle.wef_base.specs.Names.{source_name, subscription_name};
 ghost use Rattle.wef_batch.specs.Numbers.{AreNumbered};
 ghost use Rattle.wef_batch.specs.Reading.{AreGoodTrees, Reads};
 ghost use Rattle.wef_envelope.specs.Envelopes.{said};
 ghost use Rattle.wef_xml.specs.Good.{IsGoodTree};
-ghost use Rattle.wef_front.specs.Heard.{Hears, IsSound, IsSoundAsk, asked_by, asked_of, batch_in, delivery_asked, events_asked, heard_in, is_nameless, unheard};
+ghost use Rattle.wef_front.specs.Heard.{Hears, IsSound, IsSoundAsk, asked_by, asked_of, batch_in, delivery_asked, enumerate_asked, events_asked, heard_in, is_elsewhere, is_nameless, manager_asked, unheard};
 
 use crate::targets::Target;
 use std::alloc::{AllocError, Global};
 use wef_base::{Charset, Element, SourceName, SubId, Text, ValueFault};
 use wef_batch::{Batch, BatchFault, read_batch};
-use wef_envelope::actions::{ENUMERATE, EVENTS};
+use wef_bodies::has_enumerate;
+use wef_envelope::actions::{ENUMERATE, EVENTS, SUBSCRIPTIONS};
 use wef_envelope::{Envelope, EnvelopeFault, FaultName, MessageId, from_node, id_in};
 use wef_tree::{TreeFault, read_tree};
 
@@ -21,6 +23,8 @@ use wef_tree::{TreeFault, read_tree};
 pub enum Asked {
     /// Nothing that is kept decides how it is answered.
     Refused(FaultName),
+    /// A source wants its subscriptions.
+    Enumerate(SourceName),
     /// A batch for a subscription that can't be read.
     Unread(SubId),
     /// A batch of a source for a subscription.
@@ -109,8 +113,9 @@ fn asked_by(target: &Target, envelope: &Envelope) -> Result<Asked, AllocError>
         return Ok(Asked::Refused(FaultName::MessageInformationHeaderRequired));
     }
     match target {
+        Target::Manager => manager_asked(envelope),
         Target::Delivery { sub, source } => delivery_asked(sub, source, envelope),
-        Target::Manager | Target::Root => Ok(Asked::Refused(FaultName::ActionNotSupported)),
+        Target::Root => Ok(Asked::Refused(FaultName::ActionNotSupported)),
     }
 }
 
@@ -119,6 +124,54 @@ fn is_nameless(envelope: &Envelope) -> bool
     ensures { result ≡ is_nameless envelope.now }
 {
     envelope.action.as_str() == ENUMERATE && envelope.machine.is_none()
+}
+
+/// What an envelope asks of the collector itself.
+fn manager_asked(envelope: &Envelope) -> Result<Asked, AllocError>
+    ensures asked { IfOk result (λ asked. asked ≡ manager_asked envelope.now) }
+    ensures sound { IfOk result IsSoundAsk }
+{
+    if envelope.action.as_str() == ENUMERATE {
+        return enumerate_asked(envelope);
+    }
+    Ok(Asked::Refused(FaultName::ActionNotSupported))
+}
+
+/// What an Enumerate asks: the subscriptions of the source that its MachineID names.
+fn enumerate_asked(envelope: &Envelope) -> Result<Asked, AllocError>
+    ensures asked { IfOk result (λ asked. asked ≡ enumerate_asked envelope.now) }
+    ensures sound { IfOk result IsSoundAsk }
+{
+    if is_elsewhere(envelope.resource.as_ref()) {
+        return Ok(Asked::Refused(FaultName::DestinationUnreachable));
+    }
+    if !has_enumerate(envelope.body.as_slice()) {
+        return Ok(Asked::Refused(FaultName::InvalidMessage));
+    }
+    match machine_named(envelope.machine.as_ref())? {
+        Some(source) => Ok(Asked::Enumerate(source)),
+        None => Ok(Asked::Refused(FaultName::InvalidMessage)),
+    }
+}
+
+/// Whether a resource is another than the subscriptions of a collector.
+fn is_elsewhere(resource: Option<&Text>) -> bool
+    ensures { result ≡ is_elsewhere (option_copied resource.entry) }
+{
+    match resource {
+        Some(resource) => resource.as_str() != SUBSCRIPTIONS,
+        None => false,
+    }
+}
+
+/// The source that a MachineID names.
+fn machine_named(machine: Option<&Text>) -> Result<Option<SourceName>, AllocError>
+    ensures { IfOk result (λ source. source ≡ option_and_then source_name (option_copied machine.entry)) }
+{
+    match machine {
+        Some(machine) => source_named(machine),
+        None => Ok(None),
+    }
 }
 
 /// What an envelope asks where a source delivers for a subscription.

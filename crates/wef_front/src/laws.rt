@@ -1,7 +1,7 @@
 //! Laws of answers, each the contract of a function that does nothing.
 
-ghost use Rattle.wef_front.specs.Laws.{AnswersAreReplies, AnswersGoByPlan, DrawnIdsAreSpelt, InternalErrorsHaveACause, OneIsHeard, RepliesAreHeard, RepliesAreRead};
-ghost use Rattle.wef_front.specs.Sending.{DeliveriesAreHeard, DeliveriesAreRead};
+ghost use Rattle.wef_front.specs.Laws.{AnswersAreReplies, AnswersGoByPlan, DrawnIdsAreSpelt, InternalErrorsHaveACause, OffersAreHeard, OneIsHeard, RepliesAreHeard, RepliesAreRead};
+ghost use Rattle.wef_front.specs.Sending.{DeliveriesAreHeard, DeliveriesAreRead, EnumeratesAreHeard};
 
 /// The collector answers what the rows that it finds give, and leaves what they give, unless its store
 /// fails. No answer takes more than one commit, and one that changes nothing takes none.
@@ -31,6 +31,18 @@ pub fn replies_are_read()
 /// with its id.
 pub fn deliveries_are_heard()
     ensures { DeliveriesAreHeard }
+{}
+
+/// What a source asks for its subscriptions with, the collector hears: the wish of this source, and its
+/// id.
+pub fn enumerates_are_heard()
+    ensures { EnumeratesAreHeard }
+{}
+
+/// What the collector offers, the source hears, where it can be written and read again: these offers, as
+/// the answer to its message.
+pub fn offers_are_heard()
+    ensures { OffersAreHeard }
 {}
 
 /// What is written for a delivery is read again as that delivery, where it came to the address that it

@@ -11,5 +11,5 @@ pub mod targets;
 
 pub use answering::{Answer, collector_answer};
 pub use listening::{Hears, read_reply, source_hears};
-pub use sending::write_delivery;
+pub use sending::{write_delivery, write_enumerate};
 pub use targets::Target;

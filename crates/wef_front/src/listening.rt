@@ -1,21 +1,27 @@
 //! What a source makes of the bytes of a reply.
 
-ghost use Rattle.std.specs.Prelude.{◌≡◌, IfOk, OnErr};
+ghost use Rattle.std.specs.Prelude.{◌≡◌, Some, IfOk, OnErr};
+ghost use Rattle.std.specs.Result.{result_ok};
+ghost use Rattle.wef_bodies.specs.Offers.{offers_in};
 ghost use Rattle.wef_envelope.specs.Envelopes.{said};
-ghost use Rattle.wef_front.specs.HeardReplies.{HearsReply, HearsTold, fault_among, fault_of, reply_in, told, told_by, told_in};
+ghost use Rattle.wef_front.specs.HeardReplies.{HearsOffers, HearsReply, HearsTold, fault_among, fault_of, offers_told, offers_told_by, offers_told_in, related, reply_in, told, told_by, told_in};
 
 use std::alloc::{AllocError, Global};
 use wef_base::moments::Moment;
-use wef_base::{Bytes, Charset, Element};
-use wef_envelope::actions::ACK;
+use wef_base::{Bytes, Charset, Element, List};
+use wef_bodies::{BodyFault, read_offers};
+use wef_envelope::actions::{ACK, ENUMERATE_RESPONSE};
 use wef_envelope::{Envelope, EnvelopeFault, MessageId, from_node, read_fault};
+use wef_eventing::Offer;
 use wef_keeper::Keeper;
-use wef_source::{Moved, Reply, SourceEnd};
+use wef_source::{Moved, Reply, SourceEnd, SourceFault};
 use wef_tree::{TreeFault, read_tree};
 
 /// What a source made of a reply.
 #[derive(Clone, Copy, Debug, PartialEq, Eq)]
 pub enum Hears {
+    /// The offers are the sessions from now on; so many there are.
+    Adopted(u64),
     /// The session goes on behind the batch.
     Moved,
     /// The batch was refused.
@@ -26,22 +32,110 @@ pub enum Hears {
     Unreadable,
 }
 
-/// Hears the bytes of a reply, in UTF-8: an acknowledgement, or a fault. Where there is no memory to
-/// read it all is as before.
+/// Hears the bytes of a reply, in UTF-8: an acknowledgement, a fault, or the offers that answer an
+/// Enumerate (WS-Enumeration, 3.1). A reply that holds a fault is one, whatever its action. Where there
+/// is no memory to read it all is as before.
 pub fn source_hears<K: Keeper>(
     alloc: Global,
     source: &mut SourceEnd<K>,
     body: &Bytes,
-    _now: Moment,
+    now: Moment,
 ) -> Result<Hears, AllocError>
-    ensures heard { IfOk result (λ hears. HearsTold (told body.now) hears source.old.memory source.new.memory) }
+    ensures heard { IfOk result (λ hears. HearsTold (told body.now) (offers_told now body.now) hears now source.old.memory source.new.memory) }
     ensures wants_memory { OnErr result (source.new.memory ≡ source.old.memory) }
     ensures keeper { source.new.keeper ≡ source.old.keeper }
     ensures name { source.new.name ≡ source.old.name }
 {
-    match read_reply(alloc, body.as_slice())? {
-        Some((relates, reply)) => hear_reply(source, &relates, &reply),
+    match read_tree(alloc, body.as_slice(), Charset::Utf8) {
+        Ok(root) => hear_tree(source, &root, now),
+        Err(TreeFault::NoMemory) => Err(AllocError),
+        Err(_) => Ok(Hears::Unreadable),
+    }
+}
+
+fn hear_tree<K: Keeper>(
+    source: &mut SourceEnd<K>,
+    root: &Element,
+    now: Moment,
+) -> Result<Hears, AllocError>
+    ensures heard { IfOk result (λ hears. HearsTold (told_by (said root.now)) (offers_told_by now (said root.now)) hears now source.old.memory source.new.memory) }
+    ensures wants_memory { OnErr result (source.new.memory ≡ source.old.memory) }
+    ensures keeper { source.new.keeper ≡ source.old.keeper }
+    ensures name { source.new.name ≡ source.old.name }
+{
+    match &from_node(root) {
+        Ok(envelope) => hear_envelope(source, envelope, now),
+        Err(EnvelopeFault::NoMemory) => Err(AllocError),
+        Err(_) => Ok(Hears::Unreadable),
+    }
+}
+
+/// Hears an envelope: the reply that it is, or else the offers in it.
+fn hear_envelope<K: Keeper>(
+    source: &mut SourceEnd<K>,
+    envelope: &Envelope,
+    now: Moment,
+) -> Result<Hears, AllocError>
+    ensures heard { IfOk result (λ hears. HearsTold (told_in envelope.now.relates (reply_in envelope.now)) (offers_told_in now envelope.now) hears now source.old.memory source.new.memory) }
+    ensures wants_memory { OnErr result (source.new.memory ≡ source.old.memory) }
+    ensures keeper { source.new.keeper ≡ source.old.keeper }
+    ensures name { source.new.name ≡ source.old.name }
+{
+    if let Some((relates, reply)) = told_in(envelope)? {
+        return hear_reply(source, &relates, &reply);
+    }
+    match offers_in(envelope, now)? {
+        Some((relates, offers)) => adopt(source, &relates, &offers, now),
         None => Ok(Hears::Unreadable),
+    }
+}
+
+/// The offers of an envelope that answers an Enumerate, and the message that it relates to.
+fn offers_in(
+    envelope: &Envelope,
+    now: Moment,
+) -> Result<Option<(MessageId, List<Offer>)>, AllocError>
+    ensures { IfOk result (λ found. found ≡ offers_told_in now envelope.now) }
+{
+    if envelope.action.as_str() != ENUMERATE_RESPONSE {
+        return Ok(None);
+    }
+    match &envelope.relates {
+        Some(relates) => offers_for(relates, envelope, now),
+        None => Ok(None),
+    }
+}
+
+fn offers_for(
+    relates: &MessageId,
+    envelope: &Envelope,
+    now: Moment,
+) -> Result<Option<(MessageId, List<Offer>)>, AllocError>
+    ensures { IfOk result (λ found. found ≡ related (Some relates.now) (result_ok (offers_in now envelope.now.body))) }
+{
+    match read_offers(envelope.action.alloc(), envelope.body.as_slice(), now) {
+        Ok(offers) => Ok(Some((relates.clone()?, offers))),
+        Err(BodyFault::NoMemory) => Err(AllocError),
+        Err(_) => Ok(None),
+    }
+}
+
+/// Hands offers to the source.
+fn adopt<K: Keeper>(
+    source: &mut SourceEnd<K>,
+    relates: &MessageId,
+    offers: &List<Offer>,
+    now: Moment,
+) -> Result<Hears, AllocError>
+    ensures heard { IfOk result (λ hears. HearsOffers hears relates.now offers.now now source.old.memory source.new.memory) }
+    ensures wants_memory { OnErr result (source.new.memory ≡ source.old.memory) }
+    ensures keeper { source.new.keeper ≡ source.old.keeper }
+    ensures name { source.new.name ≡ source.old.name }
+{
+    match source.adopt(relates, offers, now) {
+        Ok(count) => Ok(Hears::Adopted(count)),
+        Err(SourceFault::NotAsked) => Ok(Hears::NotAsked),
+        Err(_) => Err(AllocError),
     }
 }
 

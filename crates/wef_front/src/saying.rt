@@ -1,18 +1,24 @@
 //! What the collector does with what a message asks, and what it says to that.
 
-ghost use Rattle.std.specs.Prelude.{◌≡◌, false, Result, IfErr, IfOk};
+ghost use Rattle.std.specs.Prelude.{◌≡◌, false, List, Result, IfErr, IfOk};
 ghost use Rattle.wef_batch.specs.Numbers.{AreNumbered};
-ghost use Rattle.wef_collector.specs.Calls.{OfTake, take_effect, unread_effect};
+ghost use Rattle.wef_collector.specs.Calls.{OfTake, no_effect, take_effect, unread_effect};
+ghost use Rattle.wef_collector.specs.Offers.{CanAllBeOffered, offers};
+ghost use Rattle.wef_collector_rows.specs.Answers.{IsOfStore};
+ghost use Rattle.wef_eventing.specs.Addresses.{IsHost};
+ghost use Rattle.wef_eventing.specs.declared.offers.Offer.{Offer as TheOffer};
 ghost use Rattle.wef_collector_rows.specs.declared.faults.CollectorFault as fault;
 ghost use Rattle.wef_front.specs.Heard.{IsSoundAsk};
-ghost use Rattle.wef_front.specs.Steps.{Calls, HasStepped, IsAnswered, IsFault, IsKnownSaid, Says, Steps, said_of};
+ghost use Rattle.wef_front.specs.Steps.{Calls, CallsFor, HasStepped, IsAnswered, IsFault, IsKnownSaid, Says, SaysOffers, Steps, said_of, said_with};
+ghost use Rattle.wef_front.specs.declared.saying.Said.TheVariants.{Offers};
 
 use crate::hearing::Asked;
 use std::alloc::AllocError;
 use wef_base::moments::Moment;
-use wef_base::{SourceName, SubId};
+use wef_base::{List, SourceName, SubId, Text};
 use wef_batch::Batch;
 use wef_collector::{Collector, CollectorFault};
+use wef_eventing::Offer;
 use wef_ids::FaultName;
 use wef_keeper::Keeper;
 
@@ -23,25 +29,62 @@ pub enum Said {
     Ack,
     /// A batch was taken.
     Quiet,
+    /// The subscriptions of a source.
+    Offers(List<Offer>),
     Fault(FaultName),
 }
 
-/// Does what is asked, at a moment.
+/// Does what is asked, at a moment. Batches for what is offered come to the host.
 pub fn say<K: Keeper>(
     collector: &mut Collector<K>,
+    host: &Text,
     asked: &Asked,
     now: Moment,
 ) -> Result<Said, AllocError>
-    requires { IsSoundAsk asked.now }
-    ensures said { IfOk result (λ said. Steps asked.now now said (K.store collector.old.keeper) (K.store collector.new.keeper)) }
-    ensures wants_memory { IfErr result (λ _. HasStepped asked.now now (K.store collector.old.keeper) (K.store collector.new.keeper)) }
+    requires host { IsHost host.now }
+    requires sound { IsSoundAsk asked.now }
+    ensures said { IfOk result (λ said. Steps host.now asked.now now said (K.store collector.old.keeper) (K.store collector.new.keeper)) }
+    ensures wants_memory { IfErr result (λ _. HasStepped host.now asked.now now (K.store collector.old.keeper) (K.store collector.new.keeper)) }
     ensures known { IfOk result IsKnownSaid }
     ensures ids { collector.new.ids ≡ collector.old.ids }
 {
     match asked {
         Asked::Refused(name) => Ok(Said::Fault(name.clone()?)),
+        Asked::Enumerate(source) => offer(collector, source, host),
         Asked::Unread(sub) => take_unread(collector, sub),
         Asked::Take { sub, source, batch } => take(collector, sub, source, batch, now),
+    }
+}
+
+/// Offers a source its subscriptions.
+#[tactic(auto, using(crate::proofs::SaidOfCalls::offers_of))]
+fn offer<K: Keeper>(
+    collector: &mut Collector<K>,
+    source: &SourceName,
+    host: &Text,
+) -> Result<Said, AllocError>
+    requires { IsHost host.now }
+    ensures said { IfOk result (λ said. SaysOffers host.now source.now said (K.store collector.old.keeper) (K.store collector.new.keeper)) }
+    ensures wants_memory { IfErr result (λ _. (done : Result (List TheOffer) fault.CollectorFault) × CallsFor (λ rows. offers rows source.now host.now) no_effect done (K.store collector.old.keeper) (K.store collector.new.keeper)) }
+    ensures known { IfOk result IsKnownSaid }
+    ensures ids { collector.new.ids ≡ collector.old.ids }
+{
+    said_of_offers(collector.offers(source, host))
+}
+
+/// What is said of offers that were asked for. Want of memory isn't answered.
+#[tactic(auto, using(crate::proofs::SaidOfCalls::offers_known))]
+fn said_of_offers(done: Result<List<Offer>, CollectorFault>) -> Result<Said, AllocError>
+    requires refusal { IfErr done IsOfStore }
+    requires texts { IfOk done CanAllBeOffered }
+    ensures answered { IfOk result (λ said. IfErr done IsAnswered) }
+    ensures said { IfOk result (λ said. said ≡ said_with Offers done) }
+    ensures known { IfOk result IsKnownSaid }
+{
+    match done {
+        Ok(offers) => Ok(Said::Offers(offers)),
+        Err(CollectorFault::Failed) => Ok(Said::Fault(FaultName::InternalError)),
+        Err(_) => Err(AllocError),
     }
 }
 

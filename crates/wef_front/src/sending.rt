@@ -1,13 +1,21 @@
-//! The bytes of a source's deliveries.
+//! The bytes of what a source sends: its wish for subscriptions, and its deliveries.
 
-ghost use Rattle.std.specs.Prelude.{◌≡◌, option_copied, IfOk};
-ghost use Rattle.wef_front.specs.Sending.{CanBeSent, delivery_bytes, delivery_envelope};
+ghost use Rattle.std.specs.Prelude.{◌≡◌, option_copied, Some, IfOk};
+ghost use Rattle.std.specs.Str.{IsUtf8};
+ghost use Rattle.wef_base.specs.Names.{source_name};
+ghost use Rattle.wef_base.specs.declared.tree.Charset.TheVariants.{Utf8};
+ghost use Rattle.wef_envelope.specs.Written.{written};
+ghost use Rattle.wef_eventing.specs.Addresses.{IsHost};
+ghost use Rattle.wef_xml.specs.Canonical.{canonical, encoded};
+ghost use Rattle.wef_xml.specs.Good.{IsGoodTree, IsXmlText};
+ghost use Rattle.wef_front.specs.Sending.{CanBeSent, delivery_bytes, delivery_envelope, enumerate_bytes, enumerate_envelope, manager_address};
 
 use std::alloc::{AllocError, Global};
-use wef_base::{Bytes, Charset, Text};
+use wef_base::{Bytes, Charset, SourceName, Text};
 use wef_batch::write_batch;
-use wef_envelope::actions::{ANONYMOUS, EVENTS};
-use wef_envelope::{Envelope, to_node};
+use wef_bodies::{Body, write_body};
+use wef_envelope::actions::{ANONYMOUS, ENUMERATE, EVENTS, SUBSCRIPTIONS};
+use wef_envelope::{Envelope, MessageId, to_node};
 use wef_source::Delivery;
 use wef_tree::write_tree;
 
@@ -18,7 +26,74 @@ pub fn write_delivery(alloc: Global, delivery: &Delivery) -> Result<Bytes, Alloc
     ensures { IfOk result (λ bytes. bytes ≡ delivery_bytes delivery.now) }
 {
     let envelope = envelope_of(alloc, delivery)?;
-    let root = to_node(&envelope)?;
+    write_envelope(alloc, &envelope)
+}
+
+/// Writes in UTF-8 the wish of a source for its subscriptions, as the message Enumerate
+/// (WS-Enumeration, 3.1) to the collector at a host. The header MachineID names the source.
+pub fn write_enumerate(
+    alloc: Global,
+    host: &Text,
+    source: &SourceName,
+    id: &MessageId,
+) -> Result<Bytes, AllocError>
+    requires host { IsHost host.now }
+    requires id { IsXmlText id.now.text }
+    ensures { IfOk result (λ bytes. bytes ≡ enumerate_bytes host.now source.now id.now) }
+{
+    let envelope = enumerate_envelope(alloc, host, source, id)?;
+    write_envelope(alloc, &envelope)
+}
+
+fn enumerate_envelope(
+    alloc: Global,
+    host: &Text,
+    source: &SourceName,
+    id: &MessageId,
+) -> Result<Envelope, AllocError>
+    ensures value { IfOk result (λ envelope. envelope ≡ enumerate_envelope host.now source.now id.now) }
+    ensures name { IfOk result (λ _. IsUtf8 source.now × (source_name source.now ≡ Some source.now)) }
+{
+    Ok(Envelope {
+        to: Some(manager_address(alloc, host)?),
+        resource: Some(Text::from_str(alloc, SUBSCRIPTIONS)?),
+        reply_to: Some(Text::from_str(alloc, ANONYMOUS)?),
+        action: Text::from_str(alloc, ENUMERATE)?,
+        id: id.clone()?,
+        relates: None,
+        machine: Some(name_of(source)?),
+        max_size: None,
+        identifier: None,
+        bookmark: None,
+        ack_wanted: false,
+        body: write_body(alloc, &Body::Enumerate)?,
+    })
+}
+
+/// The text of a source's name.
+fn name_of(source: &SourceName) -> Result<Text, AllocError>
+    ensures value { IfOk result (λ text. text ≡ source.now) }
+    ensures kept { IfOk result (λ _. IsUtf8 source.now × (source_name source.now ≡ Some source.now)) }
+{
+    let name = source.as_text();
+    Text::from_str(name.alloc(), name.as_str())
+}
+
+#[tactic(auto, using(std::proofs::Common::append_assoc), unfolding(crate::specs::Sending::manager_address))]
+fn manager_address(alloc: Global, host: &Text) -> Result<Text, AllocError>
+    ensures { IfOk result (λ address. address ≡ manager_address host.now) }
+{
+    let mut address = Text::from_str(alloc, "http://")?;
+    address.push_str(host.as_str())?;
+    address.push_str("/wsman/SubscriptionManager/WEC")?;
+    Ok(address)
+}
+
+fn write_envelope(alloc: Global, envelope: &Envelope) -> Result<Bytes, AllocError>
+    requires { IsGoodTree (written envelope.now) }
+    ensures { IfOk result (λ bytes. bytes ≡ encoded Utf8 (canonical (written envelope.now))) }
+{
+    let root = to_node(envelope)?;
     match write_tree(alloc, &root, Charset::Utf8) {
         Ok(bytes) => Ok(bytes),
         Err(_) => Err(AllocError),

@@ -1,0 +1,111 @@
+-- What a source asks for its subscriptions with, the collector hears.
+use Rattle.std.proofs.Common.{◌≡◌, ℕ, true, false, Bool, ◌&&◌, cond, List, [], ◌∷◌, ◌++◌, codes, refl, ap, sym, ◌∙◌}
+use Rattle.std.specs.Prelude.{Some, Ok}
+use Rattle.std.specs.List.{list_all}
+use Rattle.std.specs.Option.{option_and_then}
+use Rattle.std.specs.Str.{IsUtf8, chars}
+use Rattle.std.proofs.Math.Utf8.{encode}
+use Rattle.std.proofs.lemmas.Bool.{and_from}
+use Rattle.std.proofs.lemmas.List.Folds.{list_all-append}
+use Rattle.wef_base.specs.Names.{source_name}
+use Rattle.wef_base.specs.declared.tree.Charset.TheVariants.{Utf8}
+use Rattle.wef_bodies.proofs.GoodBodies.{enumerate_good as enumerate_good_element}
+use Rattle.wef_bodies.specs.Reading.{has_enumerate}
+use Rattle.wef_bodies.specs.Written.{enumerate_element}
+use Rattle.wef_elements.specs.Good.{AreGoodElements}
+use Rattle.wef_envelope.specs.Envelopes.{id_in, said}
+use Rattle.wef_envelope.specs.Laws.{IsPlain, IsSpelt, IsTrimmed}
+use Rattle.wef_envelope.specs.Spaces.{enumeration}
+use Rattle.wef_envelope.specs.Written.{written}
+use Rattle.wef_envelope.specs.declared.actions.TheConstants.{ANONYMOUS, ENUMERATE, SUBSCRIPTIONS}
+use Rattle.wef_envelope.specs.declared.envelopes.Envelope.{Envelope}
+use Rattle.wef_envelope.proofs.WrittenIsGood.{written_is_good}
+use Rattle.wef_envelope.proofs.WrittenIsRead.{written_id_is_found, written_is_read}
+use Rattle.wef_eventing.proofs.AddressTexts.{printed_text}
+use Rattle.wef_eventing.specs.Addresses.{IsHost, is_printed}
+use Rattle.wef_ids.specs.declared.FaultName.TheVariants as fault
+use Rattle.wef_ids.specs.declared.MessageId.{MessageId}
+use Rattle.wef_tree.proofs.BoundPrefixes.{same_self}
+use Rattle.wef_tree.proofs.SpellsAgain.{spells_again}
+use Rattle.wef_xml.proofs.Ascii.{plain_text}
+use Rattle.wef_xml.specs.Good.{IsGoodTree, IsXmlText}
+use Rattle.wef_front.proofs.RepliesAreHeard.{anonymous_trimmed}
+use Rattle.wef_front.proofs.SourceNames.{allowed_source, trimmed_source}
+use Rattle.wef_front.specs.Heard.{Hears, asked_by, asked_of, enumerate_asked, named_asked}
+use Rattle.wef_front.specs.Sending.{enumerate_bytes, enumerate_envelope, manager_address}
+use Rattle.wef_front.specs.declared.hearing.Asked.TheVariants.{Enumerate, Refused}
+use Rattle.wef_front.specs.declared.targets.Target.TheVariants.{Manager}
+
+-- ---- the envelope
+
+joined : (cs ds : List ℕ) → list_all is_printed cs ≡ true → list_all is_printed ds ≡ true → list_all is_printed (cs ++ ds) ≡ true
+joined cs ds one other = list_all-append is_printed cs ds ∙ and_from _ _ one other
+
+manager_printed : (host : List ℕ) → list_all is_printed host ≡ true → list_all is_printed (manager_address host) ≡ true
+unfolding manager_address
+manager_printed host is = joined (codes "http://" ++ host) (codes "/wsman/SubscriptionManager/WEC") (joined (codes "http://") host refl is) refl
+
+subscriptions_trimmed : IsTrimmed SUBSCRIPTIONS.now
+unfolding chars encode
+subscriptions_trimmed = refl
+
+enumerate_trimmed : IsTrimmed ENUMERATE.now
+unfolding chars encode
+enumerate_trimmed = refl
+
+plain_enumerate : (host s : List ℕ) (id : MessageId) → IsHost host → IsUtf8 s → source_name s ≡ Some s → IsSpelt id → IsPlain (enumerate_envelope host s id)
+plain_enumerate host s id is utf8 named spelt = record {
+  to = (printed_text (manager_address host) (manager_printed host is.1)).0;
+  resource = subscriptions_trimmed;
+  reply_to = anonymous_trimmed;
+  action = enumerate_trimmed;
+  id = spelt;
+  relates = tt;
+  machine = trimmed_source s utf8 named;
+  max_size = tt;
+  identifier = tt;
+  bookmark = tt;
+}
+
+pub enumerate_good : (host s : List ℕ) (id : MessageId) → IsHost host → IsUtf8 s → source_name s ≡ Some s → IsXmlText id.text → AreGoodElements (enumerate_element ∷ []) 62
+    → IsGoodTree (written (enumerate_envelope host s id))
+enumerate_good host s id is utf8 named allowed body =
+    written_is_good (enumerate_envelope host s id) 60 (record {
+      to = (printed_text (manager_address host) (manager_printed host is.1)).1;
+      resource = plain_text SUBSCRIPTIONS.now refl;
+      reply_to = plain_text ANONYMOUS.now refl;
+      action = plain_text ENUMERATE.now refl;
+      id = allowed;
+      relates = tt;
+      machine = allowed_source s utf8 named;
+      max_size = tt;
+      identifier = tt;
+      bookmark = tt;
+      body = body;
+    })
+
+-- ---- what it asks
+
+enumerates : has_enumerate (enumerate_element ∷ []) ≡ true
+unfolding enumeration
+enumerates = refl
+
+asked_is : (host s : List ℕ) (id : MessageId) → source_name s ≡ Some s → asked_by Manager (enumerate_envelope host s id) ≡ Enumerate s
+asked_is host s id named =
+    let e : Envelope = enumerate_envelope host s id in
+    ap (λ (b : Bool). cond (b && false) (Refused fault.MessageInformationHeaderRequired) (cond b (enumerate_asked e) (Refused fault.ActionNotSupported))) (same_self ENUMERATE.now)
+    ∙ ap (λ (b : Bool). cond (cond b false true) (Refused fault.DestinationUnreachable) (cond (has_enumerate e.body) (named_asked (option_and_then source_name e.machine)) (Refused fault.InvalidMessage)))
+    (same_self SUBSCRIPTIONS.now)
+    ∙ ap (λ (b : Bool). cond b (named_asked (source_name s)) (Refused fault.InvalidMessage)) enumerates
+    ∙ ap named_asked named
+
+pub enumerates_are_heard : (host s : List ℕ) (id : MessageId) → IsHost host → IsUtf8 s → source_name s ≡ Some s → IsSpelt id → IsXmlText id.text
+    → Hears Manager Utf8 (enumerate_bytes host s id) (record { relates = Some id; asked = Enumerate s })
+enumerates_are_heard host s id is utf8 named spelt allowed =
+    let e : Envelope = enumerate_envelope host s id in
+    let plain = plain_enumerate host s id is utf8 named spelt in
+    let found : id_in (written e) ≡ Some id = written_id_is_found e plain in
+    let asked : asked_of Manager (said (written e)) ≡ Enumerate s = ap (asked_of Manager) (written_is_read e plain) ∙ asked_is host s id named in
+    let heard : record { relates = id_in (written e); asked = asked_of Manager (said (written e)) } ≡ record { relates = Some id; asked = Enumerate s } =
+    λ i. record { relates = found i; asked = asked i } in
+    (Ok (written e), spells_again Utf8 (written e) (enumerate_good host s id is utf8 named allowed (enumerate_good_element 60, tt)), sym heard)
