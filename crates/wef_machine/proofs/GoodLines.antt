@@ -27,7 +27,8 @@ use Rattle.wef_event.specs.declared.unnumbered.PlainEvent.{PlainEvent}
 use Rattle.wef_eventing.proofs.Back.{reads_back}
 use Rattle.wef_eventing.specs.Kept.{HasKeptName, kept_words, read_kept}
 use Rattle.wef_eventing.specs.Subscriptions.{AreLimits}
-use Rattle.wef_query.specs.Queries.{all_events_of}
+use Rattle.wef_query.proofs.Unconditional.{unconditional_is}
+use Rattle.wef_query.specs.Queries.{all_events as all_events_query, all_events_of, is_unconditional}
 use Rattle.wef_query.specs.declared.QueryItem.{QueryItem}
 use Rattle.wef_query.specs.declared.QueryList.{QueryList}
 use Rattle.wef_replay.proofs.GoodNames.{kept_channel}
@@ -53,13 +54,21 @@ not_true : (b : Bool) → not b ≡ true → b ≡ false
 not_true true e = sym e
 not_true false e = refl
 
-item_is : (q : QueryItem) → asks_for_all q ≡ true → q ≡ record { group = 0; suppress = false; channel = q.channel }
+-- the parts of the test of an item
+item_parts : (q : QueryItem) → asks_for_all q ≡ true → (q.group == 0 ≡ true) × (not q.suppress ≡ true) × (is_channel q.channel ≡ true) × (is_unconditional q ≡ true)
+item_parts q e =
+    let last = and_parts (q.group == 0 && not q.suppress && is_channel q.channel) (is_unconditional q) e in
+    let third = and_parts (q.group == 0 && not q.suppress) (is_channel q.channel) last.0 in
+    let front = and_parts (q.group == 0) (not q.suppress) third.0 in
+    (front.0, front.1, third.1, last.1)
+
+item_is : (q : QueryItem) → asks_for_all q ≡ true → q ≡ all_events_query q.channel
 item_is q e =
-    let parts = and_parts (q.group == 0 && not q.suppress) (is_channel q.channel) e in
-    let front = and_parts (q.group == 0) (not q.suppress) parts.0 in
-    let group = zero_is q.group front.0 in
-    let keeps = not_true q.suppress front.1 in
-    λ i. record { group = group i; suppress = keeps i; channel = q.channel }
+    let parts = item_parts q e in
+    let group = zero_is q.group parts.0 in
+    let keeps = not_true q.suppress parts.1 in
+    let any = unconditional_is q parts.3 in
+    λ i. record { group = group i; suppress = keeps i; channel = q.channel; text = any.0 i; path = any.1 i }
 
 items_are : (qs : List QueryItem) → list_all asks_for_all qs ≡ true → qs ≡ all_events_of (map (λ (q : QueryItem). q.channel) qs)
 items_are [] e = refl
@@ -73,7 +82,7 @@ names_are : (qs : List QueryItem) → list_all asks_for_all qs ≡ true → All 
 names_are [] e = All-nil HasKeptName
 names_are (q ∷ qs) e =
     let parts = and_parts (asks_for_all q) (list_all asks_for_all qs) e in
-    let channel = (and_parts (q.group == 0 && not q.suppress) (is_channel q.channel) parts.0).1 in
+    let channel = (item_parts q parts.0).2 in
     All-cons HasKeptName q qs
     (record {
       utf8 = IsUtf8-from_is_utf8 q.channel (and_parts (is_utf8 q.channel) (is_one q.channel (channel_name q.channel)) channel).0;

@@ -1,4 +1,3 @@
-pub mod AddressTexts
 pub mod Admitted
 pub mod CollectorSteps
 pub mod Declared

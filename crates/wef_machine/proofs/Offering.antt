@@ -32,7 +32,7 @@ use Rattle.wef_collector_reports.specs.declared.listing.Listed.{Listed}
 use Rattle.wef_collector_rows.specs.declared.standings.Standing.TheVariants.{Ended, Live}
 use Rattle.wef_eventing.proofs.AddressesBack.{addresses_read_back}
 use Rattle.wef_eventing.specs.Addresses.{delivery_address, source_in, subscription_in}
-use Rattle.wef_eventing.specs.declared.bodies.Offer.{Offer}
+use Rattle.wef_eventing.specs.declared.offers.Offer.{Offer}
 use Rattle.wef_keeper.specs.Rows.{Rows, cell_of_row, is_after, key_cmp, key_cmp_total, row_of, rows_after}
 use Rattle.wef_keeper.specs.Sections.{is_under, rows_under}
 use Rattle.wef_keeper.specs.declared.keys.Cell.{Cell}

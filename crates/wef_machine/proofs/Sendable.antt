@@ -17,7 +17,9 @@ use Rattle.wef_batch.specs.declared.items.Item.{Item}
 use Rattle.wef_batch.specs.declared.items.Item.TheVariants.{Event, Dropped, Loose}
 use Rattle.wef_collector.specs.FormsStay.{IsSoundItem}
 use Rattle.wef_collector_rows.specs.Answers.{channels_read}
-use Rattle.wef_front.proofs.IdTexts.{id_spelt, id_text_good}
+use Rattle.wef_eventing.proofs.AddressTexts.{address_is_plain}
+use Rattle.wef_front.proofs.IdTexts.{id_spelt}
+use Rattle.wef_ids.proofs.PlainIds.{id_text_good}
 use Rattle.wef_front.specs.Sending.{CanBeSent, IsPlainText}
 use Rattle.wef_keeper.specs.Rows.{Rows, row_of}
 use Rattle.wef_keeper.specs.declared.keys.Cell.{Cell}
@@ -33,8 +35,7 @@ use Rattle.wef_source_log.specs.Forms as log
 use Rattle.wef_source_log.specs.Keys.{boot_key}
 use Rattle.wef_source_log.specs.Windows.{boot_of}
 use Rattle.wef_machine.specs.Kept.{IsDelivery, IsKept, IsServed}
-use Rattle.wef_machine.specs.States.{Slot, State, slot_of}
-use Rattle.wef_machine.proofs.AddressTexts.{address_is_plain}
+use Rattle.wef_machine.specs.States.{Slot, State, host, slot_of}
 use Rattle.wef_machine.proofs.EventTrees.{said_has_tree}
 use Rattle.wef_machine.proofs.KeptChannels.{known_channels}
 use Rattle.wef_machine.proofs.LowerFacts.{lower}
@@ -129,7 +130,7 @@ delivery_can_be_sent state s u slot end session kept there runs found left =
     record {
       spelt = id_spelt (next_id end) (small_id end.boot end.drawn few (one_left end.drawn left));
       id = id_text_good (next_id end);
-      notify_to = subst IsPlainText (sym served.terms.address_is) (address_is_plain session.name s);
+      notify_to = subst IsPlainText (sym served.terms.address_is) (address_is_plain host session.name s (omega arith, refl));
       identifier = subst (λ (o : Option (List ℕ)). IfSome o IsPlainText) (sym served.terms.identifier_is) (subscription_is_plain session.name name);
       plain = items.0;
       kept = items.1;

@@ -13,8 +13,8 @@ use Rattle.wef_bookmark.proofs.Joining.{joined_number, raised_number}
 use Rattle.wef_bookmark.specs.Order.{Marks, joined, number_at, raised}
 use Rattle.wef_ids.specs.declared.MessageId.{MessageId}
 use Rattle.wef_eventing.specs.Addresses.{subscription_in}
-use Rattle.wef_eventing.specs.declared.bodies.Offer.{Offer}
-use Rattle.wef_eventing.specs.declared.bodies.Subscribe.{Subscribe}
+use Rattle.wef_eventing.specs.declared.offers.Offer.{Offer}
+use Rattle.wef_eventing.specs.declared.offers.Subscribe.{Subscribe}
 use Rattle.wef_keeper.specs.Rows.{Rows}
 use Rattle.wef_query.specs.Selected.{channels_of}
 use Rattle.wef_source.specs.Sessions.{acknowledged, first_where, is_outstanding, moved_by, placed, session_from, settled, waits_for, with_changed, with_channels, with_offered, with_offers, with_session, without}

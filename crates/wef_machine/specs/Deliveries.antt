@@ -15,7 +15,7 @@ use Rattle.wef_ids.specs.declared.FaultName.TheVariants.{InvalidMessage, Destina
 use Rattle.wef_ids.specs.declared.MessageId.{MessageId}
 use Rattle.wef_ids.specs.declared.ids.Ids.{Ids}
 use Rattle.wef_eventing.specs.Addresses.{source_in, subscription_in}
-use Rattle.wef_eventing.specs.declared.bodies.Offer.{Offer}
+use Rattle.wef_eventing.specs.declared.offers.Offer.{Offer}
 use Rattle.wef_keeper.specs.Calls.{Effect}
 use Rattle.wef_keeper.specs.Rows.{Rows}
 use Rattle.wef_source.specs.Answers.{waiting_for}

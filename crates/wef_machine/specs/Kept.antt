@@ -12,8 +12,8 @@ use Rattle.wef_collector.specs.FormsStay.{IsSoundBatch}
 use Rattle.wef_collector_rows.specs.Keys.{subscription_key}
 use Rattle.wef_ids.specs.declared.MessageId.{MessageId}
 use Rattle.wef_eventing.specs.Addresses.{delivery_address, source_in, subscription_in}
-use Rattle.wef_eventing.specs.declared.bodies.Offer.{Offer}
-use Rattle.wef_eventing.specs.declared.bodies.Subscribe.{Subscribe}
+use Rattle.wef_eventing.specs.declared.offers.Offer.{Offer}
+use Rattle.wef_eventing.specs.declared.offers.Subscribe.{Subscribe}
 use Rattle.wef_eventing.specs.declared.subscriptions.Subscription.{Subscription}
 use Rattle.wef_keeper.specs.Rows.{Rows}
 use Rattle.wef_keeper.specs.declared.keys.Cell.{Cell}

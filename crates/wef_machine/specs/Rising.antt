@@ -8,7 +8,7 @@ use Rattle.wef_bookmark.specs.Order.{Marks, number_at}
 use Rattle.wef_collector_rows.specs.Bookmarks.{bookmark_of}
 use Rattle.wef_ids.specs.declared.MessageId.{MessageId}
 use Rattle.wef_eventing.specs.Addresses.{subscription_in}
-use Rattle.wef_eventing.specs.declared.bodies.Offer.{Offer}
+use Rattle.wef_eventing.specs.declared.offers.Offer.{Offer}
 use Rattle.wef_replay.specs.declared.lines.Line.{Line}
 use Rattle.wef_source.specs.Fits.{event_at, ranges_in}
 use Rattle.wef_source.specs.Machine.{End}

@@ -12,7 +12,7 @@ use Rattle.wef_collector_rows.specs.declared.faults.CollectorFault.TheVariants a
 use Rattle.wef_envelope.specs.Faults.{is_known}
 use Rattle.wef_envelope.specs.Laws.{IsSpelt}
 use Rattle.wef_eventing.specs.Addresses.{source_in, subscription_in}
-use Rattle.wef_front.proofs.IdTexts.{id_text_good}
+use Rattle.wef_ids.proofs.PlainIds.{id_text_good}
 use Rattle.wef_front.proofs.OneIsHeard.{delivery_heard_is}
 use Rattle.wef_front.proofs.RepliesAreHeard.{replies_are_read}
 use Rattle.wef_front.proofs.SaidOfCalls.{said_known}
@@ -39,6 +39,7 @@ use Rattle.wef_machine.specs.Collecting.{collector_opened, collector_opening, re
 use Rattle.wef_machine.specs.Deliveries.{BatchEffect, batch_effect, delivery_effect, effect_at}
 use Rattle.wef_machine.specs.Printed.{fault_answer}
 use Rattle.wef_machine.specs.States as machine
+use Rattle.wef_machine.specs.States.{host}
 use Rattle.wef_machine.specs.Arming.{is_done, is_stopped, plan_of}
 use Rattle.wef_machine.specs.declared.arming.Armed.{Armed}
 use Rattle.wef_machine.specs.declared.arming.Fate as the_fate
@@ -51,7 +52,7 @@ use Rattle.wef_xml.specs.Good.{IsXmlText}
 use Rattle.wef_world.proofs.Said.{replied_is}
 use Rattle.wef_world.proofs.Settled.{Goes, WantsNothing, answered_settles, called_of, leaves, settled_seen, told_by}
 use Rattle.wef_world.proofs.Takings.{batch_came, batch_left, delivery_makes}
-use Rattle.wef_world.specs.Answered.{IsWritten, Leads, answer_word, asked_at, fault_word, heard_of, message_in, name_or_none, reply_in, taken_by, target_of}
+use Rattle.wef_world.specs.Answered.{IsSaidToBatch, IsWritten, Leads, answer_word, asked_at, fault_word, heard_of, message_in, name_or_none, reply_in, taken_by, target_of}
 use Rattle.wef_world.specs.Bytes.{AreReply, Replied}
 use Rattle.wef_world.specs.Collected.{collector_of}
 use Rattle.wef_world.specs.Outcomes.{answered_batch, drawn_for, events_left, events_of, outcome_word, reply_to, sent_by}
@@ -101,15 +102,16 @@ reply_written bytes ids relates reply are spelt related text known = record {
 
 -- an answer that has an envelope is a reply
 pub written_reply : (answer : Answer) → IsWritten answer → (answer.status == 204) ≡ false → AreReply answer.body
-written_reply answer is not_quiet = by is.said is.written is.spelt is.known
+written_reply answer is not_quiet = by is.said is.written is.spelt is.known is.of_batch
   where
     body : Answer → List ℕ
     body a = a.body
 
-    by : (said : the_said.Said) → answer ≡ answer_of is.ids Utf8 (Some is.relates) said → IsSpeltFor is.ids said → IsKnownSaid said → AreReply answer.body
-    by says.Quiet written spelt known = absurd (no_status answer 204 (ap (λ (a : Answer). a.status) written) not_quiet refl)
-    by says.Ack written spelt known = reply_written answer.body is.ids is.relates replies.Ack (ap body written) spelt is.relates_spelt is.relates_text tt
-    by (says.Fault name) written spelt known = reply_written answer.body is.ids is.relates (replies.Fault name) (ap body written) spelt is.relates_spelt is.relates_text known
+    by : (said : the_said.Said) → answer ≡ answer_of is.ids Utf8 (Some is.relates) said → IsSpeltFor is.ids said → IsKnownSaid said → IsSaidToBatch said → AreReply answer.body
+    by says.Quiet written spelt known of_batch = absurd (no_status answer 204 (ap (λ (a : Answer). a.status) written) not_quiet refl)
+    by says.Ack written spelt known of_batch = reply_written answer.body is.ids is.relates replies.Ack (ap body written) spelt is.relates_spelt is.relates_text tt
+    by (says.Offers list) written spelt known of_batch = absurd of_batch
+    by (says.Fault name) written spelt known of_batch = reply_written answer.body is.ids is.relates (replies.Fault name) (ap body written) spelt is.relates_spelt is.relates_text known
 
 -- ---- what is told
 
@@ -213,10 +215,15 @@ no_want (Err faults.Exists) answered = tt
 no_want (Err faults.TooMany) answered = tt
 no_want (Err faults.Full) answered = tt
 
+said_to_batch : (ack : Bool) (done : Result Unit the_fault.CollectorFault) → IsSaidToBatch (said_of ack done)
+said_to_batch true (Ok done) = tt
+said_to_batch false (Ok done) = tt
+said_to_batch ack (Err fault) = tt
+
 -- what the collector writes to a delivery
-pub answer_is_written : (d : Delivery) (now : ℕ) (answer : Answer) (ids ids_now : Ids) (before after : Store) → CanBeSent d → Leads d → IsAnswer (heard_of d) Utf8 now answer ids ids_now before after → IsWritten answer
+pub answer_is_written : (d : Delivery) (now : ℕ) (answer : Answer) (ids ids_now : Ids) (before after : Store) → CanBeSent d → Leads d → IsAnswer host (heard_of d) Utf8 now answer ids ids_now before after → IsWritten answer
 answer_is_written d now answer ids ids_now before after sent_so leads is =
-    let steps = subst (λ (asked : Asked). Steps asked now is.said before after) (asked_is d leads) is.stepped in
+    let steps = subst (λ (asked : Asked). Steps host asked now is.said before after) (asked_is d leads) is.stepped in
     record {
       ids = ids;
       said = is.said;
@@ -224,6 +231,7 @@ answer_is_written d now answer ids ids_now before after sent_so leads is =
       written = is.written;
       spelt = is.spelt;
       known = subst IsKnownSaid (sym steps.3) (said_known d.batch.ack_wanted steps.0);
+      of_batch = subst IsSaidToBatch (sym steps.3) (said_to_batch d.batch.ack_wanted steps.0);
       relates_spelt = sent_so.spelt;
       relates_text = sent_so.id;
     }
@@ -247,12 +255,12 @@ running_place (Closed own) end there = absurd (none end there)
 
 pub delivery_answered : (c : machine.Collector) (placed left : Placed (Collector MemKeeper)) (end end' : Collector MemKeeper) (s : List ℕ) (d : Delivery) (now : ℕ) (answer : Answer) (how : the_fate.Fate) → CanBeSent d → Leads d
     → collector_of placed ≡ collector_opened c → Some end ≡ end_in placed.place → IsPlanned the_keeper placed → AreFormed (keeper_in the_keeper placed.place).rows
-    → IsAnswer (heard_of d) Utf8 now answer end.ids end'.ids (told_by end.keeper) (told_by end'.keeper)
+    → IsAnswer host (heard_of d) Utf8 now answer end.ids end'.ids (told_by end.keeper) (told_by end'.keeper)
     → how ≡ fate_by (is_used_up the_keeper (running_with placed.armed end')) placed.armed → left ≡ settled the_keeper how (running_with placed.armed end')
     → (collector_of left ≡ events_left c s d now) × (taken_by s how answer ≡ events_of c s d now)
 delivery_answered c placed left end end' s d now answer how sent_so leads opened there planned formed is goes settles =
     let effect : Rows → Result (List Change) the_fault.CollectorFault = λ rows. take_effect rows leads.u leads.s d.batch now in
-    let steps = subst (λ (asked : Asked). Steps asked now is.said (told_by end.keeper) (told_by end'.keeper)) (asked_is d leads) is.stepped in
+    let steps = subst (λ (asked : Asked). Steps host asked now is.said (told_by end.keeper) (told_by end'.keeper)) (asked_is d leads) is.stepped in
     let done = steps.0 in
     let runs : placed ≡ running_with placed.armed end = λ i. record { place = running_place placed.place end there i; armed = placed.armed } in
     let told : end.keeper.plan ≡ plan_of placed.armed = subst (IsPlanned the_keeper) runs planned in

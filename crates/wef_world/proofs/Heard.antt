@@ -1,7 +1,7 @@
 -- What a source hears in a reply is what the machine says of the answer.
 use Rattle.std.proofs.Common.{◌≡◌, ℕ, Bool, true, cond, ap, sym, ◌∙◌, subst}
 use Rattle.std.specs.Prelude.{Option, Some, None, codes, is_some}
-use Rattle.wef_front.specs.HeardReplies.{HearsReply, HearsTold, Told}
+use Rattle.wef_front.specs.HeardReplies.{HearsReply, HearsTold, Offered, Told}
 use Rattle.wef_front.specs.declared.listening.Hears as the_hears
 use Rattle.wef_front.specs.declared.listening.Hears.TheVariants as hears
 use Rattle.wef_ids.specs.declared.FaultName.{FaultName}
@@ -58,9 +58,10 @@ heard_so hears.NotAsked relates (replies.Fault fault) end end' h = record {
   after = h.1 ∙ unwaited (waiting_for end relates.value) (refused_by end relates.value fault) end h.0;
   word = unwaited (waiting_for end relates.value) (codes "refused") (codes "not-asked") h.0;
 }
+heard_so (hears.Adopted count) relates answer end end' h = absurd h
 heard_so hears.Unreadable relates answer end end' h = absurd h
 
 -- the same of bytes that tell the reply
-pub heard_told : (told : Option Told) (heard : the_hears.Hears) (relates : MessageId) (answer : reply.Reply) (end end' : End) → told ≡ Some (relates, answer) → HearsTold told heard end end'
-    → HasHeard heard relates answer end end'
-heard_told told heard relates answer end end' is h = heard_so heard relates answer end end' (subst (λ (t : Option Told). HearsTold t heard end end') is h)
+pub heard_told : (told : Option Told) (offered : Option Offered) (heard : the_hears.Hears) (relates : MessageId) (answer : reply.Reply) (now : ℕ) (end end' : End) → told ≡ Some (relates, answer)
+    → HearsTold told offered heard now end end' → HasHeard heard relates answer end end'
+heard_told told offered heard relates answer now end end' is h = heard_so heard relates answer end end' (subst (λ (t : Option Told). HearsTold t offered heard now end end') is h)

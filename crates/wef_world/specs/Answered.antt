@@ -13,6 +13,7 @@ use Rattle.wef_front.specs.declared.hearing.Asked as the_asked
 use Rattle.wef_front.specs.declared.hearing.Asked.TheVariants.{Refused, Take}
 use Rattle.wef_front.specs.declared.hearing.Heard.{Heard}
 use Rattle.wef_front.specs.declared.saying.Said.{Said}
+use Rattle.wef_front.specs.declared.saying.Said.TheVariants.{Offers}
 use Rattle.wef_front.specs.declared.targets.Target as the_target
 use Rattle.wef_front.specs.declared.targets.Target.TheVariants.{Delivery as Delivers}
 use Rattle.wef_ids.specs.declared.FaultName.TheVariants.{DestinationUnreachable}
@@ -60,7 +61,12 @@ heard_of delivery = record { relates = Some delivery.id; asked = asked_at (subsc
 
 -- ---- what is answered
 
--- An answer is what is written, under the next id of some ids, of what was said to a message.
+-- what may be said to a batch
+abbrev pub IsSaidToBatch : Said → Type 0
+IsSaidToBatch (Offers list) = ⊥
+IsSaidToBatch _ = Unit {0}
+
+-- An answer is what is written, under the next id of some ids, of what was said to a batch.
 pub record IsWritten (answer : Answer) : Type 0 where
   pub ids : Ids
   pub said : Said
@@ -68,6 +74,7 @@ pub record IsWritten (answer : Answer) : Type 0 where
   pub written : answer ≡ answer_of ids Utf8 (Some relates) said
   pub spelt : IsSpeltFor ids said
   pub known : IsKnownSaid said
+  pub of_batch : IsSaidToBatch said
   pub relates_spelt : IsSpelt relates
   pub relates_text : IsXmlText relates.text
 

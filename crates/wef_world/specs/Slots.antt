@@ -6,7 +6,7 @@ use Rattle.wef_ids.specs.Ids.{ids_agree}
 use Rattle.wef_ids.specs.declared.MessageId.{MessageId}
 use Rattle.wef_event.specs.Events.{Event}
 use Rattle.wef_event.specs.Numbering.{numbered_text}
-use Rattle.wef_eventing.specs.declared.bodies.Offer.{Offer}
+use Rattle.wef_eventing.specs.declared.offers.Offer.{Offer}
 use Rattle.wef_front.specs.declared.listening.Hears as the_hears
 use Rattle.wef_front.specs.declared.listening.Hears.TheVariants as hears
 use Rattle.wef_keeper.specs.Calls.{Effect}
@@ -26,7 +26,7 @@ use Rattle.wef_source_log.specs.Windows.{IsWindow, boot_of}
 use Rattle.wef_source_log.specs.declared.faults.LogFault.{LogFault}
 use Rattle.wef_machine.specs.Deliveries.{after_ack, after_fault}
 use Rattle.wef_machine.specs.Places.{remembering}
-use Rattle.wef_machine.specs.Printed.{fate_line, fate_word, pair_line, wrote_line}
+use Rattle.wef_machine.specs.Printed.{adopted_word, fate_line, fate_word, pair_line, wrote_line}
 use Rattle.wef_machine.specs.Sources.{slot_opened, slot_opening, slot_written}
 use Rattle.wef_machine.specs.States.{Slot, Slots, slot_with}
 use Rattle.wef_machine.specs.declared.arming.Fate.{Fate}
@@ -141,6 +141,7 @@ after_reply end relates (replies.Fault fault) = after_fault end relates fault
 
 -- the word for what a source heard
 abbrev pub heard_word : the_hears.Hears → List ℕ
+heard_word (hears.Adopted count) = adopted_word count
 heard_word hears.Moved = codes "moved"
 heard_word hears.Refused = codes "refused"
 heard_word hears.NotAsked = codes "not-asked"

@@ -10,12 +10,13 @@ use wef_keeper::{Keeper, MemKeeper};
 use wef_source::SourceEnd;
 
 /// The answers to messages, and what is heard in them: each method promises what the function of
-/// wef_front with its name does. A world hands over nothing but bytes, so whoever notes what these
-/// methods are given sees all that the ends are told.
+/// wef_front with its name does. A world hands over the bytes of each batch, and of each answer to one
+/// that it delivers, and nothing of their values; asks and offers don't come by here.
 pub trait Answers: Drop {
     ghost use Rattle.std.specs.Prelude.{◌≡◌, ◌⊎◌, ℕ, IfErr, IfOk, OnErr};
+    ghost use Rattle.wef_eventing.specs.Addresses as addresses;
     ghost use Rattle.wef_front.specs.Heard as hearing;
-    ghost use Rattle.wef_front.specs.HeardReplies.{HearsTold, told};
+    ghost use Rattle.wef_front.specs.HeardReplies.{HearsTold, offers_told, told};
     ghost use Rattle.wef_front.specs.Replies.{IsAnswer, IsUnanswered};
     ghost use Rattle.wef_front.specs.declared.hearing.Heard as heard;
     ghost use Rattle.wef_keeper.specs.Keeping.{raised};
@@ -33,10 +34,11 @@ pub trait Answers: Drop {
         body: &Bytes,
         now: Moment,
     ) -> Result<Answer, AllocError>
+        requires host { addresses.IsHost host.now }
         ensures answer { IfOk result (λ answer. (said : heard.Heard) × hearing.Hears target.now charset body.now said
-            × IsAnswer said charset now answer collector.old.ids collector.new.ids (⟦<MemKeeper as Keeper>⟧.store collector.old.keeper) (⟦<MemKeeper as Keeper>⟧.store collector.new.keeper)) }
+            × IsAnswer host.now said charset now answer collector.old.ids collector.new.ids (⟦<MemKeeper as Keeper>⟧.store collector.old.keeper) (⟦<MemKeeper as Keeper>⟧.store collector.new.keeper)) }
         ensures wants_memory { IfErr result (λ _. (collector.new ≡ collector.old) ⊎ ((said : heard.Heard) × hearing.Hears target.now charset body.now said
-            × IsUnanswered said now collector.old.ids collector.new.ids (⟦<MemKeeper as Keeper>⟧.store collector.old.keeper) (⟦<MemKeeper as Keeper>⟧.store collector.new.keeper))) }
+            × IsUnanswered host.now said now collector.old.ids collector.new.ids (⟦<MemKeeper as Keeper>⟧.store collector.old.keeper) (⟦<MemKeeper as Keeper>⟧.store collector.new.keeper))) }
         ensures calls { calls self.new ≡ raised (calls self.old) };
 
     /// Hears the bytes of a reply to a source, in UTF-8. There may be no memory to read it.
@@ -46,7 +48,7 @@ pub trait Answers: Drop {
         body: &Bytes,
         now: Moment,
     ) -> Result<Hears, AllocError>
-        ensures heard { IfOk result (λ hears. HearsTold (told body.now) hears source.old.memory source.new.memory) }
+        ensures heard { IfOk result (λ hears. HearsTold (told body.now) (offers_told now body.now) hears now source.old.memory source.new.memory) }
         ensures wants_memory { OnErr result (source.new.memory ≡ source.old.memory) }
         ensures keeper { source.new.keeper ≡ source.old.keeper }
         ensures name { source.new.name ≡ source.old.name }

@@ -12,6 +12,7 @@ ghost use Rattle.wef_machine.specs.Deliveries as steps;
 ghost use Rattle.wef_machine.specs.Kept.{IsKept};
 ghost use Rattle.wef_machine.specs.Printed as texts;
 ghost use Rattle.wef_machine.specs.Seen.{message_line, seen_line};
+ghost use Rattle.wef_eventing.specs.Addresses.{IsHost};
 ghost use Rattle.wef_machine.specs.States as states;
 ghost use Rattle.wef_base.specs.declared.tree.Charset.TheVariants.{Utf8};
 ghost use Rattle.wef_front.specs.Replies.{IsAnswer};
@@ -222,14 +223,22 @@ fn answer_to_delivery<A: Answers>(
     now: Moment,
 ) -> Result<Answer, WorldFault>
     requires { answered.Leads delivery.now }
-    ensures answer { IfOk result (λ answer. IsAnswer (answered.heard_of delivery.now) Utf8 now answer collector.old.ids collector.new.ids (⟦<MemKeeper as Keeper>⟧.store collector.old.keeper) (⟦<MemKeeper as Keeper>⟧.store collector.new.keeper)) }
+    ensures answer { IfOk result (λ answer. IsAnswer states.host (answered.heard_of delivery.now) Utf8 now answer collector.old.ids collector.new.ids (⟦<MemKeeper as Keeper>⟧.store collector.old.keeper) (⟦<MemKeeper as Keeper>⟧.store collector.new.keeper)) }
     ensures sent { OnOk result (CanBeSent delivery.now) }
     ensures calls { OnOk result (A.calls answers.new ≡ raised (A.calls answers.old)) }
 {
     let target = target_of(alloc, delivery.address())?;
-    let host = Text::from_str(alloc, HOST)?;
+    let host = host(alloc)?;
     let body = delivery.bytes();
     Ok(answers.collector_answer(collector, &target, &host, Charset::Utf8, body, now)?)
+}
+
+/// The collector's host.
+fn host(alloc: Global) -> Result<Text, AllocError>
+    ensures value { IfOk result (λ host. host ≡ states.host) }
+    ensures is_one { IfOk result IsHost }
+{
+    Text::from_str(alloc, HOST)
 }
 
 /// What the address of a delivery names: an empty text stands for a name that isn't there, which is
@@ -334,7 +343,7 @@ fn answer_to_ask(
     ensures ids { OnOk result (collector.new.ids ≡ with_drawn (length (offers collector.old.keeper.rows source.now states.host) + 1) collector.old.ids) }
     ensures answer { IfOk result (λ answer. answer ≡ Offers source.now (collecting.reply_id collector.old.ids) relates.now (offers collector.old.keeper.rows source.now states.host)) }
 {
-    let host = Text::from_str(alloc, HOST)?;
+    let host = host(alloc)?;
     match collector.offers(source, &host) {
         Ok(offers) => {
             let id = draw(collector, offers.len())?;
@@ -480,17 +489,18 @@ fn give_reply<A: Answers>(
     };
     match slot.hear(alloc, answers, reply, now)? {
         Used::Closed(fate) => Ok(Text::from_str(alloc, fate_word(fate))?),
-        Used::Answered(hears) => Ok(Text::from_str(alloc, heard_word(hears))?),
+        Used::Answered(hears) => Ok(heard_word(alloc, hears)?),
     }
 }
 
 /// The word for what a source heard.
-fn heard_word(hears: Hears) -> &'static str
-    ensures { result.now ≡ slots.heard_word hears }
+fn heard_word(alloc: Global, hears: Hears) -> Result<Text, AllocError>
+    ensures { IfOk result (λ word. word ≡ slots.heard_word hears) }
 {
     match hears {
-        Hears::Moved => "moved",
-        Hears::Refused => "refused",
-        Hears::NotAsked | Hears::Unreadable => "not-asked",
+        Hears::Adopted(count) => adopted_word(alloc, count),
+        Hears::Moved => Text::from_str(alloc, "moved"),
+        Hears::Refused => Text::from_str(alloc, "refused"),
+        Hears::NotAsked | Hears::Unreadable => Text::from_str(alloc, "not-asked"),
     }
 }

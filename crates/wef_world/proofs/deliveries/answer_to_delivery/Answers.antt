@@ -7,12 +7,14 @@ use Rattle.wef_front.specs.declared.targets.Target.{Target}
 use Rattle.wef_world.proofs.Answered.{heard_is}
 use Rattle.wef_world.proofs.Settled.{told_by}
 use Rattle.wef_world.proofs.deliveries.answer_to_delivery.Goals as goal
-use Rattle.wef_world.specs.Answered.{target_of}
+use Rattle.wef_world.specs.Answered.{heard_of, target_of}
 
 pub returns-clause-answer : goal.returns-clause-answer
 returns-clause-answer g c =
     let heard = c.in_ok-collector_answer.ensures.answer in
     let target = c.in_ok-target.ensures ∙ ap target_of c.address.ensures in
     let hears = subst (λ (p : Target × List ℕ). Hears p.0 Utf8 p.1 heard.0) (λ i. (target i, c.bytes-body.ensures.value i)) heard.1 in
-    subst (λ (h : Heard). IsAnswer h Utf8 c.args.now c.in_ok-collector_answer.field-0 c.args.collector.now.ids c.collector_answer.new.collector.ids (told_by c.args.collector.now.keeper) (told_by c.collector_answer.new.collector.keeper))
-    (heard_is c.args.delivery.now heard.0 c.bytes-body.ensures.sent c.requires hears) heard.2
+    let Answers : List ℕ → Heard → Type 0 =
+    λ at h. IsAnswer at h Utf8 c.args.now c.in_ok-collector_answer.field-0 c.args.collector.now.ids c.collector_answer.new.collector.ids (told_by c.args.collector.now.keeper) (told_by c.collector_answer.new.collector.keeper) in
+    subst (λ (at : List ℕ). Answers at (heard_of c.args.delivery.now)) c.in_ok-host.ensures.value
+    (subst (Answers c.in_ok-host.host) (heard_is c.args.delivery.now heard.0 c.bytes-body.ensures.sent c.requires hears) heard.2)
