@@ -1,12 +1,13 @@
 //! Answers to requests, written out.
 
-use crate::collectors::{collector_of, push_left};
+use crate::collectors::{Kept, collector_of, host, push_left};
 use std::alloc::{AllocError, Global};
 use tests_tasks::deliveries::edited;
 use tests_tasks::escapes::unescaped;
 use wef_base::{Bytes, Charset, Element, Moment, Text};
+use wef_bodies::read_offers;
 use wef_collector::Collector;
-use wef_envelope::actions::ACK;
+use wef_envelope::actions::{ACK, ENUMERATE_RESPONSE};
 use wef_envelope::{Envelope, MessageId, from_node, read_fault};
 use wef_front::{Answer, Target, collector_answer};
 use wef_keeper::MemKeeper;
@@ -19,9 +20,14 @@ pub(crate) fn base_path(alloc: Global) -> Result<Target, AllocError> {
 
 /// Where a delivery of the source `pc1` for a subscription goes to.
 pub(crate) fn path_to(alloc: Global, sub: &str) -> Result<Target, AllocError> {
+    path_of(alloc, sub, "pc1")
+}
+
+/// Where a delivery of a source for a subscription goes to.
+pub(crate) fn path_of(alloc: Global, sub: &str, source: &str) -> Result<Target, AllocError> {
     Ok(Target::Delivery {
         sub: Text::from_str(alloc, sub)?,
-        source: Text::from_str(alloc, "pc1")?,
+        source: Text::from_str(alloc, source)?,
     })
 }
 
@@ -34,7 +40,7 @@ pub(crate) fn asked(
     body: &Bytes,
     second: u64,
 ) -> Result<Answer, AllocError> {
-    let host = Text::from_str(alloc, "collector:5985")?;
+    let host = host(alloc)?;
     let now = Moment::of(second.saturating_mul(1_000)).unwrap_or(Moment::first());
     collector_answer(alloc, collector, target, &host, charset, body, now)
 }
@@ -46,40 +52,51 @@ pub(crate) fn push_whole(
     document: &str,
 ) -> Result<(), AllocError> {
     let alloc = shown.alloc();
-    let mut collector = collector_of(alloc, true)?;
+    let mut collector = collector_of(alloc, Kept::Live)?;
     let body = unescaped(alloc, document)?;
     let answer = asked(alloc, &mut collector, target, Charset::Utf8, &body, 1)?;
     push_bytes(shown, &answer)?;
-    push_left(shown, collector, true)
+    push_left(shown, collector, Kept::Live)
 }
 
-fn push_bytes(shown: &mut Text, answer: &Answer) -> Result<(), AllocError> {
+/// An answer in UTF-8, as its status and its text.
+pub(crate) fn push_bytes(shown: &mut Text, answer: &Answer) -> Result<(), AllocError> {
     shown.push_number(u64::from(answer.status))?;
     shown.push_str(" ")?;
     shown.push_str(str::from_utf8(answer.body.as_slice()).unwrap_or("no UTF-8"))
 }
 
+/// What is said to a delivery with edits at a target, and what is kept behind it.
+pub(crate) fn push_edited(
+    shown: &mut Text,
+    kept: Kept,
+    target: &Target,
+    edits: &str,
+) -> Result<(), AllocError> {
+    let body = edited(shown.alloc(), edits)?;
+    push_answered(shown, kept, target, &body)
+}
+
 /// What is said to a request at a target, and what is kept behind it.
 pub(crate) fn push_answered(
     shown: &mut Text,
+    kept: Kept,
     target: &Target,
-    edits: &str,
-    is_live: bool,
+    body: &Bytes,
 ) -> Result<(), AllocError> {
     let alloc = shown.alloc();
-    let mut collector = collector_of(alloc, is_live)?;
-    let body = edited(alloc, edits)?;
-    let answer = asked(alloc, &mut collector, target, Charset::Utf8, &body, 1)?;
+    let mut collector = collector_of(alloc, kept)?;
+    let answer = asked(alloc, &mut collector, target, Charset::Utf8, body, 1)?;
     push_said(shown, Charset::Utf8, &answer)?;
-    push_left(shown, collector, is_live)
+    push_left(shown, collector, kept)
 }
 
 /// What is said to `SUBSCRIPTION; SOURCE; REQUEST`, and what is kept behind it.
-pub(crate) fn push_at_path(shown: &mut Text, line: &str, is_live: bool) -> Result<(), AllocError> {
+pub(crate) fn push_at_path(shown: &mut Text, kept: Kept, line: &str) -> Result<(), AllocError> {
     let Some((target, edits)) = path_in(shown.alloc(), line)? else {
         return shown.push_str("no row");
     };
-    push_answered(shown, &target, edits, is_live)
+    push_edited(shown, kept, &target, edits)
 }
 
 fn path_in<'a>(alloc: Global, line: &'a str) -> Result<Option<(Target, &'a str)>, AllocError> {
@@ -122,7 +139,7 @@ pub(crate) fn push_sequence(
         let answer = asked(alloc, &mut collector, &target, Charset::Utf8, &body, second)?;
         push_said(shown, Charset::Utf8, &answer)?;
     }
-    push_left(shown, collector, true)
+    push_left(shown, collector, Kept::Live)
 }
 
 /// An answer, as its status and what its envelope says.
@@ -150,11 +167,7 @@ fn push_reply(shown: &mut Text, root: &Element) -> Result<(), AllocError> {
 }
 
 fn push_envelope(shown: &mut Text, envelope: &Envelope) -> Result<(), AllocError> {
-    match envelope.body.as_slice() {
-        [element, ..] => push_fault(shown, element)?,
-        _ if envelope.action.as_str() == ACK => shown.push_str("Ack")?,
-        _ => shown.push_str("another action")?,
-    }
+    push_content(shown, envelope)?;
     shown.push_str(" ")?;
     push_number(shown, &envelope.id)?;
     match &envelope.relates {
@@ -165,6 +178,31 @@ fn push_envelope(shown: &mut Text, envelope: &Envelope) -> Result<(), AllocError
         }
         None => shown.push_str(" to none"),
     }
+}
+
+fn push_content(shown: &mut Text, envelope: &Envelope) -> Result<(), AllocError> {
+    match envelope.body.as_slice() {
+        elements if envelope.action.as_str() == ENUMERATE_RESPONSE => push_offers(shown, elements),
+        [element, ..] => push_fault(shown, element),
+        _ if envelope.action.as_str() == ACK => shown.push_str("Ack"),
+        _ => shown.push_str("another action"),
+    }
+}
+
+/// Offers, as the addresses that batches for them go to.
+fn push_offers(shown: &mut Text, body: &[Element]) -> Result<(), AllocError> {
+    let Ok(offers) = read_offers(shown.alloc(), body, Moment::first()) else {
+        return shown.push_str("no good offers");
+    };
+    if offers.is_empty() {
+        return shown.push_str("no offers");
+    }
+    shown.push_str("offers")?;
+    for offer in offers.as_slice() {
+        shown.push_str(" ")?;
+        shown.push_str(offer.subscribe.notify_to.as_str())?;
+    }
+    Ok(())
 }
 
 fn push_fault(shown: &mut Text, element: &Element) -> Result<(), AllocError> {

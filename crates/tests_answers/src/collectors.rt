@@ -1,6 +1,7 @@
 //! The collector that is asked, and what it keeps.
 
 ghost use Rattle.std.specs.Prelude.{◌<◌, length, IfOk};
+ghost use Rattle.wef_eventing.specs.Addresses.{IsHost};
 ghost use Rattle.wef_eventing.specs.Subscriptions.{IsAllEvents};
 
 use std::alloc::{AllocError, Global};
@@ -10,17 +11,34 @@ use wef_collector_rows::keys::HEARD;
 use wef_eventing::{Subscription, kept_words};
 use wef_keeper::{Keeper, Key, MemKeeper, Row};
 
-/// A collector of boot 1 with a subscription `base` to all events of `application`.
-pub(crate) fn collector_of(
-    alloc: Global,
-    is_live: bool,
-) -> Result<Collector<MemKeeper>, AllocError> {
+/// The subscriptions of a new collector, each to all events of `application`.
+#[derive(Clone, Copy)]
+pub(crate) enum Kept {
+    /// `base`, live.
+    Live,
+    /// `base`, ended.
+    Ended,
+    /// `base` and one before it in the order of bytes, whose name is spelt otherwise in a path.
+    Two,
+}
+
+/// A collector of boot 1 with subscriptions.
+pub(crate) fn collector_of(alloc: Global, kept: Kept) -> Result<Collector<MemKeeper>, AllocError> {
     let mut collector = started(alloc)?;
-    add(&mut collector, &subscription(alloc)?)?;
-    if !is_live {
-        end(&mut collector, &base(alloc)?)?;
+    add(&mut collector, &subscription(alloc, "base")?)?;
+    match kept {
+        Kept::Live => {}
+        Kept::Ended => end(&mut collector, &base(alloc)?)?,
+        Kept::Two => add(&mut collector, &subscription(alloc, "Other/\u{E9} 1")?)?,
     }
     Ok(collector)
+}
+
+/// The host that requests name.
+pub(crate) fn host(alloc: Global) -> Result<Text, AllocError>
+    ensures { IfOk result (λ host. IsHost host) }
+{
+    Text::from_str(alloc, "collector:5985")
 }
 
 fn started(alloc: Global) -> Result<Collector<MemKeeper>, AllocError> {
@@ -31,7 +49,11 @@ fn started(alloc: Global) -> Result<Collector<MemKeeper>, AllocError> {
 }
 
 pub(crate) fn base(alloc: Global) -> Result<SubId, AllocError> {
-    match SubId::read(&Text::from_str(alloc, "base")?) {
+    named(alloc, "base")
+}
+
+fn named(alloc: Global, name: &str) -> Result<SubId, AllocError> {
+    match SubId::read(&Text::from_str(alloc, name)?) {
         Ok(sub) => Ok(sub),
         Err(_) => Err(AllocError),
     }
@@ -52,10 +74,10 @@ fn channels(alloc: Global) -> Result<List<ChannelName>, AllocError>
     Ok(channels)
 }
 
-fn subscription(alloc: Global) -> Result<Subscription, AllocError>
+fn subscription(alloc: Global, name: &str) -> Result<Subscription, AllocError>
     ensures { IfOk result IsAllEvents }
 {
-    let name = base(alloc)?;
+    let name = named(alloc, name)?;
     let channels = channels(alloc)?;
     Subscription::all_events(name, channels, 20, 512_000, 900_000)
 }
@@ -83,14 +105,27 @@ fn end(collector: &mut Collector<MemKeeper>, sub: &SubId) -> Result<(), AllocErr
 pub(crate) fn push_left(
     shown: &mut Text,
     collector: Collector<MemKeeper>,
-    is_live: bool,
+    kept: Kept,
+) -> Result<(), AllocError> {
+    let before = first_rows(shown.alloc(), kept)?;
+    push_changed(shown, before.as_slice(), collector)
+}
+
+/// The rows of a new collector.
+pub(crate) fn first_rows(alloc: Global, kept: Kept) -> Result<List<Row>, AllocError> {
+    rows_of(alloc, collector_of(alloc, kept)?)
+}
+
+/// What is kept, where the rows of a new collector are at hand.
+pub(crate) fn push_changed(
+    shown: &mut Text,
+    before: &[Row],
+    collector: Collector<MemKeeper>,
 ) -> Result<(), AllocError> {
     let mut collector = collector;
     let report = report(&mut collector)?;
-    let alloc = shown.alloc();
-    let before = rows_of(alloc, collector_of(alloc, is_live)?)?;
-    let rows = rows_of(alloc, collector)?;
-    if is_same(before.as_slice(), rows.as_slice()) {
+    let rows = rows_of(shown.alloc(), collector)?;
+    if is_same(before, rows.as_slice()) {
         return shown.push_str("; rows as before");
     }
     push_lines(shown, report.as_str())?;

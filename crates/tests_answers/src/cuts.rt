@@ -1,27 +1,37 @@
 //! The answers to each front of a request, in runs of the same.
 
 use crate::answers::{asked, base_path, push_said};
-use crate::collectors::{collector_of, push_left};
+use crate::collectors::{Kept, collector_of, first_rows, push_changed};
 use std::alloc::{AllocError, Global};
 use wef_base::{Bytes, Charset, Text};
+use wef_front::Answer;
+use wef_keeper::Row;
 
 /// What is said to each front of a request and what is kept behind it, `FIRST-LAST: ANSWER` for
 /// fronts of so many bytes.
 pub(crate) fn push_cuts(shown: &mut Text, body: &Bytes) -> Result<(), AllocError> {
     let alloc = shown.alloc();
     let bytes = body.as_slice();
-    let mut runs = Runs::new(alloc);
-    for cut in 0..bytes.len() {
-        let said = said_to(alloc, &bytes[..cut])?;
-        runs.add(shown, cut as u64, said)?;
+    let before = first_rows(alloc, Kept::Live)?;
+    let mut runs = Runs::of(answer_front(alloc, before.as_slice(), &[])?);
+    for cut in 1..bytes.len() {
+        let front = answer_front(alloc, before.as_slice(), &bytes[..cut])?;
+        runs.add(shown, cut as u64, front)?;
     }
-    runs.add(shown, bytes.len() as u64, said_to(alloc, bytes)?)?;
+    let whole = answer_front(alloc, before.as_slice(), bytes)?;
+    runs.add(shown, bytes.len() as u64, whole)?;
     runs.push_last(shown)
 }
 
-fn said_to(alloc: Global, front: &[u8]) -> Result<Text, AllocError> {
-    let mut said = Text::new(alloc);
-    let mut collector = collector_of(alloc, true)?;
+/// An answer, and what is kept behind it.
+#[derive(Drop)]
+struct Answered {
+    answer: Answer,
+    left: Text,
+}
+
+fn answer_front(alloc: Global, before: &[Row], front: &[u8]) -> Result<Answered, AllocError> {
+    let mut collector = collector_of(alloc, Kept::Live)?;
     let body = Bytes::from_slice(alloc, front)?;
     let answer = asked(
         alloc,
@@ -31,9 +41,16 @@ fn said_to(alloc: Global, front: &[u8]) -> Result<Text, AllocError> {
         &body,
         1,
     )?;
-    push_said(&mut said, Charset::Utf8, &answer)?;
-    push_left(&mut said, collector, true)?;
-    Ok(said)
+    let mut left = Text::new(alloc);
+    push_changed(&mut left, before, collector)?;
+    Ok(Answered { answer, left })
+}
+
+/// Whether two answers are the same to a byte, and leave the same.
+fn is_same(one: &Answered, other: &Answered) -> bool {
+    one.answer.status == other.answer.status
+        && one.answer.body.as_slice() == other.answer.body.as_slice()
+        && one.left == other.left
 }
 
 /// The run that isn't written yet.
@@ -41,27 +58,27 @@ fn said_to(alloc: Global, front: &[u8]) -> Result<Text, AllocError> {
 struct Runs {
     first: u64,
     last: u64,
-    said: Text,
+    answered: Answered,
 }
 
 impl Runs {
-    fn new(alloc: Global) -> Runs {
+    fn of(answered: Answered) -> Runs {
         Runs {
             first: 0,
             last: 0,
-            said: Text::new(alloc),
+            answered,
         }
     }
 
     /// Adds a front, and writes the run before it where it is answered in another way.
-    fn add(&mut self, shown: &mut Text, length: u64, said: Text) -> Result<(), AllocError> {
-        if length > 0 && said != self.said {
+    fn add(&mut self, shown: &mut Text, length: u64, answered: Answered) -> Result<(), AllocError> {
+        if !is_same(&self.answered, &answered) {
             self.push_last(shown)?;
             shown.push_str("\n    ")?;
             self.first = length;
         }
         self.last = length;
-        self.said = said;
+        self.answered = answered;
         Ok(())
     }
 
@@ -70,6 +87,7 @@ impl Runs {
         shown.push_str("-")?;
         shown.push_number(self.last)?;
         shown.push_str(": ")?;
-        shown.push_str(self.said.as_str())
+        push_said(shown, Charset::Utf8, &self.answered.answer)?;
+        shown.push_str(self.answered.left.as_str())
     }
 }

@@ -2,15 +2,19 @@
 //! what is kept behind it; and hears replies as a source does.
 //!
 //! A line `=== TASK: TITLE` says what is done with each line behind it, each to a new collector. Most
-//! lines say how a request differs from one delivery, or a reply from one acknowledgement: `OLD => NEW` with ` | ` between them, or
-//! `as it is`. What they hold has the escapes of Rust's literals.
+//! lines say how a request differs from one delivery or one Enumerate, or a reply from one
+//! acknowledgement or one offer: `OLD => NEW` with ` | ` between them, or `as it is`. What they hold has
+//! the escapes of Rust's literals.
 #![tactic(auto)]
 
 mod answers;
 mod collectors;
 mod cuts;
+mod enumerates;
+mod offered;
 mod replies;
 mod sent;
+mod sources;
 mod tasks;
 mod utf16;
 

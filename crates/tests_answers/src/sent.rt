@@ -1,7 +1,7 @@
 //! A delivery of a source, written out, and what a collector makes of it.
 
 use crate::answers::{asked, base_path, push_said};
-use crate::collectors::{collector_of, push_left};
+use crate::collectors::{Kept, collector_of, push_left};
 use std::alloc::{AllocError, Global};
 use wef_base::{Bytes, Charset, List, Text};
 use wef_batch::{Batch, Item};
@@ -16,7 +16,7 @@ pub(crate) fn push_sent(shown: &mut Text) -> Result<(), AllocError> {
     let body = sent(alloc)?;
     shown.push_str(str::from_utf8(body.as_slice()).unwrap_or("no UTF-8"))?;
     shown.push_str("\n    ")?;
-    let mut collector = collector_of(alloc, true)?;
+    let mut collector = collector_of(alloc, Kept::Live)?;
     let answer = asked(
         alloc,
         &mut collector,
@@ -26,7 +26,7 @@ pub(crate) fn push_sent(shown: &mut Text) -> Result<(), AllocError> {
         1,
     )?;
     push_said(shown, Charset::Utf8, &answer)?;
-    push_left(shown, collector, true)
+    push_left(shown, collector, Kept::Live)
 }
 
 /// A batch that says that a record was lost, and reads no channel.

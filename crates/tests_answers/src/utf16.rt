@@ -1,7 +1,7 @@
 //! Requests in UTF-16.
 
 use crate::answers::{asked, base_path, push_said};
-use crate::collectors::{collector_of, push_left};
+use crate::collectors::{Kept, collector_of, push_left};
 use std::alloc::{AllocError, Global};
 use tests_tasks::deliveries::edited;
 use tests_tasks::hexadecimal::push_hexadecimal;
@@ -20,15 +20,15 @@ enum Order {
 /// What is said to a request in UTF-16, spelt as the front of the line says, and what is kept behind
 /// it.
 pub(crate) fn push_spelt(shown: &mut Text, line: &str) -> Result<(), AllocError> {
-    let mut collector = collector_of(shown.alloc(), true)?;
+    let mut collector = collector_of(shown.alloc(), Kept::Live)?;
     let answer = answer_spelt(shown.alloc(), &mut collector, line)?;
     push_said(shown, Charset::Utf16, &answer)?;
-    push_left(shown, collector, true)
+    push_left(shown, collector, Kept::Live)
 }
 
 /// The bytes of an answer to a request in UTF-16, in hexadecimal.
 pub(crate) fn push_spelt_bytes(shown: &mut Text, line: &str) -> Result<(), AllocError> {
-    let mut collector = collector_of(shown.alloc(), true)?;
+    let mut collector = collector_of(shown.alloc(), Kept::Live)?;
     let answer = answer_spelt(shown.alloc(), &mut collector, line)?;
     push_hexadecimal(shown, answer.body.as_slice())
 }
@@ -41,6 +41,28 @@ fn answer_spelt(
     let body = spelt(alloc, line)?;
     let target = base_path(alloc)?;
     asked(alloc, collector, &target, Charset::Utf16, &body, 1)
+}
+
+/// A document in UTF-16, little-endian with a byte order mark.
+pub(crate) fn in_utf16(alloc: Global, document: &Bytes) -> Result<Bytes, AllocError> {
+    let text = str::from_utf8(document.as_slice()).unwrap_or("no UTF-8");
+    units(alloc, Order::Little, "\u{FEFF}", text)
+}
+
+/// The units of bytes in UTF-16, little-endian, as a character each.
+pub(crate) fn from_utf16(alloc: Global, bytes: &[u8]) -> Result<Text, AllocError> {
+    let mut text = Text::new(alloc);
+    for pair in bytes.chunks(2) {
+        text.push(unit_of(pair))?;
+    }
+    Ok(text)
+}
+
+fn unit_of(pair: &[u8]) -> char {
+    match pair {
+        [low, high] => char::from_u32(u32::from(u16::from_le_bytes([*low, *high]))).unwrap_or('?'),
+        _ => '?',
+    }
 }
 
 /// The bytes of `SPELLING: EDITS`.

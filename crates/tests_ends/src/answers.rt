@@ -1,5 +1,8 @@
 //! A collector that is asked, over a store that fails at each of its calls.
 
+ghost use Rattle.std.specs.Prelude.{IfOk};
+ghost use Rattle.wef_eventing.specs.Addresses.{IsHost};
+
 use crate::collectors::{add, start, subscription};
 use crate::failing::{FailingKeeper, FailsAt};
 use std::alloc::{AllocError, Global};
@@ -148,10 +151,17 @@ fn answer<K: Keeper>(
     edits: &str,
 ) -> Result<Answer, AllocError> {
     let target = target(alloc, sub)?;
-    let host = Text::from_str(alloc, "collector:5985")?;
+    let host = host(alloc)?;
     let body = request(alloc, edits)?;
     let now = Moment::first();
     collector_answer(alloc, collector, &target, &host, Charset::Utf8, &body, now)
+}
+
+/// The collector's host.
+fn host(alloc: Global) -> Result<Text, AllocError>
+    ensures { IfOk result (λ host. IsHost host) }
+{
+    Text::from_str(alloc, "collector:5985")
 }
 
 /// Asks, and appends what is said, and what is kept behind it.

@@ -201,7 +201,7 @@ fn live_subscriptions_are_offered(rt: HostRuntime) -> Result<(), Fail> {
     let text = offered(rt.alloc())?;
     assert_eq!(rt;
         text.as_str(),
-        "1 http://h:5985/wsman/subscriptions/a%2F1/host-1 0\n1 http://h:5985/wsman/subscriptions/b/host-1 7\n"
+        "uuid:00000000-0000-0000-0000-000000000001 http://h:5985/wsman/subscriptions/a%2F1/host-1 0\nuuid:00000000-0000-0000-0000-000000000001 http://h:5985/wsman/subscriptions/b/host-1 7\n"
     );
     Ok(())
 }

@@ -1,5 +1,6 @@
 //! What is done with a line.
 
+use crate::bodies::push_body;
 use crate::documents::{read_document, read_headers};
 use crate::envelopes::{push_answered, push_envelope, push_written};
 use crate::faults::{push_fault, push_named};
@@ -27,6 +28,8 @@ pub(crate) enum Task {
     Fault,
     /// `name`: the action and the tree of the fault of a name.
     Name,
+    /// `body`: what the body of a message says.
+    Body,
 }
 
 /// The tasks by their names.
@@ -39,6 +42,7 @@ const TASKS: &[(&str, Task)] = &[
     ("answered", Task::Answered),
     ("fault", Task::Fault),
     ("name", Task::Name),
+    ("body", Task::Body),
 ];
 
 impl Tasks for Task {
@@ -57,6 +61,7 @@ impl Tasks for Task {
             Task::Answered => push_answered(shown, read_headers(alloc, line)?),
             Task::Fault => push_fault(shown, read_document(alloc, line)?),
             Task::Name => push_named(shown, line),
+            Task::Body => push_body(shown, line),
         }
     }
 }

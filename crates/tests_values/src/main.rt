@@ -7,8 +7,10 @@ mod addresses;
 mod batches;
 mod bookmarks;
 mod queries;
+mod query_lists;
 mod subscriptions;
 mod tasks;
+mod times;
 
 use std::io;
 use tasks::Task;

@@ -3,7 +3,7 @@
 use crate::tasks::channel;
 use std::alloc::Global;
 use wef_base::{ChannelName, List, Text, ValueFault};
-use wef_query::{QueryItem, QueryList, channels, selected};
+use wef_query::{Path, QueryItem, QueryList, Shared, channels, selected};
 
 /// The channels of the Selects among `GROUP+CHANNEL`, a Select, and `GROUP-CHANNEL`, a Suppress; the
 /// length of the list of all events of these; and whether the events of the channel a are selected.
@@ -26,6 +26,8 @@ fn item_of(alloc: Global, word: &str) -> Result<QueryItem, ValueFault> {
         group,
         suppress,
         channel: channel(alloc, name)?,
+        text: Text::from_str(alloc, "*")?,
+        path: Shared::new(alloc, Path::any(alloc))?,
     })
 }
 

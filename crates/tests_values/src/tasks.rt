@@ -4,7 +4,9 @@ use crate::addresses::{push_address, push_named};
 use crate::batches::push_batch;
 use crate::bookmarks::push_bookmarks;
 use crate::queries::push_queries;
+use crate::query_lists::push_document;
 use crate::subscriptions::push_kept;
+use crate::times::{push_duration, push_expiry, push_instant};
 use std::alloc::{AllocError, Global};
 use tests_tasks::Tasks;
 use wef_base::{ChannelName, List, Text, ValueFault};
@@ -18,12 +20,20 @@ pub(crate) enum Task {
     Batch,
     /// `queries`: the channels of words `GROUP+CHANNEL` and `GROUP-CHANNEL`, and which are asked for.
     Queries,
+    /// `query list`: the items of a document's list of queries.
+    QueryList,
     /// `kept`: the subscription that words keep.
     Kept,
     /// `address of`: where `HOST, SUBSCRIPTION, SOURCE` is sent to.
     AddressOf,
     /// `address`: where an address leads.
     Address,
+    /// `duration`: the milliseconds of a duration.
+    Duration,
+    /// `instant`: the nanoseconds of an instant.
+    Instant,
+    /// `expiry`: how far from a moment an expiry is, as `MOMENT, EXPIRY`.
+    Expiry,
 }
 
 /// The tasks by their names.
@@ -31,9 +41,13 @@ const TASKS: &[(&str, Task)] = &[
     ("bookmarks", Task::Bookmarks),
     ("batch", Task::Batch),
     ("queries", Task::Queries),
+    ("query list", Task::QueryList),
     ("kept", Task::Kept),
     ("address of", Task::AddressOf),
     ("address", Task::Address),
+    ("duration", Task::Duration),
+    ("instant", Task::Instant),
+    ("expiry", Task::Expiry),
 ];
 
 impl Tasks for Task {
@@ -56,8 +70,12 @@ impl Task {
             Task::Bookmarks => push_bookmarks(shown, line),
             Task::Batch => push_batch(shown, line),
             Task::Queries => push_queries(shown, line),
+            Task::QueryList => Ok(push_document(shown, line)?),
             Task::Kept => push_kept(shown, line),
             Task::AddressOf => push_named(shown, line),
+            Task::Duration => push_duration(shown, line),
+            Task::Instant => push_instant(shown, line),
+            Task::Expiry => push_expiry(shown, line),
             Task::Address => Ok(push_address(shown, &Text::from_str(shown.alloc(), line)?)?),
         }
     }

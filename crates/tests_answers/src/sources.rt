@@ -1,0 +1,100 @@
+//! The source that hears replies.
+
+ghost use Rattle.std.specs.Prelude.{IfOk};
+ghost use Rattle.wef_xml.specs.Good.{IsXmlText};
+
+use crate::collectors::{Kept, base, collector_of, host};
+use std::alloc::{AllocError, Global};
+use wef_base::{Moment, SourceName, Text};
+use wef_event::read_new_event;
+use wef_front::Hears;
+use wef_ids::MessageId;
+use wef_keeper::MemKeeper;
+use wef_source::{Poll, SourceEnd};
+
+/// An event that the source writes.
+const EVENT: &str =
+    "<Event xmlns=\"http://schemas.microsoft.com/win/2004/08/events/event\"><System><Channel>application</Channel></System></Event>";
+
+/// The source `pc1` of boot 1, which has written an event.
+pub(crate) fn written(alloc: Global) -> Result<SourceEnd<MemKeeper>, AllocError> {
+    let mut source = started(alloc)?;
+    let Ok(event) = read_new_event(&Text::from_str(alloc, EVENT)?) else {
+        return Err(AllocError);
+    };
+    match source.write(&event) {
+        Ok(_) => Ok(source),
+        Err(_) => Err(AllocError),
+    }
+}
+
+fn started(alloc: Global) -> Result<SourceEnd<MemKeeper>, AllocError> {
+    let Ok(name) = SourceName::read(&Text::from_str(alloc, "pc1")?) else {
+        return Err(AllocError);
+    };
+    match SourceEnd::start(alloc, MemKeeper::new(alloc), name, 64) {
+        Ok(source) => Ok(source),
+        Err(_) => Err(AllocError),
+    }
+}
+
+/// Asks a collector for subscriptions, under the next id of the source.
+#[tactic(auto, using(wef_ids::proofs::PlainIds::id_text_good))]
+pub(crate) fn ask(source: &mut SourceEnd<MemKeeper>) -> Result<MessageId, AllocError>
+    ensures { IfOk result (λ id. IsXmlText id.text) }
+{
+    match source.ask() {
+        Ok(id) => Ok(id),
+        Err(_) => Err(AllocError),
+    }
+}
+
+/// A source that has written an event, sent it under its second id, and waits for the answer.
+pub(crate) fn waiting(alloc: Global) -> Result<SourceEnd<MemKeeper>, AllocError> {
+    let mut source = written(alloc)?;
+    adopt(alloc, &mut source)?;
+    match source.poll(&base(alloc)?, Moment::first()) {
+        Ok(_) => Ok(source),
+        Err(_) => Err(AllocError),
+    }
+}
+
+/// Asks a collector, and takes its offer.
+fn adopt(alloc: Global, source: &mut SourceEnd<MemKeeper>) -> Result<(), AllocError> {
+    let mut collector = collector_of(alloc, Kept::Live)?;
+    let Ok(offers) = collector.offers(source.name(), &host(alloc)?) else {
+        return Err(AllocError);
+    };
+    let id = ask(source)?;
+    match source.adopt(&id, &offers, Moment::first()) {
+        Ok(_) => Ok(()),
+        Err(_) => Err(AllocError),
+    }
+}
+
+/// What a source made of a reply.
+pub(crate) fn push_hears(shown: &mut Text, hears: Hears) -> Result<(), AllocError> {
+    match hears {
+        Hears::Adopted(count) => {
+            shown.push_str("adopted ")?;
+            shown.push_number(count)
+        }
+        Hears::Moved => shown.push_str("moved"),
+        Hears::Refused => shown.push_str("refused"),
+        Hears::NotAsked => shown.push_str("not asked"),
+        Hears::Unreadable => shown.push_str("unreadable"),
+    }
+}
+
+/// What the source has to send for the subscription `base`.
+pub(crate) fn push_next(
+    shown: &mut Text,
+    source: &mut SourceEnd<MemKeeper>,
+) -> Result<(), AllocError> {
+    let sub = base(shown.alloc())?;
+    match source.poll(&sub, Moment::first()) {
+        Ok(Poll::Send(_)) => shown.push_str("; sends"),
+        Ok(Poll::Nothing) => shown.push_str("; has nothing to send"),
+        Err(_) => shown.push_str("; has no session"),
+    }
+}
