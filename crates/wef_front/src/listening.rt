@@ -32,9 +32,9 @@ pub enum Hears {
     Unreadable,
 }
 
-/// Hears the bytes of a reply, in UTF-8: an acknowledgement, a fault, or the offers that answer an
-/// Enumerate (WS-Enumeration, 3.1). A reply that holds a fault is one, whatever its action. Where there
-/// is no memory to read it all is as before.
+/// Hears the bytes of a reply, in UTF-8: an acknowledgement by its action, a fault, or the offers that
+/// answer an Enumerate (WS-Enumeration, 3.1). What is no acknowledgement and holds a fault is one,
+/// whatever its action and whatever else it holds. Where there is no memory to read it all is as before.
 pub fn source_hears<K: Keeper>(
     alloc: Global,
     source: &mut SourceEnd<K>,
@@ -106,6 +106,7 @@ fn offers_in(
     }
 }
 
+/// The offers of its Body, as the answer to a message. None where they aren't good.
 fn offers_for(
     relates: &MessageId,
     envelope: &Envelope,

@@ -59,6 +59,7 @@ pub(crate) fn begins_with(character: u8, text: &[u8]) -> bool
     }
 }
 
+/// Whether a character is a digit of ASCII.
 pub(crate) fn is_digit(character: u8) -> bool
     ensures { result ≡ is_digit character }
 {
