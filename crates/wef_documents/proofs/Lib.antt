@@ -1,0 +1,16 @@
+pub mod DocumentsAgain
+pub mod Found
+pub mod GoodDocuments
+pub mod KeptBack
+pub mod NamesSaid
+pub mod Parts
+pub mod PlainUtf8
+pub mod Ports
+pub mod QueriesSaid
+pub mod ReadPlain
+pub mod ReadQueries
+pub mod ReadSources
+pub mod SaysPlain
+pub mod SetsOfNames
+pub mod SourcesAgain
+pub mod TrimmedTexts

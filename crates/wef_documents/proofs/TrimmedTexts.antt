@@ -1,0 +1,146 @@
+-- Texts without spaces at both ends, by their characters.
+use Rattle.std.proofs.Common.{◌≡◌, ℕ, Bool, true, false, not, cond, List, [], ◌∷◌, ◌++◌, encode_utf8_all, refl, ap, sym, ◌∙◌, append_assoc, arith}
+use Rattle.std.specs.Prelude.{codes}
+use Rattle.std.specs.List.{list_all}
+use Rattle.std.specs.Str.{all_scalars, chars}
+use Rattle.std.proofs.Math.Utf8.{scalar}
+use Rattle.std.proofs.lemmas.Bool.{and_from, and_parts}
+use Rattle.std.proofs.lemmas.Bool.Decides.{nat_tests}
+use Rattle.std.proofs.lemmas.List.Folds.{list_all-append}
+use Rattle.std.proofs.lemmas.Str.{chars-encodes, encodes-append}
+use lib.Utf8.{encode}
+use Rattle.wef_base.specs.Characters.{is_xml_char}
+use Rattle.wef_base.specs.Names.{is_space, trimmed, trimmed_characters, unless_last_space, without_end, without_start}
+use Rattle.wef_base.proofs.Trimmed.{without_end_other}
+use Rattle.wef_xml.specs.Good.{IsXmlText}
+use Rattle.wef_documents.specs.Addresses.{usual_port}
+
+-- characters of which the first is no space
+abbrev pub starts_solid : List ℕ → Bool
+starts_solid [] = true
+starts_solid (c ∷ cs) = not (is_space c)
+
+-- a text of characters that XML allows, without spaces at both ends
+pub record IsTrim (text : List ℕ) : Type 0 where
+  pub characters : List ℕ
+  pub spelt : text ≡ encode_utf8_all characters
+  pub allowed : list_all is_xml_char characters ≡ true
+  pub start : starts_solid characters ≡ true
+  pub end : without_end characters ≡ characters
+
+xml_scalar : (c : ℕ) → is_xml_char c ≡ true → scalar c ≡ true
+xml_scalar c h = grind (arith, nat_tests)
+
+pub xml_scalars : (cs : List ℕ) → list_all is_xml_char cs ≡ true → all_scalars cs ≡ true
+xml_scalars [] h = refl
+xml_scalars (c ∷ cs) h = let parts = and_parts (is_xml_char c) (list_all is_xml_char cs) h in and_from _ _ (xml_scalar c parts.0) (xml_scalars cs parts.1)
+
+-- the characters of such a text
+pub characters_are : (text : List ℕ) (is : IsTrim text) → chars text ≡ is.characters
+characters_are text is = ap chars is.spelt ∙ chars-encodes is.characters (xml_scalars is.characters is.allowed)
+
+-- XML allows it
+pub trim_allowed : (text : List ℕ) → IsTrim text → IsXmlText text
+trim_allowed text is = record { characters = is.characters; spelt = is.spelt; allowed = is.allowed }
+
+-- trimming leaves it as it is
+start_stays : (cs : List ℕ) → starts_solid cs ≡ true → without_start cs ≡ cs
+start_stays [] solid = refl
+start_stays (c ∷ cs) solid = by (is_space c) solid
+  where
+    by : (b : Bool) → not b ≡ true → cond b (without_start cs) (c ∷ cs) ≡ c ∷ cs
+    by true e = let bad : ⊥ = cc in absurd bad
+    by false e = refl
+
+pub trim_stays : (text : List ℕ) → IsTrim text → trimmed text ≡ text
+trim_stays text is =
+    ap (λ cs. encode_utf8_all (trimmed_characters cs)) (characters_are text is)
+    ∙ ap (λ cs. encode_utf8_all (without_end cs)) (start_stays is.characters is.start)
+    ∙ ap encode_utf8_all is.end
+    ∙ sym is.spelt
+
+-- ---- what is trimmed is so
+
+start_solid : (cs : List ℕ) → starts_solid (without_start cs) ≡ true
+start_solid [] = refl
+start_solid (c ∷ cs) = by (is_space c) refl (start_solid cs)
+  where
+    by : (b : Bool) → is_space c ≡ b → starts_solid (without_start cs) ≡ true → starts_solid (cond b (without_start cs) (c ∷ cs)) ≡ true
+    by true e rest = rest
+    by false e rest = ap not e
+
+last_solid : (c : ℕ) (cs : List ℕ) → is_space c ≡ false → starts_solid (unless_last_space c cs) ≡ true
+last_solid c [] e = ap (λ (b : Bool). starts_solid (cond b [] (c ∷ []))) e ∙ ap not e
+last_solid c (d ∷ ds) e = ap not e
+
+end_solid : (cs : List ℕ) → starts_solid cs ≡ true → starts_solid (without_end cs) ≡ true
+end_solid [] solid = refl
+end_solid (c ∷ cs) solid = last_solid c (without_end cs) (negated (is_space c) solid)
+  where
+    negated : (b : Bool) → not b ≡ true → b ≡ false
+    negated true e = let bad : ⊥ = cc in absurd bad
+    negated false e = refl
+
+end_kept : (c : ℕ) (cs : List ℕ) → without_end cs ≡ cs → without_end (unless_last_space c cs) ≡ unless_last_space c cs
+end_kept c [] rest = by (is_space c) refl
+  where
+    by : (b : Bool) → is_space c ≡ b → without_end (cond b [] (c ∷ [])) ≡ cond b [] (c ∷ [])
+    by true e = refl
+    by false e = ap (λ (b : Bool). cond b [] (c ∷ [])) e
+end_kept c (d ∷ ds) rest = ap (unless_last_space c) rest
+
+end_twice : (cs : List ℕ) → without_end (without_end cs) ≡ without_end cs
+end_twice [] = refl
+end_twice (c ∷ cs) = end_kept c (without_end cs) (end_twice cs)
+
+either_allowed : (b : Bool) (cs ds : List ℕ) → list_all is_xml_char cs ≡ true → list_all is_xml_char ds ≡ true → list_all is_xml_char (cond b cs ds) ≡ true
+either_allowed true cs ds first second = first
+either_allowed false cs ds first second = second
+
+start_allowed : (cs : List ℕ) → list_all is_xml_char cs ≡ true → list_all is_xml_char (without_start cs) ≡ true
+start_allowed [] h = h
+start_allowed (c ∷ cs) h = either_allowed (is_space c) (without_start cs) (c ∷ cs) (start_allowed cs (and_parts (is_xml_char c) (list_all is_xml_char cs) h).1) h
+
+last_allowed : (c : ℕ) (cs : List ℕ) → is_xml_char c ≡ true → list_all is_xml_char cs ≡ true → list_all is_xml_char (unless_last_space c cs) ≡ true
+last_allowed c [] one rest = either_allowed (is_space c) [] (c ∷ []) refl (and_from _ _ one refl)
+last_allowed c (d ∷ ds) one rest = and_from _ _ one rest
+
+end_allowed : (cs : List ℕ) → list_all is_xml_char cs ≡ true → list_all is_xml_char (without_end cs) ≡ true
+end_allowed [] h = h
+end_allowed (c ∷ cs) h = let parts = and_parts (is_xml_char c) (list_all is_xml_char cs) h in last_allowed c (without_end cs) parts.0 (end_allowed cs parts.1)
+
+-- a text that XML allows, trimmed
+pub trimmed_is : (text : List ℕ) → IsXmlText text → IsTrim (trimmed text)
+trimmed_is text allowed =
+    let cs = allowed.characters in
+    let read : chars text ≡ cs = ap chars allowed.spelt ∙ chars-encodes cs (xml_scalars cs allowed.allowed) in
+    record {
+      characters = trimmed_characters cs;
+      spelt = ap (λ xs. encode_utf8_all (trimmed_characters xs)) read;
+      allowed = end_allowed (without_start cs) (start_allowed cs allowed.allowed);
+      start = end_solid (without_start cs) (start_solid cs);
+      end = end_twice (without_start cs);
+    }
+
+-- ---- with a port behind it
+
+solid_front : (cs : List ℕ) → starts_solid cs ≡ true → starts_solid (cs ++ usual_port) ≡ true
+solid_front [] solid = refl
+solid_front (c ∷ cs) solid = solid
+
+pub ported_is : (text : List ℕ) → IsTrim text → IsTrim (text ++ usual_port)
+unfolding encode
+ported_is text is =
+    let cs = is.characters in
+    let parted : cs ++ usual_port ≡ (cs ++ codes ":598") ++ codes "5" = sym (append_assoc cs (codes ":598") (codes "5")) in
+    record {
+      characters = cs ++ usual_port;
+      spelt = ap (λ t. t ++ usual_port) is.spelt ∙ sym (encodes-append cs usual_port);
+      allowed = list_all-append is_xml_char cs usual_port ∙ and_from _ _ is.allowed refl;
+      start = solid_front cs is.start;
+      end = ap without_end parted ∙ without_end_other (cs ++ codes ":598") 53 refl ∙ sym parted;
+    }
+
+pub ported_characters : (text : List ℕ) (is : IsTrim text) → chars (text ++ usual_port) ≡ is.characters ++ usual_port
+unfolding ported_is
+ported_characters text is = characters_are (text ++ usual_port) (ported_is text is)

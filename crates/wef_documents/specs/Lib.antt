@@ -1,0 +1,10 @@
+pub mod Addresses
+pub mod Bytes
+pub mod Kept
+pub mod Laws
+pub mod Names
+pub mod Reading
+pub mod Sources
+pub mod Steps
+pub mod Values
+pub mod Written
