@@ -1,0 +1,75 @@
+//! Rows as the columns of an answer.
+
+ghost use Rattle.std.specs.Prelude.{◌≡◌, ◌≤◌, ◌<◌, pos, IfOk, MatchOption};
+ghost use Rattle.sqlite_value.specs.Order.{column};
+ghost use Rattle.wef_base.specs.declared.numbers.TheConstants.{MAX};
+ghost use Rattle.wef_sqlite.specs.Columns.{IsNumber, IsText, IsWrapped, SaysKey, SaysRow};
+
+use crate::refusal::Refusal;
+use sqlite::Row as Columns;
+use wef_base::Text;
+use wef_base::numbers::MAX;
+use wef_keeper::{Key, Row};
+
+/// A number as a column keeps it. None above `MAX`, which no column keeps.
+pub fn kept_number(number: u64) -> Option<i64>
+    ensures { MatchOption result (MAX < number) (λ kept. kept ≡ pos number) }
+{
+    if number > MAX {
+        return None;
+    }
+    Some(number as i64)
+}
+
+/// The row that columns say, in the order of the table. Failed where they say none: a column of
+/// another type, a kind outside 0 to 255, a negative number.
+pub fn said_row(columns: &Columns) -> Result<Row, Refusal>
+    ensures { IfOk result (SaysRow columns.now) }
+{
+    Ok(Row {
+        key: said_key(columns)?,
+        value: said_value(columns)?,
+        body: said_text(columns, 6)?,
+    })
+}
+
+/// The key in the first five columns.
+pub fn said_key(columns: &Columns) -> Result<Key, Refusal>
+    ensures { IfOk result (SaysKey columns.now) }
+{
+    Ok(Key {
+        kind: said_kind(columns)?,
+        sub: said_text(columns, 1)?,
+        source: said_text(columns, 2)?,
+        channel: said_text(columns, 3)?,
+        number: said_number(columns)?,
+    })
+}
+
+fn said_kind(columns: &Columns) -> Result<u8, Refusal>
+    ensures { IfOk result (IsNumber (column columns.now 0)) }
+{
+    let kind: u32 = columns.get(0)?;
+    u8::try_from(kind).map_err(|_| Refusal::Failed)
+}
+
+fn said_number(columns: &Columns) -> Result<u64, Refusal>
+    ensures { IfOk result (IsNumber (column columns.now 4)) }
+{
+    Ok(columns.get(4)?)
+}
+
+/// A negative value is read as itself plus 2^64.
+fn said_value(columns: &Columns) -> Result<u64, Refusal>
+    ensures { IfOk result (IsWrapped (column columns.now 5)) }
+{
+    let kept: i64 = columns.get(5)?;
+    Ok(kept.cast_unsigned())
+}
+
+fn said_text(columns: &Columns, at: usize) -> Result<Text, Refusal>
+    ensures { IfOk result (IsText (column columns.now at)) }
+{
+    let string: String = columns.get(at)?;
+    Ok(Text::from_string(string)?)
+}

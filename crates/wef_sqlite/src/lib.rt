@@ -1,0 +1,15 @@
+//! The rows that an end keeps, in a SQLite database.
+#![tactic(auto)]
+
+pub mod columns;
+pub mod keeper;
+pub mod opening;
+pub mod place;
+pub mod read;
+pub mod refusal;
+pub mod schema;
+pub mod table;
+pub mod write;
+
+pub use keeper::SqlKeeper;
+pub use opening::Opens;

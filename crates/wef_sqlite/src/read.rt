@@ -1,0 +1,332 @@
+//! The statements that read.
+
+ghost use Rattle.std.specs.Prelude.{◌≡◌, ◌<◌, ◌≤◌, true, [], ◌∷◌, ◌++◌, ◌+◌, min, pos, length, All, IfOk, OnOk};
+ghost use Rattle.sqlite.specs.Held.{state};
+ghost use Rattle.sqlite.specs.Given.{IsPlain};
+ghost use Rattle.sqlite.specs.Listing.{understood};
+ghost use Rattle.sqlite.specs.State.{HasCleanDisk, Shown, Survives};
+ghost use Rattle.sqlite.specs.Values.{bound};
+ghost use Rattle.wef_base.specs.declared.numbers.TheConstants.{MAX};
+ghost use Rattle.wef_keeper.specs.Rows.{is_after};
+ghost use Rattle.wef_keeper.specs.declared.keys.Row as the_row;
+ghost use Rattle.wef_sqlite.specs.Schema.{kept_schema};
+ghost use Rattle.wef_sqlite.specs.States.{Rests};
+ghost use Rattle.wef_sqlite.specs.Statements.{key_values, number_values, channel_values, source_values, sub_values, kind_values, next_bytes};
+
+use crate::columns::{kept_number, said_row};
+use crate::refusal::Refusal;
+use crate::schema::is_kept;
+use sqlite::{Alter, Connection, Row as Columns, params};
+use sqlite_value::value::ValueRef;
+use std::alloc::AllocError;
+use wef_base::numbers::MAX;
+use wef_base::{List, Text};
+use wef_keeper::{Key, Row};
+
+const GET: &str =
+    "SELECT kind, sub, source, channel, number, value, body FROM kept WHERE kind = ?1 AND sub = ?2 AND source = ?3 AND channel = ?4 AND number = ?5";
+
+const BEHIND_NUMBER: &str =
+    "SELECT kind, sub, source, channel, number, value, body FROM kept WHERE kind = ?1 AND sub = ?2 AND source = ?3 AND channel = ?4 AND number > ?5 ORDER BY kind, sub, source, channel, number LIMIT ?6";
+
+const BEHIND_CHANNEL: &str =
+    "SELECT kind, sub, source, channel, number, value, body FROM kept WHERE kind = ?1 AND sub = ?2 AND source = ?3 AND channel >= ?4 ORDER BY kind, sub, source, channel, number LIMIT ?5";
+
+const BEHIND_SOURCE: &str =
+    "SELECT kind, sub, source, channel, number, value, body FROM kept WHERE kind = ?1 AND sub = ?2 AND source >= ?3 ORDER BY kind, sub, source, channel, number LIMIT ?4";
+
+const BEHIND_SUB: &str =
+    "SELECT kind, sub, source, channel, number, value, body FROM kept WHERE kind = ?1 AND sub >= ?2 ORDER BY kind, sub, source, channel, number LIMIT ?3";
+
+const BEHIND_KIND: &str =
+    "SELECT kind, sub, source, channel, number, value, body FROM kept WHERE kind >= ?1 ORDER BY kind, sub, source, channel, number LIMIT ?2";
+
+/// The first part of a key in which the rows of a section differ from it. They are greater there, and
+/// share the parts before it.
+#[derive(Clone, Copy, Debug, PartialEq, Eq)]
+pub enum Section {
+    Number,
+    Channel,
+    Source,
+    Sub,
+    Kind,
+}
+
+/// The row of a key, or none where there is none. No row has a number above `MAX`.
+pub fn get<S: Alter>(conn: &mut Connection<S>, key: &Key) -> Result<Option<Row>, Refusal>
+    requires { conn.old.schema ≡ kept_schema }
+    ensures rests { HasCleanDisk (state S.Store conn.new) → OnOk result (Rests (state S.Store conn.old) (state S.Store conn.new)) }
+    ensures survives { Survives (state S.Store conn.old) (state S.Store conn.new) (λ _. ⊥) }
+{
+    let Some(number) = kept_number(key.number) else {
+        return Ok(None);
+    };
+    let rows = rows_of(conn, key, number)?;
+    match rows.as_slice() {
+        [] => Ok(None),
+        [row] => Ok(Some(said_row(row)?)),
+        _ => Err(Refusal::Failed),
+    }
+}
+
+#[tactic(auto, using(crate::proofs::Plain::get_plain))]
+fn rows_of<S: Alter>(
+    conn: &mut Connection<S>,
+    key: &Key,
+    number: i64,
+) -> Result<Vec<Columns>, Refusal>
+    requires kept { conn.old.schema ≡ kept_schema }
+    requires number { number ≡ pos key.now.number }
+    ensures shows { HasCleanDisk (state S.Store conn.new) → IfOk result (λ rows. Shown GET.now (key_values key.now) (state S.Store conn.old) (state S.Store conn.new) rows.items) }
+    ensures rests { HasCleanDisk (state S.Store conn.new) → OnOk result (Rests (state S.Store conn.old) (state S.Store conn.new)) }
+    ensures survives { Survives (state S.Store conn.old) (state S.Store conn.new) (λ _. ⊥) }
+{
+    ask(
+        conn,
+        GET,
+        params![
+            u32::from(key.kind),
+            key.sub.as_str(),
+            key.source.as_str(),
+            key.channel.as_str(),
+            number
+        ],
+    )
+}
+
+/// The first `max` rows whose keys are greater than `after`, in the order of their keys: section by
+/// section from the innermost outwards.
+pub fn page<S: Alter>(conn: &mut Connection<S>, after: &Key, max: u32) -> Result<List<Row>, Refusal>
+    ensures rests { HasCleanDisk (state S.Store conn.new) → OnOk result (Rests (state S.Store conn.old) (state S.Store conn.new)) }
+    ensures survives { Survives (state S.Store conn.old) (state S.Store conn.new) (λ _. ⊥) }
+    ensures size { IfOk result (λ page. length page ≤ max) }
+    ensures behind { IfOk result (All (λ (row : the_row.Row). is_after after.now row.key ≡ true)) }
+{
+    let mut page = List::new(after.sub.alloc());
+    fill(conn, &mut page, Section::Number, after, max)?;
+    fill(conn, &mut page, Section::Channel, after, max)?;
+    fill(conn, &mut page, Section::Source, after, max)?;
+    fill(conn, &mut page, Section::Sub, after, max)?;
+    fill(conn, &mut page, Section::Kind, after, max)?;
+    Ok(page)
+}
+
+/// Goes on with a page by the rows of a section, as long as there is room.
+fn fill<S: Alter>(
+    conn: &mut Connection<S>,
+    page: &mut List<Row>,
+    section: Section,
+    after: &Key,
+    max: u32,
+) -> Result<(), Refusal>
+    ensures rests { HasCleanDisk (state S.Store conn.new) → OnOk result (Rests (state S.Store conn.old) (state S.Store conn.new)) }
+    ensures survives { Survives (state S.Store conn.old) (state S.Store conn.new) (λ _. ⊥) }
+    ensures size { OnOk result (length page.old ≤ max → length page.new ≤ max) }
+    ensures behind { OnOk result (All (λ (row : the_row.Row). is_after after.now row.key ≡ true) page.old → All (λ (row : the_row.Row). is_after after.now row.key ≡ true) page.new) }
+{
+    let room = room_in(page, max);
+    if room == 0 {
+        return Ok(());
+    }
+    let rows = rows_behind(conn, section, after, room)?;
+    for columns in rows.as_slice() {
+        push_behind(page, said_row(columns)?, after, max)?;
+    }
+    Ok(())
+}
+
+/// How many rows a page may still take.
+fn room_in(page: &List<Row>, max: u32) -> u32
+    ensures { result ≤ max }
+{
+    match u32::try_from(page.len()) {
+        Ok(count) => max.saturating_sub(count),
+        Err(_) => 0,
+    }
+}
+
+/// Puts a row at the end of a page. Failed where the page has no room, or the row isn't behind `after`.
+fn push_behind(page: &mut List<Row>, row: Row, after: &Key, max: u32) -> Result<(), Refusal>
+    ensures pushed { OnOk result (page.new ≡ page.old ++ row ∷ []) }
+    ensures size { OnOk result (length page.new ≤ max) }
+    ensures behind { OnOk result (All (λ (row : the_row.Row). is_after after.now row.key ≡ true) page.old → All (λ (row : the_row.Row). is_after after.now row.key ≡ true) page.new) }
+{
+    if page.len() >= max as usize || !is_behind(after, &row.key) {
+        return Err(Refusal::Failed);
+    }
+    page.push(row)?;
+    Ok(())
+}
+
+/// The rows that a statement shows, which leaves the database as it is.
+fn ask<S: Alter>(
+    conn: &mut Connection<S>,
+    sql: &str,
+    values: &[ValueRef<'_>],
+) -> Result<Vec<Columns>, Refusal>
+    requires { IsPlain (understood conn.old.schema sql.now) }
+    ensures shows { HasCleanDisk (state S.Store conn.new) → IfOk result (λ rows. Shown sql.now (bound values.now) (state S.Store conn.old) (state S.Store conn.new) rows.items) }
+    ensures rests { HasCleanDisk (state S.Store conn.new) → OnOk result (Rests (state S.Store conn.old) (state S.Store conn.new)) }
+    ensures survives { Survives (state S.Store conn.old) (state S.Store conn.new) (λ _. ⊥) }
+{
+    Ok(conn.query_all(sql, values)?)
+}
+
+/// Whether a key is greater than another.
+fn is_behind(after: &Key, key: &Key) -> bool
+    ensures { result ≡ is_after after.now key.now }
+{
+    after.cmp(key).is_lt()
+}
+
+fn rows_behind<S: Alter>(
+    conn: &mut Connection<S>,
+    section: Section,
+    after: &Key,
+    room: u32,
+) -> Result<Vec<Columns>, Refusal>
+    ensures rests { HasCleanDisk (state S.Store conn.new) → OnOk result (Rests (state S.Store conn.old) (state S.Store conn.new)) }
+    ensures survives { Survives (state S.Store conn.old) (state S.Store conn.new) (λ _. ⊥) }
+{
+    if !is_kept(conn.schema()) {
+        return Err(Refusal::Failed);
+    }
+    match section {
+        Section::Number => rows_behind_number(conn, after, room),
+        Section::Channel => rows_behind_channel(conn, after, room),
+        Section::Source => rows_behind_source(conn, after, room),
+        Section::Sub => rows_behind_sub(conn, after, room),
+        Section::Kind => rows_behind_kind(conn, after, room),
+    }
+}
+
+#[tactic(auto, using(crate::proofs::Plain::number_plain))]
+fn rows_behind_number<S: Alter>(
+    conn: &mut Connection<S>,
+    after: &Key,
+    room: u32,
+) -> Result<Vec<Columns>, Refusal>
+    requires { conn.old.schema ≡ kept_schema }
+    ensures shows { HasCleanDisk (state S.Store conn.new) → IfOk result (λ rows. Shown BEHIND_NUMBER.now (number_values after.now room) (state S.Store conn.old) (state S.Store conn.new) rows.items) }
+    ensures rests { HasCleanDisk (state S.Store conn.new) → OnOk result (Rests (state S.Store conn.old) (state S.Store conn.new)) }
+    ensures survives { Survives (state S.Store conn.old) (state S.Store conn.new) (λ _. ⊥) }
+{
+    let number = bounded_number(after.number);
+    ask(
+        conn,
+        BEHIND_NUMBER,
+        params![
+            u32::from(after.kind),
+            after.sub.as_str(),
+            after.source.as_str(),
+            after.channel.as_str(),
+            number,
+            room
+        ],
+    )
+}
+
+#[tactic(auto, using(crate::proofs::Plain::channel_plain))]
+fn rows_behind_channel<S: Alter>(
+    conn: &mut Connection<S>,
+    after: &Key,
+    room: u32,
+) -> Result<Vec<Columns>, Refusal>
+    requires { conn.old.schema ≡ kept_schema }
+    ensures shows { HasCleanDisk (state S.Store conn.new) → IfOk result (λ rows. Shown BEHIND_CHANNEL.now (channel_values after.now room) (state S.Store conn.old) (state S.Store conn.new) rows.items) }
+    ensures rests { HasCleanDisk (state S.Store conn.new) → OnOk result (Rests (state S.Store conn.old) (state S.Store conn.new)) }
+    ensures survives { Survives (state S.Store conn.old) (state S.Store conn.new) (λ _. ⊥) }
+{
+    let channel = next_text(&after.channel)?;
+    ask(
+        conn,
+        BEHIND_CHANNEL,
+        params![
+            u32::from(after.kind),
+            after.sub.as_str(),
+            after.source.as_str(),
+            channel.as_str(),
+            room
+        ],
+    )
+}
+
+#[tactic(auto, using(crate::proofs::Plain::source_plain))]
+fn rows_behind_source<S: Alter>(
+    conn: &mut Connection<S>,
+    after: &Key,
+    room: u32,
+) -> Result<Vec<Columns>, Refusal>
+    requires { conn.old.schema ≡ kept_schema }
+    ensures shows { HasCleanDisk (state S.Store conn.new) → IfOk result (λ rows. Shown BEHIND_SOURCE.now (source_values after.now room) (state S.Store conn.old) (state S.Store conn.new) rows.items) }
+    ensures rests { HasCleanDisk (state S.Store conn.new) → OnOk result (Rests (state S.Store conn.old) (state S.Store conn.new)) }
+    ensures survives { Survives (state S.Store conn.old) (state S.Store conn.new) (λ _. ⊥) }
+{
+    let source = next_text(&after.source)?;
+    ask(
+        conn,
+        BEHIND_SOURCE,
+        params![
+            u32::from(after.kind),
+            after.sub.as_str(),
+            source.as_str(),
+            room
+        ],
+    )
+}
+
+#[tactic(auto, using(crate::proofs::Plain::sub_plain))]
+fn rows_behind_sub<S: Alter>(
+    conn: &mut Connection<S>,
+    after: &Key,
+    room: u32,
+) -> Result<Vec<Columns>, Refusal>
+    requires { conn.old.schema ≡ kept_schema }
+    ensures shows { HasCleanDisk (state S.Store conn.new) → IfOk result (λ rows. Shown BEHIND_SUB.now (sub_values after.now room) (state S.Store conn.old) (state S.Store conn.new) rows.items) }
+    ensures rests { HasCleanDisk (state S.Store conn.new) → OnOk result (Rests (state S.Store conn.old) (state S.Store conn.new)) }
+    ensures survives { Survives (state S.Store conn.old) (state S.Store conn.new) (λ _. ⊥) }
+{
+    let sub = next_text(&after.sub)?;
+    ask(
+        conn,
+        BEHIND_SUB,
+        params![u32::from(after.kind), sub.as_str(), room],
+    )
+}
+
+#[tactic(auto, using(crate::proofs::Plain::kind_plain))]
+fn rows_behind_kind<S: Alter>(
+    conn: &mut Connection<S>,
+    after: &Key,
+    room: u32,
+) -> Result<Vec<Columns>, Refusal>
+    requires { conn.old.schema ≡ kept_schema }
+    ensures shows { HasCleanDisk (state S.Store conn.new) → IfOk result (λ rows. Shown BEHIND_KIND.now (kind_values after.now room) (state S.Store conn.old) (state S.Store conn.new) rows.items) }
+    ensures rests { HasCleanDisk (state S.Store conn.new) → OnOk result (Rests (state S.Store conn.old) (state S.Store conn.new)) }
+    ensures survives { Survives (state S.Store conn.old) (state S.Store conn.new) (λ _. ⊥) }
+{
+    ask(conn, BEHIND_KIND, params![next_kind(after.kind), room])
+}
+
+/// A number as a column keeps it, or the greatest that one keeps: no row has a number above it.
+fn bounded_number(number: u64) -> i64
+    ensures { result ≡ pos (min number MAX) }
+{
+    number.min(MAX) as i64
+}
+
+/// The kind behind a kind, which is 256 behind the greatest.
+fn next_kind(kind: u8) -> u32
+    ensures { result ≡ kind + 1 }
+{
+    u32::from(kind) + 1
+}
+
+/// The least text that is greater, by its bytes: it has a zero byte more.
+fn next_text(text: &Text) -> Result<Text, AllocError>
+    ensures { IfOk result (λ next. next ≡ next_bytes text.now) }
+{
+    let mut next = text.clone()?;
+    next.push('\0')?;
+    Ok(next)
+}
