@@ -8,7 +8,8 @@ use std::alloc::{AllocError, Global};
 use wef_base::{ChannelName, List, SubId, Text};
 use wef_collector::Collector;
 use wef_collector_rows::keys::HEARD;
-use wef_eventing::{Subscription, kept_words};
+use wef_documents::all_events_read_back;
+use wef_eventing::Subscription;
 use wef_keeper::{Keeper, Key, MemKeeper, Row};
 
 /// The subscriptions of a new collector, each to all events of `application`.
@@ -85,8 +86,7 @@ fn subscription(alloc: Global, name: &str) -> Result<Subscription, AllocError>
 fn add(collector: &mut Collector<MemKeeper>, subscription: &Subscription) -> Result<(), AllocError>
     requires { IsAllEvents subscription.now }
 {
-    // The words that keep it are made since they say that it reads back.
-    let _words = kept_words(subscription)?;
+    all_events_read_back(subscription);
     match collector.add(subscription) {
         Ok(()) => Ok(()),
         Err(_) => Err(AllocError),

@@ -14,8 +14,9 @@ use wef_base::{ChannelName, List, Moment, SourceName, SubId, Text, ValueFault, i
 use wef_batch::{Batch, Item};
 use wef_bookmark::Bookmark;
 use wef_collector::{Collector, CollectorFault};
+use wef_documents::all_events_read_back;
 use wef_event::{Event, plain_event};
-use wef_eventing::{Offer, Subscription, kept_words};
+use wef_eventing::{Offer, Subscription};
 use wef_keeper::{Keeper, MemKeeper};
 
 pub(crate) fn channel(alloc: Global) -> Result<ChannelName, Refusal> {
@@ -156,8 +157,7 @@ pub(crate) fn add<K: Keeper>(
 ) -> Result<(), CollectorFault>
     requires { IsAllEvents subscription.now }
 {
-    // The words that keep it are made since they say that it reads back.
-    let _words = kept_words(subscription)?;
+    all_events_read_back(subscription);
     collector.add(subscription)
 }
 

@@ -77,7 +77,11 @@ const FAILURES: &[Failure] = &[
     ),
 ];
 
-const LIVE: Kept = (1, "u", "", "", 0, 0, "20 512000 900000 all security");
+const LIVE: Kept = (1, "u", "", "", 0, 0, DOCUMENT);
+
+/// The document of `u`, with the parts that must be there.
+const DOCUMENT: &str =
+    "<Subscription xmlns=\"http://schemas.microsoft.com/2006/03/windows/events/subscription\"><SubscriptionId>u</SubscriptionId><SubscriptionType>SourceInitiated</SubscriptionType><Query><QueryList><Query><Select Path=\"security\">*</Select></Query></QueryList></Query></Subscription>";
 
 const READ: Kept = (2, "u", "host-1", "security", 0, 7, "");
 

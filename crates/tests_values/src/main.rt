@@ -8,7 +8,6 @@ mod batches;
 mod bookmarks;
 mod queries;
 mod query_lists;
-mod subscriptions;
 mod tasks;
 mod times;
 

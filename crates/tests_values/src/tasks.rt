@@ -5,7 +5,6 @@ use crate::batches::push_batch;
 use crate::bookmarks::push_bookmarks;
 use crate::queries::push_queries;
 use crate::query_lists::push_document;
-use crate::subscriptions::push_kept;
 use crate::times::{push_duration, push_expiry, push_instant};
 use std::alloc::{AllocError, Global};
 use tests_tasks::Tasks;
@@ -22,8 +21,6 @@ pub(crate) enum Task {
     Queries,
     /// `query list`: the items of a document's list of queries.
     QueryList,
-    /// `kept`: the subscription that words keep.
-    Kept,
     /// `address of`: where `HOST, SUBSCRIPTION, SOURCE` is sent to.
     AddressOf,
     /// `address`: where an address leads.
@@ -42,7 +39,6 @@ const TASKS: &[(&str, Task)] = &[
     ("batch", Task::Batch),
     ("queries", Task::Queries),
     ("query list", Task::QueryList),
-    ("kept", Task::Kept),
     ("address of", Task::AddressOf),
     ("address", Task::Address),
     ("duration", Task::Duration),
@@ -71,7 +67,6 @@ impl Task {
             Task::Batch => push_batch(shown, line),
             Task::Queries => push_queries(shown, line),
             Task::QueryList => Ok(push_document(shown, line)?),
-            Task::Kept => push_kept(shown, line),
             Task::AddressOf => push_named(shown, line),
             Task::Duration => push_duration(shown, line),
             Task::Instant => push_instant(shown, line),

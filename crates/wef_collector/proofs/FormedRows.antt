@@ -15,7 +15,7 @@ use Rattle.wef_batch.specs.WellFormed.{follows, is_above, rises}
 use Rattle.wef_batch.specs.declared.items.Item.{Item}
 use Rattle.wef_batch.specs.declared.items.Item.TheVariants.{Event, Dropped, Loose}
 use Rattle.wef_event.specs.Events.{is_event}
-use Rattle.wef_eventing.specs.Kept.{read_kept}
+use Rattle.wef_documents.specs.Kept.{read_kept}
 use Rattle.wef_keeper.specs.declared.keys.Key.{Key}
 use Rattle.wef_collector_rows.specs.Bookmarks.{is_one}
 use Rattle.wef_collector_rows.specs.Forms.{is_boot_row, is_bookmark_row, is_channel_name, is_formed, is_heard_row, is_held_row, is_loose_row, is_mark_row, is_source_name, is_subscription_name, is_subscription_row, names_channel}

@@ -1,20 +1,15 @@
 -- Rows of their form stay so, whatever the collector does.
-use Rattle.std.proofs.Common.{◌≡◌, ℕ, ◌+◌, ◌<◌, ◌≤◌, ◌==◌, nat_le, nat_lt, max, Bool, true, false, cond, ◌&&◌, List, [], ◌∷◌, ◌++◌, refl, ap, sym, ◌∙◌, subst, arith, if◌then◌else◌}
+use Rattle.std.proofs.Common.{◌≡◌, ℕ, ◌+◌, ◌<◌, ◌≤◌, ◌==◌, nat_le, nat_lt, max, Bool, true, false, ◌&&◌, List, [], ◌∷◌, ◌++◌, refl, ap, sym, ◌∙◌, subst, arith, if◌then◌else◌}
 use Rattle.std.proofs.lemmas.Bool.{and_parts}
-use Rattle.std.proofs.lemmas.Str.{IsUtf8-from_is_utf8}
 use Rattle.std.specs.Cmp.Lexicographic.{slice_cmp}
 use Rattle.std.specs.FinMap as finite
 use Rattle.std.specs.Fmt.{decimal}
 use Rattle.std.specs.List.{AllByRecursion, flat_map, list_all}
 use Rattle.std.specs.Ordering.{match_ordering, nat_cmp}
-use Rattle.std.specs.Prelude.{Option, Some, None, is_some, IfSome, codes}
-use Rattle.std.specs.Str.{is_utf8}
+use Rattle.std.specs.Prelude.{Option, Some, None, is_some, IfSome}
 use Rattle.std.specs.declared.cmp.Ordering.{Ordering}
 use Rattle.std.specs.declared.cmp.Ordering.TheVariants.{Less, Equal, Greater}
-use Rattle.wef_base.specs.Names.{channel_name, same}
-use Rattle.wef_base.specs.Words.{decoded, parts, utf8}
-use Rattle.wef_base.specs.declared.names.Letters.TheVariants.{Small}
-use Rattle.wef_base.proofs.Kept.{name_kept}
+use Rattle.wef_base.specs.Names.{same}
 use Rattle.wef_base.specs.declared.moments.TheConstants.{LAST_MOMENT}
 use Rattle.wef_base.specs.declared.numbers.TheConstants.{MAX}
 use Rattle.wef_batch.specs.Reach.{last_after, last_in, later, loose_sum, reach, reach_of, span_in}
@@ -24,8 +19,12 @@ use Rattle.wef_batch.specs.declared.items.Item.{Item}
 use Rattle.wef_batch.specs.declared.items.Item.TheVariants.{Event, Dropped, Loose}
 use Rattle.wef_event.specs.Events as events
 use Rattle.wef_event.specs.Events.{is_event}
-use Rattle.wef_eventing.specs.Kept.{channel_of, channels_from, from_words, kept_words, made_of, number_between, read_kept, with_first}
-use Rattle.wef_eventing.specs.Subscriptions.{all_events}
+use Rattle.wef_documents.proofs.KeptBack.{kept_plain}
+use Rattle.wef_documents.specs.Kept.{read_kept}
+use Rattle.std.proofs.lemmas.Bool.{cond_both}
+use Rattle.wef_query.specs.Laws.{ReadsBack}
+use Rattle.wef_query.specs.declared.QueryItem.{QueryItem}
+use Rattle.wef_documents.specs.Written.{document_text}
 use Rattle.wef_eventing.specs.declared.subscriptions.Subscription.{Subscription}
 use Rattle.wef_keeper.proofs.StayFormed.{applied_formed}
 use Rattle.wef_keeper.specs.Forms.{ArePut, IsPut}
@@ -33,7 +32,6 @@ use Rattle.wef_keeper.specs.Rows.{Rows, key_cmp, row_of}
 use Rattle.wef_keeper.specs.declared.keys.Cell.{Cell}
 use Rattle.wef_keeper.specs.declared.keys.Change.{Change}
 use Rattle.wef_query.specs.Order.{with_name, with_names}
-use Rattle.wef_query.specs.Queries.{all_events_of}
 use Rattle.wef_query.specs.Selected.{selects}
 use Rattle.wef_collector_rows.specs.Answers.{channels_read}
 use Rattle.wef_collector_rows.specs.Bookmarks.{bookmark_at, is_one}
@@ -102,32 +100,6 @@ live_kept rows u about lives formed = by (finite.get rows (subscription_key u)) 
 abbrev IsChannel : List ℕ → Type 0
 IsChannel c = is_channel_name c ≡ true
 
-text_names : (bytes c : List ℕ) → channel_of (utf8 bytes) ≡ Some c → IsChannel c
-unfolding channel_name
-text_names bytes c e =
-    elim (is_utf8 bytes) as (λ t. is_utf8 bytes ≡ t → channel_of (cond t (Some bytes) None) ≡ Some c → IsChannel c) [
-      | true ↦ λ text read. ap (is_one c) (name_kept Small 256 bytes c (IsUtf8-from_is_utf8 bytes text) read) ∙ same_self c
-      | false ↦ λ _ read. let bad : ⊥ = cc in absurd bad
-    ] refl e
-
-word_names : (word c : List ℕ) → channel_of (decoded word) ≡ Some c → IsChannel c
-unfolding decoded
-word_names word c e = text_names _ c e
-
-both_there : (first : Option (List ℕ)) (rest : Option (List (List ℕ))) (cs : List (List ℕ)) → with_first first rest ≡ Some cs
-    → ((c : List ℕ) → first ≡ Some c → IsChannel c) → ((ds : List (List ℕ)) → rest ≡ Some ds → AllByRecursion IsChannel ds) → AllByRecursion IsChannel cs
-both_there None rest cs e one more = let bad : ⊥ = cc in absurd bad
-both_there (Some c) None cs e one more = let bad : ⊥ = cc in absurd bad
-both_there (Some c) (Some ds) cs e one more =
-    let is : c ∷ ds ≡ cs = cc in
-    subst (λ (list : List (List ℕ)). AllByRecursion IsChannel list) is (one c refl, more ds refl)
-
-words_name_channels : (words : List (List ℕ)) (cs : List (List ℕ)) → channels_from words ≡ Some cs → AllByRecursion IsChannel cs
-words_name_channels [] cs e =
-    let is : [] ≡ cs = cc in
-    subst (λ (list : List (List ℕ)). AllByRecursion IsChannel list) is tt
-words_name_channels (word ∷ words) cs e = both_there (channel_of (decoded word)) (channels_from words) cs e (word_names word) (words_name_channels words)
-
 with_name_all : (names : List (List ℕ)) (k : List ℕ) → AllByRecursion IsChannel names → IsChannel k → AllByRecursion IsChannel (with_name names k)
 with_name_all [] k all one = (one, tt)
 with_name_all (x ∷ xs) k all one = by (with_name_all xs k all.1 one) (slice_cmp nat_cmp k x)
@@ -141,37 +113,14 @@ with_names_all : (names more : List (List ℕ)) → AllByRecursion IsChannel nam
 with_names_all names [] all rest = all
 with_names_all names (k ∷ more) all rest = with_names_all (with_name names k) more (with_name_all names k all rest.0) rest.1
 
-selects_all : (cs : List (List ℕ)) → AllByRecursion IsChannel cs → AllByRecursion IsChannel (selects (all_events_of cs))
-selects_all [] all = tt
-selects_all (c ∷ cs) all = (all.0, selects_all cs all.1)
-
-made_channels : (u : List ℕ) (items bytes beat : Option ℕ) (channels : Option (List (List ℕ))) (s : Subscription) → made_of u items bytes beat channels ≡ Some s
-    → ((cs : List (List ℕ)) → channels ≡ Some cs → AllByRecursion IsChannel cs) → AllByRecursion IsChannel (channels_read s)
-made_channels u (Some items) (Some bytes) (Some beat) (Some cs) s e names =
-    let made : all_events u cs items bytes beat ≡ s = cc in
-    subst (λ (about : Subscription). AllByRecursion IsChannel (channels_read about)) made (with_names_all [] (selects (all_events_of cs)) tt (selects_all cs (names cs refl)))
-made_channels u None bytes beat channels s e names = let bad : ⊥ = cc in absurd bad
-made_channels u (Some items) None beat channels s e names = let bad : ⊥ = cc in absurd bad
-made_channels u (Some items) (Some bytes) None channels s e names = let bad : ⊥ = cc in absurd bad
-made_channels u (Some items) (Some bytes) (Some beat) None s e names = let bad : ⊥ = cc in absurd bad
-
-words_channels : (u : List ℕ) (words : List (List ℕ)) (s : Subscription) → from_words u words ≡ Some s → AllByRecursion IsChannel (channels_read s)
-words_channels u (items ∷ bytes ∷ beat ∷ kind ∷ channel ∷ channels) s e = by (same kind (codes "all")) e
-  where
-    by : (t : Bool) → cond t (made_of u (number_between 1 10000 items) (number_between 8192 4194304 bytes) (number_between 1 86400000 beat) (channels_from (channel ∷ channels))) None ≡ Some s
-        → AllByRecursion IsChannel (channels_read s)
-    by true is =
-        made_channels u (number_between 1 10000 items) (number_between 8192 4194304 bytes) (number_between 1 86400000 beat) (channels_from (channel ∷ channels)) s is (words_name_channels (channel ∷ channels))
-    by false is = let bad : ⊥ = cc in absurd bad
-words_channels u [] s e = let bad : ⊥ = cc in absurd bad
-words_channels u (a ∷ []) s e = let bad : ⊥ = cc in absurd bad
-words_channels u (a ∷ b ∷ []) s e = let bad : ⊥ = cc in absurd bad
-words_channels u (a ∷ b ∷ c ∷ []) s e = let bad : ⊥ = cc in absurd bad
-words_channels u (a ∷ b ∷ c ∷ d ∷ []) s e = let bad : ⊥ = cc in absurd bad
+selects_names : (items : List QueryItem) → AllByRecursion ReadsBack items → AllByRecursion IsChannel (selects items)
+selects_names [] back = tt
+selects_names (item ∷ items) back =
+    cond_both item.suppress (selects items) (item.channel ∷ selects items) (AllByRecursion IsChannel) (λ _. selects_names items back.1)
+    (λ _. (ap (is_one item.channel) back.0.channel ∙ same_self item.channel, selects_names items back.1))
 
 kept_channels : (u body : List ℕ) (about : Subscription) → read_kept u body ≡ Some about → AllByRecursion IsChannel (channels_read about)
-unfolding read_kept
-kept_channels u body about e = words_channels u (parts 32 body) about e
+kept_channels u body about e = with_names_all [] (selects about.query.items) tt (selects_names about.query.items (kept_plain u body about e).query.each)
 
 -- ---- what a batch changes in a channel
 
@@ -292,7 +241,7 @@ pub forms_stay : FormsStay
 forms_stay = record {
   nothing = nothing_formed;
   start = start_formed;
-  add = λ rows s name reads formed. applied_formed is_formed (put (subscription_key s.name) 0 (kept_words s) ∷ []) (subscription_row s.name (kept_words s) 0 (omega arith) name (ap (λ (read : Option Subscription). is_some read) reads), tt) rows formed;
+  add = λ rows s name reads formed. applied_formed is_formed (put (subscription_key s.name) 0 (document_text s) ∷ []) (subscription_row s.name (document_text s) 0 (omega arith) name (ap (λ (read : Option Subscription). is_some read) reads), tt) rows formed;
   end = λ rows u about lives formed.
       let kept = live_kept rows u about lives formed in
       applied_formed is_formed (put (subscription_key u) 1 (kept_body (finite.get rows (subscription_key u))) ∷ [])

@@ -1,15 +1,14 @@
 -- Subscriptions that are listed are those that their names lead to.
-use Rattle.std.proofs.Common.{◌≡◌, ℕ, Bool, true, false, cond, nat_eq, List, [], ◌∷◌, refl, ap, sym, ◌∙◌}
+use Rattle.std.proofs.Common.{◌≡◌, ℕ, true, nat_eq, List, [], ◌∷◌, refl, ap, sym, ◌∙◌}
 use Rattle.std.proofs.lemmas.Bool.{eqb-true}
 use Rattle.std.proofs.lemmas.List.Elements.{All-nil, All-cons, All-head, All-tail, filter_passes}
 use Rattle.std.specs.FinMap as finite
 use Rattle.std.specs.List.{All, cons_option, filter_map}
 use Rattle.std.specs.Option.{option_and_then, option_map}
-use Rattle.std.specs.Prelude.{Option, Some, None, is_some, codes}
-use Rattle.wef_base.specs.Names.{same}
-use Rattle.wef_base.specs.Words.{parts}
-use Rattle.wef_eventing.specs.Kept.{channels_from, from_words, made_of, number_between, read_kept}
-use Rattle.wef_eventing.specs.Subscriptions.{all_events}
+use Rattle.std.specs.Prelude.{Option, Some, None, is_some}
+use Rattle.wef_collector.proofs.Hits.{one_name}
+use Rattle.wef_documents.proofs.KeptBack.{kept_says}
+use Rattle.wef_documents.specs.Kept.{read_kept}
 use Rattle.wef_eventing.specs.declared.subscriptions.Subscription.{Subscription}
 use Rattle.wef_keeper.proofs.Stands.{Stands, rows_stand}
 use Rattle.wef_keeper.specs.Rows.{Rows, rows_after}
@@ -25,30 +24,8 @@ use Rattle.wef_collector_reports.specs.declared.listing.Listed.{Listed}
 
 -- ---- a kept subscription has the name that it was read by
 
-made_name : (u : List ℕ) (items bytes beat : Option ℕ) (channels : Option (List (List ℕ))) (s : Subscription) → made_of u items bytes beat channels ≡ Some s → s.name ≡ u
-made_name u (Some items) (Some bytes) (Some beat) (Some channels) s e =
-    let made : all_events u channels items bytes beat ≡ s = cc in
-    sym (ap (λ (x : Subscription). x.name) made)
-made_name u None bytes beat channels s e = cc
-made_name u (Some items) None beat channels s e = cc
-made_name u (Some items) (Some bytes) None channels s e = cc
-made_name u (Some items) (Some bytes) (Some beat) None s e = cc
-
-words_name : (u : List ℕ) (words : List (List ℕ)) (s : Subscription) → from_words u words ≡ Some s → s.name ≡ u
-words_name u (items ∷ bytes ∷ beat ∷ kind ∷ channel ∷ channels) s e = by (same kind (codes "all")) e
-  where
-    by : (b : Bool) → cond b (made_of u (number_between 1 10000 items) (number_between 8192 4194304 bytes) (number_between 1 86400000 beat) (channels_from (channel ∷ channels))) None ≡ Some s → s.name ≡ u
-    by true e = made_name u _ _ _ _ s e
-    by false e = cc
-words_name u [] s e = cc
-words_name u (a ∷ []) s e = cc
-words_name u (a ∷ b ∷ []) s e = cc
-words_name u (a ∷ b ∷ c ∷ []) s e = cc
-words_name u (a ∷ b ∷ c ∷ d ∷ []) s e = cc
-
 kept_name : (u body : List ℕ) (s : Subscription) → read_kept u body ≡ Some s → s.name ≡ u
-unfolding read_kept
-kept_name u body s e = words_name u (parts 32 body) s e
+kept_name u body s e = one_name s.name u (kept_says u body s e).1
 
 -- ---- a row and what is listed of it
 

@@ -6,7 +6,8 @@ use Rattle.std.specs.Ordering.{eq_by_cmp}
 use Rattle.std.specs.Prelude.{Option, Some, None, Ok, Err, IfSome, if◌then◌else◌}
 use Rattle.wef_batch.specs.WellFormed.{is_well_formed}
 use Rattle.wef_batch.specs.declared.items.Batch.{Batch}
-use Rattle.wef_eventing.specs.Kept.{kept_words, read_kept}
+use Rattle.wef_documents.specs.Kept.{read_kept}
+use Rattle.wef_documents.specs.Written.{document_text}
 use Rattle.wef_keeper.specs.Keeping.{Follows}
 use Rattle.wef_keeper.specs.declared.keys.Change.{Change}
 use Rattle.wef_keeper.specs.Rows.{Rows, applied, key_cmp, key_cmp_total}
@@ -34,22 +35,22 @@ put_lives rows s words reads =
     ap (standing_of s.name) found ∙ ap (standing_by 0) reads
 
 -- the changes of a subscription that is added
-one_put : (rows : Rows) (s : Subscription) (changes : List Change) → add_effect rows s ≡ Ok changes → changes ≡ put (subscription_key s.name) 0 (kept_words s) ∷ []
+one_put : (rows : Rows) (s : Subscription) (changes : List Change) → add_effect rows s ≡ Ok changes → changes ≡ put (subscription_key s.name) 0 (document_text s) ∷ []
 one_put rows s changes e = by (is_there rows s.name) (is_full rows) e
   where
-    by : (there full : Bool) → (if there then Err Exists else if full then Err TooMany else Ok (put (subscription_key s.name) 0 (kept_words s) ∷ [])) ≡ Ok changes → changes ≡ put (subscription_key s.name) 0 (kept_words s) ∷ []
+    by : (there full : Bool) → (if there then Err Exists else if full then Err TooMany else Ok (put (subscription_key s.name) 0 (document_text s) ∷ [])) ≡ Ok changes → changes ≡ put (subscription_key s.name) 0 (document_text s) ∷ []
     by true full e = cc
     by false true e = cc
     by false false e = cc
 
 -- once they stand, it is live
 pub added_lives : (mid now : Option Rows) (s : Subscription) (changes : List Change) → Follows mid now (λ found after. after ≡ applied changes found) → IfSome mid (λ rows. add_effect rows s ≡ Ok changes)
-    → read_kept s.name (kept_words s) ≡ Some s → IfSome now (λ rows. standing rows s.name ≡ Live s)
+    → read_kept s.name (document_text s) ≡ Some s → IfSome now (λ rows. standing rows s.name ≡ Live s)
 added_lives mid None s changes follows made reads = tt
 added_lives None (Some after) s changes follows made reads = absurd follows
 added_lives (Some found) (Some after) s changes follows made reads =
     let is = follows ∙ ap (λ (made : List Change). applied made found) (one_put found s changes made) in
-    ap (λ (rows : Rows). standing rows s.name) is ∙ put_lives found s (kept_words s) reads
+    ap (λ (rows : Rows). standing rows s.name) is ∙ put_lives found s (document_text s) reads
 
 -- what taking a batch does for a live subscription, by how it is judged
 pub takes_ill : (rows : Rows) (u source : List ℕ) (s : Subscription) (batch : Batch) (now : ℕ) → is_well_formed (channels_read s) batch ≡ false → take_by (Live s) rows u source batch now ≡ Err NotWellFormed

@@ -13,7 +13,7 @@ use Rattle.wef_base.specs.Names.{subscription_name}
 use Rattle.wef_bookmark.specs.Order.{Marks, number_at, raised}
 use Rattle.wef_bookmark.proofs.Joining.{get-raised, order}
 use Rattle.wef_bookmark.proofs.Joining as joining
-use Rattle.wef_eventing.specs.Kept.{read_kept}
+use Rattle.wef_documents.specs.Kept.{read_kept}
 use Rattle.wef_eventing.specs.declared.subscriptions.Subscription.{Subscription}
 use Rattle.wef_keeper.proofs.Stands.{Stands, rows_stand}
 use Rattle.wef_keeper.specs.Rows.{Rows, row_of, rows_after}

@@ -4,7 +4,7 @@ use Rattle.std.specs.FinMap as map
 use Rattle.wef_base.specs.declared.numbers.TheConstants.{MAX}
 use Rattle.wef_batch.specs.WellFormed.{is_well_formed}
 use Rattle.wef_batch.specs.declared.items.Batch.{Batch}
-use Rattle.wef_eventing.specs.Kept.{kept_words}
+use Rattle.wef_documents.specs.Written.{document_text}
 use Rattle.wef_eventing.specs.declared.subscriptions.Subscription.{Subscription}
 use Rattle.wef_keeper.specs.Calls as keeper
 use Rattle.wef_keeper.specs.Rows.{Rows}
@@ -32,9 +32,9 @@ abbrev pub add_effect : Rows → Subscription → Effect
 add_effect rows s =
     if is_there rows s.name then Err Exists else
     if is_full rows then Err TooMany else
-    Ok (put (subscription_key s.name) 0 (kept_words s) ∷ [])
+    Ok (put (subscription_key s.name) 0 (document_text s) ∷ [])
 
--- the change that ends a subscription: its words stay
+-- the change that ends a subscription: its document stays
 abbrev pub ended : Rows → List ℕ → List Change
 ended rows u = put (subscription_key u) 1 (kept_body (map.get rows (subscription_key u))) ∷ []
 

@@ -9,7 +9,8 @@ use Rattle.wef_batch.specs.declared.items.Batch.{Batch}
 use Rattle.wef_batch.specs.declared.items.Item.{Item}
 use Rattle.wef_batch.specs.declared.items.Item.TheVariants.{Event, Dropped, Loose}
 use Rattle.wef_event.specs.Events.{is_event}
-use Rattle.wef_eventing.specs.Kept.{kept_words, read_kept}
+use Rattle.wef_documents.specs.Kept.{read_kept}
+use Rattle.wef_documents.specs.Written.{document_text}
 use Rattle.wef_eventing.specs.declared.subscriptions.Subscription.{Subscription}
 use Rattle.wef_keeper.specs.Rows.{Rows}
 use Rattle.wef_collector_rows.specs.Answers.{added_rows, channels_read, ended_rows}
@@ -37,7 +38,7 @@ pub record FormsStay : Type 0 where
   pub nothing : AreFormed map.empty
   pub start : (rows : Rows) → nat_lt (boot_of rows) MAX ≡ true → AreFormed rows
       → AreFormed (map.insert rows boot_key (record { value = boot_of rows + 1; body = [] }))
-  pub add : (rows : Rows) (s : Subscription) → is_subscription_name s.name ≡ true → read_kept s.name (kept_words s) ≡ Some s → AreFormed rows
+  pub add : (rows : Rows) (s : Subscription) → is_subscription_name s.name ≡ true → read_kept s.name (document_text s) ≡ Some s → AreFormed rows
       → AreFormed (added_rows rows s)
   pub end : (rows : Rows) (u : List ℕ) (about : Subscription) → standing rows u ≡ Live about → AreFormed rows → AreFormed (ended_rows rows u)
   pub take : (rows : Rows) (u s : List ℕ) (about : Subscription) (batch : Batch) (now : ℕ) → standing rows u ≡ Live about → is_source_name s ≡ true

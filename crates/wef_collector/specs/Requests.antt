@@ -1,7 +1,8 @@
 -- What the collector is asked to change.
 use Rattle.std.specs.Prelude.{◌≡◌, Some}
 use Rattle.wef_batch.specs.Numbers.{AreNumbered}
-use Rattle.wef_eventing.specs.Kept.{kept_words, read_kept}
+use Rattle.wef_documents.specs.Kept.{read_kept}
+use Rattle.wef_documents.specs.Written.{document_text}
 use Rattle.wef_keeper.specs.Rows.{Rows}
 use Rattle.wef_collector_rows.specs.Standing.{standing}
 use Rattle.wef_collector_rows.specs.declared.faults.CollectorFault.{CollectorFault}
@@ -18,9 +19,9 @@ effect_of (End sub) rows = end_effect rows sub.now
 effect_of (Take sub source batch now) rows = take_effect rows sub.now source.now batch.now now
 effect_of (TakeUnread sub) rows = unread_effect rows sub.now
 
--- what may be asked: a subscription's words read back, and a batch's numbers are such as records have
+-- what may be asked: a subscription is read again from its document, and a batch's numbers are such as records have
 abbrev pub IsAllowed : Request → Type 0
-IsAllowed (Add subscription) = read_kept subscription.now.name (kept_words subscription.now) ≡ Some subscription.now
+IsAllowed (Add subscription) = read_kept subscription.now.name (document_text subscription.now) ≡ Some subscription.now
 IsAllowed (End sub) = Unit {0}
 IsAllowed (Take sub source batch now) = AreNumbered batch.now.items
 IsAllowed (TakeUnread sub) = Unit {0}

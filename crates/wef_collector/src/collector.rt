@@ -4,7 +4,8 @@ ghost use Rattle.std.specs.Prelude.{◌≡◌, ◌≤◌, ◌++◌, true, take, 
 ghost use Rattle.wef_batch.specs.Numbers.{AreNumbered};
 ghost use Rattle.wef_ids.specs.IdTexts.{id_of_value};
 ghost use Rattle.wef_ids.specs.Ids.{next_id, with_drawn};
-ghost use Rattle.wef_eventing.specs.Kept.{kept_words, read_kept};
+ghost use Rattle.wef_documents.specs.Kept.{read_kept};
+ghost use Rattle.wef_documents.specs.Written.{document_text};
 ghost use Rattle.wef_keeper.specs.Access.{From};
 ghost use Rattle.wef_keeper.specs.Calls.{IsCall, Looks};
 ghost use Rattle.wef_keeper.specs.declared.keeping.Plan.TheVariants.{Done, Fails};
@@ -112,9 +113,9 @@ impl<K: Keeper> Collector<K> {
         keeper
     }
 
-    /// Adds a subscription, which has to be one whose kept words read back.
+    /// Adds a subscription, which has to be one that is read again from its document.
     pub fn add(&mut self, subscription: &Subscription) -> Result<(), CollectorFault>
-        requires kept { read_kept subscription.now.name (kept_words subscription.now) ≡ Some subscription.now }
+        requires kept { read_kept subscription.now.name (document_text subscription.now) ≡ Some subscription.now }
         ensures call { IsCall collector_store AreFormed (λ rows. calls.add_effect rows subscription.now) (λ _. tt) result (K.store self.old.keeper) (K.store self.new.keeper) }
         ensures judged { From (K.store self.old.keeper) (K.store self.new.keeper) (λ found after. OnOk result (judged.IsAddJudged found subscription.now.name)) }
         ensures listed { IfErr result calls.OfAdd }

@@ -3,8 +3,8 @@
 ghost use Rattle.std.specs.Prelude.{◌≡◌, ◌≤◌, true, false, [], ◌∷◌, take, is_some, Some, Ok, IsErr, IfErr, IfOk, IfSome, OnOk};
 ghost use Rattle.std.specs.FinMap as map;
 ghost use Rattle.wef_batch.specs.Numbers.{AreNumbered};
-ghost use Rattle.wef_eventing.specs.Kept.{read_kept};
-ghost use Rattle.wef_eventing.specs.Kept as kept;
+ghost use Rattle.wef_documents.specs.Kept.{read_kept};
+ghost use Rattle.wef_documents.specs.Written.{document_text};
 ghost use Rattle.wef_keeper.specs.Access as access;
 ghost use Rattle.wef_keeper.specs.Calls.{Tells, TellsFault, fails};
 ghost use Rattle.wef_keeper.specs.Rows as the_rows;
@@ -31,7 +31,8 @@ use wef_collector_rows::faults::CollectorFault;
 use wef_collector_rows::keys::{boot_key, subscription_key, subscriptions_start};
 use wef_collector_rows::numbers::number_at;
 use wef_collector_rows::standings::{live_in, subscription_cell};
-use wef_eventing::{Subscription, kept_words, read_kept};
+use wef_documents::{read_kept, write_document};
+use wef_eventing::Subscription;
 use wef_ids::Ids;
 use wef_keeper::forms::formed_page;
 use wef_keeper::{Cell, Changes, Depth, Keeper, Key, StoreFault};
@@ -46,7 +47,7 @@ pub fn add_changes<K: Keeper>(
     alloc: Global,
     subscription: &Subscription,
 ) -> Result<Changes<CollectorForm>, CollectorFault>
-    requires kept { read_kept subscription.now.name (kept.kept_words subscription.now) ≡ Some subscription.now }
+    requires kept { read_kept subscription.now.name (document_text subscription.now) ≡ Some subscription.now }
     requires ready { access.IsReady (K.store keeper.old) }
     ensures effect { IfSome (K.store keeper.new).rows (λ rows. Tells collector_store result (calls.add_effect rows subscription.now)) }
     ensures judged { IfSome (K.store keeper.new).rows (λ rows. OnOk result (judged.IsAddJudged rows subscription.now.name)) }
@@ -73,14 +74,15 @@ fn is_there<K: Keeper>(keeper: &mut K, sub: &SubId) -> Result<bool, StoreFault>
 }
 
 /// The change that puts a live subscription.
+#[tactic(auto, using(wef_documents::proofs::KeptBack::kept_xml))]
 fn put_live(
     alloc: Global,
     subscription: &Subscription,
 ) -> Result<Changes<CollectorForm>, AllocError>
-    requires { read_kept subscription.now.name (kept.kept_words subscription.now) ≡ Some subscription.now }
-    ensures { IfOk result (λ changes. changes ≡ taken.put (keys.subscription_key subscription.now.name) 0 (kept.kept_words subscription.now) ∷ []) }
+    requires { read_kept subscription.now.name (document_text subscription.now) ≡ Some subscription.now }
+    ensures { IfOk result (λ changes. changes ≡ taken.put (keys.subscription_key subscription.now.name) 0 (document_text subscription.now) ∷ []) }
 {
-    let body = kept_words(subscription)?;
+    let body = write_document(alloc, subscription)?;
     put_subscription(alloc, &subscription.name, 0, body)
 }
 
@@ -125,14 +127,14 @@ pub fn end_changes<K: Keeper>(
     ensures reads { access.Reads AreFormed (fails collector_store result) (K.store keeper.old) (K.store keeper.new) }
 {
     let cell = subscription_cell(keeper, sub)?;
-    let body = live_words(sub, cell)?;
+    let body = live_document(sub, cell)?;
     Ok(put_subscription(alloc, sub, 1, body)?)
 }
 
-/// The words that keep a live subscription, by what stands at its key.
-fn live_words(sub: &SubId, cell: Option<Cell>) -> Result<Text, CollectorFault>
-    ensures words { IfOk result (λ words. words ≡ standings.kept_body cell) }
-    ensures kept { IfOk result (λ words. is_some (read_kept sub.now words) ≡ true) }
+/// The document of a live subscription, by what stands at its key.
+fn live_document(sub: &SubId, cell: Option<Cell>) -> Result<Text, CollectorFault>
+    ensures document { IfOk result (λ document. document ≡ standings.kept_body cell) }
+    ensures kept { IfOk result (λ document. is_some (read_kept sub.now document) ≡ true) }
     ensures live { OnOk result ((rows : the_rows.Rows) → calls.end_by (standings.standing_of sub.now cell) rows sub.now ≡ Ok (calls.ended rows sub.now)) }
     ensures refusal { IfErr result (λ fault. (rows : the_rows.Rows) → TellsFault (collector_store fault) fault (calls.end_by (standings.standing_of sub.now cell) rows sub.now)) }
     ensures listed { IfErr result calls.OfEnd }

@@ -3,7 +3,7 @@ use Rattle.std.specs.Prelude.{ℕ, ◌==◌, List, Option}
 use Rattle.std.specs.List.{AllByRecursion, filter_map}
 use Rattle.std.specs.Option.{option_and_then, option_map}
 use Rattle.wef_base.specs.Names.{subscription_name}
-use Rattle.wef_eventing.specs.Kept.{read_kept}
+use Rattle.wef_documents.specs.Kept.{read_kept}
 use Rattle.wef_eventing.specs.Sending.{AreXmlQueries}
 use Rattle.wef_eventing.specs.declared.subscriptions.Subscription.{Subscription}
 use Rattle.wef_keeper.specs.Rows.{Rows}

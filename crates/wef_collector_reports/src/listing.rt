@@ -12,7 +12,8 @@ use std::alloc::{AllocError, Global};
 use wef_base::{List, SubId, ValueFault};
 use wef_collector_rows::CollectorForm;
 use wef_collector_rows::keys::subscriptions_start;
-use wef_eventing::{Subscription, read_kept};
+use wef_documents::read_kept;
+use wef_eventing::Subscription;
 use wef_keeper::forms::formed_section;
 use wef_keeper::{Depth, Keeper, Row, StoreFault};
 

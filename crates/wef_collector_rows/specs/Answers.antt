@@ -1,7 +1,7 @@
 -- What the calls of the collector answer, by its rows as the call begins.
 use Rattle.std.specs.Prelude.{◌≡◌, ℕ, Bool, true, false, List, Option, is_some, IfSome}
 use Rattle.std.specs.FinMap as map
-use Rattle.wef_eventing.specs.Kept.{kept_words}
+use Rattle.wef_documents.specs.Written.{document_text}
 use Rattle.wef_eventing.specs.declared.subscriptions.Subscription.{Subscription}
 use Rattle.wef_keeper.specs.Rows.{Rows}
 use Rattle.wef_query.specs.Selected as selected
@@ -18,7 +18,7 @@ is_there rows u = is_some (map.get rows (subscription_key u))
 
 -- the rows with a live subscription more
 abbrev pub added_rows : Rows → Subscription → Rows
-added_rows rows s = map.insert rows (subscription_key s.name) (record { value = 0; body = kept_words s })
+added_rows rows s = map.insert rows (subscription_key s.name) (record { value = 0; body = document_text s })
 
 -- the rows with a subscription ended
 abbrev pub ended_rows : Rows → List ℕ → Rows

@@ -5,7 +5,7 @@ use Rattle.wef_base.specs.Numbers.{plain_number}
 use Rattle.wef_base.specs.declared.moments.TheConstants.{LAST_MOMENT}
 use Rattle.wef_base.specs.declared.numbers.TheConstants.{MAX}
 use Rattle.wef_event.specs.Events.{is_event}
-use Rattle.wef_eventing.specs.Kept.{read_kept}
+use Rattle.wef_documents.specs.Kept.{read_kept}
 use Rattle.wef_keeper.specs.Forms.{ArePassed}
 use Rattle.wef_keeper.specs.Rows.{Rows}
 use Rattle.wef_keeper.specs.declared.keys.Key.{Key}
@@ -52,7 +52,7 @@ names_source key = is_subscription_name key.sub && is_source_name key.source
 abbrev pub names_channel : Key → Bool
 names_channel key = names_source key && is_channel_name key.channel
 
--- it is live or has ended, and its words read back
+-- it is live or has ended, and its document reads back under its name
 unfoldable pub is_subscription_row : Row → Bool
 is_subscription_row row =
     is_subscription_name row.key.sub && is_empty row.key.source && is_empty row.key.channel && row.key.number == 0

@@ -1,5 +1,5 @@
 -- The keys of the collector's rows. Unnamed parts are empty or 0.
---     SUBSCRIPTION: 0 while it is live and 1 once it has ended; the words that keep it
+--     SUBSCRIPTION: 0 while it is live and 1 once it has ended; its document
 --     BOOKMARK, of a subscription, source and channel: the number
 --     HELD, by its number: 0; its text
 --     MARK, of dropped records, by their first number: the last

@@ -6,7 +6,7 @@ use Rattle.wef_keeper.specs.declared.keys.Depth.TheVariants.{Kind}
 use Rattle.wef_keeper.specs.declared.keys.Row.{Row}
 use Rattle.wef_keeper.specs.Rows.{Rows}
 use Rattle.wef_keeper.specs.Sections.{rows_under}
-use Rattle.wef_eventing.specs.Kept.{read_kept}
+use Rattle.wef_documents.specs.Kept.{read_kept}
 use Rattle.wef_eventing.specs.declared.subscriptions.Subscription.{Subscription}
 use Rattle.wef_collector_rows.specs.Keys.{subscription_key}
 use Rattle.wef_collector_rows.specs.declared.standings.Standing.{Standing}
@@ -24,7 +24,7 @@ standing_of u (Some cell) = standing_by cell.value (read_kept u cell.body)
 abbrev pub standing : Rows → List ℕ → Standing
 standing rows u = standing_of u (map.get rows (subscription_key u))
 
--- the words that keep the subscription of a name
+-- the document that keeps the subscription of a name
 abbrev pub kept_body : Option Cell → List ℕ
 kept_body None = []
 kept_body (Some cell) = cell.body

@@ -10,8 +10,8 @@ use std::alloc::AllocError;
 use wef_base::moments::LAST_MOMENT;
 use wef_base::numbers::{MAX, read_plain_number};
 use wef_base::{ChannelName, SourceName, SubId, Text, ValueFault};
+use wef_documents::read_kept;
 use wef_event::Event;
-use wef_eventing::read_kept;
 use wef_keeper::{Form, Key, Row};
 
 /// The form of the collector's rows.

@@ -16,7 +16,8 @@ use crate::forms::CollectorForm;
 use crate::keys::subscription_key;
 use std::alloc::AllocError;
 use wef_base::SubId;
-use wef_eventing::{Subscription, read_kept};
+use wef_documents::read_kept;
+use wef_eventing::Subscription;
 use wef_keeper::forms::formed_cell;
 use wef_keeper::{Cell, Keeper, StoreFault};
 

@@ -93,7 +93,7 @@ unfolding segment
 segment_printed [] = refl
 segment_printed (b ∷ bs) = joined (segment_byte b) (segment bs) (byte_printed b) (segment_printed bs)
 
-address_printed : (host u s : List ℕ) → list_all is_printed host ≡ true → list_all is_printed (delivery_address host u s) ≡ true
+pub address_printed : (host u s : List ℕ) → list_all is_printed host ≡ true → list_all is_printed (delivery_address host u s) ≡ true
 unfolding delivery_address
 address_printed host u s is =
     let front = codes "http://" ++ host in

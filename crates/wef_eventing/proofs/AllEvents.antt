@@ -1,17 +1,12 @@
 -- A subscription that is made for all events is one.
 use Rattle.std.proofs.Common.{◌≡◌, ℕ, ◌<◌, List, [], ◌∷◌, length, map, refl, ap, sym, subst}
-use Rattle.std.specs.Prelude.{codes, Option, Some, None, Result, IfOk, IfSome}
-use Rattle.std.specs.declared.result.Result.TheVariants.{Ok, Err}
 use Rattle.wef_query.specs.declared.QueryItem.{QueryItem}
 use Rattle.wef_query.specs.declared.QueryList.{QueryList}
 use Rattle.wef_eventing.specs.declared.subscriptions.SourceAt.{SourceAt}
 use Rattle.wef_eventing.specs.declared.subscriptions.SubKind.TheVariants.{BySource}
 use Rattle.wef_query.specs.Queries.{all_events_of}
-use Rattle.wef_eventing.specs.Sending.{AreXmlQueries}
 use Rattle.wef_eventing.specs.Subscriptions.{AreLimits, IsAllEvents, all_events, channels_named}
 use Rattle.wef_eventing.specs.declared.subscriptions.Subscription.{Subscription}
-use Rattle.wef_xml.specs.Good.{IsXmlText}
-use Rattle.wef_xml.proofs.Ascii.{plain_text}
 
 named : (channels : List (List ℕ)) → map (λ (item : QueryItem). item.channel) (all_events_of channels) ≡ channels
 named [] = refl
@@ -25,17 +20,6 @@ made_is_one name channels max_items max_bytes heartbeat some limits = record {
   limits = limits;
 }
 
--- the texts of its queries hold characters that XML allows
-any_text_good : IsXmlText (codes "*")
-any_text_good = plain_text (codes "*") refl
-
-queries_xml : (channels : List (List ℕ)) → AreXmlQueries (all_events_of channels)
-queries_xml [] = tt
-queries_xml (c ∷ cs) = (any_text_good, queries_xml cs)
-
-pub all_events_xml : (s : Subscription) → IsAllEvents s → AreXmlQueries s.query.items
-all_events_xml s is = subst (λ (t : Subscription). AreXmlQueries t.query.items) (sym is.form) (queries_xml (channels_named s))
-
 -- and so is one of these parts
 pub parts_are_one : (name : List ℕ) (channels : List (List ℕ)) (max_items max_bytes heartbeat : ℕ) (query : QueryList) (sources : List SourceAt) → query.items ≡ all_events_of channels → sources ≡ []
     → 0 < length channels → AreLimits max_items max_bytes heartbeat
@@ -43,10 +27,3 @@ pub parts_are_one : (name : List ℕ) (channels : List (List ℕ)) (max_items ma
 parts_are_one name channels max_items max_bytes heartbeat query sources q s some limits =
     subst IsAllEvents (λ i. record { name = name; kind = BySource; query = record { items = sym q i }; max_items = max_items; max_bytes = max_bytes; heartbeat = heartbeat; expires = 3600000; sources = sym s i; version = 1 })
     (made_is_one name channels max_items max_bytes heartbeat some limits)
-
--- so do those of one that was read, where there is one
-pub xml_where_one : {E : Type 0} (result : Result (Option Subscription) E) → IfOk result (λ (read : Option Subscription). IfSome read IsAllEvents)
-    → IfOk result (λ (read : Option Subscription). IfSome read (λ (s : Subscription). AreXmlQueries s.query.items))
-xml_where_one (Ok None) is = tt
-xml_where_one (Ok (Some s)) is = all_events_xml s is
-xml_where_one (Err fault) is = tt

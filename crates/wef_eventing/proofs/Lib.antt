@@ -1,6 +1,5 @@
 pub mod AddressTexts
 pub mod AddressesBack
 pub mod AllEvents
-pub mod Back
 pub mod NameTexts
 pub mod Segments
