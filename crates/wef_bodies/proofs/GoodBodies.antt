@@ -1,12 +1,12 @@
 -- What is written for a body is a good tree.
-use Rattle.std.proofs.Common.{◌≡◌, ℕ, suc, ◌+◌, ◌<◌, ◌/◌, ◌%◌, true, false, List, [], ◌∷◌, ◌++◌, refl, ◌∙◌, arith}
-use Rattle.std.specs.Prelude.{Option, Some, None, IfSome, codes}
+use Rattle.std.proofs.Common.{◌≡◌, ℕ, suc, ◌+◌, ◌<◌, ◌/◌, ◌%◌, true, false, List, [], ◌∷◌, ◌++◌, ap, refl, subst, sym, ◌∙◌, arith}
+use Rattle.std.specs.Prelude.{Option, Some, None, Result, Ok, Err, IfOk, IfSome, codes}
 use Rattle.std.specs.Fmt.{decimal}
 use Rattle.std.specs.List.{All, AllByRecursion, list_all}
 use Rattle.std.specs.Option.{option_map, option_to_list}
 use Rattle.std.proofs.lemmas.Bool.{and_from, and_parts}
 use Rattle.std.proofs.lemmas.Bool.Decides.{nat_tests}
-use Rattle.std.proofs.lemmas.List.Elements.{All-from_recursion}
+use Rattle.std.proofs.lemmas.List.Elements.{All-from_recursion, recursion_from_All}
 use Rattle.std.proofs.lemmas.List.Folds.{list_all-append}
 use Rattle.std.proofs.lemmas.Str.{is_utf8-from_IsUtf8}
 use Rattle.wef_base.specs.Numbers.{is_digit}
@@ -23,7 +23,7 @@ use Rattle.wef_envelope.specs.Written.{written}
 use Rattle.wef_envelope.proofs.WrittenIsGood.{written_is_good as envelope_good}
 use Rattle.wef_eventing.specs.Addresses.{is_printed}
 use Rattle.wef_eventing.specs.Kept.{HasKeptName}
-use Rattle.wef_eventing.specs.Sending.{AreXmlQueries, HasXmlTexts}
+use Rattle.wef_eventing.specs.Sending.{AreXmlQueries, CanBeOffered, HasXmlTexts}
 use Rattle.wef_eventing.specs.declared.offers.Offer.{Offer}
 use Rattle.wef_eventing.specs.declared.offers.Subscribe.{Subscribe}
 use Rattle.wef_eventing.proofs.AddressTexts.{printed_text}
@@ -36,7 +36,7 @@ use Rattle.wef_times.specs.Durations.{duration_text, three_digits}
 use Rattle.wef_xml.specs.Good.{IsGoodElement, IsGoodHead, IsLocalName, IsXmlText}
 use Rattle.wef_xml.specs.Spaces.{is_xmlns}
 use Rattle.wef_xml.proofs.Ascii.{plain_name, plain_text}
-use Rattle.wef_bodies.specs.Laws.{IsKeptSubscribe, IsXmlId, OfferCanStand}
+use Rattle.wef_bodies.specs.Laws.{IsKeptOffer, IsKeptSubscribe, IsXmlId, OfferCanStand}
 use Rattle.wef_bodies.specs.Spaces.{anonymous, batches, event_log, event_query, most_elements, subscribe}
 use Rattle.wef_bodies.specs.Written.{address_element, count_element, delivery_element, end_element, enumerate_element, expires_element, filter_element, heartbeats_element, last_parts, marked_holder, no_ids, notify_element, offer_element, offer_elements, offer_envelope, offers_element, properties_element, response_element, size_element, subscribe_element, subscribe_parts}
 
@@ -311,11 +311,21 @@ unnamed_good (o ∷ offers) = (empty_text, unnamed_good offers)
 pub no_ids_good : (offers : List Offer) → All IsXmlId (no_ids offers)
 no_ids_good offers = All-from_recursion IsXmlId (no_ids offers) (unnamed_good offers)
 
--- ---- lists that grow
+-- ---- what is written
 
-pub with_last : (es : List Element) (e : Element) (room : ℕ) → AreGoodElements es room → IsGoodElement e room → AreGoodElements (es ++ e ∷ []) room
-with_last [] e room good last = (last, tt)
-with_last (x ∷ es) e room good last = (good.0, with_last es e room good.1 last)
+-- offers whose texts can stand, by what is asked of them and what their types keep
+can_stand : (offers : List Offer) → AllByRecursion CanBeOffered offers → AllByRecursion IsKeptOffer offers → AllByRecursion OfferCanStand offers
+can_stand [] offered kept = tt
+can_stand (o ∷ offers) offered kept = (record { version = offered.0.version; subscribe = (offered.0.subscribe, kept.0) }, can_stand offers offered.1 kept.1)
+
+pub offered_good : (ids : List MessageId) (offers : List Offer) → All CanBeOffered offers → All IsXmlId ids → AllByRecursion IsKeptOffer offers → IsGoodElement (offers_element ids offers) 62
+offered_good ids offers offered spelt kept =
+    answer_good ids offers 52 (recursion_from_All IsXmlId ids spelt) (can_stand offers (recursion_from_All CanBeOffered offers offered) kept)
+
+-- a list of one good element
+pub only_good : {F : Type 0} (written : Result (List Element) F) (e good : Element) → IfOk written (λ es. es ≡ e ∷ []) → e ≡ good → IsGoodElement good 62 → IfOk written (λ es. AreGoodElements es 62)
+only_good (Ok es) e good is same allowed = subst (λ (x : List Element). AreGoodElements x 62) (sym (is ∙ ap (λ (x : Element). x ∷ []) same)) (allowed, tt)
+only_good (Err fault) e good is same allowed = tt
 
 -- no offer is left
 pub none_left : (ids : List MessageId) → offer_elements ids [] ≡ []

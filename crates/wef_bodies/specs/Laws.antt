@@ -83,6 +83,10 @@ pub record IsKeptSubscribe (s : Subscribe) : Type 0 where
 abbrev pub CanStand : Subscribe → Type 0
 CanStand s = HasXmlTexts s × IsKeptSubscribe s
 
+-- an offer of a wish whose parts keep that
+abbrev pub IsKeptOffer : Offer → Type 0
+IsKeptOffer o = IsKeptSubscribe o.subscribe
+
 -- an offer whose texts can
 pub record OfferCanStand (o : Offer) : Type 0 where
   pub version : IsXmlText o.version

@@ -14,6 +14,6 @@ pub mod wishes;
 pub mod writing;
 
 pub use bodies::{Body, BodyFault, Part};
-pub use offers::offers_in as read_offers;
+pub use offers::read_offers;
 pub use reading::{has_enumerate, read_body};
 pub use writing::{write_body, write_offers};

@@ -19,7 +19,11 @@ use wef_envelope::{Envelope, EnvelopeFault, from_node};
 use wef_eventing::{Offer, Subscribe};
 
 /// Reads the offers among the elements of a Body.
-pub fn offers_in(alloc: Global, elements: &[Element], now: Moment) -> Result<List<Offer>, BodyFault>
+pub fn read_offers(
+    alloc: Global,
+    elements: &[Element],
+    now: Moment,
+) -> Result<List<Offer>, BodyFault>
     ensures { Reads result (offers_in now elements.now) }
 {
     let Some(response) = enumeration_of("EnumerateResponse", elements) else {

@@ -8,7 +8,7 @@ ghost use Rattle.wef_bodies.specs.Steps.{Reads};
 
 use crate::bodies::{Body, BodyFault, Part};
 use crate::children::enumeration_of;
-use crate::offers::offers_in;
+use crate::offers::read_offers;
 use crate::subscribes::subscribe_in;
 use wef_base::{Element, Moment};
 use wef_envelope::Envelope;
@@ -27,7 +27,7 @@ pub fn read_body(envelope: &Envelope, now: Moment) -> Result<Body, BodyFault>
         return enumerate_in(elements);
     }
     if is_enumerate_response(action) {
-        return Ok(Body::Offers(offers_in(alloc, elements, now)?));
+        return Ok(Body::Offers(read_offers(alloc, elements, now)?));
     }
     if is_subscribe(action) {
         return Ok(Body::Subscribe(subscribe_in(alloc, elements, now)?));

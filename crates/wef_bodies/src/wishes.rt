@@ -7,7 +7,7 @@ ghost use Rattle.std.specs.Str.{is_utf8};
 ghost use Rattle.wef_bookmark.specs.Entries.{AreEntries};
 ghost use Rattle.wef_bookmark.specs.Nodes.{AreTexts};
 ghost use Rattle.wef_eventing.specs.Kept.{HasKeptName};
-ghost use Rattle.wef_bodies.specs.Laws.{IsKeptSubscribe, IsTextEntry};
+ghost use Rattle.wef_bodies.specs.Laws.{IsKeptOffer, IsKeptSubscribe, IsTextEntry};
 ghost use Rattle.wef_bodies.specs.Written.{address_element, count_element, delivery_element, end_element, expires_element, filter_element, heartbeats_element, last_parts, marked_holder, notify_element, properties_element, size_element, subscribe_element, subscribe_parts};
 
 use crate::spaces::{addressing, batches, event_query, eventing};
@@ -16,7 +16,7 @@ use std::collections::BTreeMap;
 use wef_base::{Attribute, ChannelName, Element, List, Namespace, Text};
 use wef_bookmark::Bookmark;
 use wef_elements::{digits, management, with_attributes, with_elements, with_text, with_value};
-use wef_eventing::Subscribe;
+use wef_eventing::{Offer, Subscribe};
 use wef_query::{QueryItem, QueryList, write_query};
 use wef_times::write_duration;
 
@@ -209,6 +209,15 @@ pub(crate) fn names_are_kept(wish: &Subscribe)
 {
     queried_names_are_kept(wish.query.items.as_slice());
     marked_names_are_kept(&wish.from);
+}
+
+/// The same of each wish that is offered.
+pub(crate) fn offered_names_are_kept(offers: &[Offer])
+    ensures { AllByRecursion IsKeptOffer offers.now }
+{
+    for offer in offers {
+        names_are_kept(&offer.subscribe);
+    }
 }
 
 fn queried_names_are_kept(items: &[QueryItem])

@@ -4,13 +4,12 @@ ghost use Rattle.std.specs.Prelude.{◌≡◌, ◌++◌, ◌∷◌, [], IfOk, On
 ghost use Rattle.std.specs.List.{All};
 ghost use Rattle.wef_elements.specs.Good.{AreGoodElements};
 ghost use Rattle.wef_eventing.specs.Sending.{CanBeOffered, HasXmlTexts};
-ghost use Rattle.wef_xml.specs.Good.{IsGoodElement};
 ghost use Rattle.wef_bodies.specs.Laws.{CanBeWritten, IsXmlId};
 ghost use Rattle.wef_bodies.specs.Written.{body_elements, enumerate_element, no_ids, offer_element, offer_elements, offer_envelope, offers_element, response_element, subscribe_element};
 
 use crate::bodies::Body;
 use crate::spaces::{anonymous, enumeration, event_log, most_elements, subscribe, subscription};
-use crate::wishes::{names_are_kept, subscribe_element};
+use crate::wishes::{names_are_kept, offered_names_are_kept, subscribe_element};
 use std::alloc::{AllocError, Global};
 use wef_base::{Element, List, Text};
 use wef_elements::{management, with_elements, with_text};
@@ -18,13 +17,12 @@ use wef_envelope::{Envelope, to_node};
 use wef_eventing::{Offer, Subscribe};
 use wef_ids::{MessageId, read_id};
 
-/// The elements that say a body, as good trees with room for the envelope round them. The envelopes
-/// in offers have an empty MessageID. Texts must hold characters that XML allows; the names in a body
-/// do by themselves.
+/// The elements that say a body. The envelopes in offers have an empty MessageID. Where its texts hold
+/// characters that XML allows, they are good trees with room for the envelope round them; the names in a
+/// body do so by themselves.
 pub fn write_body(alloc: Global, body: &Body) -> Result<List<Element>, AllocError>
-    requires { CanBeWritten body.now }
     ensures value { IfOk result (λ elements. elements ≡ body_elements body.now) }
-    ensures good { IfOk result (λ elements. AreGoodElements elements 62) }
+    ensures good { CanBeWritten body.now → IfOk result (λ elements. AreGoodElements elements 62) }
 {
     match body {
         Body::Enumerate => write_enumerate(alloc),
@@ -33,57 +31,44 @@ pub fn write_body(alloc: Global, body: &Body) -> Result<List<Element>, AllocErro
     }
 }
 
-/// The elements that answer Enumerate with offers, as good trees with room for the envelope round
-/// them. The envelope in each has the next of the ids, so only as many offers are written as there
-/// are ids.
+/// The elements that answer Enumerate with offers. The envelope in each has the next of the ids, so only
+/// as many offers are written as there are ids. Where the texts of both hold characters that XML allows,
+/// they are good trees with room for the envelope round them.
 pub fn write_offers(
     alloc: Global,
     offers: &[Offer],
     ids: &[MessageId],
 ) -> Result<List<Element>, AllocError>
-    requires offers { All CanBeOffered offers.now }
-    requires ids { All IsXmlId ids.now }
     ensures value { IfOk result (λ elements. elements ≡ offers_element ids.now offers.now ∷ []) }
-    ensures good { IfOk result (λ elements. AreGoodElements elements 62) }
+    ensures good { All CanBeOffered offers.now → All IsXmlId ids.now → IfOk result (λ elements. AreGoodElements elements 62) }
 {
+    offered_names_are_kept(offers);
     let items = offer_elements(alloc, offers, ids)?;
-    body_of(alloc, response_element(alloc, items)?)
+    only(alloc, response_element(alloc, items)?)
 }
 
 fn write_enumerate(alloc: Global) -> Result<List<Element>, AllocError>
     ensures value { IfOk result (λ elements. elements ≡ enumerate_element ∷ []) }
     ensures good { IfOk result (λ elements. AreGoodElements elements 62) }
 {
-    body_of(alloc, enumerate_element(alloc)?)
+    only(alloc, enumerate_element(alloc)?)
 }
 
 fn write_subscribe(alloc: Global, wish: &Subscribe) -> Result<List<Element>, AllocError>
-    requires { HasXmlTexts wish.now }
     ensures value { IfOk result (λ elements. elements ≡ subscribe_element wish.now ∷ []) }
-    ensures good { IfOk result (λ elements. AreGoodElements elements 62) }
+    ensures good { HasXmlTexts wish.now → IfOk result (λ elements. AreGoodElements elements 62) }
 {
     names_are_kept(wish);
-    body_of(alloc, subscribe_element(alloc, wish)?)
+    only(alloc, subscribe_element(alloc, wish)?)
 }
 
 /// The elements of offers whose envelopes have no id yet.
 fn write_unnamed(alloc: Global, offers: &[Offer]) -> Result<List<Element>, AllocError>
-    requires { All CanBeOffered offers.now }
     ensures value { IfOk result (λ elements. elements ≡ offers_element (no_ids offers.now) offers.now ∷ []) }
-    ensures good { IfOk result (λ elements. AreGoodElements elements 62) }
+    ensures good { All CanBeOffered offers.now → IfOk result (λ elements. AreGoodElements elements 62) }
 {
     let ids = no_ids(alloc, offers)?;
     write_offers(alloc, offers, ids.as_slice())
-}
-
-/// The elements of a Body that has one.
-fn body_of(alloc: Global, element: Element) -> Result<List<Element>, AllocError>
-    requires { IsGoodElement element 62 }
-    ensures value { IfOk result (λ elements. elements ≡ element ∷ []) }
-    ensures good { IfOk result (λ elements. AreGoodElements elements 62) }
-{
-    let elements = only(alloc, element)?;
-    Ok(elements)
 }
 
 /// Ids without a text, one for each offer.
@@ -132,10 +117,7 @@ fn offer_elements(
     offers: &[Offer],
     ids: &[MessageId],
 ) -> Result<List<Element>, AllocError>
-    requires offers { All CanBeOffered offers.now }
-    requires ids { All IsXmlId ids.now }
-    ensures value { IfOk result (λ elements. elements ≡ offer_elements ids.now offers.now) }
-    ensures good { IfOk result (λ elements. AreGoodElements elements 60) }
+    ensures { IfOk result (λ elements. elements ≡ offer_elements ids.now offers.now) }
 {
     let mut elements = List::new(alloc);
     let mut left = ids;
@@ -143,21 +125,10 @@ fn offer_elements(
         let Some((id, more)) = left.split_first() else {
             return Ok(elements);
         };
-        elements.push(good_offer(alloc, offer, id)?)?;
+        elements.push(offer_element(alloc, offer, id)?)?;
         left = more;
     }
     Ok(elements)
-}
-
-fn good_offer(alloc: Global, offer: &Offer, id: &MessageId) -> Result<Element, AllocError>
-    requires offer { CanBeOffered offer.now }
-    requires id { IsXmlId id.now }
-    ensures value { IfOk result (λ e. e ≡ offer_element id.now offer.now) }
-    ensures good { IfOk result (λ e. IsGoodElement e 60) }
-{
-    names_are_kept(&offer.subscribe);
-    let element = offer_element(alloc, offer, id)?;
-    Ok(element)
 }
 
 fn offer_element(alloc: Global, offer: &Offer, id: &MessageId) -> Result<Element, AllocError>

@@ -1,11 +1,8 @@
-use Rattle.std.proofs.Common.{◌≡◌, suc, ◌+◌, [], ◌∷◌, ◌++◌, ◌<◌, ◌∙◌, add-one, ap, append_assoc, append-nil, arith, drop, drop-cons, length, sym, subst}
+use Rattle.std.proofs.Common.{◌≡◌, suc, ◌+◌, [], ◌∷◌, ◌++◌, ◌<◌, ◌∙◌, add-one, ap, append_assoc, append-nil, arith, drop, drop-cons, length, sym}
 use Rattle.std.proofs.lemmas.List.{drop_all}
-use Rattle.std.proofs.lemmas.List.Elements.{All-rest}
 use Rattle.wef_base.specs.declared.tree.Element.{Element}
-use Rattle.wef_elements.specs.Good.{AreGoodElements}
-use Rattle.wef_bodies.specs.Laws.{IsXmlId}
 use Rattle.wef_bodies.specs.Written.{offer_element, offer_elements}
-use Rattle.wef_bodies.proofs.GoodBodies.{none_left, with_last}
+use Rattle.wef_bodies.proofs.GoodBodies.{none_left}
 use Rattle.wef_bodies.proofs.writing.offer_elements.Goals as goal
 
 pub loop-offer-preserved : goal.loop-offer-preserved
@@ -20,20 +17,15 @@ loop-offer-preserved c =
     let behind = drop (index + 1) offers in
     let parts : drop index offers ≡ offer ∷ behind = rw (add-one) (drop-cons offers index offer within ∙ ap (λ x. x ∷ drop (suc index) offers) (sym c.offer-item.is)) in
     let left : c.loop-offer.left.now ≡ id ∷ ids = c.in-Some.ensures.cases.0 in
-    record {
-      value =
-          ap (λ es. es ++ offer_elements ids behind) c.in_ok-push.ensures.ok
-          ∙ ap (λ (e : Element). (elements ++ e ∷ []) ++ offer_elements ids behind) c.in_ok-good_offer.ensures.value
-          ∙ append_assoc elements (offer_element id offer ∷ []) (offer_elements ids behind)
-          ∙ sym (λ i. elements ++ offer_elements (left i) (parts i))
-          ∙ c.loop-offer.invariant.value;
-      good = subst (λ es. AreGoodElements es 60) (sym c.in_ok-push.ensures.ok) (with_last elements c.in_ok-good_offer.field-0 60 c.loop-offer.invariant.good c.in_ok-good_offer.ensures.good);
-      ids = All-rest IsXmlId id ids c.loop-offer.left.now left c.loop-offer.invariant.ids;
-    }
+    ap (λ es. es ++ offer_elements ids behind) c.in_ok-push.ensures.ok
+    ∙ ap (λ (e : Element). (elements ++ e ∷ []) ++ offer_elements ids behind) c.in_ok-offer_element.ensures
+    ∙ append_assoc elements (offer_element id offer ∷ []) (offer_elements ids behind)
+    ∙ sym (λ i. elements ++ offer_elements (left i) (parts i))
+    ∙ c.loop-offer.invariant
 
-pub returns-clause-value : goal.returns-clause-value
-returns-clause-value c =
+pub returns : goal.returns
+returns c =
     let none : drop c.loop-offer.offer-index c.args.offers.now ≡ [] = drop_all c.loop-offer.offer-index c.args.offers.now c.loop-offer-test.false in
     sym (append-nil c.loop-offer.elements)
     ∙ sym (ap (λ es. c.loop-offer.elements ++ es) (ap (λ os. offer_elements c.loop-offer.left.now os) none ∙ none_left c.loop-offer.left.now))
-    ∙ c.loop-offer.invariant.value
+    ∙ c.loop-offer.invariant

@@ -1,8 +1,6 @@
-use Rattle.std.proofs.Common.{sym, subst}
-use Rattle.wef_xml.specs.Good.{IsGoodElement}
-use Rattle.wef_base.specs.declared.tree.Element.{Element}
-use Rattle.wef_bodies.proofs.GoodBodies.{enumerate_good}
+use Rattle.wef_bodies.proofs.GoodBodies.{enumerate_good, only_good}
+use Rattle.wef_bodies.specs.Written.{enumerate_element}
 use Rattle.wef_bodies.proofs.writing.write_enumerate.Goals as goal
 
-pub body_of-requires : goal.body_of-requires
-body_of-requires c = subst (λ (e : Element). IsGoodElement e 62) (sym c.in_ok-enumerate_element.ensures) (enumerate_good 60)
+pub returns-clause-good : goal.returns-clause-good
+returns-clause-good c = only_good c.only.result c.in_ok-enumerate_element.field-0 enumerate_element c.only.ensures c.in_ok-enumerate_element.ensures (enumerate_good 60)

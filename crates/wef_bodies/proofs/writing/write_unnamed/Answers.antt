@@ -4,5 +4,5 @@ use Rattle.wef_bodies.specs.Laws.{IsXmlId}
 use Rattle.wef_bodies.proofs.GoodBodies.{no_ids_good}
 use Rattle.wef_bodies.proofs.writing.write_unnamed.Goals as goal
 
-pub write_offers-requires-clause-ids : goal.write_offers-requires-clause-ids
-write_offers-requires-clause-ids c = subst (All IsXmlId) (sym (c.as_slice.ensures ∙ c.in_ok-ids.ensures)) (no_ids_good c.args.offers.now)
+pub returns-clause-good : goal.returns-clause-good
+returns-clause-good c = λ offered. c.write_offers.ensures.good offered (subst (All IsXmlId) (sym (c.as_slice.ensures ∙ c.in_ok-ids.ensures)) (no_ids_good c.args.offers.now))
