@@ -1,5 +1,5 @@
 -- Ids that are drawn one after the other.
-use Rattle.std.proofs.Common.{◌≡◌, ℕ, zero, suc, ◌+◌, ◌<◌, List, [], ◌∷◌, ◌++◌, length, drop, append_assoc, ap, sym, ◌∙◌, arith}
+use Rattle.std.proofs.Common.{◌≡◌, ℕ, zero, suc, ◌+◌, ◌<◌, ◌≤◌, List, [], ◌∷◌, ◌++◌, length, drop, append_assoc, ap, refl, sym, ◌∙◌, arith}
 use Rattle.std.proofs.lemmas.List.{length-drop}
 use Rattle.std.specs.Prelude.{Result, OnErr}
 use Rattle.std.specs.declared.result.Result.TheVariants.{Ok, Err}
@@ -12,28 +12,29 @@ use Rattle.wef_ids.specs.declared.MessageId.{MessageId}
 use Rattle.wef_ids.specs.declared.ids.Ids.{Ids}
 use Rattle.wef_front.specs.Replies.{MayHaveDrawn, drawn_ids, ids_after}
 
-joined_draws : (j k : ℕ) (ids : Ids) → ids_after k (ids_after j ids) ≡ ids_after (j + k) ids
-joined_draws zero k ids = let e : k ≡ 0 + k = omega arith in ap (λ (n : ℕ). ids_after n ids) e
-joined_draws (suc j) k ids = let e : suc (j + k) ≡ suc j + k = omega arith in joined_draws j k (with_drawn 1 ids) ∙ ap (λ (n : ℕ). ids_after n ids) e
+pub no_draws : (most : ℕ) (before now : Ids) → now ≡ before → MayHaveDrawn most before now
+no_draws most before now same = (0, omega arith, same)
 
--- draws behind draws
-pub draws_more : (before mid now : Ids) → MayHaveDrawn before mid → MayHaveDrawn mid now → MayHaveDrawn before now
-draws_more before mid now (j, is) (k, more) = (j + k, more ∙ ap (ids_after k) is ∙ joined_draws j k before)
+pub one_draw : (before now : Ids) → now ≡ with_drawn 1 before → MayHaveDrawn 1 before now
+one_draw before now is = (1, omega arith, is)
 
-pub no_draws : (before now : Ids) → now ≡ before → MayHaveDrawn before now
-no_draws before now same = (0, same)
+-- where a call is refused behind one draw more
+pub draws_behind_one : {T E : Type 0} (result : Result T E) (most : ℕ) (before mid now : Ids) → mid ≡ with_drawn 1 before → MayHaveDrawn most mid now → OnErr result (MayHaveDrawn (suc most) before now)
+draws_behind_one (Ok given) most before mid now one more = tt
+draws_behind_one (Err fault) most before mid now one (draws, few, is) = (suc draws, few_more, is ∙ ap (ids_after draws) one)
+  where
+    few_more : suc draws ≤ suc most
+    few_more = omega arith
 
-pub one_draw : (before now : Ids) → now ≡ with_drawn 1 before → MayHaveDrawn before now
-one_draw before now is = (1, is)
+-- where it is behind so many
+pub draws_so : {T E : Type 0} (result : Result T E) (most draws : ℕ) (before now : Ids) → draws ≤ most → now ≡ ids_after draws before → OnErr result (MayHaveDrawn most before now)
+draws_so (Ok given) most draws before now few is = tt
+draws_so (Err fault) most draws before now few is = (draws, few, is)
 
--- where a call is refused behind one draw more, and where it is behind others
-pub draws_behind_one : {T E : Type 0} (result : Result T E) (before mid now : Ids) → mid ≡ with_drawn 1 before → MayHaveDrawn mid now → OnErr result (MayHaveDrawn before now)
-draws_behind_one (Ok given) before mid now one more = tt
-draws_behind_one (Err fault) before mid now one more = draws_more before mid now (one_draw before mid one) more
-
-pub draws_then_one : {T E : Type 0} (result : Result T E) (before mid now : Ids) → MayHaveDrawn before mid → now ≡ with_drawn 1 mid → OnErr result (MayHaveDrawn before now)
-draws_then_one (Ok given) before mid now drawn one = tt
-draws_then_one (Err fault) before mid now drawn one = draws_more before mid now drawn (one_draw mid now one)
+-- one draw more is the last
+pub last_draw : (draws : ℕ) (ids : Ids) → with_drawn 1 (ids_after draws ids) ≡ ids_after (suc draws) ids
+last_draw zero ids = refl
+last_draw (suc draws) ids = last_draw draws (with_drawn 1 ids)
 
 -- the text of each id that is drawn is one that XML allows
 pub drawn_texts : (count : ℕ) (ids : Ids) → AllByRecursion IsXmlId (drawn_ids count ids)

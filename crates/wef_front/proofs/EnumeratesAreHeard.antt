@@ -9,6 +9,7 @@ use Rattle.std.proofs.lemmas.Bool.{and_from}
 use Rattle.std.proofs.lemmas.List.Folds.{list_all-append}
 use Rattle.wef_base.specs.Names.{source_name}
 use Rattle.wef_base.specs.declared.tree.Charset.TheVariants.{Utf8}
+use Rattle.wef_base.specs.declared.tree.Element.{Element}
 use Rattle.wef_bodies.proofs.GoodBodies.{enumerate_good as enumerate_good_element}
 use Rattle.wef_bodies.specs.Reading.{has_enumerate}
 use Rattle.wef_bodies.specs.Written.{enumerate_element}
@@ -29,10 +30,10 @@ use Rattle.wef_tree.proofs.BoundPrefixes.{same_self}
 use Rattle.wef_tree.proofs.SpellsAgain.{spells_again}
 use Rattle.wef_xml.proofs.Ascii.{plain_text}
 use Rattle.wef_xml.specs.Good.{IsGoodTree, IsXmlText}
-use Rattle.wef_front.proofs.RepliesAreHeard.{anonymous_trimmed}
+use Rattle.wef_front.proofs.RepliesAreHeard.{anonymous_trimmed, tree_again}
 use Rattle.wef_front.proofs.SourceNames.{allowed_source, trimmed_source}
-use Rattle.wef_front.specs.Heard.{Hears, asked_by, asked_of, enumerate_asked, named_asked}
-use Rattle.wef_front.specs.Sending.{enumerate_bytes, enumerate_envelope, manager_address}
+use Rattle.wef_front.specs.Heard.{Hears, asked_by, asked_of, enumerate_asked, heard_in, named_asked}
+use Rattle.wef_front.specs.Sending.{EnumeratesAreRead, enumerate_bytes, enumerate_envelope, manager_address, wish_by}
 use Rattle.wef_front.specs.declared.hearing.Asked.TheVariants.{Enumerate, Refused}
 use Rattle.wef_front.specs.declared.targets.Target.TheVariants.{Manager}
 
@@ -99,13 +100,30 @@ asked_is host s id named =
     ∙ ap (λ (b : Bool). cond b (named_asked (source_name s)) (Refused fault.InvalidMessage)) enumerates
     ∙ ap named_asked named
 
+-- the id and what is asked, as they are read in its tree
+id_found : (host s : List ℕ) (id : MessageId) → IsPlain (enumerate_envelope host s id) → id_in (written (enumerate_envelope host s id)) ≡ Some id
+id_found host s id plain = written_id_is_found (enumerate_envelope host s id) plain
+
+asked_again : (host s : List ℕ) (id : MessageId) → source_name s ≡ Some s → IsPlain (enumerate_envelope host s id) → asked_of Manager (said (written (enumerate_envelope host s id))) ≡ Enumerate s
+asked_again host s id named plain = ap (asked_of Manager) (written_is_read (enumerate_envelope host s id) plain) ∙ asked_is host s id named
+
 pub enumerates_are_heard : (host s : List ℕ) (id : MessageId) → IsHost host → IsUtf8 s → source_name s ≡ Some s → IsSpelt id → IsXmlText id.text
     → Hears Manager Utf8 (enumerate_bytes host s id) (record { relates = Some id; asked = Enumerate s })
 enumerates_are_heard host s id is utf8 named spelt allowed =
     let e : Envelope = enumerate_envelope host s id in
     let plain = plain_enumerate host s id is utf8 named spelt in
-    let found : id_in (written e) ≡ Some id = written_id_is_found e plain in
-    let asked : asked_of Manager (said (written e)) ≡ Enumerate s = ap (asked_of Manager) (written_is_read e plain) ∙ asked_is host s id named in
+    let found = id_found host s id plain in
+    let asked = asked_again host s id named plain in
     let heard : record { relates = id_in (written e); asked = asked_of Manager (said (written e)) } ≡ record { relates = Some id; asked = Enumerate s } =
     λ i. record { relates = found i; asked = asked i } in
     (Ok (written e), spells_again Utf8 (written e) (enumerate_good host s id is utf8 named allowed (enumerate_good_element 60, tt)), sym heard)
+
+pub enumerates_are_read : EnumeratesAreRead
+enumerates_are_read host wish is can =
+    let e : Envelope = enumerate_envelope host wish.source wish.id in
+    let plain = plain_enumerate host wish.source wish.id is can.utf8 can.named can.spelt in
+    let found = id_found host wish.source wish.id plain in
+    let asked = asked_again host wish.source wish.id can.named plain in
+    ap (option_and_then (λ (root : Element). wish_by (heard_in Manager root).relates (heard_in Manager root).asked))
+    (tree_again (written e) (enumerate_good host wish.source wish.id is can.utf8 can.named can.id (enumerate_good_element 60, tt)))
+    ∙ (λ i. wish_by (found i) (asked i))

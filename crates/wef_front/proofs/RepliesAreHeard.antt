@@ -58,7 +58,7 @@ unfolding chars encode
 anonymous_trimmed = refl
 
 -- an envelope that answers another is one that reads back
-reply_plain : (action : List ℕ) (body : List Element) (id relates : MessageId) → IsTrimmed action → IsSpelt id → IsSpelt relates → IsPlain (envelope_with action body id (Some relates))
+pub reply_plain : (action : List ℕ) (body : List Element) (id relates : MessageId) → IsTrimmed action → IsSpelt id → IsSpelt relates → IsPlain (envelope_with action body id (Some relates))
 reply_plain action body id relates named spelt related = record {
   to = anonymous_trimmed;
   resource = tt;
@@ -87,7 +87,7 @@ pub tree_told : (root : Element) → IsGoodTree root → told (encoded Utf8 (can
 tree_told root good = ap (option_and_then (λ (r : Element). told_by (said r))) (tree_again root good)
 
 -- and say the id that the tree does
-tree_id : (root : Element) → IsGoodTree root → id_told (encoded Utf8 (canonical root)) ≡ id_in root
+pub tree_id : (root : Element) → IsGoodTree root → id_told (encoded Utf8 (canonical root)) ≡ id_in root
 tree_id root good = ap (option_and_then id_in) (tree_again root good)
 
 -- ---- replies

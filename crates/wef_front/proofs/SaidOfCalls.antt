@@ -6,7 +6,8 @@ use Rattle.wef_keeper.specs.Keeping.{Store}
 use Rattle.wef_keeper.specs.Rows.{Rows}
 use Rattle.wef_collector_rows.specs.declared.faults.CollectorFault.{CollectorFault}
 use Rattle.wef_collector_rows.specs.declared.faults.CollectorFault.TheVariants.{NoMemory, NoSubscription, Exists, Ended, NotWellFormed, TooMany, Failed, Full}
-use Rattle.wef_collector.specs.Calls.{Effect, no_effect}
+use Rattle.wef_collector.specs.Calls.{Effect, OfTake, no_effect}
+use Rattle.wef_collector_rows.specs.Answers.{IsOfStore}
 use Rattle.wef_envelope.specs.Faults.{is_known}
 use Rattle.wef_front.specs.Steps.{Calls, CallsFor, IsAnswered, IsFault, IsKnownSaid, Says, SaysFor, SaysOffers, batch_said, fault_for, said_of, said_with}
 use Rattle.wef_front.specs.declared.saying.Said.TheVariants.{Offers}
@@ -76,3 +77,16 @@ says_known ack effect said before now (done, call, answered, is) = subst IsKnown
 pub offers_known : (done : Result (List Offer) CollectorFault) → IfOk done CanAllBeOffered → IsKnownSaid (said_with Offers done)
 offers_known (Ok list) can = can
 offers_known (Err fault) can = fault_known fault
+
+-- ---- refusals
+
+-- a call that only reads is refused by its store alone, as one that takes a batch may be
+pub store_taken : (fault : CollectorFault) → IsOfStore fault → OfTake fault
+store_taken NoMemory of = tt
+store_taken NoSubscription of = absurd of
+store_taken Exists of = absurd of
+store_taken Ended of = absurd of
+store_taken NotWellFormed of = absurd of
+store_taken TooMany of = absurd of
+store_taken Failed of = tt
+store_taken Full of = absurd of

@@ -6,6 +6,7 @@ use Rattle.wef_base.specs.declared.tree.Charset.TheVariants.{Utf8}
 use Rattle.wef_envelope.specs.Faults.{is_known}
 use Rattle.wef_envelope.specs.Laws.{IsSpelt}
 use Rattle.wef_ids.specs.IdTexts.{id_of_value, id_text}
+use Rattle.wef_ids.specs.Ids.{next_id}
 use Rattle.wef_ids.specs.declared.FaultName.{FaultName}
 use Rattle.wef_ids.specs.declared.FaultName.TheVariants.{InternalError}
 use Rattle.wef_ids.specs.declared.MessageId.{MessageId}
@@ -26,7 +27,7 @@ use Rattle.wef_source.specs.declared.messages.Reply.TheVariants as replies
 use Rattle.wef_xml.specs.Good.{IsXmlText}
 use Rattle.wef_front.specs.Heard.{Hears}
 use Rattle.wef_front.specs.HeardReplies.{id_told, offers_told, told}
-use Rattle.wef_front.specs.Replies.{IsAnswer, IsKnownReply, IsSpeltFor, answer_of, ids_behind, reply, reply_bytes}
+use Rattle.wef_front.specs.Replies.{CanBeAnswered, IsAnswer, IsKnownReply, IsSpeltFor, answer_of, ids_behind, ids_nested_in, nested_ids, offers_bytes, reply, reply_bytes}
 use Rattle.wef_front.specs.Steps.{effect_in, said_by}
 use Rattle.wef_front.specs.declared.answering.Answer.{Answer}
 use Rattle.wef_front.specs.declared.hearing.Asked.{Asked}
@@ -136,6 +137,15 @@ pub record RepliesAreRead : Type 0 where
   pub id :
       (id relates : MessageId) (answer : source.Reply) → IsSpelt id → IsXmlText id.text → IsSpelt relates → IsXmlText relates.text → IsKnownReply answer →
       id_told (reply_bytes id relates answer) ≡ Some id
+
+-- What is answered to an Enumerate is written under the next id of the collector; these bytes tell a source these offers, as the
+-- answer to its message, and no other reply; and they say this id.
+pub record OffersAreRead : Type 0 where
+  pub written : (ids : Ids) (relates : MessageId) (list : List Offer) → (answer_of ids Utf8 (Some relates) (Offers list)).body ≡ offers_bytes (id_of_value (next_id ids)) relates list
+  pub nested : (ids : Ids) (list : List Offer) → ids_nested_in (id_of_value (next_id ids)) list ≡ nested_ids ids list
+  pub told : (id relates : MessageId) (list : List Offer) → CanBeAnswered id relates list → told (offers_bytes id relates list) ≡ None
+  pub offers : (now : ℕ) (id relates : MessageId) (list : List Offer) → CanBeAnswered id relates list → offers_told now (offers_bytes id relates list) ≡ Some (relates, list)
+  pub id : (id relates : MessageId) (list : List Offer) → CanBeAnswered id relates list → id_told (offers_bytes id relates list) ≡ Some id
 
 -- The answer to an Enumerate tells a source these offers, as the answer to its message, and no other reply. For that they must
 -- be offers that can be written and read again, and ids such as are drawn.

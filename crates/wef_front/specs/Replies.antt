@@ -1,9 +1,10 @@
 -- The replies of the collector, as they are written.
-use Rattle.std.specs.Prelude.{◌≡◌, ℕ, zero, suc, true, false, List, [], ◌∷◌, length, Option, Some, None, Ok, Err}
+use Rattle.std.specs.Prelude.{◌≡◌, ℕ, zero, suc, ◌≤◌, ◌/◌, ◌%◌, true, false, ◌⊎◌, List, [], ◌∷◌, length, Option, Some, None, Ok, Err, unwrap_or}
 use Rattle.std.specs.List.{AllByRecursion}
 use Rattle.wef_base.specs.declared.tree.Charset.{Charset}
 use Rattle.wef_base.specs.declared.tree.Charset.TheVariants.{Utf8}
 use Rattle.wef_base.specs.declared.tree.Element.{Element}
+use Rattle.wef_bodies.specs.Laws.{IsPlainOffer, OfferCanStand}
 use Rattle.wef_bodies.specs.Written.{offers_element}
 use Rattle.wef_eventing.specs.declared.offers.Offer.{Offer}
 use Rattle.wef_envelope.specs.Faults.{action_of, fault_of, fault_tree, is_known}
@@ -22,6 +23,7 @@ use Rattle.wef_collector.specs.Calls.{Effect}
 use Rattle.wef_source.specs.declared.messages.Reply as source
 use Rattle.wef_source.specs.declared.messages.Reply.TheVariants as replies
 use Rattle.wef_xml.specs.Canonical.{canonical, encoded}
+use Rattle.wef_xml.specs.Good.{IsXmlText}
 use Rattle.wef_front.specs.Steps.{HasStepped, Steps, effect_in, said_by}
 use Rattle.wef_front.specs.declared.answering.Answer.{Answer}
 use Rattle.wef_front.specs.declared.hearing.Heard.{Heard}
@@ -65,6 +67,14 @@ drawn_ids (suc more) ids = id_of_value (next_id ids) ∷ drawn_ids more (with_dr
 abbrev pub nested_ids : Ids → List Offer → List MessageId
 nested_ids ids list = drawn_ids (length list) (with_drawn 1 ids)
 
+-- the ids of an end that drew this value last
+abbrev pub ids_at : ℕ → Ids
+ids_at value = record { boot = value / 18446744073709551616; drawn = value % 18446744073709551616 }
+
+-- so the ids of the envelopes in offers are known from that of the answer
+abbrev pub ids_nested_in : MessageId → List Offer → List MessageId
+ids_nested_in id list = drawn_ids (length list) (ids_at (unwrap_or id.value 0))
+
 abbrev pub offers_envelope : MessageId → List MessageId → Option MessageId → List Offer → Envelope
 offers_envelope id nested relates list = envelope_with ENUMERATE_RESPONSE.now (offers_element nested list ∷ []) id relates
 
@@ -84,17 +94,36 @@ abbrev pub reply_bytes : MessageId → MessageId → source.Reply → List ℕ
 reply_bytes id relates replies.Ack = (answer_with 200 Utf8 (ack_envelope id (Some relates))).body
 reply_bytes id relates (replies.Fault name) = (answer_with 500 Utf8 (fault_envelope name id (Some relates))).body
 
+-- the bytes of the answer to an Enumerate with offers, under an id
+abbrev pub offers_bytes : MessageId → MessageId → List Offer → List ℕ
+offers_bytes id relates list = (answer_with 200 Utf8 (offers_envelope id (ids_nested_in id list) (Some relates) list)).body
+
+-- An answer with offers that can be written and read again: its ids are those of their texts, which XML allows, and its offers
+-- can stand in a message and are read as they were written.
+pub record CanBeAnswered (own asked : MessageId) (list : List Offer) : Type 0 where
+  pub id : IsSpelt own
+  pub id_text : IsXmlText own.text
+  pub relates : IsSpelt asked
+  pub relates_text : IsXmlText asked.text
+  pub nested : AllByRecursion IsSpelt (ids_nested_in own list)
+  pub plain : AllByRecursion IsPlainOffer list
+  pub stand : AllByRecursion OfferCanStand list
+
 -- a reply that can be written: its fault has a name of the table
 abbrev pub IsKnownReply : source.Reply → Type 0
 IsKnownReply replies.Ack = Unit {0}
 IsKnownReply (replies.Fault name) = is_known name ≡ true
 
--- the ids behind it: what has no envelope has no id
+-- how many ids are drawn for it: what has no envelope has no id, and each offer has one
+abbrev pub draws_for : Said → ℕ
+draws_for Quiet = 0
+draws_for Ack = 1
+draws_for (Offers list) = suc (length list)
+draws_for (Fault name) = 1
+
+-- the ids behind it
 abbrev pub ids_behind : Ids → Said → Ids
-ids_behind ids Quiet = ids
-ids_behind ids Ack = with_drawn 1 ids
-ids_behind ids (Offers list) = ids_after (length list) (with_drawn 1 ids)
-ids_behind ids (Fault name) = with_drawn 1 ids
+ids_behind ids said = ids_after (draws_for said) ids
 
 -- where something is said under an id, that is the id of its text; so are those of the envelopes in offers
 abbrev pub IsSpeltFor : Ids → Said → Type 0
@@ -123,9 +152,9 @@ reply host heard charset moment ids rows = record {
   ids = ids_behind ids (said_by host heard.asked rows (effect_in heard.asked moment rows));
 }
 
--- where there was no memory for the answer, ids may be drawn
-abbrev pub MayHaveDrawn : Ids → Ids → Type 0
-MayHaveDrawn before now = (draws : ℕ) × (now ≡ ids_after draws before)
+-- so many ids are drawn, or fewer
+abbrev pub MayHaveDrawn : ℕ → Ids → Ids → Type 0
+MayHaveDrawn most before now = (draws : ℕ) × (draws ≤ most) × (now ≡ ids_after draws before)
 
 -- An answer to what was heard at a moment: what the collector did with it, what it said, and how that is written.
 pub record IsAnswer (host : List ℕ) (heard : Heard) (charset : Charset) (moment : ℕ) (answer : Answer) (ids ids_now : Ids) (before now : Store) : Type 0 where
@@ -135,6 +164,11 @@ pub record IsAnswer (host : List ℕ) (heard : Heard) (charset : Charset) (momen
   pub spelt : IsSpeltFor ids said
   pub drawn : ids_now ≡ ids_behind ids said
 
--- Where there was no memory for the answer: nothing was done, or the step of a message, and ids may be drawn.
+-- what was said couldn't be written, and ids may be drawn for it
+abbrev pub IsUnwritten : List ℕ → Heard → ℕ → Ids → Ids → Store → Store → Type 0
+IsUnwritten host heard moment ids ids_now before now = (said : Said) × Steps host heard.asked moment said before now × MayHaveDrawn (draws_for said) ids ids_now
+
+-- Where there was no memory for the answer: the step of a message wanted it, and no id is drawn; or the answer did.
 abbrev pub IsUnanswered : List ℕ → Heard → ℕ → Ids → Ids → Store → Store → Type 0
-IsUnanswered host heard moment ids ids_now before now = HasStepped host heard.asked moment before now × MayHaveDrawn ids ids_now
+IsUnanswered host heard moment ids ids_now before now =
+    (HasStepped host heard.asked moment before now × (ids_now ≡ ids)) ⊎ IsUnwritten host heard moment ids ids_now before now

@@ -25,7 +25,8 @@ use Rattle.wef_source.specs.declared.messages.Delivery as source
 use Rattle.wef_tree_reading.specs.Documents.{tree_of}
 use Rattle.wef_xml.specs.Canonical.{canonical, encoded}
 use Rattle.wef_xml.specs.Good.{IsXmlText}
-use Rattle.wef_front.specs.Heard.{Hears, batch_in}
+use Rattle.wef_front.specs.Heard.{Hears, batch_in, heard_in}
+use Rattle.wef_front.specs.declared.hearing.Asked.{Asked}
 use Rattle.wef_front.specs.declared.hearing.Asked.TheVariants.{Enumerate, Take}
 use Rattle.wef_front.specs.declared.targets.Target.TheVariants.{Delivery, Manager}
 
@@ -83,6 +84,31 @@ abbrev pub EnumeratesAreHeard : Type 0
 EnumeratesAreHeard =
     (host s : List ℕ) (id : MessageId) → IsHost host → IsUtf8 s → source_name s ≡ Some s → IsSpelt id → IsXmlText id.text →
     Hears Manager Utf8 (enumerate_bytes host s id) (record { relates = Some id; asked = Enumerate s })
+
+-- Who asks for its subscriptions, and by which message.
+pub record Wish : Type 0 where
+  pub source : List ℕ
+  pub id : MessageId
+
+-- what is heard, where it is such a wish and has an id
+abbrev pub wish_by : Option MessageId → Asked → Option Wish
+wish_by (Some id) (Enumerate s) = Some (record { source = s; id = id })
+wish_by _ _ = None
+
+-- the wish that bytes in UTF-8 are, where they come to a collector
+abbrev pub wish_in : List ℕ → Option Wish
+wish_in bytes = option_and_then (λ (root : Element). wish_by (heard_in Manager root).relates (heard_in Manager root).asked) (tree_of Utf8 bytes)
+
+-- a wish that can be sent: its id is that of its text, which XML allows, and its name one that a source's name is kept as
+pub record CanBeAsked (wish : Wish) : Type 0 where
+  pub utf8 : IsUtf8 wish.source
+  pub named : source_name wish.source ≡ Some wish.source
+  pub spelt : IsSpelt wish.id
+  pub id : IsXmlText wish.id.text
+
+-- The wish that its bytes are is itself.
+abbrev pub EnumeratesAreRead : Type 0
+EnumeratesAreRead = (host : List ℕ) (wish : Wish) → IsHost host → CanBeAsked wish → wish_in (enumerate_bytes host wish.source wish.id) ≡ Some wish
 
 -- ---- the delivery that bytes are
 

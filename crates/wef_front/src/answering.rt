@@ -1,6 +1,6 @@
 //! The collector's answers to messages as bytes.
 
-ghost use Rattle.std.specs.Prelude.{◌≡◌, ◌⊎◌, true, length, option_copied, IfErr, IfOk, IfSome, OnErr, OnOk};
+ghost use Rattle.std.specs.Prelude.{◌≡◌, ◌⊎◌, suc, true, length, option_copied, IfErr, IfOk, IfSome, OnErr, OnOk};
 ghost use Rattle.std.specs.List.{All, AllByRecursion};
 ghost use Rattle.wef_bodies.specs.Laws.{IsXmlId};
 ghost use Rattle.wef_eventing.specs.Addresses.{IsHost};
@@ -11,7 +11,7 @@ ghost use Rattle.wef_envelope.specs.Faults.{is_known};
 ghost use Rattle.wef_envelope.specs.Laws.{IsSpelt};
 ghost use Rattle.wef_envelope.specs.Written.{written};
 ghost use Rattle.wef_front.specs.Heard.{Hears, IsSound};
-ghost use Rattle.wef_front.specs.Replies.{IsAnswer, IsUnanswered, IsSpeltFor, MayHaveDrawn, ack_envelope, answer_of, answer_with, drawn_ids, envelope_with, fault_envelope, ids_after, ids_behind, offers_envelope};
+ghost use Rattle.wef_front.specs.Replies.{IsAnswer, IsUnanswered, IsSpeltFor, MayHaveDrawn, ack_envelope, answer_of, answer_with, drawn_ids, draws_for, envelope_with, fault_envelope, ids_after, ids_behind, offers_envelope};
 ghost use Rattle.wef_front.specs.Steps.{IsKnownSaid};
 ghost use Rattle.wef_ids.specs.IdTexts.{id_of_value};
 ghost use Rattle.wef_ids.specs.Ids.{next_id, with_drawn};
@@ -43,7 +43,8 @@ pub struct Answer {
 /// them. It is written in the charset of the request. The collector itself takes Enumerate
 /// (WS-Enumeration, 3.1), and what a source delivers for a subscription are batches (WS-Management,
 /// 10.2.9). `host` is the one that the request names: batches for what is offered come to it. Where
-/// there is no memory for the answer, what the message asks is done or it isn't, and ids may be drawn.
+/// there is no memory for the answer, what the message asks is done or it isn't, and ids may be drawn,
+/// no more than the answer would have.
 pub fn collector_answer<K: Keeper>(
     alloc: Global,
     collector: &mut Collector<K>,
@@ -95,7 +96,7 @@ fn write_said<K: Keeper>(
     ensures answer { IfOk result (λ answer. answer ≡ answer_of collector.old.ids charset (option_copied relates.entry) said.now) }
     ensures spelt { OnOk result (IsSpeltFor collector.old.ids said.now) }
     ensures drawn { OnOk result (collector.new.ids ≡ ids_behind collector.old.ids said.now) }
-    ensures wants_memory { OnErr result (MayHaveDrawn collector.old.ids collector.new.ids) }
+    ensures wants_memory { OnErr result (MayHaveDrawn (draws_for said.now) collector.old.ids collector.new.ids) }
     ensures keeper { collector.new.keeper ≡ collector.old.keeper }
 {
     match said {
@@ -137,7 +138,7 @@ fn answer_offers<K: Keeper>(
     ensures answer { IfOk result (λ answer. answer ≡ answer_of collector.old.ids charset (option_copied relates.entry) (Offers offers.now)) }
     ensures spelt { OnOk result (IsSpeltFor collector.old.ids (Offers offers.now)) }
     ensures drawn { OnOk result (collector.new.ids ≡ ids_behind collector.old.ids (Offers offers.now)) }
-    ensures wants_memory { OnErr result (MayHaveDrawn collector.old.ids collector.new.ids) }
+    ensures wants_memory { OnErr result (MayHaveDrawn (suc (length offers.now)) collector.old.ids collector.new.ids) }
     ensures keeper { collector.new.keeper ≡ collector.old.keeper }
 {
     let id = draw(collector)?;
@@ -162,7 +163,7 @@ fn draw_for<K: Keeper>(
     ensures spelt { IfOk result (AllByRecursion IsSpelt) }
     ensures texts { IfOk result (All IsXmlId) }
     ensures drawn { OnOk result (collector.new.ids ≡ ids_after (length offers.now) collector.old.ids) }
-    ensures wants_memory { OnErr result (MayHaveDrawn collector.old.ids collector.new.ids) }
+    ensures wants_memory { OnErr result (MayHaveDrawn (length offers.now) collector.old.ids collector.new.ids) }
     ensures keeper { collector.new.keeper ≡ collector.old.keeper }
 {
     let mut ids = List::new(alloc);

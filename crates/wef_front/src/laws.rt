@@ -1,7 +1,7 @@
 //! Laws of answers, each the contract of a function that does nothing.
 
-ghost use Rattle.wef_front.specs.Laws.{AnswersAreReplies, AnswersGoByPlan, DrawnIdsAreSpelt, InternalErrorsHaveACause, OffersAreHeard, OneIsHeard, RepliesAreHeard, RepliesAreRead};
-ghost use Rattle.wef_front.specs.Sending.{DeliveriesAreHeard, DeliveriesAreRead, EnumeratesAreHeard};
+ghost use Rattle.wef_front.specs.Laws.{AnswersAreReplies, AnswersGoByPlan, DrawnIdsAreSpelt, InternalErrorsHaveACause, OffersAreHeard, OffersAreRead, OneIsHeard, RepliesAreHeard, RepliesAreRead};
+ghost use Rattle.wef_front.specs.Sending.{DeliveriesAreHeard, DeliveriesAreRead, EnumeratesAreHeard, EnumeratesAreRead};
 
 /// The collector answers what the rows that it finds give, and leaves what they give, unless its store
 /// fails. No answer takes more than one commit, and one that changes nothing takes none.
@@ -39,10 +39,21 @@ pub fn enumerates_are_heard()
     ensures { EnumeratesAreHeard }
 {}
 
+/// What is written for a wish for subscriptions is read again as that wish.
+pub fn enumerates_are_read()
+    ensures { EnumeratesAreRead }
+{}
+
 /// What the collector offers, the source hears, where it can be written and read again: these offers, as
 /// the answer to its message.
 pub fn offers_are_heard()
     ensures { OffersAreHeard }
+{}
+
+/// What is written for offers, under whatever id, is read again as the answer with these offers to that
+/// message; and its id is found. The ids of the envelopes in them follow from that id.
+pub fn offers_are_read()
+    ensures { OffersAreRead }
 {}
 
 /// What is written for a delivery is read again as that delivery, where it came to the address that it

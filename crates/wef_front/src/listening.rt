@@ -135,8 +135,8 @@ fn adopt<K: Keeper>(
 {
     match source.adopt(relates, offers, now) {
         Ok(count) => Ok(Hears::Adopted(count)),
-        Err(SourceFault::NotAsked) => Ok(Hears::NotAsked),
-        Err(_) => Err(AllocError),
+        Err(SourceFault::NoMemory) => Err(AllocError),
+        Err(_) => Ok(Hears::NotAsked),
     }
 }
 

@@ -9,8 +9,8 @@ ghost use Rattle.wef_eventing.specs.Addresses.{IsHost};
 ghost use Rattle.wef_eventing.specs.declared.offers.Offer.{Offer as TheOffer};
 ghost use Rattle.wef_collector_rows.specs.declared.faults.CollectorFault as fault;
 ghost use Rattle.wef_front.specs.Heard.{IsSoundAsk};
-ghost use Rattle.wef_front.specs.Steps.{Calls, CallsFor, HasStepped, IsAnswered, IsFault, IsKnownSaid, Says, SaysOffers, Steps, said_of, said_with};
-ghost use Rattle.wef_front.specs.declared.saying.Said.TheVariants.{Offers};
+ghost use Rattle.wef_front.specs.Steps.{Calls, CallsFor, HasStepped, IsAnswered, IsFault, IsKnownSaid, Says, SaysOffers, Steps, fault_for, said_of, said_with};
+ghost use Rattle.wef_front.specs.declared.saying.Said.TheVariants.{Fault, Offers};
 
 use crate::hearing::Asked;
 use std::alloc::AllocError;
@@ -73,7 +73,7 @@ fn offer<K: Keeper>(
 }
 
 /// What is said of offers that were asked for. Want of memory isn't answered.
-#[tactic(auto, using(crate::proofs::SaidOfCalls::offers_known))]
+#[tactic(auto, using(crate::proofs::SaidOfCalls::offers_known, crate::proofs::SaidOfCalls::store_taken))]
 fn said_of_offers(done: Result<List<Offer>, CollectorFault>) -> Result<Said, AllocError>
     requires refusal { IfErr done IsOfStore }
     requires texts { IfOk done CanAllBeOffered }
@@ -83,8 +83,7 @@ fn said_of_offers(done: Result<List<Offer>, CollectorFault>) -> Result<Said, All
 {
     match done {
         Ok(offers) => Ok(Said::Offers(offers)),
-        Err(CollectorFault::Failed) => Ok(Said::Fault(FaultName::InternalError)),
-        Err(_) => Err(AllocError),
+        Err(fault) => said_of_fault(&fault),
     }
 }
 
@@ -127,11 +126,23 @@ fn said_of(ack: bool, done: Result<(), CollectorFault>) -> Result<Said, AllocErr
     match done {
         Ok(()) if ack => Ok(Said::Ack),
         Ok(()) => Ok(Said::Quiet),
-        Err(CollectorFault::NoMemory) => Err(AllocError),
-        Err(CollectorFault::NoSubscription | CollectorFault::Ended) => {
+        Err(fault) => said_of_fault(&fault),
+    }
+}
+
+/// What is said of a refusal. Want of memory isn't answered.
+fn said_of_fault(fault: &CollectorFault) -> Result<Said, AllocError>
+    requires { OfTake fault.now }
+    ensures answered { IfOk result (λ said. IsAnswered fault.now) }
+    ensures said { IfOk result (λ said. said ≡ Fault (fault_for fault.now)) }
+    ensures known { IfOk result IsKnownSaid }
+{
+    match fault {
+        CollectorFault::NoMemory => Err(AllocError),
+        CollectorFault::NoSubscription | CollectorFault::Ended => {
             Ok(Said::Fault(FaultName::DestinationUnreachable))
         }
-        Err(CollectorFault::NotWellFormed) => Ok(Said::Fault(FaultName::InvalidMessage)),
-        Err(_) => Ok(Said::Fault(FaultName::InternalError)),
+        CollectorFault::NotWellFormed => Ok(Said::Fault(FaultName::InvalidMessage)),
+        _ => Ok(Said::Fault(FaultName::InternalError)),
     }
 }

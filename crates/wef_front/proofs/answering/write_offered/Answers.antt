@@ -11,4 +11,4 @@ use Rattle.wef_front.proofs.answering.write_offered.Goals as goal
 pub write_answer-requires : goal.write_answer-requires
 write_answer-requires c =
     subst (λ (e : Envelope). IsGoodTree (written e)) (sym c.in_ok-envelope.ensures)
-    (reply_good ENUMERATE_RESPONSE.now c.in_ok-body.body c.args.id (option_copied c.args.relates) (plain_text ENUMERATE_RESPONSE.now refl) c.in_ok-body.ensures.good c.requires.id c.requires.relates)
+    (reply_good ENUMERATE_RESPONSE.now c.in_ok-body.body c.args.id (option_copied c.args.relates) (plain_text ENUMERATE_RESPONSE.now refl) (c.in_ok-body.ensures.good c.requires.offers c.requires.nested) c.requires.id c.requires.relates)
