@@ -25,7 +25,8 @@ use Rattle.wef_ids.specs.declared.FaultName.{FaultName}
 use Rattle.wef_ids.specs.declared.FaultName.TheVariants.{InvalidMessage, DestinationUnreachable, InternalError}
 use Rattle.wef_ids.specs.declared.MessageId.{MessageId}
 use Rattle.wef_ids.specs.declared.ids.Ids.{Ids}
-use Rattle.wef_eventing.specs.Kept.{kept_words, read_kept}
+use Rattle.wef_documents.specs.Kept.{read_kept}
+use Rattle.wef_documents.specs.Written.{document_text}
 use Rattle.wef_eventing.specs.declared.subscriptions.Subscription.{Subscription}
 use Rattle.wef_keeper.specs.Rows.{Rows, applied}
 use Rattle.wef_keeper.specs.declared.keys.Cell.{Cell}
@@ -141,7 +142,7 @@ at_collector_keeps lower state change kept keeps =
 no_subscription : (rows : Rows) (u s c : List ℕ) (slot : Option Slot) → IsPairKept rows u s c None slot → IsUntouched rows u s c
 no_subscription rows u s c slot blank = blank
 
-added_kept : Lower → (state : State) (about : Subscription) → IsKept state → is_subscription about.name ≡ true → read_kept about.name (kept_words about) ≡ Some about → is_there state.collector.rows about.name ≡ false →
+added_kept : Lower → (state : State) (about : Subscription) → IsKept state → is_subscription about.name ≡ true → read_kept about.name (document_text about) ≡ Some about → is_there state.collector.rows about.name ≡ false →
     KeptWith state (added_rows state.collector.rows about)
 added_kept lower state about kept good all none = kept_rows state (added_rows state.collector.rows about) state.foreign kept (adding_grows state.collector.rows about none)
     (λ v s c apart. by_name v s c apart (same about.name v) refl) kept.apart (keys_by_adding state.collector.rows about good kept.keys) (lower.formed_added state.collector.rows about good all kept.formed)
@@ -159,9 +160,9 @@ added_kept lower state about kept good all none = kept_rows state (added_rows st
         (subst (λ (o : Option Subscription). IsPairKept state.collector.rows v s c o (slot_of state s))
         (sym (subscription_by_adding state.collector.rows about v (other_name about.name v other))) (kept.pairs v s c apart))
 
-pub subscribe_keeps : Lower → (state : State) (about : Subscription) → IsKept state → is_subscription about.name ≡ true → read_kept about.name (kept_words about) ≡ Some about → IsKept (subscribe_at about state)
+pub subscribe_keeps : Lower → (state : State) (about : Subscription) → IsKept state → is_subscription about.name ≡ true → read_kept about.name (document_text about) ≡ Some about → IsKept (subscribe_at about state)
 subscribe_keeps lower state about kept good all =
-    let changes : List Change = put (subscription_key about.name) 0 (kept_words about) ∷ [] in
+    let changes : List Change = put (subscription_key about.name) 0 (document_text about) ∷ [] in
     let effect : Effect = Ok changes in
     cond_both (is_there state.collector.rows about.name) (Err faults.Exists) (cond (is_full state.collector.rows) (Err faults.TooMany) effect) (λ (e : Effect). IsKept (with_call state e))
     (λ there. kept) (λ none. cond_both (is_full state.collector.rows) (Err faults.TooMany) effect (λ (e : Effect). IsKept (with_call state e))

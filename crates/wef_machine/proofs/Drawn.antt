@@ -26,7 +26,7 @@ use Rattle.wef_ids.specs.declared.ids.Ids.{Ids}
 use Rattle.wef_event.specs.Events.{Event}
 use Rattle.wef_event.specs.Unnumbered.{new_event}
 use Rattle.wef_eventing.specs.Addresses.{source_in, subscription_in}
-use Rattle.wef_eventing.specs.Kept.{kept_words}
+use Rattle.wef_documents.specs.Written.{document_text}
 use Rattle.wef_eventing.specs.declared.subscriptions.Subscription.{Subscription}
 use Rattle.wef_keeper.specs.Calls.{Effect}
 use Rattle.wef_keeper.specs.Rows.{Rows, applied, key_cmp_total}
@@ -257,11 +257,11 @@ opened_draws state drawn = by_memory state.collector.memory refl
 
 adding_keeps : (rows : Rows) (about : Subscription) → KeepsBoot rows (add_effect rows about)
 adding_keeps rows about =
-    let changes : List Change = put (subscription_key about.name) 0 (kept_words about) ∷ [] in
+    let changes : List Change = put (subscription_key about.name) 0 (document_text about) ∷ [] in
     let effect : CollectorEffect = Ok changes in
     cond_both (is_there rows about.name) (Err faults.Exists) (cond (is_full rows) (Err faults.TooMany) effect) (λ (e : CollectorEffect). KeepsBoot rows e)
     (λ there. tt) (λ none. cond_both (is_full rows) (Err faults.TooMany) effect (λ (e : CollectorEffect). KeepsBoot rows e) (λ full. tt)
-    (λ room. boot_by_putting rows about.name (record { value = 0; body = kept_words about })))
+    (λ room. boot_by_putting rows about.name (record { value = 0; body = document_text about })))
 
 ending_keeps : (rows : Rows) (u : List ℕ) → KeepsBoot rows (end_effect rows u)
 ending_keeps rows u = by_standing (standing rows u)

@@ -24,8 +24,12 @@ use Rattle.wef_event.specs.Events.{Event, IsEventOf, event_limit, is_event}
 use Rattle.wef_event.specs.PlainEvent.{plain_tree}
 use Rattle.wef_event.specs.Unnumbered.{new_event, plain_numbered, plain_numbered_text}
 use Rattle.wef_event.specs.declared.unnumbered.PlainEvent.{PlainEvent}
-use Rattle.wef_eventing.proofs.Back.{reads_back}
-use Rattle.wef_eventing.specs.Kept.{HasKeptName, kept_words, read_kept}
+use Rattle.wef_documents.proofs.KeptBack.{all_events_again}
+use Rattle.wef_machine.proofs.Offering.{reads_subscription}
+use Rattle.std.proofs.lemmas.List.Elements.{recursion_from_All}
+use Rattle.wef_eventing.specs.Kept.{HasKeptName}
+use Rattle.wef_documents.specs.Kept.{read_kept}
+use Rattle.wef_documents.specs.Written.{document_text}
 use Rattle.wef_eventing.specs.Subscriptions.{AreLimits}
 use Rattle.wef_query.proofs.Unconditional.{unconditional_is}
 use Rattle.wef_query.specs.Queries.{all_events as all_events_query, all_events_of, is_unconditional}
@@ -100,18 +104,19 @@ limits_are items bytes beat e =
     let inner = and_parts (is_between 1 10000 items) (is_between 8192 4194304 bytes) outer.0 in
     (between 1 10000 items inner.0, between 8192 4194304 bytes inner.1, between 1 86400000 beat outer.1)
 
--- the subscription of a good line reads back from the words that keep it
+-- the subscription of a good line is read again from its document
 pub all_events : (u : List ℕ) (items bytes beat : ℕ) (query : QueryList) → is_line (lines.Subscribe u items bytes beat query) ≡ true →
-    read_kept u (kept_words (subscription_of u items bytes beat query)) ≡ Some (subscription_of u items bytes beat query)
+    read_kept u (document_text (subscription_of u items bytes beat query)) ≡ Some (subscription_of u items bytes beat query)
 all_events u items bytes beat query e =
     let outer = and_parts (is_subscription u && are_limits items bytes beat) (are_all query.items) e in
-    let limits = (and_parts (is_subscription u) (are_limits items bytes beat) outer.0).1 in
+    let inner = and_parts (is_subscription u) (are_limits items bytes beat) outer.0 in
+    let name = reads_subscription u inner.0 in
     let queries = and_parts (not (length query.items == 0)) (list_all asks_for_all query.items) outer.1 in
     let form = items_are query.items queries.1 in
-    reads_back (subscription_of u items bytes beat query) (names_are query.items queries.1) (record {
+    all_events_again (subscription_of u items bytes beat query) (record { utf8 = name.0; name = name.1; query = recursion_from_All HasKeptName query.items (names_are query.items queries.1) }) (record {
       form = ap (λ (qs : List QueryItem). subscription_of u items bytes beat (record { items = qs })) form;
       some_channel = some_named query.items (not_true (length query.items == 0) queries.0);
-      limits = limits_are items bytes beat limits;
+      limits = limits_are items bytes beat inner.1;
     })
 
 -- ---- a batch

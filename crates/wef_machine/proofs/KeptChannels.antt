@@ -1,88 +1,69 @@
 -- The channels of a subscription that rows keep have names such as a reader gives.
-use Rattle.std.proofs.Common.{◌≡◌, ℕ, ◌==◌, Bool, true, false, cond, List, [], ◌∷◌, refl, ap, sym, subst}
-use Rattle.std.proofs.lemmas.Bool.{and_from, and_parts}
+use Rattle.std.proofs.Common.{◌≡◌, ℕ, ◌==◌, Bool, true, false, cond, List, [], ◌∷◌, refl, ap, subst, ◌∙◌}
+use Rattle.std.proofs.lemmas.Str.{is_utf8-from_IsUtf8}
+use Rattle.std.specs.Str.{is_utf8}
+use Rattle.wef_collector.proofs.Hits.{same_self}
+use Rattle.wef_documents.proofs.KeptBack.{kept_names}
+use Rattle.wef_eventing.specs.Kept.{HasKeptName}
+use Rattle.wef_query.specs.declared.QueryItem.{QueryItem}
+use Rattle.std.proofs.lemmas.Bool.{and_from, and_parts, cond_both}
 use Rattle.std.proofs.lemmas.Option.{none-some, same_Some}
 use Rattle.std.specs.Cmp.Lexicographic.{slice_cmp}
 use Rattle.std.specs.FinMap as finite
-use Rattle.std.specs.List.{list_all}
-use Rattle.std.specs.Option.{option_and_then}
+use Rattle.std.specs.List.{AllByRecursion, list_all}
 use Rattle.std.specs.Ordering.{match_ordering, nat_cmp}
-use Rattle.std.specs.Prelude.{Option, Some, None, codes}
+use Rattle.std.specs.Prelude.{Option, Some, None}
 use Rattle.std.specs.declared.cmp.Ordering.{Ordering}
 use Rattle.std.specs.declared.cmp.Ordering.TheVariants.{Less, Equal, Greater}
-use Rattle.wef_base.specs.Names.{channel_name, same}
-use Rattle.wef_base.specs.Words.{decoded, parts}
+use Rattle.wef_base.specs.Names.{channel_name}
 use Rattle.wef_batch.proofs.Reached.{holds_in}
 use Rattle.wef_batch.specs.WellFormed.{is_in}
 use Rattle.wef_collector_rows.specs.Answers.{channels_read}
 use Rattle.wef_collector_rows.specs.Keys.{subscription_key}
 use Rattle.wef_collector_rows.specs.Standing.{standing_by, standing_of}
 use Rattle.wef_collector_rows.specs.declared.standings.Standing.TheVariants.{Ended, Live}
-use Rattle.wef_eventing.specs.Kept.{channel_of, channels_from, from_words, made_of, number_between, read_kept, with_first}
+use Rattle.wef_documents.specs.Kept.{read_kept}
 use Rattle.wef_eventing.specs.declared.subscriptions.Subscription.{Subscription}
 use Rattle.wef_keeper.specs.Rows.{Rows}
 use Rattle.wef_keeper.specs.declared.keys.Cell.{Cell}
 use Rattle.wef_query.specs.Order.{in_order, with_name, with_names}
-use Rattle.wef_query.specs.Queries.{all_events_of}
 use Rattle.wef_query.specs.Selected.{selects}
-use Rattle.wef_replay.proofs.Gifts.{AllOf, all_of-if}
-use Rattle.wef_replay.proofs.GoodNames.{good-channel}
-use Rattle.wef_replay.specs.Good.{is_channel}
+use Rattle.wef_replay.proofs.Gifts.{AllOf}
+use Rattle.wef_replay.specs.Good.{is_channel, is_one}
 use Rattle.wef_machine.specs.Safe.{about_of, subscription_at}
 
 -- all names are such
-abbrev AreGood : List (List ℕ) → Type 0
+abbrev pub AreGood : List (List ℕ) → Type 0
 AreGood cs = list_all is_channel cs ≡ true
 
--- ---- the words that keep a subscription
+-- ---- the document that keeps a subscription
 
-word_good : (word : List ℕ) → AllOf (λ c. is_channel c ≡ true) (channel_of (decoded word))
-word_good word = by (decoded word) (good-channel word)
-  where
-    by : (o : Option (List ℕ)) → AllOf (λ c. is_channel c ≡ true) (option_and_then channel_name o) → AllOf (λ c. is_channel c ≡ true) (channel_of o)
-    by None good = tt
-    by (Some text) good = good
+-- a channel that its type keeps has a good name
+named_good : (item : QueryItem) → HasKeptName item → is_channel item.channel ≡ true
+named_good item kept =
+    and_from (is_utf8 item.channel) (is_one item.channel (channel_name item.channel)) (is_utf8-from_IsUtf8 item.channel kept.utf8)
+    (ap (is_one item.channel) kept.reads_back ∙ same_self item.channel)
 
-words_good : (words : List (List ℕ)) → AllOf AreGood (channels_from words)
-words_good [] = refl
-words_good (word ∷ words) = by (channel_of (decoded word)) (channels_from words) (word_good word) (words_good words)
-  where
-    by : (o : Option (List ℕ)) (rest : Option (List (List ℕ))) → AllOf (λ c. is_channel c ≡ true) o → AllOf AreGood rest → AllOf AreGood (with_first o rest)
-    by None rest good more = tt
-    by (Some c) None good more = tt
-    by (Some c) (Some cs) good more = and_from (is_channel c) (list_all is_channel cs) good more
-
-selects_all : (cs : List (List ℕ)) → selects (all_events_of cs) ≡ cs
-selects_all [] = refl
-selects_all (c ∷ cs) = ap (λ (ds : List (List ℕ)). c ∷ ds) (selects_all cs)
+selects_good : (items : List QueryItem) → AllByRecursion HasKeptName items → AreGood (selects items)
+selects_good [] kept = refl
+selects_good (item ∷ items) kept =
+    cond_both item.suppress (selects items) (item.channel ∷ selects items) AreGood (λ _. selects_good items kept.1)
+    (λ _. and_from (is_channel item.channel) (list_all is_channel (selects items)) (named_good item kept.0) (selects_good items kept.1))
 
 -- the channels that a subscription asks for have good names
-abbrev AsksForGood : Subscription → Type 0
+abbrev pub AsksForGood : Subscription → Type 0
 AsksForGood about = AreGood (selects about.query.items)
 
-made_good : (name : List ℕ) (items bytes beat : Option ℕ) (channels : Option (List (List ℕ))) → AllOf AreGood channels → AllOf AsksForGood (made_of name items bytes beat channels)
-made_good name None bytes beat channels good = tt
-made_good name (Some items) None beat channels good = tt
-made_good name (Some items) (Some bytes) None channels good = tt
-made_good name (Some items) (Some bytes) (Some beat) None good = tt
-made_good name (Some items) (Some bytes) (Some beat) (Some channels) good = subst AreGood (sym (selects_all channels)) good
+-- so it is of each that is kept
+pub kept_of : (P : Subscription → Type 0) (name body : List ℕ) → ((s : Subscription) → read_kept name body ≡ Some s → P s) → AllOf P (read_kept name body)
+kept_of P name body holds = by (read_kept name body) holds
+  where
+    by : (o : Option Subscription) → ((s : Subscription) → o ≡ Some s → P s) → AllOf P o
+    by None holds = tt
+    by (Some s) holds = holds s refl
 
-kept_words_good : (name : List ℕ) (words : List (List ℕ)) → AllOf AsksForGood (from_words name words)
-kept_words_good name [] = tt
-kept_words_good name (a ∷ []) = tt
-kept_words_good name (a ∷ b ∷ []) = tt
-kept_words_good name (a ∷ b ∷ c ∷ []) = tt
-kept_words_good name (a ∷ b ∷ c ∷ d ∷ []) = tt
-kept_words_good name (items ∷ bytes ∷ beat ∷ kind ∷ channel ∷ channels) =
-    let most = number_between 1 10000 items in
-    let size = number_between 8192 4194304 bytes in
-    let rhythm = number_between 1 86400000 beat in
-    let read = channels_from (channel ∷ channels) in
-    all_of-if AsksForGood (same kind (codes "all")) (made_of name most size rhythm read) None (made_good name most size rhythm read (words_good (channel ∷ channels))) tt
-
-read_good : (name body : List ℕ) → AllOf AsksForGood (read_kept name body)
-unfolding read_kept
-read_good name body = kept_words_good name (parts 32 body)
+pub read_good : (name body : List ℕ) → AllOf AsksForGood (read_kept name body)
+read_good name body = kept_of AsksForGood name body (λ s is. selects_good s.query.items (kept_names name body s is).query)
 
 -- ---- names in order
 
@@ -110,20 +91,25 @@ of_some : {X : Type 0} (P : X → Type 0) (o : Option X) (x : X) → AllOf P o �
 of_some P None x all e = absurd (none-some x e)
 of_some P (Some y) x all e = subst P (same_Some y x e) all
 
-known_good : (u : List ℕ) (o : Option Cell) → AllOf AsksForGood (about_of (standing_of u o))
-known_good u None = tt
-known_good u (Some cell) = by (read_kept u cell.body) (read_good u cell.body)
+-- what holds of each subscription that a document keeps holds of that of a cell
+of_cell : (P : Subscription → Type 0) (u : List ℕ) → ((body : List ℕ) → AllOf P (read_kept u body)) → (o : Option Cell) → AllOf P (about_of (standing_of u o))
+of_cell P u reads None = tt
+of_cell P u reads (Some cell) = by (read_kept u cell.body) (reads cell.body)
   where
-    live : (t : Bool) (about : Subscription) → AsksForGood about → AllOf AsksForGood (about_of (cond t (Live about) (Ended about)))
-    live true about good = good
-    live false about good = good
+    live : (t : Bool) (about : Subscription) → P about → AllOf P (about_of (cond t (Live about) (Ended about)))
+    live true about holds = holds
+    live false about holds = holds
 
-    by : (o : Option Subscription) → AllOf AsksForGood o → AllOf AsksForGood (about_of (standing_by cell.value o))
-    by None good = tt
-    by (Some about) good = live (cell.value == 0) about good
+    by : (o : Option Subscription) → AllOf P o → AllOf P (about_of (standing_by cell.value o))
+    by None holds = tt
+    by (Some about) holds = live (cell.value == 0) about holds
+
+-- and of each subscription of the rows
+pub known_has : (P : Subscription → Type 0) (rows : Rows) (u : List ℕ) (about : Subscription) → ((body : List ℕ) → AllOf P (read_kept u body)) → subscription_at rows u ≡ Some about → P about
+known_has P rows u about reads known = of_some P (subscription_at rows u) about (of_cell P u reads (finite.get rows (subscription_key u))) known
 
 -- each channel that a subscription of the rows reads has a good name
 pub known_channels : (rows : Rows) (u : List ℕ) (about : Subscription) → subscription_at rows u ≡ Some about → (c : List ℕ) → is_in (channels_read about) c ≡ true → is_channel c ≡ true
 known_channels rows u about known c here =
     holds_in is_channel (in_order (selects about.query.items)) c
-    (good_with_names [] (selects about.query.items) refl (of_some AsksForGood (subscription_at rows u) about (known_good u (finite.get rows (subscription_key u))) known)) here
+    (good_with_names [] (selects about.query.items) refl (known_has AsksForGood rows u about (read_good u) known)) here

@@ -20,7 +20,7 @@ use Rattle.wef_ids.specs.declared.ids.Ids.{Ids}
 use Rattle.wef_event.specs.Events.{Event}
 use Rattle.wef_event.specs.Unnumbered.{new_event}
 use Rattle.wef_eventing.specs.Addresses.{source_in, subscription_in}
-use Rattle.wef_eventing.specs.Kept.{kept_words}
+use Rattle.wef_documents.specs.Written.{document_text}
 use Rattle.wef_eventing.specs.declared.subscriptions.Subscription.{Subscription}
 use Rattle.wef_keeper.specs.Calls as calls
 use Rattle.wef_keeper.specs.Rows.{Rows, applied}
@@ -92,7 +92,7 @@ at_collector_lasts state change h =
 subscribe_lasts : (about : Subscription) (state : State) → Lasts state (subscribe_at about state)
 subscribe_lasts about state =
     let rows = state.collector.rows in
-    let changes : List Change = put (subscription_key about.name) 0 (kept_words about) ∷ [] in
+    let changes : List Change = put (subscription_key about.name) 0 (document_text about) ∷ [] in
     let effect : Effect = Ok changes in
     cond_both (is_there rows about.name) (Err faults.Exists) (cond (is_full rows) (Err faults.TooMany) effect) (λ (e : Effect). Lasts state (with_call state e))
     (λ there. as_it_is state) (λ none. cond_both (is_full rows) (Err faults.TooMany) effect (λ (e : Effect). Lasts state (with_call state e))

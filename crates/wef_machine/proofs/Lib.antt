@@ -19,6 +19,7 @@ pub mod NameMaps
 pub mod NameTexts
 pub mod Names
 pub mod Numbered
+pub mod Offerable
 pub mod Offering
 pub mod Ranges
 pub mod Risen

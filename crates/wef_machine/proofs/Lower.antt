@@ -15,7 +15,8 @@ use Rattle.wef_collector.specs.Taken.{taken}
 use Rattle.wef_collector_rows.specs.declared.standings.Standing.TheVariants.{Live}
 use Rattle.wef_event.specs.Events.{Event, is_event}
 use Rattle.wef_event.specs.Numbering.{NumberedEventsAreRead}
-use Rattle.wef_eventing.specs.Kept.{kept_words, read_kept}
+use Rattle.wef_documents.specs.Kept.{read_kept}
+use Rattle.wef_documents.specs.Written.{document_text}
 use Rattle.wef_eventing.specs.declared.subscriptions.Subscription.{Subscription}
 use Rattle.wef_keeper.specs.Rows.{Rows}
 use Rattle.wef_replay.specs.Good.{is_source, is_subscription}
@@ -35,7 +36,7 @@ pub record Lower : Type 0 where
   pub formed_empty : collector.AreFormed map.empty
   pub formed_booted : (rows : Rows) → nat_lt (boot_of rows) 9223372036854775807 ≡ true → collector.AreFormed rows →
       collector.AreFormed (map.insert rows boot_key (record { value = boot_of rows + 1; body = [] }))
-  pub formed_added : (rows : Rows) (about : Subscription) → is_subscription about.name ≡ true → read_kept about.name (kept_words about) ≡ Some about → collector.AreFormed rows → collector.AreFormed (added_rows rows about)
+  pub formed_added : (rows : Rows) (about : Subscription) → is_subscription about.name ≡ true → read_kept about.name (document_text about) ≡ Some about → collector.AreFormed rows → collector.AreFormed (added_rows rows about)
   pub formed_ended : (rows : Rows) (u : List ℕ) (about : Subscription) → standing rows u ≡ Live about → collector.AreFormed rows → collector.AreFormed (ended_rows rows u)
   pub formed_taken : (rows : Rows) (u s : List ℕ) (about : Subscription) (batch : Batch) (now : ℕ) → standing rows u ≡ Live about → is_source s ≡ true →
       is_well_formed (channels_read about) batch ≡ true → IsSoundBatch batch → now ≤ 253402300799999 → collector.AreFormed rows →

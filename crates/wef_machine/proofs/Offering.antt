@@ -81,7 +81,7 @@ all_found (e ∷ es) h =
       all_map (λ (x : Key × Cell). find key_cmp x.0 es ≡ Some x.1) (λ (x : Key × Cell). find key_cmp x.0 (e ∷ es) ≡ Some x.1) (found_behind e es parts.0) es (all_found es parts.1),
     )
 
-all_filter : {X : Type 0} (P : X → Type 0) (test : X → Bool) (xs : List X) → AllByRecursion P xs → AllByRecursion (λ x. P x × (test x ≡ true)) (filter test xs)
+pub all_filter : {X : Type 0} (P : X → Type 0) (test : X → Bool) (xs : List X) → AllByRecursion P xs → AllByRecursion (λ x. P x × (test x ≡ true)) (filter test xs)
 all_filter P test [] all = tt
 all_filter P test (x ∷ xs) all = by_test (test x) refl (all_filter P test xs all.1)
   where
@@ -94,11 +94,11 @@ all_of_map P Q f gives [] all = tt
 all_of_map P Q f gives (x ∷ xs) all = (gives x all.0, all_of_map P Q f gives xs all.1)
 
 -- A row stands in the rows, and its key shares the parts of another.
-record Stands (rows : Rows) (depth : Depth) (after : Key) (row : Row) : Type 0 where
+pub record Stands (rows : Rows) (depth : Depth) (after : Key) (row : Row) : Type 0 where
   pub there : finite.get rows row.key ≡ Some (cell_of_row row)
   pub under : is_under depth after row.key ≡ true
 
-all_stand : (rows : Rows) (depth : Depth) (after : Key) → AllByRecursion (Stands rows depth after) (rows_under depth after rows)
+pub all_stand : (rows : Rows) (depth : Depth) (after : Key) → AllByRecursion (Stands rows depth after) (rows_under depth after rows)
 all_stand rows depth after =
     let entries = all_found (finite.entries rows) (finite.entries_sorted rows) in
     let behind = all_filter (λ (e : Key × Cell). find key_cmp e.0 (finite.entries rows) ≡ Some e.1) (λ (e : Key × Cell). is_after after e.0) (finite.entries rows) entries in
@@ -163,7 +163,7 @@ reads_source s good = let parts = and_parts (is_utf8 s) (is_one s (source_name s
 -- ---- listed subscriptions
 
 -- A listed subscription has a good name, and is the one of the rows.
-record IsListed (rows : Rows) (l : Listed) : Type 0 where
+pub record IsListed (rows : Rows) (l : Listed) : Type 0 where
   pub name : is_subscription l.subscription.name ≡ true
   pub known : subscription_at rows l.subscription.name ≡ Some l.subscription
 
@@ -203,7 +203,7 @@ all_listed rows keys =
 -- ---- offers
 
 -- what holds of the offer of each listed subscription holds of all that is offered to a source
-all_made : (rows : Rows) (s host : List ℕ) (P : Offer → Type 0) → AreRowKeys rows → ((l : Listed) → IsListed rows l → P (offer_made rows s host l.subscription)) → AllByRecursion P (offers rows s host)
+pub all_made : (rows : Rows) (s host : List ℕ) (P : Offer → Type 0) → AreRowKeys rows → ((l : Listed) → IsListed rows l → P (offer_made rows s host l.subscription)) → AllByRecursion P (offers rows s host)
 all_made rows s host P keys holds =
     all_filter_map (IsListed rows) P (offer_of rows s host) (λ l offer is e. by_test l offer is (is_offered l) e) (listed rows) (all_listed rows keys)
   where

@@ -1,4 +1,4 @@
--- Each delivery that a source of a kept world sends can be written as bytes.
+-- Each ask and each delivery that a source of a kept world sends can be written as bytes.
 use Rattle.std.proofs.Common.{◌≡◌, ℕ, ◌+◌, ◌*◌, ◌<◌, ◌≤◌, ◌^◌, ◌&&◌, Bool, true, false, List, [], ◌∷◌, nat_le, refl, sym, ◌∙◌, subst, arith}
 use Rattle.std.proofs.lemmas.Bool.{and_parts}
 use Rattle.std.proofs.lemmas.Bool.Decides.{nat_tests}
@@ -20,7 +20,9 @@ use Rattle.wef_collector_rows.specs.Answers.{channels_read}
 use Rattle.wef_eventing.proofs.AddressTexts.{address_is_plain}
 use Rattle.wef_front.proofs.IdTexts.{id_spelt}
 use Rattle.wef_ids.proofs.PlainIds.{id_text_good}
-use Rattle.wef_front.specs.Sending.{CanBeSent, IsPlainText}
+use Rattle.wef_envelope.specs.Laws.{IsSpelt}
+use Rattle.wef_front.specs.Sending.{CanBeAsked, CanBeSent, IsPlainText}
+use Rattle.wef_ids.specs.IdTexts.{id_of_value}
 use Rattle.wef_keeper.specs.Rows.{Rows, row_of}
 use Rattle.wef_keeper.specs.declared.keys.Cell.{Cell}
 use Rattle.wef_replay.proofs.GoodNames.{kept_channel}
@@ -40,6 +42,7 @@ use Rattle.wef_machine.proofs.EventTrees.{said_has_tree}
 use Rattle.wef_machine.proofs.KeptChannels.{known_channels}
 use Rattle.wef_machine.proofs.LowerFacts.{lower}
 use Rattle.wef_machine.proofs.NameTexts.{subscription_is_plain}
+use Rattle.wef_machine.proofs.Offering.{reads_source}
 use Rattle.wef_machine.proofs.RowMoves.{known_name}
 use Rattle.wef_machine.proofs.SaidEvents.{IsSaidItem, built_said}
 use Rattle.wef_machine.proofs.Sessions.{first_is}
@@ -61,6 +64,25 @@ one_left d e = grind (arith, nat_tests, e)
 
 small_id : (boot drawn : ℕ) → boot ≤ 9223372036854775807 → drawn + 1 ≤ most_drawn → boot * 18446744073709551616 + (drawn + 1) < 2 ^ 128
 small_id boot drawn few left = omega arith
+
+-- a source that runs has ids that are those of their texts, where one is left
+next_spelt : (rows : Rows) (end : End) → log.AreFormed rows → end.boot ≡ boot_of rows → is_spent end ≡ false → IsSpelt (id_of_value (next_id end))
+next_spelt rows end formed boot left =
+    let few : end.boot ≤ 9223372036854775807 = subst (λ (n : ℕ). n ≤ 9223372036854775807) (sym boot) (most_boots rows formed) in
+    id_spelt (next_id end) (small_id end.boot end.drawn few (one_left end.drawn left))
+
+-- what a source asks for its subscriptions with, where an id is left, is a wish that can be written
+pub ask_can_be_sent : (state : State) (s : List ℕ) (slot : Slot) (end : End) → IsKept state → slot_of state s ≡ Some slot → slot.place.memory ≡ Some end → is_spent end ≡ false
+    → CanBeAsked (record { source = s; id = id_of_value (next_id end) })
+ask_can_be_sent state s slot end kept there runs left =
+    let source = kept.sources s slot there in
+    let name = reads_source s source.name in
+    record {
+      utf8 = name.0;
+      named = name.1;
+      spelt = next_spelt slot.place.rows end source.formed (running_is state s slot end source runs).0.boot left;
+      id = id_text_good (next_id end);
+    }
 
 -- ---- the batch
 
@@ -114,7 +136,6 @@ delivery_can_be_sent state s u slot end session kept there runs found left =
     let rows : Rows = state.collector.rows in
     let source = kept.sources s slot there in
     let running = running_is state s slot end source runs in
-    let boot = running.0.boot in
     let some = running.1 in
     let served = first_is (IsServed rows state.messages s) (is_named u) end.sessions session found running.0.sessions in
     let new : Slot = running_with slot (sent slot.place.rows end session state.moment) in
@@ -125,10 +146,9 @@ delivery_can_be_sent state s u slot end session kept there runs found left =
     let said = built_said slot.place.rows slot.histories slot.capacity (boot_of slot.place.rows) session reads source.events in
     let items = items_written (channels_read is.about) batch.items named (all_listed (channels_read is.about) batch is.fits.well_formed) is.sound.items said in
     let read = read_channel rows s new (delivery_of slot.place.rows end session) is in
-    let few : end.boot ≤ 9223372036854775807 = subst (λ (n : ℕ). n ≤ 9223372036854775807) (sym boot) (most_boots slot.place.rows source.formed) in
     let name = known_name rows session.name served.terms.about kept.keys served.terms.known in
     record {
-      spelt = id_spelt (next_id end) (small_id end.boot end.drawn few (one_left end.drawn left));
+      spelt = next_spelt slot.place.rows end source.formed running.0.boot left;
       id = id_text_good (next_id end);
       notify_to = subst IsPlainText (sym served.terms.address_is) (address_is_plain host session.name s (omega arith, refl));
       identifier = subst (λ (o : Option (List ℕ)). IfSome o IsPlainText) (sym served.terms.identifier_is) (subscription_is_plain session.name name);

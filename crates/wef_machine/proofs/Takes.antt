@@ -22,10 +22,8 @@ use Rattle.wef_collector.proofs.Hits.{hits, hits_self, not_both, one_key, one_na
 use Rattle.wef_collector.proofs.Live.{put_lives}
 use Rattle.wef_collector.proofs.Moving.{bookmark_by_taking}
 use Rattle.wef_collector.proofs.Taking.{held_by_taking}
-use Rattle.std.specs.List.{All}
-use Rattle.wef_eventing.proofs.Back.{reads_back}
-use Rattle.wef_eventing.specs.Kept.{HasKeptName, kept_words, read_kept}
-use Rattle.wef_eventing.specs.Subscriptions.{IsAllEvents}
+use Rattle.wef_documents.specs.Kept.{read_kept}
+use Rattle.wef_documents.specs.Written.{document_text}
 use Rattle.wef_eventing.specs.declared.subscriptions.Subscription.{Subscription}
 use Rattle.wef_keeper.specs.Rows.{Rows, found_after, key_cmp, key_cmp_total}
 use Rattle.wef_keeper.specs.declared.keys.Cell.{Cell}
@@ -214,29 +212,24 @@ put_others rows v w cell other =
 
 -- a new subscription changes nothing that is kept of a pair
 pub adding_spares : (rows : Rows) (about : Subscription) (u s c : List ℕ) → SameRows (added_rows rows about) rows u s c
-adding_spares rows about u s c = subscribing_spares rows about.name (record { value = 0; body = kept_words about }) u s c
+adding_spares rows about u s c = subscribing_spares rows about.name (record { value = 0; body = document_text about }) u s c
 
 -- nor does one that ends
 pub ending_spares : (rows : Rows) (v u s c : List ℕ) → SameRows (ended_rows rows v) rows u s c
 ending_spares rows v u s c = subscribing_spares rows v (record { value = 1; body = kept_body (finite.get rows (subscription_key v)) }) u s c
 
 -- what stands for a new subscription: what its words read as
-pub standing_read : (rows : Rows) (about : Subscription) → standing (added_rows rows about) about.name ≡ standing_by 0 (read_kept about.name (kept_words about))
-standing_read rows about = put_own rows about.name (record { value = 0; body = kept_words about })
+pub standing_read : (rows : Rows) (about : Subscription) → standing (added_rows rows about) about.name ≡ standing_by 0 (read_kept about.name (document_text about))
+standing_read rows about = put_own rows about.name (record { value = 0; body = document_text about })
 
--- one whose words read back is live
-pub standing_by_adding : (rows : Rows) (about : Subscription) → read_kept about.name (kept_words about) ≡ Some about →
+-- one that is read again from its document is live
+pub standing_by_adding : (rows : Rows) (about : Subscription) → read_kept about.name (document_text about) ≡ Some about →
     standing (added_rows rows about) about.name ≡ Live about
-standing_by_adding rows about reads = put_lives rows about (kept_words about) reads
-
--- a subscription to all events reads back
-pub live_by_adding : (rows : Rows) (about : Subscription) → All HasKeptName about.query.items → IsAllEvents about →
-    standing (added_rows rows about) about.name ≡ Live about
-live_by_adding rows about named one = standing_by_adding rows about (reads_back about named one)
+standing_by_adding rows about reads = put_lives rows about (document_text about) reads
 
 -- the others are as before
 pub others_by_adding : (rows : Rows) (about : Subscription) (v : List ℕ) → (about.name ≢ v) → standing (added_rows rows about) v ≡ standing rows v
-others_by_adding rows about v other = put_others rows about.name v (record { value = 0; body = kept_words about }) other
+others_by_adding rows about v other = put_others rows about.name v (record { value = 0; body = document_text about }) other
 
 ended_from : (value : ℕ) (kept : Option Subscription) (about : Subscription) → standing_by value kept ≡ Live about → standing_by 1 kept ≡ Ended about
 ended_from value None about live = cc

@@ -1,18 +1,18 @@
 -- What a message says, as `deliver K seen` prints it before the message is delivered.
-use Rattle.std.specs.Prelude.{ℕ, Bool, List, [], Option, Some, None, codes, if◌then◌else◌}
-use Rattle.wef_front.specs.Replies.{reply_bytes}
-use Rattle.wef_front.specs.Sending.{delivery_bytes}
+use Rattle.std.specs.Prelude.{ℕ, Bool, List, [], Option, Some, None, if◌then◌else◌}
+use Rattle.wef_front.specs.Replies.{offers_bytes, reply_bytes}
+use Rattle.wef_front.specs.Sending.{delivery_bytes, enumerate_bytes}
 use Rattle.wef_source.specs.declared.messages.Reply.TheVariants as replies
 use Rattle.wef_machine.specs.Deliveries.{message_at}
 use Rattle.wef_machine.specs.Printed.{text_line}
-use Rattle.wef_machine.specs.States.{State}
+use Rattle.wef_machine.specs.States.{State, host}
 use Rattle.wef_machine.specs.declared.messages.Message.{Message}
 use Rattle.wef_machine.specs.declared.messages.Message.TheVariants as sent
 
--- the bytes of a message: an ask and offers have none yet, and are printed as `-`
+-- the bytes of a message
 abbrev pub message_text : Message → List ℕ
-message_text (sent.Ask s id) = codes "-"
-message_text (sent.Offers s id relates given) = codes "-"
+message_text (sent.Ask s id) = enumerate_bytes host s id
+message_text (sent.Offers s id relates given) = offers_bytes id relates given
 message_text (sent.Events s delivery) = delivery_bytes delivery
 message_text (sent.Ack s id relates) = reply_bytes id relates replies.Ack
 message_text (sent.Fault s id relates name) = reply_bytes id relates (replies.Fault name)

@@ -243,7 +243,7 @@ the_keeper c = c.keeper
 abbrev frozen : Ids → Placed (Collector MemKeeper) → machine.Collector
 frozen ids placed = seen the_keeper (λ (c : Collector MemKeeper). ids) placed
 
-running_place : (place : Place (Collector MemKeeper)) (end : Collector MemKeeper) → Some end ≡ end_in place → place ≡ Running end
+pub running_place : (place : Place (Collector MemKeeper)) (end : Collector MemKeeper) → Some end ≡ end_in place → place ≡ Running end
 running_place (Running own) end there = ap Running (same_end own end there)
   where
     same_end : (a b : Collector MemKeeper) → Some b ≡ Some a → a ≡ b

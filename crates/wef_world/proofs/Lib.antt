@@ -1,4 +1,5 @@
 pub mod Answered
+pub mod Asked
 pub mod Calmed
 pub mod CollectorCalls
 pub mod Delivered

@@ -1,17 +1,59 @@
 -- The bytes that a world keeps are those of what they say.
-use Rattle.std.proofs.Common.{◌≡◌, ℕ, List, ap, sym, ◌∙◌, subst}
-use Rattle.std.specs.Prelude.{Some}
+use Rattle.std.proofs.Common.{◌≡◌, ℕ, List, ap, refl, sym, ◌∙◌, subst, arith}
+use Rattle.std.specs.Prelude.{None, Some}
 use Rattle.wef_envelope.specs.Laws.{IsSpelt}
 use Rattle.wef_front.proofs.DeliveriesAreHeard.{deliveries_are_read}
+use Rattle.wef_eventing.specs.declared.offers.Offer.{Offer}
+use Rattle.wef_front.proofs.EnumeratesAreHeard.{enumerates_are_read}
+use Rattle.wef_front.proofs.OffersAreHeard.{offers_are_read}
 use Rattle.wef_front.proofs.RepliesAreHeard.{replies_are_read}
-use Rattle.wef_front.specs.HeardReplies.{told}
-use Rattle.wef_front.specs.Replies.{IsKnownReply, reply_bytes}
-use Rattle.wef_front.specs.Sending.{CanBeSent, delivery_bytes, delivery_in}
+use Rattle.wef_front.specs.HeardReplies.{offers_told, told}
+use Rattle.wef_front.specs.Replies.{CanBeAnswered, IsKnownReply, offers_bytes, reply_bytes}
+use Rattle.wef_front.specs.Sending.{CanBeAsked, CanBeSent, Wish, delivery_bytes, delivery_in, enumerate_bytes}
 use Rattle.wef_ids.specs.declared.MessageId.{MessageId}
 use Rattle.wef_source.specs.declared.messages.Delivery.{Delivery}
 use Rattle.wef_source.specs.declared.messages.Reply.{Reply}
 use Rattle.wef_xml.specs.Good.{IsXmlText}
-use Rattle.wef_world.specs.Bytes.{AreDelivery, AreReply, Replied, delivery_said, replied, replied_by, said_or_none}
+use Rattle.wef_machine.specs.States.{host}
+use Rattle.wef_world.specs.Bytes.{Answered, AreDelivery, AreOffers, AreReply, AreWish, Replied, answered, answered_by, delivery_said, replied, replied_by, said_or_none, wish_or_none, wish_said}
+
+-- ---- wishes for subscriptions
+
+pub written_wish : (wish : Wish) (bytes : List ℕ) → CanBeAsked wish → bytes ≡ enumerate_bytes host wish.source wish.id → AreWish bytes
+written_wish wish bytes can written = record { wish = wish; can_be_asked = can; bytes_are = written }
+
+-- they say what was written
+pub wish_says : (wish : Wish) (bytes : List ℕ) → CanBeAsked wish → bytes ≡ enumerate_bytes host wish.source wish.id → wish_said bytes ≡ wish
+wish_says wish bytes can written = ap wish_said written ∙ ap wish_or_none (enumerates_are_read host wish (omega arith, refl) can)
+
+wish_is : (bytes : List ℕ) (are : AreWish bytes) → wish_said bytes ≡ are.wish
+wish_is bytes are = wish_says are.wish bytes are.can_be_asked are.bytes_are
+
+pub kept_wish : (bytes : List ℕ) → AreWish bytes → bytes ≡ enumerate_bytes host (wish_said bytes).source (wish_said bytes).id
+kept_wish bytes are = are.bytes_are ∙ ap (λ (w : Wish). enumerate_bytes host w.source w.id) (sym (wish_is bytes are))
+
+pub kept_can_be_asked : (bytes : List ℕ) → AreWish bytes → CanBeAsked (wish_said bytes)
+kept_can_be_asked bytes are = subst CanBeAsked (sym (wish_is bytes are)) are.can_be_asked
+
+-- ---- offers
+
+-- the bytes of an answer with offers say it
+pub answered_is : (id relates : MessageId) (list : List Offer) → CanBeAnswered id relates list → answered (offers_bytes id relates list) ≡ record { id = id; relates = relates; offers = list }
+answered_is id relates list can = λ i. answered_by (offers_are_read.id id relates list can i) (offers_are_read.offers 0 id relates list can i)
+
+kept_answer : (bytes : List ℕ) (are : AreOffers bytes) → answered bytes ≡ are.said
+kept_answer bytes are = ap answered are.bytes_are ∙ answered_is are.said.id are.said.relates are.said.offers are.can_be_answered
+
+pub kept_offers : (bytes : List ℕ) → AreOffers bytes → bytes ≡ offers_bytes (answered bytes).id (answered bytes).relates (answered bytes).offers
+kept_offers bytes are = are.bytes_are ∙ ap (λ (a : Answered). offers_bytes a.id a.relates a.offers) (sym (kept_answer bytes are))
+
+pub kept_untold : (bytes : List ℕ) → AreOffers bytes → told bytes ≡ None
+kept_untold bytes are = ap told are.bytes_are ∙ offers_are_read.told are.said.id are.said.relates are.said.offers are.can_be_answered
+
+pub kept_offers_told : (bytes : List ℕ) → AreOffers bytes → (now : ℕ) → offers_told now bytes ≡ Some ((answered bytes).relates, (answered bytes).offers)
+kept_offers_told bytes are now =
+    ap (offers_told now) are.bytes_are ∙ offers_are_read.offers now are.said.id are.said.relates are.said.offers are.can_be_answered
+    ∙ ap (λ (a : Answered). Some (a.relates, a.offers)) (sym (kept_answer bytes are))
 
 -- ---- deliveries
 

@@ -1,9 +1,16 @@
--- What becomes of a delivery that the collector answers: what it hears, and what its answer is for the world.
+-- What becomes of an ask and of a delivery that the collector answers: what it hears, and what its answer is for the world.
 use Rattle.std.specs.Prelude.{◌≡◌, ℕ, ◌==◌, List, [], Option, Some, None, codes, if◌then◌else◌}
 use Rattle.wef_base.specs.Names.{source_name, subscription_name}
 use Rattle.wef_base.specs.declared.tree.Charset.TheVariants.{Utf8}
 use Rattle.wef_batch.specs.declared.items.Batch.{Batch}
+use Rattle.std.specs.List.{AllByRecursion}
+use Rattle.wef_bodies.specs.Laws.{IsPlainOffer, OfferCanStand}
+use Rattle.wef_collector.specs.Offers.{offers}
 use Rattle.wef_envelope.specs.Laws.{IsSpelt}
+use Rattle.wef_eventing.specs.declared.offers.Offer.{Offer}
+use Rattle.wef_front.specs.Sending.{CanBeAsked, Wish}
+use Rattle.wef_keeper.specs.Rows.{Rows}
+use Rattle.wef_machine.specs.States.{host}
 use Rattle.wef_eventing.specs.Addresses.{source_in, subscription_in}
 use Rattle.wef_front.specs.HeardReplies.{Told, told}
 use Rattle.wef_front.specs.Replies.{IsSpeltFor, answer_of}
@@ -58,6 +65,18 @@ asked_at _ _ batch = Refused DestinationUnreachable
 -- what the collector hears in a delivery whose address leads to both
 abbrev pub heard_of : Delivery → Heard
 heard_of delivery = record { relates = Some delivery.id; asked = asked_at (subscription_in delivery.notify_to) (source_in delivery.notify_to) delivery.batch }
+
+-- ---- what is offered
+
+-- what a collector offers to a source can be written and read again
+abbrev pub CanOffer : Rows → List ℕ → Type 0
+CanOffer rows s = AllByRecursion IsPlainOffer (offers rows s host) × AllByRecursion OfferCanStand (offers rows s host)
+
+-- An answer is what is written of offers, under the next id of some ids, to a wish.
+pub record HasOffered (wish : Wish) (ids : Ids) (list : List Offer) (answer : Answer) : Type 0 where
+  pub asked : CanBeAsked wish
+  pub written : answer ≡ answer_of ids Utf8 (Some wish.id) (Offers list)
+  pub spelt : IsSpeltFor ids (Offers list)
 
 -- ---- what is answered
 

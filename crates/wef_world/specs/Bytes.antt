@@ -1,10 +1,12 @@
--- What bytes say that a world keeps: a delivery to an address, or a reply to one.
+-- What bytes say that a world keeps: a wish for subscriptions, offers, a delivery to an address, or a reply to one.
 use Rattle.std.specs.Prelude.{◌≡◌, ℕ, List, [], Option, Some, None, false}
+use Rattle.wef_eventing.specs.declared.offers.Offer.{Offer}
+use Rattle.wef_machine.specs.States.{host}
 use Rattle.std.specs.FinMap as map
 use Rattle.wef_envelope.specs.Laws.{IsSpelt}
-use Rattle.wef_front.specs.HeardReplies.{Told, id_told, told}
-use Rattle.wef_front.specs.Replies.{IsKnownReply, reply_bytes}
-use Rattle.wef_front.specs.Sending.{CanBeSent, delivery_bytes, delivery_in}
+use Rattle.wef_front.specs.HeardReplies.{Offered, Told, id_told, offers_told, told}
+use Rattle.wef_front.specs.Replies.{CanBeAnswered, IsKnownReply, offers_bytes, reply_bytes}
+use Rattle.wef_front.specs.Sending.{CanBeAsked, CanBeSent, Wish, delivery_bytes, delivery_in, enumerate_bytes, wish_in}
 use Rattle.wef_ids.specs.declared.MessageId.{MessageId}
 use Rattle.wef_source.specs.declared.messages.Delivery.{Delivery}
 use Rattle.wef_source.specs.declared.messages.Reply as answer
@@ -14,6 +16,46 @@ use Rattle.wef_xml.specs.Good.{IsXmlText}
 -- an id without a value, of no text
 abbrev pub no_id : MessageId
 no_id = record { value = None; text = [] }
+
+-- ---- wishes for subscriptions
+
+-- what bytes say, where they say a wish; none with other bytes is kept
+abbrev pub wish_or_none : Option Wish → Wish
+wish_or_none None = record { source = []; id = no_id }
+wish_or_none (Some wish) = wish
+
+-- the wish that bytes are
+abbrev pub wish_said : List ℕ → Wish
+wish_said bytes = wish_or_none (wish_in bytes)
+
+-- Bytes are those of a wish to the collector at its host.
+pub record AreWish (bytes : List ℕ) : Type 0 where
+  pub wish : Wish
+  pub can_be_asked : CanBeAsked wish
+  pub bytes_are : bytes ≡ enumerate_bytes host wish.source wish.id
+
+-- ---- offers
+
+-- What an answer with offers says: its id, that of the message that it answers, and the offers.
+pub record Answered : Type 0 where
+  pub id : MessageId
+  pub relates : MessageId
+  pub offers : List Offer
+
+-- what bytes say, where they have an id and tell offers; none with other bytes is kept
+abbrev pub answered_by : Option MessageId → Option Offered → Answered
+answered_by (Some id) (Some told) = record { id = id; relates = told.0; offers = told.1 }
+answered_by _ _ = record { id = no_id; relates = no_id; offers = [] }
+
+-- the answer with offers that bytes are; no offer of a kept answer says a moment
+abbrev pub answered : List ℕ → Answered
+answered bytes = answered_by (id_told bytes) (offers_told 0 bytes)
+
+-- Bytes are those of an answer with offers.
+pub record AreOffers (bytes : List ℕ) : Type 0 where
+  pub said : Answered
+  pub can_be_answered : CanBeAnswered said.id said.relates said.offers
+  pub bytes_are : bytes ≡ offers_bytes said.id said.relates said.offers
 
 -- ---- deliveries
 

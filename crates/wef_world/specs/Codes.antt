@@ -1,7 +1,10 @@
 -- How what models hold is coded.
-use Rattle.std.specs.Prelude.{Option, refl}
-use Rattle.std.specs.Coded.{Coded, code_by, coded_option, coded×}
+use Rattle.std.specs.Prelude.{ℕ, List, Option, refl}
+use Rattle.std.specs.Coded.{Coded, code_by, coded_list, coded_option, coded_ℕ, coded×}
 use Rattle.std.specs.FinMap as map
+use Rattle.wef_eventing.specs.contracts.offers.Offer as offer
+use Rattle.wef_eventing.specs.declared.offers.Offer.{Offer}
+use Rattle.wef_front.specs.Sending.{Wish}
 use Rattle.wef_keeper.specs.Rows.{Rows}
 use Rattle.wef_keeper.specs.contracts.keys.Cell as cell
 use Rattle.wef_keeper.specs.contracts.keys.Key as key
@@ -12,13 +15,22 @@ use Rattle.wef_machine.specs.contracts.arming.Armed as one_armed
 use Rattle.wef_machine.specs.declared.arming.Armed.{Armed}
 use Rattle.wef_source.specs.contracts.messages.Reply as answer
 use Rattle.wef_source.specs.declared.messages.Reply.{Reply}
-use Rattle.wef_world.specs.Bytes.{Replied}
+use Rattle.wef_world.specs.Bytes.{Answered, Replied}
 
 -- where an end is, by a code of what it remembers
 abbrev pub coded_place : {M : Type 0} → Coded M → Coded (Place M)
 coded_place {M} memory = code_by (Rows × (Option M × Option Armed))
     (coded× (map.code key.the_row.coded cell.the_row.coded) (coded× (coded_option memory) (coded_option one_armed.the_row.coded)))
     (λ p. (p.rows, (p.memory, p.armed))) (λ t. record { rows = t.0; memory = t.1.0; armed = t.1.1 }) (λ _. refl)
+
+-- what a wish for subscriptions says
+abbrev pub coded_wish : Coded Wish
+coded_wish = code_by (List ℕ × MessageId) (coded× (coded_list coded_ℕ) message_id.the_row.coded) (λ w. (w.source, w.id)) (λ t. record { source = t.0; id = t.1 }) (λ _. refl)
+
+-- what an answer with offers says
+abbrev pub coded_answered : Coded Answered
+coded_answered = code_by (MessageId × (MessageId × List Offer)) (coded× message_id.the_row.coded (coded× message_id.the_row.coded (coded_list offer.the_row.coded)))
+    (λ a. (a.id, (a.relates, a.offers))) (λ t. record { id = t.0; relates = t.1.0; offers = t.1.1 }) (λ _. refl)
 
 -- what a reply says
 abbrev pub coded_reply : Coded Replied

@@ -24,11 +24,11 @@ abbrev pub is_open_at : Option Slot → Bool
 is_open_at None = false
 is_open_at (Some slot) = is_open (slot_opened slot).place
 
--- whether a message is bytes, and its end is open or can be opened
+-- whether a message is there whose end is open, or can be opened
 abbrev pub is_heard : State → Option Message → Bool
 is_heard state None = false
-is_heard state (Some (sent.Ask s id)) = false
-is_heard state (Some (sent.Offers s id relates given)) = false
+is_heard state (Some (sent.Ask s id)) = is_open (collector_opened state.collector)
+is_heard state (Some (sent.Offers s id relates given)) = is_open_at (slot_of state s)
 is_heard state (Some (sent.Events s delivery)) = is_open (collector_opened state.collector)
 is_heard state (Some (sent.Ack s id relates)) = is_open_at (slot_of state s)
 is_heard state (Some (sent.Fault s id relates fault)) = is_open_at (slot_of state s)

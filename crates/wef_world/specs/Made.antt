@@ -3,7 +3,8 @@ use Rattle.std.specs.Prelude.{◌≡◌, Some}
 use Rattle.wef_batch.specs.Numbers.{AreNumbered}
 use Rattle.wef_collector.specs.Calls.{add_effect, end_effect, take_effect}
 use Rattle.wef_collector_rows.specs.declared.faults.CollectorFault.{CollectorFault}
-use Rattle.wef_eventing.specs.Kept.{kept_words, read_kept}
+use Rattle.wef_documents.specs.Kept.{read_kept}
+use Rattle.wef_documents.specs.Written.{document_text}
 use Rattle.wef_eventing.specs.declared.subscriptions.Subscription.{Subscription}
 use Rattle.wef_keeper.specs.Calls.{Effect}
 use Rattle.wef_keeper.specs.Rows.{Rows}
@@ -18,7 +19,7 @@ effect_of (Take sub source batch now) rows = take_effect rows sub.now source.now
 
 -- a subscription reads back from the words that keep it
 abbrev pub ReadsBack : Subscription → Type 0
-ReadsBack s = read_kept s.name (kept_words s) ≡ Some s
+ReadsBack s = read_kept s.name (document_text s) ≡ Some s
 
 -- a subscription that is added reads back, and the numbers of a batch that is taken are such as records have
 abbrev pub IsAllowed : Call → Type 0

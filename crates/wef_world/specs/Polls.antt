@@ -1,6 +1,6 @@
 -- What becomes of what an ask or a poll found.
 use Rattle.std.specs.Prelude.{ℕ, List, Option, Some, None, codes}
-use Rattle.wef_front.specs.Sending.{CanBeSent}
+use Rattle.wef_front.specs.Sending.{CanBeAsked, CanBeSent}
 use Rattle.wef_ids.specs.declared.MessageId.{MessageId}
 use Rattle.wef_machine.specs.Printed.{fate_line, name_line, pair_line, sent_ask_line, sent_events_line}
 use Rattle.wef_machine.specs.States.{State, with_message}
@@ -34,6 +34,11 @@ polled_line s u n (Answered Unknown) = pair_line (codes "unknown") s u
 polled_line s u n (Answered Nothing) = pair_line (codes "nothing") s u
 polled_line s u n (Answered Spent) = name_line (codes "spent") s
 polled_line s u n (Answered (Sent delivery)) = sent_events_line n s u
+
+-- an ask that a source sends can be written
+abbrev pub CanBeAskedAs : List ℕ → Used (Option MessageId) → Type 0
+CanBeAskedAs s (Answered (Some id)) = CanBeAsked (record { source = s; id = id })
+CanBeAskedAs s _ = Unit {0}
 
 -- a delivery that a session has to send can be written
 abbrev pub CanBeSentAs : Used Polled → Type 0

@@ -2,17 +2,16 @@
 use Rattle.std.specs.Prelude.{◌≡◌, ℕ, ◌+◌, Bool, true, false, List, [], length, is_some, Option, Some, None, Ok, Err, codes, if◌then◌else◌}
 use Rattle.std.specs.FinMap as map
 use Rattle.wef_ids.specs.IdTexts.{id_of_value}
-use Rattle.wef_ids.specs.Ids.{ids_agree}
 use Rattle.wef_ids.specs.declared.MessageId.{MessageId}
 use Rattle.wef_event.specs.Events.{Event}
 use Rattle.wef_event.specs.Numbering.{numbered_text}
-use Rattle.wef_eventing.specs.declared.offers.Offer.{Offer}
+use Rattle.wef_front.specs.HeardReplies.{Offered, Told}
 use Rattle.wef_front.specs.declared.listening.Hears as the_hears
 use Rattle.wef_front.specs.declared.listening.Hears.TheVariants as hears
 use Rattle.wef_keeper.specs.Calls.{Effect}
 use Rattle.wef_source.specs.Answers.{waiting_for}
 use Rattle.wef_source.specs.Calls as source
-use Rattle.wef_source.specs.Machine.{End, adopted, asked, delivery_of, is_idle, is_spent, next_id, sent}
+use Rattle.wef_source.specs.Machine.{End, asked, delivery_of, is_idle, is_spent, next_id, sent}
 use Rattle.wef_source.specs.Sessions.{session_of}
 use Rattle.wef_source.specs.declared.faults.SourceFault as the_fault
 use Rattle.wef_source.specs.declared.faults.SourceFault.TheVariants as faults
@@ -24,7 +23,7 @@ use Rattle.wef_source_log.specs.Forms.{AreFormed}
 use Rattle.wef_source_log.specs.Histories.{extended, history}
 use Rattle.wef_source_log.specs.Windows.{IsWindow, boot_of}
 use Rattle.wef_source_log.specs.declared.faults.LogFault.{LogFault}
-use Rattle.wef_machine.specs.Deliveries.{after_ack, after_fault}
+use Rattle.wef_machine.specs.Deliveries.{after_ack, after_fault, after_offers, offers_word}
 use Rattle.wef_machine.specs.Places.{remembering}
 use Rattle.wef_machine.specs.Printed.{adopted_word, fate_line, fate_word, pair_line, wrote_line}
 use Rattle.wef_machine.specs.Sources.{slot_opened, slot_opening, slot_written}
@@ -126,14 +125,6 @@ AnswersAs slot = UsedAs (slot_opening slot) (slot_opened slot).place.memory (Uni
 abbrev pub LosesAs : Slot → List ℕ → Used Bool → Type 0
 LosesAs slot u = AnswersAs slot (λ end there. there ≡ is_some (session_of end.sessions u))
 
--- Offers are taken where they answer the ask.
-abbrev pub AdoptsBy : End → MessageId → List Offer → ℕ → Option ℕ → Type 0
-AdoptsBy end relates offers now None = ids_agree end.ask relates.value ≡ false
-AdoptsBy end relates offers now (Some n) = (ids_agree end.ask relates.value ≡ true) × (n ≡ length (adopted end offers now).sessions)
-
-abbrev pub AdoptsAs : Slot → MessageId → List Offer → ℕ → Used (Option ℕ) → Type 0
-AdoptsAs slot relates offers now = AnswersAs slot (λ end. AdoptsBy end relates offers now)
-
 -- what a source is after an answer to a delivery
 abbrev pub after_reply : End → MessageId → Reply → End
 after_reply end relates replies.Ack = after_ack end relates
@@ -156,9 +147,21 @@ waited_word waits (replies.Fault fault) = if waits then codes "refused" else cod
 abbrev pub reply_word : End → MessageId → Reply → List ℕ
 reply_word end relates reply = waited_word (is_some (waiting_for end relates.value)) reply
 
--- a source hears what the answer is for it
-abbrev pub HearsAs : Slot → MessageId → Reply → Used the_hears.Hears → Type 0
-HearsAs slot relates reply = AnswersAs slot (λ end hears. heard_word hears ≡ reply_word end relates reply)
+-- what a source is after what bytes tell it at a moment: an answer to a delivery, or else offers
+abbrev pub after_told : Option Told → Option Offered → ℕ → End → End
+after_told (Some reply) offered now end = after_reply end reply.0 reply.1
+after_told None (Some offered) now end = after_offers end offered.0 offered.1 now
+after_told None None now end = end
+
+-- the word for that
+abbrev pub told_word : Option Told → Option Offered → ℕ → End → List ℕ
+told_word (Some reply) offered now end = reply_word end reply.0 reply.1
+told_word None (Some offered) now end = offers_word end offered.0 offered.1 now
+told_word None None now end = codes "not-asked"
+
+-- a source hears what it is told
+abbrev pub HearsAs : Slot → Option Told → Option Offered → ℕ → Used the_hears.Hears → Type 0
+HearsAs slot told offered now = AnswersAs slot (λ end hears. heard_word hears ≡ told_word told offered now end)
 
 -- the rows of a source that is declared are of their form
 abbrev pub IsFormedAt : Option Slot → Type 0

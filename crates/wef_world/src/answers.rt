@@ -10,8 +10,8 @@ use wef_keeper::{Keeper, MemKeeper};
 use wef_source::SourceEnd;
 
 /// The answers to messages, and what is heard in them: each method promises what the function of
-/// wef_front with its name does. A world hands over the bytes of each batch, and of each answer to one
-/// that it delivers, and nothing of their values; asks and offers don't come by here.
+/// wef_front with its name does. A world hands over the bytes of each message that it delivers, and
+/// nothing of its value.
 pub trait Answers: Drop {
     ghost use Rattle.std.specs.Prelude.{◌≡◌, ◌⊎◌, ℕ, IfErr, IfOk, OnErr};
     ghost use Rattle.wef_eventing.specs.Addresses as addresses;

@@ -12,16 +12,17 @@ ghost use Rattle.wef_machine.specs.Deliveries as steps;
 ghost use Rattle.wef_machine.specs.Kept.{IsKept};
 ghost use Rattle.wef_machine.specs.Printed as texts;
 ghost use Rattle.wef_machine.specs.Seen.{message_line, seen_line};
-ghost use Rattle.wef_eventing.specs.Addresses.{IsHost};
+ghost use Rattle.wef_front.specs.HeardReplies.{offers_told, told};
 ghost use Rattle.wef_machine.specs.States as states;
 ghost use Rattle.wef_base.specs.declared.tree.Charset.TheVariants.{Utf8};
 ghost use Rattle.wef_front.specs.Replies.{IsAnswer};
 ghost use Rattle.wef_front.specs.Sending.{CanBeSent};
 ghost use Rattle.wef_keeper.specs.Keeping.{raised};
-ghost use Rattle.wef_machine.specs.declared.messages.Message.TheVariants.{Offers};
 ghost use Rattle.wef_world.specs.Answered as answered;
+ghost use Rattle.wef_world.specs.Bytes.{AreOffers, answered as answered_in};
 ghost use Rattle.wef_world.specs.Collected.{collector_of};
 ghost use Rattle.wef_world.specs.Counted as counts;
+ghost use Rattle.wef_world.specs.Messages.{offers_message};
 ghost use Rattle.wef_world.specs.Outcomes as outcomes;
 ghost use Rattle.wef_world.specs.Places as places;
 ghost use Rattle.wef_world.specs.Slots as slots;
@@ -30,25 +31,22 @@ use crate::answers::Answers;
 use crate::collecting::{self, Call, CollectorPlace};
 use crate::ends::Ends;
 use crate::faults::WorldFault;
-use crate::messages::{Content, DeliveryBytes, ReplyBytes, Sent};
+use crate::messages::{Content, DeliveryBytes, OffersBytes, ReplyBytes, Sent, WishBytes, host};
 use crate::places::{Called, Used};
 use crate::printing::{
     adopted_word, answered_line, fate_word, fault_answer, no_message_line, took_line,
 };
 use crate::sources::Sources;
 use std::alloc::{AllocError, Global};
-use wef_base::{Bytes, Charset, List, Moment, SourceName, SubId, Text};
+use wef_base::{Bytes, Charset, Moment, SourceName, SubId, Text};
 use wef_batch::Batch;
 use wef_collector::{Collector, CollectorFault};
-use wef_eventing::{Offer, source_in, subscription_in};
+use wef_eventing::{source_in, subscription_in};
 use wef_front::{Answer, Hears, Target, read_reply};
 use wef_ids::{FaultName, MessageId};
 use wef_keeper::{Keeper, MemKeeper};
 use wef_machine::Fate;
 use wef_source::Reply;
-
-/// Where sources find the collector.
-const HOST: &str = "collector:5985";
 
 /// What became of a batch that was given to the collector.
 pub type TakenBatch = Used<Called<(), FaultName>>;
@@ -77,7 +75,7 @@ impl Ends {
         }
     }
 
-    /// Delivers the message of a number. What is made of it is made of its bytes, where it has some.
+    /// Delivers the message of a number. What is made of it is made of its bytes.
     pub(crate) fn deliver<A: Answers>(
         &mut self,
         answers: &mut A,
@@ -94,16 +92,13 @@ impl Ends {
         };
         let (source, content) = message.parts();
         match content {
-            Content::Ask(id) => {
-                let taken = take_ask(alloc, &mut self.collector, source, id)?;
+            Content::Ask(wish) => {
+                let taken = take_ask(alloc, &mut self.collector, answers, source, wish, now)?;
                 self.tell(number, taken)
             }
-            Content::Offers {
-                id: _,
-                relates,
-                offers,
-            } => {
-                let word = give_offers(alloc, &mut self.sources, source, relates, offers, now)?;
+            Content::Offers(offers) => {
+                let body = offers.bytes();
+                let word = give(alloc, &mut self.sources, answers, source, body, now)?;
                 took(alloc, number, word)
             }
             Content::Delivery(delivery) => {
@@ -112,7 +107,8 @@ impl Ends {
                 self.tell(number, taken)
             }
             Content::Reply(reply) => {
-                let word = give_reply(alloc, &mut self.sources, answers, source, reply, now)?;
+                let body = reply.bytes();
+                let word = give(alloc, &mut self.sources, answers, source, body, now)?;
                 took(alloc, number, word)
             }
         }
@@ -158,26 +154,62 @@ struct Taken {
     answer: Option<Sent>,
 }
 
-/// Lets the collector take an ask of a source.
-fn take_ask(
+/// Lets the collector take the bytes of an ask of a source, at a moment.
+fn take_ask<A: Answers>(
     alloc: Global,
     collector: &mut CollectorPlace,
+    answers: &mut A,
     source: &SourceName,
-    id: &MessageId,
+    wish: &WishBytes,
+    now: Moment,
 ) -> Result<Taken, WorldFault>
     requires formed { AreFormed (collector_of collector.old).rows }
+    requires own { wish.now.source ≡ source.now }
+    requires offered { answered.CanOffer (collecting.collector_opened (collector_of collector.old)).rows source.now }
     ensures collector { OnOk result (collector_of collector.new ≡ outcomes.asked_left (collector_of collector.old) source.now) }
-    ensures taken { IfOk result (λ taken. taken ≡ outcomes.asked_of (collector_of collector.old) source.now id.now) }
+    ensures taken { IfOk result (λ taken. taken ≡ outcomes.asked_of (collector_of collector.old) source.now wish.now.id) }
+    ensures calls { OnOk result (A.calls answers.new ≡ counts.counted (counts.is_open (collecting.collector_opened (collector_of collector.old))) (A.calls answers.old)) }
 {
     let fate = collecting::open(collector, alloc)?;
     let Some(running) = collector.running() else {
         return Ok(closed(alloc, fate)?);
     };
-    let answer = answer_to_ask(alloc, running, source, id)?;
+    let answer = answer_to_ask(alloc, running, answers, wish, now)?;
+    let offered = offers_in(source, answer)?;
     Ok(Taken {
         word: Text::from_str(alloc, "offers")?,
-        answer: Some(answer),
+        answer: Some(offered),
     })
+}
+
+/// What a collector that runs answers to the bytes of an ask, at a moment. It draws an id for the
+/// answer, and one for each offer.
+fn answer_to_ask<A: Answers>(
+    alloc: Global,
+    collector: &mut Collector<MemKeeper>,
+    answers: &mut A,
+    wish: &WishBytes,
+    now: Moment,
+) -> Result<Answer, WorldFault>
+    requires { AreFormed collector.old.keeper.rows }
+    ensures rows { OnOk result (collector.new.keeper.rows ≡ collector.old.keeper.rows) }
+    ensures ids { OnOk result (collector.new.ids ≡ with_drawn (length (offers collector.old.keeper.rows wish.now.source states.host) + 1) collector.old.ids) }
+    ensures answer { IfOk result (answered.HasOffered wish.now collector.old.ids (offers collector.old.keeper.rows wish.now.source states.host)) }
+    ensures calls { OnOk result (A.calls answers.new ≡ raised (A.calls answers.old)) }
+{
+    let host = host(alloc)?;
+    let body = wish.bytes();
+    Ok(answers.collector_answer(collector, &Target::Manager, &host, Charset::Utf8, body, now)?)
+}
+
+/// The message that an answer with offers is.
+fn offers_in(source: &SourceName, answer: Answer) -> Result<Sent, AllocError>
+    requires { AreOffers answer.body }
+    ensures { IfOk result (λ sent. sent ≡ offers_message source.now (answered_in answer.body)) }
+{
+    let Answer { status: _, body } = answer;
+    let content = Content::Offers(OffersBytes::of(body));
+    Ok(Sent::of(source.clone()?, content))
 }
 
 /// What a collector that can't be opened makes of a message.
@@ -231,14 +263,6 @@ fn answer_to_delivery<A: Answers>(
     let host = host(alloc)?;
     let body = delivery.bytes();
     Ok(answers.collector_answer(collector, &target, &host, Charset::Utf8, body, now)?)
-}
-
-/// The collector's host.
-fn host(alloc: Global) -> Result<Text, AllocError>
-    ensures value { IfOk result (λ host. host ≡ states.host) }
-    ensures is_one { IfOk result IsHost }
-{
-    Text::from_str(alloc, HOST)
 }
 
 /// What the address of a delivery names: an empty text stands for a name that isn't there, which is
@@ -331,58 +355,6 @@ pub(crate) fn message_at(messages: &[Sent], number: u64) -> Option<&Sent>
     messages.get(number as usize - 1)
 }
 
-/// The collector's answer to an ask. It draws an id for it, and one for each offer.
-fn answer_to_ask(
-    alloc: Global,
-    collector: &mut Collector<MemKeeper>,
-    source: &SourceName,
-    relates: &MessageId,
-) -> Result<Sent, WorldFault>
-    requires formed { AreFormed collector.old.keeper.rows }
-    ensures rows { OnOk result (collector.new.keeper.rows ≡ collector.old.keeper.rows) }
-    ensures ids { OnOk result (collector.new.ids ≡ with_drawn (length (offers collector.old.keeper.rows source.now states.host) + 1) collector.old.ids) }
-    ensures answer { IfOk result (λ answer. answer ≡ Offers source.now (collecting.reply_id collector.old.ids) relates.now (offers collector.old.keeper.rows source.now states.host)) }
-{
-    let host = host(alloc)?;
-    match collector.offers(source, &host) {
-        Ok(offers) => {
-            let id = draw(collector, offers.len())?;
-            let content = Content::Offers {
-                id,
-                relates: relates.clone()?,
-                offers,
-            };
-            Ok(Sent::of(source.clone()?, content))
-        }
-        Err(_) => Err(WorldFault::NoMemory),
-    }
-}
-
-/// Draws the id of a reply, and so many more behind it.
-fn draw(collector: &mut Collector<MemKeeper>, more: usize) -> Result<MessageId, WorldFault>
-    ensures id { IfOk result (λ id. id ≡ collecting.reply_id collector.old.ids) }
-    ensures ids { OnOk result (collector.new.ids ≡ with_drawn (more + 1) collector.old.ids) }
-    ensures keeper { OnOk result (collector.new.keeper ≡ collector.old.keeper) }
-{
-    let id = draw_one(collector)?;
-    for _turn in 0..more {
-        drop(draw_one(collector)?);
-    }
-    Ok(id)
-}
-
-/// Draws an id.
-fn draw_one(collector: &mut Collector<MemKeeper>) -> Result<MessageId, WorldFault>
-    ensures id { IfOk result (λ id. id ≡ collecting.reply_id collector.old.ids) }
-    ensures ids { OnOk result (collector.new.ids ≡ with_drawn 1 collector.old.ids) }
-    ensures keeper { OnOk result (collector.new.keeper ≡ collector.old.keeper) }
-{
-    match collector.draw() {
-        Ok(id) => Ok(id),
-        Err(_) => Err(WorldFault::NoMemory),
-    }
-}
-
 /// Lets the collector take a batch of a source for a subscription, at a moment.
 pub(crate) fn take_batch(
     collector: &mut CollectorPlace,
@@ -446,48 +418,24 @@ pub(crate) fn outcome_word(
     }
 }
 
-/// Gives offers to a source, at a moment. Answers the word for what became of them.
-fn give_offers(
-    alloc: Global,
-    sources: &mut Sources,
-    source: &SourceName,
-    relates: &MessageId,
-    offers: &List<Offer>,
-    now: Moment,
-) -> Result<Text, WorldFault>
-    requires { slots.IsFormedAt (map.get sources.old source.now) }
-    ensures sources { OnOk result (sources.new ≡ slots.given_to sources.old source.now (λ end. steps.after_offers end relates.now offers.now now)) }
-    ensures word { IfOk result (λ word. word ≡ slots.word_at sources.old source.now (λ end. steps.offers_word end relates.now offers.now now)) }
-{
-    let Some(slot) = sources.slot_mut(source) else {
-        return Ok(Text::from_str(alloc, "not-asked")?);
-    };
-    match slot.adopt(alloc, relates, offers, now)? {
-        Used::Closed(fate) => Ok(Text::from_str(alloc, fate_word(fate))?),
-        Used::Answered(Some(number)) => Ok(adopted_word(alloc, number)?),
-        Used::Answered(None) => Ok(Text::from_str(alloc, "not-asked")?),
-    }
-}
-
-/// Gives a source the bytes of the answer to a delivery, at a moment. Answers the word for what became
-/// of it.
-fn give_reply<A: Answers>(
+/// Gives a source the bytes of an answer, at a moment. Answers the word for what became of it.
+fn give<A: Answers>(
     alloc: Global,
     sources: &mut Sources,
     answers: &mut A,
     source: &SourceName,
-    reply: &ReplyBytes,
+    body: &Bytes,
     now: Moment,
 ) -> Result<Text, WorldFault>
     requires { slots.IsFormedAt (map.get sources.old source.now) }
-    ensures sources { OnOk result (sources.new ≡ slots.given_to sources.old source.now (λ end. slots.after_reply end reply.now.relates reply.now.reply)) }
-    ensures word { IfOk result (λ word. word ≡ slots.word_at sources.old source.now (λ end. slots.reply_word end reply.now.relates reply.now.reply)) }
+    ensures sources { OnOk result (sources.new ≡ slots.given_to sources.old source.now (slots.after_told (told body.now) (offers_told now body.now) now)) }
+    ensures word { IfOk result (λ word. word ≡ slots.word_at sources.old source.now (slots.told_word (told body.now) (offers_told now body.now) now)) }
     ensures calls { OnOk result (A.calls answers.new ≡ counts.counted (counts.is_open_at (map.get sources.old source.now)) (A.calls answers.old)) }
 {
     let Some(slot) = sources.slot_mut(source) else {
         return Ok(Text::from_str(alloc, "not-asked")?);
     };
-    match slot.hear(alloc, answers, reply, now)? {
+    match slot.hear(alloc, answers, body, now)? {
         Used::Closed(fate) => Ok(Text::from_str(alloc, fate_word(fate))?),
         Used::Answered(hears) => Ok(heard_word(alloc, hears)?),
     }

@@ -9,13 +9,11 @@ ghost use Rattle.wef_world.specs.Recorded as records;
 use crate::answers::Answers;
 use crate::faults::WorldFault;
 use crate::histories::Histories;
-use crate::messages::ReplyBytes;
 use crate::places::{Called, End, Placed, Used};
 use std::alloc::Global;
 use std::marker::Model;
-use wef_base::{List, Moment, SourceName, SubId};
+use wef_base::{Bytes, Moment, SourceName, SubId};
 use wef_event::Event;
-use wef_eventing::Offer;
 use wef_front::Hears;
 use wef_ids::MessageId;
 use wef_keeper::{MemKeeper, Plan, StoreFault};
@@ -182,7 +180,7 @@ pub enum Polled {
 impl Slot {
     ghost use Rattle.std.specs.Prelude.{◌≡◌, ◌≤◌, ◌+◌, length, IfOk, OnOk};
     ghost use Rattle.wef_base.specs.declared.numbers.TheConstants.{MAX};
-    ghost use Rattle.wef_machine.specs.Deliveries.{after_offers};
+    ghost use Rattle.wef_front.specs.HeardReplies.{offers_told, told};
     ghost use Rattle.wef_machine.specs.Places as places;
     ghost use Rattle.wef_machine.specs.Sources.{declared_slot, slot_opened};
     ghost use Rattle.wef_machine.specs.States.{slot_with};
@@ -307,51 +305,25 @@ impl Slot {
         Ok(Used::Answered(source.on_lost(sub).is_ok()))
     }
 
-    /// Gives the source offers, at a moment. Answers how many sessions there are, or nothing where the
-    /// source didn't ask.
-    pub fn adopt(
-        &mut self,
-        alloc: Global,
-        relates: &MessageId,
-        offers: &List<Offer>,
-        now: Moment,
-    ) -> Result<Used<Option<u64>>, WorldFault>
-        requires formed { AreFormed self.old.place.rows }
-        ensures slot { OnOk result (self.new ≡ slots.slot_changed self.old (λ end. after_offers end relates.now offers.now now)) }
-        ensures answer { IfOk result (slots.AdoptsAs self.old relates.now offers.now now) }
-    {
-        let fate = self.placed.open(alloc, &self.origin)?;
-        let Some(source) = self.placed.running() else {
-            return Ok(Used::Closed(fate));
-        };
-        match source.adopt(relates, offers, now) {
-            Ok(number) => Ok(Used::Answered(Some(number))),
-            Err(SourceFault::NotAsked) => Ok(Used::Answered(None)),
-            Err(_) => Err(WorldFault::NoMemory),
-        }
-    }
-
-    /// Gives the source the bytes of the answer to a delivery, at a moment. Answers what it heard.
+    /// Gives the source the bytes of an answer, at a moment. Answers what it heard.
     pub fn hear<A: Answers>(
         &mut self,
         alloc: Global,
         answers: &mut A,
-        reply: &ReplyBytes,
+        body: &Bytes,
         now: Moment,
     ) -> Result<Used<Hears>, WorldFault>
         requires formed { AreFormed self.old.place.rows }
-        ensures slot { OnOk result (self.new ≡ slots.slot_changed self.old (λ end. slots.after_reply end reply.now.relates reply.now.reply)) }
-        ensures answer { IfOk result (slots.HearsAs self.old reply.now.relates reply.now.reply) }
+        ensures slot { OnOk result (self.new ≡ slots.slot_changed self.old (slots.after_told (told body.now) (offers_told now body.now) now)) }
+        ensures answer { IfOk result (slots.HearsAs self.old (told body.now) (offers_told now body.now) now) }
         ensures calls { OnOk result (A.calls answers.new ≡ counts.counted (counts.is_open (slot_opened self.old).place) (A.calls answers.old)) }
     {
         let fate = self.placed.open(alloc, &self.origin)?;
         let Some(source) = self.placed.running() else {
             return Ok(Used::Closed(fate));
         };
-        match answers.source_hears(source, reply.bytes(), now) {
-            Ok(hears) => Ok(Used::Answered(hears)),
-            Err(_) => Err(WorldFault::NoMemory),
-        }
+        let hears = answers.source_hears(source, body, now)?;
+        Ok(Used::Answered(hears))
     }
 }
 

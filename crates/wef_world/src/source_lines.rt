@@ -2,17 +2,17 @@
 
 ghost use Rattle.std.specs.Prelude.{◌≡◌, [], IfOk, OnOk};
 ghost use Rattle.wef_event.specs.Unnumbered.{new_event};
-ghost use Rattle.wef_front.specs.Sending.{CanBeSent};
+ghost use Rattle.wef_front.specs.Sending.{CanBeAsked, CanBeSent};
 ghost use Rattle.wef_machine.specs.Kept.{IsKept};
 ghost use Rattle.wef_machine.specs.Sources as steps;
 ghost use Rattle.wef_machine.specs.States as states;
-ghost use Rattle.wef_machine.specs.declared.messages.Message.TheVariants.{Events};
+ghost use Rattle.wef_machine.specs.declared.messages.Message.TheVariants.{Ask, Events};
 ghost use Rattle.wef_world.specs.Polls as polls;
 ghost use Rattle.wef_world.specs.Slots as slots;
 
 use crate::ends::Ends;
 use crate::faults::WorldFault;
-use crate::messages::{Content, DeliveryBytes, Sent};
+use crate::messages::{Content, DeliveryBytes, Sent, WishBytes};
 use crate::places::{Called, Used};
 use crate::printing::{
     fate_line, name_line, pair_line, sent_ask_line, sent_events_line, wrote_line,
@@ -119,6 +119,7 @@ impl Ends {
         source: &SourceName,
         asked: Used<Option<MessageId>>,
     ) -> Result<Text, WorldFault>
+        requires { polls.CanBeAskedAs source.now asked }
         ensures state { OnOk result (self.new ≡ polls.with_asked self.old source.now asked) }
         ensures printed { IfOk result (λ text. text ≡ polls.asked_line source.now (states.next_number self.old) asked) }
     {
@@ -126,7 +127,7 @@ impl Ends {
             Used::Closed(fate) => Ok(fate_line(self.alloc, fate, source.as_text().as_str())?),
             Used::Answered(None) => Ok(name_line("spent", source.as_text())?),
             Used::Answered(Some(id)) => {
-                let number = self.send(Sent::of(source.clone()?, Content::Ask(id)))?;
+                let number = self.send_ask(source, &id)?;
                 Ok(sent_ask_line(number, source)?)
             }
         }
@@ -184,6 +185,16 @@ impl Ends {
             Used::Answered(true) => Ok(Text::new(self.alloc)),
             Used::Answered(false) => Ok(pair_line("unknown", source.as_text(), sub.as_text())?),
         }
+    }
+
+    /// Sends an ask as its bytes, and answers its number.
+    fn send_ask(&mut self, source: &SourceName, id: &MessageId) -> Result<u64, AllocError>
+        requires { CanBeAsked (record { source = source.now; id = id.now }) }
+        ensures state { OnOk result (self.new ≡ states.with_message self.old (Ask source.now id.now)) }
+        ensures number { IfOk result (λ number. number ≡ states.next_number self.old) }
+    {
+        let content = Content::Ask(WishBytes::of(self.alloc, source, id)?);
+        self.send(Sent::of(source.clone()?, content))
     }
 
     /// Sends a delivery as its bytes, and answers its number.

@@ -1,20 +1,31 @@
-use Rattle.std.proofs.Common.{length, ap, ◌∙◌, ◌+◌}
-use Rattle.wef_collector.specs.Offers.{offers}
-use Rattle.wef_ids.specs.Ids.{with_drawn}
-use Rattle.wef_machine.specs.Collecting.{reply_id}
-use Rattle.wef_machine.specs.declared.messages.Message.TheVariants.{Offers}
+use Rattle.std.proofs.Common.{ℕ, List, subst}
+use Rattle.wef_base.specs.declared.tree.Charset.TheVariants.{Utf8}
+use Rattle.wef_front.specs.Heard.{Hears}
+use Rattle.wef_front.specs.Replies.{IsAnswer}
+use Rattle.wef_front.specs.declared.hearing.Heard.{Heard}
+use Rattle.wef_front.specs.declared.targets.Target.TheVariants.{Manager}
+use Rattle.wef_world.proofs.Asked.{ask_answered, wish_heard, wish_heard_is}
+use Rattle.wef_world.proofs.Settled.{told_by}
 use Rattle.wef_world.proofs.deliveries.answer_to_ask.Goals as goal
 
-pub returns-in-Ok-clause-ids : goal.returns-in-Ok-clause-ids
-returns-in-Ok-clause-ids c =
-    let stays = c.offers.ensures.looks.opened.0.0.0 in
-    let given = c.in-Ok.ensures.ok ∙ (λ i. offers (stays i) c.args.source.now (c.in_ok-host.ensures.value i)) in
-    let count = c.len.ensures ∙ ap length given in
-    c.in_ok-id-in-Ok.ensures.ids ∙ (λ i. with_drawn (count i + 1) (c.offers.ensures.ids i))
+pub returns-clause-ids : goal.returns-clause-ids
+returns-clause-ids g c =
+    let wish = c.args.wish.now in
+    let heard = c.in_ok-collector_answer.ensures.answer in
+    let can = c.bytes-body.ensures.asked in
+    let hears = subst (λ (bytes : List ℕ). Hears Manager Utf8 bytes heard.0) c.bytes-body.ensures.value heard.1 in
+    let Answers : List ℕ → Heard → Type 0 =
+    λ at h. IsAnswer at h Utf8 c.args.now c.in_ok-collector_answer.field-0 c.args.collector.now.ids c.collector_answer.new.collector.ids (told_by c.args.collector.now.keeper) (told_by c.collector_answer.new.collector.keeper) in
+    let is = subst (λ (at : List ℕ). Answers at (wish_heard wish)) c.in_ok-host.ensures.value (subst (Answers c.in_ok-host.host) (wish_heard_is wish heard.0 can hears) heard.2) in
+    (ask_answered wish c.args.collector.now c.collector_answer.new.collector c.args.now c.in_ok-collector_answer.field-0 can c.requires is).ids_are
 
-pub returns-in-Ok-clause-answer : goal.returns-in-Ok-clause-answer
-returns-in-Ok-clause-answer c =
-    let stays = c.offers.ensures.looks.opened.0.0.0 in
-    let given = c.in-Ok.ensures.ok ∙ (λ i. offers (stays i) c.args.source.now (c.in_ok-host.ensures.value i)) in
-    let id = c.in_ok-id-in-Ok.ensures.id ∙ ap reply_id c.offers.ensures.ids in
-    c.of.ensures ∙ (λ i. Offers (c.in_ok-clone-in-Ok-2.ensures i) (id i) (c.in_ok-clone-in-Ok.ensures i) (given i))
+pub returns-clause-answer : goal.returns-clause-answer
+returns-clause-answer g c =
+    let wish = c.args.wish.now in
+    let heard = c.in_ok-collector_answer.ensures.answer in
+    let can = c.bytes-body.ensures.asked in
+    let hears = subst (λ (bytes : List ℕ). Hears Manager Utf8 bytes heard.0) c.bytes-body.ensures.value heard.1 in
+    let Answers : List ℕ → Heard → Type 0 =
+    λ at h. IsAnswer at h Utf8 c.args.now c.in_ok-collector_answer.field-0 c.args.collector.now.ids c.collector_answer.new.collector.ids (told_by c.args.collector.now.keeper) (told_by c.collector_answer.new.collector.keeper) in
+    let is = subst (λ (at : List ℕ). Answers at (wish_heard wish)) c.in_ok-host.ensures.value (subst (Answers c.in_ok-host.host) (wish_heard_is wish heard.0 can hears) heard.2) in
+    (ask_answered wish c.args.collector.now c.collector_answer.new.collector c.args.now c.in_ok-collector_answer.field-0 can c.requires is).gave

@@ -1,0 +1,183 @@
+-- What the collector answers to the bytes of an ask is what the machine says of the ask.
+use Rattle.std.proofs.Common.{◌≡◌, ℕ, zero, suc, ◌+◌, true, false, List, [], length, refl, ap, sym, ◌∙◌, subst, arith}
+use Rattle.std.specs.List.{AllByRecursion}
+use Rattle.std.specs.Prelude.{Some, Result, Ok, Err, IfErr, codes, min}
+use Rattle.wef_base.specs.declared.tree.Charset.TheVariants.{Utf8}
+use Rattle.wef_collector.specs.Calls.{no_effect}
+use Rattle.wef_collector.specs.Offers.{offers}
+use Rattle.wef_collector.specs.declared.collector.Collector.{Collector}
+use Rattle.wef_collector_rows.specs.Forms.{AreFormed}
+use Rattle.wef_collector_rows.specs.declared.faults.CollectorFault as the_fault
+use Rattle.wef_collector_rows.specs.declared.faults.CollectorFault.TheVariants as faults
+use Rattle.wef_envelope.specs.Laws.{IsSpelt}
+use Rattle.wef_eventing.specs.declared.offers.Offer.{Offer}
+use Rattle.wef_front.proofs.EnumeratesAreHeard.{enumerates_are_heard}
+use Rattle.wef_front.proofs.OffersAreHeard.{offers_are_read}
+use Rattle.wef_front.proofs.OneIsHeard.{one_is_heard}
+use Rattle.wef_front.specs.Heard.{Hears}
+use Rattle.wef_front.specs.Replies.{CanBeAnswered, IsAnswer, IsSpeltFor, answer_of, ids_after, ids_behind, offers_bytes}
+use Rattle.wef_front.specs.Sending.{CanBeAsked, Wish, enumerate_bytes}
+use Rattle.wef_front.specs.Steps.{CallsFor, IsAnswered, said_with}
+use Rattle.wef_front.specs.declared.answering.Answer.{Answer}
+use Rattle.wef_front.specs.declared.hearing.Asked.TheVariants.{Enumerate}
+use Rattle.wef_front.specs.declared.hearing.Heard.{Heard}
+use Rattle.wef_front.specs.declared.saying.Said.TheVariants as says
+use Rattle.wef_front.specs.declared.targets.Target.TheVariants.{Manager}
+use Rattle.wef_ids.proofs.PlainIds.{id_text_good}
+use Rattle.wef_ids.specs.Ids.{next_id, with_drawn}
+use Rattle.wef_ids.specs.declared.MessageId.{MessageId}
+use Rattle.wef_ids.specs.declared.ids.Ids.{Ids}
+use Rattle.wef_keeper.specs.Rows.{Rows}
+use Rattle.wef_keeper.specs.declared.keys.Change.{Change}
+use Rattle.wef_keeper.specs.declared.mem_keeper.MemKeeper.{MemKeeper}
+use Rattle.wef_machine.specs.Collecting.{collector_opened, reply_id}
+use Rattle.wef_machine.specs.States as machine
+use Rattle.wef_machine.specs.States.{host}
+use Rattle.wef_machine.specs.declared.messages.Message.{Message}
+use Rattle.wef_machine.specs.declared.messages.Message.TheVariants as sent
+use Rattle.wef_world.proofs.Answered.{running_place}
+use Rattle.wef_world.proofs.Said.{answered_is}
+use Rattle.wef_world.proofs.Settled.{told_by}
+use Rattle.wef_world.specs.Answered.{CanOffer, HasOffered}
+use Rattle.wef_world.specs.Bytes.{AreOffers, answered}
+use Rattle.wef_world.specs.Collected.{collector_of}
+use Rattle.wef_world.specs.Messages.{offers_message}
+use Rattle.wef_world.specs.Outcomes.{asked_by, asked_of}
+use Rattle.wef_world.specs.Places.{end_in, running_with}
+use Rattle.wef_world.specs.declared.deliveries.Taken.{Taken}
+use Rattle.wef_world.specs.declared.places.Placed.{Placed}
+
+-- ---- what is heard
+
+-- what is heard of an ask
+abbrev pub wish_heard : Wish → Heard
+wish_heard wish = record { relates = Some wish.id; asked = Enumerate wish.source }
+
+pub wish_heard_is : (wish : Wish) (heard : Heard) → CanBeAsked wish → Hears Manager Utf8 (enumerate_bytes host wish.source wish.id) heard → heard ≡ wish_heard wish
+wish_heard_is wish heard can hears =
+    one_is_heard Manager Utf8 (enumerate_bytes host wish.source wish.id) heard (wish_heard wish) hears
+    (enumerates_are_heard host wish.source wish.id (omega arith, refl) can.utf8 can.named can.spelt can.id)
+
+-- ---- ids that are drawn
+
+one_more : (drawn k : ℕ) → min (min (drawn + suc k) 18446744073709551615 + 1) 18446744073709551615 ≡ min (drawn + suc (suc k)) 18446744073709551615
+one_more drawn k = omega arith
+
+drawn_behind : (n k : ℕ) (ids : Ids) → ids_after n (with_drawn (suc k) ids) ≡ with_drawn (suc (n + k)) ids
+drawn_behind zero k ids = let same : k ≡ 0 + k = omega arith in ap (λ (m : ℕ). with_drawn (suc m) ids) same
+drawn_behind (suc n) k ids =
+    let same : n + suc k ≡ suc n + k = omega arith in
+    ap (λ (m : ℕ). ids_after n (record ids { drawn = m })) (one_more ids.drawn k) ∙ drawn_behind n (suc k) ids ∙ ap (λ (m : ℕ). with_drawn (suc m) ids) same
+
+-- so many draws one after the other are that many at once
+drawn_at_once : (n : ℕ) (ids : Ids) → ids_after (suc n) ids ≡ with_drawn (n + 1) ids
+drawn_at_once n ids =
+    let one : suc 0 ≡ 1 = refl in
+    let same : suc (n + 0) ≡ n + 1 = omega arith in
+    drawn_behind n 0 ids ∙ ap (λ (m : ℕ). with_drawn m ids) same
+
+-- ---- what is offered
+
+-- What an ask left and gave.
+pub record Offered (wish : Wish) (ids ids_now : Ids) (rows rows_now : Rows) (answer : Answer) : Type 0 where
+  pub rows_stay : rows_now ≡ rows
+  pub ids_are : ids_now ≡ with_drawn (length (offers rows wish.source host) + 1) ids
+  pub gave : HasOffered wish ids (offers rows wish.source host) answer
+
+-- offering is never refused
+not_refused : (fault : the_fault.CollectorFault) → ◌≡◌ {A = Result (List Change) the_fault.CollectorFault} (Ok []) (Err fault) → ⊥
+not_refused fault e = cc
+
+module _ (wish : Wish) (end end' : Collector MemKeeper) (now : ℕ) (answer : Answer) (can : CanBeAsked wish) (formed : AreFormed end.keeper.rows)
+    (is : IsAnswer host (wish_heard wish) Utf8 now answer end.ids end'.ids (told_by end.keeper) (told_by end'.keeper)) where
+  by_done : (done : Result (List Offer) the_fault.CollectorFault) → CallsFor (λ rows. offers rows wish.source host) no_effect done (told_by end.keeper) (told_by end'.keeper) → IfErr done IsAnswered
+      → is.said ≡ said_with says.Offers done → Offered wish end.ids end'.ids end.keeper.rows end'.keeper.rows answer
+  by_done (Ok list) call answered said =
+      let list_is : list ≡ offers end.keeper.rows wish.source host = call.did.answer.1 in
+      let said_is : is.said ≡ says.Offers (offers end.keeper.rows wish.source host) = said ∙ ap says.Offers list_is in
+      record {
+        rows_stay = call.did.answer.0;
+        ids_are = is.drawn ∙ ap (ids_behind end.ids) said_is ∙ drawn_at_once (length (offers end.keeper.rows wish.source host)) end.ids;
+        gave = record {
+          asked = can;
+          written = is.written ∙ ap (answer_of end.ids Utf8 (Some wish.id)) said_is;
+          spelt = subst (IsSpeltFor end.ids) said_is is.spelt;
+        };
+      }
+  by_done (Err faults.Failed) call answered said = let never : true ≡ false = (call.did.planned formed).0 in absurd (no never)
+    where
+      no : true ≡ false → ⊥
+      no e = cc
+  by_done (Err faults.NoMemory) call answered said = absurd answered
+  by_done (Err faults.Exists) call answered said = absurd answered
+  by_done (Err faults.TooMany) call answered said = absurd answered
+  by_done (Err faults.Full) call answered said = absurd answered
+  by_done (Err faults.NoSubscription) call answered said = absurd (not_refused faults.NoSubscription call.did.answer.0)
+  by_done (Err faults.Ended) call answered said = absurd (not_refused faults.Ended call.did.answer.0)
+  by_done (Err faults.NotWellFormed) call answered said = absurd (not_refused faults.NotWellFormed call.did.answer.0)
+
+  pub ask_answered : Offered wish end.ids end'.ids end.keeper.rows end'.keeper.rows answer
+  ask_answered = by_done is.stepped.0 is.stepped.1 is.stepped.2 is.stepped.3
+
+-- ---- the message
+
+-- the bytes that are written for offers are those of an answer with offers
+can_be_answered : (wish : Wish) (ids : Ids) (rows : Rows) (answer : Answer) → HasOffered wish ids (offers rows wish.source host) answer → CanOffer rows wish.source
+    → CanBeAnswered (reply_id ids) wish.id (offers rows wish.source host)
+can_be_answered wish ids rows answer gave can = record {
+  id = gave.spelt.0;
+  id_text = id_text_good (next_id ids);
+  relates = gave.asked.spelt;
+  relates_text = gave.asked.id;
+  nested = subst (λ (nested : List MessageId). AllByRecursion IsSpelt nested) (sym (offers_are_read.nested ids (offers rows wish.source host))) gave.spelt.1;
+  plain = can.0;
+  stand = can.1;
+}
+
+bytes_of : (wish : Wish) (ids : Ids) (rows : Rows) (answer : Answer) → HasOffered wish ids (offers rows wish.source host) answer → answer.body ≡ offers_bytes (reply_id ids) wish.id (offers rows wish.source host)
+bytes_of wish ids rows answer gave = ap (λ (a : Answer). a.body) gave.written ∙ offers_are_read.written ids wish.id (offers rows wish.source host)
+
+pub offers_written : (wish : Wish) (ids : Ids) (rows : Rows) (answer : Answer) → HasOffered wish ids (offers rows wish.source host) answer → CanOffer rows wish.source → AreOffers answer.body
+offers_written wish ids rows answer gave can = record {
+  said = record { id = reply_id ids; relates = wish.id; offers = offers rows wish.source host };
+  can_be_answered = can_be_answered wish ids rows answer gave can;
+  bytes_are = bytes_of wish ids rows answer gave;
+}
+
+pub offers_say : (wish : Wish) (ids : Ids) (rows : Rows) (answer : Answer) → HasOffered wish ids (offers rows wish.source host) answer → CanOffer rows wish.source
+    → answered answer.body ≡ record { id = reply_id ids; relates = wish.id; offers = offers rows wish.source host }
+offers_say wish ids rows answer gave can =
+    ap answered (bytes_of wish ids rows answer gave) ∙ answered_is (reply_id ids) wish.id (offers rows wish.source host) (can_be_answered wish ids rows answer gave can)
+
+-- ---- the collector in its place
+
+-- what is known of an opened collector that runs
+record Runs (c : machine.Collector) (end : Collector MemKeeper) : Type 0 where
+  rows : end.keeper.rows ≡ (collector_opened c).rows
+  memory : Some end.ids ≡ (collector_opened c).memory
+
+runs_so : (c : machine.Collector) (placed : Placed (Collector MemKeeper)) (end : Collector MemKeeper) → collector_of placed ≡ collector_opened c → Some end ≡ end_in placed.place → Runs c end
+runs_so c placed end opened there =
+    let runs : running_with placed.armed end ≡ placed = sym (λ i. record { place = running_place placed.place end there i; armed = placed.armed }) in
+    record {
+      rows = ap (λ (p : Placed (Collector MemKeeper)). (collector_of p).rows) runs ∙ ap (λ (p : machine.Collector). p.rows) opened;
+      memory = ap (λ (p : Placed (Collector MemKeeper)). (collector_of p).memory) runs ∙ ap (λ (p : machine.Collector). p.memory) opened;
+    }
+
+-- what it offers can be written
+can_offer : (c : machine.Collector) (end : Collector MemKeeper) (wish : Wish) (s : List ℕ) → Runs c end → wish.source ≡ s → CanOffer (collector_opened c).rows s → CanOffer end.keeper.rows wish.source
+can_offer c end wish s runs own can = subst (λ (p : Rows × List ℕ). CanOffer p.0 p.1) (sym (λ i. (runs.rows i, own i))) can
+
+pub ask_written : (c : machine.Collector) (placed : Placed (Collector MemKeeper)) (end : Collector MemKeeper) (wish : Wish) (s : List ℕ) (answer : Answer) → collector_of placed ≡ collector_opened c → Some end ≡ end_in placed.place
+    → wish.source ≡ s → CanOffer (collector_opened c).rows s → HasOffered wish end.ids (offers end.keeper.rows wish.source host) answer → AreOffers answer.body
+ask_written c placed end wish s answer opened there own can gave =
+    offers_written wish end.ids end.keeper.rows answer gave (can_offer c end wish s (runs_so c placed end opened there) own can)
+
+pub ask_taken : (c : machine.Collector) (placed : Placed (Collector MemKeeper)) (end : Collector MemKeeper) (wish : Wish) (s : List ℕ) (answer : Answer) (word : List ℕ) (message : Message) → collector_of placed ≡ collector_opened c
+    → Some end ≡ end_in placed.place → wish.source ≡ s → CanOffer (collector_opened c).rows s → HasOffered wish end.ids (offers end.keeper.rows wish.source host) answer → word ≡ codes "offers"
+    → message ≡ offers_message s (answered answer.body) → ◌≡◌ {A = Taken} (record { word = word; answer = Some message }) (asked_of c s wish.id)
+ask_taken c placed end wish s answer word message opened there own can gave said is =
+    let runs = runs_so c placed end opened there in
+    let says = offers_say wish end.ids end.keeper.rows answer gave (can_offer c end wish s runs own can) in
+    (λ i. record { word = said i; answer = Some ((is ∙ ap (offers_message s) says ∙ (λ j. sent.Offers s (reply_id end.ids) wish.id (offers (runs.rows j) (own j) host))) i) })
+    ∙ ap (asked_by c s wish.id) runs.memory
