@@ -2,6 +2,7 @@
 
 use std::alloc::{AllocError, Global};
 use wef_base::{Bytes, List, MemSink, MemSource, Text};
+use wef_keeper::MemKeeper;
 
 /// A line that adds a subscription, and prints `added base`.
 pub const BASE: &str = "subscribe base 20 512000 900000 all application c\n";
@@ -27,7 +28,14 @@ pub(crate) fn ran(
     let mut input = MemSource::of(Bytes::from_slice(alloc, schedule)?, failing_reads);
     let mut out = MemSink::of(alloc, failing_writes);
     let mut err = MemSink::of(alloc, List::new(alloc));
-    let status = wef_cli::run(alloc, words.as_slice(), &mut input, &mut out, &mut err);
+    let (_, status) = wef_cli::run(
+        alloc,
+        words.as_slice(),
+        MemKeeper::new(alloc),
+        &mut input,
+        &mut out,
+        &mut err,
+    );
     Ok(Outcome { status, out, err })
 }
 

@@ -1,12 +1,13 @@
--- Why a run ends as its schedule calls for.
+-- Why a run ends as its schedule calls for, and why it says that its store failed.
 use Rattle.std.proofs.Common.{◌≡◌, ℕ, List, refl, ap, sym, subst, inl, inr}
-use Rattle.std.specs.Prelude.{Option, Some, IfSome, Result}
+use Rattle.std.specs.Prelude.{◌⊎◌, Option, Some, IfSome, Result}
 use Rattle.std.specs.declared.result.Result.TheVariants.{Ok, Err}
 use Rattle.wef_replay.specs.Schedule.{schedule_of}
 use Rattle.wef_replay.specs.declared.lines.Line.{Line}
 use Rattle.wef_replay.specs.declared.schedule.ScheduleFault as fault
 use Rattle.wef_cli.specs.Complete.{EndsAsCalledFor, ending_for}
-use Rattle.wef_cli.specs.Endings.{IsBadAt, IsTooLong, Told, WroteTrail}
+use Rattle.wef_cli.specs.Endings.{HasFailed, IsBadAt, IsToldAs, IsTooLong, ReplayEnds, Told, WroteTrail}
+use Rattle.wef_cli.specs.declared.ending.Ending.{Ending}
 use Rattle.wef_cli.specs.declared.ending.Ending.TheVariants as ends
 
 told_at : (told : Option (List ℕ)) (bytes : List ℕ) (P : List ℕ → Type 0) → told ≡ Some bytes → IfSome told P → P bytes
@@ -16,11 +17,20 @@ was_good : (out : Told) (schedule : Result (List Line) fault.ScheduleFault) → 
 was_good out (Ok lines) h = refl
 was_good out (Err e) h = absurd h
 
+ends_so : (ending : Ending) (input out : Told) (bytes : List ℕ) → ReplayEnds ending input out → input.before ≡ Some bytes
+    → (HasFailed input → ⊥) → (HasFailed out → ⊥) → (ending ≡ ending_for (schedule_of bytes)) ⊎ (ending ≡ ends.NoMemory)
+ends_so ends.Done input out bytes ended told reads writes = inl (was_good out (schedule_of bytes) (told_at input.before bytes (λ b. WroteTrail out (schedule_of b)) told ended.1))
+ends_so (ends.BadLine k) input out bytes ended told reads writes = inl (sym (ap ending_for (told_at input.before bytes (IsBadAt k) told ended.0.1)))
+ends_so ends.TooLong input out bytes ended told reads writes = inl (sym (ap ending_for (told_at input.before bytes IsTooLong told ended.0)))
+ends_so ends.InputFailed input out bytes ended told reads writes = absurd (reads ended.0)
+ends_so ends.OutputFailed input out bytes ended told reads writes = absurd (writes ended.0)
+ends_so ends.NoMemory input out bytes ended told reads writes = inr refl
+ends_so _ input out bytes ended told reads writes = absurd ended
+
+told_so : (ending told goal : Ending) → IsToldAs ending told → (ending ≡ goal) ⊎ (ending ≡ ends.NoMemory) → (told ≡ goal) ⊎ (told ≡ ends.NoMemory)
+told_so ending told goal (inr wanting) is = inr wanting.1
+told_so ending told goal (inl same) is = subst (λ (e : Ending). (e ≡ goal) ⊎ (e ≡ ends.NoMemory)) (sym same) is
+
 pub complete : EndsAsCalledFor
-complete ends.Done input out bytes ended told reads writes = inl (was_good out (schedule_of bytes) (told_at input.before bytes (λ b. WroteTrail out (schedule_of b)) told ended.1))
-complete ends.BadCommand input out bytes ended told reads writes = absurd ended
-complete (ends.BadLine k) input out bytes ended told reads writes = inl (sym (ap ending_for (told_at input.before bytes (IsBadAt k) told ended.0.1)))
-complete ends.TooLong input out bytes ended told reads writes = inl (sym (ap ending_for (told_at input.before bytes IsTooLong told ended.0)))
-complete ends.InputFailed input out bytes ended told reads writes = absurd (reads ended.0)
-complete ends.OutputFailed input out bytes ended told reads writes = absurd (writes ended.0)
-complete ends.NoMemory input out bytes ended told reads writes = inr refl
+complete ending told input out before now bytes ended same input_told reads writes =
+    told_so ending told (ending_for (schedule_of bytes)) same (ends_so ending input out bytes ended.0 input_told reads writes)

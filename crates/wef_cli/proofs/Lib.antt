@@ -1,4 +1,6 @@
+pub mod CallsMade
 pub mod Completing
+pub mod FailuresCaused
 pub mod LinesDone
 pub mod TooLong
 pub mod Written

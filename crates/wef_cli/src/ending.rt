@@ -1,17 +1,19 @@
 //! How a run ends: its status, and the line that it writes to the stream of messages.
 
-ghost use Rattle.std.specs.Prelude.{◌≡◌, IfOk};
+ghost use Rattle.std.specs.Prelude.{◌≡◌, true, false, codes, IfOk};
+ghost use Rattle.std.specs.Fmt.{decimal};
+ghost use Rattle.wef_machine.specs.Printed as printed;
 ghost use Rattle.wef_cli.specs.Endings as spec;
-ghost use Rattle.wef_cli.specs.declared.ending.Ending.TheVariants as the_endings;
 
 use crate::streams::write_whole;
 use std::alloc::{AllocError, Global};
-use wef_base::{Sink, Text};
+use wef_base::{Sink, SubId, Text};
+use wef_documents::Part;
 
 /// How a run ends.
-#[derive(Clone, Copy, Debug, PartialEq, Eq)]
+#[derive(Debug, Drop)]
 pub enum Ending {
-    /// The command is done, and its input was read to its end.
+    /// The command is done, and the input that it has was read to its end.
     Done,
     /// The words are no command line.
     BadCommand,
@@ -19,56 +21,121 @@ pub enum Ending {
     BadLine(u64),
     /// The schedule has more than 16 MiB.
     TooLong,
+    /// The bytes are no document of XML, by what stands at this place, counted in bytes from the start
+    /// of the input; or they are more than 16 MiB, and this is where those end.
+    BadPlace(usize),
+    /// The document is none of a subscription: this element isn't there, or isn't good.
+    BadElement(Part),
     InputFailed,
     OutputFailed,
     NoMemory,
+    /// The store can't be opened, read or written, or holds rows that aren't of their form.
+    StoreFailed,
+    /// There is no subscription of this name.
+    Unknown(SubId),
+    /// The subscription of this name was ended before.
+    Already(SubId),
+    /// There is a subscription of this name, live or ended.
+    Exists(SubId),
+    /// There are as many subscriptions as may be, ended ones counted.
+    TooMany,
+    /// The boot number of the collector is at its greatest.
+    Full,
 }
 
 impl Ending {
     /// The exit status.
-    pub fn status(self) -> u8
-        ensures { result ≡ spec.status_of self }
+    pub fn status(&self) -> u8
+        ensures { result ≡ spec.status_of self.now }
     {
         match self {
             Ending::Done => 0,
             Ending::BadCommand => 2,
             Ending::BadLine(_) => 3,
             Ending::TooLong => 3,
+            Ending::BadPlace(_) => 3,
+            Ending::BadElement(_) => 3,
+            Ending::StoreFailed => 4,
             Ending::InputFailed => 5,
             Ending::OutputFailed => 5,
             Ending::NoMemory => 6,
+            Ending::Unknown(_) => 7,
+            Ending::Already(_) => 7,
+            Ending::Exists(_) => 8,
+            Ending::TooMany => 8,
+            Ending::Full => 8,
         }
     }
 
     /// Writes the message, or as much of it as the stream takes, and answers the ending that is told.
-    /// The text of a bad line is made in memory: where that is wanting, the run ends so, and this is told.
+    /// Some messages are made in memory: where that is wanting, this is told in their place.
     pub fn tell<E: Sink>(self, alloc: Global, err: &mut E) -> Ending
         ensures told { spec.IsToldAs self result }
         ensures message { spec.WroteMessage result
             (record { before = E.taken err.old; after = E.taken err.new; faults_before = E.faults err.old; faults_after = E.faults err.new }) }
     {
-        match self {
-            Ending::BadLine(line) => tell_line(alloc, line, err),
-            _ => {
-                tell_text(self.fixed_message(), err);
+        if !self.is_made() {
+            tell_text(self.fixed_message(), err);
+            return self;
+        }
+        match self.made_message(alloc) {
+            Ok(text) => {
+                tell_text(text.as_str(), err);
                 self
+            }
+            Err(_) => {
+                tell_text(Ending::NoMemory.fixed_message(), err);
+                Ending::NoMemory
             }
         }
     }
 
-    /// The message of an ending that has one of its own; none of a bad line.
-    #[tactic(auto, unfolding(crate::specs::Endings::message_of))]
-    fn fixed_message(self) -> &'static str
-        ensures { spec.HasFixedMessage self → result.now ≡ spec.message_of self }
+    /// Whether the message is made in memory.
+    fn is_made(&self) -> bool
+        ensures { result ≡ spec.is_made self.now }
     {
         match self {
-            Ending::Done => "",
+            Ending::BadLine(_) => true,
+            Ending::BadPlace(_) => true,
+            Ending::BadElement(_) => true,
+            Ending::Unknown(_) => true,
+            Ending::Already(_) => true,
+            Ending::Exists(_) => true,
+            _ => false,
+        }
+    }
+
+    /// The message of an ending whose message isn't made; else none.
+    #[tactic(auto, unfolding(crate::specs::Endings::message_of))]
+    fn fixed_message(&self) -> &'static str
+        ensures { spec.is_made self.now ≡ false → result.now ≡ spec.message_of self.now }
+    {
+        match self {
             Ending::BadCommand => "usage: wef COMMAND\n",
-            Ending::BadLine(_) => "",
             Ending::TooLong => "schedule too long\n",
             Ending::InputFailed => "input failed\n",
             Ending::OutputFailed => "output failed\n",
             Ending::NoMemory => "no memory\n",
+            Ending::StoreFailed => "store failed\n",
+            Ending::TooMany => "too many\n",
+            Ending::Full => "full\n",
+            _ => "",
+        }
+    }
+
+    /// The message of an ending whose message is made; else none.
+    #[tactic(auto, unfolding(crate::specs::Endings::message_of))]
+    fn made_message(&self, alloc: Global) -> Result<Text, AllocError>
+        ensures { IfOk result (λ text. spec.is_made self.now ≡ true → text ≡ spec.message_of self.now) }
+    {
+        match self {
+            Ending::BadLine(line) => numbered_line(alloc, "line ", *line),
+            Ending::BadPlace(at) => numbered_line(alloc, "place ", *at as u64),
+            Ending::BadElement(part) => element_line(alloc, *part),
+            Ending::Unknown(name) => name_line("unknown", name),
+            Ending::Already(name) => name_line("already", name),
+            Ending::Exists(name) => name_line("exists", name),
+            _ => Ok(Text::new(alloc)),
         }
     }
 }
@@ -82,31 +149,56 @@ fn tell_text<E: Sink>(text: &str, err: &mut E)
     let _ = write_whole(err, text.as_bytes());
 }
 
-/// Writes which line isn't good, or that memory is wanting for the text.
-#[tactic(auto, unfolding(crate::specs::Endings::message_of))]
-fn tell_line<E: Sink>(alloc: Global, line: u64, err: &mut E) -> Ending
-    ensures told { spec.IsToldAs (the_endings.BadLine line) result }
-    ensures message { spec.WroteMessage result
-        (record { before = E.taken err.old; after = E.taken err.new; faults_before = E.faults err.old; faults_after = E.faults err.new }) }
+/// What isn't understood, by its number.
+#[tactic(auto, unfolding(crate::specs::Endings::not_understood))]
+fn numbered_line(alloc: Global, word: &str, number: u64) -> Result<Text, AllocError>
+    ensures { IfOk result (λ text. text ≡ spec.not_understood word.now (decimal number)) }
 {
-    match line_text(alloc, line) {
-        Ok(text) => {
-            tell_text(text.as_str(), err);
-            Ending::BadLine(line)
-        }
-        Err(_) => {
-            tell_text(Ending::NoMemory.fixed_message(), err);
-            Ending::NoMemory
-        }
+    let mut text = Text::from_str(alloc, word)?;
+    text.push_number(number)?;
+    text.push_str(": not understood\n")?;
+    Ok(text)
+}
+
+/// Which element isn't understood.
+#[tactic(auto, unfolding(crate::specs::Endings::not_understood))]
+fn element_line(alloc: Global, part: Part) -> Result<Text, AllocError>
+    ensures { IfOk result (λ text. text ≡ spec.not_understood (codes "element ") (spec.part_name part)) }
+{
+    let mut text = Text::from_str(alloc, "element ")?;
+    text.push_str(part_name(part))?;
+    text.push_str(": not understood\n")?;
+    Ok(text)
+}
+
+#[tactic(auto, unfolding(crate::specs::Endings::part_name))]
+fn part_name(part: Part) -> &'static str
+    ensures { result.now ≡ spec.part_name part }
+{
+    match part {
+        Part::Subscription => "Subscription",
+        Part::SubscriptionId => "SubscriptionId",
+        Part::SubscriptionType => "SubscriptionType",
+        Part::Enabled => "Enabled",
+        Part::Delivery => "Delivery",
+        Part::MaxItems => "MaxItems",
+        Part::Heartbeat => "Heartbeat",
+        Part::MaxEnvelopeSize => "MaxEnvelopeSize",
+        Part::Expires => "Expires",
+        Part::Query => "Query",
+        Part::Address => "Address",
+        Part::Version => "Version",
     }
 }
 
-#[tactic(auto, unfolding(crate::specs::Endings::bad_line_text))]
-fn line_text(alloc: Global, line: u64) -> Result<Text, AllocError>
-    ensures { IfOk result (λ text. text ≡ spec.bad_line_text line) }
+/// A word and the name of a subscription, as lines of the program show it.
+#[tactic(auto, unfolding(wef_machine::specs::Printed::name_line))]
+pub fn name_line(word: &str, name: &SubId) -> Result<Text, AllocError>
+    ensures { IfOk result (λ text. text ≡ printed.name_line word.now name.now) }
 {
-    let mut text = Text::from_str(alloc, "line ")?;
-    text.push_number(line)?;
-    text.push_str(": not understood\n")?;
+    let mut text = Text::from_str(name.as_text().alloc(), word)?;
+    text.push_str(" ")?;
+    text.push_printed(name.as_text())?;
+    text.push_str("\n")?;
     Ok(text)
 }

@@ -1,10 +1,14 @@
-//! The program `wef`, but for the real streams: a command line, an input, an output and a place for
-//! messages, and the one call that does all of it.
+//! The program `wef`, but for the real streams and the real store: a command line, a keeper of rows, an
+//! input, an output and a place for messages, and the one call that does all of it.
 #![tactic(auto)]
 
+mod adding;
+mod calling;
 mod command;
 mod ending;
 pub mod laws;
+mod listing;
+mod removing;
 mod runs;
 mod streams;
 mod top;

@@ -1,57 +1,89 @@
 //! The one call that does all of it.
 
-ghost use Rattle.std.specs.Prelude.{◌≡◌, IfOk, IfErr};
+ghost use Rattle.std.specs.Prelude.{◌≡◌, Some, IfOk, IfErr};
 ghost use Rattle.wef_replay.specs.Good.{AreGood, no_names};
 ghost use Rattle.wef_cli.specs.Command.{command_of};
-ghost use Rattle.wef_cli.specs.Endings.{EndsReading, HasLines, Told, ReplayEnds, RunEnds, WroteMessage, status_of};
+ghost use Rattle.wef_cli.specs.Endings.{EndsReading, HasLines, IsToldAs, Told, ReplayEnds, WroteMessage, status_of};
+ghost use Rattle.wef_cli.specs.Runs.{RunEnds};
 ghost use Rattle.wef_cli.specs.declared.ending.Ending as the_ending;
 
+use crate::adding::add;
 use crate::command::Command;
 use crate::ending::Ending;
+use crate::listing::list;
+use crate::removing::remove;
 use crate::runs::{RunFault, run_lines};
 use crate::streams::{InputFault, read_whole};
 use std::alloc::Global;
 use wef_base::{List, Sink, Source, Text};
+use wef_keeper::Keeper;
 use wef_replay::{Line, ScheduleFault, read_schedule};
 
-/// Runs `wef` with the words that follow the program's name, and answers its exit status.
+/// Runs `wef` with the words that follow the program's name, and answers the keeper that it was handed
+/// and the exit status.
 ///
-/// The one command is `replay`: it reads a schedule to its end, checks it whole, does its lines and
-/// writes what they print as it is made. Each state on the way is kept, and so it is safe. What ended
-/// the run is told in one line to `err`, or in as much of it as `err` takes. Status 6 alone comes free:
-/// for want of memory, also for the text that tells of a bad line.
-pub fn run<I: Source, O: Sink, E: Sink>(
+/// `replay` reads a schedule to its end, checks it whole, does its lines and writes what they print as
+/// it is made. Each state on the way is kept, and so it is safe. It leaves the keeper alone. `add` adds
+/// the subscription of a document to what the keeper keeps, `remove NAME` ends one, and `list` writes
+/// which there are. What ended the run is told in one line to `err`, or in as much of it as `err`
+/// takes. Status 6 alone comes free: for want of memory, also for the text that tells how it ended.
+pub fn run<K: Keeper, I: Source, O: Sink, E: Sink>(
     alloc: Global,
     words: &[Text],
+    keeper: K,
     input: &mut I,
     out: &mut O,
     err: &mut E,
-) -> u8
-    ensures { (ending : the_ending.Ending) × (result ≡ status_of ending)
-        × WroteMessage ending
+) -> (K, u8)
+    ensures { (ending : the_ending.Ending) × (told : the_ending.Ending) × IsToldAs ending told × (result.1 ≡ status_of told)
+        × WroteMessage told
         (record { before = E.taken err.old; after = E.taken err.new; faults_before = E.faults err.old; faults_after = E.faults err.new })
         × RunEnds (command_of words.now) ending
         (record { before = I.left input.old; after = I.left input.new; faults_before = I.faults input.old; faults_after = I.faults input.new })
-        (record { before = O.taken out.old; after = O.taken out.new; faults_before = O.faults out.old; faults_after = O.faults out.new }) }
+        (record { before = O.taken out.old; after = O.taken out.new; faults_before = O.faults out.old; faults_after = O.faults out.new })
+        (K.store keeper) (K.store result.0) }
 {
-    let ending = ending_of(alloc, words, input, out);
+    let (keeper, ending) = ending_of(alloc, words, keeper, input, out);
     let told = ending.tell(alloc, err);
-    told.status()
+    (keeper, told.status())
 }
 
-fn ending_of<I: Source, O: Sink>(
+fn ending_of<K: Keeper, I: Source, O: Sink>(
     alloc: Global,
     words: &[Text],
+    keeper: K,
     input: &mut I,
     out: &mut O,
-) -> Ending
-    ensures { RunEnds (command_of words.now) result
+) -> (K, Ending)
+    ensures { RunEnds (command_of words.now) result.1
         (record { before = I.left input.old; after = I.left input.new; faults_before = I.faults input.old; faults_after = I.faults input.new })
-        (record { before = O.taken out.old; after = O.taken out.new; faults_before = O.faults out.old; faults_after = O.faults out.new }) }
+        (record { before = O.taken out.old; after = O.taken out.new; faults_before = O.faults out.old; faults_after = O.faults out.new })
+        (K.store keeper) (K.store result.0) }
 {
     match Command::read(words) {
-        None => Ending::BadCommand,
-        Some(Command::Replay) => replay(alloc, input, out),
+        Ok(Some(command)) => act(alloc, command, keeper, input, out),
+        Ok(None) => (keeper, Ending::BadCommand),
+        Err(_) => (keeper, Ending::NoMemory),
+    }
+}
+
+fn act<K: Keeper, I: Source, O: Sink>(
+    alloc: Global,
+    command: Command,
+    keeper: K,
+    input: &mut I,
+    out: &mut O,
+) -> (K, Ending)
+    ensures { RunEnds (Some command) result.1
+        (record { before = I.left input.old; after = I.left input.new; faults_before = I.faults input.old; faults_after = I.faults input.new })
+        (record { before = O.taken out.old; after = O.taken out.new; faults_before = O.faults out.old; faults_after = O.faults out.new })
+        (K.store keeper) (K.store result.0) }
+{
+    match command {
+        Command::Replay => (keeper, replay(alloc, input, out)),
+        Command::Add => add(alloc, keeper, input, out),
+        Command::Remove(name) => remove(alloc, keeper, name, out),
+        Command::List => list(alloc, keeper, out),
     }
 }
 

@@ -1,7 +1,7 @@
 use Rattle.std.proofs.Common.{append_assoc}
-use Rattle.wef_cli.specs.Endings.{bad_line_text}
-use Rattle.wef_cli.proofs.ending.line_text.Goals as goal
+use Rattle.wef_cli.specs.Endings.{not_understood}
+use Rattle.wef_cli.proofs.ending.numbered_line.Goals as goal
 
 pub returns : goal.returns
-unfolding bad_line_text
+unfolding not_understood
 returns c = rw (c.in_ok-push_str.ensures.ok, c.in_ok-push_number.ensures.ok, c.in_ok-text.ensures) (simp append_assoc)
