@@ -7,6 +7,8 @@ mod answers;
 #[cfg(test)]
 mod collectors;
 #[cfg(test)]
+mod commands;
+#[cfg(test)]
 mod doubting;
 #[cfg(test)]
 mod failing;
