@@ -7,7 +7,8 @@ pub fn runs_are_complete()
     ensures { EndsAsCalledFor }
 {}
 
-/// A store is said to fail only where it did, or where what it holds isn't of its form.
+/// A store that tells its rows is said to fail only where its count of faults rose in the run, or where
+/// rows aren't of their form.
 pub fn failed_stores_have_causes()
     ensures { FailsWithCause }
 {}
