@@ -1,6 +1,6 @@
 -- Instants in the proleptic Gregorian calendar (XML Schema part 2, 3.2.7, of the years 0001 to 9999).
 use Rattle.std.specs.Prelude.{option_map, ℕ, ◌+◌, ◌*◌, nat_le, Bool, ◌&&◌, List, [], take, drop, codes, ℤ, pos, neg_ℤ, ◌+ℤ◌, ◌-ℤ◌, ◌*ℤ◌, Option, Some, None, Result, if◌then◌else◌}
-use Rattle.std.specs.declared.result.Result.TheVariants.{Ok, Err}
+use Rattle.std.specs.Option.{ok_or}
 use Rattle.jiff_core.specs.Calendar.{days_from_civil, days_in_month}
 use Rattle.wef_base.specs.Names.{trimmed}
 use Rattle.wef_base.specs.declared.names.ValueFault.{ValueFault}
@@ -54,12 +54,16 @@ zone_in cs =
     else None
 
 -- the nanoseconds since the beginning of 1970 in UTC, of a date and time, a fraction and a zone
-abbrev pub instant_of : Option ℤ → Option ℕ → Option ℤ → Result ℤ ValueFault
-instant_of (Some begin) (Some nanos) (Some ahead) = Ok (begin +ℤ pos nanos -ℤ ahead)
-instant_of (Some begin) (Some nanos) None = Err NotAMoment
-instant_of (Some begin) None ahead = Err NotAMoment
-instant_of None nanos ahead = Err NotAMoment
+abbrev pub instant_of : Option ℤ → Option ℕ → Option ℤ → Option ℤ
+instant_of (Some begin) (Some nanos) (Some ahead) = Some (begin +ℤ pos nanos -ℤ ahead)
+instant_of (Some begin) (Some nanos) None = None
+instant_of (Some begin) None ahead = None
+instant_of None nanos ahead = None
 
--- the instant that a text is, trimmed: a date and a time in 19 characters, perhaps a point and one to nine decimals, and perhaps a zone
+-- the instant that characters are: a date and a time in 19 of them, perhaps a point and one to nine decimals, and perhaps a zone
+unfoldable pub instant_at : List ℕ → Option ℤ
+instant_at cs = instant_of (date_and_time_in (take 19 cs)) (fraction_in 9 (drop 19 cs)) (zone_in (behind_fraction (drop 19 cs)))
+
+-- the instant that a text is, trimmed
 unfoldable pub instant_in : List ℕ → Result ℤ ValueFault
-instant_in text = instant_of (date_and_time_in (take 19 (trimmed text))) (fraction_in 9 (drop 19 (trimmed text))) (zone_in (behind_fraction (drop 19 (trimmed text))))
+instant_in text = ok_or (instant_at (trimmed text)) NotAMoment

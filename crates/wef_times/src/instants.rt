@@ -4,7 +4,7 @@ ghost use Rattle.std.specs.Prelude.{◌≡◌, codes, drop, IfSome, neg_ℤ, pos
 ghost use Rattle.std.specs.Option.{option_map};
 ghost use Rattle.jiff_core.specs.Timestamp.{IsDurationNanos};
 ghost use Rattle.wef_times.specs.Forms.{HasField, field, has_form};
-ghost use Rattle.wef_times.specs.Instants.{date_and_time_in, instant_in, instant_of, offset_of, zone_in};
+ghost use Rattle.wef_times.specs.Instants.{date_and_time_in, instant_at, instant_in, instant_of, offset_of, zone_in};
 ghost use Rattle.wef_times.specs.Reading.{Reads};
 
 use crate::calendar::nanos_to;
@@ -20,7 +20,15 @@ pub fn read_instant(text: &Text) -> Result<i128, ValueFault>
     ensures { Reads result (instant_in text.now) }
 {
     let text = text.trimmed()?;
-    let text = text.as_str().as_bytes();
+    instant_at(text.as_str().as_bytes()).ok_or(ValueFault::NotAMoment)
+}
+
+/// The instant that a text without spaces at its ends is, in nanoseconds since the beginning of 1970,
+/// as `read_instant` reads it; none where it is no instant. It takes no memory.
+#[tactic(auto, unfolding(crate::specs::Instants::instant_at))]
+pub fn instant_at(text: &[u8]) -> Option<i128>
+    ensures { result ≡ instant_at text.now }
+{
     let (front, rest) = split(text, 19);
     instant_of(
         date_and_time_in(front),
@@ -37,25 +45,12 @@ fn split(text: &[u8], at: usize) -> (&[u8], &[u8])
     text.split_at(at.min(text.len()))
 }
 
-fn instant_of(
-    begin: Option<i128>,
-    nanos: Option<u64>,
-    ahead: Option<i128>,
-) -> Result<i128, ValueFault>
+fn instant_of(begin: Option<i128>, nanos: Option<u64>, ahead: Option<i128>) -> Option<i128>
     requires begin { IfSome begin IsDurationNanos }
     requires ahead { IfSome ahead IsDurationNanos }
     ensures { result ≡ instant_of begin nanos ahead }
 {
-    let Some(begin) = begin else {
-        return Err(ValueFault::NotAMoment);
-    };
-    let Some(nanos) = nanos else {
-        return Err(ValueFault::NotAMoment);
-    };
-    let Some(ahead) = ahead else {
-        return Err(ValueFault::NotAMoment);
-    };
-    Ok(begin + i128::from(nanos) - ahead)
+    Some(begin? + i128::from(nanos?) - ahead?)
 }
 
 fn date_and_time_in(text: &[u8]) -> Option<i128>

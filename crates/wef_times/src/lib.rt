@@ -10,4 +10,4 @@ pub mod instants;
 
 pub use durations::{read_duration, write_duration};
 pub use expiry::read_expiry;
-pub use instants::read_instant;
+pub use instants::{instant_at, read_instant};
