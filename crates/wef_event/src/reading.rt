@@ -1,7 +1,9 @@
 //! Reading events.
 
-ghost use Rattle.std.specs.Prelude.{◌≡◌, true, false, ◌&&◌, ◌==◌, is_some, IfErr, IfOk, IfSome};
+ghost use Rattle.std.specs.Prelude.{◌≡◌, true, false, ◌&&◌, ◌==◌, is_some, Some, IfErr, IfOk, IfSome};
 ghost use Rattle.wef_base.specs.Names.{same};
+ghost use Rattle.wef_base.specs.declared.tree.Charset.TheVariants.{Utf8};
+ghost use Rattle.wef_tree_reading.specs.Documents.{tree_of};
 ghost use Rattle.wef_xml.specs.Good.{IsGoodTree};
 ghost use Rattle.wef_event.specs.Events as events;
 ghost use Rattle.wef_event.specs.Events.{Finds, Gives, IsEventOf, is_event_root, number_or, text_of_tree};
@@ -43,7 +45,8 @@ pub fn event_of_node(node: &Element) -> Result<Event, EventFault>
 impl Event {
     /// The tree of the event. Each call reads it from the text.
     pub fn tree(&self) -> Result<Element, AllocError>
-        ensures { IfOk result (λ node. IsEventOf self.now node) }
+        ensures event { IfOk result (λ node. IsEventOf self.now node) }
+        ensures text { IfOk result (λ node. tree_of Utf8 self.now.text ≡ Some node) }
     {
         match read_tree(
             self.text.alloc(),
@@ -56,6 +59,13 @@ impl Event {
                 _ => unreachable!(),
             },
         }
+    }
+
+    /// The text says a tree, which the type promises. It does nothing.
+    pub fn has_tree(&self)
+        ensures { is_some (tree_of Utf8 self.now.text) ≡ true }
+    {
+        let _kept = &self.text;
     }
 
     /// The event of this channel and this number whose text this is. None where the text isn't the

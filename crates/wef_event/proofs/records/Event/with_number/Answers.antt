@@ -5,12 +5,12 @@ use Rattle.wef_event.proofs.records.Event.with_number.Goals as goal
 
 pub event_from-requires : goal.event_from-requires
 event_from-requires c =
-    subst IsGoodTree (sym c.in_ok-number_root.ensures) (numbered_good c.args.number c.in_ok-root.root c.requires.greatest c.in_ok-root.ensures.good)
+    subst IsGoodTree (sym c.in_ok-number_root.ensures) (numbered_good c.args.number c.in_ok-root.root c.requires.greatest c.in_ok-root.ensures.event.good)
 
 made : (c : goal.After-drop-root-5) → IsNumbered c.args.self.now c.args.number c.event_from.result
 made c =
     is_numbered c.args.self.now c.in_ok-root.root c.number_root.new.root c.args.number c.event_from.result
-    c.in_ok-root.ensures c.requires.least c.requires.greatest c.in_ok-number_root.ensures c.event_from.ensures
+    c.in_ok-root.ensures.event c.requires.least c.requires.greatest c.in_ok-number_root.ensures c.event_from.ensures
 
 pub returns-clause-given : goal.returns-clause-given
 returns-clause-given c = (made c).given
