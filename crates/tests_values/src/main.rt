@@ -6,7 +6,6 @@
 mod addresses;
 mod batches;
 mod bookmarks;
-mod queries;
 mod query_lists;
 mod tasks;
 mod times;

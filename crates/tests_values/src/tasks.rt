@@ -3,7 +3,6 @@
 use crate::addresses::{push_address, push_named};
 use crate::batches::push_batch;
 use crate::bookmarks::push_bookmarks;
-use crate::queries::push_queries;
 use crate::query_lists::push_document;
 use crate::times::{push_duration, push_expiry, push_instant};
 use std::alloc::{AllocError, Global};
@@ -17,8 +16,6 @@ pub(crate) enum Task {
     Bookmarks,
     /// `batch`: what is told of the batch that words of a schedule spell.
     Batch,
-    /// `queries`: the channels of words `GROUP+CHANNEL` and `GROUP-CHANNEL`, and which are asked for.
-    Queries,
     /// `query list`: the items of a document's list of queries.
     QueryList,
     /// `address of`: where `HOST, SUBSCRIPTION, SOURCE` is sent to.
@@ -37,7 +34,6 @@ pub(crate) enum Task {
 const TASKS: &[(&str, Task)] = &[
     ("bookmarks", Task::Bookmarks),
     ("batch", Task::Batch),
-    ("queries", Task::Queries),
     ("query list", Task::QueryList),
     ("address of", Task::AddressOf),
     ("address", Task::Address),
@@ -65,7 +61,6 @@ impl Task {
         match self {
             Task::Bookmarks => push_bookmarks(shown, line),
             Task::Batch => push_batch(shown, line),
-            Task::Queries => push_queries(shown, line),
             Task::QueryList => Ok(push_document(shown, line)?),
             Task::AddressOf => push_named(shown, line),
             Task::Duration => push_duration(shown, line),

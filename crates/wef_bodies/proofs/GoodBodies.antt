@@ -30,7 +30,7 @@ use Rattle.wef_eventing.proofs.AddressTexts.{printed_text}
 use Rattle.wef_ids.specs.declared.MessageId.{MessageId}
 use Rattle.wef_query.specs.Laws.{HasXmlTexts as HasXmlItem}
 use Rattle.wef_query.specs.Writing.{query_element}
-use Rattle.wef_query.specs.declared.QueryItem.{QueryItem}
+use Rattle.wef_query.specs.Items.{QueryItem}
 use Rattle.wef_query.proofs.WrittenGood.{written_is_good as query_good}
 use Rattle.wef_times.specs.Durations.{duration_text, three_digits}
 use Rattle.wef_xml.specs.Good.{IsGoodElement, IsGoodHead, IsLocalName, IsXmlText}

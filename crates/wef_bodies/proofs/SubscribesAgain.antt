@@ -27,7 +27,7 @@ use Rattle.wef_eventing.proofs.AddressTexts.{printed_text}
 use Rattle.wef_query.specs.Laws.{IsWritable}
 use Rattle.wef_query.specs.Reading.{query_in}
 use Rattle.wef_query.specs.Writing.{query_element}
-use Rattle.wef_query.specs.declared.QueryItem.{QueryItem}
+use Rattle.wef_query.specs.Items.{QueryItem}
 use Rattle.wef_query.proofs.WrittenRead.{written_is_read as query_read}
 use Rattle.wef_times.specs.Durations.{duration_in, duration_text}
 use Rattle.wef_times.specs.Expiry.{expiry_in, expiry_of, until}

@@ -14,7 +14,7 @@ use Rattle.wef_eventing.specs.declared.offers.Subscribe.{Subscribe}
 use Rattle.wef_ids.specs.IdTexts.{id_of}
 use Rattle.wef_ids.specs.declared.MessageId.{MessageId}
 use Rattle.wef_query.specs.Writing.{query_element}
-use Rattle.wef_query.specs.declared.QueryItem.{QueryItem}
+use Rattle.wef_query.specs.Items.{QueryItem}
 use Rattle.wef_times.specs.Durations.{duration_text}
 use Rattle.wef_bodies.specs.Spaces.{anonymous, batches, event_log, event_query, most_elements, subscribe}
 use Rattle.wef_bodies.specs.declared.bodies.Body.{Body}

@@ -23,7 +23,7 @@ use Rattle.wef_documents.proofs.KeptBack.{kept_plain}
 use Rattle.wef_documents.specs.Kept.{read_kept}
 use Rattle.std.proofs.lemmas.Bool.{cond_both}
 use Rattle.wef_query.specs.Laws.{ReadsBack}
-use Rattle.wef_query.specs.declared.QueryItem.{QueryItem}
+use Rattle.wef_query.specs.Items.{QueryItem}
 use Rattle.wef_documents.specs.Written.{document_text}
 use Rattle.wef_eventing.specs.declared.subscriptions.Subscription.{Subscription}
 use Rattle.wef_keeper.proofs.StayFormed.{applied_formed}

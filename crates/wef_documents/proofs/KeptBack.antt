@@ -11,8 +11,8 @@ use Rattle.wef_eventing.specs.Kept.{HasKeptName}
 use Rattle.wef_eventing.specs.Sending.{AreXmlQueries}
 use Rattle.wef_eventing.specs.Subscriptions.{IsAllEvents, channels_named}
 use Rattle.wef_eventing.specs.declared.subscriptions.Subscription.{Subscription}
-use Rattle.wef_query.specs.Laws.{IsWritable, ReadsBack, groups_rise}
-use Rattle.wef_query.specs.Paths.{path_of}
+use Rattle.wef_query.specs.Laws.{IsWritable, ReadsBack}
+use Rattle.wef_query.proofs.SaidPaths.{all_grouped, any_found, any_trimmed}
 use Rattle.wef_query.specs.Queries.{all_events_of}
 use Rattle.wef_times.specs.declared.durations.TheConstants.{LIMIT}
 use Rattle.wef_tree.proofs.BoundPrefixes.{same_self}
@@ -35,14 +35,9 @@ kept_again s names texts plain =
 any_text : (trimmed (codes "*") ≡ codes "*") × IsXmlText (codes "*")
 any_text = printed_text (codes "*") refl
 
-all_grouped : (channels : List (List ℕ)) → groups_rise 0 (all_events_of channels) ≡ true
-all_grouped [] = refl
-all_grouped (c ∷ cs) = all_grouped cs
-
 each_reads : (channels : List (List ℕ)) → AllByRecursion HasKeptName (all_events_of channels) → AllByRecursion ReadsBack (all_events_of channels)
-unfolding path_of
 each_reads [] named = tt
-each_reads (c ∷ cs) named = (record { channel = named.0.reads_back; text = any_text.0; path = refl }, each_reads cs named.1)
+each_reads (c ∷ cs) named = (record { channel = named.0.reads_back; text = any_trimmed; path = any_found }, each_reads cs named.1)
 
 writable : (channels : List (List ℕ)) → 0 < length channels → AllByRecursion HasKeptName (all_events_of channels) → IsWritable (all_events_of channels)
 writable [] some named = absurd (omega arith)

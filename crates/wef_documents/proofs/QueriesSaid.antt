@@ -12,11 +12,11 @@ use Rattle.wef_elements.specs.Children.{elements_in}
 use Rattle.wef_elements.specs.Good.{AreGoodElements}
 use Rattle.wef_elements.proofs.InnerTrees.{inner_good}
 use Rattle.wef_eventing.specs.Kept.{HasKeptName}
-use Rattle.wef_query.specs.Paths.{path_of}
+use Rattle.wef_query_paths.specs.Paths.{path_of}
 use Rattle.wef_query.specs.Reading.{channel_by, channel_of, is_query, is_query_list, is_select, is_suppress, item_of, items_from, items_in, path_said, queries_from, query_in, some_items, text_of, then_on, with_channel, with_item, with_path, with_query}
-use Rattle.wef_query.specs.declared.QueryItem.{QueryItem}
+use Rattle.wef_query.specs.Items.{QueryItem}
 use Rattle.wef_query.specs.declared.QueryList.{QueryList}
-use Rattle.wef_query.specs.declared.path.Path.{Path}
+use Rattle.wef_query_paths.specs.declared.path.Path.{Path}
 use Rattle.wef_query.specs.declared.reading.QueryFault.{QueryFault}
 use Rattle.wef_query.specs.declared.reading.QueryFault.TheVariants.{BadQuery}
 use Rattle.wef_xml.specs.Good.{AreGoodAttributes, IsGoodElement, IsXmlText}

@@ -1,6 +1,6 @@
 -- The lists of queries that are read can be written and read again.
 use Rattle.std.proofs.Common.{◌≡◌, ℕ, zero, suc, ◌+◌, ◌==◌, Bool, true, false, ◌&&◌, ◌||◌, cond, List, [], ◌∷◌, ◌++◌, refl, ap, sym, ◌∙◌, subst, append_assoc, append-nil, length, arith}
-use Rattle.std.specs.Prelude.{Option, Some, None, Ok, Err, Result}
+use Rattle.std.specs.Prelude.{Option, Some, None, Ok, Err, Result, is_some}
 use Rattle.std.specs.List.{AllByRecursion, flat_map}
 use Rattle.std.proofs.lemmas.Bool.{and_from}
 use Rattle.std.proofs.lemmas.Bool.Decides.{nat_tests}
@@ -18,11 +18,11 @@ use Rattle.wef_elements.proofs.InnerTrees.{inner_good}
 use Rattle.wef_eventing.specs.Kept.{HasKeptName}
 use Rattle.wef_eventing.specs.Sending.{AreXmlQueries}
 use Rattle.wef_query.specs.Laws.{IsWritable, ReadsBack, are_grouped, groups_rise}
-use Rattle.wef_query.specs.Paths.{path_of}
+use Rattle.wef_query_paths.specs.Paths.{path_of}
 use Rattle.wef_query.specs.Reading.{channel_by, channel_of, characters_of, is_query, is_query_list, is_select, is_suppress, item_of, items_from, items_in, path_said, queries_from, query_in, some_items, text_of, then_on, with_channel, with_path, with_query}
-use Rattle.wef_query.specs.declared.QueryItem.{QueryItem}
+use Rattle.wef_query.specs.Items.{QueryItem}
 use Rattle.wef_query.specs.declared.QueryList.{QueryList}
-use Rattle.wef_query.specs.declared.path.Path.{Path}
+use Rattle.wef_query_paths.specs.declared.path.Path.{Path}
 use Rattle.wef_query.specs.declared.reading.QueryFault.{QueryFault}
 use Rattle.wef_query.specs.declared.reading.QueryFault.TheVariants.{BadQuery}
 use Rattle.wef_xml.specs.Good.{AreGoodNodes, IsGoodElement, IsGoodNode, IsXmlText}
@@ -57,7 +57,7 @@ text_is e (suc room) good = trimmed_is (flat_map characters_of e.children) (node
 -- what is known of an item that is read
 pub record IsRead (item : QueryItem) : Type 0 where
   pub text : trimmed item.text ≡ item.text
-  pub path : path_of item.text ≡ Some item.path
+  pub path : is_some (path_of item.text) ≡ true
   pub allowed : IsXmlText item.text
 
 record IsOf (group : ℕ) (item : QueryItem) : Type 0 where
@@ -74,10 +74,10 @@ item_read before group around e room item good is = by_name (is_select e || is_s
     text = text_of e
 
     made : (channel : List ℕ) (path : Path) → path_of text ≡ Some path
-        → ◌≡◌ {A = Result QueryItem QueryFault} (Ok (record { group = group; suppress = is_suppress e; channel = channel; text = text; path = path })) (Ok item) → IsOf group item
+        → ◌≡◌ {A = Result QueryItem QueryFault} (Ok (record { group = group; suppress = is_suppress e; channel = channel; text = text })) (Ok item) → IsOf group item
     made channel path found said =
         let trim = text_is e room good in
-        subst (IsOf group) (one_item _ item said) (record { same = refl; is = record { text = trim_stays text trim; path = found; allowed = trim_allowed text trim } })
+        subst (IsOf group) (one_item _ item said) (record { same = refl; is = record { text = trim_stays text trim; path = ap is_some found; allowed = trim_allowed text trim } })
 
     by_path : (channel : List ℕ) (o : Option Path) → path_of text ≡ o → with_path before group (is_suppress e) channel text o ≡ Ok item → IsOf group item
     by_path channel None found said = let bad : ⊥ = cc in absurd bad

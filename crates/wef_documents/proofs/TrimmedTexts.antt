@@ -1,5 +1,5 @@
 -- Texts without spaces at both ends, by their characters.
-use Rattle.std.proofs.Common.{◌≡◌, ℕ, Bool, true, false, not, cond, List, [], ◌∷◌, ◌++◌, encode_utf8_all, refl, ap, sym, ◌∙◌, append_assoc, arith}
+use Rattle.std.proofs.Common.{◌≡◌, ℕ, Bool, true, false, cond, List, [], ◌∷◌, ◌++◌, encode_utf8_all, refl, ap, sym, ◌∙◌, append_assoc, arith}
 use Rattle.std.specs.Prelude.{codes}
 use Rattle.std.specs.List.{list_all}
 use Rattle.std.specs.Str.{all_scalars, chars}
@@ -11,14 +11,10 @@ use Rattle.std.proofs.lemmas.Str.{chars-encodes, encodes-append}
 use lib.Utf8.{encode}
 use Rattle.wef_base.specs.Characters.{is_xml_char}
 use Rattle.wef_base.specs.Names.{is_space, trimmed, trimmed_characters, unless_last_space, without_end, without_start}
+use Rattle.wef_query.proofs.Trimmed.{end_solid, end_twice, start_solid, start_stays, starts_solid}
 use Rattle.wef_base.proofs.Trimmed.{without_end_other}
 use Rattle.wef_xml.specs.Good.{IsXmlText}
 use Rattle.wef_documents.specs.Addresses.{usual_port}
-
--- characters of which the first is no space
-abbrev pub starts_solid : List ℕ → Bool
-starts_solid [] = true
-starts_solid (c ∷ cs) = not (is_space c)
 
 -- a text of characters that XML allows, without spaces at both ends
 pub record IsTrim (text : List ℕ) : Type 0 where
@@ -44,14 +40,6 @@ pub trim_allowed : (text : List ℕ) → IsTrim text → IsXmlText text
 trim_allowed text is = record { characters = is.characters; spelt = is.spelt; allowed = is.allowed }
 
 -- trimming leaves it as it is
-start_stays : (cs : List ℕ) → starts_solid cs ≡ true → without_start cs ≡ cs
-start_stays [] solid = refl
-start_stays (c ∷ cs) solid = by (is_space c) solid
-  where
-    by : (b : Bool) → not b ≡ true → cond b (without_start cs) (c ∷ cs) ≡ c ∷ cs
-    by true e = let bad : ⊥ = cc in absurd bad
-    by false e = refl
-
 pub trim_stays : (text : List ℕ) → IsTrim text → trimmed text ≡ text
 trim_stays text is =
     ap (λ cs. encode_utf8_all (trimmed_characters cs)) (characters_are text is)
@@ -60,38 +48,6 @@ trim_stays text is =
     ∙ sym is.spelt
 
 -- ---- what is trimmed is so
-
-start_solid : (cs : List ℕ) → starts_solid (without_start cs) ≡ true
-start_solid [] = refl
-start_solid (c ∷ cs) = by (is_space c) refl (start_solid cs)
-  where
-    by : (b : Bool) → is_space c ≡ b → starts_solid (without_start cs) ≡ true → starts_solid (cond b (without_start cs) (c ∷ cs)) ≡ true
-    by true e rest = rest
-    by false e rest = ap not e
-
-last_solid : (c : ℕ) (cs : List ℕ) → is_space c ≡ false → starts_solid (unless_last_space c cs) ≡ true
-last_solid c [] e = ap (λ (b : Bool). starts_solid (cond b [] (c ∷ []))) e ∙ ap not e
-last_solid c (d ∷ ds) e = ap not e
-
-end_solid : (cs : List ℕ) → starts_solid cs ≡ true → starts_solid (without_end cs) ≡ true
-end_solid [] solid = refl
-end_solid (c ∷ cs) solid = last_solid c (without_end cs) (negated (is_space c) solid)
-  where
-    negated : (b : Bool) → not b ≡ true → b ≡ false
-    negated true e = let bad : ⊥ = cc in absurd bad
-    negated false e = refl
-
-end_kept : (c : ℕ) (cs : List ℕ) → without_end cs ≡ cs → without_end (unless_last_space c cs) ≡ unless_last_space c cs
-end_kept c [] rest = by (is_space c) refl
-  where
-    by : (b : Bool) → is_space c ≡ b → without_end (cond b [] (c ∷ [])) ≡ cond b [] (c ∷ [])
-    by true e = refl
-    by false e = ap (λ (b : Bool). cond b [] (c ∷ [])) e
-end_kept c (d ∷ ds) rest = ap (unless_last_space c) rest
-
-end_twice : (cs : List ℕ) → without_end (without_end cs) ≡ without_end cs
-end_twice [] = refl
-end_twice (c ∷ cs) = end_kept c (without_end cs) (end_twice cs)
 
 either_allowed : (b : Bool) (cs ds : List ℕ) → list_all is_xml_char cs ≡ true → list_all is_xml_char ds ≡ true → list_all is_xml_char (cond b cs ds) ≡ true
 either_allowed true cs ds first second = first

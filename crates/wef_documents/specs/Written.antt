@@ -10,7 +10,7 @@ use Rattle.wef_eventing.specs.declared.subscriptions.SubKind.{SubKind}
 use Rattle.wef_eventing.specs.declared.subscriptions.SubKind.TheVariants.{BySource, ByCollector}
 use Rattle.wef_eventing.specs.declared.subscriptions.Subscription.{Subscription}
 use Rattle.wef_query.specs.Writing.{query_element}
-use Rattle.wef_query.specs.declared.QueryItem.{QueryItem}
+use Rattle.wef_query.specs.Items.{QueryItem}
 use Rattle.wef_times.specs.Durations.{duration_text}
 use Rattle.wef_xml.specs.Canonical.{canonical, encoded}
 use Rattle.wef_documents.specs.Values.{space}

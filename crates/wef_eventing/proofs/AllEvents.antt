@@ -1,12 +1,11 @@
 -- A subscription that is made for all events is one.
 use Rattle.std.proofs.Common.{◌≡◌, ℕ, ◌<◌, List, [], ◌∷◌, length, map, refl, ap, sym, subst}
-use Rattle.wef_query.specs.declared.QueryItem.{QueryItem}
+use Rattle.wef_query.specs.Items.{QueryItem}
 use Rattle.wef_query.specs.declared.QueryList.{QueryList}
 use Rattle.wef_eventing.specs.declared.subscriptions.SourceAt.{SourceAt}
 use Rattle.wef_eventing.specs.declared.subscriptions.SubKind.TheVariants.{BySource}
 use Rattle.wef_query.specs.Queries.{all_events_of}
-use Rattle.wef_eventing.specs.Subscriptions.{AreLimits, IsAllEvents, all_events, channels_named}
-use Rattle.wef_eventing.specs.declared.subscriptions.Subscription.{Subscription}
+use Rattle.wef_eventing.specs.Subscriptions.{AreLimits, IsAllEvents, all_events}
 
 named : (channels : List (List ℕ)) → map (λ (item : QueryItem). item.channel) (all_events_of channels) ≡ channels
 named [] = refl

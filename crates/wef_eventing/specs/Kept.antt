@@ -2,7 +2,7 @@
 use Rattle.std.specs.Prelude.{◌≡◌, Some}
 use Rattle.std.specs.Str.{IsUtf8}
 use Rattle.wef_base.specs.Names.{channel_name}
-use Rattle.wef_query.specs.declared.QueryItem.{QueryItem}
+use Rattle.wef_query.specs.Items.{QueryItem}
 
 -- The item's channel is kept as channels' names are: it is UTF-8, and reads back as itself.
 pub record HasKeptName (item : QueryItem) : Type 0 where

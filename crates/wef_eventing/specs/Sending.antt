@@ -1,7 +1,7 @@
 -- Offers whose texts can stand in a message.
 use Rattle.std.specs.Prelude.{List, IfSome}
 use Rattle.std.specs.List.{AllByRecursion}
-use Rattle.wef_query.specs.declared.QueryItem.{QueryItem}
+use Rattle.wef_query.specs.Items.{QueryItem}
 use Rattle.wef_xml.specs.Good.{IsXmlText}
 use Rattle.wef_eventing.specs.declared.offers.Offer.{Offer}
 use Rattle.wef_eventing.specs.declared.offers.Subscribe.{Subscribe}

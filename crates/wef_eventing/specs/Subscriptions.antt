@@ -1,7 +1,7 @@
 -- The subscriptions that ask for all events of some channels.
 use Rattle.std.specs.Prelude.{◌≡◌, ℕ, ◌<◌, ◌≤◌, List, [], length, map}
 use Rattle.wef_query.specs.Queries.{all_events_of}
-use Rattle.wef_query.specs.declared.QueryItem.{QueryItem}
+use Rattle.wef_query.specs.Items.{QueryItem}
 use Rattle.wef_eventing.specs.declared.subscriptions.Subscription.{Subscription}
 use Rattle.wef_eventing.specs.declared.subscriptions.SubKind.TheVariants.{BySource}
 

@@ -1,18 +1,21 @@
 -- What a good line says: its subscription reads back from the words that keep it, its batch is sound, and its event may be
 -- written.
-use Rattle.std.proofs.Common.{◌≡◌, ℕ, ◌<◌, ◌≤◌, ◌==◌, Bool, true, false, not, ◌&&◌, cond, List, [], ◌∷◌, length, map, nat_le, nat_lt, refl, ap, sym, ◌∙◌, subst, arith}
+use Rattle.std.proofs.Common.{◌≡◌, ℕ, ◌≤◌, Bool, true, false, ◌&&◌, cond, List, [], ◌∷◌, length, nat_le, nat_lt, refl, sym, ◌∙◌, subst, arith}
 use Rattle.std.proofs.lemmas.Bool.{and_parts}
 use Rattle.std.proofs.lemmas.Bool.Decides.{nat_tests}
-use Rattle.std.proofs.lemmas.List.Elements.{All-nil, All-cons}
 use Rattle.std.proofs.lemmas.Option.{none-some, same_Some}
 use Rattle.std.proofs.lemmas.Str.{IsUtf8-from_is_utf8}
 use Rattle.std.specs.Prelude.{Option, None, Some, is_some}
 use Rattle.std.specs.Cmp.Lexicographic.{slice_cmp}
 use Rattle.std.specs.FinMap as finite
-use Rattle.std.specs.List.{All, AllByRecursion, list_all}
+use Rattle.std.specs.List.{AllByRecursion, list_all}
 use Rattle.std.specs.Ordering.{eq_by_cmp, nat_cmp}
 use Rattle.std.specs.Str.{is_utf8}
-use Rattle.wef_base.specs.Names.{channel_name}
+use Rattle.std.specs.Cmp.Lexicographic.{bytes_decides}
+use Rattle.wef_base.specs.Characters.{is_xml_text}
+use Rattle.wef_base.specs.Names.{channel_name, same, trimmed}
+use Rattle.wef_elements.proofs.GoodTexts.{xml_text}
+use Rattle.wef_eventing.specs.Sending.{AreXmlQueries}
 use Rattle.wef_batch.specs.Numbers.{AreNumbered, IsNumbered}
 use Rattle.wef_batch.specs.declared.items.Batch.{Batch}
 use Rattle.wef_batch.specs.declared.items.Item.{Item}
@@ -24,19 +27,18 @@ use Rattle.wef_event.specs.Events.{Event, IsEventOf, event_limit, is_event}
 use Rattle.wef_event.specs.PlainEvent.{plain_tree}
 use Rattle.wef_event.specs.Unnumbered.{new_event, plain_numbered, plain_numbered_text}
 use Rattle.wef_event.specs.declared.unnumbered.PlainEvent.{PlainEvent}
-use Rattle.wef_documents.proofs.KeptBack.{all_events_again}
+use Rattle.wef_documents.proofs.KeptBack.{kept_again}
 use Rattle.wef_machine.proofs.Offering.{reads_subscription}
-use Rattle.std.proofs.lemmas.List.Elements.{recursion_from_All}
 use Rattle.wef_eventing.specs.Kept.{HasKeptName}
 use Rattle.wef_documents.specs.Kept.{read_kept}
 use Rattle.wef_documents.specs.Written.{document_text}
 use Rattle.wef_eventing.specs.Subscriptions.{AreLimits}
-use Rattle.wef_query.proofs.Unconditional.{unconditional_is}
-use Rattle.wef_query.specs.Queries.{all_events as all_events_query, all_events_of, is_unconditional}
-use Rattle.wef_query.specs.declared.QueryItem.{QueryItem}
+use Rattle.wef_query.specs.Items.{QueryItem, says_path}
+use Rattle.wef_query.specs.Laws.{ReadsBack, are_grouped}
+use Rattle.wef_query_paths.specs.Paths.{path_of}
 use Rattle.wef_query.specs.declared.QueryList.{QueryList}
 use Rattle.wef_replay.proofs.GoodNames.{kept_channel}
-use Rattle.wef_replay.specs.Good.{are_all, are_limits, are_words, asks_for_all, fits_always, has_word, is_between, is_channel, is_count, is_item, is_line, is_no_collector, is_number, is_one, is_reach, is_source, is_subscription}
+use Rattle.wef_replay.specs.Good.{are_limits, are_queries, are_words, fits_always, has_word, is_between, is_channel, is_count, is_item, is_line, is_no_collector, is_number, is_one, is_query, is_query_text, is_reach, is_source, is_subscription}
 use Rattle.wef_replay.specs.declared.lines.Line.TheVariants as lines
 use Rattle.wef_machine.specs.Steps.{subscription_of}
 use Rattle.wef_collector.specs.FormsStay.{IsSoundBatch, IsSoundItem}
@@ -51,52 +53,45 @@ between least greatest n e = let parts = and_parts (nat_le least n) (nat_le n gr
 
 -- ---- a subscription
 
-zero_is : (n : ℕ) → n == 0 ≡ true → n ≡ 0
-zero_is n e = grind (arith, nat_tests, e)
+-- what the test of a query says
+record IsQuery (q : QueryItem) : Type 0 where
+  channel : is_channel q.channel ≡ true
+  utf8 : is_utf8 q.text ≡ true
+  allowed : is_xml_text q.text ≡ true
+  trimmed_text : same (trimmed q.text) q.text ≡ true
+  path : is_some (path_of q.text) ≡ true
 
-not_true : (b : Bool) → not b ≡ true → b ≡ false
-not_true true e = sym e
-not_true false e = refl
+query_is : (q : QueryItem) → is_query q ≡ true → IsQuery q
+query_is q e =
+    let outer = and_parts (is_channel q.channel) (is_query_text q.text) e in
+    let texts = and_parts (is_utf8 q.text && is_xml_text q.text) (says_path q.text) outer.1 in
+    let characters = and_parts (is_utf8 q.text) (is_xml_text q.text) texts.0 in
+    let says = and_parts (same (trimmed q.text) q.text) (is_some (path_of q.text)) texts.1 in
+    record { channel = outer.0; utf8 = characters.0; allowed = characters.1; trimmed_text = says.0; path = says.1 }
 
--- the parts of the test of an item
-item_parts : (q : QueryItem) → asks_for_all q ≡ true → (q.group == 0 ≡ true) × (not q.suppress ≡ true) × (is_channel q.channel ≡ true) × (is_unconditional q ≡ true)
-item_parts q e =
-    let last = and_parts (q.group == 0 && not q.suppress && is_channel q.channel) (is_unconditional q) e in
-    let third = and_parts (q.group == 0 && not q.suppress) (is_channel q.channel) last.0 in
-    let front = and_parts (q.group == 0) (not q.suppress) third.0 in
-    (front.0, front.1, third.1, last.1)
+name_is : (q : QueryItem) → IsQuery q → HasKeptName q
+name_is q is = record {
+  utf8 = IsUtf8-from_is_utf8 q.channel (and_parts (is_utf8 q.channel) (is_one q.channel (channel_name q.channel)) is.channel).0;
+  reads_back = kept_channel q.channel is.channel;
+}
 
-item_is : (q : QueryItem) → asks_for_all q ≡ true → q ≡ all_events_query q.channel
-item_is q e =
-    let parts = item_parts q e in
-    let group = zero_is q.group parts.0 in
-    let keeps = not_true q.suppress parts.1 in
-    let any = unconditional_is q parts.3 in
-    λ i. record { group = group i; suppress = keeps i; channel = q.channel; text = any.0 i; path = any.1 i }
+names_are : (qs : List QueryItem) → list_all is_query qs ≡ true → AllByRecursion HasKeptName qs
+names_are [] e = tt
+names_are (q ∷ qs) e = let parts = and_parts (is_query q) (list_all is_query qs) e in (name_is q (query_is q parts.0), names_are qs parts.1)
 
-items_are : (qs : List QueryItem) → list_all asks_for_all qs ≡ true → qs ≡ all_events_of (map (λ (q : QueryItem). q.channel) qs)
-items_are [] e = refl
-items_are (q ∷ qs) e =
-    let parts = and_parts (asks_for_all q) (list_all asks_for_all qs) e in
-    let own = item_is q parts.0 in
-    let rest = items_are qs parts.1 in
-    λ i. own i ∷ rest i
+queries_read : (qs : List QueryItem) → list_all is_query qs ≡ true → AllByRecursion ReadsBack qs
+queries_read [] e = tt
+queries_read (q ∷ qs) e =
+    let parts = and_parts (is_query q) (list_all is_query qs) e in
+    let is = query_is q parts.0 in
+    (record { channel = (name_is q is).reads_back; text = (bytes_decides (trimmed q.text) q.text).0 is.trimmed_text; path = is.path }, queries_read qs parts.1)
 
-names_are : (qs : List QueryItem) → list_all asks_for_all qs ≡ true → All HasKeptName qs
-names_are [] e = All-nil HasKeptName
-names_are (q ∷ qs) e =
-    let parts = and_parts (asks_for_all q) (list_all asks_for_all qs) e in
-    let channel = (item_parts q parts.0).2 in
-    All-cons HasKeptName q qs
-    (record {
-      utf8 = IsUtf8-from_is_utf8 q.channel (and_parts (is_utf8 q.channel) (is_one q.channel (channel_name q.channel)) channel).0;
-      reads_back = kept_channel q.channel channel;
-    })
-    (names_are qs parts.1)
-
-some_named : (qs : List QueryItem) → length qs == 0 ≡ false → 0 < length (map (λ (q : QueryItem). q.channel) qs)
-some_named [] e = absurd cc
-some_named (q ∷ qs) e = omega arith
+queries_allowed : (qs : List QueryItem) → list_all is_query qs ≡ true → AreXmlQueries qs
+queries_allowed [] e = tt
+queries_allowed (q ∷ qs) e =
+    let parts = and_parts (is_query q) (list_all is_query qs) e in
+    let is = query_is q parts.0 in
+    (xml_text q.text (IsUtf8-from_is_utf8 q.text is.utf8) is.allowed, queries_allowed qs parts.1)
 
 limits_are : (items bytes beat : ℕ) → are_limits items bytes beat ≡ true → AreLimits items bytes beat
 limits_are items bytes beat e =
@@ -105,18 +100,25 @@ limits_are items bytes beat e =
     (between 1 10000 items inner.0, between 8192 4194304 bytes inner.1, between 1 86400000 beat outer.1)
 
 -- the subscription of a good line is read again from its document
-pub all_events : (u : List ℕ) (items bytes beat : ℕ) (query : QueryList) → is_line (lines.Subscribe u items bytes beat query) ≡ true →
+pub subscription_again : (u : List ℕ) (items bytes beat : ℕ) (query : QueryList) → is_line (lines.Subscribe u items bytes beat query) ≡ true →
     read_kept u (document_text (subscription_of u items bytes beat query)) ≡ Some (subscription_of u items bytes beat query)
-all_events u items bytes beat query e =
-    let outer = and_parts (is_subscription u && are_limits items bytes beat) (are_all query.items) e in
+subscription_again u items bytes beat query e =
+    let outer = and_parts (is_subscription u && are_limits items bytes beat) (are_queries query.items) e in
     let inner = and_parts (is_subscription u) (are_limits items bytes beat) outer.0 in
     let name = reads_subscription u inner.0 in
-    let queries = and_parts (not (length query.items == 0)) (list_all asks_for_all query.items) outer.1 in
-    let form = items_are query.items queries.1 in
-    all_events_again (subscription_of u items bytes beat query) (record { utf8 = name.0; name = name.1; query = recursion_from_All HasKeptName query.items (names_are query.items queries.1) }) (record {
-      form = ap (λ (qs : List QueryItem). subscription_of u items bytes beat (record { items = qs })) form;
-      some_channel = some_named query.items (not_true (length query.items == 0) queries.0);
-      limits = limits_are items bytes beat inner.1;
+    let queries = and_parts (are_grouped query.items) (list_all is_query query.items) outer.1 in
+    let limits = limits_are items bytes beat inner.1 in
+    kept_again (subscription_of u items bytes beat query)
+    (record { utf8 = name.0; name = name.1; query = names_are query.items queries.1 })
+    (record { query = queries_allowed query.items queries.1; sources = tt })
+    (record {
+      query = record { grouped = queries.0; each = queries_read query.items queries.1 };
+      max_items = limits.0;
+      max_bytes = limits.1;
+      heartbeat = limits.2;
+      expires = (omega arith, omega arith);
+      sources = refl;
+      version = (omega arith, omega arith);
     })
 
 -- ---- a batch

@@ -12,9 +12,9 @@ use Rattle.wef_bookmark.specs.Order.{number_at}
 use Rattle.wef_event.specs.Events.{Event, is_event}
 use Rattle.wef_event.specs.Numbering.{NumberedEventsAreRead, numbered, numbered_text, text_or_nothing}
 use Rattle.wef_keeper.specs.Rows.{Rows}
-use Rattle.wef_query.specs.Selected.{is_selected}
 use Rattle.wef_query.specs.declared.QueryList.{QueryList}
 use Rattle.wef_source.specs.Building.{built, candidates_in, channel_candidates, fitting, has_room, item_of, room_of, session_channels, sized_item, unread}
+use Rattle.wef_source.specs.Selecting.{is_wanted}
 use Rattle.wef_source.specs.declared.sessions.Session.{Session}
 use Rattle.wef_source_log.specs.Histories.{AreEvents, Histories, History, extended, history, text_at}
 use Rattle.wef_source_log.specs.Laws.{ReadsWindow, numbered_from}
@@ -149,7 +149,7 @@ sized_said room event said = by (nat_lt room (cost (item.Event event)))
     by false = said
 
 item_said : (query : QueryList) (room : ℕ) (event : Event) (i : Item) → IsSaid event → item_of query room event ≡ Some i → IsSaidItem i
-item_said query room event i said e = by (is_selected query.items event.channel) e
+item_said query room event i said e = by (is_wanted query event.channel event.text) e
   where
     by : (b : Bool) → cond b (Some (sized_item room event)) None ≡ Some i → IsSaidItem i
     by true e = subst IsSaidItem (same_Some (sized_item room event) i e) (sized_said room event said)

@@ -18,7 +18,7 @@ use Rattle.wef_event.specs.Unnumbered.{new_event}
 use Rattle.wef_eventing.specs.declared.subscriptions.Subscription.{Subscription}
 use Rattle.wef_keeper.specs.Rows.{key_cmp}
 use Rattle.wef_keeper.specs.declared.keys.Cell.{Cell}
-use Rattle.wef_replay.specs.Good.{are_all, are_limits, is_among, is_between, is_line, is_no_collector, is_source, is_subscription}
+use Rattle.wef_replay.specs.Good.{are_queries, are_limits, is_among, is_between, is_line, is_no_collector, is_source, is_subscription}
 use Rattle.wef_replay.specs.declared.lines.Line.{Line}
 use Rattle.wef_replay.specs.declared.lines.Line.TheVariants.{Subscribe, End, Batch, Source, Write, Ask, Poll, Deliver, Back, Lost, Crash, Fail, Stop, Calm, Show, Print}
 use Rattle.wef_replay.specs.declared.lines.EndName.{EndName}
@@ -38,7 +38,7 @@ use Rattle.wef_machine.specs.declared.arming.Armed.{Armed}
 use Rattle.wef_machine.specs.declared.messages.Message.{Message}
 use Rattle.wef_machine.specs.declared.messages.Message.TheVariants as sent
 use Rattle.wef_machine.proofs.CollectorSteps.{at_collector_keeps, batch_keeps, end_keeps, events_keep, foreign_kept, is_foreign, subscribe_keeps}
-use Rattle.wef_machine.proofs.GoodLines.{all_events, names_source, sound_batch, writable}
+use Rattle.wef_machine.proofs.GoodLines.{subscription_again, names_source, sound_batch, writable}
 use Rattle.wef_machine.proofs.Lower.{Lower}
 use Rattle.wef_machine.proofs.Moves.{from_mapped, kept_declared, kept_reply}
 use Rattle.wef_machine.proofs.Names.{undeclared}
@@ -136,10 +136,10 @@ arm_keeps_end state (ends.Source s) armed kept = arm_keeps state s armed kept
 pub steps_keep : Lower → StepsKeep
 steps_keep lower state (Subscribe u items bytes beat query) kept good =
     let line = (and_parts (is_line (Subscribe u items bytes beat query)) true good).0 in
-    let limits = and_parts (is_subscription u && are_limits items bytes beat) (are_all query.items) line in
+    let limits = and_parts (is_subscription u && are_limits items bytes beat) (are_queries query.items) line in
     let name = (and_parts (is_subscription u) (are_limits items bytes beat) limits.0).0 in
     at_collector_keeps lower state (λ ids. subscribe_at (subscription_of u items bytes beat query)) kept (λ now ids kept_now opened.
-    subscribe_keeps lower now (subscription_of u items bytes beat query) kept_now name (all_events u items bytes beat query line))
+    subscribe_keeps lower now (subscription_of u items bytes beat query) kept_now name (subscription_again u items bytes beat query line))
 steps_keep lower state (End u) kept good = at_collector_keeps lower state (λ ids. end_at u) kept (λ now ids kept_now opened. end_keeps lower now u kept_now)
 steps_keep lower state (Batch u s b) kept good =
     let parts = and_parts (is_line (Batch u s b)) (not (is_among (declared_names state) s)) good in

@@ -1,5 +1,7 @@
+pub mod AllSelected
 pub mod Groups
+pub mod SaidPaths
 pub mod Sorting
-pub mod Unconditional
+pub mod Trimmed
 pub mod WrittenGood
 pub mod WrittenRead

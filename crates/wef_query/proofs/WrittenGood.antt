@@ -14,7 +14,7 @@ use Rattle.wef_xml.specs.Spaces.{is_xmlns}
 use Rattle.wef_xml.proofs.Ascii.{plain_name}
 use Rattle.wef_query.specs.Laws.{HasXmlTexts, WrittenIsGood}
 use Rattle.wef_query.specs.Writing.{group_element, groups_from, groups_of, item_element, item_name, plain}
-use Rattle.wef_query.specs.declared.QueryItem.{QueryItem}
+use Rattle.wef_query.specs.Items.{QueryItem}
 
 -- ---- attributes
 

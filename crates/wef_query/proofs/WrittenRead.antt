@@ -1,6 +1,6 @@
 -- What is written for a list of queries is read as it.
 use Rattle.std.proofs.Common.{◌≡◌, ℕ, suc, ◌+◌, ◌==◌, Bool, true, false, ◌||◌, cond, List, [], ◌∷◌, ◌++◌, length, map, refl, ap, sym, ◌∙◌, append_assoc, append-nil, arith, subst}
-use Rattle.std.specs.Prelude.{codes, Option, Result}
+use Rattle.std.specs.Prelude.{codes, Option, Some, None, Result, is_some}
 use Rattle.std.specs.List.{AllByRecursion, flat_map}
 use Rattle.std.specs.declared.result.Result.TheVariants.{Ok}
 use Rattle.std.proofs.lemmas.Bool.{and_parts}
@@ -13,10 +13,11 @@ use Rattle.wef_elements.specs.Children.{with_attributes}
 use Rattle.wef_elements.specs.Texts.{only_text}
 use Rattle.wef_elements.proofs.Again.{elements_again}
 use Rattle.wef_query.specs.Laws.{ReadsBack, WrittenIsRead, groups_rise}
-use Rattle.wef_query.specs.Paths.{path_of}
+use Rattle.wef_query_paths.specs.Paths.{path_of}
+use Rattle.wef_query_paths.specs.declared.path.Path.{Path}
 use Rattle.wef_query.specs.Reading.{channel_of, characters_of, item_of, items_from, items_in, queries_from, query_in, some_items, then_on, with_channel, with_path, with_query}
 use Rattle.wef_query.specs.Writing.{group_element, groups_from, groups_of, item_element, item_name, plain}
-use Rattle.wef_query.specs.declared.QueryItem.{QueryItem}
+use Rattle.wef_query.specs.Items.{QueryItem}
 use Rattle.wef_query.specs.declared.QueryList.{QueryList}
 use Rattle.wef_query.specs.declared.reading.QueryFault.{QueryFault}
 
@@ -41,13 +42,19 @@ as_item : (before group : ℕ) (around : Option (List ℕ)) (suppress : Bool) (c
 as_item before group around true channel text = refl
 as_item before group around false channel text = refl
 
+-- what a path was found for
+path_again : (before group : ℕ) (suppress : Bool) (channel text : List ℕ) (path : Option Path) → is_some path ≡ true
+    → with_path before group suppress channel text path ≡ Ok (record { group = group; suppress = suppress; channel = channel; text = text })
+path_again before group suppress channel text (Some path) found = refl
+path_again before group suppress channel text None found = let bad : ⊥ = cc in absurd bad
+
 item_again : (before group : ℕ) (around : Option (List ℕ)) (item : QueryItem) → IsOf group item → item_of before group around (item_element item) ≡ Ok item
 item_again before group around item of =
     as_item before group around item.suppress item.channel item.text
     ∙ (λ i. with_channel before group item.suppress (of.back.channel i) (trimmed (characters_again item.text i)))
     ∙ ap (λ text. with_path before group item.suppress item.channel text (path_of text)) of.back.text
-    ∙ ap (with_path before group item.suppress item.channel item.text) of.back.path
-    ∙ (λ i. Ok (record { group = sym of.same i; suppress = item.suppress; channel = item.channel; text = item.text; path = item.path }))
+    ∙ path_again before group item.suppress item.channel item.text (path_of item.text) of.back.path
+    ∙ (λ i. Ok (record { group = sym of.same i; suppress = item.suppress; channel = item.channel; text = item.text }))
 
 items_again : (group : ℕ) (around : Option (List ℕ)) (done items : List QueryItem) → AllByRecursion (IsOf group) items → items_from group around done (map item_element items) ≡ Ok (done ++ items)
 items_again group around done [] of = ap Ok (sym (append-nil done))

@@ -10,10 +10,10 @@ use Rattle.wef_base.specs.declared.tree.Attribute.{Attribute}
 use Rattle.wef_base.specs.declared.tree.Element.{Element}
 use Rattle.wef_base.specs.declared.tree.Node.{Node, out-Node, Node-F}
 use Rattle.wef_elements.specs.Children.{elements_in}
-use Rattle.wef_query.specs.Paths.{path_of}
-use Rattle.wef_query.specs.declared.QueryItem.{QueryItem}
+use Rattle.wef_query_paths.specs.Paths.{path_of}
+use Rattle.wef_query.specs.Items.{QueryItem}
 use Rattle.wef_query.specs.declared.QueryList.{QueryList}
-use Rattle.wef_query.specs.declared.path.Path.{Path}
+use Rattle.wef_query_paths.specs.declared.path.Path.{Path}
 use Rattle.wef_query.specs.declared.reading.QueryFault.{QueryFault}
 use Rattle.wef_query.specs.declared.reading.QueryFault.TheVariants.{NoMemory, BadQuery, Unsupported}
 
@@ -42,7 +42,7 @@ text_of e = trimmed (flat_map characters_of e.children)
 
 -- the item of a channel and a text, where the text says a path; it stands behind so many others
 abbrev pub with_path : ℕ → ℕ → Bool → List ℕ → List ℕ → Option Path → Result QueryItem QueryFault
-with_path before group suppress channel text (Some path) = Ok (record { group = group; suppress = suppress; channel = channel; text = text; path = path })
+with_path before group suppress channel text (Some path) = Ok (record { group = group; suppress = suppress; channel = channel; text = text })
 with_path before group suppress channel text None = Err (Unsupported before 0)
 
 -- the item of a text, where it has a channel

@@ -4,7 +4,7 @@ use Rattle.std.specs.Fmt.{decimal}
 use Rattle.wef_base.specs.declared.tree.Attribute.{Attribute}
 use Rattle.wef_base.specs.declared.tree.Element.{Element}
 use Rattle.wef_elements.specs.Children.{as_nodes, with_attributes, with_elements}
-use Rattle.wef_query.specs.declared.QueryItem.{QueryItem}
+use Rattle.wef_query.specs.Items.{QueryItem}
 
 -- an attribute without a namespace
 abbrev pub plain : List ℕ → List ℕ → Attribute

@@ -1,28 +1,32 @@
-//! Which events a subscription asks for: a list of queries, each of which asks for all events of
-//! its channel or takes them out again.
+//! Which events a subscription asks for: a list of queries, each of which asks for events of its
+//! channel or takes them out again, by a path to nodes of the event's tree.
 #![tactic(auto)]
 
-ghost use Rattle.std.specs.Prelude.{◌≡◌, IfOk};
+ghost use Rattle.std.specs.Prelude.{◌≡◌, ◌==◌, ◌+◌, IfOk};
 ghost use Rattle.std.specs.List.{list_any};
+ghost use Rattle.wef_query.specs.Items.{says_path};
+ghost use Rattle.wef_query.specs.Laws.{AllAreSelected, are_grouped, groups_rise};
 ghost use Rattle.wef_query.specs.Queries.{all_events_of, is_unconditional};
 ghost use Rattle.wef_query.specs.Order.{HasSameNames, IsInOrder};
-ghost use Rattle.wef_query.specs.Selected.{channels_of, is_select_of, is_selected, is_selecting, is_suppressed, is_suppress_of, selects};
+ghost use Rattle.wef_query.specs.Selected.{channels_of, is_asking_for_all, is_select_of, is_selected, is_selecting, is_suppressed, is_suppress_at, is_suppress_of, item_gives, selects, selects_all};
 
-pub mod path;
 pub mod reading;
-pub mod shared;
 pub mod writing;
 
-pub use path::{And, Axis, Literal, NameTest, Operator, Or, Path, Predicate, Step, Unit, Value};
 pub use reading::{QueryFault, read_query};
-pub use shared::Shared;
 use std::alloc::{AllocError, Global};
 use std::collections::BTreeSet;
-use wef_base::{ChannelName, List, Text};
+use std::marker::Model;
+use wef_base::{ChannelName, Element, List, Text};
+use wef_query_nodes::gives_node;
+pub use wef_query_paths::{
+    And, Axis, Literal, NameTest, Operator, Or, Path, Predicate, Shared, Step, Unit, Value,
+};
 pub use writing::write_query;
 
-/// One query: events of a channel, selected or suppressed.
-#[derive(Debug, Drop)]
+/// One query: events of a channel, selected or suppressed. Whoever makes one proves that its text says
+/// its path.
+#[derive(Debug)]
 pub struct QueryItem {
     /// The query that the item stands in. Items of one group are read together.
     pub group: u64,
@@ -33,6 +37,32 @@ pub struct QueryItem {
     pub text: Text,
     /// What the text says.
     pub path: Shared<Path>,
+}
+
+/// One call for whoever lets an item go, whatever its path holds.
+impl Drop for QueryItem {
+    fn drop(self) {
+        let QueryItem {
+            group: _,
+            suppress: _,
+            channel: _,
+            text: _,
+            path: _,
+        } = self;
+    }
+}
+
+impl Model for QueryItem {
+    ghost use Rattle.wef_query.specs.Items as items;
+    ghost use Rattle.std.specs.Prelude.{◌≡◌, Some};
+    ghost use Rattle.wef_base.specs.Names.{trimmed};
+    ghost use Rattle.wef_query_paths.specs.Paths.{path_of};
+
+    ghost Value = { items.QueryItem };
+
+    ghost view = { λ q. record { group = q.group; suppress = q.suppress; channel = q.channel; text = q.text } };
+
+    ghost invariant = { λ q. (trimmed q.text ≡ q.text) × (path_of q.text ≡ Some q.path) };
 }
 
 impl QueryItem {
@@ -48,11 +78,19 @@ impl QueryItem {
         })
     }
 
+    /// Whether its text has no spaces at its ends and says a path, which its type promises.
+    pub fn says_path(&self) -> bool
+        ensures { result ≡ says_path self.now.text }
+    {
+        let _kept = &self.text;
+        true
+    }
+
     /// Whether it sets no condition, so that each event of its channel meets it.
     pub fn is_unconditional(&self) -> bool
         ensures { result ≡ is_unconditional self.now }
     {
-        self.text.as_str() == "*" && self.path.get().is_any()
+        self.text.as_str() == "*"
     }
 }
 
@@ -83,6 +121,17 @@ impl QueryList {
         Ok(QueryList { items })
     }
 
+    /// Whether there is an item, the first is of group 0, and each other one of the group before it or
+    /// of the next: so are the lists that are read.
+    pub fn is_grouped(&self) -> bool
+        ensures { result ≡ are_grouped self.now.items }
+    {
+        match self.items.as_slice().split_first() {
+            Some((first, more)) => first.group == 0 && groups_rise(0, more),
+            None => false,
+        }
+    }
+
     /// A copy of the list, which shares its texts.
     pub fn clone(&self, alloc: Global) -> Result<QueryList, AllocError>
         ensures { IfOk result (λ copy. copy ≡ self.now) }
@@ -93,6 +142,26 @@ impl QueryList {
         }
         Ok(QueryList { items })
     }
+}
+
+/// Whether each item is of the group before it, or of the next.
+fn groups_rise(group: u64, items: &[QueryItem]) -> bool
+    ensures { result ≡ groups_rise group items.now }
+{
+    let mut last = group;
+    for item in items {
+        if item.group != last && !is_next(last, item.group) {
+            return false;
+        }
+        last = item.group;
+    }
+    true
+}
+
+fn is_next(group: u64, next: u64) -> bool
+    ensures { result ≡ (next == group + 1) }
+{
+    next > group && next - group == 1
 }
 
 /// The channels of all Selects, each once, in the order of their bytes. Suppresses don't count. It
@@ -118,46 +187,96 @@ fn distinct_selects(alloc: Global, list: &QueryList) -> Result<List<ChannelName>
     Ok(List::from(names.into_iter().collect::<Vec<ChannelName>>(alloc)?))
 }
 
-/// Whether the list selects the events of a channel: in some group a Select of the channel stands,
-/// and no Suppress of the channel. It takes no memory.
-pub fn selected(list: &QueryList, channel: &ChannelName) -> bool
-    ensures { result ≡ is_selected list.now.items channel.now }
+/// Whether the list selects an event of a channel, by its root: in some group a Select of the channel
+/// gives a node, and no Suppress of the channel does. It takes no memory.
+pub fn selected(list: &QueryList, channel: &ChannelName, node: &Element) -> bool
+    ensures { result ≡ is_selected list.now.items channel.now node.now }
 {
-    has_item_in_force(list, channel)
+    has_item_in_force(list, channel, node)
 }
 
-fn has_item_in_force(list: &QueryList, channel: &ChannelName) -> bool
-    ensures { result ≡ list_any (is_selecting list.now.items channel.now) list.now.items }
+/// Whether the list selects all events of a channel, whatever these hold: a Select of it says `*`, in a
+/// group without a Suppress of it. Where it doesn't say so, it may still select each of some events.
+pub fn selects_all(list: &QueryList, channel: &ChannelName) -> bool
+    ensures value { result ≡ selects_all list.now.items channel.now }
+    ensures each { AllAreSelected list.now.items channel.now }
 {
-    list.items
-        .as_slice()
-        .iter()
-        .any(|item| is_in_force(list, item, channel))
+    has_asking_for_all(list, channel)
 }
 
-fn is_in_force(list: &QueryList, item: &QueryItem, channel: &ChannelName) -> bool
-    ensures { result ≡ is_selecting list.now.items channel.now item.now }
-{
-    asks_for(item, channel) && !suppresses(list, item.group, channel)
-}
-
-fn asks_for(item: &QueryItem, channel: &ChannelName) -> bool
-    ensures { result ≡ is_select_of item.now.group channel.now item.now }
-{
-    !item.suppress && item.channel == *channel
-}
-
-fn suppresses(list: &QueryList, group: u64, channel: &ChannelName) -> bool
-    ensures { result ≡ is_suppressed list.now.items group channel.now }
+#[tactic(auto, unfolding(crate::specs::Selected::selects_all))]
+fn has_asking_for_all(list: &QueryList, channel: &ChannelName) -> bool
+    ensures { result ≡ selects_all list.now.items channel.now }
 {
     list.items
         .as_slice()
         .iter()
-        .any(|item| takes_out(item, group, channel))
+        .any(|item| is_asking_for_all(list, item, channel))
 }
 
-fn takes_out(item: &QueryItem, group: u64, channel: &ChannelName) -> bool
-    ensures { result ≡ is_suppress_of group channel.now item.now }
+fn is_asking_for_all(list: &QueryList, item: &QueryItem, channel: &ChannelName) -> bool
+    ensures { result ≡ is_asking_for_all list.now.items channel.now item.now }
+{
+    !item.suppress
+        && item.channel == *channel
+        && item.is_unconditional()
+        && !has_suppress(list, item.group, channel)
+}
+
+fn has_suppress(list: &QueryList, group: u64, channel: &ChannelName) -> bool
+    ensures { result ≡ list_any (is_suppress_at group channel.now) list.now.items }
+{
+    list.items
+        .as_slice()
+        .iter()
+        .any(|item| is_suppress_at(item, group, channel))
+}
+
+fn is_suppress_at(item: &QueryItem, group: u64, channel: &ChannelName) -> bool
+    ensures { result ≡ is_suppress_at group channel.now item.now }
 {
     item.group == group && item.suppress && item.channel == *channel
+}
+
+fn has_item_in_force(list: &QueryList, channel: &ChannelName, node: &Element) -> bool
+    ensures { result ≡ list_any (is_selecting list.now.items channel.now node.now) list.now.items }
+{
+    list.items
+        .as_slice()
+        .iter()
+        .any(|item| is_in_force(list, item, channel, node))
+}
+
+fn is_in_force(list: &QueryList, item: &QueryItem, channel: &ChannelName, node: &Element) -> bool
+    ensures { result ≡ is_selecting list.now.items channel.now node.now item.now }
+{
+    asks_for(item, channel, node) && !suppresses(list, item.group, channel, node)
+}
+
+fn asks_for(item: &QueryItem, channel: &ChannelName, node: &Element) -> bool
+    ensures { result ≡ is_select_of item.now.group channel.now node.now item.now }
+{
+    !item.suppress && item.channel == *channel && item_gives(item, node)
+}
+
+fn suppresses(list: &QueryList, group: u64, channel: &ChannelName, node: &Element) -> bool
+    ensures { result ≡ is_suppressed list.now.items group channel.now node.now }
+{
+    list.items
+        .as_slice()
+        .iter()
+        .any(|item| takes_out(item, group, channel, node))
+}
+
+fn takes_out(item: &QueryItem, group: u64, channel: &ChannelName, node: &Element) -> bool
+    ensures { result ≡ is_suppress_of group channel.now node.now item.now }
+{
+    is_suppress_at(item, group, channel) && item_gives(item, node)
+}
+
+/// Whether an item's path gives a node of an event.
+fn item_gives(item: &QueryItem, node: &Element) -> bool
+    ensures { result ≡ item_gives item.now node.now }
+{
+    gives_node(item.path.get(), node)
 }

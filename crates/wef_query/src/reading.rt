@@ -2,17 +2,18 @@
 
 ghost use Rattle.std.specs.Prelude.{◌≡◌, [], ◌++◌, option_copied, IfOk, OnOk};
 ghost use Rattle.std.specs.List.{flat_map};
+ghost use Rattle.std.specs.Str.{IsUtf8};
+ghost use Rattle.wef_base.specs.Names.{trimmed};
 ghost use Rattle.wef_elements.specs.Children.{elements_in};
-ghost use Rattle.wef_query.specs.Paths.{path_of};
+ghost use Rattle.wef_query_paths.specs.Paths.{path_of};
 ghost use Rattle.wef_query.specs.Reading.{Reads, Takes, channel_by, channel_of, characters_of, is_query, is_query_list, is_select, is_suppress, item_of, items_from, items_in, path_said, queries_from, query_in, text_of, with_item, with_path, with_query};
 
-use crate::path::read_path;
-use crate::shared::Shared;
 use crate::{QueryItem, QueryList};
 use std::alloc::{AllocError, Global};
 use thiserror::Error;
 use wef_base::{Attribute, ChannelName, Element, List, Node, Text};
 use wef_elements::{channel_said, element_at, element_of};
+use wef_query_paths::{PathFault, Shared, read_path};
 
 /// Why an element says no list of queries.
 #[derive(Clone, Copy, Debug, PartialEq, Eq, Error)]
@@ -178,21 +179,23 @@ fn with_path(
     channel: ChannelName,
     text: Text,
 ) -> Result<QueryItem, QueryFault>
+    requires { trimmed text ≡ text }
     ensures { Reads result (with_path before group suppress channel text (path_of text)) }
 {
-    let Some(path) = read_path(&text) else {
-        return Err(QueryFault::Unsupported {
+    match read_path(&text) {
+        Ok(path) => Ok(QueryItem {
+            group,
+            suppress,
+            channel,
+            path: Shared::new(text.alloc(), path)?,
+            text,
+        }),
+        Err(PathFault::NoMemory) => Err(QueryFault::NoMemory),
+        Err(PathFault::BadPath) => Err(QueryFault::Unsupported {
             item: before,
             at: 0,
-        });
-    };
-    Ok(QueryItem {
-        group,
-        suppress,
-        channel,
-        path: Shared::new(text.alloc(), path)?,
-        text,
-    })
+        }),
+    }
 }
 
 /// The channel that the attribute Path of an element names.
@@ -235,9 +238,19 @@ fn path_said(attributes: &[Attribute]) -> Option<&Text>
 
 /// The characters in an element, but not those of elements in it, without the spaces at both ends.
 fn text_of(element: &Element) -> Result<Text, AllocError>
-    ensures { IfOk result (λ text. text ≡ text_of element.now) }
+    ensures value { IfOk result (λ text. text ≡ text_of element.now) }
+    ensures trimmed { IfOk result (λ text. trimmed text ≡ text) }
 {
-    characters_in(element)?.trimmed()
+    let characters = characters_in(element)?;
+    text_is_in_utf8(&characters);
+    characters.trimmed()
+}
+
+/// A text is in UTF-8, since its bytes are those of a `str`.
+fn text_is_in_utf8(text: &Text)
+    ensures { IsUtf8 text.now }
+{
+    text.as_str();
 }
 
 fn characters_in(element: &Element) -> Result<Text, AllocError>

@@ -1,10 +1,10 @@
 -- The lines that words make have values of the kinds that lines have.
-use Rattle.std.proofs.Common.{◌≡◌, ℕ, ◌+◌, Bool, true, false, ◌&&◌, List, [], ◌∷◌, length, refl, arith}
-use Rattle.std.specs.Prelude.{◌==◌, Option, Some, None, codes, is_some, not}
+use Rattle.std.proofs.Common.{◌≡◌, ℕ, Bool, true, false, ◌&&◌, List, [], ◌∷◌, refl}
+use Rattle.std.specs.Prelude.{Option, Some, None, codes, is_some}
 use Rattle.std.specs.List.{list_all}
-use Rattle.std.specs.Str.{is_utf8}
+use Rattle.std.specs.Str.{chars, is_utf8}
 use Rattle.std.proofs.lemmas.Bool.{and_parts}
-use Rattle.std.proofs.lemmas.Bool.Decides.{nat_tests}
+use lib.Utf8.{encode}
 use Rattle.wef_base.specs.Names.{same}
 use Rattle.wef_base.specs.Words.{decoded, parts}
 use Rattle.wef_base.specs.Characters.{is_xml_text}
@@ -12,9 +12,9 @@ use Rattle.wef_base.specs.declared.numbers.TheConstants.{MAX}
 use Rattle.wef_event.specs.Unnumbered.{plain_numbered}
 use Rattle.wef_event.specs.declared.unnumbered.PlainEvent.{PlainEvent}
 use Rattle.wef_query.specs.Queries.{all_events_of}
-use Rattle.wef_query.proofs.Unconditional.{any_path_is_any}
+use Rattle.wef_query.proofs.SaidPaths.{all_grouped, any_says_path}
 use Rattle.wef_replay.specs.BatchWords.{empty_batch, read_words}
-use Rattle.wef_replay.specs.Good.{are_all, asks_for_all, fits_always, is_between, is_channel, is_count, is_end, is_line, is_no_collector, is_source, is_subscription}
+use Rattle.wef_replay.specs.Good.{are_queries, fits_always, is_between, is_channel, is_count, is_end, is_line, is_no_collector, is_query, is_query_text, is_source, is_subscription}
 use Rattle.wef_replay.specs.Grammar.{all_of, ask_line, back_line, batch_line, calm_line, commit_words, crash_line, deliver_line, does_nothing, end_line, event_if_xml, event_words, fail_line, failure_line_of, fitting_event, if_fits, line_of_words, lost_line, meaning, message_words, other_line, pair_words, poll_line, print_line, seen_words, show_line, source_line, source_line_of, stop_line, subscribe_line, subscribe_numbers, write_line}
 use Rattle.wef_replay.specs.PlainEvents.{HasPlainEvents}
 use Rattle.wef_replay.specs.Reading.{with_first}
@@ -39,32 +39,32 @@ any (Some given) = tt
 -- ---- subscriptions
 
 IsGoodQuery : List (List ℕ) → Type 0
-IsGoodQuery channels = list_all asks_for_all (all_events_of channels) ≡ true
+IsGoodQuery channels = list_all is_query (all_events_of channels) ≡ true
+
+-- the text of all events is a query's
+any_text : is_query_text (codes "*") ≡ true
+unfolding chars encode is_utf8
+any_text = any_says_path
 
 good-with_first : (first : Option (List ℕ)) (rest : Option (List (List ℕ))) → AllOf (λ c. is_channel c ≡ true) first → AllOf IsGoodQuery rest → AllOf IsGoodQuery (with_first first rest)
 unfolding IsGoodQuery
 good-with_first None rest h k = tt
 good-with_first (Some c) None h k = tt
-good-with_first (Some c) (Some cs) h k = λ i. h i && any_path_is_any i && k i
+good-with_first (Some c) (Some cs) h k = λ i. (h i && any_text i) && k i
 
 good-channel_words : (words : List (List ℕ)) → AllOf IsGoodQuery (channel_words words)
 unfolding IsGoodQuery
 good-channel_words [] = refl
 good-channel_words (word ∷ words) = good-with_first (channel_word word) (channel_words words) (good-channel word) (good-channel_words words)
 
-more_than_none : (n m : ℕ) → n ≡ m + 1 → not (n == 0) ≡ true
-more_than_none n m e = grind (arith, nat_tests, e)
-
-good-some_channels : (word : List ℕ) (words : List (List ℕ)) → AllOf (λ channels. are_all (all_events_of channels) ≡ true) (channel_words (word ∷ words))
+good-some_channels : (word : List ℕ) (words : List (List ℕ)) → AllOf (λ channels. are_queries (all_events_of channels) ≡ true) (channel_words (word ∷ words))
 unfolding IsGoodQuery
 good-some_channels word words = by (channel_word word) (channel_words words) (good-channel word) (good-channel_words words)
   where
-    by : (first : Option (List ℕ)) (rest : Option (List (List ℕ))) → AllOf (λ c. is_channel c ≡ true) first → AllOf IsGoodQuery rest → AllOf (λ channels. are_all (all_events_of channels) ≡ true) (with_first first rest)
+    by : (first : Option (List ℕ)) (rest : Option (List (List ℕ))) → AllOf (λ c. is_channel c ≡ true) first → AllOf IsGoodQuery rest → AllOf (λ channels. are_queries (all_events_of channels) ≡ true) (with_first first rest)
     by None rest h k = tt
     by (Some c) None h k = tt
-    by (Some c) (Some cs) h k =
-        let some = more_than_none (length (all_events_of (c ∷ cs))) (length (all_events_of cs)) (omega arith) in
-        λ i. some i && (h i && any_path_is_any i && k i)
+    by (Some c) (Some cs) h k = λ i. all_grouped cs i && ((h i && any_text i) && k i)
 
 good-subscribe_numbers : (u items bytes beat channel : List ℕ) (channels : List (List ℕ)) → is_subscription u ≡ true → AllOf IsGoodLine (subscribe_numbers u items bytes beat (channel ∷ channels))
 good-subscribe_numbers u items bytes beat channel channels is_u =

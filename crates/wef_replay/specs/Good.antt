@@ -1,6 +1,6 @@
 -- Which lines, as values, a schedule may have next.
---     subscribe    items from 1 to 10,000, bytes from 8,192 to 4,194,304, the beat from 1 to 86,400,000, and one channel or more, all
---                  events of each, in one group
+--     subscribe    items from 1 to 10,000, bytes from 8,192 to 4,194,304, the beat from 1 to 86,400,000, and one query or more, in
+--                  groups that count from 0, each of a text of characters that XML allows, which says a path
 --     batch        of a source that isn't named `collector` and wasn't declared, with one word or more; the numbers of events and of
 --                  dropped records are from 1 to 2^63 - 1, counts and how far the batch reads a channel up to that; each event is
 --                  the one that its text says (`PlainEvents` says what it is in the lines that a schedule gives)
@@ -14,6 +14,7 @@ use Rattle.std.specs.Prelude.{◌≡◌, ℕ, ◌==◌, nat_le, Bool, true, fals
 use Rattle.std.specs.FinMap as map
 use Rattle.std.specs.List.{list_all, list_any}
 use Rattle.std.specs.Str.{is_utf8}
+use Rattle.wef_base.specs.Characters.{is_xml_text}
 use Rattle.wef_base.specs.Names.{channel_name, same, source_name, subscription_name}
 use Rattle.wef_base.specs.declared.numbers.TheConstants.{MAX}
 use Rattle.wef_batch.specs.declared.items.Batch as batch
@@ -22,8 +23,8 @@ use Rattle.wef_batch.specs.declared.items.Item.TheVariants as item
 use Rattle.wef_event.specs.Events.{is_event}
 use Rattle.wef_event.specs.Unnumbered.{plain_numbered}
 use Rattle.wef_event.specs.declared.unnumbered.PlainEvent.{PlainEvent}
-use Rattle.wef_query.specs.Queries.{is_unconditional}
-use Rattle.wef_query.specs.declared.QueryItem.{QueryItem}
+use Rattle.wef_query.specs.Items.{QueryItem, says_path}
+use Rattle.wef_query.specs.Laws.{are_grouped}
 use Rattle.wef_replay.specs.declared.lines.EndName.{EndName}
 use Rattle.wef_replay.specs.declared.lines.EndName.TheVariants as end
 use Rattle.wef_replay.specs.declared.lines.Line.{Line}
@@ -59,12 +60,16 @@ is_channel c = is_utf8 c && is_one c (channel_name c)
 abbrev pub are_limits : ℕ → ℕ → ℕ → Bool
 are_limits items bytes beat = is_between 1 10000 items && is_between 8192 4194304 bytes && is_between 1 86400000 beat
 
--- all events of a channel, in the one group
-abbrev pub asks_for_all : QueryItem → Bool
-asks_for_all query = query.group == 0 && not query.suppress && is_channel query.channel && is_unconditional query
+-- a text of a query: of characters that XML allows, and such that it says a path
+abbrev pub is_query_text : List ℕ → Bool
+is_query_text text = is_utf8 text && is_xml_text text && says_path text
 
-abbrev pub are_all : List QueryItem → Bool
-are_all queries = not (length queries == 0) && list_all asks_for_all queries
+abbrev pub is_query : QueryItem → Bool
+is_query query = is_channel query.channel && is_query_text query.text
+
+-- queries of groups that count from 0, one query or more
+abbrev pub are_queries : List QueryItem → Bool
+are_queries queries = are_grouped queries && list_all is_query queries
 
 abbrev pub is_item : Item → Bool
 is_item (item.Event event) = is_channel event.channel && is_number event.number && is_event event
@@ -97,7 +102,7 @@ fits_always event = is_channel event.channel && is_utf8 event.word && is_some (p
 
 -- whether a line has values of the kinds that lines have
 abbrev pub is_line : Line → Bool
-is_line (Subscribe u items bytes beat query) = is_subscription u && are_limits items bytes beat && are_all query.items
+is_line (Subscribe u items bytes beat query) = is_subscription u && are_limits items bytes beat && are_queries query.items
 is_line (End u) = is_subscription u
 is_line (Batch u s b) = is_subscription u && is_source s && is_no_collector s && are_words b
 is_line (Source s capacity) = is_source s && is_no_collector s && is_between 1 1000000 capacity

@@ -3,13 +3,14 @@
 ghost use Rattle.std.specs.Prelude.{◌≡◌, ◌&&◌};
 ghost use Rattle.std.specs.List.{list_all};
 ghost use Rattle.std.specs.Str.{is_utf8};
-ghost use Rattle.wef_replay.specs.Good.{are_all, are_limits, asks_for_all, fits_always, is_between, is_channel, is_count, is_end, is_line, is_no_collector, is_source, is_subscription};
+ghost use Rattle.wef_base.specs.Characters.{is_xml_text};
+ghost use Rattle.wef_replay.specs.Good.{are_limits, are_queries, fits_always, is_between, is_channel, is_count, is_end, is_line, is_no_collector, is_query, is_source, is_subscription};
 
 use crate::lines::{EndName, Line};
 use wef_base::numbers::MAX;
-use wef_base::{ChannelName, SourceName, SubId, Text};
+use wef_base::{ChannelName, SourceName, SubId, Text, is_xml_char};
 use wef_event::PlainEvent;
-use wef_query::QueryItem;
+use wef_query::{QueryItem, QueryList};
 
 /// Whether the values of a line are within the limits of a schedule, wherever the line stands. It
 /// takes no memory.
@@ -23,11 +24,7 @@ pub fn is_line(line: &Line) -> bool
             bytes,
             beat,
             query,
-        } => {
-            is_subscription(sub)
-                && are_limits(*items, *bytes, *beat)
-                && are_all(query.items.as_slice())
-        }
+        } => { is_subscription(sub) && are_limits(*items, *bytes, *beat) && are_queries(query) }
         Line::End { sub } => is_subscription(sub),
         Line::Batch { sub, source, batch } => {
             is_subscription(sub) && is_source(source) && is_no_collector(source) && batch.has_word()
@@ -93,23 +90,35 @@ fn is_between(least: u64, greatest: u64, number: u64) -> bool
     least <= number && number <= greatest
 }
 
-/// Whether each query asks for all events of its channel, in the one group, and one does.
-fn are_all(queries: &[QueryItem]) -> bool
-    ensures { result ≡ are_all queries.now }
+/// Whether the queries are some that can be written and read again.
+fn are_queries(list: &QueryList) -> bool
+    ensures { result ≡ are_queries list.now.items }
 {
-    !queries.is_empty() && each_asks_for_all(queries)
+    list.is_grouped() && each_is_query(list.items.as_slice())
 }
 
-fn each_asks_for_all(queries: &[QueryItem]) -> bool
-    ensures { result ≡ list_all asks_for_all queries.now }
+fn each_is_query(queries: &[QueryItem]) -> bool
+    ensures { result ≡ list_all is_query queries.now }
 {
-    queries.iter().all(|query| asks_for_all(query))
+    queries.iter().all(|query| is_query(query))
 }
 
-fn asks_for_all(query: &QueryItem) -> bool
-    ensures { result ≡ asks_for_all query.now }
+fn is_query(query: &QueryItem) -> bool
+    ensures { result ≡ is_query query.now }
 {
-    query.group == 0 && !query.suppress && is_channel(&query.channel) && query.is_unconditional()
+    is_channel(&query.channel)
+        && is_text(&query.text)
+        && has_xml_characters(&query.text)
+        && query.says_path()
+}
+
+/// Whether XML allows each character of a text.
+fn has_xml_characters(text: &Text) -> bool
+    ensures { result ≡ is_xml_text text.now }
+{
+    text.as_str()
+        .chars()
+        .all(|character| is_xml_char(character))
 }
 
 /// Whether the source isn't the other end.

@@ -9,13 +9,13 @@ use Rattle.wef_batch.specs.Cost.{cost}
 use Rattle.wef_batch.specs.declared.items.Item.{Item}
 use Rattle.wef_batch.specs.declared.items.Item.TheVariants.{Event, Dropped}
 use Rattle.wef_event.specs.Events as records
-use Rattle.wef_query.specs.Selected.{is_selected}
 use Rattle.wef_query.specs.declared.QueryList.{QueryList}
 use Rattle.wef_source_log.specs.Histories.{History, text_at}
 use Rattle.wef_source_log.specs.Laws.{numbered_from, records_from}
 use Rattle.wef_source_log.specs.Windows.{first_for}
 use Rattle.wef_source.specs.Building.{first_number, is_of, item_of, room_of, sized_item}
 use Rattle.wef_source.specs.Fits.{event_at, ranges_in}
+use Rattle.wef_source.specs.Selecting.{is_wanted}
 use Rattle.wef_source.specs.Wanted.{IsLost, in_ranges, is_too_large, selected_at, selected_text}
 use Rattle.wef_source.proofs.Cases.{apart, by_bool, by_test, eq_itself, eq_refused, le_fails, le_holds, lt_fails, lt_holds, le_refused, le_tested, same_itself, both_true, and_true}
 use Rattle.wef_source.proofs.Cuts.{Says, unless_dropped}
@@ -29,10 +29,18 @@ record_at c n text = record { channel = c; number = n; text = text }
 abbrev sized : ℕ → List ℕ → ℕ → List ℕ → Item
 sized room c n text = sized_item room (record_at c n text)
 
+-- items with one in front where its record is selected
+abbrev put : Bool → Item → List Item → List Item
+put selected i is = cons_option (cond selected (Some i) None) is
+
 -- the items of records from a number on
-abbrev sized_from : ℕ → List ℕ → ℕ → List (List ℕ) → List Item
-sized_from room c n [] = []
-sized_from room c n (text ∷ texts) = sized room c n text ∷ sized_from room c (n + 1) texts
+abbrev sized_from : QueryList → ℕ → List ℕ → ℕ → List (List ℕ) → List Item
+sized_from query room c n [] = []
+sized_from query room c n (text ∷ texts) = put (is_wanted query c text) (sized room c n text) (sized_from query room c (n + 1) texts)
+
+-- the text at a place, where the query selects it
+abbrev selected_in : QueryList → List ℕ → List (List ℕ) → ℕ → Option (List ℕ)
+selected_in query c texts i = option_and_then (selected_text query c) (slice_get texts i)
 
 -- ---- one item
 
@@ -47,16 +55,21 @@ sized_end room c n text = by_bool (λ item. end_number item ≡ n) (nat_lt room 
 
 -- ---- their order
 
-sized_ordered : (room : ℕ) (c : List ℕ) (k n : ℕ) (texts : List (List ℕ)) → k < n → Ordered c k (sized_from room c n texts)
-sized_ordered room c k n [] up = tt
-sized_ordered room c k n (text ∷ texts) up =
+sized_ordered : (query : QueryList) (room : ℕ) (c : List ℕ) (k n : ℕ) (texts : List (List ℕ)) → k < n → Ordered c k (sized_from query room c n texts)
+sized_ordered query room c k n [] up = tt
+sized_ordered query room c k n (text ∷ texts) up =
     let first = sized_first room c n text in
     let end = sized_end room c n text in
-    (sized_of room c n text, omega arith, omega arith, sized_ordered room c (end_number (sized room c n text)) (n + 1) texts (omega arith))
+    by_test (λ t. Ordered c k (put t (sized room c n text) (sized_from query room c (n + 1) texts))) (is_wanted query c text)
+    (λ _. (sized_of room c n text, omega arith, omega arith, sized_ordered query room c (end_number (sized room c n text)) (n + 1) texts (omega arith)))
+    (λ _. sized_ordered query room c k (n + 1) texts (omega arith))
 
-sized_ends : (room : ℕ) (c : List ℕ) (n t : ℕ) (texts : List (List ℕ)) → n + length texts ≤ t + 1 → ItemsEndBy t (sized_from room c n texts)
-sized_ends room c n t [] up = tt
-sized_ends room c n t (text ∷ texts) up = let end = sized_end room c n text in (omega arith, sized_ends room c (n + 1) t texts (omega arith))
+sized_ends : (query : QueryList) (room : ℕ) (c : List ℕ) (n t : ℕ) (texts : List (List ℕ)) → n + length texts ≤ t + 1 → ItemsEndBy t (sized_from query room c n texts)
+sized_ends query room c n t [] up = tt
+sized_ends query room c n t (text ∷ texts) up =
+    let end = sized_end room c n text in
+    let rest = sized_ends query room c (n + 1) t texts (omega arith) in
+    by_test (λ x. ItemsEndBy t (put x (sized room c n text) (sized_from query room c (n + 1) texts))) (is_wanted query c text) (λ _. (omega arith, rest)) (λ _. rest)
 
 -- ---- what they say
 
@@ -91,24 +104,44 @@ sized_range_apart room c n m text items up =
 step_back : (m n : ℕ) → n < m → m - n ≡ suc (m - (n + 1))
 step_back m n up = omega arith
 
-sized_exact : (room : ℕ) (c : List ℕ) (n m : ℕ) (texts : List (List ℕ)) → n ≤ m
-    → event_at c m (sized_from room c n texts) ≡ unless_dropped (in_ranges (ranges_in c (sized_from room c n texts)) m) (slice_get texts (m - n))
-sized_exact room c n m [] up = refl
-sized_exact room c n m (text ∷ texts) up =
-    by_test (λ t. nat_le m n ≡ t → event_at c m (sized_from room c n (text ∷ texts)) ≡ unless_dropped (in_ranges (ranges_in c (sized_from room c n (text ∷ texts))) m) (slice_get (text ∷ texts) (m - n))) (nat_le m n)
+-- the same where the record may not be selected
+put_here : (query : QueryList) (room : ℕ) (c : List ℕ) (n : ℕ) (text : List ℕ) (items : List Item) → event_at c n items ≡ None → in_ranges (ranges_in c items) n ≡ false
+    → event_at c n (put (is_wanted query c text) (sized room c n text) items)
+    ≡ unless_dropped (in_ranges (ranges_in c (put (is_wanted query c text) (sized room c n text) items)) n) (selected_text query c text)
+put_here query room c n text items none free =
+    by_test (λ t. event_at c n (put t (sized room c n text) items) ≡ unless_dropped (in_ranges (ranges_in c (put t (sized room c n text) items)) n) (cond t (Some text) None)) (is_wanted query c text)
+    (λ _. sized_here room c n text items none free)
+    (λ _. none ∙ sym (ap (λ t. unless_dropped t None) free))
+
+put_event_apart : (t : Bool) (room : ℕ) (c : List ℕ) (n m : ℕ) (text : List ℕ) (items : List Item) → n < m → event_at c m (put t (sized room c n text) items) ≡ event_at c m items
+put_event_apart true room c n m text items up = sized_event_apart room c n m text items up
+put_event_apart false room c n m text items up = refl
+
+put_range_apart : (t : Bool) (room : ℕ) (c : List ℕ) (n m : ℕ) (text : List ℕ) (items : List Item) → n < m
+    → in_ranges (ranges_in c (put t (sized room c n text) items)) m ≡ in_ranges (ranges_in c items) m
+put_range_apart true room c n m text items up = sized_range_apart room c n m text items up
+put_range_apart false room c n m text items up = refl
+
+sized_exact : (query : QueryList) (room : ℕ) (c : List ℕ) (n m : ℕ) (texts : List (List ℕ)) → n ≤ m
+    → event_at c m (sized_from query room c n texts) ≡ unless_dropped (in_ranges (ranges_in c (sized_from query room c n texts)) m) (selected_in query c texts (m - n))
+sized_exact query room c n m [] up = refl
+sized_exact query room c n m (text ∷ texts) up =
+    let all = sized_from query room c n (text ∷ texts) in
+    let rest = sized_from query room c (n + 1) texts in
+    by_test (λ t. nat_le m n ≡ t → event_at c m all ≡ unless_dropped (in_ranges (ranges_in c all) m) (selected_in query c (text ∷ texts) (m - n))) (nat_le m n)
     (λ _ low.
     let le = le_holds m n low in
     let one : n ≡ m = omega arith in
     let none : m - n ≡ 0 = omega arith in
-    let above = sized_ordered room c n (n + 1) texts (omega arith) in
-    subst (λ x. event_at c x (sized_from room c n (text ∷ texts)) ≡ unless_dropped (in_ranges (ranges_in c (sized_from room c n (text ∷ texts))) x) (slice_get (text ∷ texts) (m - n))) one
-    (sized_here room c n text (sized_from room c (n + 1) texts) (no_event_below c n n _ above (omega arith)) (no_range_below c n n _ above (omega arith))
-    ∙ ap (λ i. unless_dropped (in_ranges (ranges_in c (sized_from room c n (text ∷ texts))) n) (slice_get (text ∷ texts) i)) (sym none)))
+    let above = sized_ordered query room c n (n + 1) texts (omega arith) in
+    subst (λ x. event_at c x all ≡ unless_dropped (in_ranges (ranges_in c all) x) (selected_in query c (text ∷ texts) (m - n))) one
+    (put_here query room c n text rest (no_event_below c n n _ above (omega arith)) (no_range_below c n n _ above (omega arith))
+    ∙ ap (λ i. unless_dropped (in_ranges (ranges_in c all) n) (selected_in query c (text ∷ texts) i)) (sym none)))
     (λ _ high.
     let more = le_fails m n high in
-    sized_event_apart room c n m text (sized_from room c (n + 1) texts) more
-    ∙ sized_exact room c (n + 1) m texts (omega arith)
-    ∙ (λ i. unless_dropped (sym (sized_range_apart room c n m text (sized_from room c (n + 1) texts) more) i) (slice_get (text ∷ texts) (sym (step_back m n more) i))))
+    put_event_apart (is_wanted query c text) room c n m text rest more
+    ∙ sized_exact query room c (n + 1) m texts (omega arith)
+    ∙ (λ i. unless_dropped (sym (put_range_apart (is_wanted query c text) room c n m text rest more) i) (selected_in query c (text ∷ texts) (sym (step_back m n more) i))))
     refl
 
 -- an item that drops its own number is too large
@@ -119,30 +152,38 @@ sized_large room c n text items free =
     (λ large _. large)
     (λ _ dropped. apart (sym free ∙ dropped))
 
--- a dropped number of theirs is that of a record that is too large
-sized_lost : (query : QueryList) (room : ℕ) (c : List ℕ) (n m : ℕ) (texts : List (List ℕ)) → in_ranges (ranges_in c (sized_from room c n texts)) m ≡ true
-    → (n ≤ m) × (is_too_large query room c m (slice_get texts (m - n)) ≡ true)
+put_large : (query : QueryList) (room : ℕ) (c : List ℕ) (n : ℕ) (text : List ℕ) (items : List Item) → in_ranges (ranges_in c items) n ≡ false
+    → in_ranges (ranges_in c (put (is_wanted query c text) (sized room c n text) items)) n ≡ true → is_too_large query room c n (selected_text query c text) ≡ true
+put_large query room c n text items free =
+    by_test (λ t. in_ranges (ranges_in c (put t (sized room c n text) items)) n ≡ true → is_too_large query room c n (cond t (Some text) None) ≡ true) (is_wanted query c text)
+    (λ _ dropped. sized_large room c n text items free dropped)
+    (λ _ dropped. apart (sym free ∙ dropped))
+
+-- a dropped number of theirs is that of a record that is selected and too large
+sized_lost : (query : QueryList) (room : ℕ) (c : List ℕ) (n m : ℕ) (texts : List (List ℕ)) → in_ranges (ranges_in c (sized_from query room c n texts)) m ≡ true
+    → (n ≤ m) × (is_too_large query room c m (selected_in query c texts (m - n)) ≡ true)
 sized_lost query room c n m [] dropped = apart dropped
 sized_lost query room c n m (text ∷ texts) dropped =
-    by_test (λ t. nat_lt m n ≡ t → (n ≤ m) × (is_too_large query room c m (slice_get (text ∷ texts) (m - n)) ≡ true)) (nat_lt m n)
+    let all = sized_from query room c n (text ∷ texts) in
+    let rest = sized_from query room c (n + 1) texts in
+    by_test (λ t. nat_lt m n ≡ t → (n ≤ m) × (is_too_large query room c m (selected_in query c (text ∷ texts) (m - n)) ≡ true)) (nat_lt m n)
     (λ _ below.
     let low = lt_holds m n below in
-    apart (sym (no_range_below c m m (sized_from room c n (text ∷ texts)) (sized_ordered room c m n (text ∷ texts) low) (omega arith)) ∙ dropped))
+    apart (sym (no_range_below c m m all (sized_ordered query room c m n (text ∷ texts) low) (omega arith)) ∙ dropped))
     (λ _ up.
     let from = lt_fails m n up in
-    by_test (λ t. nat_le m n ≡ t → (n ≤ m) × (is_too_large query room c m (slice_get (text ∷ texts) (m - n)) ≡ true)) (nat_le m n)
+    by_test (λ t. nat_le m n ≡ t → (n ≤ m) × (is_too_large query room c m (selected_in query c (text ∷ texts) (m - n)) ≡ true)) (nat_le m n)
     (λ _ low.
     let le = le_holds m n low in
     let one : m ≡ n = omega arith in
     let none : m - n ≡ 0 = omega arith in
-    let above = sized_ordered room c n (n + 1) texts (omega arith) in
-    let large = sized_large room c n text (sized_from room c (n + 1) texts) (no_range_below c n n _ above (omega arith))
-    (subst (λ x. in_ranges (ranges_in c (sized_from room c n (text ∷ texts))) x ≡ true) one dropped) in
-    (from, (λ i. is_too_large query room c (one i) (slice_get (text ∷ texts) (none i))) ∙ large))
+    let above = sized_ordered query room c n (n + 1) texts (omega arith) in
+    let large = put_large query room c n text rest (no_range_below c n n _ above (omega arith)) (subst (λ x. in_ranges (ranges_in c all) x ≡ true) one dropped) in
+    (from, (λ i. is_too_large query room c (one i) (selected_in query c (text ∷ texts) (none i))) ∙ large))
     (λ _ high.
     let more = le_fails m n high in
-    let rest = sized_lost query room c (n + 1) m texts (sym (sized_range_apart room c n m text (sized_from room c (n + 1) texts) more) ∙ dropped) in
-    (from, ap (λ i. is_too_large query room c m (slice_get (text ∷ texts) i)) (step_back m n more) ∙ rest.1))
+    let behind = sized_lost query room c (n + 1) m texts (sym (put_range_apart (is_wanted query c text) room c n m text rest more) ∙ dropped) in
+    (from, ap (λ i. is_too_large query room c m (selected_in query c (text ∷ texts) i)) (step_back m n more) ∙ behind.1))
     refl)
     refl
 
@@ -159,26 +200,12 @@ text_is records m n one up =
     got_dropped (m - 1) records (n - m) (n - 1) (omega arith)
     ∙ sym (ap (λ t. cond t None (slice_get records (n - 1))) (eq_refused n 0 (inr (omega arith))))
 
-all_selected : (query : QueryList) (c : List ℕ) (text : Option (List ℕ)) → is_selected query.items c ≡ true → option_and_then (selected_text query c) text ≡ text
-all_selected query c None selected = refl
-all_selected query c (Some text) selected = ap (λ t. cond t (Some text) None) selected
-
-none_selected : (query : QueryList) (c : List ℕ) (text : Option (List ℕ)) → is_selected query.items c ≡ false → option_and_then (selected_text query c) text ≡ None
-none_selected query c None other = refl
-none_selected query c (Some text) other = ap (λ t. cond t (Some text) None) other
-
-all_sized : (query : QueryList) (room : ℕ) (c : List ℕ) (n : ℕ) (texts : List (List ℕ)) → is_selected query.items c ≡ true
-    → filter_map (item_of query room) (numbered_from c n texts) ≡ sized_from room c n texts
-all_sized query room c n [] selected = refl
-all_sized query room c n (text ∷ texts) selected = λ i. cons_option (cond (selected i) (Some (sized room c n text)) None) (all_sized query room c (n + 1) texts selected i)
-
-none_sized : (query : QueryList) (room : ℕ) (c : List ℕ) (n : ℕ) (texts : List (List ℕ)) → is_selected query.items c ≡ false
-    → filter_map (item_of query room) (numbered_from c n texts) ≡ []
-none_sized query room c n [] other = refl
-none_sized query room c n (text ∷ texts) other = λ i. cons_option (cond (other i) (Some (sized room c n text)) None) (none_sized query room c (n + 1) texts other i)
+all_sized : (query : QueryList) (room : ℕ) (c : List ℕ) (n : ℕ) (texts : List (List ℕ)) → filter_map (item_of query room) (numbered_from c n texts) ≡ sized_from query room c n texts
+all_sized query room c n [] = refl
+all_sized query room c n (text ∷ texts) = ap (put (is_wanted query c text) (sized room c n text)) (all_sized query room c (n + 1) texts)
 
 large_is_there : (query : QueryList) (room : ℕ) (c : List ℕ) (n i : ℕ) (texts : List (List ℕ)) (text : Option (List ℕ)) → slice_get texts i ≡ text
-    → is_too_large query room c n text ≡ true → i < length texts
+    → is_too_large query room c n (option_and_then (selected_text query c) text) ≡ true → i < length texts
 large_is_there query room c n i texts None is large = apart large
 large_is_there query room c n i texts (Some text) is large = slice_get_within texts i text is
 
@@ -186,45 +213,31 @@ large_is_there query room c n i texts (Some text) is large = slice_get_within te
 abbrev pub items_from : QueryList → ℕ → List ℕ → History → ℕ → List Item
 items_from query room c records first = filter_map (item_of query room) (records_from c records first)
 
-selected_says : (query : QueryList) (max_bytes : ℕ) (c : List ℕ) (records : History) (capacity m : ℕ) → 1 ≤ m → m ≤ length records + 1 → is_selected query.items c ≡ true
-    → Says query max_bytes c records capacity (m - 1) (sized_from (room_of max_bytes) c m (drop (m - 1) records))
-selected_says query max_bytes c records capacity m one within selected =
+sized_says : (query : QueryList) (max_bytes : ℕ) (c : List ℕ) (records : History) (capacity m : ℕ) → 1 ≤ m → m ≤ length records + 1
+    → Says query max_bytes c records capacity (m - 1) (sized_from query (room_of max_bytes) c m (drop (m - 1) records))
+sized_says query max_bytes c records capacity m one within =
     let room = room_of max_bytes in
     let texts = drop (m - 1) records in
     let long = length-drop (m - 1) records in
     record {
-      ordered = sized_ordered room c (m - 1) m texts (omega arith);
-      ends = sized_ends room c m (length records) texts (omega arith);
+      ordered = sized_ordered query room c (m - 1) m texts (omega arith);
+      ends = sized_ends query room c m (length records) texts (omega arith);
       exact = λ n over.
-          sized_exact room c m n texts (omega arith)
-          ∙ ap (unless_dropped (in_ranges (ranges_in c (sized_from room c m texts)) n)) (text_is records m n one (omega arith) ∙ sym (all_selected query c (text_at records n) selected));
+          sized_exact query room c m n texts (omega arith)
+          ∙ ap (λ text. unless_dropped (in_ranges (ranges_in c (sized_from query room c m texts)) n) (option_and_then (selected_text query c) text)) (text_is records m n one (omega arith));
       lost = λ n dropped.
           let large = sized_lost query room c m n texts dropped in
           let from = large.0 in
           let there = large_is_there query room c n (n - m) texts (slice_get texts (n - m)) refl large.1 in
-          (omega arith, omega arith, inr (ap (is_too_large query room c n) (sym (text_is records m n one from ∙ sym (all_selected query c (text_at records n) selected))) ∙ large.1));
+          (omega arith, omega arith, inr (ap (λ text. is_too_large query room c n (option_and_then (selected_text query c) text)) (sym (text_is records m n one from)) ∙ large.1));
     }
-
-nothing_says : (query : QueryList) (max_bytes : ℕ) (c : List ℕ) (records : History) (capacity p : ℕ) → is_selected query.items c ≡ false → Says query max_bytes c records capacity p []
-nothing_says query max_bytes c records capacity p other = record {
-  ordered = tt;
-  ends = tt;
-  exact = λ n over. sym (none_selected query c (text_at records n) other);
-  lost = λ n dropped. apart dropped;
-}
 
 -- the items from a number on say all that the history has from there on
 from_says : (query : QueryList) (max_bytes : ℕ) (c : List ℕ) (records : History) (capacity m : ℕ) → 1 ≤ m → m ≤ length records + 1
     → Says query max_bytes c records capacity (m - 1) (items_from query (room_of max_bytes) c records m)
 from_says query max_bytes c records capacity m one within =
-    by_test (λ t. is_selected query.items c ≡ t → Says query max_bytes c records capacity (m - 1) (items_from query (room_of max_bytes) c records m)) (is_selected query.items c)
-    (λ _ selected.
-    subst (λ items. Says query max_bytes c records capacity (m - 1) items) (sym (all_sized query (room_of max_bytes) c m (drop (m - 1) records) selected))
-    (selected_says query max_bytes c records capacity m one within selected))
-    (λ _ other.
-    subst (λ items. Says query max_bytes c records capacity (m - 1) items) (sym (none_sized query (room_of max_bytes) c m (drop (m - 1) records) other))
-    (nothing_says query max_bytes c records capacity (m - 1) other))
-    refl
+    subst (λ items. Says query max_bytes c records capacity (m - 1) items) (sym (all_sized query (room_of max_bytes) c m (drop (m - 1) records)))
+    (sized_says query max_bytes c records capacity m one within)
 
 -- ---- with the records that left the window unread
 

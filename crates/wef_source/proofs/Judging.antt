@@ -17,7 +17,6 @@ use Rattle.wef_keeper.specs.Rows.{Rows}
 use Rattle.wef_keeper.specs.Sections.{rows_under}
 use Rattle.wef_keeper.specs.declared.keys.Depth.TheVariants.{Channel}
 use Rattle.wef_keeper.specs.declared.keys.Row.{Row}
-use Rattle.wef_query.specs.Selected.{is_selected}
 use Rattle.wef_query.specs.declared.QueryList.{QueryList}
 use Rattle.wef_source_log.specs.Judged.{JudgesFirst, JudgesPage}
 use Rattle.wef_source_log.specs.Keys.{record_key}
@@ -26,6 +25,7 @@ use Rattle.wef_source_log.proofs.Records.{nothing_read, page_read, page_within}
 use Rattle.wef_source.specs.Building.{candidates, channel_candidates, first_number, has_room, is_of, item_of, left_items, reaches, room_of, session_channels, sized_item, unread}
 use Rattle.wef_source.specs.Drafting.{empty_draft, offered, with_item, with_items}
 use Rattle.wef_source.specs.Judged.{AreRead, AreReadIn, AreSound, JudgesBatch, JudgesChannel, JudgesChannels, StopsOrGoes}
+use Rattle.wef_source.specs.Selecting.{is_wanted}
 use Rattle.wef_source.specs.declared.drafting.Draft.{Draft}
 use Rattle.wef_source.specs.declared.sessions.Session.{Session}
 use Rattle.wef_source.proofs.Drafts.{first_of as first_left, left_taken, reaches_by_first, taken_none}
@@ -51,7 +51,7 @@ left_has P d (i ∷ is) has all = left_has P (with_item d i) is (one_has P d i h
 items_have : (P : Item → Type 0) (Q : Event → Type 0) (query : QueryList) (room : ℕ) → ((event : Event) → Q event → P (sized_item room event)) → (events : List Event) → AllByRecursion Q events
     → AllByRecursion P (filter_map (item_of query room) events)
 items_have P Q query room gives [] all = tt
-items_have P Q query room gives (event ∷ events) all = by (items_have P Q query room gives events all.1) (is_selected query.items event.channel)
+items_have P Q query room gives (event ∷ events) all = by (items_have P Q query room gives events all.1) (is_wanted query event.channel event.text)
   where
     by : AllByRecursion P (filter_map (item_of query room) events) → (b : Bool) → AllByRecursion P (cons_option (if b then Some (sized_item room event) else None) (filter_map (item_of query room) events))
     by rest true = (gives event all.0, rest)

@@ -17,12 +17,12 @@ use Rattle.wef_keeper.specs.Rows.{Rows}
 use Rattle.wef_keeper.specs.Sections.{rows_under}
 use Rattle.wef_keeper.specs.declared.keys.Depth.TheVariants.{Channel}
 use Rattle.wef_keeper.specs.declared.keys.Row.{Row}
-use Rattle.wef_query.specs.Selected.{is_selected}
 use Rattle.wef_query.specs.declared.QueryList.{QueryList}
 use Rattle.wef_source_log.specs.Keys.{record_key}
 use Rattle.wef_source_log.specs.Windows.{event_of_row, first_of, records_after}
 use Rattle.wef_source.specs.Building.{built, candidates, channel_candidates, fitting, has_room, item_of, room_of, session_channels, sized_item}
 use Rattle.wef_source.specs.Laws.{EmptyMeansNothingToSend}
+use Rattle.wef_source.specs.Selecting.{is_wanted}
 use Rattle.wef_source.specs.declared.sessions.Session.{Session}
 use Rattle.wef_bookmark.specs.Order.{number_at}
 use Rattle.wef_source.proofs.Cases.{and_true, by_bool, by_test, le_tested, lt_fails, lt_tested, or_true, same_itself}
@@ -124,7 +124,7 @@ sized_cheap room event enough short =
 records_cheap : (query : QueryList) (room : ℕ) (c : List ℕ) (rows : List Row) → 4096 ≤ room → length c ≤ 256 → AreCheap room (filter_map (item_of query room) (map (event_of_row c) rows))
 records_cheap query room c [] enough short = tt
 records_cheap query room c (row ∷ rows) enough short =
-    by_test (λ t. AreCheap room (cons_option (cond t (Some (sized_item room (event_of_row c row))) None) (filter_map (item_of query room) (map (event_of_row c) rows)))) (is_selected query.items c)
+    by_test (λ t. AreCheap room (cons_option (cond t (Some (sized_item room (event_of_row c row))) None) (filter_map (item_of query room) (map (event_of_row c) rows)))) (is_wanted query c row.body)
     (λ _. (sized_cheap room (event_of_row c row) enough short, records_cheap query room c rows enough short))
     (λ _. records_cheap query room c rows enough short)
 

@@ -13,9 +13,10 @@ use Rattle.wef_batch.specs.declared.items.Item.TheVariants as item
 use Rattle.wef_bookmark.specs.Order.{Marks, number_at, raised}
 use Rattle.wef_event.specs.Events.{Event}
 use Rattle.wef_keeper.specs.Rows.{Rows}
-use Rattle.wef_query.specs.Selected.{channels_of, is_selected}
+use Rattle.wef_query.specs.Selected.{channels_of}
 use Rattle.wef_query.specs.declared.QueryList.{QueryList}
 use Rattle.wef_source_log.specs.Windows.{first_of, last_of, records_after}
+use Rattle.wef_source.specs.Selecting.{is_wanted}
 use Rattle.wef_source.specs.declared.sessions.Session.{Session}
 
 -- the room that a batch has for items
@@ -29,7 +30,7 @@ sized_item room event =
 
 -- what a record gives: an item where the query selects it
 abbrev pub item_of : QueryList → ℕ → Event → Option Item
-item_of query room event = if is_selected query.items event.channel then Some (sized_item room event) else None
+item_of query room event = if is_wanted query event.channel event.text then Some (sized_item room event) else None
 
 -- the records of a channel that left the window unread: those above the position and below the window's first
 abbrev pub unread : Rows → List ℕ → ℕ → List Item

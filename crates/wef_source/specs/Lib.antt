@@ -9,6 +9,7 @@ pub mod Laws
 pub mod Machine
 pub mod Placing
 pub mod Prepared
+pub mod Selecting
 pub mod Serving
 pub mod Sessions
 pub mod State

@@ -3,10 +3,10 @@ use Rattle.std.specs.Prelude.{◌≡◌, ℕ, ◌+◌, ◌≤◌, ◌<◌, nat_l
 use Rattle.std.specs.Option.{option_and_then}
 use Rattle.wef_batch.specs.Cost.{cost}
 use Rattle.wef_batch.specs.declared.items.Item.TheVariants as item
-use Rattle.wef_query.specs.Selected.{is_selected}
 use Rattle.wef_query.specs.declared.QueryList.{QueryList}
 use Rattle.wef_source_log.specs.Histories.{History, text_at}
 use Rattle.wef_source.specs.Building.{room_of}
+use Rattle.wef_source.specs.Selecting.{is_wanted}
 
 -- What a subscription settles of its batches: which records are sent, and how many bytes a batch may have.
 pub record Settings : Type 0 where
@@ -34,7 +34,7 @@ EndBy t (r ∷ rs) = (r.1 ≤ t) × EndBy t rs
 
 -- the text of a channel's record, where the query selects it
 abbrev pub selected_text : QueryList → List ℕ → List ℕ → Option (List ℕ)
-selected_text query c text = if is_selected query.items c then Some text else None
+selected_text query c text = if is_wanted query c text then Some text else None
 
 -- the text that a number's record has, where the query selects it
 abbrev pub selected_at : QueryList → List ℕ → History → ℕ → Option (List ℕ)

@@ -1,6 +1,6 @@
 //! Drafts of batches: candidates are offered one after the other, and taken while they fit.
 
-ghost use Rattle.std.specs.Prelude.{◌≡◌, ◌+◌, ◌∷◌, [], min, is_some, Some, None, IfErr, IfSome, OnOk};
+ghost use Rattle.std.specs.Prelude.{◌≡◌, ◌+◌, ◌∷◌, [], min, is_some, Some, None, IfErr, IfOk, IfSome, OnOk};
 ghost use Rattle.std.specs.List.{filter_map};
 ghost use Rattle.wef_batch.specs.Numbers.{IsNumbered};
 ghost use Rattle.wef_keeper.specs.Access as access;
@@ -11,6 +11,7 @@ ghost use Rattle.wef_source.specs.Faults.{source_store};
 ghost use Rattle.wef_source.specs.Building as building;
 ghost use Rattle.wef_source.specs.Drafting as spec;
 ghost use Rattle.wef_source.specs.Judged as judged;
+ghost use Rattle.wef_source.specs.Selecting.{is_wanted};
 ghost use Rattle.wef_source_log.specs.Judged.{JudgesFirst};
 ghost use Rattle.wef_source_log.specs.Windows as windows;
 ghost use Rattle.wef_source_log.specs.Windows.{records_after};
@@ -22,7 +23,7 @@ use wef_base::{ChannelName, List};
 use wef_batch::{Item, cost};
 use wef_event::Event;
 use wef_keeper::Keeper;
-use wef_query::{QueryList, selected};
+use wef_query::{QueryList, selected, selects_all};
 use wef_source_log::Log;
 
 /// The most records that are read at once.
@@ -215,7 +216,7 @@ impl Draft {
         ensures ok { OnOk result (self.new ≡ spec.with_items self.old (filter_map (building.item_of query.now room) (event ∷ []))) }
         ensures numbered { OnOk result (spec.IsNumberedDraft self.new) }
     {
-        if !selected(query, &event.channel) {
+        if !is_wanted(query, &event)? {
             return Ok(());
         }
         self.take(sized_item(room, event))
@@ -237,6 +238,20 @@ impl Draft {
         }
         Ok(())
     }
+}
+
+/// Whether a query selects an event, by its tree; that isn't read where each event of the channel is
+/// selected.
+#[tactic(auto, unfolding(crate::specs::Selecting::is_wanted))]
+fn is_wanted(query: &QueryList, event: &Event) -> Result<bool, AllocError>
+    ensures { IfOk result (λ wanted. wanted ≡ is_wanted query.now event.now.channel event.now.text) }
+{
+    if selects_all(query, &event.channel) {
+        event.has_tree();
+        return Ok(true);
+    }
+    let root = event.tree()?;
+    Ok(selected(query, &event.channel, &root))
 }
 
 /// The bytes that a session's batch has for items: 4,096 of its bytes are for what stands round them.

@@ -2,7 +2,7 @@ use Rattle.std.proofs.Common.{◌≡◌, true, subst, sym}
 use Rattle.std.proofs.lemmas.Bool.{and_parts}
 use Rattle.wef_batch.specs.Numbers.{AreNumbered}
 use Rattle.wef_batch.specs.declared.items.Batch.{Batch as TheBatch}
-use Rattle.wef_machine.proofs.GoodLines.{all_events, numbered_batch}
+use Rattle.wef_machine.proofs.GoodLines.{subscription_again, numbered_batch}
 use Rattle.wef_machine.specs.States.{names_of}
 use Rattle.wef_machine.specs.Steps.{admits}
 use Rattle.wef_replay.specs.Good.{allows, is_line}
@@ -14,7 +14,7 @@ pub subscribe-requires-clause-back : goal.subscribe-requires-clause-back
 subscribe-requires-clause-back g c =
     let line : Line = Subscribe c.in-Subscribe.sub c.in-Subscribe.items c.in-Subscribe.bytes c.in-Subscribe.beat c.in-Subscribe.query in
     let good = subst (λ (l : Line). admits c.args.self.now l ≡ true) c.in-Subscribe.is c.requires.admitted in
-    all_events c.in-Subscribe.sub c.in-Subscribe.items c.in-Subscribe.bytes c.in-Subscribe.beat c.in-Subscribe.query (and_parts (is_line line) (allows (names_of c.args.self.now) line) good).0
+    subscription_again c.in-Subscribe.sub c.in-Subscribe.items c.in-Subscribe.bytes c.in-Subscribe.beat c.in-Subscribe.query (and_parts (is_line line) (allows (names_of c.args.self.now) line) good).0
 
 pub take-requires-clause-numbered : goal.take-requires-clause-numbered
 take-requires-clause-numbered g c =

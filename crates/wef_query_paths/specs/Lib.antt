@@ -1,0 +1,10 @@
+pub mod formers
+pub mod Grammar
+pub mod Laws
+pub mod Levels
+pub mod Paths
+pub mod Reading
+pub mod Reads
+pub mod Steps
+pub mod Tokens
+pub mod Turns

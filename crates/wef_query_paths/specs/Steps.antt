@@ -1,0 +1,9 @@
+-- Where steps go.
+use Rattle.std.specs.Prelude.{Bool, true, false}
+use Rattle.wef_query_paths.specs.declared.path.Axis.{Axis}
+use Rattle.wef_query_paths.specs.declared.path.Axis.TheVariants.{Child, Attribute}
+
+-- whether an axis leads to the children of a node
+abbrev pub goes_to_children : Axis → Bool
+goes_to_children Child = true
+goes_to_children Attribute = false

@@ -1,0 +1,237 @@
+//! Steps of a path that is being read, and the place where it stands.
+
+ghost use Rattle.std.specs.Prelude.{◌≡◌, Some, IfOk};
+ghost use Rattle.wef_query_paths.specs.declared.turns.Next.TheVariants.{BehindStep};
+ghost use Rattle.wef_query_paths.specs.Levels.{is_whole, with_predicate, with_step};
+ghost use Rattle.wef_query_paths.specs.Reads.{Reads, Turns};
+ghost use Rattle.wef_query_paths.specs.Turns.{before_predicate, before_step, before_test, behind_count, behind_path, behind_slash, behind_step, name_test, whole_path};
+
+use crate::conditions::{Level, Levels, before_unit};
+use crate::faults::PathFault;
+use crate::path::{Axis, Literal, NameTest, Path, Predicate, Step, Value};
+use crate::tokens::Token;
+use crate::turns::Next;
+use crate::values::{Side, before_comma};
+use std::alloc::{AllocError, Global};
+use wef_base::List;
+
+/// Where a path stands.
+pub enum Place {
+    /// It is all of the text.
+    Whole,
+    /// It is a value.
+    InValue(Side),
+    /// It is in a value `band(path, number)`.
+    InBand(Side),
+}
+
+/// One call for whoever lets it go, whatever it is.
+impl Drop for Place {
+    fn drop(self) {
+        match self {
+            Place::Whole => {}
+            Place::InValue(_) => {}
+            Place::InBand(_) => {}
+        }
+    }
+}
+
+impl Place {
+    /// Whether the path is all of the text.
+    pub(crate) fn is_whole(&self) -> bool
+        ensures { result ≡ is_whole self.now }
+    {
+        match self {
+            Place::Whole => true,
+            Place::InValue(_) | Place::InBand(_) => false,
+        }
+    }
+
+    /// Takes what follows a path.
+    fn behind_path(
+        self,
+        alloc: Global,
+        levels: &mut Levels,
+        path: Path,
+        token: Token,
+    ) -> Result<Next, PathFault>
+        ensures { Turns result levels.new (behind_path levels.old self path token) }
+    {
+        match self {
+            Place::Whole => Err(PathFault::BadPath),
+            Place::InValue(side) => side.behind_value(alloc, levels, Value::Nodes(path), token),
+            Place::InBand(side) => before_comma(side, path, token),
+        }
+    }
+}
+
+pub(crate) fn before_step(
+    alloc: Global,
+    place: Place,
+    so_far: Option<Path>,
+    token: Token,
+) -> Result<Next, PathFault>
+    ensures { Reads result (before_step place so_far token) }
+{
+    match token {
+        Token::Along(axis) => Ok(Next::BeforeTest(place, so_far, axis)),
+        token => before_test(alloc, place, so_far, Axis::Child, token),
+    }
+}
+
+pub(crate) fn before_test(
+    alloc: Global,
+    place: Place,
+    so_far: Option<Path>,
+    axis: Axis,
+    token: Token,
+) -> Result<Next, PathFault>
+    ensures { Reads result (before_test place so_far axis token) }
+{
+    let test = name_test(token)?;
+    let step = Step {
+        axis,
+        test,
+        predicates: List::new(alloc),
+    };
+    Ok(Next::BehindStep(place, so_far, step))
+}
+
+fn name_test(token: Token) -> Result<NameTest, PathFault>
+    ensures { Reads result (name_test token) }
+{
+    match token {
+        Token::Star => Ok(NameTest::Any),
+        Token::Word(name) => Ok(NameTest::Named(name)),
+        _ => Err(PathFault::BadPath),
+    }
+}
+
+pub(crate) fn behind_step(
+    alloc: Global,
+    levels: &mut Levels,
+    place: Place,
+    so_far: Option<Path>,
+    step: Step,
+    token: Token,
+) -> Result<Next, PathFault>
+    ensures { Turns result levels.new (behind_step levels.old place so_far step token) }
+{
+    match token {
+        Token::OpenSquare => Ok(Next::BeforePredicate(place, so_far, step)),
+        Token::Slash => behind_slash(alloc, place, so_far, step),
+        token => {
+            let path = with_step(alloc, so_far, step)?;
+            place.behind_path(alloc, levels, path, token)
+        }
+    }
+}
+
+/// An attribute step is the last of its path.
+fn behind_slash(
+    alloc: Global,
+    place: Place,
+    so_far: Option<Path>,
+    step: Step,
+) -> Result<Next, PathFault>
+    ensures { Reads result (behind_slash place so_far step) }
+{
+    if !step.axis.goes_to_children() {
+        return Err(PathFault::BadPath);
+    }
+    let path = with_step(alloc, so_far, step)?;
+    Ok(Next::BeforeStep(place, Some(path)))
+}
+
+pub(crate) fn before_predicate(
+    alloc: Global,
+    levels: &mut Levels,
+    place: Place,
+    so_far: Option<Path>,
+    step: Step,
+    token: Token,
+) -> Result<Next, PathFault>
+    ensures { Turns result levels.new (before_predicate levels.old place so_far step token) }
+{
+    match token {
+        Token::Figure(number) => Ok(Next::BehindCount(place, so_far, step, number)),
+        token => {
+            levels.push(Level::square(place, so_far, step))?;
+            before_unit(alloc, levels, token)
+        }
+    }
+}
+
+/// A number alone is the place of a node, and before an operator a literal.
+pub(crate) fn behind_count(
+    levels: &mut Levels,
+    place: Place,
+    so_far: Option<Path>,
+    step: Step,
+    number: u64,
+    token: Token,
+) -> Result<Next, PathFault>
+    ensures { Turns result levels.new (behind_count levels.old place so_far step number token) }
+{
+    match token {
+        Token::CloseSquare => { behind_predicate(place, so_far, step, Predicate::At(number)) }
+        Token::Compare(operator) => {
+            levels.push(Level::square(place, so_far, step))?;
+            Ok(Next::BeforeValue(Literal::Number(number), operator))
+        }
+        _ => Err(PathFault::BadPath),
+    }
+}
+
+/// A path that is all of the text.
+pub(crate) fn whole_path(
+    alloc: Global,
+    place: &Place,
+    so_far: Option<Path>,
+    step: Step,
+) -> Result<Path, PathFault>
+    ensures { Reads result (whole_path place.now so_far step) }
+{
+    if !place.is_whole() {
+        return Err(PathFault::BadPath);
+    }
+    Ok(with_step(alloc, so_far, step)?)
+}
+
+/// A path with one more step.
+pub(crate) fn with_step(alloc: Global, so_far: Option<Path>, step: Step) -> Result<Path, AllocError>
+    ensures { IfOk result (λ path. path ≡ with_step so_far step) }
+{
+    match so_far {
+        None => Ok(Path {
+            first: step,
+            rest: List::new(alloc),
+        }),
+        Some(mut path) => {
+            path.rest.push(step)?;
+            Ok(path)
+        }
+    }
+}
+
+/// Behind the `]` of a predicate.
+pub(crate) fn behind_predicate(
+    place: Place,
+    so_far: Option<Path>,
+    step: Step,
+    predicate: Predicate,
+) -> Result<Next, PathFault>
+    ensures { Reads result (Some (BehindStep place so_far (with_predicate step predicate))) }
+{
+    let step = with_predicate(step, predicate)?;
+    Ok(Next::BehindStep(place, so_far, step))
+}
+
+/// A step with one more predicate.
+fn with_predicate(step: Step, predicate: Predicate) -> Result<Step, AllocError>
+    ensures { IfOk result (λ longer. longer ≡ with_predicate step predicate) }
+{
+    let mut step = step;
+    step.predicates.push(predicate)?;
+    Ok(step)
+}

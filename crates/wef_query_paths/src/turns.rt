@@ -1,0 +1,127 @@
+//! What may come next in a path, and what a token makes of it.
+
+ghost use Rattle.wef_query_paths.specs.Reads.{Reads, Turns};
+ghost use Rattle.wef_query_paths.specs.Turns.{ended, turn};
+
+use crate::conditions::{Levels, before_unit, behind_unit};
+use crate::faults::PathFault;
+use crate::path::{Axis, Literal, Operator, Path, Step, Unit, Value};
+use crate::steps::{
+    Place, before_predicate, before_step, before_test, behind_count, behind_step, whole_path,
+};
+use crate::tokens::Token;
+use crate::values::{
+    Side, before_literal, before_mask, before_value, behind_band, behind_literal, behind_mask,
+    behind_position, in_position,
+};
+use std::alloc::Global;
+
+/// What may come next, with what is read of the innermost path or unit.
+pub enum Next {
+    /// A step of a path, of which so much is read.
+    BeforeStep(Place, Option<Path>),
+    /// The name of a step along an axis.
+    BeforeTest(Place, Option<Path>, Axis),
+    /// A predicate, a further step, or what follows the path.
+    BehindStep(Place, Option<Path>, Step),
+    /// What a `[` begins: a number or a condition.
+    BeforePredicate(Place, Option<Path>, Step),
+    /// Behind a `[` and a number: the `]`, or an operator.
+    BehindCount(Place, Option<Path>, Step, u64),
+    BeforeUnit,
+    /// Behind a literal that begins a unit: an operator.
+    BehindLiteral(Literal),
+    /// Behind a literal and an operator: a value.
+    BeforeValue(Literal, Operator),
+    /// The `(` of `position()`.
+    BehindPosition(Side),
+    /// The `)` of `position()`.
+    InPosition(Side),
+    /// The `(` of `band(path, number)`.
+    BehindBand(Side),
+    /// The number of `band(path, number)`.
+    BeforeMask(Side, Path),
+    /// The `)` of `band(path, number)`.
+    BehindMask(Side, Path, u64),
+    /// An operator, or what follows a unit.
+    BehindValue(Side, Value),
+    /// Behind a value and an operator: a literal.
+    BeforeLiteral(Value, Operator),
+    /// `and`, `or`, or the end of the bracket.
+    BehindUnit(Unit),
+}
+
+/// One call for whoever lets it go, whatever it is.
+impl Drop for Next {
+    fn drop(self) {
+        match self {
+            Next::BeforeStep(_, _) => {}
+            Next::BeforeTest(_, _, _) => {}
+            Next::BehindStep(_, _, _) => {}
+            Next::BeforePredicate(_, _, _) => {}
+            Next::BehindCount(_, _, _, _) => {}
+            Next::BeforeUnit => {}
+            Next::BehindLiteral(_) => {}
+            Next::BeforeValue(_, _) => {}
+            Next::BehindPosition(_) => {}
+            Next::InPosition(_) => {}
+            Next::BehindBand(_) => {}
+            Next::BeforeMask(_, _) => {}
+            Next::BehindMask(_, _, _) => {}
+            Next::BehindValue(_, _) => {}
+            Next::BeforeLiteral(_, _) => {}
+            Next::BehindUnit(_) => {}
+        }
+    }
+}
+
+impl Next {
+    /// Takes a token.
+    pub(crate) fn turn(
+        self,
+        alloc: Global,
+        levels: &mut Levels,
+        token: Token,
+    ) -> Result<Next, PathFault>
+        ensures { Turns result levels.new (turn levels.old self token) }
+    {
+        match self {
+            Next::BeforeStep(place, so_far) => before_step(alloc, place, so_far, token),
+            Next::BeforeTest(place, so_far, axis) => before_test(alloc, place, so_far, axis, token),
+            Next::BehindStep(place, so_far, step) => behind_step(
+                alloc, levels, place, so_far, step, token,
+            ),
+            Next::BeforePredicate(place, so_far, step) => before_predicate(
+                alloc, levels, place, so_far, step, token,
+            ),
+            Next::BehindCount(place, so_far, step, number) => behind_count(
+                levels, place, so_far, step, number, token,
+            ),
+            Next::BeforeUnit => before_unit(alloc, levels, token),
+            Next::BehindLiteral(literal) => behind_literal(literal, token),
+            Next::BeforeValue(literal, operator) => before_value(
+                alloc,
+                Side::Right(literal, operator),
+                token,
+            ),
+            Next::BehindPosition(side) => behind_position(side, token),
+            Next::InPosition(side) => in_position(side, token),
+            Next::BehindBand(side) => behind_band(side, token),
+            Next::BeforeMask(side, path) => before_mask(side, path, token),
+            Next::BehindMask(side, path, mask) => behind_mask(side, path, mask, token),
+            Next::BehindValue(side, value) => side.behind_value(alloc, levels, value, token),
+            Next::BeforeLiteral(value, operator) => before_literal(value, operator, token),
+            Next::BehindUnit(unit) => behind_unit(alloc, levels, unit, token),
+        }
+    }
+
+    /// The path, where the text may end and no bracket is open.
+    pub(crate) fn finish(self, alloc: Global) -> Result<Path, PathFault>
+        ensures { Reads result (ended self) }
+    {
+        match self {
+            Next::BehindStep(place, so_far, step) => whole_path(alloc, &place, so_far, step),
+            _ => Err(PathFault::BadPath),
+        }
+    }
+}

@@ -1,0 +1,207 @@
+//! Values that are being read, and the side of a comparison on which they stand.
+
+ghost use Rattle.std.specs.Prelude.{◌≡◌};
+ghost use Rattle.wef_query_paths.specs.Reads.{Reads, Turns};
+ghost use Rattle.wef_query_paths.specs.Turns.{before_comma, before_literal, before_mask, before_value, behind_alone, behind_band, behind_left, behind_literal, behind_mask, behind_position, behind_value, in_position, is_position, may_be_position};
+
+use crate::conditions::{Levels, behind_unit};
+use crate::faults::PathFault;
+use crate::path::{Literal, Operator, Path, Unit, Value};
+use crate::steps::{Place, before_step};
+use crate::tokens::Token;
+use crate::turns::Next;
+use std::alloc::Global;
+
+/// The side of a comparison on which a value stands.
+pub enum Side {
+    /// It comes first, or alone.
+    Left,
+    /// A literal and the operator came before it.
+    Right(Literal, Operator),
+}
+
+/// One call for whoever lets it go, whatever it is.
+impl Drop for Side {
+    fn drop(self) {
+        match self {
+            Side::Left => {}
+            Side::Right(_, _) => {}
+        }
+    }
+}
+
+impl Side {
+    /// Takes what follows a value.
+    pub(crate) fn behind_value(
+        self,
+        alloc: Global,
+        levels: &mut Levels,
+        value: Value,
+        token: Token,
+    ) -> Result<Next, PathFault>
+        ensures { Turns result levels.new (behind_value levels.old self value token) }
+    {
+        match self {
+            Side::Left => behind_left(alloc, levels, value, token),
+            Side::Right(literal, operator) => {
+                let unit = Unit::Mirrored(literal, operator, value);
+                behind_unit(alloc, levels, unit, token)
+            }
+        }
+    }
+}
+
+pub(crate) fn before_value(alloc: Global, side: Side, token: Token) -> Result<Next, PathFault>
+    ensures { Reads result (before_value side token) }
+{
+    match token {
+        Token::PositionCall => {
+            if may_be_position(&side) {
+                return Ok(Next::BehindPosition(side));
+            }
+            Err(PathFault::BadPath)
+        }
+        Token::BandCall => Ok(Next::BehindBand(side)),
+        token => before_step(alloc, Place::InValue(side), None, token),
+    }
+}
+
+/// Whether a value may be `position()`, which is compared with a number.
+fn may_be_position(side: &Side) -> bool
+    ensures { result ≡ may_be_position side.now }
+{
+    match side {
+        Side::Left => true,
+        Side::Right(Literal::Number(_), _) => true,
+        Side::Right(Literal::Quoted(_), _) => false,
+    }
+}
+
+pub(crate) fn behind_position(side: Side, token: Token) -> Result<Next, PathFault>
+    ensures { Reads result (behind_position side token) }
+{
+    match token {
+        Token::OpenRound => Ok(Next::InPosition(side)),
+        _ => Err(PathFault::BadPath),
+    }
+}
+
+pub(crate) fn in_position(side: Side, token: Token) -> Result<Next, PathFault>
+    ensures { Reads result (in_position side token) }
+{
+    match token {
+        Token::CloseRound => Ok(Next::BehindValue(side, Value::Position)),
+        _ => Err(PathFault::BadPath),
+    }
+}
+
+pub(crate) fn behind_band(side: Side, token: Token) -> Result<Next, PathFault>
+    ensures { Reads result (behind_band side token) }
+{
+    match token {
+        Token::OpenRound => Ok(Next::BeforeStep(Place::InBand(side), None)),
+        _ => Err(PathFault::BadPath),
+    }
+}
+
+pub(crate) fn before_comma(side: Side, path: Path, token: Token) -> Result<Next, PathFault>
+    ensures { Reads result (before_comma side path token) }
+{
+    match token {
+        Token::Comma => Ok(Next::BeforeMask(side, path)),
+        _ => Err(PathFault::BadPath),
+    }
+}
+
+pub(crate) fn before_mask(side: Side, path: Path, token: Token) -> Result<Next, PathFault>
+    ensures { Reads result (before_mask side path token) }
+{
+    match token {
+        Token::Figure(mask) => Ok(Next::BehindMask(side, path, mask)),
+        _ => Err(PathFault::BadPath),
+    }
+}
+
+pub(crate) fn behind_mask(
+    side: Side,
+    path: Path,
+    mask: u64,
+    token: Token,
+) -> Result<Next, PathFault>
+    ensures { Reads result (behind_mask side path mask token) }
+{
+    match token {
+        Token::CloseRound => Ok(Next::BehindValue(side, Value::Band(path, mask))),
+        _ => Err(PathFault::BadPath),
+    }
+}
+
+fn behind_left(
+    alloc: Global,
+    levels: &mut Levels,
+    value: Value,
+    token: Token,
+) -> Result<Next, PathFault>
+    ensures { Turns result levels.new (behind_left levels.old value token) }
+{
+    match token {
+        Token::Compare(operator) => Ok(Next::BeforeLiteral(value, operator)),
+        token => behind_alone(alloc, levels, value, token),
+    }
+}
+
+/// A value alone is a unit, where it isn't `position()`.
+fn behind_alone(
+    alloc: Global,
+    levels: &mut Levels,
+    value: Value,
+    token: Token,
+) -> Result<Next, PathFault>
+    ensures { Turns result levels.new (behind_alone levels.old value token) }
+{
+    if is_position(&value) {
+        return Err(PathFault::BadPath);
+    }
+    behind_unit(alloc, levels, Unit::Alone(value), token)
+}
+
+fn is_position(value: &Value) -> bool
+    ensures { result ≡ is_position value.now }
+{
+    match value {
+        Value::Position => true,
+        Value::Nodes(_) | Value::Band(_, _) => false,
+    }
+}
+
+pub(crate) fn behind_literal(literal: Literal, token: Token) -> Result<Next, PathFault>
+    ensures { Reads result (behind_literal literal token) }
+{
+    match token {
+        Token::Compare(operator) => Ok(Next::BeforeValue(literal, operator)),
+        _ => Err(PathFault::BadPath),
+    }
+}
+
+pub(crate) fn before_literal(
+    value: Value,
+    operator: Operator,
+    token: Token,
+) -> Result<Next, PathFault>
+    ensures { Reads result (before_literal value operator token) }
+{
+    match token {
+        Token::Figure(number) => {
+            let unit = Unit::Compared(value, operator, Literal::Number(number));
+            Ok(Next::BehindUnit(unit))
+        }
+        Token::Quote(text) => {
+            if is_position(&value) {
+                return Err(PathFault::BadPath);
+            }
+            let unit = Unit::Compared(value, operator, Literal::Quoted(text));
+            Ok(Next::BehindUnit(unit))
+        }
+        _ => Err(PathFault::BadPath),
+    }
+}
