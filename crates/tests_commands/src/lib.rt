@@ -1,6 +1,8 @@
 //! The commands that have a store, by example.
 #![tactic(auto)]
 
+#[cfg(test)]
+mod checks;
 pub mod documents;
 #[cfg(test)]
 mod failures;

@@ -15,6 +15,7 @@ const NO_COMMANDS: &[&str] = &[
     "add ",
     "list x",
     "replay x",
+    "check x",
     "remove",
     "remove ",
     "remove -x",

@@ -1,11 +1,13 @@
--- Why a run ends as its schedule calls for, and why it says that its store failed.
+-- Why a run ends as its input calls for, and why it says that its store failed.
 use Rattle.std.proofs.Common.{◌≡◌, ℕ, List, refl, ap, sym, subst, inl, inr}
 use Rattle.std.specs.Prelude.{◌⊎◌, Option, Some, IfSome, Result}
 use Rattle.std.specs.declared.result.Result.TheVariants.{Ok, Err}
 use Rattle.wef_replay.specs.Schedule.{schedule_of}
 use Rattle.wef_replay.specs.declared.lines.Line.{Line}
 use Rattle.wef_replay.specs.declared.schedule.ScheduleFault as fault
-use Rattle.wef_cli.specs.Complete.{EndsAsCalledFor, ending_for}
+use Rattle.wef_cli.specs.Checking.{CheckEnds, WroteAnswers, checked}
+use Rattle.wef_cli.specs.Complete.{EndsAs, EndsAsCalledFor, ending_checked, ending_for}
+use Rattle.wef_cli.specs.declared.command.Command.TheVariants.{Check, Replay}
 use Rattle.wef_cli.specs.Endings.{HasFailed, IsBadAt, IsToldAs, IsTooLong, ReplayEnds, Told, WroteTrail}
 use Rattle.wef_cli.specs.declared.ending.Ending.{Ending}
 use Rattle.wef_cli.specs.declared.ending.Ending.TheVariants as ends
@@ -31,6 +33,26 @@ told_so : (ending told goal : Ending) → IsToldAs ending told → (ending ≡ g
 told_so ending told goal (inr wanting) is = inr wanting.1
 told_so ending told goal (inl same) is = subst (λ (e : Ending). (e ≡ goal) ⊎ (e ≡ ends.NoMemory)) (sym same) is
 
-pub complete : EndsAsCalledFor
-complete ending told input out before now bytes ended same input_told reads writes =
+replay_complete : EndsAs Replay (λ bytes. ending_for (schedule_of bytes))
+replay_complete ending told input out before now bytes ended same input_told reads writes =
     told_so ending told (ending_for (schedule_of bytes)) same (ends_so ending input out bytes ended.0 input_told reads writes)
+
+was_answered : (out : Told) (given : Result (List ℕ) Ending) → WroteAnswers out given → ends.Done ≡ ending_checked given
+was_answered out (Ok text) h = refl
+was_answered out (Err e) h = absurd h
+
+checks_so : (ending : Ending) (input out : Told) (bytes : List ℕ) → CheckEnds ending input out → input.before ≡ Some bytes
+    → (HasFailed input → ⊥) → (HasFailed out → ⊥) → (ending ≡ ending_checked (checked bytes)) ⊎ (ending ≡ ends.NoMemory)
+checks_so ends.Done input out bytes ended told reads writes = inl (was_answered out (checked bytes) (told_at input.before bytes (λ b. WroteAnswers out (checked b)) told ended.1))
+checks_so (ends.BadLine k) input out bytes ended told reads writes = inl (sym (ap ending_checked (told_at input.before bytes (λ b. checked b ≡ Err (ends.BadLine k)) told ended.0.1)))
+checks_so ends.InputFailed input out bytes ended told reads writes = absurd (reads ended.0)
+checks_so ends.OutputFailed input out bytes ended told reads writes = absurd (writes ended.0)
+checks_so ends.NoMemory input out bytes ended told reads writes = inr refl
+checks_so _ input out bytes ended told reads writes = absurd ended
+
+check_complete : EndsAs Check (λ bytes. ending_checked (checked bytes))
+check_complete ending told input out before now bytes ended same input_told reads writes =
+    told_so ending told (ending_checked (checked bytes)) same (checks_so ending input out bytes ended.0 input_told reads writes)
+
+pub complete : EndsAsCalledFor
+complete = (replay_complete, check_complete)

@@ -85,6 +85,7 @@ list_told list out (inr (is, unwritten)) = not_failed ends.NoMemory refl is
 pub fails_with_cause : FailsWithCause
 fails_with_cause None input out before now ended = absurd ended.0
 fails_with_cause (Some the.Replay) input out before now ended = absurd ended.0
+fails_with_cause (Some the.Check) input out before now ended = absurd ended.0
 fails_with_cause (Some the.Add) input out before now (inl (read, unwritten, same)) = absurd read
 fails_with_cause (Some the.Add) input out before now (inr (s, has, ended)) =
     call_caused (Adds s) (named_ending s.name) (λ _. WroteOut (added_text s.name)) out before now (λ mid fault. add_caused s mid now fault) (λ given h. h) ended

@@ -1,4 +1,5 @@
 pub mod CallsMade
+pub mod Checked
 pub mod Completing
 pub mod FailuresCaused
 pub mod LinesDone

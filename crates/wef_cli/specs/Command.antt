@@ -1,4 +1,4 @@
--- The command lines: `replay`, `add`, `remove NAME` and `list`.
+-- The command lines: `replay`, `add`, `remove NAME`, `list` and `check`.
 use Rattle.std.specs.Prelude.{ℕ, ◌==◌, Bool, false, List, [], ◌∷◌, Option, Some, None, codes, if◌then◌else◌}
 use Rattle.std.specs.Option.{option_map}
 use Rattle.wef_base.specs.Names.{same, subscription_name}
@@ -10,7 +10,8 @@ abbrev pub command_named : List ℕ → Option Command
 command_named name =
     if same name (codes "replay") then Some the.Replay else
     if same name (codes "add") then Some the.Add else
-    if same name (codes "list") then Some the.List else None
+    if same name (codes "list") then Some the.List else
+    if same name (codes "check") then Some the.Check else None
 
 abbrev pub begins_with_dash : List ℕ → Bool
 begins_with_dash [] = false

@@ -1,4 +1,4 @@
--- How a run of `replay` must end where nothing fails; and why one says that its store failed.
+-- How a run of `replay` or `check` must end where nothing fails; and why one says that its store failed.
 use Rattle.std.specs.Prelude.{◌≡◌, ℕ, true, List, Option, Some, Result, ◌⊎◌}
 use Rattle.std.specs.declared.result.Result.TheVariants.{Ok, Err}
 use Rattle.wef_replay.specs.Schedule.{schedule_of}
@@ -9,7 +9,8 @@ use Rattle.wef_keeper.specs.Access.{HasCause}
 use Rattle.wef_keeper.specs.Keeping.{Store}
 use Rattle.wef_collector_rows.specs.Forms.{AreFormed}
 use Rattle.wef_cli.specs.declared.command.Command.{Command}
-use Rattle.wef_cli.specs.declared.command.Command.TheVariants.{Replay}
+use Rattle.wef_cli.specs.declared.command.Command.TheVariants.{Check, Replay}
+use Rattle.wef_cli.specs.Checking.{checked}
 use Rattle.wef_cli.specs.Endings.{HasFailed, IsToldAs, Told}
 use Rattle.wef_cli.specs.Runs.{RunEnds}
 use Rattle.wef_cli.specs.declared.ending.Ending.{Ending}
@@ -22,12 +23,22 @@ ending_for (Err faults.NoMemory) = ends.NoMemory
 ending_for (Err (faults.BadLine k)) = ends.BadLine k
 ending_for (Err faults.TooLong) = ends.TooLong
 
--- Where the input is told, and neither it nor the output fails, a run tells that it ends as its schedule calls for, or that it
--- wants memory: a good schedule is done, and one that isn't good is told by its first bad line, or as too long.
+-- the ending that an input of `check` calls for
+abbrev pub ending_checked : Result (List ℕ) Ending → Ending
+ending_checked (Ok text) = ends.Done
+ending_checked (Err ending) = ending
+
+-- Where the input is told, and neither it nor the output fails, a run of the command tells that it ends as its input calls for,
+-- or that it wants memory.
+abbrev pub EndsAs : Command → (List ℕ → Ending) → Type 0
+EndsAs command called_for = (ending told : Ending) (input out : Told) (before now : Store) (bytes : List ℕ)
+    → RunEnds (Some command) ending input out before now → IsToldAs ending told → input.before ≡ Some bytes
+    → (HasFailed input → ⊥) → (HasFailed out → ⊥) → (told ≡ called_for bytes) ⊎ (told ≡ ends.NoMemory)
+
+-- So end `replay` and `check`: a good schedule or a good input is done, and one that isn't good is told by its first bad line,
+-- or as too long.
 abbrev pub EndsAsCalledFor : Type 0
-EndsAsCalledFor = (ending told : Ending) (input out : Told) (before now : Store) (bytes : List ℕ)
-    → RunEnds (Some Replay) ending input out before now → IsToldAs ending told → input.before ≡ Some bytes
-    → (HasFailed input → ⊥) → (HasFailed out → ⊥) → (told ≡ ending_for (schedule_of bytes)) ⊎ (told ≡ ends.NoMemory)
+EndsAsCalledFor = EndsAs Replay (λ bytes. ending_for (schedule_of bytes)) × EndsAs Check (λ bytes. ending_checked (checked bytes))
 
 -- A failed store is told only where the count of its faults rose in this run, or its rows aren't told, or aren't of their form.
 abbrev pub FailsWithCause : Type 0

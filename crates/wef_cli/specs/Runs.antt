@@ -3,6 +3,7 @@ use Rattle.std.specs.Prelude.{◌≡◌, Option, Some, None}
 use Rattle.std.specs.Io.KnownBytes.{Keeps}
 use Rattle.wef_keeper.specs.Keeping.{Store}
 use Rattle.wef_cli.specs.Adding.{AddEnds}
+use Rattle.wef_cli.specs.Checking.{CheckEnds}
 use Rattle.wef_cli.specs.Endings.{IsUnwritten, ReplayEnds, Told}
 use Rattle.wef_cli.specs.Listing.{ListEnds}
 use Rattle.wef_cli.specs.Removing.{RemoveEnds}
@@ -25,3 +26,4 @@ RunEnds (Some the.Replay) ending input out before now = ReplayEnds ending input 
 RunEnds (Some the.Add) ending input out before now = AddEnds ending input out before now
 RunEnds (Some (the.Remove u)) ending input out before now = Keeps input.before input.after × RemoveEnds u ending out before now
 RunEnds (Some the.List) ending input out before now = Keeps input.before input.after × ListEnds ending out before now
+RunEnds (Some the.Check) ending input out before now = CheckEnds ending input out × (now ≡ before)

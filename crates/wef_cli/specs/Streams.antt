@@ -8,16 +8,16 @@ use Rattle.wef_cli.specs.declared.runs.RunFault.TheVariants as runs
 use Rattle.wef_cli.specs.declared.streams.InputFault.{InputFault}
 use Rattle.wef_cli.specs.declared.streams.InputFault.TheVariants.{NoMemory, Failed, TooLong}
 
--- the greatest input, in bytes
+-- the greatest schedule or document, in bytes
 abbrev pub input_limit : ℕ
 input_limit = 16777216
 
 -- An input that is read whole is at its end, and its bytes, at most the limit, are those that were left.
-abbrev pub ReadsWhole : Option (List ℕ) → Option (List ℕ) → ℕ → ℕ → Result (List ℕ) InputFault → Type 0
-ReadsWhole left left' faults faults' (Ok bytes) = IsAtEnd left' × IfSome left (λ all. (all ≡ bytes) × (length all ≤ input_limit))
-ReadsWhole left left' faults faults' (Err NoMemory) = Unit {0}
-ReadsWhole left left' faults faults' (Err Failed) = Rose faults faults'
-ReadsWhole left left' faults faults' (Err TooLong) = IfSome left (λ all. input_limit < length all)
+abbrev pub ReadsWhole : ℕ → Option (List ℕ) → Option (List ℕ) → ℕ → ℕ → Result (List ℕ) InputFault → Type 0
+ReadsWhole limit left left' faults faults' (Ok bytes) = IsAtEnd left' × IfSome left (λ all. (all ≡ bytes) × (length all ≤ limit))
+ReadsWhole limit left left' faults faults' (Err NoMemory) = Unit {0}
+ReadsWhole limit left left' faults faults' (Err Failed) = Rose faults faults'
+ReadsWhole limit left left' faults faults' (Err TooLong) = IfSome left (λ all. limit < length all)
 
 -- A text, or a part of it from its beginning, was written behind what was there.
 abbrev pub WritesPart : Option (List ℕ) → Option (List ℕ) → List ℕ → Type 0

@@ -82,7 +82,7 @@ fn read_subscription<I: Source>(alloc: Global, input: &mut I) -> Result<Subscrip
     ensures err { IfErr result (λ ending. spec.DocumentEnds ending
         (record { before = I.left input.old; after = I.left input.new; faults_before = I.faults input.old; faults_after = I.faults input.new })) }
 {
-    let bytes = match read_whole(alloc, input) {
+    let bytes = match read_whole(alloc, input, INPUT_LIMIT) {
         Ok(bytes) => bytes,
         Err(InputFault::NoMemory) => return Err(Ending::NoMemory),
         Err(InputFault::Failed) => return Err(Ending::InputFailed),

@@ -17,6 +17,8 @@ pub enum Command {
     Remove(SubId),
     /// Writes which subscriptions there are.
     List,
+    /// Reads a list of queries and events, and writes of each event whether the list selects it.
+    Check,
 }
 
 impl Command {
@@ -43,6 +45,9 @@ impl Command {
         }
         if name.as_str() == "list" {
             return Some(Command::List);
+        }
+        if name.as_str() == "check" {
+            return Some(Command::Check);
         }
         None
     }

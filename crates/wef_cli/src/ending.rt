@@ -17,9 +17,9 @@ pub enum Ending {
     Done,
     /// The words are no command line.
     BadCommand,
-    /// A line of the schedule isn't good: the first such line, counted from 1.
+    /// A line of the schedule, or of what is checked, isn't good: the first such line, counted from 1.
     BadLine(u64),
-    /// The schedule has more than 16 MiB.
+    /// The schedule, or what is checked, has more than 16 MiB.
     TooLong,
     /// The bytes are no document of XML, by what stands at this place, counted in bytes from the start
     /// of the input; or they are more than 16 MiB, and this is where those end.

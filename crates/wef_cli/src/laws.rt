@@ -2,7 +2,7 @@
 
 ghost use Rattle.wef_cli.specs.Complete.{EndsAsCalledFor, FailsWithCause};
 
-/// Where nothing fails, a run of `replay` ends as its schedule calls for, or wants memory.
+/// Where nothing fails, a run of `replay` or `check` ends as its input calls for, or wants memory.
 pub fn runs_are_complete()
     ensures { EndsAsCalledFor }
 {}

@@ -4,6 +4,7 @@
 
 mod adding;
 mod calling;
+mod checking;
 mod command;
 mod ending;
 pub mod laws;

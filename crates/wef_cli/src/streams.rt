@@ -8,7 +8,7 @@ ghost use Rattle.wef_cli.specs.Streams.{ReadsWhole, WritesPart};
 use std::alloc::Global;
 use wef_base::{Bytes, IoFailed, Sink, Source};
 
-/// The greatest input that is read, in bytes.
+/// The greatest schedule or document that is read, in bytes.
 pub const INPUT_LIMIT: usize = 16_777_216;
 
 /// Why an input isn't read whole.
@@ -19,15 +19,19 @@ pub enum InputFault {
     TooLong,
 }
 
-/// Reads an input to its end. An input of more than `INPUT_LIMIT` bytes is too long; it isn't read
-/// much further than that.
-pub fn read_whole<I: Source>(alloc: Global, input: &mut I) -> Result<Bytes, InputFault>
-    ensures reads { ReadsWhole (I.left input.old) (I.left input.new) (I.faults input.old) (I.faults input.new) result }
+/// Reads an input to its end. An input of more than `limit` bytes is too long; it isn't read much
+/// further than that.
+pub fn read_whole<I: Source>(
+    alloc: Global,
+    input: &mut I,
+    limit: usize,
+) -> Result<Bytes, InputFault>
+    ensures reads { ReadsWhole limit (I.left input.old) (I.left input.new) (I.faults input.old) (I.faults input.new) result }
     ensures later { I.faults input.old ≤ I.faults input.new }
 {
     let mut bytes = Bytes::new(alloc);
     let mut piece = [0u8; 4096];
-    while bytes.len() <= INPUT_LIMIT {
+    while bytes.len() <= limit {
         let count = match input.read(&mut piece) {
             Ok(count) => count,
             Err(_) => return Err(InputFault::Failed),

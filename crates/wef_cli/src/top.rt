@@ -8,12 +8,13 @@ ghost use Rattle.wef_cli.specs.Runs.{RunEnds};
 ghost use Rattle.wef_cli.specs.declared.ending.Ending as the_ending;
 
 use crate::adding::add;
+use crate::checking::check;
 use crate::command::Command;
 use crate::ending::Ending;
 use crate::listing::list;
 use crate::removing::remove;
 use crate::runs::{RunFault, run_lines};
-use crate::streams::{InputFault, read_whole};
+use crate::streams::{INPUT_LIMIT, InputFault, read_whole};
 use std::alloc::Global;
 use wef_base::{List, Sink, Source, Text};
 use wef_keeper::Keeper;
@@ -25,8 +26,10 @@ use wef_replay::{Line, ScheduleFault, read_schedule};
 /// `replay` reads a schedule to its end, checks it whole, does its lines and writes what they print as
 /// it is made. Each state on the way is kept, and so it is safe. It leaves the keeper alone. `add` adds
 /// the subscription of a document to what the keeper keeps, `remove NAME` ends one, and `list` writes
-/// which there are. What ended the run is told in one line to `err`, or in as much of it as `err`
-/// takes. Status 6 alone comes free: for want of memory, also for the text that tells how it ended.
+/// which there are. `check` reads a list of queries and, line by line, events, and writes of each event
+/// whether the list selects it; it leaves the keeper alone, too. What ended the run is told in one line
+/// to `err`, or in as much of it as `err` takes. Status 6 alone comes free: for want of memory, also for
+/// the text that tells how it ended.
 pub fn run<K: Keeper, I: Source, O: Sink, E: Sink>(
     alloc: Global,
     words: &[Text],
@@ -84,6 +87,7 @@ fn act<K: Keeper, I: Source, O: Sink>(
         Command::Add => add(alloc, keeper, input, out),
         Command::Remove(name) => remove(alloc, keeper, name, out),
         Command::List => list(alloc, keeper, out),
+        Command::Check => (keeper, check(alloc, input, out)),
     }
 }
 
@@ -111,7 +115,7 @@ fn read_lines<I: Source>(alloc: Global, input: &mut I) -> Result<List<Line>, End
     ensures err { IfErr result (λ ending. EndsReading ending
         (record { before = I.left input.old; after = I.left input.new; faults_before = I.faults input.old; faults_after = I.faults input.new })) }
 {
-    let bytes = match read_whole(alloc, input) {
+    let bytes = match read_whole(alloc, input, INPUT_LIMIT) {
         Ok(bytes) => bytes,
         Err(InputFault::NoMemory) => return Err(Ending::NoMemory),
         Err(InputFault::Failed) => return Err(Ending::InputFailed),

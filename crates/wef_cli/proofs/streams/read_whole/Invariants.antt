@@ -1,4 +1,4 @@
-use Rattle.std.proofs.Common.{◌≤◌, ◌-◌, length}
+use Rattle.std.proofs.Common.{◌≤◌, ◌+◌, ◌-◌, length}
 use Rattle.std.specs.Io.KnownBytes.{Consumes}
 use Rattle.wef_cli.proofs.streams.read_whole.Given as goal
 
@@ -9,4 +9,4 @@ invariant-loop-piece g l = record {
 }
 
 abbrev pub decreases-loop-piece : goal.decreases-loop-piece
-decreases-loop-piece g l = 16777217 - length l.bytes
+decreases-loop-piece g l = (l.limit + 1) - length l.bytes
