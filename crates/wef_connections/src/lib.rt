@@ -1,0 +1,11 @@
+//! Connections one after the other: what is asked of who takes them and of who makes them, and both
+//! in memory.
+#![tactic(auto)]
+
+pub mod fronts;
+pub mod links;
+pub mod memory;
+
+pub use fronts::{Front, MemFront};
+pub use links::{Link, MemLink};
+pub use memory::MemConnection;

@@ -1,0 +1,270 @@
+//! Connections in memory, which tell their bytes and fail where they are told to.
+
+ghost use Rattle.std.specs.Prelude.{◌≡◌, ◌+◌, ◌<◌, ◌++◌, drop, length, min, vec_len, vec_capacity, IfOk, OnOk, OnErr};
+ghost use Rattle.std.specs.Io.{ReadsAtMost, WritesAtMost};
+ghost use Rattle.std.specs.Io.KnownBytes.{ReadConsumes, WriteAppends};
+ghost use Rattle.wef_base.specs.Counts.{HasCause, Gives};
+ghost use Rattle.wef_connections.specs.Memory.{before_last, bytes_of_each, last_of, told_of, unopened, FailsAsTold};
+ghost use Rattle.wef_connections.specs.Opening.{first_of, next_connection, with_address, OnlyFails, Rises};
+ghost use Rattle.wef_ports.specs.Telling.{OnlyReads, OnlyWrites};
+
+use std::alloc::{AllocError, Global};
+use std::collections::VecDeque;
+use wef_base::{Bytes, IoFailed, List, Text};
+use wef_ports::{Failures, Pieces};
+
+/// A connection in memory: the bytes that come in it, and where they are cut.
+#[derive(Debug, Drop)]
+pub struct MemConnection {
+    pub bytes: Bytes,
+
+    /// Places in the bytes, which rise. No read goes past one of them.
+    pub cuts: List<usize>,
+}
+
+/// What a front and a link in memory are: one connection after the other.
+#[derive(Debug, Drop)]
+pub(crate) struct MemConnections {
+    alloc: Global,
+    waiting: VecDeque<MemConnection>,
+    present: Pieces,
+
+    // One entry a connection, the last of which is the present one's.
+    sent: Vec<Bytes>,
+    addresses: List<Text>,
+    failures: Failures,
+    faults: u64,
+    refusals: u64,
+    refused: u64,
+}
+
+impl MemConnections {
+    /// These connections are to come. The calls whose numbers stand in `failing` fail.
+    pub(crate) fn of(
+        alloc: Global,
+        connections: List<MemConnection>,
+        failing: List<u64>,
+    ) -> MemConnections
+        ensures told { told_of result ≡ unopened (bytes_of_each connections) }
+        ensures failing { result.failures.failing ≡ failing }
+        ensures calls { result.failures.calls ≡ 0 }
+    {
+        MemConnections {
+            alloc,
+            waiting: VecDeque::from_vec(connections.into_vec()),
+            present: Pieces::none(alloc),
+            sent: Vec::new(alloc),
+            addresses: List::new(alloc),
+            failures: Failures::at(failing),
+            faults: 0,
+            refusals: 0,
+            refused: 0,
+        }
+    }
+
+    /// What was sent in each connection so far.
+    pub(crate) fn sent(&self) -> &[Bytes]
+        ensures { result.now ≡ self.now.sent.items }
+    {
+        self.sent.as_slice()
+    }
+
+    /// The addresses so far.
+    pub(crate) fn addresses(&self) -> &[Text]
+        ensures { result.now ≡ self.now.addresses }
+    {
+        self.addresses.as_slice()
+    }
+
+    /// How many calls found no memory.
+    pub(crate) fn refused(&self) -> u64
+        ensures { result ≡ self.now.refused }
+    {
+        self.refused
+    }
+
+    /// Listens at an address.
+    pub(crate) fn bind(&mut self, address: &Text) -> Result<(), IoFailed>
+        ensures bound { OnOk result (told_of self.new ≡ with_address address.now (told_of self.old)) }
+        ensures rest { OnErr result (OnlyFails (told_of self.old) (told_of self.new)) }
+        ensures cause { HasCause (told_of self.old).faults (told_of self.new).faults result }
+        ensures refusals { HasCause (told_of self.old).around.refusals (told_of self.new).around.refusals result }
+        ensures fails { FailsAsTold self.old self.new result }
+    {
+        if self.failures.next() {
+            return Err(self.refuse());
+        }
+        if self.add_address(address).is_err() {
+            return Err(self.want_memory());
+        }
+        Ok(())
+    }
+
+    /// Takes the next connection.
+    pub(crate) fn accept(&mut self) -> Result<(), IoFailed>
+        ensures accepted { OnOk result (told_of self.new ≡ next_connection (told_of self.old)) }
+        ensures rest { OnErr result (OnlyFails (told_of self.old) (told_of self.new)) }
+        ensures cause { HasCause (told_of self.old).faults (told_of self.new).faults result }
+        ensures refusals { HasCause (told_of self.old).around.refusals (told_of self.new).around.refusals result }
+        ensures fails { FailsAsTold self.old self.new result }
+    {
+        if self.failures.next() {
+            return Err(self.refuse());
+        }
+        if self.begin().is_err() {
+            return Err(self.want_memory());
+        }
+        Ok(())
+    }
+
+    /// Makes the next connection, to an address.
+    pub(crate) fn connect(&mut self, address: &Text) -> Result<(), IoFailed>
+        ensures connected { OnOk result (told_of self.new ≡ next_connection (with_address address.now (told_of self.old))) }
+        ensures rest { OnErr result (OnlyFails (told_of self.old) (told_of self.new)) }
+        ensures cause { HasCause (told_of self.old).faults (told_of self.new).faults result }
+        ensures refusals { HasCause (told_of self.old).around.refusals (told_of self.new).around.refusals result }
+        ensures fails { FailsAsTold self.old self.new result }
+    {
+        if self.failures.next() {
+            return Err(self.refuse());
+        }
+        if self.begin_at(address).is_err() {
+            return Err(self.want_memory());
+        }
+        Ok(())
+    }
+
+    /// Reads from the present connection.
+    pub(crate) fn read(&mut self, buf: &mut [u8]) -> Result<usize, IoFailed>
+        ensures bound { ReadsAtMost result buf.new }
+        ensures bytes { ReadConsumes (told_of self.old).coming (told_of self.new).coming result buf.new }
+        ensures count { Gives (told_of self.old).given (told_of self.new).given result }
+        ensures cause { HasCause (told_of self.old).faults (told_of self.new).faults result }
+        ensures rest { OnlyReads (told_of self.old) (told_of self.new) }
+        ensures fails { FailsAsTold self.old self.new result }
+    {
+        if self.failures.next() {
+            self.faults = self.faults.saturating_add(1);
+            return Err(IoFailed);
+        }
+        Ok(self.present.give(buf))
+    }
+
+    /// Writes to the present connection. It fails too where there was none yet.
+    pub(crate) fn write(&mut self, piece: &[u8]) -> Result<usize, IoFailed>
+        ensures bound { WritesAtMost result piece.now }
+        ensures bytes { WriteAppends (told_of self.old).sent (told_of self.new).sent result piece.now }
+        ensures moves { IfOk result (λ n. 0 < length piece.now → 0 < n) }
+        ensures cause { HasCause (told_of self.old).faults (told_of self.new).faults result }
+        ensures rest { OnlyWrites (told_of self.old) (told_of self.new) }
+        ensures fails { 0 < length self.old.sent.items → FailsAsTold self.old self.new result }
+    {
+        if self.failures.next() || self.sent.is_empty() {
+            self.faults = self.faults.saturating_add(1);
+            return Err(IoFailed);
+        }
+        if append_to_last(&mut self.sent, piece).is_err() {
+            self.faults = self.faults.saturating_add(1);
+            self.refused = self.refused.saturating_add(1);
+            return Err(IoFailed);
+        }
+        Ok(piece.len())
+    }
+
+    /// Puts an address behind the others.
+    fn add_address(&mut self, address: &Text) -> Result<(), AllocError>
+        ensures added { OnOk result (told_of self.new ≡ with_address address.now (told_of self.old)) }
+        ensures stays { OnErr result (told_of self.new ≡ told_of self.old) }
+        ensures memory { self.new.refused ≡ self.old.refused }
+        ensures failures { self.new.failures ≡ self.old.failures }
+    {
+        self.addresses.push(address.clone()?)
+    }
+
+    /// Begins the next connection.
+    fn begin(&mut self) -> Result<(), AllocError>
+        ensures begun { OnOk result (told_of self.new ≡ next_connection (told_of self.old)) }
+        ensures stays { OnErr result (told_of self.new ≡ told_of self.old) }
+        ensures memory { self.new.refused ≡ self.old.refused }
+        ensures failures { self.new.failures ≡ self.old.failures }
+    {
+        self.sent.reserve(1)?;
+        self.go_on();
+        Ok(())
+    }
+
+    /// Begins the next connection, to an address.
+    fn begin_at(&mut self, address: &Text) -> Result<(), AllocError>
+        ensures begun { OnOk result (told_of self.new ≡ next_connection (with_address address.now (told_of self.old))) }
+        ensures stays { OnErr result (told_of self.new ≡ told_of self.old) }
+        ensures memory { self.new.refused ≡ self.old.refused }
+        ensures failures { self.new.failures ≡ self.old.failures }
+    {
+        self.sent.reserve(1)?;
+        self.addresses.push(address.clone()?)?;
+        self.go_on();
+        Ok(())
+    }
+
+    /// Makes the next connection the present one, where there is room for what is sent in it.
+    fn go_on(&mut self)
+        requires { vec_len self.old.sent < vec_capacity self.old.sent }
+        ensures next { told_of self.new ≡ next_connection (told_of self.old) }
+        ensures memory { self.new.refused ≡ self.old.refused }
+        ensures failures { self.new.failures ≡ self.old.failures }
+    {
+        self.sent.push_reserved(Bytes::new(self.alloc));
+        self.present = next_of(&mut self.waiting, self.alloc);
+    }
+
+    /// Counts an opening that fails.
+    fn refuse(&mut self) -> IoFailed
+        ensures rest { OnlyFails (told_of self.old) (told_of self.new) }
+        ensures cause { Rises self.old.faults self.new.faults }
+        ensures refusals { Rises self.old.refusals self.new.refusals }
+        ensures faults { self.new.faults ≡ min (self.old.faults + 1) u64.MAX }
+        ensures memory { self.new.refused ≡ self.old.refused }
+        ensures failures { self.new.failures ≡ self.old.failures }
+    {
+        self.faults = self.faults.saturating_add(1);
+        self.refusals = self.refusals.saturating_add(1);
+        IoFailed
+    }
+
+    /// Counts an opening that fails for want of memory.
+    fn want_memory(&mut self) -> IoFailed
+        ensures rest { OnlyFails (told_of self.old) (told_of self.new) }
+        ensures cause { Rises self.old.faults self.new.faults }
+        ensures refusals { Rises self.old.refusals self.new.refusals }
+        ensures faults { self.new.faults ≡ min (self.old.faults + 1) u64.MAX }
+        ensures memory { self.new.refused ≡ min (self.old.refused + 1) u64.MAX }
+        ensures failures { self.new.failures ≡ self.old.failures }
+    {
+        self.refused = self.refused.saturating_add(1);
+        self.refuse()
+    }
+}
+
+/// The first connection, which leaves those that wait, or an empty one where none waits.
+fn next_of(waiting: &mut VecDeque<MemConnection>, alloc: Global) -> Pieces
+    ensures left { drop result.at result.bytes ≡ first_of (bytes_of_each waiting.old.items) }
+    ensures given { result.at ≡ 0 }
+    ensures rest { bytes_of_each waiting.new.items ≡ drop 1 (bytes_of_each waiting.old.items) }
+{
+    match waiting.pop_front() {
+        Some(MemConnection { bytes, cuts }) => Pieces::of(bytes, cuts),
+        None => Pieces::none(alloc),
+    }
+}
+
+/// Appends bytes to the last entry.
+fn append_to_last(entries: &mut Vec<Bytes>, piece: &[u8]) -> Result<(), AllocError>
+    requires { 0 < length entries.old.items }
+    ensures last { OnOk result (last_of entries.new.items ≡ last_of entries.old.items ++ piece.now) }
+    ensures kept { OnErr result (last_of entries.new.items ≡ last_of entries.old.items) }
+    ensures others { before_last entries.new.items ≡ before_last entries.old.items }
+    ensures count { length entries.new.items ≡ length entries.old.items }
+{
+    let last = entries.len() - 1;
+    entries[last].extend(piece)
+}

@@ -1,0 +1,9 @@
+//! Connections over TCP. No contract says what a peer does or receives: these tell their counts alone.
+#![tactic(auto)]
+
+pub mod fronts;
+pub mod links;
+pub mod streams;
+
+pub use fronts::TcpFront;
+pub use links::TcpLink;
