@@ -1,0 +1,10 @@
+pub mod Ends
+pub mod Fields
+pub mod Framing
+pub mod Heads
+pub mod Judging
+pub mod Laws
+pub mod Media
+pub mod Statuses
+pub mod Steps
+pub mod Targets

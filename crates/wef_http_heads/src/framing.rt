@@ -1,0 +1,102 @@
+//! What a head says of where its body ends.
+
+ghost use Rattle.std.specs.Prelude.{◌≡◌, true};
+ghost use Rattle.std.specs.List.{list_all};
+ghost use Rattle.wef_base.specs.Numbers.{is_digit, is_numeral, number_within};
+ghost use Rattle.wef_http_heads.specs.declared.ends.HttpEnd.TheVariants.{BadHead};
+ghost use Rattle.wef_http_heads.specs.Framing.{coding_said, declared_by, declared_in, length_or_more, length_said};
+ghost use Rattle.wef_http_heads.specs.Steps.{Judges, needed};
+
+use crate::ends::HttpEnd;
+use crate::fields::{Fields, is_alike};
+use crate::heads::BODY_LIMIT;
+use std::alloc::Global;
+use wef_base::Bytes;
+
+/// What a head says of its body.
+#[derive(Clone, Copy, Debug, PartialEq, Eq)]
+pub enum Declared {
+    /// No length and no chunks.
+    Nothing,
+    /// So many bytes.
+    Length(usize),
+    /// More bytes than a body may have.
+    TooLong,
+    Chunked,
+}
+
+/// What the fields say of the body.
+#[tactic(auto, unfolding(crate::specs::Framing::declared_in))]
+pub(crate) fn declared_in(alloc: Global, fields: &Fields) -> Result<Declared, HttpEnd>
+    ensures { Judges result (needed BadHead (declared_in fields.now)) }
+{
+    let lengths = fields.values(alloc, b"Content-Length")?;
+    let codings = fields.values(alloc, b"Transfer-Encoding")?;
+    declared_by(lengths.as_slice(), codings.as_slice())
+}
+
+fn declared_by(lengths: &[Bytes], codings: &[Bytes]) -> Result<Declared, HttpEnd>
+    ensures { Judges result (needed BadHead (declared_by lengths.now codings.now)) }
+{
+    match (lengths, codings) {
+        ([], []) => Ok(Declared::Nothing),
+        ([length], []) => length_said(length.as_slice()),
+        ([], [coding]) => coding_said(coding.as_slice()),
+        _ => Err(HttpEnd::BadHead),
+    }
+}
+
+fn length_said(value: &[u8]) -> Result<Declared, HttpEnd>
+    ensures { Judges result (needed BadHead (length_said value.now)) }
+{
+    if !is_numeral(value) {
+        return Err(HttpEnd::BadHead);
+    }
+    Ok(length_or_more(value))
+}
+
+fn length_or_more(digits: &[u8]) -> Declared
+    requires { is_numeral digits.now ≡ true }
+    ensures { result ≡ length_or_more (number_within BODY_LIMIT digits.now) }
+{
+    match length_within(digits) {
+        Some(length) => Declared::Length(length),
+        None => Declared::TooLong,
+    }
+}
+
+fn coding_said(value: &[u8]) -> Result<Declared, HttpEnd>
+    ensures { Judges result (needed BadHead (coding_said value.now)) }
+{
+    if !is_alike(value, b"chunked") {
+        return Err(HttpEnd::BadHead);
+    }
+    Ok(Declared::Chunked)
+}
+
+fn is_numeral(value: &[u8]) -> bool
+    ensures { result ≡ is_numeral value.now }
+{
+    value.len() > 0 && all_digits(value)
+}
+
+fn all_digits(value: &[u8]) -> bool
+    ensures { result ≡ list_all is_digit value.now }
+{
+    value.iter().all(|&byte| byte >= 48 && byte <= 57)
+}
+
+/// The number of digits, where a body may have so many bytes.
+fn length_within(digits: &[u8]) -> Option<usize>
+    requires { is_numeral digits.now ≡ true }
+    ensures { result ≡ number_within BODY_LIMIT digits.now }
+{
+    let mut length = 0;
+    for &digit in digits {
+        length = length * 10 + usize::from(digit - 48);
+        if length > BODY_LIMIT {
+            return None;
+        }
+    }
+    Some(length)
+}

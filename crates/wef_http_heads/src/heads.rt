@@ -1,0 +1,148 @@
+//! Heads that bytes begin with.
+
+ghost use Rattle.std.specs.Prelude.{◌≤◌, IfOk, IfErr, length, map, take};
+ghost use Rattle.httparse.specs.Spans.{IsRequestOf, IsRequestWithin, IsResponseOf, IsResponseWithin, header_bytes, span_bytes};
+ghost use Rattle.wef_http_heads.specs.Heads.{FindsRequest, FindsResponse, IsOfBytes, RefusesRequestHead, RefusesResponseHead};
+ghost use Rattle.wef_http_heads.specs.Judging.{request_of, response_of};
+ghost use Rattle.wef_http_heads.specs.Steps.{Judges};
+
+use crate::ends::HttpEnd;
+use crate::fields::Fields;
+use crate::judging::{request_of, response_of};
+use crate::plans::{Found, RequestPlan, ResponsePlan};
+use crate::targets::Side;
+use httparse::Status;
+use httparse::spans::{
+    EMPTY_HEADER_SPAN, HeaderSpan, RequestSpans, ResponseSpans, parse_request, parse_response,
+};
+use std::alloc::Global;
+
+/// How many bytes a head may have.
+pub const HEAD_LIMIT: usize = 65_536;
+
+/// How many fields a head may have.
+pub const FIELD_LIMIT: usize = 64;
+
+/// How many bytes a body may have.
+pub const BODY_LIMIT: usize = 16_777_216;
+
+/// The head of a request that bytes begin with, judged for the end that serves it. `Partial` only
+/// where there is room for more bytes of a head.
+pub fn find_request_head(
+    alloc: Global,
+    side: Side,
+    bytes: &[u8],
+) -> Result<Found<RequestPlan>, HttpEnd>
+    ensures found { IfOk result (FindsRequest side bytes.now) }
+    ensures refused { IfErr result (RefusesRequestHead side bytes.now) }
+    ensures kinds { IfErr result IsOfBytes }
+{
+    let mut spans = [EMPTY_HEADER_SPAN; FIELD_LIMIT];
+    match parse_request(bytes, &mut spans) {
+        Ok(Status::Complete(head)) => whole_request(alloc, side, bytes, &spans, head),
+        Ok(Status::Partial) => {
+            if bytes.len() >= HEAD_LIMIT {
+                return Err(HttpEnd::BadHead);
+            }
+            Ok(Found::Partial)
+        }
+        Err(_) => Err(HttpEnd::BadHead),
+    }
+}
+
+fn whole_request(
+    alloc: Global,
+    side: Side,
+    bytes: &[u8],
+    spans: &[HeaderSpan],
+    head: RequestSpans,
+) -> Result<Found<RequestPlan>, HttpEnd>
+    requires within { IsRequestWithin bytes.now spans.now head }
+    requires reads { IsRequestOf bytes.now spans.now head }
+    requires room { length spans.now ≤ FIELD_LIMIT }
+    ensures found { IfOk result (FindsRequest side bytes.now) }
+    ensures refused { IfErr result (RefusesRequestHead side bytes.now) }
+    ensures kinds { IfErr result IsOfBytes }
+{
+    if head.len > HEAD_LIMIT {
+        return Err(HttpEnd::BadHead);
+    }
+    let plan = judge_request(alloc, side, bytes, spans, head)?;
+    Ok(Found::Whole(plan, head.len))
+}
+
+#[tactic(auto, using(crate::proofs::Wholes::headers_within))]
+fn judge_request(
+    alloc: Global,
+    side: Side,
+    bytes: &[u8],
+    spans: &[HeaderSpan],
+    head: RequestSpans,
+) -> Result<RequestPlan, HttpEnd>
+    requires { IsRequestWithin bytes.now spans.now head }
+    ensures { Judges result (request_of side (span_bytes bytes.now head.method) (span_bytes bytes.now head.path) head.version (map (header_bytes bytes.now) (take head.headers spans.now))) }
+{
+    let fields = Fields::new(bytes, &spans[..head.headers]);
+    request_of(
+        alloc,
+        side,
+        head.method.of(bytes),
+        head.path.of(bytes),
+        head.version,
+        &fields,
+    )
+}
+
+/// The head of a response that bytes begin with, judged. `Partial` only where there is room for
+/// more bytes of a head.
+pub fn find_response_head(alloc: Global, bytes: &[u8]) -> Result<Found<ResponsePlan>, HttpEnd>
+    ensures found { IfOk result (FindsResponse bytes.now) }
+    ensures refused { IfErr result (RefusesResponseHead bytes.now) }
+    ensures kinds { IfErr result IsOfBytes }
+{
+    let mut spans = [EMPTY_HEADER_SPAN; FIELD_LIMIT];
+    match parse_response(bytes, &mut spans) {
+        Ok(Status::Complete(head)) => whole_response(alloc, bytes, &spans, head),
+        Ok(Status::Partial) => {
+            if bytes.len() >= HEAD_LIMIT {
+                return Err(HttpEnd::BadHead);
+            }
+            Ok(Found::Partial)
+        }
+        Err(_) => Err(HttpEnd::BadHead),
+    }
+}
+
+fn whole_response(
+    alloc: Global,
+    bytes: &[u8],
+    spans: &[HeaderSpan],
+    head: ResponseSpans,
+) -> Result<Found<ResponsePlan>, HttpEnd>
+    requires within { IsResponseWithin bytes.now spans.now head }
+    requires reads { IsResponseOf bytes.now spans.now head }
+    requires room { length spans.now ≤ FIELD_LIMIT }
+    ensures found { IfOk result (FindsResponse bytes.now) }
+    ensures refused { IfErr result (RefusesResponseHead bytes.now) }
+    ensures kinds { IfErr result IsOfBytes }
+{
+    if head.len > HEAD_LIMIT {
+        return Err(HttpEnd::BadHead);
+    }
+    let plan = judge_response(alloc, bytes, spans, head)?;
+    Ok(Found::Whole(plan, head.len))
+}
+
+#[tactic(auto, using(crate::proofs::Wholes::headers_within))]
+fn judge_response(
+    alloc: Global,
+    bytes: &[u8],
+    spans: &[HeaderSpan],
+    head: ResponseSpans,
+) -> Result<ResponsePlan, HttpEnd>
+    requires { IsResponseWithin bytes.now spans.now head }
+    ensures { Judges result (response_of head.code (map (header_bytes bytes.now) (take head.headers spans.now))) }
+{
+    let fields = Fields::new(bytes, &spans[..head.headers]);
+    response_of(alloc, head.code, &fields)
+}
