@@ -1,0 +1,11 @@
+pub mod BadParts
+pub mod ChunkTurns
+pub mod Fitting
+pub mod Fronts
+pub mod HeadsLast
+pub mod LongLines
+pub mod OneBody
+pub mod OneMessage
+pub mod ResponseKinds
+pub mod OneReason
+pub mod OneStop
