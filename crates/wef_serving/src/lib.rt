@@ -1,0 +1,13 @@
+//! Connections served: each request that comes is answered, one after the other.
+#![tactic(auto)]
+
+pub mod answering;
+pub mod ends;
+pub mod fronts;
+pub mod serving;
+mod turns;
+
+pub use answering::{Answer, Answering};
+pub use ends::ConnectionEnd;
+pub use fronts::serve_next;
+pub use serving::serve;
