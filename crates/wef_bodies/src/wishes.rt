@@ -234,7 +234,8 @@ fn name_is_kept(item: &QueryItem)
     let _name = item.channel.as_text().as_str();
 }
 
-fn marked_names_are_kept(bookmark: &Bookmark)
+/// Names in a bookmark read back as themselves and are UTF-8, since their type keeps it.
+pub fn marked_names_are_kept(bookmark: &Bookmark)
     ensures entries { AreEntries bookmark.now }
     ensures names { AreTexts bookmark.now }
 {

@@ -34,8 +34,8 @@ use Rattle.wef_front.specs.declared.hearing.Asked.TheVariants.{Refused, Enumerat
 use Rattle.wef_front.specs.declared.answering.Answer.{Answer}
 use Rattle.wef_front.specs.declared.hearing.Heard.{Heard}
 use Rattle.wef_front.specs.declared.saying.Said.{Said}
-use Rattle.wef_front.specs.declared.targets.Target.{Target}
-use Rattle.wef_front.specs.declared.targets.Target.TheVariants.{Manager, Delivery, Root}
+use Rattle.wef_http_heads.specs.declared.targets.Target.{Target}
+use Rattle.wef_http_heads.specs.declared.targets.Target.TheVariants.{Manager, Delivery, Root}
 use Rattle.wef_front.specs.declared.saying.Said.TheVariants.{Offers, Fault}
 
 abbrev is_internal : FaultName → Bool

@@ -1,6 +1,7 @@
 -- What a source sends, the collector hears.
 use Rattle.std.proofs.Common.{◌≡◌, ℕ, true, false, Bool, ◌&&◌, cond, List, [], ◌∷◌, refl, ap, sym, ◌∙◌}
 use Rattle.std.specs.Prelude.{Option, Some, None, Result, Ok, IfSome}
+use Rattle.std.specs.List.{AllByRecursion}
 use Rattle.std.specs.Option.{option_and_then}
 use Rattle.std.specs.Result.{result_ok}
 use Rattle.std.specs.FinMap as map
@@ -11,7 +12,10 @@ use Rattle.wef_base.specs.declared.tree.Charset.TheVariants.{Utf8}
 use Rattle.wef_base.specs.declared.tree.Element.{Element}
 use Rattle.wef_batch.proofs.WrittenGood as batch
 use Rattle.wef_batch.proofs.WrittenRead as again
+use Rattle.wef_batch.specs.Laws.{IsKept}
+use Rattle.wef_bookmark.specs.Entries.{AreEntries}
 use Rattle.wef_bookmark.specs.Nodes as nodes
+use Rattle.wef_bookmark.specs.Nodes.{AreTexts}
 use Rattle.wef_bookmark.specs.Order.{Marks}
 use Rattle.wef_bookmark.proofs.WrittenGood as bookmark
 use Rattle.wef_elements.specs.Children.{as_nodes}
@@ -34,11 +38,12 @@ use Rattle.wef_tree.proofs.BoundPrefixes.{same_self}
 use Rattle.wef_tree.proofs.SpellsAgain.{spells_again}
 use Rattle.wef_xml.specs.Good.{IsGoodTree, IsXmlText}
 use Rattle.wef_xml.proofs.Ascii.{plain_text}
+use Rattle.wef_front.proofs.Numbered.{plain_numbered}
 use Rattle.wef_front.proofs.RepliesAreHeard.{anonymous_trimmed, tree_again}
 use Rattle.wef_front.specs.Heard.{Hears, asked_by, asked_of, batch_in, delivery_asked, events_asked}
-use Rattle.wef_front.specs.Sending.{CanBeSent, DeliveriesAreRead, IsPlainText, delivery_by, delivery_bytes, delivery_envelope, delivery_said}
+use Rattle.wef_front.specs.Sending.{CanBeSent, CanBeWritten, DeliveriesAreRead, IsPlainText, delivery_by, delivery_bytes, delivery_envelope, delivery_said}
 use Rattle.wef_front.specs.declared.hearing.Asked.TheVariants.{Refused, Take}
-use Rattle.wef_front.specs.declared.targets.Target.TheVariants.{Delivery}
+use Rattle.wef_http_heads.specs.declared.targets.Target.TheVariants.{Delivery}
 use Rattle.wef_ids.specs.declared.FaultName.TheVariants as fault
 
 -- ---- the envelope
@@ -78,21 +83,33 @@ plain_delivery d sent = record {
   bookmark = bookmark_is d.batch.to;
 }
 
-pub delivery_good : (d : source.Delivery) → CanBeSent d → IsGoodTree (written (delivery_envelope d))
-delivery_good d sent =
+pub written_good : (d : source.Delivery) → CanBeWritten d → AllByRecursion IsKept d.batch.items → AreEntries d.batch.to → AreTexts d.batch.to → IsGoodTree (written (delivery_envelope d))
+written_good d can kept entries names =
     written_is_good (delivery_envelope d) 60 (record {
-      to = sent.notify_to.1;
+      to = can.notify_to;
       resource = tt;
       reply_to = plain_text ANONYMOUS.now refl;
       action = plain_text EVENTS.now refl;
-      id = sent.id;
+      id = can.id;
       relates = tt;
       machine = tt;
       max_size = tt;
-      identifier = other_part d.identifier sent.identifier;
-      bookmark = bookmark.written_is_good d.batch.to 59 sent.entries sent.names;
-      body = (batch.written_is_good d.batch.items 60 sent.kept, tt);
+      identifier = can.identifier;
+      bookmark = bookmark.written_is_good d.batch.to 59 entries names;
+      body = (batch.written_is_good d.batch.items 60 kept, tt);
     })
+
+-- what can be sent can be written
+pub can_be_written : (d : source.Delivery) → CanBeSent d → CanBeWritten d
+can_be_written d sent = record {
+  id = sent.id;
+  notify_to = sent.notify_to.1;
+  identifier = other_part d.identifier sent.identifier;
+  numbered = plain_numbered d.batch.items sent.plain;
+}
+
+delivery_good : (d : source.Delivery) → CanBeSent d → IsGoodTree (written (delivery_envelope d))
+delivery_good d sent = written_good d (can_be_written d sent) sent.kept sent.entries sent.names
 
 -- ---- what it asks
 

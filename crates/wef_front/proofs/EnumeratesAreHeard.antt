@@ -35,7 +35,7 @@ use Rattle.wef_front.proofs.SourceNames.{allowed_source, trimmed_source}
 use Rattle.wef_front.specs.Heard.{Hears, asked_by, asked_of, enumerate_asked, heard_in, named_asked}
 use Rattle.wef_front.specs.Sending.{EnumeratesAreRead, enumerate_bytes, enumerate_envelope, manager_address, wish_by}
 use Rattle.wef_front.specs.declared.hearing.Asked.TheVariants.{Enumerate, Refused}
-use Rattle.wef_front.specs.declared.targets.Target.TheVariants.{Manager}
+use Rattle.wef_http_heads.specs.declared.targets.Target.TheVariants.{Manager}
 
 -- ---- the envelope
 

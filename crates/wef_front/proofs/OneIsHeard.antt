@@ -21,8 +21,8 @@ use Rattle.wef_front.specs.Laws.{OneIsHeard}
 use Rattle.wef_front.specs.Sending.{CanBeSent, delivery_bytes}
 use Rattle.wef_front.specs.declared.hearing.Asked.TheVariants.{Take}
 use Rattle.wef_front.specs.declared.hearing.Heard.{Heard}
-use Rattle.wef_front.specs.declared.targets.Target.{Target}
-use Rattle.wef_front.specs.declared.targets.Target.TheVariants.{Delivery}
+use Rattle.wef_http_heads.specs.declared.targets.Target.{Target}
+use Rattle.wef_http_heads.specs.declared.targets.Target.TheVariants.{Delivery}
 use Rattle.wef_front.proofs.DeliveriesAreHeard.{deliveries_are_heard}
 
 -- ---- three ways to be heard

@@ -27,8 +27,8 @@ use Rattle.wef_xml.specs.declared.faults.TreeFault.TheVariants as tree
 use Rattle.wef_front.specs.declared.hearing.Asked.{Asked}
 use Rattle.wef_front.specs.declared.hearing.Asked.TheVariants.{Refused, Enumerate, Unread, Take}
 use Rattle.wef_front.specs.declared.hearing.Heard.{Heard}
-use Rattle.wef_front.specs.declared.targets.Target.{Target}
-use Rattle.wef_front.specs.declared.targets.Target.TheVariants.{Manager, Delivery, Root}
+use Rattle.wef_http_heads.specs.declared.targets.Target.{Target}
+use Rattle.wef_http_heads.specs.declared.targets.Target.TheVariants.{Manager, Delivery, Root}
 
 -- ---- batches
 

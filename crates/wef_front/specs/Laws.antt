@@ -35,7 +35,7 @@ use Rattle.wef_front.specs.declared.hearing.Asked.TheVariants.{Refused}
 use Rattle.wef_front.specs.declared.hearing.Heard.{Heard}
 use Rattle.wef_front.specs.declared.saying.Said.{Said}
 use Rattle.wef_front.specs.declared.saying.Said.TheVariants.{Ack, Fault, Offers}
-use Rattle.wef_front.specs.declared.targets.Target.{Target}
+use Rattle.wef_http_heads.specs.declared.targets.Target.{Target}
 
 -- ---- by rows
 

@@ -12,6 +12,7 @@ use Rattle.wef_base.specs.declared.tree.Charset.TheVariants.{Utf8}
 use Rattle.wef_base.specs.declared.tree.Element.{Element}
 use Rattle.wef_batch.specs.Elements.{batch_element}
 use Rattle.wef_batch.specs.Laws.{IsKept, IsPlain}
+use Rattle.wef_batch.specs.Numbers.{AreNumbered}
 use Rattle.wef_batch.specs.declared.items.Batch.{Batch}
 use Rattle.wef_batch.specs.declared.reading.BatchFault.{BatchFault}
 use Rattle.wef_bookmark.specs.Entries.{AreEntries}
@@ -28,7 +29,7 @@ use Rattle.wef_xml.specs.Good.{IsXmlText}
 use Rattle.wef_front.specs.Heard.{Hears, batch_in, heard_in}
 use Rattle.wef_front.specs.declared.hearing.Asked.{Asked}
 use Rattle.wef_front.specs.declared.hearing.Asked.TheVariants.{Enumerate, Take}
-use Rattle.wef_front.specs.declared.targets.Target.TheVariants.{Delivery, Manager}
+use Rattle.wef_http_heads.specs.declared.targets.Target.TheVariants.{Delivery, Manager}
 
 -- the envelope of a delivery: it goes to the address that the offer gave
 abbrev pub delivery_envelope : source.Delivery → Envelope
@@ -146,6 +147,14 @@ pub record CanBeSent (d : source.Delivery) : Type 0 where
   pub kept : AllByRecursion IsKept d.batch.items
   pub entries : AreEntries d.batch.to
   pub names : AreTexts d.batch.to
+
+-- A delivery that can be written: its texts hold characters that XML allows, and its items have numbers such as records have.
+-- What else its items and its bookmark need, their types keep.
+pub record CanBeWritten (d : source.Delivery) : Type 0 where
+  pub id : IsXmlText d.id.text
+  pub notify_to : IsXmlText d.notify_to
+  pub identifier : IfSome d.identifier IsXmlText
+  pub numbered : AreNumbered d.batch.items
 
 -- What a source sends, the collector hears: its batch for the subscription and the source of the path, and its id.
 abbrev pub DeliveriesAreHeard : Type 0

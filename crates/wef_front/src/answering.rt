@@ -19,7 +19,6 @@ ghost use Rattle.wef_xml.specs.Good.{IsGoodTree, IsXmlText};
 
 use crate::hearing::{Heard, hear};
 use crate::saying::{Said, say};
-use crate::targets::Target;
 use std::alloc::{AllocError, Global};
 use wef_base::moments::Moment;
 use wef_base::{Bytes, Charset, Element, List, Text};
@@ -28,6 +27,7 @@ use wef_collector::Collector;
 use wef_envelope::actions::{ACK, ANONYMOUS, ENUMERATE_RESPONSE};
 use wef_envelope::{Envelope, Fault, FaultName, MessageId, fault_node, to_node};
 use wef_eventing::Offer;
+use wef_http_heads::Target;
 use wef_keeper::Keeper;
 use wef_tree::write_tree;
 

@@ -9,13 +9,13 @@ ghost use Rattle.wef_envelope.specs.Envelopes.{said};
 ghost use Rattle.wef_xml.specs.Good.{IsGoodTree};
 ghost use Rattle.wef_front.specs.Heard.{Hears, IsSound, IsSoundAsk, asked_by, asked_of, batch_in, delivery_asked, enumerate_asked, events_asked, heard_in, is_elsewhere, is_nameless, manager_asked, unheard};
 
-use crate::targets::Target;
 use std::alloc::{AllocError, Global};
 use wef_base::{Charset, Element, SourceName, SubId, Text, ValueFault};
 use wef_batch::{Batch, BatchFault, read_batch};
 use wef_bodies::has_enumerate;
 use wef_envelope::actions::{ENUMERATE, EVENTS, SUBSCRIPTIONS};
 use wef_envelope::{Envelope, EnvelopeFault, FaultName, MessageId, from_node, id_in};
+use wef_http_heads::Target;
 use wef_tree::{TreeFault, read_tree};
 
 /// What a message asks.

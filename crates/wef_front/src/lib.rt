@@ -7,9 +7,8 @@ pub mod laws;
 pub mod listening;
 mod saying;
 pub mod sending;
-pub mod targets;
 
 pub use answering::{Answer, collector_answer};
 pub use listening::{Hears, read_reply, source_hears};
 pub use sending::{write_delivery, write_enumerate};
-pub use targets::Target;
+pub use wef_http_heads::Target;

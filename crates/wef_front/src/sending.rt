@@ -1,30 +1,37 @@
 //! The bytes of what a source sends: its wish for subscriptions, and its deliveries.
 
-ghost use Rattle.std.specs.Prelude.{◌≡◌, option_copied, Some, IfOk};
-ghost use Rattle.std.specs.Str.{IsUtf8};
-ghost use Rattle.wef_base.specs.Names.{source_name};
+ghost use Rattle.std.specs.Prelude.{◌≡◌, true, option_copied, Some, IfOk};
+ghost use Rattle.std.specs.List.{AllByRecursion};
+ghost use Rattle.std.specs.Str.{IsUtf8, is_utf8};
+ghost use Rattle.wef_base.specs.Names.{channel_name, source_name};
 ghost use Rattle.wef_base.specs.declared.tree.Charset.TheVariants.{Utf8};
+ghost use Rattle.wef_batch.specs.Laws.{IsKept};
+ghost use Rattle.wef_event.specs.Events.{HasTree};
 ghost use Rattle.wef_envelope.specs.Written.{written};
 ghost use Rattle.wef_eventing.specs.Addresses.{IsHost};
 ghost use Rattle.wef_xml.specs.Canonical.{canonical, encoded};
 ghost use Rattle.wef_xml.specs.Good.{IsGoodTree, IsXmlText};
-ghost use Rattle.wef_front.specs.Sending.{CanBeSent, delivery_bytes, delivery_envelope, enumerate_bytes, enumerate_envelope, manager_address};
+ghost use Rattle.wef_front.specs.Sending.{CanBeWritten, delivery_bytes, delivery_envelope, enumerate_bytes, enumerate_envelope, manager_address};
 
 use std::alloc::{AllocError, Global};
-use wef_base::{Bytes, Charset, SourceName, Text};
-use wef_batch::write_batch;
+use wef_base::{Bytes, ChannelName, Charset, SourceName, Text};
+use wef_batch::{Item, write_batch};
+use wef_bodies::wishes::marked_names_are_kept;
 use wef_bodies::{Body, write_body};
 use wef_envelope::actions::{ANONYMOUS, ENUMERATE, EVENTS, SUBSCRIPTIONS};
 use wef_envelope::{Envelope, MessageId, to_node};
+use wef_event::Event;
 use wef_source::Delivery;
 use wef_tree::write_tree;
 
-/// Writes a delivery in UTF-8, as the message Events of WS-Management (10.2.9). Its texts must be such as
-/// headers say, and its batch one that can be read again.
+/// Writes a delivery in UTF-8, as the message Events of WS-Management (10.2.9). It is read again where its
+/// texts are such as headers say, and its events those of their texts.
 pub fn write_delivery(alloc: Global, delivery: &Delivery) -> Result<Bytes, AllocError>
-    requires { CanBeSent delivery.now }
+    requires { CanBeWritten delivery.now }
     ensures { IfOk result (λ bytes. bytes ≡ delivery_bytes delivery.now) }
 {
+    items_are_kept(delivery.batch.items.as_slice());
+    marked_names_are_kept(&delivery.batch.to);
     let envelope = envelope_of(alloc, delivery)?;
     write_envelope(alloc, &envelope)
 }
@@ -100,9 +107,43 @@ fn write_envelope(alloc: Global, envelope: &Envelope) -> Result<Bytes, AllocErro
     }
 }
 
-#[tactic(auto, using(crate::proofs::Numbered::plain_numbered))]
+/// Events have trees, and names of channels read back as themselves, since their types keep it.
+fn items_are_kept(items: &[Item])
+    ensures { AllByRecursion IsKept items.now }
+{
+    for item in items {
+        item_is_kept(item);
+    }
+}
+
+fn item_is_kept(item: &Item)
+    ensures { IsKept item.now }
+{
+    match item {
+        Item::Event(event) => event_is_kept(event),
+        Item::Dropped {
+            channel,
+            first: _,
+            last: _,
+        } => channel_is_kept(channel),
+        Item::Loose { count: _ } => {}
+    }
+}
+
+fn event_is_kept(event: &Event)
+    ensures { HasTree event.now }
+{
+    let _text = &event.text;
+}
+
+fn channel_is_kept(channel: &ChannelName)
+    ensures { (is_utf8 channel.now ≡ true) × (channel_name channel.now ≡ Some channel.now) }
+{
+    let _name = channel.as_text().as_str();
+}
+
 fn envelope_of(alloc: Global, delivery: &Delivery) -> Result<Envelope, AllocError>
-    requires { CanBeSent delivery.now }
+    requires { CanBeWritten delivery.now }
     ensures { IfOk result (λ envelope. envelope ≡ delivery_envelope delivery.now) }
 {
     Ok(Envelope {

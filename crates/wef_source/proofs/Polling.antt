@@ -8,7 +8,7 @@ use Rattle.wef_keeper.specs.Calls.{Looks}
 use Rattle.wef_keeper.specs.Keeping.{Store}
 use Rattle.wef_keeper.specs.Rows.{Rows}
 use Rattle.wef_source_log.specs.Forms.{AreFormed}
-use Rattle.wef_source.specs.Answers.{MayRefusePoll, Polls, PollsIn, RefusesPoll, Sends, SendsFrom, WhereThere, may_send}
+use Rattle.wef_source.specs.Answers.{IsAddressed, MayRefusePoll, Polls, PollsIn, RefusesPoll, Sends, SendsAddressed, SendsFrom, WhereThere, may_send}
 use Rattle.wef_source.specs.Building.{with_reach}
 use Rattle.wef_source.specs.Faults.{source_store}
 use Rattle.wef_source.specs.Judged.{JudgesBatch, JudgesPoll}
@@ -68,6 +68,13 @@ sends_next before end u now s delivery outstanding ss same found draws changed =
     ∙ (λ k. record end { drawn = end.drawn + 1; sessions = with_changed (is_named u) (sending (draws.3 k) now) end.sessions })
     in
     subst (λ o. WhereThere o (λ session. SendsFrom end (record before { drawn = before.drawn + 1; sessions = ss }) session u now (Send delivery))) (sym found) (draws.0, draws.1, draws.2, made)
+
+-- what is sent goes where the session that is found says
+pub sends_addressed : (end : End) (u : List ℕ) (s : Session) (delivery : Delivery) (outstanding : Outstanding) → session_of end.sessions u ≡ Some s
+    → (found : Option (Delivery × Outstanding)) → found ≡ Some (delivery, outstanding) → IfSome found (λ (prepared : Delivery × Outstanding). IsAddressed s prepared.0) → SendsAddressed end u (Send delivery)
+sends_addressed end u s delivery outstanding there found is addressed =
+    subst (λ (o : Option Session). WhereThere o (λ session. IsAddressed session delivery)) (sym there)
+    (subst (λ (o : Option (Delivery × Outstanding)). IfSome o (λ (prepared : Delivery × Outstanding). IsAddressed s prepared.0)) is addressed)
 
 -- a poll that sends nothing
 pub sends_nothing : (end : End) (u : List ℕ) (now : ℕ) (s : Session) → session_of end.sessions u ≡ Some s → Sends end end u now Nothing

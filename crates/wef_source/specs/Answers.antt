@@ -11,6 +11,7 @@ use Rattle.wef_source.specs.Machine.{End, acknowledged_in, adopted, asked, deliv
 use Rattle.wef_source.specs.Sessions.{is_named, sending, session_of, waiting, with_changed}
 use Rattle.wef_source.specs.declared.faults.SourceFault.{SourceFault}
 use Rattle.wef_source.specs.declared.faults.SourceFault.TheVariants.{NoMemory, Failed, Full, TooLong, NotAsked, UnknownSubscription, Spent}
+use Rattle.wef_source.specs.declared.messages.Delivery.{Delivery}
 use Rattle.wef_source.specs.declared.messages.Moved as moved
 use Rattle.wef_source.specs.declared.messages.Moved.TheVariants as moves
 use Rattle.wef_source.specs.declared.messages.Poll as poll
@@ -131,6 +132,15 @@ Sends end end' u now answer = WhereThere (session_of end.sessions u) (λ session
 abbrev pub SendsNumbered : poll.Poll → Type 0
 SendsNumbered polls.Nothing = Unit {0}
 SendsNumbered (polls.Send delivery) = AreNumbered delivery.batch.items
+
+-- A delivery goes where the session says, with the identifier that it has.
+abbrev pub IsAddressed : Session → Delivery → Type 0
+IsAddressed session delivery = (delivery.notify_to ≡ session.notify_to) × (delivery.identifier ≡ session.identifier)
+
+-- so does what a poll of the session of a name sends, also where the rows aren't told
+abbrev pub SendsAddressed : End → List ℕ → poll.Poll → Type 0
+SendsAddressed end u polls.Nothing = Unit {0}
+SendsAddressed end u (polls.Send delivery) = WhereThere (session_of end.sessions u) (λ session. IsAddressed session delivery)
 
 -- a poll's refusals, also where the rows aren't told: each but for an unknown name comes where no answer is outstanding
 abbrev pub MayRefusePoll : SourceFault → End → List ℕ → Type 0

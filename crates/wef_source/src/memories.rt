@@ -145,6 +145,7 @@ impl Memory {
         ensures refusal { IfSome (K.store log.new.keeper).rows (λ rows. IfErr result (λ fault. answers.RefusesPoll fault rows self.old sub.now)) }
         ensures sends { IfOk result (answers.Sends self.old self.new sub.now now) }
         ensures numbered { IfOk result answers.SendsNumbered }
+        ensures addressed { IfOk result (answers.SendsAddressed self.old sub.now) }
         ensures judged { IfSome (K.store log.new.keeper).rows (λ rows. OnOk result (JudgesPoll rows self.old sub.now)) }
         ensures listed { IfErr result (λ fault. answers.MayRefusePoll fault self.old sub.now) }
         ensures err { OnErr result (self.new ≡ self.old) }
@@ -226,6 +227,7 @@ impl Memory {
         ensures refusal { IfSome (K.store log.new.keeper).rows (λ rows. IfErr result (RefusesToPrepare rows self.now session.now)) }
         ensures draws { IfOk result (MayDraw self.now session.now) }
         ensures numbered { IfOk result (λ found. IfSome found (λ prepared. AreNumbered prepared.0.batch.items)) }
+        ensures addressed { IfOk result (λ found. IfSome found (λ prepared. answers.IsAddressed session.now prepared.0)) }
         ensures judged { IfSome (K.store log.new.keeper).rows (λ rows. OnOk result (is_some session.now.outstanding ≡ false → JudgesBatch rows session.now)) }
         ensures listed { IfErr result (MayRefuseToPrepare self.now) }
         ensures looks { is_some session.now.outstanding ≡ false → Looks source_store AreFormed result (K.store log.old.keeper) (K.store log.new.keeper) }
@@ -253,6 +255,7 @@ impl Memory {
         ensures refusal { IfSome (K.store log.new.keeper).rows (λ rows. IfErr result (RefusesToPrepare rows self.now session.now)) }
         ensures draws { IfOk result (MayDraw self.now session.now) }
         ensures numbered { IfOk result (λ found. IfSome found (λ prepared. AreNumbered prepared.0.batch.items)) }
+        ensures addressed { IfOk result (λ found. IfSome found (λ prepared. answers.IsAddressed session.now prepared.0)) }
         ensures judged { IfSome (K.store log.new.keeper).rows (λ rows. OnOk result (JudgesBatch rows session.now)) }
         ensures listed { IfErr result (MayRefuseToPrepare self.now) }
         ensures reads { access.Reads AreFormed (fails source_store result) (K.store log.old.keeper) (K.store log.new.keeper) }
@@ -277,6 +280,7 @@ impl Memory {
           identifier = session.now.identifier;
           batch = batch;
         }) }
+        ensures addressed { IfOk result (λ prepared. answers.IsAddressed session.now prepared.0) }
         ensures awaited { IfOk result (λ prepared. prepared.1 ≡ record { id = machine.next_id self.now; to = batch.to }) }
         ensures left { IfOk result (λ prepared. machine.is_spent self.now ≡ false) }
         ensures refusal { IfErr result (MayRefuseToPrepare self.now) }

@@ -153,6 +153,7 @@ impl<K: Keeper> SourceEnd<K> {
         ensures refusal { IfSome (K.store self.new.keeper).rows (λ rows. IfErr result (λ fault. answers.RefusesPoll fault rows self.old.memory sub.now)) }
         ensures sends { IfOk result (answers.Sends self.old.memory self.new.memory sub.now now) }
         ensures numbered { IfOk result answers.SendsNumbered }
+        ensures addressed { IfOk result (answers.SendsAddressed self.old.memory sub.now) }
         ensures judged { IfSome (K.store self.new.keeper).rows (λ rows. OnOk result (JudgesPoll rows self.old.memory sub.now)) }
         ensures listed { IfErr result (λ fault. answers.MayRefusePoll fault self.old.memory sub.now) }
         ensures err { OnErr result (self.new.memory ≡ self.old.memory) }

@@ -22,7 +22,7 @@ use Rattle.wef_front.specs.declared.answering.Answer.{Answer}
 use Rattle.wef_front.specs.declared.hearing.Asked.TheVariants.{Enumerate}
 use Rattle.wef_front.specs.declared.hearing.Heard.{Heard}
 use Rattle.wef_front.specs.declared.saying.Said.TheVariants as says
-use Rattle.wef_front.specs.declared.targets.Target.TheVariants.{Manager}
+use Rattle.wef_http_heads.specs.declared.targets.Target.TheVariants.{Manager}
 use Rattle.wef_ids.proofs.PlainIds.{id_text_good}
 use Rattle.wef_ids.specs.Ids.{next_id, with_drawn}
 use Rattle.wef_ids.specs.declared.MessageId.{MessageId}

@@ -21,8 +21,8 @@ use Rattle.wef_front.specs.declared.hearing.Asked.TheVariants.{Refused, Take}
 use Rattle.wef_front.specs.declared.hearing.Heard.{Heard}
 use Rattle.wef_front.specs.declared.saying.Said.{Said}
 use Rattle.wef_front.specs.declared.saying.Said.TheVariants.{Offers}
-use Rattle.wef_front.specs.declared.targets.Target as the_target
-use Rattle.wef_front.specs.declared.targets.Target.TheVariants.{Delivery as Delivers}
+use Rattle.wef_http_heads.specs.declared.targets.Target as the_target
+use Rattle.wef_http_heads.specs.declared.targets.Target.TheVariants.{Delivery as Delivers}
 use Rattle.wef_ids.specs.declared.FaultName.TheVariants.{DestinationUnreachable}
 use Rattle.wef_ids.specs.declared.MessageId.{MessageId}
 use Rattle.wef_ids.specs.declared.ids.Ids.{Ids}

@@ -132,7 +132,7 @@ impl Model for DeliveryBytes {
 
 impl DeliveryBytes {
     /// Writes a delivery.
-    #[tactic(auto, using(crate::proofs::Said::written_delivery, crate::proofs::Said::written_says))]
+    #[tactic(auto, using(crate::proofs::Said::written_delivery, crate::proofs::Said::written_says, wef_front::proofs::DeliveriesAreHeard::can_be_written))]
     pub fn of(alloc: Global, delivery: &Delivery) -> Result<DeliveryBytes, AllocError>
         requires { CanBeSent delivery.now }
         ensures { IfOk result (λ sent. sent ≡ delivery.now) }

@@ -18,7 +18,7 @@ use Rattle.wef_source.specs.declared.sessions.Session.{Session}
 use Rattle.wef_source.proofs.Cases.{le_fails}
 use Rattle.wef_source.proofs.Covering.{read_covered}
 use Rattle.wef_source.proofs.Places.{changed_at, first_at, first_nowhere, passes_at, same_session, within_at}
-use Rattle.wef_source.proofs.Polling.{awaits, awaits_nothing, looks_done, looks_refused, may_refuse, may_send_there, never_sends, polls_judged, polls_nothing, polls_send, refuses_poll, sends_next, sends_nothing, sent_kept}
+use Rattle.wef_source.proofs.Polling.{awaits, awaits_nothing, looks_done, looks_refused, may_refuse, may_send_there, never_sends, polls_judged, polls_nothing, polls_send, refuses_poll, sends_addressed, sends_next, sends_nothing, sent_kept}
 use Rattle.wef_source.proofs.Told.{any_told, if_told, opens_itself}
 use Rattle.wef_source.proofs.memories.Memory.poll.Goals as goal
 
@@ -185,3 +185,12 @@ returns-clause-judged g c =
     let at : position (is_named c.args.sub.now) c.self.inside.sessions.items ≡ Some c.in-Some.place = cc in
     let found = first_at (is_named c.args.sub.now) c.self.inside.sessions.items c.in-Some.place c.index.result.now at c.index.ensures in
     polls_judged (g.K.Keeper.store c.prepared.new.log.keeper).rows c.args.self.now c.args.sub.now c.index.result.now (ap (λ (e : End). session_of e.sessions c.args.sub.now) (sym c.self.view_is) ∙ found) c.in_ok-delivery.ensures.judged
+
+-- ---- where it goes
+
+pub returns-clause-addressed : goal.returns-clause-addressed
+returns-clause-addressed g c =
+    let u = c.args.sub.now in
+    let at : position (is_named u) c.self.inside.sessions.items ≡ Some c.in-Some.place = cc in
+    let found = ap (λ (e : End). session_of e.sessions u) (sym c.self.view_is) ∙ first_at (is_named u) c.self.inside.sessions.items c.in-Some.place c.index.result.now at c.index.ensures in
+    sends_addressed c.args.self.now u c.index.result.now c.in-Some-2.delivery c.in-Some-2.outstanding found c.in_ok-delivery.field-0 c.in-Some-2.is c.in_ok-delivery.ensures.addressed
