@@ -1,0 +1,4 @@
+pub mod Exchanging
+pub mod Forwarded
+pub mod Servable
+pub mod Taking

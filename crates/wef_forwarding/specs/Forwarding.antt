@@ -1,0 +1,114 @@
+-- What forwarding a batch does: the poll, the exchange, and what the source makes of the reply.
+use Rattle.std.specs.Prelude.{◌≡◌, ℕ, true, List, length, min, is_some, Option, Some, None, Result, Ok, Err, IfSome}
+use Rattle.wef_bodies.specs.Addresses.{is_address}
+use Rattle.wef_forwarding.specs.Exchanges.{Exchanged}
+use Rattle.wef_forwarding.specs.declared.exchanges.FrontFault.{FrontFault}
+use Rattle.wef_forwarding.specs.declared.exchanges.FrontFault.TheVariants.{NoMemory, LinkFailed, Source}
+use Rattle.wef_forwarding.specs.declared.forwarding.Exchange.{Exchange}
+use Rattle.wef_forwarding.specs.declared.forwarding.Exchange.TheVariants.{Nothing, Acked, Refused, Lost}
+use Rattle.wef_ids.specs.declared.MessageId.{MessageId}
+use Rattle.wef_keeper.specs.Rows.{Rows}
+use Rattle.wef_ports.specs.Telling.{Told}
+use Rattle.wef_source.specs.Answers.{MayRefusePoll, Polls, RefusesPoll, Sends, waiting_for}
+use Rattle.wef_source.specs.Machine.{End, acknowledged_in, lost_in, refused_in}
+use Rattle.wef_source.specs.Sessions.{session_of}
+use Rattle.wef_source.specs.declared.faults.SourceFault.{SourceFault}
+use Rattle.wef_source.specs.declared.messages.Delivery.{Delivery}
+use Rattle.wef_source.specs.declared.messages.Poll.{Poll}
+use Rattle.wef_source.specs.declared.messages.Poll.TheVariants as polls
+use Rattle.wef_source.specs.declared.messages.Reply.{Reply}
+use Rattle.wef_source.specs.declared.messages.Reply.TheVariants as replies
+use Rattle.wef_source.specs.declared.sessions.Session.{Session}
+use Rattle.wef_xml.specs.Good.{IsXmlText}
+
+-- ---- what a session needs
+
+-- A session whose batches can be written: they go to an address of HTTP, and the identifier holds characters that XML allows.
+pub record CanBeServed (session : Session) : Type 0 where
+  pub notify_to : is_address session.notify_to ≡ true
+  pub identifier : IfSome session.identifier IsXmlText
+
+-- ---- what becomes of the batch
+
+-- how many items a delivery has; none has more than a session may send
+abbrev pub count_of : Delivery → ℕ
+count_of d = min (length d.batch.items) 4294967295
+
+-- what is made of the reply, or of none
+abbrev pub outcome_of : ℕ → Option Reply → Exchange
+outcome_of count None = Lost
+outcome_of count (Some replies.Ack) = Acked count
+outcome_of count (Some (replies.Fault name)) = Refused
+
+-- a source behind the reply to its delivery of an id: the session goes on behind the batch, or where it was, or ends
+abbrev pub replied_in : End → Option ℕ → Reply → End
+replied_in end None reply = end
+replied_in end (Some id) replies.Ack = acknowledged_in end id
+replied_in end (Some id) (replies.Fault name) = refused_in end id name
+
+-- a source whose session of a name sent the delivery of an id, behind the reply to it, or without one
+abbrev pub answered_in : End → List ℕ → Option ℕ → Option Reply → End
+answered_in end u id None = lost_in end u
+answered_in end u id (Some reply) = replied_in end id reply
+
+-- what is answered, and what the source is then, once the exchange is over
+abbrev pub Ends : Delivery → List ℕ → Result (Option Reply) FrontFault → End → End → Result Exchange FrontFault → Type 0
+Ends d u (Ok answer) mid end result = (result ≡ Ok (outcome_of (count_of d) answer)) × (end ≡ answered_in mid u d.id.value answer)
+Ends d u (Err fault) mid end result = (result ≡ Err fault) × (end ≡ lost_in mid u)
+
+-- a session waits for the answer to a message
+abbrev pub IsAwaited : End → MessageId → Type 0
+IsAwaited end id = is_some (waiting_for end id.value) ≡ true
+
+-- A poll gave this, and left the source so. What it is by the rows is known where they are told.
+pub record Polled (rows : Option Rows) (end mid : End) (u : List ℕ) (now : ℕ) (poll : Poll) : Type 0 where
+  pub sends : Sends end mid u now poll
+  pub by_rows : IfSome rows (λ rows. Polls rows end mid u now poll)
+
+-- A delivery was exchanged, and the source took what came back.
+pub record IsDelivered (d : Delivery) (u : List ℕ) (before after : Told) (mid end : End) (result : Result Exchange FrontFault) : Type 0 where
+  pub answer : Result (Option Reply) FrontFault
+  pub exchanged : Exchanged d answer before after
+  pub ends : Ends d u answer mid end result
+
+-- The poll gave a delivery, which was delivered.
+pub record Delivers (rows : Option Rows) (end end' : End) (u : List ℕ) (now : ℕ) (before after : Told) (result : Result Exchange FrontFault) : Type 0 where
+  pub delivery : Delivery
+  pub sent : End
+  pub polled : Polled rows end sent u now (polls.Send delivery)
+  pub delivered : IsDelivered delivery u before after sent end' result
+
+-- Nothing was sent.
+abbrev pub Idles : Option Rows → End → End → List ℕ → ℕ → Told → Told → Type 0
+Idles rows end end' u now before after = Polled rows end end' u now polls.Nothing × (after ≡ before)
+
+-- The poll was refused.
+abbrev pub RefusesToForward : SourceFault → Option Rows → End → End → List ℕ → Told → Told → Type 0
+RefusesToForward fault rows end end' u before after =
+    MayRefusePoll fault end u × IfSome rows (λ rows. RefusesPoll fault rows end u) × (end' ≡ end) × (after ≡ before)
+
+-- What forwarding does to a source and a link, by its answer.
+abbrev pub Forwards : Option Rows → End → End → List ℕ → ℕ → Told → Told → Result Exchange FrontFault → Type 0
+Forwards rows end end' u now before after (Ok Nothing) = Idles rows end end' u now before after
+Forwards rows end end' u now before after (Err (Source fault)) = RefusesToForward fault rows end end' u before after
+Forwards rows end end' u now before after result = Delivers rows end end' u now before after result
+
+-- ---- what is awaited
+
+-- the session of a name, if it is there, awaits no answer
+abbrev pub AwaitsNothing : End → List ℕ → Type 0
+AwaitsNothing end u = IfSome (session_of end.sessions u) (λ session. session.outstanding ≡ None)
+
+-- Nothing is awaited any more where a delivery was lost, or memory was wanting or the link failed behind the poll.
+abbrev pub Settles : End → List ℕ → Result Exchange FrontFault → Type 0
+Settles end u (Ok Lost) = AwaitsNothing end u
+Settles end u (Err NoMemory) = AwaitsNothing end u
+Settles end u (Err LinkFailed) = AwaitsNothing end u
+Settles end u _ = Unit {0}
+
+-- ---- the store
+
+-- what the poll answered the store's reader: only its refusal counts
+abbrev pub refusal_of : Result Exchange FrontFault → Result (Unit {0}) SourceFault
+refusal_of (Err (Source fault)) = Err fault
+refusal_of _ = Ok tt

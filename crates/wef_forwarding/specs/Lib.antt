@@ -1,0 +1,4 @@
+pub mod Addresses
+pub mod Exchanges
+pub mod Forwarding
+pub mod Laws
