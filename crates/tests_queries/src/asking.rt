@@ -66,9 +66,22 @@ fn push_answer(shown: &mut Text, list: &QueryList, root: &Element) -> Result<(),
 fn push_fault(shown: &mut Text, fault: QueryFault) -> Result<(), ValueFault> {
     match fault {
         QueryFault::NoMemory => Err(ValueFault::NoMemory),
-        QueryFault::BadQuery { .. } => Ok(shown.push_str("refused")?),
-        QueryFault::Unsupported { .. } => Ok(shown.push_str("refused")?),
+        QueryFault::BadQuery { item, at } => push_place(shown, "bad", item, at),
+        QueryFault::Unsupported { item, at } => push_place(shown, "unsupported", item, at),
+        QueryFault::TooDeepQuery { item, at } => push_place(shown, "too deep", item, at),
     }
+}
+
+/// What is wrong at a byte of an item's text; which item it is, if it isn't the first.
+fn push_place(shown: &mut Text, kind: &str, item: usize, at: usize) -> Result<(), ValueFault> {
+    shown.push_str(kind)?;
+    shown.push_str(" at ")?;
+    shown.push_number(at as u64)?;
+    if item > 0 {
+        shown.push_str(" of item ")?;
+        shown.push_number(item as u64)?;
+    }
+    Ok(())
 }
 
 /// The QueryList of one Select of this text on the channel of the rows.

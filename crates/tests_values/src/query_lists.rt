@@ -57,6 +57,7 @@ fn push_fault(shown: &mut Text, fault: QueryFault) -> Result<(), AllocError> {
         QueryFault::NoMemory => Err(AllocError),
         QueryFault::BadQuery { item, at } => push_place(shown, "BadQuery", item, at),
         QueryFault::Unsupported { item, at } => push_place(shown, "Unsupported", item, at),
+        QueryFault::TooDeepQuery { item, at } => push_place(shown, "TooDeepQuery", item, at),
     }
 }
 

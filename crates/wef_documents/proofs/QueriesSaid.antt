@@ -12,7 +12,8 @@ use Rattle.wef_elements.specs.Children.{elements_in}
 use Rattle.wef_elements.specs.Good.{AreGoodElements}
 use Rattle.wef_elements.proofs.InnerTrees.{inner_good}
 use Rattle.wef_eventing.specs.Kept.{HasKeptName}
-use Rattle.wef_query_paths.specs.Paths.{path_of}
+use Rattle.wef_query_paths.specs.Stops.{path_or_fault}
+use Rattle.wef_query_paths.specs.declared.faults.PathFault.{PathFault}
 use Rattle.wef_query.specs.Reading.{channel_by, channel_of, is_query, is_query_list, is_select, is_suppress, item_of, items_from, items_in, path_said, queries_from, query_in, some_items, text_of, then_on, with_channel, with_item, with_path, with_query}
 use Rattle.wef_query.specs.Items.{QueryItem}
 use Rattle.wef_query.specs.declared.QueryList.{QueryList}
@@ -76,14 +77,14 @@ channel_good (Some path) around own outer = channel_is_read path own
 
 -- ---- an item
 
-path_item : (before group : ℕ) (suppress : Bool) (channel text : List ℕ) (path : Option Path) → IsReadChannel channel → IfOk (with_path before group suppress channel text path) HasKeptName
+path_item : (before group : ℕ) (suppress : Bool) (channel text : List ℕ) (read : Result Path PathFault) → IsReadChannel channel → IfOk (with_path before group suppress channel text read) HasKeptName
 unfolding channel_name
-path_item before group suppress channel text (Some path) named = record { utf8 = named.utf8; reads_back = named.reads_back }
-path_item before group suppress channel text None named = tt
+path_item before group suppress channel text (Ok path) named = record { utf8 = named.utf8; reads_back = named.reads_back }
+path_item before group suppress channel text (Err fault) named = tt
 
 channel_item : (before group : ℕ) (suppress : Bool) (channel : Option (List ℕ)) (text : List ℕ) → IfSome channel IsReadChannel
     → IfOk (with_channel before group suppress channel text) HasKeptName
-channel_item before group suppress (Some channel) text named = path_item before group suppress channel text (path_of text) named
+channel_item before group suppress (Some channel) text named = path_item before group suppress channel text (path_or_fault text) named
 channel_item before group suppress None text named = tt
 
 item_said : (before group : ℕ) (around : Option (List ℕ)) (e : Element) → IfSome around IsReadChannel → IsGood e → IfOk (item_of before group around e) HasKeptName

@@ -18,7 +18,10 @@ use Rattle.wef_elements.proofs.InnerTrees.{inner_good}
 use Rattle.wef_eventing.specs.Kept.{HasKeptName}
 use Rattle.wef_eventing.specs.Sending.{AreXmlQueries}
 use Rattle.wef_query.specs.Laws.{IsWritable, ReadsBack, are_grouped, groups_rise}
+use Rattle.wef_query_paths.proofs.Readers.{if_read, read_is_path}
 use Rattle.wef_query_paths.specs.Paths.{path_of}
+use Rattle.wef_query_paths.specs.Stops.{path_or_fault}
+use Rattle.wef_query_paths.specs.declared.faults.PathFault.{PathFault}
 use Rattle.wef_query.specs.Reading.{channel_by, channel_of, characters_of, is_query, is_query_list, is_select, is_suppress, item_of, items_from, items_in, path_said, queries_from, query_in, some_items, text_of, then_on, with_channel, with_path, with_query}
 use Rattle.wef_query.specs.Items.{QueryItem}
 use Rattle.wef_query.specs.declared.QueryList.{QueryList}
@@ -79,14 +82,14 @@ item_read before group around e room item good is = by_name (is_select e || is_s
         let trim = text_is e room good in
         subst (IsOf group) (one_item _ item said) (record { same = refl; is = record { text = trim_stays text trim; path = ap is_some found; allowed = trim_allowed text trim } })
 
-    by_path : (channel : List ℕ) (o : Option Path) → path_of text ≡ o → with_path before group (is_suppress e) channel text o ≡ Ok item → IsOf group item
-    by_path channel None found said = let bad : ⊥ = cc in absurd bad
-    by_path channel (Some path) found said = made channel path found said
+    by_path : (channel : List ℕ) (read : Result Path PathFault) → path_or_fault text ≡ read → with_path before group (is_suppress e) channel text read ≡ Ok item → IsOf group item
+    by_path channel (Err fault) found said = let bad : ⊥ = cc in absurd bad
+    by_path channel (Ok path) found said = made channel path (sym (read_is_path text) ∙ ap if_read found) said
 
     by_name : (b : Bool) (o : Option (List ℕ)) → cond b (with_channel before group (is_suppress e) o text) (Err (BadQuery before 0)) ≡ Ok item → IsOf group item
     by_name false o said = let bad : ⊥ = cc in absurd bad
     by_name true None said = let bad : ⊥ = cc in absurd bad
-    by_name true (Some channel) said = by_path channel (path_of text) refl said
+    by_name true (Some channel) said = by_path channel (path_or_fault text) refl said
 
 -- ---- the items of a Query
 

@@ -1,8 +1,8 @@
 -- What is written for a list of queries is read as it.
 use Rattle.std.proofs.Common.{◌≡◌, ℕ, suc, ◌+◌, ◌==◌, Bool, true, false, ◌||◌, cond, List, [], ◌∷◌, ◌++◌, length, map, refl, ap, sym, ◌∙◌, append_assoc, append-nil, arith, subst}
-use Rattle.std.specs.Prelude.{codes, Option, Some, None, Result, is_some}
+use Rattle.std.specs.Prelude.{codes, Option, Result, is_some}
 use Rattle.std.specs.List.{AllByRecursion, flat_map}
-use Rattle.std.specs.declared.result.Result.TheVariants.{Ok}
+use Rattle.std.specs.declared.result.Result.TheVariants.{Ok, Err}
 use Rattle.std.proofs.lemmas.Bool.{and_parts}
 use Rattle.std.proofs.lemmas.Bool.Decides.{nat_tests}
 use Rattle.wef_base.specs.Names.{channel_name, trimmed}
@@ -13,7 +13,9 @@ use Rattle.wef_elements.specs.Children.{with_attributes}
 use Rattle.wef_elements.specs.Texts.{only_text}
 use Rattle.wef_elements.proofs.Again.{elements_again}
 use Rattle.wef_query.specs.Laws.{ReadsBack, WrittenIsRead, groups_rise}
-use Rattle.wef_query_paths.specs.Paths.{path_of}
+use Rattle.wef_query_paths.proofs.Readers.{if_read, read_is_path}
+use Rattle.wef_query_paths.specs.Stops.{path_or_fault}
+use Rattle.wef_query_paths.specs.declared.faults.PathFault.{PathFault}
 use Rattle.wef_query_paths.specs.declared.path.Path.{Path}
 use Rattle.wef_query.specs.Reading.{channel_of, characters_of, item_of, items_from, items_in, queries_from, query_in, some_items, then_on, with_channel, with_path, with_query}
 use Rattle.wef_query.specs.Writing.{group_element, groups_from, groups_of, item_element, item_name, plain}
@@ -43,17 +45,17 @@ as_item before group around true channel text = refl
 as_item before group around false channel text = refl
 
 -- what a path was found for
-path_again : (before group : ℕ) (suppress : Bool) (channel text : List ℕ) (path : Option Path) → is_some path ≡ true
-    → with_path before group suppress channel text path ≡ Ok (record { group = group; suppress = suppress; channel = channel; text = text })
-path_again before group suppress channel text (Some path) found = refl
-path_again before group suppress channel text None found = let bad : ⊥ = cc in absurd bad
+path_again : (before group : ℕ) (suppress : Bool) (channel text : List ℕ) (read : Result Path PathFault) → is_some (if_read read) ≡ true
+    → with_path before group suppress channel text read ≡ Ok (record { group = group; suppress = suppress; channel = channel; text = text })
+path_again before group suppress channel text (Ok path) found = refl
+path_again before group suppress channel text (Err fault) found = let bad : ⊥ = cc in absurd bad
 
 item_again : (before group : ℕ) (around : Option (List ℕ)) (item : QueryItem) → IsOf group item → item_of before group around (item_element item) ≡ Ok item
 item_again before group around item of =
     as_item before group around item.suppress item.channel item.text
     ∙ (λ i. with_channel before group item.suppress (of.back.channel i) (trimmed (characters_again item.text i)))
-    ∙ ap (λ text. with_path before group item.suppress item.channel text (path_of text)) of.back.text
-    ∙ path_again before group item.suppress item.channel item.text (path_of item.text) of.back.path
+    ∙ ap (λ text. with_path before group item.suppress item.channel text (path_or_fault text)) of.back.text
+    ∙ path_again before group item.suppress item.channel item.text (path_or_fault item.text) (ap is_some (read_is_path item.text) ∙ of.back.path)
     ∙ (λ i. Ok (record { group = sym of.same i; suppress = item.suppress; channel = item.channel; text = item.text }))
 
 items_again : (group : ℕ) (around : Option (List ℕ)) (done items : List QueryItem) → AllByRecursion (IsOf group) items → items_from group around done (map item_element items) ≡ Ok (done ++ items)

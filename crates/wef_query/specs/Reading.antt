@@ -10,12 +10,14 @@ use Rattle.wef_base.specs.declared.tree.Attribute.{Attribute}
 use Rattle.wef_base.specs.declared.tree.Element.{Element}
 use Rattle.wef_base.specs.declared.tree.Node.{Node, out-Node, Node-F}
 use Rattle.wef_elements.specs.Children.{elements_in}
-use Rattle.wef_query_paths.specs.Paths.{path_of}
+use Rattle.wef_query_paths.specs.Stops.{path_or_fault}
+use Rattle.wef_query_paths.specs.declared.faults.PathFault.{PathFault}
+use Rattle.wef_query_paths.specs.declared.faults.PathFault.TheVariants as faults
 use Rattle.wef_query.specs.Items.{QueryItem}
 use Rattle.wef_query.specs.declared.QueryList.{QueryList}
 use Rattle.wef_query_paths.specs.declared.path.Path.{Path}
 use Rattle.wef_query.specs.declared.reading.QueryFault.{QueryFault}
-use Rattle.wef_query.specs.declared.reading.QueryFault.TheVariants.{NoMemory, BadQuery, Unsupported}
+use Rattle.wef_query.specs.declared.reading.QueryFault.TheVariants.{NoMemory, BadQuery, Unsupported, TooDeepQuery}
 
 -- ---- an item
 
@@ -40,14 +42,21 @@ characters_of n = elim (out-Node n) [ Node-F.Element e ↦ [] | Node-F.Chars tex
 abbrev pub text_of : Element → List ℕ
 text_of e = trimmed (flat_map characters_of e.children)
 
+-- what is wrong with an item's text, behind so many items, at its place
+abbrev pub fault_in : ℕ → PathFault → QueryFault
+fault_in before faults.NoMemory = NoMemory
+fault_in before (faults.BadPath at) = BadQuery before at
+fault_in before (faults.Unsupported at) = Unsupported before at
+fault_in before (faults.TooDeep at) = TooDeepQuery before at
+
 -- the item of a channel and a text, where the text says a path; it stands behind so many others
-abbrev pub with_path : ℕ → ℕ → Bool → List ℕ → List ℕ → Option Path → Result QueryItem QueryFault
-with_path before group suppress channel text (Some path) = Ok (record { group = group; suppress = suppress; channel = channel; text = text })
-with_path before group suppress channel text None = Err (Unsupported before 0)
+abbrev pub with_path : ℕ → ℕ → Bool → List ℕ → List ℕ → Result Path PathFault → Result QueryItem QueryFault
+with_path before group suppress channel text (Ok path) = Ok (record { group = group; suppress = suppress; channel = channel; text = text })
+with_path before group suppress channel text (Err fault) = Err (fault_in before fault)
 
 -- the item of a text, where it has a channel
 abbrev pub with_channel : ℕ → ℕ → Bool → Option (List ℕ) → List ℕ → Result QueryItem QueryFault
-with_channel before group suppress (Some channel) text = with_path before group suppress channel text (path_of text)
+with_channel before group suppress (Some channel) text = with_path before group suppress channel text (path_or_fault text)
 with_channel before group suppress None text = Err (BadQuery before 0)
 
 abbrev pub is_select : Element → Bool
@@ -104,8 +113,8 @@ items_in (e ∷ es) = queries_from 0 [] (e ∷ es)
 abbrev pub is_query_list : Element → Bool
 is_query_list e = same e.name (codes "QueryList")
 
--- The list of queries that an element says, or the first fault in the order of the document. `BadQuery` and `Unsupported`
--- say how many items stand before the fault, and where in the item's text it is.
+-- The list of queries that an element says, or the first fault in the order of the document: how many items stand before
+-- it, and where in the item's text it is.
 unfoldable pub query_in : Element → Result QueryList QueryFault
 query_in e = if is_query_list e then then_on (items_in (elements_in e.children)) (λ items. Ok (record { items = items })) else Err (BadQuery 0 0)
 
@@ -115,6 +124,7 @@ Reads (Ok a) given = given ≡ Ok a
 Reads (Err NoMemory) given = Unit {0}
 Reads (Err (BadQuery item at)) given = given ≡ Err (BadQuery item at)
 Reads (Err (Unsupported item at)) given = given ≡ Err (Unsupported item at)
+Reads (Err (TooDeepQuery item at)) given = given ≡ Err (TooDeepQuery item at)
 
 -- The same of a call that changes items in place: what they are now, where it was done.
 abbrev pub Takes : Result (Unit {0}) QueryFault → Result (List QueryItem) QueryFault → List QueryItem → Type 0
@@ -122,3 +132,4 @@ Takes (Ok done) given now = given ≡ Ok now
 Takes (Err NoMemory) given now = Unit {0}
 Takes (Err (BadQuery item at)) given now = given ≡ Err (BadQuery item at)
 Takes (Err (Unsupported item at)) given now = given ≡ Err (Unsupported item at)
+Takes (Err (TooDeepQuery item at)) given now = given ≡ Err (TooDeepQuery item at)

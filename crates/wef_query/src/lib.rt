@@ -66,6 +66,7 @@ impl Model for QueryItem {
 }
 
 impl QueryItem {
+    /// A copy, which shares its texts and its path.
     pub fn clone(&self) -> Result<QueryItem, AllocError>
         ensures { IfOk result (λ copy. copy ≡ self.now) }
     {

@@ -5,8 +5,8 @@ ghost use Rattle.std.specs.List.{flat_map};
 ghost use Rattle.std.specs.Str.{IsUtf8};
 ghost use Rattle.wef_base.specs.Names.{trimmed};
 ghost use Rattle.wef_elements.specs.Children.{elements_in};
-ghost use Rattle.wef_query_paths.specs.Paths.{path_of};
-ghost use Rattle.wef_query.specs.Reading.{Reads, Takes, channel_by, channel_of, characters_of, is_query, is_query_list, is_select, is_suppress, item_of, items_from, items_in, path_said, queries_from, query_in, text_of, with_item, with_path, with_query};
+ghost use Rattle.wef_query_paths.specs.Stops.{path_or_fault};
+ghost use Rattle.wef_query.specs.Reading.{Reads, Takes, channel_by, channel_of, characters_of, fault_in, is_query, is_query_list, is_select, is_suppress, item_of, items_from, items_in, path_said, queries_from, query_in, text_of, with_item, with_path, with_query};
 
 use crate::{QueryItem, QueryList};
 use std::alloc::{AllocError, Global};
@@ -24,9 +24,12 @@ pub enum QueryFault {
     /// next one's text, or at 0 where the text isn't to blame.
     #[error("the query {item} isn't good at {at}")]
     BadQuery { item: usize, at: usize },
-    /// The same of a text that asks what isn't supported.
+    /// There the next item's text has what XPath 1.0 has and paths of event queries lack.
     #[error("the query {item} isn't supported at {at}")]
     Unsupported { item: usize, at: usize },
+    /// There a 33rd bracket would be open in the next item's text.
+    #[error("the query {item} has too many brackets at {at}")]
+    TooDeepQuery { item: usize, at: usize },
 }
 
 impl From<AllocError> for QueryFault {
@@ -180,7 +183,7 @@ fn with_path(
     text: Text,
 ) -> Result<QueryItem, QueryFault>
     requires { trimmed text ≡ text }
-    ensures { Reads result (with_path before group suppress channel text (path_of text)) }
+    ensures { Reads result (with_path before group suppress channel text (path_or_fault text)) }
 {
     match read_path(&text) {
         Ok(path) => Ok(QueryItem {
@@ -190,11 +193,19 @@ fn with_path(
             path: Shared::new(text.alloc(), path)?,
             text,
         }),
-        Err(PathFault::NoMemory) => Err(QueryFault::NoMemory),
-        Err(PathFault::BadPath) => Err(QueryFault::Unsupported {
-            item: before,
-            at: 0,
-        }),
+        Err(fault) => Err(fault_in(before, fault)),
+    }
+}
+
+/// What is wrong with an item's text, behind so many items.
+fn fault_in(before: usize, fault: PathFault) -> QueryFault
+    ensures { result ≡ fault_in before fault }
+{
+    match fault {
+        PathFault::NoMemory => QueryFault::NoMemory,
+        PathFault::BadPath { at } => QueryFault::BadQuery { item: before, at },
+        PathFault::Unsupported { at } => QueryFault::Unsupported { item: before, at },
+        PathFault::TooDeep { at } => QueryFault::TooDeepQuery { item: before, at },
     }
 }
 

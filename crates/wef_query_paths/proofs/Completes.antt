@@ -23,13 +23,13 @@ use Rattle.wef_query_paths.specs.declared.path.Unit.TheVariants.{Alone, Compared
 use Rattle.wef_query_paths.specs.declared.path.Value.{Value}
 use Rattle.wef_query_paths.specs.declared.path.Value.TheVariants.{Nodes, Position, Band}
 use Rattle.wef_query_paths.specs.declared.tokens.Token.{Token}
-use Rattle.wef_query_paths.specs.declared.tokens.Token.TheVariants.{Along, Star, Word, PositionCall, BandCall, Compare, Figure, CloseSquare, OpenRound, CloseRound}
+use Rattle.wef_query_paths.specs.declared.tokens.Token.TheVariants.{Along, Star, Word, Joint, PositionCall, BandCall, Compare, Figure, CloseSquare, OpenRound, CloseRound}
 use Rattle.wef_query_paths.specs.declared.turns.Next.{Next}
 use Rattle.wef_query_paths.specs.declared.turns.Next.TheVariants.{BeforeStep, BeforeTest, BehindStep, BeforePredicate, BehindCount, BeforeUnit, BehindLiteral, BeforeValue, BehindValue, BeforeLiteral, BehindUnit}
-use Rattle.wef_query_paths.specs.Grammar.{Part, the_path, the_steps, the_step, the_test, the_predicates, the_predicate, the_or, the_ands, the_and, the_units, the_unit, the_value, the_literal, Begins, path_is, no_step, one_step, child_step, axis_step, any_name, one_name, no_predicate, one_predicate, at_place, whether, or_is, no_and, one_and, and_is, no_unit, one_unit, group, alone, compared, mirrored, number, quote, nodes, position, band, may_compare}
+use Rattle.wef_query_paths.specs.Grammar.{Part, the_path, the_steps, the_step, the_test, the_predicates, the_predicate, the_or, the_ands, the_and, the_units, the_unit, the_value, the_literal, Begins, path_is, no_step, one_step, child_step, axis_step, any_name, one_name, no_predicate, one_predicate, at_place, whether, or_is, no_and, one_and, and_is, no_unit, one_unit, group, alone, compared, mirrored, number, quote, nodes, position, band, may_compare, Joins}
 use Rattle.wef_query_paths.specs.Levels.{alternatives_in, square, with_and, with_predicate, with_step, with_unit}
 use Rattle.wef_query_paths.specs.Steps.{goes_to_children}
-use Rattle.wef_query_paths.specs.Turns.{behind_unit, closed_round, closed_square, inside, is_position, joined, may_be_position, with_and_behind, with_or_behind}
+use Rattle.wef_query_paths.specs.Turns.{behind_last, behind_unit, closed_round, closed_square, inside, is_position, joined, may_be_position, with_and_behind, with_or_behind}
 use Rattle.wef_query_paths.proofs.Runs.{may_stand, on, run}
 use Rattle.wef_query_paths.proofs.Trees.{and_whole, and_with, or_whole, or_with, path_whole, path_with, step_whole, step_with}
 
@@ -149,6 +149,7 @@ EndsOr _ = ⊥
 -- behind a unit
 abbrev EndsUnit : List Token → Type 0
 EndsUnit (Word name ∷ ks) = Unit {0}
+EndsUnit (Joint name ∷ ks) = Unit {0}
 EndsUnit (CloseRound ∷ ks) = Unit {0}
 EndsUnit (CloseSquare ∷ ks) = Unit {0}
 EndsUnit _ = ⊥
@@ -156,6 +157,7 @@ EndsUnit _ = ⊥
 -- behind a value
 abbrev EndsValue : List Token → Type 0
 EndsValue (Word name ∷ ks) = Unit {0}
+EndsValue (Joint name ∷ ks) = Unit {0}
 EndsValue (CloseRound ∷ ks) = Unit {0}
 EndsValue (CloseSquare ∷ ks) = Unit {0}
 EndsValue (Compare operator ∷ ks) = Unit {0}
@@ -170,9 +172,15 @@ or_unit (_ ∷ ks) h = absurd h
 unit_value : (ks : List Token) → EndsUnit ks → EndsValue ks
 unit_value [] h = absurd h
 unit_value (Word name ∷ ks) h = tt
+unit_value (Joint name ∷ ks) h = tt
 unit_value (CloseRound ∷ ks) h = tt
 unit_value (CloseSquare ∷ ks) h = tt
 unit_value (_ ∷ ks) h = absurd h
+
+joins_unit : (token : Token) (operator : List ℕ) (ks : List Token) → Joins token operator → EndsUnit (token ∷ ks)
+joins_unit (Word name) operator ks e = tt
+joins_unit (Joint name) operator ks e = tt
+joins_unit _ operator ks e = absurd e
 
 -- what may stand before further parts
 abbrev Precedes : Part → List Token → List Token → Type 0
@@ -182,9 +190,9 @@ Precedes _ ks ms = Unit {0}
 
 precedes : {part : Part} {ks ms : List Token} → Begins part ks ms → Precedes part ks ms
 precedes (no_and {ks = ks}) = or_unit ks
-precedes (one_and e a more) = λ h. tt
+precedes (one_and {token = token} {ks = ks} e a more) = λ h. joins_unit token (codes "or") ks e
 precedes no_unit = λ h. h
-precedes (one_unit e u us) = λ h. tt
+precedes (one_unit {token = token} {ks = ks} e u us) = λ h. joins_unit token (codes "and") ks e
 precedes (path_is s ss) = tt
 precedes no_step = tt
 precedes (one_step g s ss) = tt
@@ -213,6 +221,7 @@ nodes_end : (levels : List Level) (side : Side) (so_far : Option Path) (last : S
     → run levels (BehindStep (InValue side) so_far last) ks ≡ run levels (BehindValue side (Nodes (with_step so_far last))) ks
 nodes_end levels side so_far last [] h = absurd h
 nodes_end levels side so_far last (Word name ∷ ks) h = refl
+nodes_end levels side so_far last (Joint name ∷ ks) h = refl
 nodes_end levels side so_far last (CloseRound ∷ ks) h = refl
 nodes_end levels side so_far last (CloseSquare ∷ ks) h = refl
 nodes_end levels side so_far last (Compare operator ∷ ks) h = refl
@@ -221,6 +230,7 @@ nodes_end levels side so_far last (_ ∷ ks) h = absurd h
 alone_end : (levels : List Level) (v : Value) (ks : List Token) → is_position v ≡ false → EndsUnit ks → run levels (BehindValue Left v) ks ≡ run levels (BehindUnit (Alone v)) ks
 alone_end levels v [] e h = absurd h
 alone_end levels v (Word name ∷ ks) e h = ap (λ b. on ks (if b then None else behind_unit levels (Alone v) (Word name))) e
+alone_end levels v (Joint name ∷ ks) e h = ap (λ b. on ks (if b then None else behind_unit levels (Alone v) (Joint name))) e
 alone_end levels v (CloseRound ∷ ks) e h = ap (λ b. on ks (if b then None else behind_unit levels (Alone v) CloseRound)) e
 alone_end levels v (CloseSquare ∷ ks) e h = ap (λ b. on ks (if b then None else behind_unit levels (Alone v) CloseSquare)) e
 alone_end levels v (_ ∷ ks) e h = absurd h
@@ -231,11 +241,15 @@ mirrored_end levels l operator v (_ ∷ ks) h = refl
 
 -- ---- operators and literals
 
-joined_or : (levels : List Level) (level : Level) (last : unit.Unit) (name : List ℕ) → name ≡ codes "or" → joined levels level last name ≡ Some (with_or_behind level last ∷ levels, BeforeUnit)
-joined_or levels level last name e = ap (joined levels level last) e
+pub joined_or : (levels : List Level) (level : Level) (last : unit.Unit) (token : Token) → Joins token (codes "or") → behind_last levels level last token ≡ Some (with_or_behind level last ∷ levels, BeforeUnit)
+joined_or levels level last (Word name) e = ap (joined levels level last) e
+joined_or levels level last (Joint name) e = ap (joined levels level last) e
+joined_or levels level last _ e = absurd e
 
-joined_and : (levels : List Level) (level : Level) (last : unit.Unit) (name : List ℕ) → name ≡ codes "and" → joined levels level last name ≡ Some (with_and_behind level last ∷ levels, BeforeUnit)
-joined_and levels level last name e = ap (joined levels level last) e
+pub joined_and : (levels : List Level) (level : Level) (last : unit.Unit) (token : Token) → Joins token (codes "and") → behind_last levels level last token ≡ Some (with_and_behind level last ∷ levels, BeforeUnit)
+joined_and levels level last (Word name) e = ap (joined levels level last) e
+joined_and levels level last (Joint name) e = ap (joined levels level last) e
+joined_and levels level last _ e = absurd e
 
 quoted_fits : (v : Value) (text : List ℕ) → may_compare v (Quoted text) ≡ true → is_position v ≡ false
 quoted_fits (Nodes p) text e = refl
@@ -305,14 +319,14 @@ complete (whether {o = o} {ks = ks} d) = λ levels place so_far s r ns e h.
 complete (or_is {o = o} {ms = ms} a more) = λ levels around r n k.
     complete a levels around None r (precedes more n) (λ units last e. complete more levels (record { around = around; alternatives = None; units = units }) last r n (λ level' last' a' b. k level' last' a' (b ∙ ap (λ w. or_with (with_and None w) (out-Or o).rest) e ∙ or_whole o)))
 complete no_and = λ levels level last r n k. k level last refl refl
-complete (one_and {name = name} {more = further} {ks = ks} e a more) = λ levels level last r n k.
-    ap (on ks) (joined_or levels level last name e)
+complete (one_and {token = token} {more = further} {ks = ks} e a more) = λ levels level last r n k.
+    ap (on ks) (joined_or levels level last token e)
     ∙ complete a levels level.around (Some (alternatives_in level last)) r (precedes more n) (λ units last' e'. complete more levels (record { around = level.around; alternatives = Some (alternatives_in level last); units = units }) last' r n (λ level'' last'' a' b. k level'' last'' a' (b ∙ ap (λ w. or_with (with_and (Some (alternatives_in level last)) w) further) e')))
 complete (and_is {a = a} u us) = λ levels around alternatives r n k.
     complete u (record { around = around; alternatives = alternatives; units = None } ∷ levels) r (precedes us n) (complete us levels around alternatives None a.first r n (λ units' last e. k units' last (e ∙ and_whole a)))
 complete no_unit = λ levels around alternatives units last r n k. k units last refl
-complete (one_unit {name = name} {u = u} {ks = ks} e d us) = λ levels around alternatives units last r n k.
-    ap (on ks) (joined_and levels (record { around = around; alternatives = alternatives; units = units }) last name e)
+complete (one_unit {token = token} {u = u} {ks = ks} e d us) = λ levels around alternatives units last r n k.
+    ap (on ks) (joined_and levels (record { around = around; alternatives = alternatives; units = units }) last token e)
     ∙ complete d (record { around = around; alternatives = alternatives; units = Some (with_unit units last) } ∷ levels) r (precedes us n) (complete us levels around alternatives (Some (with_unit units last)) u r n k)
 complete (group {o = o} {ms = ms} d) = λ levels r n h. complete d levels Round r tt (λ level last a b. (λ i. on ms (inside levels (closed_round (a i) (b i)))) ∙ h)
 complete (alone {v = v} {ms = ms} e d) = λ levels r n h. complete d levels Left r (unit_value ms n) refl (alone_end levels v ms e n ∙ h)

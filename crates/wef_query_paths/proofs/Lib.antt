@@ -1,8 +1,17 @@
+pub mod Allowed
 pub mod AnyPath
+pub mod Calls
+pub mod CallsOpen
 pub mod Completes
+pub mod Ends
+pub mod Forward
+pub mod OneFault
 pub mod Readers
 pub mod Runs
 pub mod SaidIsRead
+pub mod SameGrammar
 pub mod Shorter
 pub mod Sound
+pub mod Stacks
+pub mod Stopped
 pub mod Trees

@@ -26,10 +26,10 @@ use Rattle.wef_query_paths.specs.declared.path.Unit.TheVariants.{Group, Alone, C
 use Rattle.wef_query_paths.specs.declared.path.Value.{Value}
 use Rattle.wef_query_paths.specs.declared.path.Value.TheVariants.{Nodes, Position, Band}
 use Rattle.wef_query_paths.specs.declared.tokens.Token.{Token}
-use Rattle.wef_query_paths.specs.declared.tokens.Token.TheVariants.{Along, Star, Word, PositionCall, BandCall, Compare, Figure, Quote, OpenSquare, CloseSquare, OpenRound, CloseRound, Slash, Comma}
+use Rattle.wef_query_paths.specs.declared.tokens.Token.TheVariants.{Along, Star, Word, Joint, PositionCall, BandCall, Compare, Figure, Quote, OpenSquare, CloseSquare, OpenRound, CloseRound, Slash, Comma}
 use Rattle.wef_query_paths.specs.declared.turns.Next.{Next}
 use Rattle.wef_query_paths.specs.declared.turns.Next.TheVariants.{BeforeStep, BeforeTest, BehindStep, BeforePredicate, BehindCount, BeforeUnit, BehindLiteral, BeforeValue, BehindPosition, InPosition, BehindBand, BeforeMask, BehindMask, BehindValue, BeforeLiteral, BehindUnit}
-use Rattle.wef_query_paths.specs.Grammar.{the_path, the_steps, the_step, the_test, the_predicates, the_predicate, the_or, the_ands, the_and, the_units, the_unit, the_value, the_literal, Begins, path_is, no_step, one_step, child_step, axis_step, any_name, one_name, no_predicate, one_predicate, at_place, whether, or_is, no_and, one_and, and_is, no_unit, one_unit, group, alone, compared, mirrored, number, quote, nodes, position, band, may_compare}
+use Rattle.wef_query_paths.specs.Grammar.{the_path, the_steps, the_step, the_test, the_predicates, the_predicate, the_or, the_ands, the_and, the_units, the_unit, the_value, the_literal, Begins, path_is, no_step, one_step, child_step, axis_step, any_name, one_name, no_predicate, one_predicate, at_place, whether, or_is, no_and, one_and, and_is, no_unit, one_unit, group, alone, compared, mirrored, number, quote, nodes, position, band, may_compare, Joins}
 use Rattle.wef_query_paths.specs.Levels.{alternatives_in, round, square, with_and, with_predicate, with_step, with_unit}
 use Rattle.wef_query_paths.specs.Steps.{goes_to_children}
 use Rattle.wef_query_paths.specs.Turns.{before_comma, before_literal, before_mask, before_predicate, before_step, before_test, before_unit, before_value, behind_band, behind_count, behind_left, behind_literal, behind_mask, behind_path, behind_position, behind_step, behind_unit, behind_value, closed_round, closed_square, finished, in_position, inside, is_position, turn, with_and_behind, with_or_behind}
@@ -258,20 +258,20 @@ back_count p levels place so_far step n _ ks h = absurd h
 
 -- ---- behind a unit
 
-is_name : (a b : List ℕ) → same a b ≡ true → a ≡ b
+pub is_name : (a b : List ℕ) → same a b ≡ true → a ≡ b
 is_name a b e = (bytes_decides a b).0 e
 
-and_goes : (p : Path) (levels : List Level) (level : Level) (u : unit.Unit) (name : List ℕ) (ks : List Token) → name ≡ codes "and" → UnitComes (UnitGoes p (with_and_behind level u ∷ levels)) ks → UnitGoes p (level ∷ levels) u (Word name ∷ ks)
-and_goes p levels level u name ks e (unit_comes d (level_goes us more g)) = level_goes (one_unit e d us) more g
+and_goes : (p : Path) (levels : List Level) (level : Level) (u : unit.Unit) (token : Token) (ks : List Token) → Joins token (codes "and") → UnitComes (UnitGoes p (with_and_behind level u ∷ levels)) ks → UnitGoes p (level ∷ levels) u (token ∷ ks)
+and_goes p levels level u token ks e (unit_comes d (level_goes us more g)) = level_goes (one_unit e d us) more g
 
-or_goes : (p : Path) (levels : List Level) (level : Level) (u : unit.Unit) (name : List ℕ) (ks : List Token) → name ≡ codes "or" → UnitComes (UnitGoes p (with_or_behind level u ∷ levels)) ks → UnitGoes p (level ∷ levels) u (Word name ∷ ks)
-or_goes p levels level u name ks e (unit_comes d (level_goes us more g)) = level_goes no_unit (one_and e (and_made d us) more) g
+or_goes : (p : Path) (levels : List Level) (level : Level) (u : unit.Unit) (token : Token) (ks : List Token) → Joins token (codes "or") → UnitComes (UnitGoes p (with_or_behind level u ∷ levels)) ks → UnitGoes p (level ∷ levels) u (token ∷ ks)
+or_goes p levels level u token ks e (unit_comes d (level_goes us more g)) = level_goes no_unit (one_and e (and_made d us) more) g
 
-joined_goes : (p : Path) (levels : List Level) (level : Level) (u : unit.Unit) (name : List ℕ) (ks : List Token) (is_and is_or : Bool) → (is_and ≡ true → name ≡ codes "and") → (is_or ≡ true → name ≡ codes "or")
-    → OnGoes p ks (if is_and then Some (with_and_behind level u ∷ levels, BeforeUnit) else (if is_or then Some (with_or_behind level u ∷ levels, BeforeUnit) else None)) → UnitGoes p (level ∷ levels) u (Word name ∷ ks)
-joined_goes p levels level u name ks true is_or e f h = and_goes p levels level u name ks (e refl) h
-joined_goes p levels level u name ks false true e f h = or_goes p levels level u name ks (f refl) h
-joined_goes p levels level u name ks false false e f h = absurd h
+joined_goes : (p : Path) (levels : List Level) (level : Level) (u : unit.Unit) (token : Token) (ks : List Token) (is_and is_or : Bool) → (is_and ≡ true → Joins token (codes "and")) → (is_or ≡ true → Joins token (codes "or"))
+    → OnGoes p ks (if is_and then Some (with_and_behind level u ∷ levels, BeforeUnit) else (if is_or then Some (with_or_behind level u ∷ levels, BeforeUnit) else None)) → UnitGoes p (level ∷ levels) u (token ∷ ks)
+joined_goes p levels level u token ks true is_or e f h = and_goes p levels level u token ks (e refl) h
+joined_goes p levels level u token ks false true e f h = or_goes p levels level u token ks (f refl) h
+joined_goes p levels level u token ks false false e f h = absurd h
 
 round_back : (p : Path) (levels : List Level) (around : Around) (o : Or) (ks : List Token) → OnGoes p ks (inside levels (closed_round around o)) → BracketGoes (UnitGoes p levels) (WholeGoes p levels) o around (CloseRound ∷ ks)
 round_back p levels Round o ks h = round_goes h
@@ -283,7 +283,8 @@ square_back p levels (Square place so_far step) o ks h = square_goes h
 
 back_behind_unit : (p : Path) (levels : List Level) (u : unit.Unit) (t : Token) (ks : List Token) → OnGoes p ks (behind_unit levels u t) → UnitGoes p levels u (t ∷ ks)
 back_behind_unit p [] u t ks h = h
-back_behind_unit p (level ∷ levels) u (Word name) ks h = joined_goes p levels level u name ks (same name (codes "and")) (same name (codes "or")) (is_name name (codes "and")) (is_name name (codes "or")) h
+back_behind_unit p (level ∷ levels) u (Word name) ks h = joined_goes p levels level u (Word name) ks (same name (codes "and")) (same name (codes "or")) (is_name name (codes "and")) (is_name name (codes "or")) h
+back_behind_unit p (level ∷ levels) u (Joint name) ks h = joined_goes p levels level u (Joint name) ks (same name (codes "and")) (same name (codes "or")) (is_name name (codes "and")) (is_name name (codes "or")) h
 back_behind_unit p (level ∷ levels) u CloseRound ks h = level_goes no_unit no_and (round_back p levels level.around (alternatives_in level u) ks h)
 back_behind_unit p (level ∷ levels) u CloseSquare ks h = level_goes no_unit no_and (square_back p levels level.around (alternatives_in level u) ks h)
 back_behind_unit p (level ∷ levels) u _ ks h = absurd h

@@ -19,7 +19,7 @@ use Rattle.wef_query_paths.specs.declared.path.Unit.TheVariants.{Group, Alone, C
 use Rattle.wef_query_paths.specs.declared.path.Value.{Value}
 use Rattle.wef_query_paths.specs.declared.path.Value.TheVariants.{Nodes, Position, Band}
 use Rattle.wef_query_paths.specs.declared.tokens.Token.{Token}
-use Rattle.wef_query_paths.specs.declared.tokens.Token.TheVariants.{Along, Star, Word, PositionCall, BandCall, Compare, Figure, Quote, OpenSquare, CloseSquare, OpenRound, CloseRound, Slash, Comma}
+use Rattle.wef_query_paths.specs.declared.tokens.Token.TheVariants.{Along, Star, Word, Joint, PositionCall, BandCall, Compare, Figure, Quote, OpenSquare, CloseSquare, OpenRound, CloseRound, Slash, Comma}
 use Rattle.wef_query_paths.specs.Reading.{depth_behind}
 use Rattle.wef_query_paths.specs.Steps.{goes_to_children}
 use Rattle.wef_query_paths.specs.Tokens.{tokens_of}
@@ -46,6 +46,12 @@ abbrev pub may_compare : Value → Literal → Bool
 may_compare Position (Quoted text) = false
 may_compare _ _ = true
 
+-- a token that may be the operator of this name, between conditions
+abbrev pub Joins : Token → List ℕ → Type 0
+Joins (Word name) operator = name ≡ operator
+Joins (Joint name) operator = name ≡ operator
+Joins _ operator = ⊥
+
 -- Tokens begin with a part, and these are left.
 pub data Begins : Part → List Token → List Token → Type 0 where
   -- path := step { "/" step }; an attribute step is the last
@@ -65,11 +71,11 @@ pub data Begins : Part → List Token → List Token → Type 0 where
   -- or := and { "or" and }
   or_is : {o : Or} {ks ms ns : List Token} → Begins (the_and (out-Or o).first) ks ms → Begins (the_ands (out-Or o).rest) ms ns → Begins (the_or o) ks ns
   no_and : {ks : List Token} → Begins (the_ands []) ks ks
-  one_and : {name : List ℕ} {a : And} {more : List And} {ks ms ns : List Token} → name ≡ codes "or" → Begins (the_and a) ks ms → Begins (the_ands more) ms ns → Begins (the_ands (a ∷ more)) (Word name ∷ ks) ns
+  one_and : {token : Token} {a : And} {more : List And} {ks ms ns : List Token} → Joins token (codes "or") → Begins (the_and a) ks ms → Begins (the_ands more) ms ns → Begins (the_ands (a ∷ more)) (token ∷ ks) ns
   -- and := unit { "and" unit }
   and_is : {a : And} {ks ms ns : List Token} → Begins (the_unit a.first) ks ms → Begins (the_units a.rest) ms ns → Begins (the_and a) ks ns
   no_unit : {ks : List Token} → Begins (the_units []) ks ks
-  one_unit : {name : List ℕ} {u : unit.Unit} {us : List unit.Unit} {ks ms ns : List Token} → name ≡ codes "and" → Begins (the_unit u) ks ms → Begins (the_units us) ms ns → Begins (the_units (u ∷ us)) (Word name ∷ ks) ns
+  one_unit : {token : Token} {u : unit.Unit} {us : List unit.Unit} {ks ms ns : List Token} → Joins token (codes "and") → Begins (the_unit u) ks ms → Begins (the_units us) ms ns → Begins (the_units (u ∷ us)) (token ∷ ks) ns
   -- unit := "(" or ")" | value [ operator literal ] | literal operator value
   group : {o : Or} {ks ms : List Token} → Begins (the_or o) ks (CloseRound ∷ ms) → Begins (the_unit (Group o)) (OpenRound ∷ ks) ms
   alone : {v : Value} {ks ms : List Token} → is_position v ≡ false → Begins (the_value v) ks ms → Begins (the_unit (Alone v)) ks ms

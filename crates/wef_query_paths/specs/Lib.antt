@@ -1,4 +1,7 @@
+pub mod Allows
+pub mod Faults
 pub mod formers
+pub mod Fronts
 pub mod Grammar
 pub mod Laws
 pub mod Levels
@@ -6,5 +9,6 @@ pub mod Paths
 pub mod Reading
 pub mod Reads
 pub mod Steps
+pub mod Stops
 pub mod Tokens
 pub mod Turns

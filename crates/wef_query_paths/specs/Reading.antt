@@ -1,10 +1,6 @@
 -- Reading a path: token by token, until the text ends or a token can't follow.
-use Rattle.std.specs.Prelude.{◌≡◌, ℕ, ◌+◌, ◌-◌, ◌<◌, nat_lt, List, [], ◌∷◌, length, Option, Some, None, Result, if◌then◌else◌}
-use Rattle.std.specs.Borrow.{Bor}
+use Rattle.std.specs.Prelude.{ℕ, ◌+◌, ◌-◌, nat_lt, List, [], ◌∷◌, Option, Some, None, if◌then◌else◌}
 use Rattle.std.specs.Option.{option_map, option_and_then}
-use Rattle.std.specs.declared.result.Result.TheVariants.{Ok, Err}
-use Rattle.wef_query_paths.specs.declared.faults.PathFault.{PathFault}
-use Rattle.wef_query_paths.specs.declared.faults.PathFault.TheVariants.{NoMemory, BadPath}
 use Rattle.wef_query_paths.specs.declared.conditions.Level.{Level}
 use Rattle.wef_query_paths.specs.declared.steps.Place.TheVariants.{Whole}
 use Rattle.wef_query_paths.specs.declared.path.Path.{Path}
@@ -51,9 +47,3 @@ read_on r (token ∷ tokens) = option_and_then (λ longer. read_on longer tokens
 -- the same of the tokens of a text that begins with no space
 abbrev pub path_in : List ℕ → Reader → Option Path
 path_in text r = option_and_then (read_on r) (tokens_in text)
-
--- One token is taken, and what is left is shorter; a refusal only where no path is there.
-abbrev pub GoesOn : Reader → List ℕ → Result (Reader × Bor (List ℕ)) PathFault → Type 0
-GoesOn r text (Ok read) = (path_in text r ≡ path_in read.1.now read.0) × (length read.1.now < length text)
-GoesOn r text (Err BadPath) = path_in text r ≡ None
-GoesOn r text (Err NoMemory) = Unit {0}

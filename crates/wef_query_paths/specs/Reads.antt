@@ -2,23 +2,48 @@
 use Rattle.std.specs.Prelude.{◌≡◌, ℕ, List, Option, Some, None, Result}
 use Rattle.std.specs.Borrow.{Bor}
 use Rattle.std.specs.declared.result.Result.TheVariants.{Ok, Err}
+use Rattle.wef_query_paths.specs.declared.faults.Failure.{Failure}
+use Rattle.wef_query_paths.specs.declared.faults.Failure.TheVariants as failure
+use Rattle.wef_query_paths.specs.declared.faults.Halt.{Halt}
+use Rattle.wef_query_paths.specs.declared.faults.Halt.TheVariants.{NoMemory, Refused}
 use Rattle.wef_query_paths.specs.declared.faults.PathFault.{PathFault}
-use Rattle.wef_query_paths.specs.declared.faults.PathFault.TheVariants.{NoMemory, BadPath}
+use Rattle.wef_query_paths.specs.declared.faults.PathFault.TheVariants as fault
+use Rattle.wef_query_paths.specs.declared.faults.Stop.{Stop}
 
 -- a reader that gives a value
-abbrev pub Reads : {A : Type 0} → Result A PathFault → Option A → Type 0
+abbrev pub Reads : {A : Type 0} → Result A Halt → Option A → Type 0
 Reads (Ok value) given = given ≡ Some value
-Reads (Err BadPath) given = given ≡ None
+Reads (Err Refused) given = given ≡ None
 Reads (Err NoMemory) given = Unit {0}
 
 -- a reader that gives a value and what is left of the text
-abbrev pub ReadsFront : {A : Type 0} → Result (A × Bor (List ℕ)) PathFault → Option (A × List ℕ) → Type 0
+abbrev pub ReadsFront : {A : Type 0} → Result (A × Bor (List ℕ)) Halt → Option (A × List ℕ) → Type 0
 ReadsFront (Ok read) given = given ≡ Some (read.0, read.1.now)
-ReadsFront (Err BadPath) given = given ≡ None
+ReadsFront (Err Refused) given = given ≡ None
 ReadsFront (Err NoMemory) given = Unit {0}
 
 -- a call that gives a value and changes what it is given; after an error that may be anything
-abbrev pub Turns : {A B : Type 0} → Result A PathFault → B → Option (B × A) → Type 0
+abbrev pub Turns : {A B : Type 0} → Result A Halt → B → Option (B × A) → Type 0
 Turns (Ok value) changed given = given ≡ Some (changed, value)
-Turns (Err BadPath) changed given = given ≡ None
+Turns (Err Refused) changed given = given ≡ None
 Turns (Err NoMemory) changed given = Unit {0}
+
+-- a reader that tells where it stopped
+abbrev pub ReadsOn : {A : Type 0} → Result A Failure → Result A Stop → Type 0
+ReadsOn (Ok value) given = given ≡ Ok value
+ReadsOn (Err (failure.Stopped stop)) given = given ≡ Err stop
+ReadsOn (Err failure.NoMemory) given = Unit {0}
+
+-- a reader of a path that gives it, or its fault
+abbrev pub Gives : {A : Type 0} → Result A PathFault → Result A PathFault → Type 0
+Gives (Ok value) given = given ≡ Ok value
+Gives (Err fault.NoMemory) given = Unit {0}
+Gives (Err (fault.BadPath at)) given = given ≡ Err (fault.BadPath at)
+Gives (Err (fault.Unsupported at)) given = given ≡ Err (fault.Unsupported at)
+Gives (Err (fault.TooDeep at)) given = given ≡ Err (fault.TooDeep at)
+
+-- a reader of a path that refuses, whatever the fault, exactly where there is none
+abbrev pub SaysPath : {A : Type 0} → Result A PathFault → Option A → Type 0
+SaysPath (Ok path) given = given ≡ Some path
+SaysPath (Err fault.NoMemory) given = Unit {0}
+SaysPath (Err _) given = given ≡ None

@@ -7,7 +7,7 @@ use Rattle.wef_query_paths.specs.declared.path.Axis.TheVariants.{Child, Attribut
 use Rattle.wef_query_paths.specs.declared.path.Operator.{Operator}
 use Rattle.wef_query_paths.specs.declared.path.Operator.TheVariants.{Equal, NotEqual, Less, LessOrEqual, Greater, GreaterOrEqual}
 use Rattle.wef_query_paths.specs.declared.tokens.Token.{Token}
-use Rattle.wef_query_paths.specs.declared.tokens.Token.TheVariants.{Along, Star, Word, PositionCall, BandCall, Compare, Figure, Quote, OpenSquare, CloseSquare, OpenRound, CloseRound, Slash, Comma}
+use Rattle.wef_query_paths.specs.declared.tokens.Token.TheVariants.{Along, Star, Word, Joint, PositionCall, BandCall, Compare, Figure, Quote, OpenSquare, CloseSquare, OpenRound, CloseRound, Slash, Comma}
 
 -- ---- names
 
@@ -47,13 +47,17 @@ abbrev pub call_named : List ℕ → Option Token
 call_named name =
     if same name (codes "position") then Some PositionCall
     else (if same name (codes "band") then Some BandCall
-    else (if is_joint name then Some (Word name) else None))
+    else (if is_joint name then Some (Joint name) else None))
+
+-- what a name before `:` is: an operator, or an axis with the colon and what is behind it
+abbrev pub before_colon : List ℕ → List ℕ → List ℕ → Option (Token × List ℕ)
+before_colon name rest cs = if is_joint name then Some (Joint name, rest) else axis_at name cs
 
 -- what a name is, before its first character that is no space
 abbrev pub named : List ℕ → List ℕ → List ℕ → Option (Token × List ℕ)
 named name rest [] = Some (Word name, rest)
 named name rest (c ∷ cs) =
-    if c == 58 then axis_at name cs
+    if c == 58 then before_colon name rest cs
     else (if c == 40 then option_map (λ token. (token, rest)) (call_named name) else Some (Word name, rest))
 
 -- what a text is that begins with a name
@@ -123,9 +127,8 @@ mark c =
     else (if c == 93 then Some CloseSquare
     else (if c == 40 then Some OpenRound
     else (if c == 41 then Some CloseRound
-    else (if c == 47 then Some Slash
     else (if c == 44 then Some Comma
-    else (if c == 61 then Some (Compare Equal) else None))))))))
+    else (if c == 61 then Some (Compare Equal) else None)))))))
 
 -- one operator where `=` follows, else another
 abbrev pub if_equals : Operator → Operator → List ℕ → Token × List ℕ
@@ -137,11 +140,17 @@ abbrev pub unequal : List ℕ → Option (Token × List ℕ)
 unequal [] = None
 unequal (c ∷ cs) = if c == 61 then Some (Compare NotEqual, cs) else None
 
+-- `/`, behind it: `//` is no token
+abbrev pub slash_at : List ℕ → Option (Token × List ℕ)
+slash_at [] = Some (Slash, [])
+slash_at (c ∷ cs) = if c == 47 then None else Some (Slash, c ∷ cs)
+
 abbrev pub sign_at : ℕ → List ℕ → Option (Token × List ℕ)
 sign_at c cs =
     if c == 60 then Some (if_equals LessOrEqual Less cs)
     else (if c == 62 then Some (if_equals GreaterOrEqual Greater cs)
-    else (if c == 33 then unequal cs else option_map (λ token. (token, cs)) (mark c)))
+    else (if c == 33 then unequal cs
+    else (if c == 47 then slash_at cs else option_map (λ token. (token, cs)) (mark c))))
 
 -- ---- all of them
 

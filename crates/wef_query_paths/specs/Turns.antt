@@ -25,7 +25,7 @@ use Rattle.wef_query_paths.specs.declared.path.Unit.TheVariants.{Group, Alone, C
 use Rattle.wef_query_paths.specs.declared.path.Value.{Value}
 use Rattle.wef_query_paths.specs.declared.path.Value.TheVariants.{Nodes, Position, Band}
 use Rattle.wef_query_paths.specs.declared.tokens.Token.{Token}
-use Rattle.wef_query_paths.specs.declared.tokens.Token.TheVariants.{Along, Star, Word, PositionCall, BandCall, Compare, Figure, Quote, OpenSquare, CloseSquare, OpenRound, CloseRound, Slash, Comma}
+use Rattle.wef_query_paths.specs.declared.tokens.Token.TheVariants.{Along, Star, Word, Joint, PositionCall, BandCall, Compare, Figure, Quote, OpenSquare, CloseSquare, OpenRound, CloseRound, Slash, Comma}
 use Rattle.wef_query_paths.specs.declared.turns.Next.{Next}
 use Rattle.wef_query_paths.specs.declared.turns.Next.TheVariants.{BeforeStep, BeforeTest, BehindStep, BeforePredicate, BehindCount, BeforeUnit, BehindLiteral, BeforeValue, BehindPosition, InPosition, BehindBand, BeforeMask, BehindMask, BehindValue, BeforeLiteral, BehindUnit}
 use Rattle.wef_query_paths.specs.Levels.{alternatives_in, is_whole, round, square, with_predicate, with_step, with_unit}
@@ -134,6 +134,7 @@ joined levels level last name =
 
 abbrev pub behind_last : List Level → Level → unit.Unit → Token → Option (List Level × Next)
 behind_last levels level last (Word name) = joined levels level last name
+behind_last levels level last (Joint name) = joined levels level last name
 behind_last levels level last CloseRound = inside levels (closed_round level.around (alternatives_in level last))
 behind_last levels level last CloseSquare = inside levels (closed_square level.around (alternatives_in level last))
 behind_last levels level last _ = None

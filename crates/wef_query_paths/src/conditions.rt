@@ -7,7 +7,7 @@ ghost use Rattle.wef_query_paths.specs.Levels.{alternatives_in, round, square, w
 ghost use Rattle.wef_query_paths.specs.Reads.{Reads, Turns};
 ghost use Rattle.wef_query_paths.specs.Turns.{before_unit, behind_last, behind_unit, closed_round, closed_square, joined, with_and_behind, with_or_behind};
 
-use crate::faults::PathFault;
+use crate::faults::Halt;
 use crate::path::{And, Literal, Or, Path, Predicate, Step, Unit};
 use crate::shared::Shared;
 use crate::steps::{Place, behind_predicate};
@@ -37,21 +37,21 @@ impl Drop for Around {
 
 impl Around {
     /// What a condition in round brackets is.
-    fn closed_round(self, alloc: Global, or: Or) -> Result<Next, PathFault>
+    fn closed_round(self, alloc: Global, or: Or) -> Result<Next, Halt>
         ensures { Reads result (closed_round self or) }
     {
         match self {
             Around::Round => grouped(alloc, or),
-            Around::Square(_, _, _) => Err(PathFault::BadPath),
+            Around::Square(_, _, _) => Err(Halt::Refused),
         }
     }
 
     /// What a condition in square brackets is.
-    fn closed_square(self, or: Or) -> Result<Next, PathFault>
+    fn closed_square(self, or: Or) -> Result<Next, Halt>
         ensures { Reads result (closed_square self or) }
     {
         match self {
-            Around::Round => Err(PathFault::BadPath),
+            Around::Round => Err(Halt::Refused),
             Around::Square(place, so_far, step) => {
                 behind_predicate(place, so_far, step, Predicate::Whether(or))
             }
@@ -59,7 +59,7 @@ impl Around {
     }
 }
 
-fn grouped(alloc: Global, or: Or) -> Result<Next, PathFault>
+fn grouped(alloc: Global, or: Or) -> Result<Next, Halt>
     ensures { Reads result (Some (BehindUnit (Group or))) }
 {
     Ok(Next::BehindUnit(Unit::Group(Shared::new(alloc, or)?)))
@@ -194,11 +194,7 @@ impl Levels {
     }
 }
 
-pub(crate) fn before_unit(
-    alloc: Global,
-    levels: &mut Levels,
-    token: Token,
-) -> Result<Next, PathFault>
+pub(crate) fn before_unit(alloc: Global, levels: &mut Levels, token: Token) -> Result<Next, Halt>
     ensures { Turns result levels.new (before_unit levels.old token) }
 {
     match token {
@@ -217,11 +213,11 @@ pub(crate) fn behind_unit(
     levels: &mut Levels,
     unit: Unit,
     token: Token,
-) -> Result<Next, PathFault>
+) -> Result<Next, Halt>
     ensures { Turns result levels.new (behind_unit levels.old unit token) }
 {
     match levels.pop() {
-        None => Err(PathFault::BadPath),
+        None => Err(Halt::Refused),
         Some(level) => behind_last(alloc, levels, level, unit, token),
     }
 }
@@ -233,11 +229,11 @@ fn behind_last(
     level: Level,
     unit: Unit,
     token: Token,
-) -> Result<Next, PathFault>
+) -> Result<Next, Halt>
     ensures { Turns result levels.new (behind_last levels.old level unit token) }
 {
     match token {
-        Token::Word(name) => joined(alloc, levels, level, unit, &name),
+        Token::Word(name) | Token::Joint(name) => joined(alloc, levels, level, unit, &name),
         Token::CloseRound => {
             let (around, or) = level.close(alloc, unit)?;
             around.closed_round(alloc, or)
@@ -246,7 +242,7 @@ fn behind_last(
             let (around, or) = level.close(alloc, unit)?;
             around.closed_square(or)
         }
-        _ => Err(PathFault::BadPath),
+        _ => Err(Halt::Refused),
     }
 }
 
@@ -257,7 +253,7 @@ fn joined(
     level: Level,
     last: Unit,
     name: &Text,
-) -> Result<Next, PathFault>
+) -> Result<Next, Halt>
     ensures { Turns result levels.new (joined levels.old level last name.now) }
 {
     let mut level = level;
@@ -271,7 +267,7 @@ fn joined(
         levels.push(level)?;
         return Ok(Next::BeforeUnit);
     }
-    Err(PathFault::BadPath)
+    Err(Halt::Refused)
 }
 
 /// What has to hold all together, with one thing more.

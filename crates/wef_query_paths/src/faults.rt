@@ -3,14 +3,21 @@
 use std::alloc::AllocError;
 use thiserror::Error;
 
-/// Why a text says no path.
+/// Why a text says no path. A place is a byte of the text: that of the first token that no path goes on
+/// with, or the text's length where it ends too early.
 #[derive(Clone, Copy, Debug, PartialEq, Eq, Error)]
 pub enum PathFault {
     #[error("no memory")]
     NoMemory,
-    /// The text isn't one path of the grammar, or has more than 32 brackets open at once.
-    #[error("not a path")]
-    BadPath,
+    /// No path goes on so.
+    #[error("not a path at {at}")]
+    BadPath { at: usize },
+    /// There stands what XPath 1.0 has and paths of event queries lack.
+    #[error("not supported at {at}")]
+    Unsupported { at: usize },
+    /// There a 33rd bracket would be open.
+    #[error("too many brackets at {at}")]
+    TooDeep { at: usize },
 }
 
 impl From<AllocError> for PathFault {
@@ -22,4 +29,46 @@ impl From<AllocError> for PathFault {
     fn from(_error: AllocError) -> PathFault {
         PathFault::NoMemory
     }
+}
+
+/// Why a token isn't there, or isn't taken.
+#[derive(Clone, Copy)]
+pub enum Halt {
+    NoMemory,
+    /// No token begins so, or the token can't follow.
+    Refused,
+}
+
+impl From<AllocError> for Halt {
+    ghost use Rattle.std.specs.Prelude.{◌≡◌};
+    ghost use Rattle.wef_query_paths.specs.declared.faults.Halt.TheVariants.{NoMemory};
+
+    ghost from_gives = { λ _ e. e ≡ NoMemory };
+
+    fn from(_error: AllocError) -> Halt {
+        Halt::NoMemory
+    }
+}
+
+/// What is wrong with a text, its place aside.
+#[derive(Clone, Copy)]
+pub enum FaultKind {
+    Bad,
+    Unsupported,
+    Deep,
+}
+
+/// Where reading a text stopped.
+#[derive(Clone, Copy)]
+pub struct Stop {
+    pub kind: FaultKind,
+    /// How many characters are left from there on.
+    pub left: usize,
+}
+
+/// Why reading a text ended without a path.
+#[derive(Clone, Copy)]
+pub enum Failure {
+    NoMemory,
+    Stopped(Stop),
 }

@@ -1,16 +1,17 @@
 //! What a query asks of an event: paths of steps to nodes of its tree.
 #![tactic(auto)]
 
-pub mod conditions;
-pub mod faults;
+mod conditions;
+mod faults;
 pub mod laws;
-pub mod path;
-pub mod reading;
-pub mod shared;
-pub mod steps;
-pub mod tokens;
-pub mod turns;
-pub mod values;
+mod path;
+mod reading;
+mod shared;
+mod steps;
+mod stops;
+mod tokens;
+mod turns;
+mod values;
 
 pub use faults::PathFault;
 pub use path::{And, Axis, Literal, NameTest, Operator, Or, Path, Predicate, Step, Unit, Value};

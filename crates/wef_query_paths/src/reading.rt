@@ -1,22 +1,25 @@
 //! Reading a path: token by token, until the text ends or a token can't follow.
 
-ghost use Rattle.std.specs.Prelude.{◌≡◌, ◌<◌, length};
+ghost use Rattle.std.specs.Prelude.{◌≡◌, ◌<◌, length, IfErr};
+ghost use Rattle.wef_query_paths.specs.Faults.{IsFault};
 ghost use Rattle.wef_query_paths.specs.Paths.{path_of};
-ghost use Rattle.wef_query_paths.specs.Reading.{GoesOn, depth_behind, path_in, start, taken};
-ghost use Rattle.wef_query_paths.specs.Reads.{Reads};
+ghost use Rattle.wef_query_paths.specs.Reading.{depth_behind, start, taken};
+ghost use Rattle.wef_query_paths.specs.Reads.{Gives, Reads, ReadsOn, SaysPath};
+ghost use Rattle.wef_query_paths.specs.Stops.{GoesOn, fault_at, path_from, path_or_fault, place};
 ghost use Rattle.wef_query_paths.specs.Turns.{finished};
 
 use crate::conditions::Levels;
-use crate::faults::PathFault;
+use crate::faults::{Failure, FaultKind, Halt, PathFault, Stop};
 use crate::path::Path;
 use crate::steps::Place;
+use crate::stops::{failure_of, fault_at, kind_at, place, stop_at};
 use crate::tokens::{Token, behind_spaces, token_at};
 use crate::turns::Next;
 use std::alloc::Global;
 use wef_base::Text;
 
 /// How many brackets may be open at once.
-const GREATEST_DEPTH: usize = 32;
+pub(crate) const GREATEST_DEPTH: usize = 32;
 
 /// What is read of a path.
 pub struct Reader {
@@ -50,7 +53,7 @@ impl Reader {
     }
 
     /// Takes the next token.
-    fn take(self, alloc: Global, token: Token) -> Result<Reader, PathFault>
+    fn take(self, alloc: Global, token: Token) -> Result<Reader, Halt>
         ensures { Reads result (taken self token) }
     {
         let Reader {
@@ -68,7 +71,7 @@ impl Reader {
     }
 
     /// The path, where the text may end.
-    fn finish(self, alloc: Global) -> Result<Path, PathFault>
+    fn finish(self, alloc: Global) -> Result<Path, Halt>
         ensures { Reads result (finished self.levels self.next) }
     {
         let Reader {
@@ -77,14 +80,14 @@ impl Reader {
             depth: _,
         } = self;
         if !levels.is_empty() {
-            return Err(PathFault::BadPath);
+            return Err(Halt::Refused);
         }
         next.finish(alloc)
     }
 }
 
 /// How many brackets are open behind a token.
-fn depth_behind(depth: usize, token: &Token) -> Result<usize, PathFault>
+fn depth_behind(depth: usize, token: &Token) -> Result<usize, Halt>
     ensures { Reads result (depth_behind depth token.now) }
 {
     match token {
@@ -92,7 +95,7 @@ fn depth_behind(depth: usize, token: &Token) -> Result<usize, PathFault>
             if depth < GREATEST_DEPTH {
                 Ok(depth + 1)
             } else {
-                Err(PathFault::BadPath)
+                Err(Halt::Refused)
             }
         }
         Token::CloseSquare | Token::CloseRound => Ok(depth.saturating_sub(1)),
@@ -100,41 +103,62 @@ fn depth_behind(depth: usize, token: &Token) -> Result<usize, PathFault>
     }
 }
 
-/// The path that a text says (the part of XPath 1.0 that `Path` has, at most 32 brackets open at once).
-/// It takes time in proportion to the text.
-#[tactic(auto, unfolding(crate::specs::Paths::path_of))]
+/// The path that a text says (the part of XPath 1.0 that `Path` has, at most 32 brackets open at once), or
+/// what is wrong at its first token that no path goes on with. It takes time in proportion to the text.
 pub fn read_path(text: &Text) -> Result<Path, PathFault>
-    ensures { Reads result (path_of text.now) }
+    ensures value { SaysPath result (path_of text.now) }
+    ensures fault { IfErr result (IsFault text.now) }
+    ensures exact { Gives result (path_or_fault text.now) }
+{
+    read_text(text)
+}
+
+#[tactic(auto, unfolding(crate::specs::Stops::path_or_fault))]
+fn read_text(text: &Text) -> Result<Path, PathFault>
+    ensures { Gives result (path_or_fault text.now) }
 {
     let characters = text.characters()?;
-    read_characters(text.alloc(), behind_spaces(characters.as_slice()))
+    let characters = characters.as_slice();
+    match read_characters(text.alloc(), behind_spaces(characters)) {
+        Ok(path) => Ok(path),
+        Err(Failure::NoMemory) => Err(PathFault::NoMemory),
+        Err(Failure::Stopped(stop)) => Err(fault_at(stop.kind, place(characters, stop.left))),
+    }
 }
 
 /// The path that characters say, of which the first is no space.
-fn read_characters(alloc: Global, text: &[char]) -> Result<Path, PathFault>
-    ensures { Reads result (path_in text.now start) }
+fn read_characters(alloc: Global, text: &[char]) -> Result<Path, Failure>
+    ensures { ReadsOn result (path_from text.now start) }
 {
     let mut reader = Reader::new(alloc);
     let mut rest = text;
     while !rest.is_empty() {
-        let (longer, behind) = step(alloc, reader, rest)?;
+        let (longer, behind) = match step(alloc, reader, rest) {
+            Ok(read) => read,
+            Err(failure) => return Err(failure),
+        };
         reader = longer;
         rest = behind;
     }
-    reader.finish(alloc)
+    match reader.finish(alloc) {
+        Ok(path) => Ok(path),
+        Err(halt) => Err(failure_of(halt, Stop::new(FaultKind::Bad, 0))),
+    }
 }
 
 /// Takes the first token of a text, and gives what is behind it and its spaces.
-fn step(alloc: Global, reader: Reader, text: &[char]) -> Result<(Reader, &[char]), PathFault>
+fn step(alloc: Global, reader: Reader, text: &[char]) -> Result<(Reader, &[char]), Failure>
     requires { 0 < length text.now }
     ensures { GoesOn reader text.now result }
 {
     let (token, rest) = match token_at(alloc, text) {
         Ok(read) => read,
-        Err(fault) => return Err(fault),
+        Err(halt) => return Err(failure_of(halt, Stop::new(kind_at(text), text.len()))),
     };
+    let behind = behind_spaces(rest);
+    let refusal = stop_at(&reader, &token, text.len(), behind.len());
     match reader.take(alloc, token) {
-        Ok(longer) => Ok((longer, behind_spaces(rest))),
-        Err(fault) => Err(fault),
+        Ok(longer) => Ok((longer, behind)),
+        Err(halt) => Err(failure_of(halt, refusal)),
     }
 }

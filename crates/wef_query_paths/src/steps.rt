@@ -7,7 +7,7 @@ ghost use Rattle.wef_query_paths.specs.Reads.{Reads, Turns};
 ghost use Rattle.wef_query_paths.specs.Turns.{before_predicate, before_step, before_test, behind_count, behind_path, behind_slash, behind_step, name_test, whole_path};
 
 use crate::conditions::{Level, Levels, before_unit};
-use crate::faults::PathFault;
+use crate::faults::Halt;
 use crate::path::{Axis, Literal, NameTest, Path, Predicate, Step, Value};
 use crate::tokens::Token;
 use crate::turns::Next;
@@ -54,11 +54,11 @@ impl Place {
         levels: &mut Levels,
         path: Path,
         token: Token,
-    ) -> Result<Next, PathFault>
+    ) -> Result<Next, Halt>
         ensures { Turns result levels.new (behind_path levels.old self path token) }
     {
         match self {
-            Place::Whole => Err(PathFault::BadPath),
+            Place::Whole => Err(Halt::Refused),
             Place::InValue(side) => side.behind_value(alloc, levels, Value::Nodes(path), token),
             Place::InBand(side) => before_comma(side, path, token),
         }
@@ -70,7 +70,7 @@ pub(crate) fn before_step(
     place: Place,
     so_far: Option<Path>,
     token: Token,
-) -> Result<Next, PathFault>
+) -> Result<Next, Halt>
     ensures { Reads result (before_step place so_far token) }
 {
     match token {
@@ -85,7 +85,7 @@ pub(crate) fn before_test(
     so_far: Option<Path>,
     axis: Axis,
     token: Token,
-) -> Result<Next, PathFault>
+) -> Result<Next, Halt>
     ensures { Reads result (before_test place so_far axis token) }
 {
     let test = name_test(token)?;
@@ -97,13 +97,13 @@ pub(crate) fn before_test(
     Ok(Next::BehindStep(place, so_far, step))
 }
 
-fn name_test(token: Token) -> Result<NameTest, PathFault>
+fn name_test(token: Token) -> Result<NameTest, Halt>
     ensures { Reads result (name_test token) }
 {
     match token {
         Token::Star => Ok(NameTest::Any),
         Token::Word(name) => Ok(NameTest::Named(name)),
-        _ => Err(PathFault::BadPath),
+        _ => Err(Halt::Refused),
     }
 }
 
@@ -114,7 +114,7 @@ pub(crate) fn behind_step(
     so_far: Option<Path>,
     step: Step,
     token: Token,
-) -> Result<Next, PathFault>
+) -> Result<Next, Halt>
     ensures { Turns result levels.new (behind_step levels.old place so_far step token) }
 {
     match token {
@@ -128,16 +128,11 @@ pub(crate) fn behind_step(
 }
 
 /// An attribute step is the last of its path.
-fn behind_slash(
-    alloc: Global,
-    place: Place,
-    so_far: Option<Path>,
-    step: Step,
-) -> Result<Next, PathFault>
+fn behind_slash(alloc: Global, place: Place, so_far: Option<Path>, step: Step) -> Result<Next, Halt>
     ensures { Reads result (behind_slash place so_far step) }
 {
     if !step.axis.goes_to_children() {
-        return Err(PathFault::BadPath);
+        return Err(Halt::Refused);
     }
     let path = with_step(alloc, so_far, step)?;
     Ok(Next::BeforeStep(place, Some(path)))
@@ -150,7 +145,7 @@ pub(crate) fn before_predicate(
     so_far: Option<Path>,
     step: Step,
     token: Token,
-) -> Result<Next, PathFault>
+) -> Result<Next, Halt>
     ensures { Turns result levels.new (before_predicate levels.old place so_far step token) }
 {
     match token {
@@ -170,7 +165,7 @@ pub(crate) fn behind_count(
     step: Step,
     number: u64,
     token: Token,
-) -> Result<Next, PathFault>
+) -> Result<Next, Halt>
     ensures { Turns result levels.new (behind_count levels.old place so_far step number token) }
 {
     match token {
@@ -179,7 +174,7 @@ pub(crate) fn behind_count(
             levels.push(Level::square(place, so_far, step))?;
             Ok(Next::BeforeValue(Literal::Number(number), operator))
         }
-        _ => Err(PathFault::BadPath),
+        _ => Err(Halt::Refused),
     }
 }
 
@@ -189,11 +184,11 @@ pub(crate) fn whole_path(
     place: &Place,
     so_far: Option<Path>,
     step: Step,
-) -> Result<Path, PathFault>
+) -> Result<Path, Halt>
     ensures { Reads result (whole_path place.now so_far step) }
 {
     if !place.is_whole() {
-        return Err(PathFault::BadPath);
+        return Err(Halt::Refused);
     }
     Ok(with_step(alloc, so_far, step)?)
 }
@@ -220,7 +215,7 @@ pub(crate) fn behind_predicate(
     so_far: Option<Path>,
     step: Step,
     predicate: Predicate,
-) -> Result<Next, PathFault>
+) -> Result<Next, Halt>
     ensures { Reads result (Some (BehindStep place so_far (with_predicate step predicate))) }
 {
     let step = with_predicate(step, predicate)?;

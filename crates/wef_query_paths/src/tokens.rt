@@ -3,10 +3,12 @@
 ghost use Rattle.std.specs.Prelude.{◌≡◌, IfOk};
 ghost use Rattle.std.specs.Option.{option_map};
 ghost use Rattle.wef_base.specs.Names.{without_start};
+ghost use Rattle.wef_query_paths.specs.Allows.{is_position_call};
+ghost use Rattle.wef_query_paths.specs.Fronts.{is_call};
 ghost use Rattle.wef_query_paths.specs.Reads.{Reads, ReadsFront};
-ghost use Rattle.wef_query_paths.specs.Tokens.{axis_at, axis_named, behind_zero, call_named, decimal_digit, decimal_tail, hexadecimal, hexadecimal_tail, if_equals, is_joint, is_name_char, is_name_start, mark, name_tail, named, number_from, one_more, other_at, quoted, quoted_tail, sign_at, token_at, token_from, unequal, whole, with_front, word_at};
+ghost use Rattle.wef_query_paths.specs.Tokens.{axis_at, axis_named, before_colon, behind_zero, call_named, decimal_digit, decimal_tail, hexadecimal, hexadecimal_tail, if_equals, is_joint, is_name_char, is_name_start, mark, name_tail, named, number_from, one_more, other_at, quoted, quoted_tail, sign_at, slash_at, token_at, token_from, unequal, whole, with_front, word_at};
 
-use crate::faults::PathFault;
+use crate::faults::Halt;
 use crate::path::{Axis, Operator};
 use std::alloc::{AllocError, Global};
 use wef_base::Text;
@@ -21,6 +23,8 @@ pub enum Token {
     Star,
     /// A name, or an operator between conditions: which of them is told by where it stands.
     Word(Text),
+    /// `and` or `or`, before a `(` or a `:`: an operator alone.
+    Joint(Text),
     /// `position`, before a `(`
     PositionCall,
     /// `band`, before a `(`
@@ -38,6 +42,27 @@ pub enum Token {
     Comma,
 }
 
+impl Token {
+    /// Whether it is a function's name before its `(`.
+    pub(crate) fn is_call(&self) -> bool
+        ensures { result ≡ is_call self.now }
+    {
+        match self {
+            Token::PositionCall | Token::BandCall => true,
+            _ => false,
+        }
+    }
+
+    pub(crate) fn is_position_call(&self) -> bool
+        ensures { result ≡ is_position_call self.now }
+    {
+        match self {
+            Token::PositionCall => true,
+            _ => false,
+        }
+    }
+}
+
 /// A text without the spaces that it begins with.
 pub(crate) fn behind_spaces(text: &[char]) -> &[char]
     ensures { result.now ≡ without_start text.now }
@@ -53,17 +78,17 @@ pub(crate) fn behind_spaces(text: &[char]) -> &[char]
 }
 
 /// The token that a text begins with, and what is left.
-pub(crate) fn token_at(alloc: Global, text: &[char]) -> Result<(Token, &[char]), PathFault>
+pub(crate) fn token_at(alloc: Global, text: &[char]) -> Result<(Token, &[char]), Halt>
     ensures { ReadsFront result (token_at text.now) }
 {
     match text {
-        [] => Err(PathFault::BadPath),
+        [] => Err(Halt::Refused),
         [character, rest @ ..] => token_from(alloc, *character, rest),
     }
 }
 
 #[tactic(auto, unfolding(crate::specs::Tokens::token_from))]
-fn token_from(alloc: Global, character: char, rest: &[char]) -> Result<(Token, &[char]), PathFault>
+fn token_from(alloc: Global, character: char, rest: &[char]) -> Result<(Token, &[char]), Halt>
     ensures { ReadsFront result (token_from character rest.now) }
 {
     if is_name_start(character) {
@@ -75,7 +100,7 @@ fn token_from(alloc: Global, character: char, rest: &[char]) -> Result<(Token, &
     other_at(alloc, character, rest)
 }
 
-fn other_at(alloc: Global, character: char, rest: &[char]) -> Result<(Token, &[char]), PathFault>
+fn other_at(alloc: Global, character: char, rest: &[char]) -> Result<(Token, &[char]), Halt>
     ensures { ReadsFront result (other_at character rest.now) }
 {
     if character == '"' || character == '\'' {
@@ -84,7 +109,7 @@ fn other_at(alloc: Global, character: char, rest: &[char]) -> Result<(Token, &[c
     sign_at(character, rest)
 }
 
-fn is_name_start(character: char) -> bool
+pub(crate) fn is_name_start(character: char) -> bool
     ensures { result ≡ is_name_start character }
 {
     matches!(character, 'A'..='Z' | 'a'..='z' | '_' | '\u{80}'..)
@@ -97,7 +122,7 @@ fn is_name_char(character: char) -> bool
 }
 
 /// What a text is that begins with a name.
-fn word_at(alloc: Global, first: char, rest: &[char]) -> Result<(Token, &[char]), PathFault>
+fn word_at(alloc: Global, first: char, rest: &[char]) -> Result<(Token, &[char]), Halt>
     ensures { ReadsFront result (word_at first rest.now) }
 {
     let mut begun = Text::new(alloc);
@@ -123,31 +148,41 @@ fn name_tail(begun: Text, text: &[char]) -> Result<(Text, &[char]), AllocError>
 }
 
 /// What a name is before `rest`, which begins with `behind` but for spaces.
-fn named<'a>(
-    name: Text,
-    rest: &'a [char],
-    behind: &'a [char],
-) -> Result<(Token, &'a [char]), PathFault>
+fn named<'a>(name: Text, rest: &'a [char], behind: &'a [char]) -> Result<(Token, &'a [char]), Halt>
     ensures { ReadsFront result (named name rest.now behind.now) }
 {
     match behind {
-        [':', behind @ ..] => axis_at(&name, behind),
+        [':', behind @ ..] => before_colon(name, rest, behind),
         ['(', ..] => Ok((call_named(name)?, rest)),
         _ => Ok((Token::Word(name), rest)),
     }
 }
 
+/// What a name before `:` is, behind which `behind` stands.
+fn before_colon<'a>(
+    name: Text,
+    rest: &'a [char],
+    behind: &'a [char],
+) -> Result<(Token, &'a [char]), Halt>
+    ensures { ReadsFront result (before_colon name rest.now behind.now) }
+{
+    if is_joint(&name) {
+        return Ok((Token::Joint(name), rest));
+    }
+    axis_at(&name, behind)
+}
+
 /// The axis of a name behind which `:` was read.
-fn axis_at<'a>(name: &Text, rest: &'a [char]) -> Result<(Token, &'a [char]), PathFault>
+fn axis_at<'a>(name: &Text, rest: &'a [char]) -> Result<(Token, &'a [char]), Halt>
     ensures { ReadsFront result (axis_at name.now rest.now) }
 {
     match rest {
         [':', behind @ ..] => axis_named(name, behind),
-        _ => Err(PathFault::BadPath),
+        _ => Err(Halt::Refused),
     }
 }
 
-fn axis_named<'a>(name: &Text, rest: &'a [char]) -> Result<(Token, &'a [char]), PathFault>
+fn axis_named<'a>(name: &Text, rest: &'a [char]) -> Result<(Token, &'a [char]), Halt>
     ensures { ReadsFront result (axis_named name.now rest.now) }
 {
     if name.as_str() == "child" {
@@ -156,11 +191,11 @@ fn axis_named<'a>(name: &Text, rest: &'a [char]) -> Result<(Token, &'a [char]), 
     if name.as_str() == "attribute" {
         return Ok((Token::Along(Axis::Attribute), rest));
     }
-    Err(PathFault::BadPath)
+    Err(Halt::Refused)
 }
 
 /// What a name before `(` is.
-fn call_named(name: Text) -> Result<Token, PathFault>
+fn call_named(name: Text) -> Result<Token, Halt>
     ensures { Reads result (call_named name) }
 {
     if name.as_str() == "position" {
@@ -170,9 +205,9 @@ fn call_named(name: Text) -> Result<Token, PathFault>
         return Ok(Token::BandCall);
     }
     if is_joint(&name) {
-        return Ok(Token::Word(name));
+        return Ok(Token::Joint(name));
     }
-    Err(PathFault::BadPath)
+    Err(Halt::Refused)
 }
 
 fn is_joint(name: &Text) -> bool
@@ -204,20 +239,20 @@ fn hexadecimal_digit(character: char) -> Option<u64>
 }
 
 /// A number with one more digit, where that isn't too large.
-fn one_more(base: u64, number: u64, digit: u64) -> Result<u64, PathFault>
+fn one_more(base: u64, number: u64, digit: u64) -> Result<u64, Halt>
     ensures { Reads result (one_more base number digit) }
 {
     let Some(shifted) = number.checked_mul(base) else {
-        return Err(PathFault::BadPath);
+        return Err(Halt::Refused);
     };
     match shifted.checked_add(digit) {
         Some(more) => Ok(more),
-        None => Err(PathFault::BadPath),
+        None => Err(Halt::Refused),
     }
 }
 
 /// A number, whose first digit was read.
-fn number_from(digit: u64, rest: &[char]) -> Result<(Token, &[char]), PathFault>
+fn number_from(digit: u64, rest: &[char]) -> Result<(Token, &[char]), Halt>
     ensures { ReadsFront result (number_from digit rest.now) }
 {
     if digit == 0 {
@@ -228,7 +263,7 @@ fn number_from(digit: u64, rest: &[char]) -> Result<(Token, &[char]), PathFault>
 }
 
 /// A number that begins with 0.
-fn behind_zero(rest: &[char]) -> Result<(Token, &[char]), PathFault>
+fn behind_zero(rest: &[char]) -> Result<(Token, &[char]), Halt>
     ensures { ReadsFront result (behind_zero rest.now) }
 {
     match rest {
@@ -240,7 +275,7 @@ fn behind_zero(rest: &[char]) -> Result<(Token, &[char]), PathFault>
     }
 }
 
-fn hexadecimal_tail(begun: u64, text: &[char]) -> Result<(Token, &[char]), PathFault>
+fn hexadecimal_tail(begun: u64, text: &[char]) -> Result<(Token, &[char]), Halt>
     ensures { ReadsFront result (hexadecimal_tail begun text.now) }
 {
     let mut number = begun;
@@ -255,7 +290,7 @@ fn hexadecimal_tail(begun: u64, text: &[char]) -> Result<(Token, &[char]), PathF
     Ok((Token::Figure(number), rest))
 }
 
-fn decimal_tail(begun: u64, text: &[char]) -> Result<(Token, &[char]), PathFault>
+fn decimal_tail(begun: u64, text: &[char]) -> Result<(Token, &[char]), Halt>
     ensures { ReadsFront result (decimal_tail begun text.now) }
 {
     let mut number = begun;
@@ -271,24 +306,24 @@ fn decimal_tail(begun: u64, text: &[char]) -> Result<(Token, &[char]), PathFault
 }
 
 /// A decimal number, behind which there is no point.
-fn whole(number: u64, rest: &[char]) -> Result<(Token, &[char]), PathFault>
+fn whole(number: u64, rest: &[char]) -> Result<(Token, &[char]), Halt>
     ensures { ReadsFront result (whole number rest.now) }
 {
     match rest {
-        ['.', ..] => Err(PathFault::BadPath),
+        ['.', ..] => Err(Halt::Refused),
         _ => Ok((Token::Figure(number), rest)),
     }
 }
 
 /// A text in quotes, behind its first quote.
-fn quoted(alloc: Global, quote: char, text: &[char]) -> Result<(Token, &[char]), PathFault>
+fn quoted(alloc: Global, quote: char, text: &[char]) -> Result<(Token, &[char]), Halt>
     ensures { ReadsFront result (quoted quote text.now) }
 {
     let (quoted, rest) = quoted_tail(Text::new(alloc), quote, text)?;
     Ok((Token::Quote(quoted), rest))
 }
 
-fn quoted_tail(begun: Text, quote: char, text: &[char]) -> Result<(Text, &[char]), PathFault>
+fn quoted_tail(begun: Text, quote: char, text: &[char]) -> Result<(Text, &[char]), Halt>
     ensures { ReadsFront result (option_map (with_front begun) (quoted_tail quote text.now)) }
 {
     let mut quoted = begun;
@@ -300,16 +335,17 @@ fn quoted_tail(begun: Text, quote: char, text: &[char]) -> Result<(Text, &[char]
         quoted.push(*character)?;
         rest = more;
     }
-    Err(PathFault::BadPath)
+    Err(Halt::Refused)
 }
 
-fn sign_at(character: char, rest: &[char]) -> Result<(Token, &[char]), PathFault>
+fn sign_at(character: char, rest: &[char]) -> Result<(Token, &[char]), Halt>
     ensures { ReadsFront result (sign_at character rest.now) }
 {
     match character {
         '<' => Ok(if_equals(Operator::LessOrEqual, Operator::Less, rest)),
         '>' => Ok(if_equals(Operator::GreaterOrEqual, Operator::Greater, rest)),
         '!' => unequal(rest),
+        '/' => slash_at(rest),
         _ => Ok((mark(character)?, rest)),
     }
 }
@@ -325,17 +361,27 @@ fn if_equals(with_equals: Operator, without: Operator, rest: &[char]) -> (Token,
 }
 
 /// `!=`, behind its first character.
-fn unequal(rest: &[char]) -> Result<(Token, &[char]), PathFault>
+fn unequal(rest: &[char]) -> Result<(Token, &[char]), Halt>
     ensures { ReadsFront result (unequal rest.now) }
 {
     match rest {
         ['=', behind @ ..] => Ok((Token::Compare(Operator::NotEqual), behind)),
-        _ => Err(PathFault::BadPath),
+        _ => Err(Halt::Refused),
+    }
+}
+
+/// `/`, which no other may follow: `//` is no token.
+fn slash_at(rest: &[char]) -> Result<(Token, &[char]), Halt>
+    ensures { ReadsFront result (slash_at rest.now) }
+{
+    match rest {
+        ['/', ..] => Err(Halt::Refused),
+        _ => Ok((Token::Slash, rest)),
     }
 }
 
 /// A sign of one character.
-fn mark(character: char) -> Result<Token, PathFault>
+fn mark(character: char) -> Result<Token, Halt>
     ensures { Reads result (mark character) }
 {
     match character {
@@ -345,9 +391,8 @@ fn mark(character: char) -> Result<Token, PathFault>
         ']' => Ok(Token::CloseSquare),
         '(' => Ok(Token::OpenRound),
         ')' => Ok(Token::CloseRound),
-        '/' => Ok(Token::Slash),
         ',' => Ok(Token::Comma),
         '=' => Ok(Token::Compare(Operator::Equal)),
-        _ => Err(PathFault::BadPath),
+        _ => Err(Halt::Refused),
     }
 }

@@ -1,10 +1,12 @@
 //! What may come next in a path, and what a token makes of it.
 
+ghost use Rattle.std.specs.Prelude.{◌≡◌};
+ghost use Rattle.wef_query_paths.specs.Fronts.{begins_path, is_behind_attribute, is_named_call};
 ghost use Rattle.wef_query_paths.specs.Reads.{Reads, Turns};
 ghost use Rattle.wef_query_paths.specs.Turns.{ended, turn};
 
 use crate::conditions::{Levels, before_unit, behind_unit};
-use crate::faults::PathFault;
+use crate::faults::Halt;
 use crate::path::{Axis, Literal, Operator, Path, Step, Unit, Value};
 use crate::steps::{
     Place, before_predicate, before_step, before_test, behind_count, behind_step, whole_path,
@@ -77,12 +79,7 @@ impl Drop for Next {
 
 impl Next {
     /// Takes a token.
-    pub(crate) fn turn(
-        self,
-        alloc: Global,
-        levels: &mut Levels,
-        token: Token,
-    ) -> Result<Next, PathFault>
+    pub(crate) fn turn(self, alloc: Global, levels: &mut Levels, token: Token) -> Result<Next, Halt>
         ensures { Turns result levels.new (turn levels.old self token) }
     {
         match self {
@@ -115,13 +112,45 @@ impl Next {
         }
     }
 
+    /// Whether a path may begin, none of whose steps stand before.
+    pub(crate) fn begins_path(&self) -> bool
+        ensures { result ≡ begins_path self.now }
+    {
+        match self {
+            Next::BeforeStep(_, None) => true,
+            Next::BeforePredicate(_, _, _) | Next::BeforeUnit | Next::BeforeValue(_, _) => true,
+            _ => false,
+        }
+    }
+
+    /// Whether the last step goes to attributes, so that none may follow.
+    pub(crate) fn is_behind_attribute(&self) -> bool
+        ensures { result ≡ is_behind_attribute self.now }
+    {
+        match self {
+            Next::BehindStep(_, _, step) => !step.axis.goes_to_children(),
+            _ => false,
+        }
+    }
+
+    /// Whether a token is a function's name that can only be that of a step.
+    pub(crate) fn is_named_call(&self, token: &Token) -> bool
+        ensures { result ≡ is_named_call self.now token.now }
+    {
+        match self {
+            Next::BeforeStep(_, _) | Next::BeforeTest(_, _, _) => token.is_call(),
+            Next::BeforeValue(Literal::Quoted(_), _) => token.is_position_call(),
+            _ => false,
+        }
+    }
+
     /// The path, where the text may end and no bracket is open.
-    pub(crate) fn finish(self, alloc: Global) -> Result<Path, PathFault>
+    pub(crate) fn finish(self, alloc: Global) -> Result<Path, Halt>
         ensures { Reads result (ended self) }
     {
         match self {
             Next::BehindStep(place, so_far, step) => whole_path(alloc, &place, so_far, step),
-            _ => Err(PathFault::BadPath),
+            _ => Err(Halt::Refused),
         }
     }
 }

@@ -5,7 +5,7 @@ ghost use Rattle.wef_query_paths.specs.Reads.{Reads, Turns};
 ghost use Rattle.wef_query_paths.specs.Turns.{before_comma, before_literal, before_mask, before_value, behind_alone, behind_band, behind_left, behind_literal, behind_mask, behind_position, behind_value, in_position, is_position, may_be_position};
 
 use crate::conditions::{Levels, behind_unit};
-use crate::faults::PathFault;
+use crate::faults::Halt;
 use crate::path::{Literal, Operator, Path, Unit, Value};
 use crate::steps::{Place, before_step};
 use crate::tokens::Token;
@@ -38,7 +38,7 @@ impl Side {
         levels: &mut Levels,
         value: Value,
         token: Token,
-    ) -> Result<Next, PathFault>
+    ) -> Result<Next, Halt>
         ensures { Turns result levels.new (behind_value levels.old self value token) }
     {
         match self {
@@ -51,7 +51,7 @@ impl Side {
     }
 }
 
-pub(crate) fn before_value(alloc: Global, side: Side, token: Token) -> Result<Next, PathFault>
+pub(crate) fn before_value(alloc: Global, side: Side, token: Token) -> Result<Next, Halt>
     ensures { Reads result (before_value side token) }
 {
     match token {
@@ -59,7 +59,7 @@ pub(crate) fn before_value(alloc: Global, side: Side, token: Token) -> Result<Ne
             if may_be_position(&side) {
                 return Ok(Next::BehindPosition(side));
             }
-            Err(PathFault::BadPath)
+            Err(Halt::Refused)
         }
         Token::BandCall => Ok(Next::BehindBand(side)),
         token => before_step(alloc, Place::InValue(side), None, token),
@@ -77,71 +77,61 @@ fn may_be_position(side: &Side) -> bool
     }
 }
 
-pub(crate) fn behind_position(side: Side, token: Token) -> Result<Next, PathFault>
+pub(crate) fn behind_position(side: Side, token: Token) -> Result<Next, Halt>
     ensures { Reads result (behind_position side token) }
 {
     match token {
         Token::OpenRound => Ok(Next::InPosition(side)),
-        _ => Err(PathFault::BadPath),
+        _ => Err(Halt::Refused),
     }
 }
 
-pub(crate) fn in_position(side: Side, token: Token) -> Result<Next, PathFault>
+pub(crate) fn in_position(side: Side, token: Token) -> Result<Next, Halt>
     ensures { Reads result (in_position side token) }
 {
     match token {
         Token::CloseRound => Ok(Next::BehindValue(side, Value::Position)),
-        _ => Err(PathFault::BadPath),
+        _ => Err(Halt::Refused),
     }
 }
 
-pub(crate) fn behind_band(side: Side, token: Token) -> Result<Next, PathFault>
+pub(crate) fn behind_band(side: Side, token: Token) -> Result<Next, Halt>
     ensures { Reads result (behind_band side token) }
 {
     match token {
         Token::OpenRound => Ok(Next::BeforeStep(Place::InBand(side), None)),
-        _ => Err(PathFault::BadPath),
+        _ => Err(Halt::Refused),
     }
 }
 
-pub(crate) fn before_comma(side: Side, path: Path, token: Token) -> Result<Next, PathFault>
+pub(crate) fn before_comma(side: Side, path: Path, token: Token) -> Result<Next, Halt>
     ensures { Reads result (before_comma side path token) }
 {
     match token {
         Token::Comma => Ok(Next::BeforeMask(side, path)),
-        _ => Err(PathFault::BadPath),
+        _ => Err(Halt::Refused),
     }
 }
 
-pub(crate) fn before_mask(side: Side, path: Path, token: Token) -> Result<Next, PathFault>
+pub(crate) fn before_mask(side: Side, path: Path, token: Token) -> Result<Next, Halt>
     ensures { Reads result (before_mask side path token) }
 {
     match token {
         Token::Figure(mask) => Ok(Next::BehindMask(side, path, mask)),
-        _ => Err(PathFault::BadPath),
+        _ => Err(Halt::Refused),
     }
 }
 
-pub(crate) fn behind_mask(
-    side: Side,
-    path: Path,
-    mask: u64,
-    token: Token,
-) -> Result<Next, PathFault>
+pub(crate) fn behind_mask(side: Side, path: Path, mask: u64, token: Token) -> Result<Next, Halt>
     ensures { Reads result (behind_mask side path mask token) }
 {
     match token {
         Token::CloseRound => Ok(Next::BehindValue(side, Value::Band(path, mask))),
-        _ => Err(PathFault::BadPath),
+        _ => Err(Halt::Refused),
     }
 }
 
-fn behind_left(
-    alloc: Global,
-    levels: &mut Levels,
-    value: Value,
-    token: Token,
-) -> Result<Next, PathFault>
+fn behind_left(alloc: Global, levels: &mut Levels, value: Value, token: Token) -> Result<Next, Halt>
     ensures { Turns result levels.new (behind_left levels.old value token) }
 {
     match token {
@@ -156,11 +146,11 @@ fn behind_alone(
     levels: &mut Levels,
     value: Value,
     token: Token,
-) -> Result<Next, PathFault>
+) -> Result<Next, Halt>
     ensures { Turns result levels.new (behind_alone levels.old value token) }
 {
     if is_position(&value) {
-        return Err(PathFault::BadPath);
+        return Err(Halt::Refused);
     }
     behind_unit(alloc, levels, Unit::Alone(value), token)
 }
@@ -174,20 +164,16 @@ fn is_position(value: &Value) -> bool
     }
 }
 
-pub(crate) fn behind_literal(literal: Literal, token: Token) -> Result<Next, PathFault>
+pub(crate) fn behind_literal(literal: Literal, token: Token) -> Result<Next, Halt>
     ensures { Reads result (behind_literal literal token) }
 {
     match token {
         Token::Compare(operator) => Ok(Next::BeforeValue(literal, operator)),
-        _ => Err(PathFault::BadPath),
+        _ => Err(Halt::Refused),
     }
 }
 
-pub(crate) fn before_literal(
-    value: Value,
-    operator: Operator,
-    token: Token,
-) -> Result<Next, PathFault>
+pub(crate) fn before_literal(value: Value, operator: Operator, token: Token) -> Result<Next, Halt>
     ensures { Reads result (before_literal value operator token) }
 {
     match token {
@@ -197,11 +183,11 @@ pub(crate) fn before_literal(
         }
         Token::Quote(text) => {
             if is_position(&value) {
-                return Err(PathFault::BadPath);
+                return Err(Halt::Refused);
             }
             let unit = Unit::Compared(value, operator, Literal::Quoted(text));
             Ok(Next::BehindUnit(unit))
         }
-        _ => Err(PathFault::BadPath),
+        _ => Err(Halt::Refused),
     }
 }
