@@ -31,6 +31,9 @@ const BAD: &[&[u8]] = &[
     b"subscribe more 1 8192 1 all ",
     b"subscribe more 1 8192 1 all c ",
     b"subscribe more \xEF\xBC\x91 8192 1 all c",
+    b"subscribe more 1 8192 1 query ",
+    b"subscribe more 1 8192 1 query\t<QueryList><Query><Select Path='c'>*</Select></Query></QueryList>",
+    b"subscribe more 1 8192 1 query <QueryList><Query><Select Path='c\xFF'>*</Select></Query></QueryList>",
     b"batch base pc1 ack\r",
     b"end a\tb",
     b"end \x7F",
@@ -58,6 +61,8 @@ const GOOD: &[&[u8]] = &[
     b"subscribe more 10000 4194304 86400000 all c c\r",
     b"batch base pc1 e:c:1:a\r",
     b"source pc1 1\nwrite pc1 a 4294967295 4294967295 ",
+    b"subscribe more 1 8192 1 query \t <QueryList><Query><Select Path='c'>*</Select></Query></QueryList> \r",
+    b"source pc1 1\nwritexml pc1 \t <Event><System><Channel>c</Channel></System></Event> \r",
 ];
 
 /// The line behind one that adds a subscription, and in front of a report.

@@ -64,6 +64,49 @@ fn the_longest_names_and_events(rt: HostRuntime) -> Result<(), Fail> {
     Ok(())
 }
 
+/// How many letters an event in XML has, and what is printed for it and for a short one behind it,
+/// where the next commit is to fail. Without a number its text has 65 bytes more than letters, and 97
+/// with the number 1.
+const WITHOUT_NUMBERS: &[(usize, &str)] = &[
+    (
+        1_048_576 - 97,
+        "sent 1 ask pc1\nfailed pc1\nwrote pc1 c 1\n",
+    ),
+    (
+        1_048_576 - 96,
+        "sent 1 ask pc1\ntoolong pc1 c\nfailed pc1\n",
+    ),
+];
+
+/// Writes an event of so many letters, and a short one, where the next commit is to fail.
+fn with_letters(alloc: Global, letters: usize) -> Result<Outcome, AllocError> {
+    let mut schedule = Text::from_str(
+        alloc,
+        "source pc1 1\nask pc1\nfail pc1 before\nwritexml pc1 <Event><System><Channel>c</Channel></System><Data>",
+    )?;
+    for _ in 0..letters {
+        schedule.push('x')?;
+    }
+    schedule.push_str(
+        "</Data></Event>\nwritexml pc1 <Event><System><Channel>c</Channel></System></Event>\n",
+    )?;
+    replayed(alloc, schedule.as_str().as_bytes())
+}
+
+#[test]
+fn events_that_are_too_long_with_their_numbers(rt: HostRuntime) -> Result<(), Fail> {
+    for &(letters, printed) in WITHOUT_NUMBERS {
+        let ran = with_letters(rt.alloc(), letters)?;
+        assert!(rt;
+            ran.status == 0 && ran.out.taken() == printed.as_bytes(),
+            "{letters}"
+        );
+    }
+    let longer = with_letters(rt.alloc(), 1_048_576 - 64)?;
+    assert!(rt; is_refused(&longer, "line 4: not understood\n"));
+    Ok(())
+}
+
 /// 256 subscriptions, and lines that may add no more.
 fn many_subscriptions(alloc: Global) -> Result<Text, AllocError> {
     let mut schedule = Text::new(alloc);

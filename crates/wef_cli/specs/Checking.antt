@@ -2,16 +2,13 @@
 use Rattle.std.specs.Prelude.{◌≡◌, ℕ, ◌+◌, ◌==◌, Bool, true, List, [], ◌∷◌, ◌++◌, Option, Some, None, Result, codes, if◌then◌else◌}
 use Rattle.std.specs.declared.result.Result.TheVariants.{Ok, Err}
 use Rattle.std.specs.Io.KnownBytes.{Appends}
-use Rattle.std.specs.Option.{option_and_then, option_map}
-use Rattle.wef_base.specs.declared.tree.Charset.TheVariants.{Utf8}
+use Rattle.std.specs.Option.{option_map}
 use Rattle.wef_base.specs.declared.tree.Element.{Element}
 use Rattle.wef_event.specs.Events.{Event, event_in, event_of, event_or_none}
-use Rattle.wef_query.specs.Reading.{query_in}
 use Rattle.wef_query.specs.Selected.{is_selected}
 use Rattle.wef_query.specs.declared.QueryList.{QueryList}
-use Rattle.wef_query.specs.declared.reading.QueryFault.{QueryFault}
+use Rattle.wef_replay.specs.Documents.{list_in}
 use Rattle.wef_source.specs.Selecting.{is_wanted}
-use Rattle.wef_tree_reading.specs.Documents.{tree_of}
 use Rattle.wef_cli.specs.Adding.{IsReadAs}
 use Rattle.wef_cli.specs.Endings.{HasFailed, IsUnwritten, Told}
 use Rattle.wef_cli.specs.Streams.{WritesPart}
@@ -31,14 +28,6 @@ lines_of [] = []
 lines_of (b ∷ bs) = if b == 10 then [] ∷ lines_of bs else begun b (lines_of bs)
 
 -- ---- what lines say
-
-abbrev pub list_or_none : Result QueryList QueryFault → Option QueryList
-list_or_none (Ok list) = Some list
-list_or_none (Err fault) = None
-
--- the list of queries that a line says, where it says one
-unfoldable pub list_in : List ℕ → Option QueryList
-list_in line = option_and_then (λ root. list_or_none (query_in root)) (tree_of Utf8 line)
 
 -- whether a list selects the event that a line says, on the event's own channel; none where the line says no event
 unfoldable pub answer_to : QueryList → List ℕ → Option Bool

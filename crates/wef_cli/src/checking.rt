@@ -1,8 +1,6 @@
 //! `check`: which events a list of queries selects.
 
-ghost use Rattle.std.specs.Prelude.{◌≡◌, ◌<◌, [], ◌∷◌, length, IfOk, IfErr, IfSome};
-ghost use Rattle.wef_base.specs.declared.tree.Charset.TheVariants.{Utf8};
-ghost use Rattle.wef_tree_reading.specs.Documents.{tree_of};
+ghost use Rattle.std.specs.Prelude.{◌≡◌, ◌<◌, [], ◌∷◌, length, IfOk, IfErr};
 ghost use Rattle.wef_xml.specs.Good.{IsGoodTree};
 ghost use Rattle.wef_cli.specs.Checking as spec;
 ghost use Rattle.wef_cli.specs.Checking.{lines_of};
@@ -11,11 +9,10 @@ use crate::calling::write_done;
 use crate::ending::Ending;
 use crate::streams::{InputFault, read_whole};
 use std::alloc::{AllocError, Global};
-use wef_base::{Charset, Element, Sink, Source, Text};
+use wef_base::{Element, Sink, Source, Text};
 use wef_event::{EventFault, event_of_node};
-use wef_query::{QueryFault, QueryList, read_query, selected};
-use wef_tree_reading::read_tree;
-use wef_xml::TreeFault;
+use wef_query::{QueryList, selected};
+use wef_replay::{list_in, tree_in};
 
 /// Reads lines, the first of which is a list of queries and each other one an event, and writes a line
 /// for each event: whether the list selects it. Nothing is written before all lines are read. The input
@@ -104,21 +101,6 @@ fn answer_line(selects: bool) -> &'static str
     if selects { "yes\n" } else { "no\n" }
 }
 
-/// The list of queries that a line says; none where it says none.
-#[tactic(auto, unfolding(crate::specs::Checking::list_in))]
-fn list_in(alloc: Global, line: &[u8]) -> Result<Option<QueryList>, AllocError>
-    ensures { IfOk result (λ list. list ≡ spec.list_in line.now) }
-{
-    let Some(root) = tree_in(alloc, line)? else {
-        return Ok(None);
-    };
-    match read_query(&root) {
-        Ok(list) => Ok(Some(list)),
-        Err(QueryFault::NoMemory) => Err(AllocError),
-        Err(_) => Ok(None),
-    }
-}
-
 /// Whether a list selects the event that a line says; none where it says none.
 #[tactic(auto, using(crate::proofs::Checked::answered))]
 fn answer_to(alloc: Global, list: &QueryList, line: &[u8]) -> Result<Option<bool>, AllocError>
@@ -138,18 +120,6 @@ fn answer_of(list: &QueryList, root: &Element) -> Result<Option<bool>, AllocErro
     match event_of_node(root) {
         Ok(event) => Ok(Some(selected(list, &event.channel, root))),
         Err(EventFault::NoMemory) => Err(AllocError),
-        Err(_) => Ok(None),
-    }
-}
-
-/// The root of the document that a line is; none where it is none.
-fn tree_in(alloc: Global, line: &[u8]) -> Result<Option<Element>, AllocError>
-    ensures tree { IfOk result (λ root. root ≡ tree_of Utf8 line.now) }
-    ensures good { IfOk result (λ root. IfSome root IsGoodTree) }
-{
-    match read_tree(alloc, line, Charset::Utf8) {
-        Ok(root) => Ok(Some(root)),
-        Err(TreeFault::NoMemory) => Err(AllocError),
         Err(_) => Ok(None),
     }
 }

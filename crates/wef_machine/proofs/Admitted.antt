@@ -19,7 +19,7 @@ use Rattle.wef_replay.specs.Good.{AreGood, Names, allows, has_end, is_among, is_
 use Rattle.wef_replay.specs.declared.lines.EndName.{EndName}
 use Rattle.wef_replay.specs.declared.lines.EndName.TheVariants as ends
 use Rattle.wef_replay.specs.declared.lines.Line.{Line}
-use Rattle.wef_replay.specs.declared.lines.Line.TheVariants.{Subscribe, End, Batch, Source, Write, Ask, Poll, Deliver, Back, Lost, Crash, Fail, Stop, Calm, Show, Print}
+use Rattle.wef_replay.specs.declared.lines.Line.TheVariants.{Subscribe, End, Batch, Source, Write, WriteXml, Ask, Poll, Deliver, Back, Lost, Crash, Fail, Stop, Calm, Show, Print}
 use Rattle.wef_source.specs.Machine as machine
 use Rattle.wef_source.specs.Sessions.{session_of}
 use Rattle.wef_source.specs.declared.sessions.Session.{Session}
@@ -212,6 +212,7 @@ leaves_names (End u) state names alike =
     same_names state (step (End u) state) names
     (same_at_collector state (λ ids. ended_at u) (λ ids now. same_collector now now (after_call now.collector (end_effect now.collector.rows u)) (same_itself now))) alike
 leaves_names (Write s plain) state names alike = same_names state (step (Write s plain) state) names (same_at_source state s (write_at s (new_event plain)) (keeps_write s (new_event plain))) alike
+leaves_names (WriteXml s event) state names alike = same_names state (step (WriteXml s event) state) names (same_at_source state s (write_at s event) (keeps_write s event)) alike
 leaves_names (Ask s) state names alike = same_names state (step (Ask s) state) names (same_at_source state s (ask_at s) (keeps_ask s)) alike
 leaves_names (Poll s u) state names alike = same_names state (step (Poll s u) state) names (same_at_source state s (poll_at s u) (keeps_poll s u)) alike
 leaves_names (Deliver k seen) state names alike = same_names state (step (Deliver k seen) state) names (same_delivered state (message_at state k)) alike
@@ -234,6 +235,7 @@ allows-alike : (line : Line) (these those : Names) → AreAlike these those → 
 allows-alike (Batch u s b) these those alike = ap not (alike.declared s)
 allows-alike (Source s capacity) these those alike = λ i. not (alike.declared s i) && not (alike.foreign s i)
 allows-alike (Write s event) these those alike = alike.declared s
+allows-alike (WriteXml s event) these those alike = alike.declared s
 allows-alike (Ask s) these those alike = alike.declared s
 allows-alike (Poll s u) these those alike = alike.declared s
 allows-alike (Lost s u) these those alike = alike.declared s

@@ -35,7 +35,7 @@ use Rattle.wef_keeper.specs.declared.keys.Change.{Change}
 use Rattle.wef_replay.specs.declared.lines.EndName.{EndName}
 use Rattle.wef_replay.specs.declared.lines.EndName.TheVariants as ends
 use Rattle.wef_replay.specs.declared.lines.Line.{Line}
-use Rattle.wef_replay.specs.declared.lines.Line.TheVariants.{Subscribe, End, Batch, Source, Write, Ask, Poll, Deliver, Back, Lost, Crash, Fail, Stop, Calm, Show, Print}
+use Rattle.wef_replay.specs.declared.lines.Line.TheVariants.{Subscribe, End, Batch, Source, Write, WriteXml, Ask, Poll, Deliver, Back, Lost, Crash, Fail, Stop, Calm, Show, Print}
 use Rattle.wef_source.specs.Machine as machine
 use Rattle.wef_source.specs.Sessions.{session_of}
 use Rattle.wef_source.specs.declared.messages.Delivery.{Delivery}
@@ -390,6 +390,7 @@ step_draws state (Batch u s b) drawn =
     (λ ids now runs now_drawn. call_draws now (batch_effect now.collector.rows u s b now.moment) (batch_keeps now.collector.rows u s b now.moment) now_drawn)
 step_draws state (Source s capacity) drawn = drawn
 step_draws state (Write s plain) drawn = at_source_draws state s (write_at s (new_event plain)) drawn (write_draws s (new_event plain))
+step_draws state (WriteXml s event) drawn = at_source_draws state s (write_at s event) drawn (write_draws s event)
 step_draws state (Ask s) drawn = at_source_draws state s (ask_at s) drawn (ask_draws s)
 step_draws state (Poll s u) drawn = at_source_draws state s (poll_at s u) drawn (poll_draws s u)
 step_draws state (Deliver k seen) drawn = delivered_draws state (message_at state k) drawn

@@ -2,7 +2,7 @@
 use Rattle.std.proofs.Common.{◌≡◌, ℕ, ◌≤◌, ◌==◌, ◌&&◌, nat_lt, Bool, true, false, cond, List, refl, ap, sym, ◌∙◌, arith}
 use Rattle.std.proofs.lemmas.Bool.{and_parts, eqb-true}
 use Rattle.std.proofs.lemmas.Bool.Decides.{nat_tests}
-use Rattle.std.proofs.lemmas.Option.{none-some, same_Some}
+use Rattle.std.proofs.lemmas.Option.{none-some}
 use Rattle.std.specs.Prelude.{Option, Some, None, Result}
 use Rattle.std.specs.Option.{option_and_then}
 use Rattle.std.specs.declared.result.Result.TheVariants.{Ok, Err}
@@ -13,6 +13,8 @@ use Rattle.wef_collector.proofs.Hits.{one_name}
 use Rattle.wef_event.proofs.Made.{is_read}
 use Rattle.wef_event.specs.Events.{Event, HasTree, event_in, event_of, event_or_none, is_event, is_event_root, is_found, number_or, with_number_found}
 use Rattle.wef_event.specs.Paths.{channel_in, number_in}
+use Rattle.wef_replay.proofs.SaidEvents.{given_is, has_tree}
+use Rattle.wef_replay.specs.Documents.{is_new_event, new_event_in}
 use Rattle.wef_event.specs.declared.records.EventFault.{EventFault}
 use Rattle.wef_tree_reading.proofs.Functions.{is_spelt_by}
 use Rattle.wef_tree_reading.proofs.GoodTrees.{spells_good}
@@ -27,10 +29,6 @@ found_is event found e =
     let number = eqb-true event.number found.number inner.1 in
     let text = one_name event.text found.text outer.1 in
     λ i. record { channel = sym channel i; number = sym number i; text = sym text i }
-
-given_is : (r : Result Event EventFault) (event : Event) → event_or_none r ≡ Some event → r ≡ Ok event
-given_is (Ok found) event e = ap Ok (same_Some found event e)
-given_is (Err fault) event e = absurd (none-some event e)
 
 err_is_ok : (fault : EventFault) (event : Event) → ◌≡◌ {A = Result Event EventFault} (Err fault) (Ok event) → ⊥
 err_is_ok fault event e = cc
@@ -66,6 +64,15 @@ said_has_tree event e = by_found (event_in event.text) refl e
     by_found : (o : Option Event) → event_in event.text ≡ o → is_found event o ≡ true → HasTree event
     by_found None there found = absurd cc
     by_found (Some found) there is = by_tree (tree_of Utf8 event.text) refl (there ∙ ap Some (found_is event found is))
+
+-- so is one that may have no number
+pub new_has_tree : (event : Event) → is_new_event event ≡ true → HasTree event
+unfolding is_new_event
+new_has_tree event e = by (new_event_in event.text) refl e
+  where
+    by : (o : Option Event) → new_event_in event.text ≡ o → is_found event o ≡ true → HasTree event
+    by None there is = absurd cc
+    by (Some found) there is = has_tree event.text event (there ∙ ap Some (found_is event found is))
 
 above_zero : (n : ℕ) → nat_lt 0 n ≡ true → 1 ≤ n
 above_zero n e = grind (arith, nat_tests, e)

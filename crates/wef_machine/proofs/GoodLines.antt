@@ -38,8 +38,10 @@ use Rattle.wef_query.specs.Laws.{ReadsBack, are_grouped}
 use Rattle.wef_query_paths.specs.Paths.{path_of}
 use Rattle.wef_query.specs.declared.QueryList.{QueryList}
 use Rattle.wef_replay.proofs.GoodNames.{kept_channel}
-use Rattle.wef_replay.specs.Good.{are_limits, are_queries, are_words, fits_always, has_word, is_between, is_channel, is_count, is_item, is_line, is_no_collector, is_number, is_one, is_query, is_query_text, is_reach, is_source, is_subscription}
+use Rattle.wef_replay.specs.Documents.{is_new_event}
+use Rattle.wef_replay.specs.Good.{are_limits, are_queries, are_words, fits_always, has_word, may_be_written, is_between, is_channel, is_count, is_item, is_line, is_no_collector, is_number, is_one, is_query, is_query_text, is_reach, is_source, is_subscription}
 use Rattle.wef_replay.specs.declared.lines.Line.TheVariants as lines
+use Rattle.wef_machine.proofs.EventTrees.{new_has_tree}
 use Rattle.wef_machine.specs.Steps.{subscription_of}
 use Rattle.wef_collector.specs.FormsStay.{IsSoundBatch, IsSoundItem}
 
@@ -208,3 +210,10 @@ writable s plain e =
       is = plain_of_tree plain.channel plain.word 0 plain.id plain.level (new_event plain) named channel inner.1 plain.characters (omega arith)
           (new_is plain (new_fits plain 9223372036854775807 (omega arith) outer.1));
     }
+
+pub writable_xml : (s : List ℕ) (event : Event) → is_line (lines.WriteXml s event) ≡ true → IsWritable event
+writable_xml s event e =
+    let may = (and_parts (is_source s) (may_be_written event) e).1 in
+    let parts = and_parts (is_channel event.channel) (is_new_event event) may in
+    let tree = new_has_tree event parts.1 in
+    record { named = kept_channel event.channel parts.0; node = tree.0; is = tree.1 }

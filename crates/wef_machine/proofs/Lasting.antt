@@ -28,7 +28,7 @@ use Rattle.wef_keeper.specs.declared.keys.Change.{Change}
 use Rattle.wef_replay.specs.declared.lines.EndName.{EndName}
 use Rattle.wef_replay.specs.declared.lines.EndName.TheVariants as ends
 use Rattle.wef_replay.specs.declared.lines.Line.{Line}
-use Rattle.wef_replay.specs.declared.lines.Line.TheVariants.{Subscribe, End, Batch, Source, Write, Ask, Poll, Deliver, Back, Lost, Crash, Fail, Stop, Calm, Show, Print}
+use Rattle.wef_replay.specs.declared.lines.Line.TheVariants.{Subscribe, End, Batch, Source, Write, WriteXml, Ask, Poll, Deliver, Back, Lost, Crash, Fail, Stop, Calm, Show, Print}
 use Rattle.wef_source.specs.Machine as machine
 use Rattle.wef_source.specs.Sessions.{session_of}
 use Rattle.wef_source.specs.declared.messages.Delivery.{Delivery}
@@ -199,6 +199,7 @@ lasts state (End u) = at_collector_lasts state (λ ids. steps.end_at u) (λ ids.
 lasts state (Batch u s b) = at_collector_lasts (with_foreign state s) (λ ids. batch_at u s b) (λ ids. batch_lasts u s b)
 lasts state (Source s capacity) = as_it_is state
 lasts state (Write s plain) = at_source_lasts state s (write_at s (new_event plain)) (write_leaves s (new_event plain))
+lasts state (WriteXml s event) = at_source_lasts state s (write_at s event) (write_leaves s event)
 lasts state (Ask s) = at_source_lasts state s (ask_at s) (ask_leaves s)
 lasts state (Poll s u) = at_source_lasts state s (poll_at s u) (poll_leaves s u)
 lasts state (Deliver k seen) = delivered_lasts state (message_at state k)

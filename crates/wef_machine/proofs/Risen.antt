@@ -28,7 +28,7 @@ use Rattle.wef_query.specs.Selected.{channels_of}
 use Rattle.wef_replay.specs.declared.lines.EndName.{EndName}
 use Rattle.wef_replay.specs.declared.lines.EndName.TheVariants as ends
 use Rattle.wef_replay.specs.declared.lines.Line.{Line}
-use Rattle.wef_replay.specs.declared.lines.Line.TheVariants.{Subscribe, End, Batch, Source, Write, Ask, Poll, Deliver, Back, Lost, Crash, Fail, Stop, Calm, Show, Print}
+use Rattle.wef_replay.specs.declared.lines.Line.TheVariants.{Subscribe, End, Batch, Source, Write, WriteXml, Ask, Poll, Deliver, Back, Lost, Crash, Fail, Stop, Calm, Show, Print}
 use Rattle.wef_source.proofs.Built.{SaysAbove, built_above}
 use Rattle.wef_source.specs.Answers.{waiting_for}
 use Rattle.wef_source.specs.Building.{built}
@@ -465,6 +465,7 @@ step_stands lower past state (End u) kept all has = at_collector_any state (λ i
 step_stands lower past state (Batch u s b) kept all has = at_collector_any (with_foreign state s) (λ ids. batch_at u s b) (Stands past) all (λ ids runs. all)
 step_stands lower past state (Source s capacity) kept all has = slot_moves past state s (declared_slot capacity) all tt
 step_stands lower past state (Write s plain) kept all has = write_stands lower past state s (new_event plain) kept all
+step_stands lower past state (WriteXml s event) kept all has = write_stands lower past state s event kept all
 step_stands lower past state (Ask s) kept all has = ask_stands lower past state s kept all
 step_stands lower past state (Poll s u) kept all has = poll_stands lower past state s u kept all
 step_stands lower past state (Deliver k seen) kept all has = deliver_stands lower past state k kept all has

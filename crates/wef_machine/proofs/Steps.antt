@@ -20,7 +20,7 @@ use Rattle.wef_keeper.specs.Rows.{key_cmp}
 use Rattle.wef_keeper.specs.declared.keys.Cell.{Cell}
 use Rattle.wef_replay.specs.Good.{are_queries, are_limits, is_among, is_between, is_line, is_no_collector, is_source, is_subscription}
 use Rattle.wef_replay.specs.declared.lines.Line.{Line}
-use Rattle.wef_replay.specs.declared.lines.Line.TheVariants.{Subscribe, End, Batch, Source, Write, Ask, Poll, Deliver, Back, Lost, Crash, Fail, Stop, Calm, Show, Print}
+use Rattle.wef_replay.specs.declared.lines.Line.TheVariants.{Subscribe, End, Batch, Source, Write, WriteXml, Ask, Poll, Deliver, Back, Lost, Crash, Fail, Stop, Calm, Show, Print}
 use Rattle.wef_replay.specs.declared.lines.EndName.{EndName}
 use Rattle.wef_replay.specs.declared.lines.EndName.TheVariants as ends
 use Rattle.wef_source_log.specs.Histories.{history}
@@ -38,7 +38,7 @@ use Rattle.wef_machine.specs.declared.arming.Armed.{Armed}
 use Rattle.wef_machine.specs.declared.messages.Message.{Message}
 use Rattle.wef_machine.specs.declared.messages.Message.TheVariants as sent
 use Rattle.wef_machine.proofs.CollectorSteps.{at_collector_keeps, batch_keeps, end_keeps, events_keep, foreign_kept, is_foreign, subscribe_keeps}
-use Rattle.wef_machine.proofs.GoodLines.{subscription_again, names_source, sound_batch, writable}
+use Rattle.wef_machine.proofs.GoodLines.{subscription_again, names_source, sound_batch, writable, writable_xml}
 use Rattle.wef_machine.proofs.Lower.{Lower}
 use Rattle.wef_machine.proofs.Moves.{from_mapped, kept_declared, kept_reply}
 use Rattle.wef_machine.proofs.Names.{undeclared}
@@ -155,6 +155,8 @@ steps_keep lower state (Source s capacity) kept good =
     declared_kept lower state s capacity kept name line.1 (not_true (is_among (declared_names state) s) new.0) (not_true (is_among state.foreign s) new.1)
 steps_keep lower state (Write s plain) kept good =
     write_keeps lower state s (new_event plain) kept (writable s plain (and_parts (is_line (Write s plain)) (is_among (declared_names state) s) good).0)
+steps_keep lower state (WriteXml s event) kept good =
+    write_keeps lower state s event kept (writable_xml s event (and_parts (is_line (WriteXml s event)) (is_among (declared_names state) s) good).0)
 steps_keep lower state (Ask s) kept good = ask_keeps lower state s kept
 steps_keep lower state (Poll s u) kept good = poll_keeps lower state s u kept
 steps_keep lower state (Deliver k seen) kept good = deliver_keeps lower state k kept

@@ -18,7 +18,7 @@ use Rattle.wef_replay.specs.Good.{is_good_after}
 use Rattle.wef_replay.specs.declared.lines.EndName as the_end
 use Rattle.wef_replay.specs.declared.lines.EndName.TheVariants as ends
 use Rattle.wef_replay.specs.declared.lines.Line.{Line}
-use Rattle.wef_replay.specs.declared.lines.Line.TheVariants.{Subscribe, End, Batch, Source, Write, Ask, Poll, Deliver, Back, Lost, Crash, Fail, Stop, Calm, Show, Print}
+use Rattle.wef_replay.specs.declared.lines.Line.TheVariants.{Subscribe, End, Batch, Source, Write, WriteXml, Ask, Poll, Deliver, Back, Lost, Crash, Fail, Stop, Calm, Show, Print}
 use Rattle.wef_machine.specs.Arming.{fate}
 use Rattle.wef_machine.specs.Collecting.{at_collector, print_at_collector, with_call}
 use Rattle.wef_machine.specs.Deliveries.{answer_word, batch_effect, deliver_printed, deliver_step, number_back}
@@ -132,6 +132,7 @@ step (End u) state = at_collector state (λ ids. end_at u)
 step (Batch u s b) state = at_collector (with_foreign state s) (λ ids. batch_at u s b)
 step (Source s capacity) state = with_slot state s (declared_slot capacity)
 step (Write s plain) state = write_step state s (new_event plain)
+step (WriteXml s event) state = write_step state s event
 step (Ask s) state = ask_step state s
 step (Poll s u) state = poll_step state s u
 step (Deliver k seen) state = deliver_step state k
@@ -156,6 +157,7 @@ told_by (End u) state = print_at_collector state closed_line (λ ids. end_text u
 told_by (Batch u s b) state = print_at_collector (with_foreign state s) (closed_batch u s) (λ ids. batch_line u s b)
 told_by (Source s capacity) state = []
 told_by (Write s plain) state = write_printed state s (new_event plain)
+told_by (WriteXml s event) state = write_printed state s event
 told_by (Ask s) state = ask_printed state s
 told_by (Poll s u) state = poll_printed state s u
 told_by (Deliver k seen) state = deliver_printed state k

@@ -10,7 +10,7 @@ use Rattle.wef_replay.specs.Schedule.{first_bad, if_allowed, lines_of, meaning_a
 use Rattle.wef_replay.specs.declared.lines.EndName.{EndName}
 use Rattle.wef_replay.specs.declared.lines.EndName.TheVariants as end
 use Rattle.wef_replay.specs.declared.lines.Line.{Line}
-use Rattle.wef_replay.specs.declared.lines.Line.TheVariants.{Subscribe, End, Batch, Source, Write, Ask, Poll, Deliver, Back, Lost, Show, Print, Crash, Fail, Stop, Calm}
+use Rattle.wef_replay.specs.declared.lines.Line.TheVariants.{Subscribe, End, Batch, Source, Write, WriteXml, Ask, Poll, Deliver, Back, Lost, Show, Print, Crash, Fail, Stop, Calm}
 
 -- ---- one text
 
@@ -43,6 +43,7 @@ alike_noted (Batch u s batch) a b alike = record { declared = alike.declared; fo
 alike_noted (Subscribe u items bytes beat query) a b alike = alike
 alike_noted (End u) a b alike = alike
 alike_noted (Write s event) a b alike = alike
+alike_noted (WriteXml s event) a b alike = alike
 alike_noted (Ask s) a b alike = alike
 alike_noted (Poll s u) a b alike = alike
 alike_noted (Deliver n seen) a b alike = alike
@@ -69,6 +70,7 @@ allows-alike (Batch u s batch) a b alike = ap not (alike.declared s)
 allows-alike (Subscribe u items bytes beat query) a b alike = refl
 allows-alike (End u) a b alike = refl
 allows-alike (Write s event) a b alike = alike.declared s
+allows-alike (WriteXml s event) a b alike = alike.declared s
 allows-alike (Ask s) a b alike = alike.declared s
 allows-alike (Poll s u) a b alike = alike.declared s
 allows-alike (Deliver n seen) a b alike = refl

@@ -23,10 +23,10 @@ use Rattle.wef_base.specs.Characters.{is_xml_text}
 use Rattle.wef_event.specs.PlainEvent.{plain_event, plain_text}
 use Rattle.wef_event.specs.Events.{Event, is_event}
 use Rattle.wef_event.proofs.PlainTrees.{plain_is_read}
-use Rattle.wef_replay.specs.BatchWords.{added, batch_word, colon_joined, data_word, dropped_word, empty_batch, event_word, if_word, if_xml_text, IsWithin, is_nothing, loose_word, reach_word, read_words, spelled, word_of}
+use Rattle.wef_replay.specs.BatchWords.{added, batch_word, data_word, dropped_word, empty_batch, event_word, if_word, if_xml_text, IsWithin, is_nothing, loose_word, reach_word, read_words, spelled, word_of}
 use Rattle.wef_replay.specs.Good.{are_words, has_word, is_channel, is_count, is_item, is_number, is_one, is_reach}
 use Rattle.wef_replay.specs.PlainEvents.{IsPlainItem}
-use Rattle.wef_replay.specs.Values.{channel_word, number_word}
+use Rattle.wef_replay.specs.Values.{channel_word, joined, number_word}
 use Rattle.wef_replay.specs.declared.batches.BatchWord.{BatchWord}
 use Rattle.wef_replay.specs.declared.batches.BatchWord.TheVariants.{Item, Reach, Ack}
 use Rattle.wef_replay.proofs.Cuts.{HasFirst, has_first}
@@ -48,7 +48,7 @@ IsXmlWord word = (is_utf8 word ≡ true) × (is_xml_text word ≡ true)
 
 good-data_word : (piece : List ℕ) (more : List (List ℕ)) → AllOf IsXmlWord (data_word piece more)
 good-data_word piece more =
-    all_of-then (λ word. is_utf8 word ≡ true) IsXmlWord if_xml_text (decoded (colon_joined piece more)) (decoded_is_text (colon_joined piece more))
+    all_of-then (λ word. is_utf8 word ≡ true) IsXmlWord if_xml_text (decoded (joined 58 piece more)) (decoded_is_text (joined 58 piece more))
     (λ word text. all_of-tested IsXmlWord (is_xml_text word) word (λ characters. (text, characters)))
 
 -- a plain event of a channel's name and a number is the one that its text says

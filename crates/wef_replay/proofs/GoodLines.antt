@@ -6,33 +6,37 @@ use Rattle.std.specs.Str.{chars, is_utf8}
 use Rattle.std.proofs.lemmas.Bool.{and_parts}
 use lib.Utf8.{encode}
 use Rattle.wef_base.specs.Names.{same}
-use Rattle.wef_base.specs.Words.{decoded, parts}
+use Rattle.wef_base.specs.Words.{decoded, parts, utf8}
 use Rattle.wef_base.specs.Characters.{is_xml_text}
 use Rattle.wef_base.specs.declared.numbers.TheConstants.{MAX}
 use Rattle.wef_event.specs.Unnumbered.{plain_numbered}
 use Rattle.wef_event.specs.declared.unnumbered.PlainEvent.{PlainEvent}
 use Rattle.wef_query.specs.Queries.{all_events_of}
+use Rattle.wef_query.specs.declared.QueryList.{QueryList}
 use Rattle.wef_query.proofs.SaidPaths.{all_grouped, any_says_path}
 use Rattle.wef_replay.specs.BatchWords.{empty_batch, read_words}
-use Rattle.wef_replay.specs.Good.{are_queries, fits_always, is_between, is_channel, is_count, is_end, is_line, is_no_collector, is_query, is_query_text, is_source, is_subscription}
-use Rattle.wef_replay.specs.Grammar.{all_of, ask_line, back_line, batch_line, calm_line, commit_words, crash_line, deliver_line, does_nothing, end_line, event_if_xml, event_words, fail_line, failure_line_of, fitting_event, if_fits, line_of_words, lost_line, meaning, message_words, other_line, pair_words, poll_line, print_line, seen_words, show_line, source_line, source_line_of, stop_line, subscribe_line, subscribe_numbers, write_line}
+use Rattle.wef_replay.specs.Documents.{new_event_in}
+use Rattle.wef_replay.specs.Good.{are_limits, are_queries, fits_always, may_be_written, is_between, is_channel, is_count, is_end, is_line, is_no_collector, is_query, is_query_text, is_source, is_subscription}
+use Rattle.wef_replay.specs.Grammar.{all_of, ask_line, back_line, batch_line, calm_line, commit_words, crash_line, deliver_line, does_nothing, end_line, event_if_xml, event_words, fail_line, failure_line_of, fitting_event, if_fits, limit_words, line_of_words, lost_line, meaning, message_words, other_line, pair_words, poll_line, print_line, query_words, seen_words, show_line, source_line, source_line_of, stop_line, subscribe_line, write_line, write_xml_line, xml_event_words}
 use Rattle.wef_replay.specs.PlainEvents.{HasPlainEvents}
 use Rattle.wef_replay.specs.Reading.{with_first}
-use Rattle.wef_replay.specs.Values.{after_word, channel_word, channel_words, end_word, number_word, sending_source_word, source_word, subscription_word}
+use Rattle.wef_replay.specs.Values.{after_word, channel_word, channel_words, end_word, joined, number_word, sending_source_word, source_word, subscription_word}
 use Rattle.wef_replay.specs.declared.lines.EndName.TheVariants as end
 use Rattle.wef_replay.specs.declared.lines.Line.{Line}
-use Rattle.wef_replay.specs.declared.lines.Line.TheVariants.{Subscribe, End, Batch, Source, Write, Ask, Poll, Deliver, Back, Lost, Print, Crash, Fail, Stop}
+use Rattle.wef_replay.specs.declared.lines.Line.TheVariants.{Subscribe, End, Batch, Source, Write, WriteXml, Ask, Poll, Deliver, Back, Lost, Print, Crash, Fail, Stop}
 use Rattle.wef_replay.proofs.Gifts.{AllOf, all_of-if, all_of-map, all_of-tested, all_of-then}
 use Rattle.wef_replay.proofs.GoodBatches.{good-batch_words}
 use Rattle.wef_replay.proofs.GoodNames.{decoded_is_text, good-channel, good-sending_source, good-source, good-subscription}
 use Rattle.wef_replay.proofs.GoodNumbers.{count_from_between, good-number}
+use Rattle.wef_replay.proofs.SaidEvents.{good-new_event_in}
+use Rattle.wef_replay.proofs.SaidLists.{good-list_in}
 
 -- the line's values are of their kinds, and its events are plain
 abbrev pub IsGoodLine : Line → Type 0
 IsGoodLine line = (is_line line ≡ true) × HasPlainEvents line
 
--- of a truth value there is nothing to say
-any : (given : Option Bool) → AllOf (λ _. Unit {0}) given
+-- nothing is said of what is given
+any : {X : Type 0} (given : Option X) → AllOf (λ _. Unit {0}) given
 any None = tt
 any (Some given) = tt
 
@@ -66,13 +70,19 @@ good-some_channels word words = by (channel_word word) (channel_words words) (go
     by (Some c) None h k = tt
     by (Some c) (Some cs) h k = λ i. all_grouped cs i && ((h i && any_text i) && k i)
 
-good-subscribe_numbers : (u items bytes beat channel : List ℕ) (channels : List (List ℕ)) → is_subscription u ≡ true → AllOf IsGoodLine (subscribe_numbers u items bytes beat (channel ∷ channels))
-good-subscribe_numbers u items bytes beat channel channels is_u =
-    all_of-then _ IsGoodLine _ (number_word 1 10000 items) (good-number 1 10000 items) (λ i is_i.
-    all_of-then _ IsGoodLine _ (number_word 8192 4194304 bytes) (good-number 8192 4194304 bytes) (λ b is_b.
-    all_of-then _ IsGoodLine _ (number_word 1 86400000 beat) (good-number 1 86400000 beat) (λ h is_h.
-    all_of-map _ IsGoodLine (λ cs. Subscribe u i b h (all_of cs)) (channel_words (channel ∷ channels)) (good-some_channels channel channels)
-    (λ cs are. (λ j. is_u j && (is_i j && is_b j && is_h j) && are j, tt)))))
+good-query_words : (kind : List ℕ) (words : List (List ℕ)) → AllOf (λ (list : QueryList). are_queries list.items ≡ true) (query_words kind words)
+good-query_words kind [] = tt
+good-query_words kind (word ∷ words) =
+    all_of-if _ (same kind (codes "all")) _ _
+    (all_of-map _ (λ (list : QueryList). are_queries list.items ≡ true) all_of (channel_words (word ∷ words)) (good-some_channels word words) (λ cs are. are))
+    (all_of-if _ (same kind (codes "query")) _ None (good-list_in (joined 32 word words)) tt)
+
+good-limit_words : (items bytes beat : List ℕ) → AllOf (λ limits. are_limits limits.0 limits.1 limits.2 ≡ true) (limit_words items bytes beat)
+good-limit_words items bytes beat =
+    all_of-then _ (λ limits. are_limits limits.0 limits.1 limits.2 ≡ true) _ (number_word 1 10000 items) (good-number 1 10000 items) (λ i is_i.
+    all_of-then _ (λ limits. are_limits limits.0 limits.1 limits.2 ≡ true) _ (number_word 8192 4194304 bytes) (good-number 8192 4194304 bytes) (λ b is_b.
+    all_of-map _ (λ limits. are_limits limits.0 limits.1 limits.2 ≡ true) (λ h. (i, b, h)) (number_word 1 86400000 beat) (good-number 1 86400000 beat)
+    (λ h is_h. λ j. is_i j && is_b j && is_h j)))
 
 good-subscribe_line : (words : List (List ℕ)) → AllOf IsGoodLine (subscribe_line words)
 good-subscribe_line [] = tt
@@ -80,10 +90,11 @@ good-subscribe_line (a ∷ []) = tt
 good-subscribe_line (a ∷ b ∷ []) = tt
 good-subscribe_line (a ∷ b ∷ c ∷ []) = tt
 good-subscribe_line (a ∷ b ∷ c ∷ d ∷ []) = tt
-good-subscribe_line (a ∷ b ∷ c ∷ d ∷ e ∷ []) = tt
-good-subscribe_line (sub ∷ items ∷ bytes ∷ beat ∷ kind ∷ channel ∷ channels) =
-    all_of-if IsGoodLine (same kind (codes "all")) _ None
-    (all_of-then _ IsGoodLine _ (subscription_word sub) (good-subscription sub) (λ u is_u. good-subscribe_numbers u items bytes beat channel channels is_u)) tt
+good-subscribe_line (sub ∷ items ∷ bytes ∷ beat ∷ kind ∷ words) =
+    all_of-then _ IsGoodLine _ (limit_words items bytes beat) (good-limit_words items bytes beat) (λ limits are_limits.
+    all_of-then _ IsGoodLine _ (subscription_word sub) (good-subscription sub) (λ u is_u.
+    all_of-map _ IsGoodLine (λ query. Subscribe u limits.0 limits.1 limits.2 query) (query_words kind words) (good-query_words kind words)
+    (λ query are. (λ j. is_u j && are_limits j && are j, tt))))
 
 good-end_line : (words : List (List ℕ)) → AllOf IsGoodLine (end_line words)
 good-end_line [] = tt
@@ -136,6 +147,17 @@ good-write_line (source ∷ channel ∷ id ∷ level ∷ word ∷ []) =
     all_of-then _ IsGoodLine _ (source_word source) (good-source source) (λ s is_s.
     all_of-map _ IsGoodLine (λ event. Write s event) (event_words channel id level word) (good-event_words channel id level word) (λ event fits. (λ i. is_s i && fits i, tt)))
 good-write_line (a ∷ b ∷ c ∷ d ∷ e ∷ f ∷ more) = tt
+
+good-xml_event_words : (word : List ℕ) (words : List (List ℕ)) → AllOf (λ event. may_be_written event ≡ true) (xml_event_words word words)
+good-xml_event_words word words =
+    all_of-then (λ _. Unit {0}) _ new_event_in (utf8 (joined 32 word words)) (any (utf8 (joined 32 word words))) (λ text _. good-new_event_in text)
+
+good-write_xml_line : (words : List (List ℕ)) → AllOf IsGoodLine (write_xml_line words)
+good-write_xml_line [] = tt
+good-write_xml_line (a ∷ []) = tt
+good-write_xml_line (source ∷ word ∷ words) =
+    all_of-then _ IsGoodLine _ (source_word source) (good-source source) (λ s is_s.
+    all_of-map _ IsGoodLine (λ event. WriteXml s event) (xml_event_words word words) (good-xml_event_words word words) (λ event may. (λ i. is_s i && may i, tt)))
 
 good-ask_line : (words : List (List ℕ)) → AllOf IsGoodLine (ask_line words)
 good-ask_line [] = tt
@@ -234,11 +256,12 @@ good-source_line_of : (kind : List ℕ) (words : List (List ℕ)) → AllOf IsGo
 good-source_line_of kind words =
     all_of-if IsGoodLine (same kind (codes "source")) _ _ (good-source_line words)
     (all_of-if IsGoodLine (same kind (codes "write")) _ _ (good-write_line words)
+    (all_of-if IsGoodLine (same kind (codes "writexml")) _ _ (good-write_xml_line words)
     (all_of-if IsGoodLine (same kind (codes "ask")) _ _ (good-ask_line words)
     (all_of-if IsGoodLine (same kind (codes "poll")) _ _ (good-poll_line words)
     (all_of-if IsGoodLine (same kind (codes "lost")) _ _ (good-lost_line words)
     (all_of-if IsGoodLine (same kind (codes "deliver")) _ _ (good-deliver_line words)
-    (all_of-if IsGoodLine (same kind (codes "back")) _ _ (good-back_line words) (good-failure_line_of kind words)))))))
+    (all_of-if IsGoodLine (same kind (codes "back")) _ _ (good-back_line words) (good-failure_line_of kind words))))))))
 
 good-other_line : (words : List (List ℕ)) → AllOf IsGoodLine (other_line words)
 good-other_line [] = tt

@@ -9,3 +9,5 @@ pub mod GoodLines
 pub mod GoodNames
 pub mod GoodNumbers
 pub mod GoodSchedules
+pub mod SaidEvents
+pub mod SaidLists

@@ -7,7 +7,6 @@
 -- Names and DATA are percent-decoded. DATA is all that follows the third colon, other colons too.
 use Rattle.std.specs.Prelude.{ℕ, ◌≤◌, ◌&&◌, Bool, true, false, List, [], ◌∷◌, ◌++◌, Option, Some, None, if◌then◌else◌, unwrap_or, codes}
 use Rattle.std.specs.FinMap as map
-use Rattle.std.specs.List.{flat_map}
 use Rattle.std.specs.Option.{option_and_then, option_map}
 use Rattle.wef_base.specs.Names.{same}
 use Rattle.wef_base.specs.Words.{parts, decoded}
@@ -17,20 +16,16 @@ use Rattle.wef_batch.specs.declared.items.Batch as batch
 use Rattle.wef_batch.specs.declared.items.Item.TheVariants as item
 use Rattle.wef_base.specs.Characters.{is_xml_text}
 use Rattle.wef_event.specs.PlainEvent.{plain_event}
-use Rattle.wef_replay.specs.Values.{channel_word, number_word}
+use Rattle.wef_replay.specs.Values.{channel_word, joined, number_word}
 use Rattle.wef_replay.specs.declared.batches.BatchWord.{BatchWord}
 use Rattle.wef_replay.specs.declared.batches.BatchWord.TheVariants.{Item, Reach, Ack}
-
--- a piece and those that follow it, each behind a colon
-abbrev pub colon_joined : List ℕ → List (List ℕ) → List ℕ
-colon_joined first more = first ++ flat_map (λ piece. 58 ∷ piece) more
 
 -- a text of which XML 1.0 allows each character
 abbrev pub if_xml_text : List ℕ → Option (List ℕ)
 if_xml_text text = if is_xml_text text then Some text else None
 
 abbrev pub data_word : List ℕ → List (List ℕ) → Option (List ℕ)
-data_word first more = option_and_then if_xml_text (decoded (colon_joined first more))
+data_word first more = option_and_then if_xml_text (decoded (joined 58 first more))
 
 abbrev pub event_word : List ℕ → List ℕ → List ℕ → List (List ℕ) → Option BatchWord
 event_word channel number first more =

@@ -6,6 +6,7 @@
 --                  the one that its text says (`PlainEvents` says what it is in the lines that a schedule gives)
 --     source       of a capacity from 1 to 1,000,000, not named `collector`, not declared yet and not named by a batch yet
 --     write        of a declared source, and the event's text fits with the greatest number
+--     writexml     of a declared source, and the event is the one that its text says
 --     ask, poll, lost    of a declared source
 --     deliver, back      of a number up to 2^63 - 1
 --     crash, fail, stop    of the collector, or of a declared source that isn't named `collector`
@@ -20,15 +21,16 @@ use Rattle.wef_base.specs.declared.numbers.TheConstants.{MAX}
 use Rattle.wef_batch.specs.declared.items.Batch as batch
 use Rattle.wef_batch.specs.declared.items.Item.{Item}
 use Rattle.wef_batch.specs.declared.items.Item.TheVariants as item
-use Rattle.wef_event.specs.Events.{is_event}
+use Rattle.wef_event.specs.Events.{Event, is_event}
 use Rattle.wef_event.specs.Unnumbered.{plain_numbered}
 use Rattle.wef_event.specs.declared.unnumbered.PlainEvent.{PlainEvent}
 use Rattle.wef_query.specs.Items.{QueryItem, says_path}
 use Rattle.wef_query.specs.Laws.{are_grouped}
+use Rattle.wef_replay.specs.Documents.{is_new_event}
 use Rattle.wef_replay.specs.declared.lines.EndName.{EndName}
 use Rattle.wef_replay.specs.declared.lines.EndName.TheVariants as end
 use Rattle.wef_replay.specs.declared.lines.Line.{Line}
-use Rattle.wef_replay.specs.declared.lines.Line.TheVariants.{Subscribe, End, Batch, Source, Write, Ask, Poll, Deliver, Back, Lost, Show, Print, Crash, Fail, Stop, Calm}
+use Rattle.wef_replay.specs.declared.lines.Line.TheVariants.{Subscribe, End, Batch, Source, Write, WriteXml, Ask, Poll, Deliver, Back, Lost, Show, Print, Crash, Fail, Stop, Calm}
 
 abbrev pub is_between : ℕ → ℕ → ℕ → Bool
 is_between least greatest number = nat_le least number && nat_le number greatest
@@ -100,6 +102,10 @@ is_end (end.Source s) = is_source s && is_no_collector s
 abbrev pub fits_always : PlainEvent → Bool
 fits_always event = is_channel event.channel && is_utf8 event.word && is_some (plain_numbered event MAX)
 
+-- an event that may be written, and has no number yet or one that doesn't count
+abbrev pub may_be_written : Event → Bool
+may_be_written event = is_channel event.channel && is_new_event event
+
 -- whether a line has values of the kinds that lines have
 abbrev pub is_line : Line → Bool
 is_line (Subscribe u items bytes beat query) = is_subscription u && are_limits items bytes beat && are_queries query.items
@@ -107,6 +113,7 @@ is_line (End u) = is_subscription u
 is_line (Batch u s b) = is_subscription u && is_source s && is_no_collector s && are_words b
 is_line (Source s capacity) = is_source s && is_no_collector s && is_between 1 1000000 capacity
 is_line (Write s event) = is_source s && fits_always event
+is_line (WriteXml s event) = is_source s && may_be_written event
 is_line (Ask s) = is_source s
 is_line (Poll s u) = is_source s && is_subscription u
 is_line (Deliver number seen) = is_count number
@@ -148,6 +155,7 @@ abbrev pub allows : Names → Line → Bool
 allows names (Batch u s b) = not (is_among names.declared s)
 allows names (Source s capacity) = not (is_among names.declared s) && not (is_among names.foreign s)
 allows names (Write s event) = is_among names.declared s
+allows names (WriteXml s event) = is_among names.declared s
 allows names (Ask s) = is_among names.declared s
 allows names (Poll s u) = is_among names.declared s
 allows names (Lost s u) = is_among names.declared s

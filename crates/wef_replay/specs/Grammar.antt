@@ -1,9 +1,11 @@
 -- The lines of a schedule. Words are parted by one space; capital letters stand for words:
 --     subscribe SUB ITEMS BYTES BEAT all CHANNEL ..    ITEMS from 1 to 10,000, BYTES from 8,192 to 4,194,304, BEAT from 1 to 86,400,000; one channel or more
+--     subscribe SUB ITEMS BYTES BEAT query LIST        LIST is a document that says a list of queries
 --     end SUB
 --     batch SUB SOURCE WORD ..                         one word of a batch or more; the source isn't named `collector`
 --     source SOURCE CAPACITY                           CAPACITY from 1 to 1,000,000; the source isn't named `collector`
 --     write SOURCE CHANNEL ID LEVEL DATA               ID and LEVEL below 2^32; DATA of XML Chars, which may be empty; the event has to fit with the greatest number
+--     writexml SOURCE EVENT                            EVENT is a document that says an event, with a number or without one
 --     ask SOURCE
 --     poll SOURCE SUB
 --     deliver NUMBER           deliver NUMBER seen
@@ -15,36 +17,47 @@
 --     fail END before          fail END after
 --     stop END before          stop END after
 --     calm
+-- LIST and EVENT are all that is left of their line, spaces too, and nothing in them is percent-decoded.
 -- An empty line and one that begins with `#` do nothing. A line that isn't UTF-8 is never good.
 use Rattle.std.specs.Prelude.{◌≡◌, refl, ℕ, ◌==◌, Bool, true, false, is_some, List, [], ◌∷◌, Option, Some, None, if◌then◌else◌, codes}
 use Rattle.std.specs.Option.{option_and_then, option_map}
 use Rattle.std.specs.Str.{is_utf8}
 use Rattle.wef_base.specs.Names.{same}
-use Rattle.wef_base.specs.Words.{parts, decoded}
+use Rattle.wef_base.specs.Words.{parts, decoded, utf8}
 use Rattle.wef_base.specs.Characters.{is_xml_text}
 use Rattle.wef_base.specs.declared.numbers.TheConstants.{MAX}
+use Rattle.wef_event.specs.Events.{Event}
 use Rattle.wef_event.specs.Unnumbered.{plain_numbered}
 use Rattle.wef_event.specs.declared.unnumbered.PlainEvent.{PlainEvent}
 use Rattle.wef_query.specs.declared.QueryList.{QueryList}
 use Rattle.wef_query.specs.Queries.{all_events_of}
 use Rattle.wef_replay.specs.BatchWords.{read_words, empty_batch}
-use Rattle.wef_replay.specs.Values.{subscription_word, source_word, channel_word, sending_source_word, end_word, after_word, number_word, channel_words}
+use Rattle.wef_replay.specs.Documents.{list_in, new_event_in}
+use Rattle.wef_replay.specs.Values.{subscription_word, source_word, channel_word, sending_source_word, end_word, after_word, joined, number_word, channel_words}
 use Rattle.wef_replay.specs.declared.lines.EndName.{EndName}
 use Rattle.wef_replay.specs.declared.lines.Line.{Line}
-use Rattle.wef_replay.specs.declared.lines.Line.TheVariants.{Subscribe, End, Batch, Source, Write, Ask, Poll, Deliver, Back, Lost, Show, Print, Crash, Fail, Stop, Calm}
+use Rattle.wef_replay.specs.declared.lines.Line.TheVariants.{Subscribe, End, Batch, Source, Write, WriteXml, Ask, Poll, Deliver, Back, Lost, Show, Print, Crash, Fail, Stop, Calm}
 
 -- the query list of `all` and channels
 abbrev pub all_of : List (List ℕ) → QueryList
 all_of channels = record { items = all_events_of channels }
 
-abbrev pub subscribe_numbers : List ℕ → List ℕ → List ℕ → List ℕ → List (List ℕ) → Option Line
-subscribe_numbers sub items bytes beat channels =
-    option_and_then (λ i. option_and_then (λ b. option_and_then (λ h. option_map (λ cs. Subscribe sub i b h (all_of cs))
-    (channel_words channels)) (number_word 1 86400000 beat)) (number_word 8192 4194304 bytes)) (number_word 1 10000 items)
+-- the query list of a word, `all` or `query`, and the words behind it
+abbrev pub query_words : List ℕ → List (List ℕ) → Option QueryList
+query_words kind [] = None
+query_words kind (word ∷ words) =
+    if same kind (codes "all") then option_map all_of (channel_words (word ∷ words))
+    else (if same kind (codes "query") then list_in (joined 32 word words) else None)
+
+-- the limits of a subscription: how many items and bytes a batch has, and the milliseconds of a heartbeat
+abbrev pub limit_words : List ℕ → List ℕ → List ℕ → Option (ℕ × ℕ × ℕ)
+limit_words items bytes beat =
+    option_and_then (λ i. option_and_then (λ b. option_map (λ h. (i, b, h)) (number_word 1 86400000 beat)) (number_word 8192 4194304 bytes)) (number_word 1 10000 items)
 
 abbrev pub subscribe_line : List (List ℕ) → Option Line
-subscribe_line (sub ∷ items ∷ bytes ∷ beat ∷ kind ∷ channel ∷ channels) =
-    if same kind (codes "all") then option_and_then (λ u. subscribe_numbers u items bytes beat (channel ∷ channels)) (subscription_word sub) else None
+subscribe_line (sub ∷ items ∷ bytes ∷ beat ∷ kind ∷ words) =
+    option_and_then (λ limits. option_and_then (λ u. option_map (λ query. Subscribe u limits.0 limits.1 limits.2 query)
+    (query_words kind words)) (subscription_word sub)) (limit_words items bytes beat)
 subscribe_line _ = None
 
 abbrev pub end_line : List (List ℕ) → Option Line
@@ -85,6 +98,14 @@ abbrev pub write_line : List (List ℕ) → Option Line
 write_line (source ∷ channel ∷ id ∷ level ∷ word ∷ []) =
     option_and_then (λ s. option_map (λ event. Write s event) (event_words channel id level word)) (source_word source)
 write_line _ = None
+
+-- the event that words say as one text, which is UTF-8
+abbrev pub xml_event_words : List ℕ → List (List ℕ) → Option Event
+xml_event_words word words = option_and_then new_event_in (utf8 (joined 32 word words))
+
+abbrev pub write_xml_line : List (List ℕ) → Option Line
+write_xml_line (source ∷ word ∷ words) = option_and_then (λ s. option_map (λ event. WriteXml s event) (xml_event_words word words)) (source_word source)
+write_xml_line _ = None
 
 abbrev pub ask_line : List (List ℕ) → Option Line
 ask_line (source ∷ []) = option_map (λ s. Ask s) (source_word source)
@@ -160,11 +181,12 @@ abbrev pub source_line_of : List ℕ → List (List ℕ) → Option Line
 source_line_of kind words =
     if same kind (codes "source") then source_line words
     else (if same kind (codes "write") then write_line words
+    else (if same kind (codes "writexml") then write_xml_line words
     else (if same kind (codes "ask") then ask_line words
     else (if same kind (codes "poll") then poll_line words
     else (if same kind (codes "lost") then lost_line words
     else (if same kind (codes "deliver") then deliver_line words
-    else (if same kind (codes "back") then back_line words else failure_line_of kind words))))))
+    else (if same kind (codes "back") then back_line words else failure_line_of kind words)))))))
 
 -- a line that is no batch, by its first word
 abbrev pub other_line : List (List ℕ) → Option Line

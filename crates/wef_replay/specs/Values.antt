@@ -1,5 +1,6 @@
 -- Words as values: names and texts are percent-decoded, numbers are digits without a leading zero.
-use Rattle.std.specs.Prelude.{ℕ, nat_le, Bool, true, false, List, [], ◌∷◌, Option, Some, None, if◌then◌else◌, codes}
+use Rattle.std.specs.Prelude.{ℕ, nat_le, Bool, true, false, List, [], ◌∷◌, ◌++◌, Option, Some, None, if◌then◌else◌, codes}
+use Rattle.std.specs.List.{flat_map}
 use Rattle.std.specs.Option.{option_and_then, option_map}
 use Rattle.wef_base.specs.Names.{channel_name, source_name, subscription_name, same}
 use Rattle.wef_base.specs.Numbers.{plain_number}
@@ -7,6 +8,10 @@ use Rattle.wef_base.specs.Words.{decoded}
 use Rattle.wef_replay.specs.Reading.{with_first}
 use Rattle.wef_replay.specs.declared.lines.EndName.{EndName}
 use Rattle.wef_replay.specs.declared.lines.EndName.TheVariants as end
+
+-- a word and those that follow it, each behind the byte that separates them: the text that they were cut from
+abbrev pub joined : ℕ → List ℕ → List (List ℕ) → List ℕ
+joined separator first more = first ++ flat_map (λ word. separator ∷ word) more
 
 abbrev pub subscription_word : List ℕ → Option (List ℕ)
 subscription_word word = option_and_then subscription_name (decoded word)

@@ -4,10 +4,10 @@ ghost use Rattle.std.specs.Prelude.{◌≡◌, [], is_some, IsTrue, IfOk, OnOk};
 ghost use Rattle.wef_base.specs.Characters.{is_xml_text};
 ghost use Rattle.wef_base.specs.Words.{parts};
 ghost use Rattle.wef_replay.specs.Reading.{Gives};
-ghost use Rattle.wef_replay.specs.BatchWords.{empty_batch, added, batch_word, IsWithin, colon_joined, data_word, event_word, dropped_word, long_word, loose_word, reach_word, word_of, read_words};
+ghost use Rattle.wef_replay.specs.BatchWords.{empty_batch, added, batch_word, IsWithin, data_word, event_word, dropped_word, long_word, loose_word, reach_word, word_of, read_words};
 
 use crate::cutting::Parts;
-use crate::values::{LineFault, channel_of, is_word, number_of, text_of};
+use crate::values::{LineFault, channel_of, is_word, joined, number_of, text_of};
 use std::alloc::{AllocError, Global};
 use wef_base::numbers::MAX;
 use wef_base::words::split;
@@ -184,22 +184,10 @@ fn data_of(alloc: Global, piece: &Bytes, more: &[Bytes]) -> Result<Text, LineFau
     ensures value { Gives result (data_word piece.now more.now) }
     ensures characters { IfOk result (λ text. IsTrue (is_xml_text text)) }
 {
-    let word = joined(alloc, piece, more)?;
+    let word = joined(alloc, b':', piece, more)?;
     let text = text_of(alloc, &word)?;
     if !is_xml_text(&text)? {
         return Err(LineFault::NotUnderstood);
     }
     Ok(text)
-}
-
-/// A piece and those that follow it, each behind a colon.
-fn joined(alloc: Global, first: &Bytes, more: &[Bytes]) -> Result<Bytes, AllocError>
-    ensures { IfOk result (λ whole. whole ≡ colon_joined first.now more.now) }
-{
-    let mut whole = Bytes::from_slice(alloc, first.as_slice())?;
-    for piece in more {
-        whole.push(b':')?;
-        whole.extend(piece.as_slice())?;
-    }
-    Ok(whole)
 }

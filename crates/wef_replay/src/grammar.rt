@@ -1,23 +1,27 @@
 //! The lines of a schedule, read word by word.
 
+ghost use Rattle.std.specs.Option.{option_map};
 ghost use Rattle.std.specs.Prelude.{◌≡◌};
 ghost use Rattle.wef_base.specs.Words.{parts};
-ghost use Rattle.wef_replay.specs.Grammar.{ask_line, back_line, batch_line, batch_of_source, calm_line, commit_words, crash_line, deliver_line, does_nothing, end_line, event_words, fail_line, failure_line_of, fitting_event, line_of_words, lost_line, meaning, message_words, other_line, pair_words, poll_line, print_line, seen_words, show_line, source_line, source_line_of, stop_line, subscribe_line, subscribe_numbers, write_line};
+ghost use Rattle.wef_replay.specs.Grammar.{all_of, ask_line, back_line, batch_line, batch_of_source, calm_line, commit_words, crash_line, deliver_line, does_nothing, end_line, event_words, fail_line, failure_line_of, fitting_event, limit_words, line_of_words, lost_line, meaning, message_words, other_line, pair_words, poll_line, print_line, query_words, seen_words, show_line, source_line, source_line_of, stop_line, subscribe_line, write_line, write_xml_line, xml_event_words};
+ghost use Rattle.wef_replay.specs.Documents.{list_in};
 ghost use Rattle.wef_replay.specs.Parts.{parts_behind};
 ghost use Rattle.wef_replay.specs.Reading.{Gives};
+ghost use Rattle.wef_replay.specs.Values.{channel_words, joined};
 
 use crate::cutting::cut;
+use crate::documents::{list_in, new_event_in};
 use crate::lines::{EndName, Line};
 use crate::spelled::SpelledBatch;
 use crate::values::{
-    LineFault, after_of, channel_of, channels_of, end_of, is_word, number_of, sending_source_of,
-    source_of, subscription_of, text_of,
+    LineFault, after_of, channel_of, channels_of, end_of, is_word, joined, number_of,
+    sending_source_of, source_of, subscription_of, text_of, utf8_text_of,
 };
 use std::alloc::Global;
 use wef_base::numbers::MAX;
 use wef_base::words::{is_text, split};
 use wef_base::{Bytes, ChannelName, SourceName, SubId, Text, is_xml_text};
-use wef_event::PlainEvent;
+use wef_event::{Event, PlainEvent};
 use wef_query::QueryList;
 
 /// What a line does, if anything.
@@ -78,6 +82,9 @@ fn source_line_of(alloc: Global, kind: &Bytes, words: &[Bytes]) -> Result<Line, 
     if is_word(kind, "write") {
         return write_of(alloc, words);
     }
+    if is_word(kind, "writexml") {
+        return write_xml_of(alloc, words);
+    }
     if is_word(kind, "ask") {
         return ask_of(alloc, words);
     }
@@ -119,36 +126,62 @@ fn subscribe_of(alloc: Global, words: &[Bytes]) -> Result<Line, LineFault>
     ensures { Gives result (subscribe_line words.now) }
 {
     match words {
-        [sub, items, bytes, beat, kind, _, ..] if is_word(kind, "all") => {
+        [sub, items, bytes, beat, kind, words @ ..] => {
+            let (items, bytes, beat) = limits_of(items, bytes, beat)?;
             let sub = subscription_of(alloc, sub)?;
-            subscribe_numbers_of(alloc, sub, items, bytes, beat, &words[5..])
+            let query = query_of(alloc, kind, words)?;
+            Ok(Line::Subscribe {
+                sub,
+                items,
+                bytes,
+                beat,
+                query,
+            })
         }
         _ => Err(LineFault::NotUnderstood),
     }
 }
 
-fn subscribe_numbers_of(
-    alloc: Global,
-    sub: SubId,
-    items: &Bytes,
-    bytes: &Bytes,
-    beat: &Bytes,
-    channels: &[Bytes],
-) -> Result<Line, LineFault>
-    ensures { Gives result (subscribe_numbers sub items.now bytes.now beat.now channels.now) }
+/// The limits of a subscription: items and bytes of a batch, and the milliseconds of a heartbeat.
+fn limits_of(items: &Bytes, bytes: &Bytes, beat: &Bytes) -> Result<(u32, u32, u64), LineFault>
+    ensures { Gives result (limit_words items.now bytes.now beat.now) }
 {
     let items = number_of(items, 1, 10_000)? as u32;
     let bytes = number_of(bytes, 8_192, 4_194_304)? as u32;
     let beat = number_of(beat, 1, 86_400_000)?;
+    Ok((items, bytes, beat))
+}
+
+/// The queries of a subscription, by the word that says how they are given, and the words behind it.
+fn query_of(alloc: Global, kind: &Bytes, words: &[Bytes]) -> Result<QueryList, LineFault>
+    ensures { Gives result (query_words kind.now words.now) }
+{
+    let [word, more @ ..] = words else {
+        return Err(LineFault::NotUnderstood);
+    };
+    if is_word(kind, "all") {
+        return all_of(alloc, words);
+    }
+    if is_word(kind, "query") {
+        return list_of(alloc, word, more);
+    }
+    Err(LineFault::NotUnderstood)
+}
+
+/// The queries for all events of the channels that words name.
+fn all_of(alloc: Global, channels: &[Bytes]) -> Result<QueryList, LineFault>
+    ensures { Gives result (option_map all_of (channel_words channels.now)) }
+{
     let channels = channels_of(alloc, channels)?;
-    let query = QueryList::all(alloc, channels)?;
-    Ok(Line::Subscribe {
-        sub,
-        items,
-        bytes,
-        beat,
-        query,
-    })
+    Ok(QueryList::all(alloc, channels)?)
+}
+
+/// The list of queries that words say as one text.
+fn list_of(alloc: Global, word: &Bytes, words: &[Bytes]) -> Result<QueryList, LineFault>
+    ensures { Gives result (list_in (joined 32 word.now words.now)) }
+{
+    let text = joined(alloc, b' ', word, words)?;
+    list_in(alloc, text.as_slice())?.ok_or(LineFault::NotUnderstood)
 }
 
 fn ended_of(alloc: Global, words: &[Bytes]) -> Result<Line, LineFault>
@@ -258,6 +291,28 @@ fn fitting_event(
         return Err(LineFault::NotUnderstood);
     }
     Ok(event)
+}
+
+fn write_xml_of(alloc: Global, words: &[Bytes]) -> Result<Line, LineFault>
+    ensures { Gives result (write_xml_line words.now) }
+{
+    match words {
+        [source, word, words @ ..] => {
+            let source = source_of(alloc, source)?;
+            let event = xml_event_of(alloc, word, words)?;
+            Ok(Line::WriteXml { source, event })
+        }
+        _ => Err(LineFault::NotUnderstood),
+    }
+}
+
+/// The event that words say as one text.
+fn xml_event_of(alloc: Global, word: &Bytes, words: &[Bytes]) -> Result<Event, LineFault>
+    ensures { Gives result (xml_event_words word.now words.now) }
+{
+    let bytes = joined(alloc, b' ', word, words)?;
+    let text = utf8_text_of(alloc, bytes.as_slice())?;
+    new_event_in(&text)
 }
 
 fn ask_of(alloc: Global, words: &[Bytes]) -> Result<Line, LineFault>

@@ -4,12 +4,13 @@ ghost use Rattle.std.specs.Prelude.{◌≡◌, ◌&&◌};
 ghost use Rattle.std.specs.List.{list_all};
 ghost use Rattle.std.specs.Str.{is_utf8};
 ghost use Rattle.wef_base.specs.Characters.{is_xml_text};
-ghost use Rattle.wef_replay.specs.Good.{are_limits, are_queries, fits_always, is_between, is_channel, is_count, is_end, is_line, is_no_collector, is_query, is_source, is_subscription};
+ghost use Rattle.wef_replay.specs.Documents.{is_new_event};
+ghost use Rattle.wef_replay.specs.Good.{are_limits, are_queries, fits_always, may_be_written, is_between, is_channel, is_count, is_end, is_line, is_no_collector, is_query, is_source, is_subscription};
 
 use crate::lines::{EndName, Line};
 use wef_base::numbers::MAX;
 use wef_base::{ChannelName, SourceName, SubId, Text, is_xml_char};
-use wef_event::PlainEvent;
+use wef_event::{Event, PlainEvent};
 use wef_query::{QueryItem, QueryList};
 
 /// Whether the values of a line are within the limits of a schedule, wherever the line stands. It
@@ -33,6 +34,7 @@ pub fn is_line(line: &Line) -> bool
             is_source(source) && is_no_collector(source) && is_between(1, 1_000_000, *capacity)
         }
         Line::Write { source, event } => is_source(source) && fits_always(event),
+        Line::WriteXml { source, event } => is_source(source) && may_be_written(event),
         Line::Ask { source } => is_source(source),
         Line::Poll { source, sub } => is_source(source) && is_subscription(sub),
         Line::Deliver { number, .. } => is_count(*number),
@@ -143,6 +145,21 @@ fn fits_always(event: &PlainEvent) -> bool
     ensures { result ≡ fits_always event.now }
 {
     is_channel(&event.channel) && is_text(&event.word) && event.fits(MAX)
+}
+
+/// Whether it is an event of a channel's name.
+fn may_be_written(event: &Event) -> bool
+    ensures { result ≡ may_be_written event.now }
+{
+    is_channel(&event.channel) && is_new_event(event)
+}
+
+/// Whether it is the event that its text says, which its type promises.
+fn is_new_event(event: &Event) -> bool
+    ensures { result ≡ is_new_event event.now }
+{
+    let _kept = &event.text;
+    true
 }
 
 /// Whether it is UTF-8, which its type promises.

@@ -3,6 +3,7 @@
 
 mod batches;
 mod cutting;
+mod documents;
 mod grammar;
 mod judging_lines;
 pub mod laws;
@@ -12,6 +13,7 @@ mod schedule;
 mod spelled;
 mod values;
 
+pub use documents::{list_in, tree_in};
 pub use judging_lines::is_line;
 pub use lines::{EndName, Line};
 pub use schedule::{SCHEDULE_LIMIT, ScheduleFault, read_schedule};

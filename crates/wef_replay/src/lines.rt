@@ -2,7 +2,7 @@
 
 use crate::spelled::SpelledBatch;
 use wef_base::{ChannelName, SourceName, SubId};
-use wef_event::PlainEvent;
+use wef_event::{Event, PlainEvent};
 use wef_query::QueryList;
 
 /// One of the two kinds of ends.
@@ -49,6 +49,13 @@ pub enum Line {
     Write {
         source: SourceName,
         event: PlainEvent,
+    },
+
+    /// Writes an event into a source's log, which gives it a number in place of the one that it may
+    /// have.
+    WriteXml {
+        source: SourceName,
+        event: Event,
     },
 
     /// Lets a source ask the collector for its subscriptions.
@@ -132,6 +139,10 @@ impl Drop for Line {
                 capacity: _,
             } => {}
             Line::Write {
+                source: _,
+                event: _,
+            } => {}
+            Line::WriteXml {
                 source: _,
                 event: _,
             } => {}

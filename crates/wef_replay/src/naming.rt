@@ -51,6 +51,7 @@ impl NamedSources {
             Line::Batch { source, .. } => !self.has_declared(source),
             Line::Source { source, .. } => !self.has_declared(source) && !self.has_foreign(source),
             Line::Write { source, .. } => self.has_declared(source),
+            Line::WriteXml { source, .. } => self.has_declared(source),
             Line::Ask { source } => self.has_declared(source),
             Line::Poll { source, .. } => self.has_declared(source),
             Line::Lost { source, .. } => self.has_declared(source),

@@ -2,10 +2,10 @@
 
 ghost use Rattle.std.specs.Prelude.{◌≡◌, ◌<◌, ◌≤◌, IfOk};
 ghost use Rattle.wef_base.specs.Names.{same};
-ghost use Rattle.wef_base.specs.Words.{decoded};
+ghost use Rattle.wef_base.specs.Words.{decoded, utf8};
 ghost use Rattle.wef_base.specs.declared.numbers.TheConstants.{MAX};
 ghost use Rattle.wef_replay.specs.Reading.{Gives};
-ghost use Rattle.wef_replay.specs.Values.{subscription_word, source_word, channel_word, sending_source_word, end_word, after_word, number_word, channel_words};
+ghost use Rattle.wef_replay.specs.Values.{subscription_word, source_word, channel_word, sending_source_word, end_word, after_word, joined, number_word, channel_words};
 
 use crate::lines::EndName;
 use std::alloc::{AllocError, Global};
@@ -71,11 +71,38 @@ pub fn is_word(word: &Bytes, text: &str) -> bool
     word.as_slice() == text.as_bytes()
 }
 
+/// A word and those that follow it, each behind the byte that separates them.
+pub fn joined(
+    alloc: Global,
+    separator: u8,
+    first: &Bytes,
+    more: &[Bytes],
+) -> Result<Bytes, AllocError>
+    ensures { IfOk result (λ whole. whole ≡ joined separator first.now more.now) }
+{
+    let mut whole = Bytes::from_slice(alloc, first.as_slice())?;
+    for word in more {
+        whole.push(separator)?;
+        whole.extend(word.as_slice())?;
+    }
+    Ok(whole)
+}
+
 /// The text that a word stands for, percent-decoded.
 pub fn text_of(alloc: Global, word: &Bytes) -> Result<Text, LineFault>
     ensures { Gives result (decoded word.now) }
 {
     decode(alloc, word.as_slice())?.ok_or(LineFault::NotUnderstood)
+}
+
+/// The text that bytes are in UTF-8.
+pub fn utf8_text_of(alloc: Global, bytes: &[u8]) -> Result<Text, LineFault>
+    ensures { Gives result (utf8 bytes.now) }
+{
+    match std::str::from_utf8(bytes) {
+        Ok(text) => Ok(Text::from_str(alloc, text)?),
+        Err(_) => Err(LineFault::NotUnderstood),
+    }
 }
 
 /// The subscription's name that a word gives, percent-decoded.

@@ -60,7 +60,7 @@ impl Ends {
     }
 
     /// Lets a source write an event.
-    fn write(&mut self, source: &SourceName, event: &Event) -> Result<Text, WorldFault>
+    pub(crate) fn write(&mut self, source: &SourceName, event: &Event) -> Result<Text, WorldFault>
         requires kept { IsKept self.old }
         ensures state { OnOk result (self.new ≡ steps.write_step self.old source.now event.now) }
         ensures printed { IfOk result (λ text. text ≡ steps.write_printed self.old source.now event.now) }

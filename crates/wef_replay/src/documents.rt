@@ -1,0 +1,53 @@
+//! Documents that stand in lines.
+
+ghost use Rattle.std.specs.Prelude.{◌≡◌, IfOk, IfSome};
+ghost use Rattle.wef_base.specs.declared.tree.Charset.TheVariants.{Utf8};
+ghost use Rattle.wef_replay.specs.Documents as documents;
+ghost use Rattle.wef_replay.specs.Reading.{Gives};
+ghost use Rattle.wef_tree_reading.specs.Documents.{tree_of};
+ghost use Rattle.wef_xml.specs.Good.{IsGoodTree};
+
+use crate::values::LineFault;
+use std::alloc::{AllocError, Global};
+use wef_base::{Charset, Element, Text};
+use wef_event::{Event, read_new_event};
+use wef_query::{QueryFault, QueryList, read_query};
+use wef_tree_reading::read_tree;
+use wef_xml::TreeFault;
+
+/// The root of the document that a text is; none where it is none.
+pub fn tree_in(alloc: Global, text: &[u8]) -> Result<Option<Element>, AllocError>
+    ensures tree { IfOk result (λ root. root ≡ tree_of Utf8 text.now) }
+    ensures good { IfOk result (λ root. IfSome root IsGoodTree) }
+{
+    match read_tree(alloc, text, Charset::Utf8) {
+        Ok(root) => Ok(Some(root)),
+        Err(TreeFault::NoMemory) => Err(AllocError),
+        Err(_) => Ok(None),
+    }
+}
+
+/// The list of queries that a text says; none where it says none.
+#[tactic(auto, unfolding(crate::specs::Documents::list_in))]
+pub fn list_in(alloc: Global, text: &[u8]) -> Result<Option<QueryList>, AllocError>
+    ensures { IfOk result (λ list. list ≡ documents.list_in text.now) }
+{
+    let Some(root) = tree_in(alloc, text)? else {
+        return Ok(None);
+    };
+    match read_query(&root) {
+        Ok(list) => Ok(Some(list)),
+        Err(QueryFault::NoMemory) => Err(AllocError),
+        Err(_) => Ok(None),
+    }
+}
+
+/// The event that a text says, with a number or without one.
+pub(crate) fn new_event_in(text: &Text) -> Result<Event, LineFault>
+    ensures { Gives result (documents.new_event_in text.now) }
+{
+    match read_new_event(text) {
+        Ok(event) => Ok(event),
+        Err(fault) => Err(LineFault::from(fault)),
+    }
+}
