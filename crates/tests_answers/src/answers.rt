@@ -1,7 +1,7 @@
 //! Answers to requests, written out.
 
-use crate::collectors::{Kept, collector_of, host, push_left};
 use std::alloc::{AllocError, Global};
+use tests_collectors::collectors::{Kept, collector_of, host, push_left};
 use tests_tasks::deliveries::edited;
 use tests_tasks::escapes::unescaped;
 use wef_base::{Bytes, Charset, Element, Moment, Text};

@@ -1,8 +1,8 @@
 //! The answers to each front of a request, in runs of the same.
 
 use crate::answers::{asked, base_path, push_said};
-use crate::collectors::{Kept, collector_of, first_rows, push_changed};
 use std::alloc::{AllocError, Global};
+use tests_collectors::collectors::{Kept, collector_of, first_rows, push_changed};
 use wef_base::{Bytes, Charset, Text};
 use wef_front::Answer;
 use wef_keeper::Row;

@@ -8,7 +8,6 @@
 #![tactic(auto)]
 
 mod answers;
-mod collectors;
 mod cuts;
 mod enumerates;
 mod offered;

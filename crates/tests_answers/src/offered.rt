@@ -1,13 +1,13 @@
 //! What a source makes of offers, written out.
 
 use crate::answers::{asked, push_bytes};
-use crate::collectors::{Kept, collector_of, host};
 use crate::replies::push_read;
-use crate::sources::{ask, push_hears, push_next, written};
+use crate::sources::{ask, push_hears, push_next, wish, written};
 use std::alloc::AllocError;
+use tests_collectors::collectors::{Kept, collector_of};
 use tests_tasks::deliveries::edited_from;
 use wef_base::{Bytes, Charset, Moment, Text};
-use wef_front::{Target, source_hears, write_enumerate};
+use wef_front::{Target, source_hears};
 use wef_keeper::MemKeeper;
 use wef_source::SourceEnd;
 
@@ -73,10 +73,4 @@ pub(crate) fn push_asked(shown: &mut Text) -> Result<(), AllocError> {
     push_bytes(shown, &answer)?;
     shown.push_str("\n    ")?;
     push_made(shown, &mut source, &answer.body)
-}
-
-fn wish(source: &mut SourceEnd<MemKeeper>) -> Result<Bytes, AllocError> {
-    let id = ask(source)?;
-    let alloc = id.text.alloc();
-    write_enumerate(alloc, &host(alloc)?, source.name(), &id)
 }

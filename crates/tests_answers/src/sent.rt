@@ -1,8 +1,8 @@
 //! A delivery of a source, written out, and what a collector makes of it.
 
 use crate::answers::{asked, base_path, push_said};
-use crate::collectors::{Kept, collector_of, push_left};
 use std::alloc::{AllocError, Global};
+use tests_collectors::collectors::{Kept, collector_of, push_left};
 use wef_base::{Bytes, Charset, List, Text};
 use wef_batch::{Batch, Item};
 use wef_bookmark::Bookmark;

@@ -3,11 +3,12 @@
 ghost use Rattle.std.specs.Prelude.{IfOk};
 ghost use Rattle.wef_xml.specs.Good.{IsXmlText};
 
-use crate::collectors::{Kept, base, collector_of, host};
+use crate::answers::asked;
 use std::alloc::{AllocError, Global};
-use wef_base::{Moment, SourceName, Text};
+use tests_collectors::collectors::{Kept, base, collector_of, host};
+use wef_base::{Bytes, Charset, Moment, SourceName, Text};
 use wef_event::read_new_event;
-use wef_front::Hears;
+use wef_front::{Hears, Target, source_hears, write_enumerate};
 use wef_ids::MessageId;
 use wef_keeper::MemKeeper;
 use wef_source::{Poll, SourceEnd};
@@ -62,14 +63,24 @@ pub(crate) fn waiting(alloc: Global) -> Result<SourceEnd<MemKeeper>, AllocError>
 /// Asks a collector, and takes its offer.
 fn adopt(alloc: Global, source: &mut SourceEnd<MemKeeper>) -> Result<(), AllocError> {
     let mut collector = collector_of(alloc, Kept::Live)?;
-    let Ok(offers) = collector.offers(source.name(), &host(alloc)?) else {
-        return Err(AllocError);
-    };
+    let wish = wish(source)?;
+    let answer = asked(
+        alloc,
+        &mut collector,
+        &Target::Manager,
+        Charset::Utf8,
+        &wish,
+        0,
+    )?;
+    source_hears(alloc, source, &answer.body, Moment::first())?;
+    Ok(())
+}
+
+/// The bytes in which a source asks for its subscriptions, under its next id.
+pub(crate) fn wish(source: &mut SourceEnd<MemKeeper>) -> Result<Bytes, AllocError> {
     let id = ask(source)?;
-    match source.adopt(&id, &offers, Moment::first()) {
-        Ok(_) => Ok(()),
-        Err(_) => Err(AllocError),
-    }
+    let alloc = id.text.alloc();
+    write_enumerate(alloc, &host(alloc)?, source.name(), &id)
 }
 
 /// What a source made of a reply.

@@ -1,7 +1,6 @@
 //! What is done with a line.
 
 use crate::answers::{base_path, path_to, push_at_path, push_edited, push_sequence, push_whole};
-use crate::collectors::{Kept, collector_of};
 use crate::cuts::push_cuts;
 use crate::enumerates::{
     push_enumerated, push_enumerated_behind, push_enumerated_in_utf16, push_enumerated_whole,
@@ -11,6 +10,7 @@ use crate::replies::push_heard;
 use crate::sent::push_sent;
 use crate::utf16::{push_spelt, push_spelt_bytes};
 use std::alloc::AllocError;
+use tests_collectors::collectors::{Kept, collector_of};
 use tests_tasks::Tasks;
 use tests_tasks::deliveries::edited;
 use wef_base::Text;

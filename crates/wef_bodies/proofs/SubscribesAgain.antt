@@ -21,7 +21,7 @@ use Rattle.wef_elements.proofs.DigitsRead.{decimal_parts}
 use Rattle.wef_envelope.specs.Envelopes.{address_in}
 use Rattle.wef_envelope.specs.Laws.{IsTrimmed}
 use Rattle.wef_envelope.specs.Spaces.{addressing, eventing}
-use Rattle.wef_eventing.specs.Addresses.{is_printed, subscription_in}
+use Rattle.wef_eventing.specs.Addresses.{has_path, has_segments, is_address, is_delivery, is_printed, scheme, subscription_in}
 use Rattle.wef_eventing.specs.declared.offers.Subscribe.{Subscribe}
 use Rattle.wef_eventing.proofs.AddressTexts.{printed_text}
 use Rattle.wef_query.specs.Laws.{IsWritable}
@@ -34,7 +34,7 @@ use Rattle.wef_times.specs.Expiry.{expiry_in, expiry_of, until}
 use Rattle.wef_times.specs.Instants.{instant_in}
 use Rattle.wef_times.specs.declared.durations.TheConstants.{LIMIT}
 use Rattle.wef_times.proofs.DurationTexts.{reads_back}
-use Rattle.wef_bodies.specs.Addresses.{end_in, has_path, has_segments, identifier_among, identifier_in, is_address, is_delivery, passing, scheme, target_in}
+use Rattle.wef_bodies.specs.Addresses.{end_in, identifier_among, identifier_in, passing, target_in}
 use Rattle.wef_bodies.specs.Laws.{IsAddress, IsPlainSubscribe, IsWithin}
 use Rattle.wef_bodies.specs.Limits.{count_in, duration_near, heartbeats_in, nearest, number_near}
 use Rattle.wef_bodies.specs.Spaces.{batches, event_query}

@@ -7,6 +7,7 @@ use Rattle.wef_bookmark.specs.Entries.{AreEntries}
 use Rattle.wef_bookmark.specs.Nodes.{AreTexts}
 use Rattle.wef_envelope.specs.Laws.{IsSpelt, IsTrimmed}
 use Rattle.wef_envelope.specs.declared.envelopes.Envelope.{Envelope}
+use Rattle.wef_eventing.specs.Addresses.{is_address, is_delivery}
 use Rattle.wef_eventing.specs.Kept.{HasKeptName}
 use Rattle.wef_eventing.specs.Sending.{CanBeOffered, HasXmlTexts}
 use Rattle.wef_eventing.specs.declared.offers.Offer.{Offer}
@@ -15,7 +16,6 @@ use Rattle.wef_ids.specs.declared.MessageId.{MessageId}
 use Rattle.wef_query.specs.Laws.{IsWritable}
 use Rattle.wef_times.specs.declared.durations.TheConstants.{LIMIT}
 use Rattle.wef_xml.specs.Good.{IsGoodElement, IsXmlText}
-use Rattle.wef_bodies.specs.Addresses.{is_address, is_delivery}
 use Rattle.wef_bodies.specs.Offers.{offers_in}
 use Rattle.wef_bodies.specs.Reading.{body_in}
 use Rattle.wef_bodies.specs.Spaces.{enumerate, enumerate_response, subscribe}

@@ -1,11 +1,11 @@
 -- The addresses that batches go to: `http://HOST/wsman/subscriptions/U/S`, the subscription and the source
 -- percent-encoded (RFC 3986, section 2.1).
-use Rattle.std.specs.Prelude.{◌≡◌, ℕ, ◌<◌, ◌==◌, nat_le, Bool, true, ◌&&◌, ◌||◌, List, [], ◌∷◌, ◌++◌, length, Option, Some, None, codes, if◌then◌else◌}
-use Rattle.std.specs.List.{flat_map, list_all}
+use Rattle.std.specs.Prelude.{◌≡◌, ℕ, ◌<◌, ◌==◌, nat_le, Bool, true, false, ◌&&◌, ◌||◌, not, List, [], ◌∷◌, ◌++◌, length, take, drop, is_some, Option, Some, None, codes, if◌then◌else◌}
+use Rattle.std.specs.List.{flat_map, list_all, list_any}
 use Rattle.std.specs.Option.{option_and_then}
 use Rattle.std.specs.Str.{IsUtf8}
 use Rattle.percent_encoding.specs.Percent.{percent_encode_byte}
-use Rattle.wef_base.specs.Names.{source_name, subscription_name}
+use Rattle.wef_base.specs.Names.{same, source_name, subscription_name}
 use Rattle.wef_base.specs.Words.{decoded, parts}
 
 -- a character that is printed: one of ASCII, and no space
@@ -15,6 +15,21 @@ is_printed c = nat_le 33 c && nat_le c 126
 -- a host as an address names it: one printed character or more
 abbrev pub IsHost : List ℕ → Type 0
 IsHost host = (0 < length host) × (list_all is_printed host ≡ true)
+
+abbrev pub is_slash : ℕ → Bool
+is_slash c = c == 47
+
+-- an authority that isn't empty, and a path, which begins with a slash
+abbrev pub has_path : List ℕ → Bool
+has_path [] = false
+has_path (c ∷ cs) = not (is_slash c) && list_any is_slash cs
+
+unfoldable pub scheme : List ℕ
+scheme = codes "http://"
+
+-- whether a text is an address of HTTP: the scheme, an authority and a path (RFC 3986, section 3)
+abbrev pub is_address : List ℕ → Bool
+is_address text = same (take (length scheme) text) scheme && has_path (drop (length scheme) text) && list_all is_printed text
 
 -- a byte that stands for itself: a letter or digit of ASCII, or one of - . _ ~
 abbrev pub is_unreserved : ℕ → Bool
@@ -53,6 +68,19 @@ subscription_in address = option_and_then subscription_name (option_and_then dec
 -- the source that an address leads to: its last segment, where that is a source's name
 unfoldable pub source_in : List ℕ → Option (List ℕ)
 source_in address = option_and_then source_name (option_and_then decoded (last_piece (parts 47 address)))
+
+-- what stands behind the first slash
+abbrev pub behind_slash : List ℕ → List ℕ
+behind_slash [] = []
+behind_slash (c ∷ cs) = if is_slash c then cs else behind_slash cs
+
+-- whether the path of an address has a segment before its last, so more than the slash that it begins with
+abbrev pub has_segments : List ℕ → Bool
+has_segments text = list_any is_slash (behind_slash (drop (length scheme) text))
+
+-- whether an address leads to a subscription, which the segment before its last names
+abbrev pub is_delivery : List ℕ → Bool
+is_delivery text = is_address text && has_segments text && is_some (subscription_in text)
 
 -- An address that is written leads to the subscription and the source that it was written for.
 abbrev pub AddressesReadBack : Type 0

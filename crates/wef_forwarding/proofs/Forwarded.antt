@@ -1,20 +1,18 @@
 -- A delivery that a poll gave and that was exchanged, as forwarding answers it.
-use Rattle.std.proofs.Common.{◌≡◌, ℕ, Bool, true, false, cond, List, [], ◌∷◌, refl, sym, subst}
-use Rattle.std.specs.Prelude.{Option, Some, None, Result, Ok, Err, IfSome}
+use Rattle.std.proofs.Common.{◌≡◌, ℕ, false, List, refl}
+use Rattle.std.specs.Prelude.{Option, Some, None, Result, Ok, Err}
 use Rattle.wef_keeper.specs.Calls.{fails}
 use Rattle.wef_keeper.specs.Rows.{Rows}
 use Rattle.wef_ports.specs.Telling.{Told}
 use Rattle.wef_source.specs.Faults.{source_store}
-use Rattle.wef_source.specs.Machine.{End, lost_in}
-use Rattle.wef_source.specs.Sessions.{first_where, is_named, settled, with_changed}
+use Rattle.wef_source.specs.Machine.{End}
 use Rattle.wef_source.specs.declared.faults.SourceFault.{SourceFault}
 use Rattle.wef_source.specs.declared.messages.Delivery.{Delivery}
 use Rattle.wef_source.specs.declared.messages.Poll.TheVariants.{Send}
 use Rattle.wef_source.specs.declared.messages.Reply.{Reply}
 use Rattle.wef_source.specs.declared.messages.Reply.TheVariants as replies
-use Rattle.wef_source.specs.declared.sessions.Session.{Session}
-use Rattle.wef_forwarding.specs.Exchanges.{Exchanged}
-use Rattle.wef_forwarding.specs.Forwarding.{AwaitsNothing, Delivers, Ends, Forwards, IsDelivered, Polled, Settles, outcome_of, refusal_of}
+use Rattle.wef_forwarding.specs.Exchanges.{Replied}
+use Rattle.wef_forwarding.specs.Forwarding.{Delivers, Ends, Forwards, IsDelivered, Polled, outcome_of, refusal_of}
 use Rattle.wef_forwarding.specs.declared.exchanges.FrontFault.{FrontFault}
 use Rattle.wef_forwarding.specs.declared.exchanges.FrontFault.TheVariants.{NoMemory, LinkFailed, Source}
 use Rattle.wef_forwarding.specs.declared.forwarding.Exchange.{Exchange}
@@ -32,7 +30,7 @@ never_nothing d u (Err fault) mid end ends = let e = ends.0 in cc
 
 -- and no source refuses it
 never_source : (d : Delivery) (u : List ℕ) (answer : Result (Option Reply) FrontFault) (before after : Told) (mid end : End) (fault : SourceFault)
-    → Exchanged d answer before after → Ends d u answer mid end (Err (Source fault)) → ⊥
+    → Replied d answer before after → Ends d u answer mid end (Err (Source fault)) → ⊥
 never_source d u (Ok answer) before after mid end fault exchanged ends = let e = ends.0 in cc
 never_source d u (Err NoMemory) before after mid end fault exchanged ends = let e = ends.0 in cc
 never_source d u (Err LinkFailed) before after mid end fault exchanged ends = let e = ends.0 in cc
@@ -54,43 +52,3 @@ delivered_unread d u before after mid end (Ok outcome) delivered = refl
 delivered_unread d u before after mid end (Err NoMemory) delivered = refl
 delivered_unread d u before after mid end (Err LinkFailed) delivered = refl
 delivered_unread d u before after mid end (Err (Source fault)) delivered = absurd (never_source d u delivered.answer before after mid end fault delivered.exchanged delivered.ends)
-
--- ---- what is awaited
-
--- the session of a name that gave up awaits nothing
-gave_up : (u : List ℕ) (ss : List Session) → IfSome (first_where (is_named u) (with_changed (is_named u) settled ss)) (λ session. session.outstanding ≡ None)
-gave_up u [] = tt
-gave_up u (s ∷ ss) = by (is_named u s) refl (gave_up u ss)
-  where
-    Holds : Option Session → Type 0
-    Holds found = IfSome found (λ session. session.outstanding ≡ None)
-
-    by : (b : Bool) → is_named u s ≡ b → Holds (first_where (is_named u) (with_changed (is_named u) settled ss)) → Holds (first_where (is_named u) (cond (is_named u s) (settled s ∷ ss) (s ∷ with_changed (is_named u) settled ss)))
-    by true is more =
-        subst (λ (t : Bool). Holds (first_where (is_named u) (cond t (settled s ∷ ss) (s ∷ with_changed (is_named u) settled ss)))) (sym is)
-        (subst (λ (t : Bool). Holds (cond t (Some (settled s)) (first_where (is_named u) ss))) (sym is) refl)
-    by false is more =
-        subst (λ (t : Bool). Holds (first_where (is_named u) (cond t (settled s ∷ ss) (s ∷ with_changed (is_named u) settled ss)))) (sym is)
-        (subst (λ (t : Bool). Holds (cond t (Some s) (first_where (is_named u) (with_changed (is_named u) settled ss)))) (sym is) more)
-
-lost_awaits : (mid end : End) (u : List ℕ) → end ≡ lost_in mid u → AwaitsNothing end u
-lost_awaits mid end u is = subst (λ (e : End). AwaitsNothing e u) (sym is) (gave_up u mid.sessions)
-
-lost_outcome : (d : Delivery) (u : List ℕ) (answer : Result (Option Reply) FrontFault) (mid end : End) → Ends d u answer mid end (Ok Lost) → end ≡ lost_in mid u
-lost_outcome d u (Ok None) mid end ends = ends.1
-lost_outcome d u (Ok (Some replies.Ack)) mid end ends = let e = ends.0 in cc
-lost_outcome d u (Ok (Some (replies.Fault name))) mid end ends = let e = ends.0 in cc
-lost_outcome d u (Err fault) mid end ends = ends.1
-
-fault_outcome : (d : Delivery) (u : List ℕ) (answer : Result (Option Reply) FrontFault) (mid end : End) (fault : FrontFault) → Ends d u answer mid end (Err fault) → end ≡ lost_in mid u
-fault_outcome d u (Ok answer) mid end fault ends = let e = ends.0 in cc
-fault_outcome d u (Err other) mid end fault ends = ends.1
-
-pub delivered_settles : (d : Delivery) (u : List ℕ) (before after : Told) (mid end : End) (result : Result Exchange FrontFault) → IsDelivered d u before after mid end result → Settles end u result
-delivered_settles d u before after mid end (Ok Nothing) delivered = tt
-delivered_settles d u before after mid end (Ok (Acked count)) delivered = tt
-delivered_settles d u before after mid end (Ok Refused) delivered = tt
-delivered_settles d u before after mid end (Ok Lost) delivered = lost_awaits mid end u (lost_outcome d u delivered.answer mid end delivered.ends)
-delivered_settles d u before after mid end (Err NoMemory) delivered = lost_awaits mid end u (fault_outcome d u delivered.answer mid end NoMemory delivered.ends)
-delivered_settles d u before after mid end (Err LinkFailed) delivered = lost_awaits mid end u (fault_outcome d u delivered.answer mid end LinkFailed delivered.ends)
-delivered_settles d u before after mid end (Err (Source fault)) delivered = tt

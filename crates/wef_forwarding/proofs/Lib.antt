@@ -1,4 +1,5 @@
 pub mod Exchanging
 pub mod Forwarded
-pub mod Servable
+pub mod Requested
+pub mod Settling
 pub mod Taking

@@ -1,8 +1,9 @@
 -- What a source makes of the reply to a delivery, or of none.
 use Rattle.std.proofs.Common.{◌≡◌, ℕ, ◌==◌, Bool, true, false, cond, List, [], ◌∷◌, refl, ap, sym, subst, ◌∙◌, eq-eqb}
 use Rattle.std.proofs.lemmas.Bool.{and_parts}
+use Rattle.std.proofs.lemmas.List.Elements.{recursion_from_All}
+use Rattle.std.specs.List.{AllByRecursion}
 use Rattle.std.specs.Prelude.{Option, Some, None, Result, Ok, Err, OnOk, OnErr, IfErr, IfSome, is_some}
-use Rattle.wef_bodies.specs.Addresses.{has_path, is_address, scheme}
 use Rattle.wef_bookmark.specs.Order.{Marks}
 use Rattle.wef_eventing.proofs.AddressTexts.{printed_text}
 use Rattle.wef_front.specs.Sending.{CanBeWritten}
@@ -11,6 +12,7 @@ use Rattle.wef_ids.specs.IdTexts.{id_of_value}
 use Rattle.wef_ids.specs.declared.MessageId.{MessageId}
 use Rattle.wef_source.specs.Answers.{AnswersTo, IsAddressed, Loses, RefusesAnswer, RefusesLost, Sends, SendsAddressed, SendsFrom, SendsNumbered, WhereThere, sent_to, waiting_for}
 use Rattle.wef_source.specs.Machine.{End, lost_in, next_id}
+use Rattle.wef_source.specs.Serving.{CanBeServed, HasKeptSessions}
 use Rattle.wef_source.specs.Sessions.{first_where, is_named, sending, session_of, settled, waits_for, with_changed}
 use Rattle.wef_source.specs.declared.faults.SourceFault.{SourceFault}
 use Rattle.wef_source.specs.declared.faults.SourceFault.TheVariants.{NoMemory, Failed, Full, TooLong, NotAsked, UnknownSubscription, Spent}
@@ -22,7 +24,7 @@ use Rattle.wef_source.specs.declared.messages.Reply.{Reply}
 use Rattle.wef_source.specs.declared.messages.Reply.TheVariants as replies
 use Rattle.wef_source.specs.declared.sessions.Session.{Session}
 use Rattle.wef_xml.specs.Good.{IsXmlText}
-use Rattle.wef_forwarding.specs.Forwarding.{CanBeServed, IsAwaited, outcome_of, replied_in}
+use Rattle.wef_forwarding.specs.Forwarding.{IsAwaited, outcome_of, replied_in}
 use Rattle.wef_forwarding.specs.declared.forwarding.Exchange.TheVariants.{Acked, Refused}
 
 -- ---- the reply
@@ -132,10 +134,21 @@ sent_is_awaited end mid u now d sends = by (session_of end.sessions u) refl send
         subst (λ (id : MessageId). is_some (waiting_for mid id.value) ≡ true) (sym sends.2)
         (subst (λ (m : End). is_some (waiting_for m (Some (next_id end))) ≡ true) (sym sends.3) (waits_there (next_id end) now u d.batch.to end.sessions (ap is_some is)))
 
--- and can be written
-pub sent_can_be_written : (end mid : End) (u : List ℕ) (now : ℕ) (d : Delivery) → IfSome (session_of end.sessions u) CanBeServed → Sends end mid u now (Send d)
+-- ---- what is written
+
+found_served : (test : Session → Bool) (ss : List Session) → AllByRecursion CanBeServed ss → IfSome (first_where test ss) CanBeServed
+found_served test [] all = tt
+found_served test (s ∷ ss) all = by (test s) (found_served test ss all.1)
+  where
+    by : (b : Bool) → IfSome (first_where test ss) CanBeServed → IfSome (cond b (Some s) (first_where test ss)) CanBeServed
+    by true more = all.0
+    by false more = more
+
+-- what a poll sent can be written
+pub sent_can_be_written : (end mid : End) (u : List ℕ) (now : ℕ) (d : Delivery) → HasKeptSessions end → Sends end mid u now (Send d)
     → SendsAddressed end u (Send d) → SendsNumbered (Send d) → CanBeWritten d
-sent_can_be_written end mid u now d served sends addressed numbered = by (session_of end.sessions u) served sends addressed
+sent_can_be_written end mid u now d kept sends addressed numbered =
+    by (session_of end.sessions u) (found_served (is_named u) end.sessions (recursion_from_All CanBeServed end.sessions kept.sessions.served)) sends addressed
   where
     by : (found : Option Session) → IfSome found CanBeServed → WhereThere found (λ session. SendsFrom end mid session u now (Send d)) → WhereThere found (λ session. IsAddressed session d) → CanBeWritten d
     by None served sends addressed = absurd sends

@@ -1,7 +1,7 @@
 -- The parts of an address of HTTP, `http://AUTHORITY/PATH`: the authority, and the path (RFC 3986, section 3).
 use Rattle.std.specs.Prelude.{ℕ, List, ◌∷◌}
 use Rattle.std.specs.List.{after_first, before_first}
-use Rattle.wef_bodies.specs.Addresses.{is_slash}
+use Rattle.wef_eventing.specs.Addresses.{is_slash}
 
 -- what stands behind the two slashes of the scheme
 abbrev pub behind_scheme : List ℕ → List ℕ

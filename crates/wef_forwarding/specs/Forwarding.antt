@@ -1,7 +1,6 @@
 -- What forwarding a batch does: the poll, the exchange, and what the source makes of the reply.
 use Rattle.std.specs.Prelude.{◌≡◌, ℕ, true, List, length, min, is_some, Option, Some, None, Result, Ok, Err, IfSome}
-use Rattle.wef_bodies.specs.Addresses.{is_address}
-use Rattle.wef_forwarding.specs.Exchanges.{Exchanged}
+use Rattle.wef_forwarding.specs.Exchanges.{Replied}
 use Rattle.wef_forwarding.specs.declared.exchanges.FrontFault.{FrontFault}
 use Rattle.wef_forwarding.specs.declared.exchanges.FrontFault.TheVariants.{NoMemory, LinkFailed, Source}
 use Rattle.wef_forwarding.specs.declared.forwarding.Exchange.{Exchange}
@@ -18,15 +17,6 @@ use Rattle.wef_source.specs.declared.messages.Poll.{Poll}
 use Rattle.wef_source.specs.declared.messages.Poll.TheVariants as polls
 use Rattle.wef_source.specs.declared.messages.Reply.{Reply}
 use Rattle.wef_source.specs.declared.messages.Reply.TheVariants as replies
-use Rattle.wef_source.specs.declared.sessions.Session.{Session}
-use Rattle.wef_xml.specs.Good.{IsXmlText}
-
--- ---- what a session needs
-
--- A session whose batches can be written: they go to an address of HTTP, and the identifier holds characters that XML allows.
-pub record CanBeServed (session : Session) : Type 0 where
-  pub notify_to : is_address session.notify_to ≡ true
-  pub identifier : IfSome session.identifier IsXmlText
 
 -- ---- what becomes of the batch
 
@@ -68,7 +58,7 @@ pub record Polled (rows : Option Rows) (end mid : End) (u : List ℕ) (now : ℕ
 -- A delivery was exchanged, and the source took what came back.
 pub record IsDelivered (d : Delivery) (u : List ℕ) (before after : Told) (mid end : End) (result : Result Exchange FrontFault) : Type 0 where
   pub answer : Result (Option Reply) FrontFault
-  pub exchanged : Exchanged d answer before after
+  pub exchanged : Replied d answer before after
   pub ends : Ends d u answer mid end result
 
 -- The poll gave a delivery, which was delivered.
@@ -99,12 +89,11 @@ Forwards rows end end' u now before after result = Delivers rows end end' u now 
 abbrev pub AwaitsNothing : End → List ℕ → Type 0
 AwaitsNothing end u = IfSome (session_of end.sessions u) (λ session. session.outstanding ≡ None)
 
--- Nothing is awaited any more where a delivery was lost, or memory was wanting or the link failed behind the poll.
+-- Whatever became of a delivery, nothing is awaited any more.
 abbrev pub Settles : End → List ℕ → Result Exchange FrontFault → Type 0
-Settles end u (Ok Lost) = AwaitsNothing end u
-Settles end u (Err NoMemory) = AwaitsNothing end u
-Settles end u (Err LinkFailed) = AwaitsNothing end u
-Settles end u _ = Unit {0}
+Settles end u (Ok Nothing) = Unit {0}
+Settles end u (Err (Source fault)) = Unit {0}
+Settles end u _ = AwaitsNothing end u
 
 -- ---- the store
 

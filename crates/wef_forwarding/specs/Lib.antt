@@ -1,4 +1,4 @@
 pub mod Addresses
+pub mod Asking
 pub mod Exchanges
 pub mod Forwarding
-pub mod Laws

@@ -2,7 +2,7 @@
 
 ghost use Rattle.std.specs.Prelude.{◌≡◌, IfOk};
 ghost use Rattle.std.specs.List.{after_first, before_first};
-ghost use Rattle.wef_bodies.specs.Addresses.{is_slash};
+ghost use Rattle.wef_eventing.specs.Addresses.{is_slash};
 ghost use Rattle.wef_forwarding.specs.Addresses as spec;
 
 use std::alloc::AllocError;

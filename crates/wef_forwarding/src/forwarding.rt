@@ -1,9 +1,11 @@
 //! A session's next batch, forwarded.
 
-ghost use Rattle.std.specs.Prelude.{◌≡◌, ◌≤◌, false, IfSome};
+ghost use Rattle.std.specs.Prelude.{◌≡◌, ◌≤◌, false, IfOk};
 ghost use Rattle.wef_keeper.specs.Access.{OpensAndReads};
 ghost use Rattle.wef_keeper.specs.Calls.{fails};
-ghost use Rattle.wef_forwarding.specs.Forwarding.{CanBeServed, Forwards, IsAwaited, IsDelivered, Settles, answered_in, count_of, outcome_of, refusal_of};
+ghost use Rattle.wef_forwarding.specs.Exchanges.{Replied, answer_to, request_of};
+ghost use Rattle.wef_forwarding.specs.Forwarding.{Forwards, IsAwaited, IsDelivered, Settles, answered_in, count_of, outcome_of, refusal_of};
+ghost use Rattle.wef_front.specs.HeardReplies.{told};
 ghost use Rattle.wef_front.specs.Sending.{CanBeWritten};
 ghost use Rattle.wef_source.specs.Answers.{may_send};
 ghost use Rattle.wef_source.specs.Faults.{source_store};
@@ -11,11 +13,14 @@ ghost use Rattle.wef_source.specs.Machine.{lost_in};
 ghost use Rattle.wef_source.specs.Sessions.{session_of};
 ghost use Rattle.wef_source_log.specs.Forms.{AreFormed};
 
-use crate::exchanges::{FrontFault, exchange};
-use std::alloc::Global;
+use crate::addresses::{authority_of, path_of};
+use crate::exchanges::{FrontFault, Request, exchange};
+use std::alloc::{AllocError, Global};
 use wef_base::SubId;
 use wef_base::moments::Moment;
 use wef_connections::Link;
+use wef_front::{read_reply, write_delivery};
+use wef_ids::MessageId;
 use wef_keeper::Keeper;
 use wef_source::{Delivery, Moved, Poll, Reply, SourceEnd};
 
@@ -43,7 +48,6 @@ pub fn forward_once<L: Link, K: Keeper>(
     sub: &SubId,
     now: Moment,
 ) -> Result<Exchange, FrontFault>
-    requires { IfSome (session_of source.old.memory.sessions sub.now) CanBeServed }
     ensures forwards { Forwards (K.store source.new.keeper).rows source.old.memory source.new.memory sub.now now (L.told link.old) (L.told link.new) result }
     ensures settled { Settles source.new.memory sub.now result }
     ensures later { (L.told link.old).faults ≤ (L.told link.new).faults }
@@ -51,6 +55,7 @@ pub fn forward_once<L: Link, K: Keeper>(
     ensures untouched { may_send (session_of source.old.memory.sessions sub.now) ≡ false → source.new.keeper ≡ source.old.keeper }
     ensures name { source.new.name ≡ source.old.name }
 {
+    source.sessions_are_kept();
     match source.poll(sub, now) {
         Ok(Poll::Send(delivery)) => deliver(alloc, link, source, sub, &delivery),
         Ok(Poll::Nothing) => Ok(Exchange::Nothing),
@@ -73,12 +78,71 @@ fn deliver<L: Link, K: Keeper>(
     ensures keeper { source.new.keeper ≡ source.old.keeper }
     ensures name { source.new.name ≡ source.old.name }
 {
-    match exchange(alloc, link, delivery) {
+    match reply_to(alloc, link, delivery) {
         Ok(answer) => Ok(take(source, sub, delivery, answer)),
         Err(fault) => {
             lose(source, sub);
             Err(fault)
         }
+    }
+}
+
+/// Sends a delivery, and gives the reply to it: none where what came back is no reply to it.
+#[tactic(auto, using(crate::proofs::Exchanging::not_begun, crate::proofs::Requested::replied, crate::proofs::Requested::unreplied, crate::proofs::Requested::not_replied))]
+fn reply_to<L: Link>(
+    alloc: Global,
+    link: &mut L,
+    delivery: &Delivery,
+) -> Result<Option<Reply>, FrontFault>
+    requires { CanBeWritten delivery.now }
+    ensures replied { Replied delivery.now result (L.told link.old) (L.told link.new) }
+    ensures later { (L.told link.old).faults ≤ (L.told link.new).faults }
+{
+    let Ok(request) = request_of(alloc, delivery) else {
+        return Err(FrontFault::NoMemory);
+    };
+    match exchange(alloc, link, &request) {
+        Ok(Some(envelope)) => match answer_in(alloc, &delivery.id, envelope.as_slice()) {
+            Ok(answer) => Ok(answer),
+            Err(_) => Err(FrontFault::NoMemory),
+        },
+        Ok(None) => Ok(None),
+        Err(fault) => Err(fault),
+    }
+}
+
+/// The request that a delivery makes.
+fn request_of(alloc: Global, delivery: &Delivery) -> Result<Request, AllocError>
+    requires { CanBeWritten delivery.now }
+    ensures { IfOk result (λ request. request ≡ request_of delivery.now) }
+{
+    Ok(Request {
+        host: authority_of(&delivery.notify_to)?,
+        path: path_of(&delivery.notify_to)?,
+        body: write_delivery(alloc, delivery)?,
+    })
+}
+
+/// The reply to a message, where an envelope is one.
+fn answer_in(alloc: Global, id: &MessageId, envelope: &[u8]) -> Result<Option<Reply>, AllocError>
+    ensures { IfOk result (λ answer. answer ≡ answer_to id.now (told envelope.now)) }
+{
+    Ok(answer_to(id, read_reply(alloc, envelope)?))
+}
+
+/// The reply to a message, where that is what was told.
+fn answer_to(id: &MessageId, told: Option<(MessageId, Reply)>) -> Option<Reply>
+    ensures { result ≡ answer_to id.now told }
+{
+    match told {
+        Some((relates, reply)) => {
+            if relates.agrees(id) {
+                Some(reply)
+            } else {
+                None
+            }
+        }
+        None => None,
     }
 }
 

@@ -25,7 +25,7 @@ use Rattle.wef_collector.specs.Calls.{Effect}
 use Rattle.wef_front.specs.Laws.{GoesByPlan, GoesByRows, HasFailed, IsReply, said_planned, tries_by}
 use Rattle.wef_front.specs.Replies.{IsAnswer, answer_of, ids_behind, rows_by}
 use Rattle.wef_front.specs.Steps.{CallsFor, SaysFor, batch_said, effect_in, fault_for, said_by, said_where}
-use Rattle.wef_front.specs.declared.answering.Answer.{Answer}
+use Rattle.wef_http_heads.specs.declared.answers.Answer.{Answer}
 use Rattle.wef_front.specs.declared.hearing.Asked.{Asked}
 use Rattle.wef_front.specs.declared.hearing.Asked.TheVariants.{Refused, Enumerate, Unread, Take}
 use Rattle.wef_front.specs.declared.hearing.Heard.{Heard}

@@ -31,7 +31,7 @@ use Rattle.wef_front.specs.Replies.{IsAnswer}
 use Rattle.wef_front.specs.Steps.{SaysFor, Steps, batch_said, done_said, effect_in}
 use Rattle.wef_front.specs.declared.hearing.Asked.{Asked}
 use Rattle.wef_front.specs.declared.hearing.Asked.TheVariants.{Refused, Enumerate, Unread, Take}
-use Rattle.wef_front.specs.declared.answering.Answer.{Answer}
+use Rattle.wef_http_heads.specs.declared.answers.Answer.{Answer}
 use Rattle.wef_front.specs.declared.hearing.Heard.{Heard}
 use Rattle.wef_front.specs.declared.saying.Said.{Said}
 use Rattle.wef_http_heads.specs.declared.targets.Target.{Target}

@@ -6,6 +6,7 @@ pub mod EnumeratesAreHeard
 pub mod IdTexts
 pub mod Numbered
 pub mod OffersAreHeard
+pub mod OffersCanBeServed
 pub mod OneIsHeard
 pub mod ReadIsGood
 pub mod RepliesAreGood

@@ -29,7 +29,7 @@ use Rattle.wef_front.specs.Heard.{Hears}
 use Rattle.wef_front.specs.HeardReplies.{id_told, offers_told, told}
 use Rattle.wef_front.specs.Replies.{CanBeAnswered, IsAnswer, IsKnownReply, IsSpeltFor, answer_of, ids_behind, ids_nested_in, nested_ids, offers_bytes, reply, reply_bytes}
 use Rattle.wef_front.specs.Steps.{effect_in, said_by}
-use Rattle.wef_front.specs.declared.answering.Answer.{Answer}
+use Rattle.wef_http_heads.specs.declared.answers.Answer.{Answer}
 use Rattle.wef_front.specs.declared.hearing.Asked.{Asked}
 use Rattle.wef_front.specs.declared.hearing.Asked.TheVariants.{Refused}
 use Rattle.wef_front.specs.declared.hearing.Heard.{Heard}

@@ -25,7 +25,7 @@ use Rattle.wef_source.specs.declared.messages.Reply.TheVariants as replies
 use Rattle.wef_xml.specs.Canonical.{canonical, encoded}
 use Rattle.wef_xml.specs.Good.{IsXmlText}
 use Rattle.wef_front.specs.Steps.{HasStepped, Steps, effect_in, said_by}
-use Rattle.wef_front.specs.declared.answering.Answer.{Answer}
+use Rattle.wef_http_heads.specs.declared.answers.Answer.{Answer}
 use Rattle.wef_front.specs.declared.hearing.Heard.{Heard}
 use Rattle.wef_front.specs.declared.saying.Said.{Said}
 use Rattle.wef_front.specs.declared.saying.Said.TheVariants.{Ack, Quiet, Offers, Fault}

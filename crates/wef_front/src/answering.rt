@@ -27,16 +27,9 @@ use wef_collector::Collector;
 use wef_envelope::actions::{ACK, ANONYMOUS, ENUMERATE_RESPONSE};
 use wef_envelope::{Envelope, Fault, FaultName, MessageId, fault_node, to_node};
 use wef_eventing::Offer;
-use wef_http_heads::Target;
+use wef_http_heads::{Answer, Target};
 use wef_keeper::Keeper;
 use wef_tree::write_tree;
-
-/// An end's answer: a status of HTTP, and the bytes of an envelope or none.
-#[derive(Debug, Drop)]
-pub struct Answer {
-    pub status: u16,
-    pub body: Bytes,
-}
 
 /// Answers the bytes of a request to the collector: 200 with an envelope, 204 with nothing where the
 /// sender doesn't want to be told, or 500 with a fault, which is the profile's status for all of

@@ -8,7 +8,7 @@ pub mod listening;
 mod saying;
 pub mod sending;
 
-pub use answering::{Answer, collector_answer};
+pub use answering::collector_answer;
 pub use listening::{Hears, read_reply, source_hears};
 pub use sending::{write_delivery, write_enumerate};
-pub use wef_http_heads::Target;
+pub use wef_http_heads::{Answer, Target};

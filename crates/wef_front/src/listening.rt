@@ -1,9 +1,12 @@
 //! What a source makes of the bytes of a reply.
 
-ghost use Rattle.std.specs.Prelude.{◌≡◌, Some, IfOk, OnErr};
+ghost use Rattle.std.specs.Prelude.{◌≡◌, Some, IfOk, IfSome, OnErr};
 ghost use Rattle.std.specs.Result.{result_ok};
+ghost use Rattle.wef_batch.specs.Reading.{AreGoodTrees};
 ghost use Rattle.wef_bodies.specs.Offers.{offers_in};
 ghost use Rattle.wef_envelope.specs.Envelopes.{said};
+ghost use Rattle.wef_eventing.specs.Sending.{AreServable};
+ghost use Rattle.wef_xml.specs.Good.{IsGoodTree};
 ghost use Rattle.wef_front.specs.HeardReplies.{HearsOffers, HearsReply, HearsTold, fault_among, fault_of, offers_told, offers_told_by, offers_told_in, related, reply_in, told, told_by, told_in};
 
 use std::alloc::{AllocError, Global};
@@ -53,11 +56,13 @@ pub fn source_hears<K: Keeper>(
     }
 }
 
+#[tactic(auto, using(crate::proofs::ReadIsGood::body_is_good))]
 fn hear_tree<K: Keeper>(
     source: &mut SourceEnd<K>,
     root: &Element,
     now: Moment,
 ) -> Result<Hears, AllocError>
+    requires { IsGoodTree root.now }
     ensures heard { IfOk result (λ hears. HearsTold (told_by (said root.now)) (offers_told_by now (said root.now)) hears now source.old.memory source.new.memory) }
     ensures wants_memory { OnErr result (source.new.memory ≡ source.old.memory) }
     ensures keeper { source.new.keeper ≡ source.old.keeper }
@@ -76,6 +81,7 @@ fn hear_envelope<K: Keeper>(
     envelope: &Envelope,
     now: Moment,
 ) -> Result<Hears, AllocError>
+    requires { AreGoodTrees envelope.now.body }
     ensures heard { IfOk result (λ hears. HearsTold (told_in envelope.now.relates (reply_in envelope.now)) (offers_told_in now envelope.now) hears now source.old.memory source.new.memory) }
     ensures wants_memory { OnErr result (source.new.memory ≡ source.old.memory) }
     ensures keeper { source.new.keeper ≡ source.old.keeper }
@@ -95,7 +101,9 @@ fn offers_in(
     envelope: &Envelope,
     now: Moment,
 ) -> Result<Option<(MessageId, List<Offer>)>, AllocError>
-    ensures { IfOk result (λ found. found ≡ offers_told_in now envelope.now) }
+    requires { AreGoodTrees envelope.now.body }
+    ensures found { IfOk result (λ found. found ≡ offers_told_in now envelope.now) }
+    ensures servable { IfOk result (λ found. IfSome found (λ offered. AreServable offered.1)) }
 {
     if envelope.action.as_str() != ENUMERATE_RESPONSE {
         return Ok(None);
@@ -107,12 +115,15 @@ fn offers_in(
 }
 
 /// The offers of its Body, as the answer to a message. None where they aren't good.
+#[tactic(auto, using(crate::proofs::OffersCanBeServed::offers_can_be_served))]
 fn offers_for(
     relates: &MessageId,
     envelope: &Envelope,
     now: Moment,
 ) -> Result<Option<(MessageId, List<Offer>)>, AllocError>
-    ensures { IfOk result (λ found. found ≡ related (Some relates.now) (result_ok (offers_in now envelope.now.body))) }
+    requires { AreGoodTrees envelope.now.body }
+    ensures found { IfOk result (λ found. found ≡ related (Some relates.now) (result_ok (offers_in now envelope.now.body))) }
+    ensures servable { IfOk result (λ found. IfSome found (λ offered. AreServable offered.1)) }
 {
     match read_offers(envelope.action.alloc(), envelope.body.as_slice(), now) {
         Ok(offers) => Ok(Some((relates.clone()?, offers))),
@@ -128,6 +139,7 @@ fn adopt<K: Keeper>(
     offers: &List<Offer>,
     now: Moment,
 ) -> Result<Hears, AllocError>
+    requires { AreServable offers.now }
     ensures heard { IfOk result (λ hears. HearsOffers hears relates.now offers.now now source.old.memory source.new.memory) }
     ensures wants_memory { OnErr result (source.new.memory ≡ source.old.memory) }
     ensures keeper { source.new.keeper ≡ source.old.keeper }

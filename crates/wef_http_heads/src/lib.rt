@@ -1,6 +1,7 @@
 //! Heads of HTTP messages: what is judged of a request or a response before its body is read.
 #![tactic(auto)]
 
+pub mod answers;
 pub mod ends;
 pub mod fields;
 pub mod framing;
@@ -11,6 +12,7 @@ pub mod media;
 pub mod plans;
 pub mod targets;
 
+pub use answers::Answer;
 pub use ends::HttpEnd;
 pub use heads::{BODY_LIMIT, HEAD_LIMIT, find_request_head, find_response_head};
 pub use plans::{Found, Framing, RequestPlan, ResponsePlan};

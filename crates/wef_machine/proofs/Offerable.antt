@@ -15,7 +15,6 @@ use Rattle.std.specs.Str.{is_utf8}
 use Rattle.wef_base.specs.Names.{channel_name, same}
 use Rattle.wef_base.specs.declared.numbers.TheConstants.{MAX}
 use Rattle.wef_batch.specs.WellFormed.{is_in}
-use Rattle.wef_bodies.specs.Addresses.{has_path, has_segments, is_address, is_delivery, scheme}
 use Rattle.wef_bodies.specs.Laws.{IsPlainOffer, OfferCanStand}
 use Rattle.wef_bookmark.proofs.Joining.{get-raised, one_name, order}
 use Rattle.wef_bookmark.proofs.Kept.{empty_kept, raised_kept}
@@ -30,7 +29,7 @@ use Rattle.wef_collector_rows.specs.Forms as collector
 use Rattle.wef_collector_rows.specs.Keys.{bookmark_key}
 use Rattle.wef_eventing.proofs.AddressTexts.{address_is_plain, address_printed}
 use Rattle.wef_eventing.proofs.AddressesBack.{addresses_read_back}
-use Rattle.wef_eventing.specs.Addresses.{delivery_address, is_printed, subscription_in}
+use Rattle.wef_eventing.specs.Addresses.{delivery_address, has_path, has_segments, is_address, is_delivery, is_printed, scheme, subscription_in}
 use Rattle.wef_eventing.specs.declared.subscriptions.Subscription.{Subscription}
 use Rattle.wef_ids.proofs.PlainIds.{id_text_good, id_text_trimmed}
 use Rattle.wef_keeper.specs.Rows.{Rows, cell_of_row, row_of}

@@ -4,7 +4,7 @@ use Rattle.std.proofs.KnownBytes.{Appends-nil, Appends-trans}
 use Rattle.std.specs.Prelude.{IfSome}
 use Rattle.std.specs.declared.result.Result.TheVariants.{Ok, Err}
 use Rattle.std.specs.Io.KnownBytes.{Appends, prepend_known}
-use Rattle.wef_serving.specs.declared.answering.Answer.{Answer}
+use Rattle.wef_http_heads.specs.declared.answers.Answer.{Answer}
 use Rattle.wef_http.specs.Messages.{IsRequest, RefusesRequest}
 use Rattle.wef_http.specs.Reading.{Leads}
 use Rattle.wef_http.specs.declared.messages.HttpRequest.{HttpRequest}

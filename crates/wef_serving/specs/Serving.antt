@@ -1,7 +1,7 @@
 -- What becomes of the bytes of a connection (RFC 9112, 9): requests that are answered one after the other, and how it ends.
 use Rattle.std.specs.Prelude.{◌≡◌, ◌⊎◌, ℕ, true, false, List, [], ◌++◌, take, Option, Some, None, IfSome}
 use Rattle.wef_base.specs.declared.tree.Charset.TheVariants.{Utf8}
-use Rattle.wef_serving.specs.declared.answering.Answer.{Answer}
+use Rattle.wef_http_heads.specs.declared.answers.Answer.{Answer}
 use Rattle.wef_http.specs.Messages.{IsRequest, RefusesRequest}
 use Rattle.wef_http.specs.declared.messages.HttpRequest.{HttpRequest}
 use Rattle.wef_http_heads.specs.Statuses.{refusal}

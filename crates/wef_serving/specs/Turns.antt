@@ -2,7 +2,7 @@
 use Rattle.std.specs.Prelude.{◌≡◌, ◌⊎◌, ℕ, true, false, List, ◌++◌, Option, Some, None, Result}
 use Rattle.std.specs.declared.result.Result.TheVariants.{Ok, Err}
 use Rattle.std.specs.Io.KnownBytes.{Appends}
-use Rattle.wef_serving.specs.declared.answering.Answer.{Answer}
+use Rattle.wef_http_heads.specs.declared.answers.Answer.{Answer}
 use Rattle.wef_http.specs.declared.messages.HttpRequest.{HttpRequest}
 use Rattle.wef_http_heads.specs.Statuses.{refusal}
 use Rattle.wef_http_heads.specs.declared.ends.HttpEnd.{HttpEnd}

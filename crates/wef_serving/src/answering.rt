@@ -1,15 +1,9 @@
 //! What answers requests.
 
 use std::alloc::{AllocError, Global};
-use wef_base::{Bytes, Moment};
+use wef_base::Moment;
 use wef_http::HttpRequest;
-
-/// An answer to a request: a status of HTTP, and the bytes of an envelope or none.
-#[derive(Debug, Drop)]
-pub struct Answer {
-    pub status: u16,
-    pub body: Bytes,
-}
+use wef_http_heads::Answer;
 
 /// How an end answers requests. It is apart from the end, which can be lent to it so.
 pub trait Answering<E> {
@@ -17,7 +11,7 @@ pub trait Answering<E> {
     ghost use Rattle.wef_http.specs.declared.messages.HttpRequest as the_request;
     ghost use Rattle.wef_http_heads.specs.Fields.{is_host};
     ghost use Rattle.wef_serving.specs.Serving.{CanBeWritten};
-    ghost use Rattle.wef_serving.specs.declared.answering.Answer as the_answer;
+    ghost use Rattle.wef_http_heads.specs.declared.answers.Answer as the_answer;
 
     // at a moment and of an end, a request is answered so, and this is the end then
     ghost answers: { ℕ → E → the_request.HttpRequest → the_answer.Answer → E → Type 0 };

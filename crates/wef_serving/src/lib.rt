@@ -7,7 +7,8 @@ pub mod fronts;
 pub mod serving;
 mod turns;
 
-pub use answering::{Answer, Answering};
+pub use answering::Answering;
 pub use ends::ConnectionEnd;
 pub use fronts::serve_next;
 pub use serving::serve;
+pub use wef_http_heads::Answer;

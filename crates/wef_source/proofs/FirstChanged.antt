@@ -3,10 +3,10 @@ use Rattle.std.proofs.Common.{◌≡◌, ℕ, Bool, true, false, List, set, get_
 use Rattle.std.specs.Prelude.{is_some}
 use Rattle.std.specs.List.{position}
 use Rattle.wef_query.specs.Order.{IsInOrder}
-use Rattle.wef_source.specs.Serving.{AreKept, IsCovered}
+use Rattle.wef_source.specs.Serving.{AreKept, CanBeServed}
 use Rattle.wef_source.specs.Sessions.{first_where, names_of, with_changed}
 use Rattle.wef_source.specs.declared.sessions.Session.{Session}
-use Rattle.wef_source.proofs.Covering.{changed_covered}
+use Rattle.wef_source.proofs.Served.{changed_served}
 use Rattle.wef_source.proofs.InOrder.{changed_in_order}
 use Rattle.wef_source.proofs.Places.{changed_at, changed_nowhere, first_nowhere, is_there, within_at}
 
@@ -21,7 +21,7 @@ pub record IsAbsent (test : Session → Bool) (change : Session → Session) (ss
   pub there : false ≡ is_some (first_where test ss)
   pub changed : ss ≡ with_changed test change ss
 
-pub changed_there : (test : Session → Bool) (change : Session → Session) → ((s : Session) → IsCovered s → IsCovered (change s)) → ((s : Session) → (change s).name ≡ s.name)
+pub changed_there : (test : Session → Bool) (change : Session → Session) → ((s : Session) → CanBeServed s → CanBeServed (change s)) → ((s : Session) → (change s).name ≡ s.name)
     → (ss : List Session) (k : ℕ) (s t : Session) → position test ss ≡ Some k → AreKept ss → s ≡ get_or ss k s → t ≡ change s → IsChanged test change ss (set ss k t)
 changed_there test change covers names ss k s t at kept read made =
     let is = changed_at test change ss k s t at read made in
@@ -29,7 +29,7 @@ changed_there test change covers names ss k s t at kept read made =
       there = sym (is_there test ss k s at);
       changed = is;
       kept = record {
-        covered = changed_covered change covers ss k s t kept.covered (within_at test ss k at) read made;
+        served = changed_served change covers ss k s t kept.served (within_at test ss k at) read made;
         in_order = subst (λ (after : List Session). IsInOrder (names_of after)) (sym is) (changed_in_order test change names ss kept.in_order);
       };
     }

@@ -2,8 +2,8 @@ pub mod Built
 pub mod Candidates
 pub mod Cases
 pub mod Channels
-pub mod Covering
 pub mod Cuts
+pub mod DrawnIds
 pub mod Drafts
 pub mod FirstChanged
 pub mod Fitting
@@ -18,4 +18,5 @@ pub mod Polling
 pub mod Reaches
 pub mod Rooms
 pub mod Sendable
+pub mod Served
 pub mod Told

@@ -12,7 +12,7 @@ use Rattle.std.specs.declared.cmp.Ordering.TheVariants.{Less, Equal, Greater}
 use Rattle.std.specs.declared.result.Result.TheVariants.{Ok, Err}
 use Rattle.wef_query.specs.Order.{IsInOrder}
 use Rattle.wef_source.specs.Placing.{one_further, place_by, place_in}
-use Rattle.wef_source.specs.Serving.{AreKept, IsCovered}
+use Rattle.wef_source.specs.Serving.{AreKept, CanBeServed}
 use Rattle.wef_source.specs.Sessions.{names_of, placed, with_session}
 use Rattle.wef_source.specs.declared.sessions.Session.{Session}
 
@@ -69,18 +69,18 @@ with_session_in_order (s ∷ ss) new sorted =
       | Greater ↦ λ e. (with_session_above s.name ss new sorted.0 (nat_list_cmp_total.antisymm s.name new.name ∙ ap ordering_reverse e), with_session_in_order ss new sorted.1)
     ] refl
 
-with_session_covered : (ss : List Session) (new : Session) → All IsCovered ss → IsCovered new → All IsCovered (with_session ss new)
-with_session_covered [] new all here = All-cons IsCovered new [] here all
-with_session_covered (s ∷ ss) new all here =
-    let behind = All-tail IsCovered s ss all in
-    elim (slice_cmp nat_cmp new.name s.name) as (λ r. All IsCovered (placed r new s ss (with_session ss new))) [
-      | Less ↦ All-cons IsCovered new (s ∷ ss) here all
-      | Equal ↦ All-cons IsCovered new ss here behind
-      | Greater ↦ All-cons IsCovered s (with_session ss new) (All-head IsCovered s ss all) (with_session_covered ss new behind here)
+with_session_served : (ss : List Session) (new : Session) → All CanBeServed ss → CanBeServed new → All CanBeServed (with_session ss new)
+with_session_served [] new all here = All-cons CanBeServed new [] here all
+with_session_served (s ∷ ss) new all here =
+    let behind = All-tail CanBeServed s ss all in
+    elim (slice_cmp nat_cmp new.name s.name) as (λ r. All CanBeServed (placed r new s ss (with_session ss new))) [
+      | Less ↦ All-cons CanBeServed new (s ∷ ss) here all
+      | Equal ↦ All-cons CanBeServed new ss here behind
+      | Greater ↦ All-cons CanBeServed s (with_session ss new) (All-head CanBeServed s ss all) (with_session_served ss new behind here)
     ]
 
-pub with_session_kept : (ss : List Session) (new : Session) → AreKept ss → IsCovered new → AreKept (with_session ss new)
+pub with_session_kept : (ss : List Session) (new : Session) → AreKept ss → CanBeServed new → AreKept (with_session ss new)
 with_session_kept ss new kept here = record {
-  covered = with_session_covered ss new kept.covered here;
+  served = with_session_served ss new kept.served here;
   in_order = with_session_in_order ss new kept.in_order;
 }

@@ -14,7 +14,7 @@ use Rattle.wef_source.specs.Faults.{source_store}
 use Rattle.wef_source.specs.Judged.{JudgesBatch, JudgesPoll}
 use Rattle.wef_source.specs.Machine.{End, is_idle, sent}
 use Rattle.wef_source.specs.Prepared.{Draws, MayRefuseToPrepare, Prepares, RefusesToPrepare}
-use Rattle.wef_source.specs.Serving.{AreKept, HasAll, IsCovered}
+use Rattle.wef_source.specs.Serving.{AreKept, HasAll, CanBeServed}
 use Rattle.wef_source.specs.Sessions.{is_named, sending, session_of, with_changed}
 use Rattle.wef_source.specs.declared.faults.SourceFault.{SourceFault}
 use Rattle.wef_source.specs.declared.faults.SourceFault.TheVariants.{NoMemory, Failed, Full, TooLong, NotAsked, UnknownSubscription, Spent}
@@ -25,7 +25,7 @@ use Rattle.wef_source.specs.declared.sessions.Session.{Session}
 use Rattle.wef_batch.specs.WellFormed.{is_in}
 use Rattle.wef_base.specs.Names.{same}
 use Rattle.std.specs.Cmp.Lexicographic.{nat_list_eq_equiv}
-use Rattle.wef_source.proofs.Covering.{either, either_true, raised_only, read_covered, sending_covered}
+use Rattle.wef_source.proofs.Served.{either, either_true, raised_only, read_served, sending_served}
 use Rattle.wef_source.proofs.InOrder.{changed_in_order, sending_name}
 use Rattle.wef_source.proofs.Told.{if_told}
 
@@ -127,9 +127,9 @@ pub sent_kept : (u : List ℕ) (now : ℕ) (ss : List Session) (k : ℕ) (s t : 
     → AreKept ss → k < length ss → s ≡ get_or ss k s → HasAll s.positions outstanding.to → t ≡ sending outstanding now s
     → set ss k t ≡ with_changed (is_named u) (sending outstanding now) ss → AreKept (set ss k t)
 sent_kept u now ss k s t outstanding kept within read has made changed =
-    let here = read_covered ss k s kept.covered within read in
+    let here = read_served ss k s kept.served within read in
     record {
-      covered = All-set IsCovered ss k t (subst IsCovered (sym made) (sending_covered s outstanding now has here)) kept.covered;
+      served = All-set CanBeServed ss k t (subst CanBeServed (sym made) (sending_served s outstanding now has here)) kept.served;
       in_order = rw changed (changed_in_order (is_named u) (sending outstanding now) (sending_name outstanding now) ss kept.in_order);
     }
 

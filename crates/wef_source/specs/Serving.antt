@@ -1,11 +1,14 @@
 -- What a source keeps true of its sessions.
-use Rattle.std.specs.Prelude.{◌≡◌, ℕ, true, List, is_some, Option, Some, None}
+use Rattle.std.specs.Prelude.{◌≡◌, ℕ, ◌<◌, true, List, is_some, Option, Some, None, IfSome}
 use Rattle.std.specs.FinMap as map
-use Rattle.std.specs.List.{All}
+use Rattle.std.specs.List.{All, AllByRecursion}
 use Rattle.wef_batch.specs.WellFormed.{is_in}
 use Rattle.wef_bookmark.specs.Order.{Marks}
+use Rattle.wef_eventing.specs.Addresses.{is_address}
 use Rattle.wef_query.specs.Order.{IsInOrder}
 use Rattle.wef_query.specs.Selected.{channels_of}
+use Rattle.wef_xml.specs.Good.{IsXmlText}
+use Rattle.wef_source.specs.Machine.{End, next_id}
 use Rattle.wef_source.specs.Sessions.{names_of}
 use Rattle.wef_source.specs.declared.sessions.Outstanding.{Outstanding}
 use Rattle.wef_source.specs.declared.sessions.Session.{Session}
@@ -23,12 +26,29 @@ abbrev pub awaited_to : Option Outstanding → Marks
 awaited_to None = map.empty
 awaited_to (Some outstanding) = outstanding.to
 
--- A session's positions have the channels of its query, and those that the delivery moves whose answer is awaited.
-pub record IsCovered (s : Session) : Type 0 where
+-- A session that can be served: its positions have the channels of its query, and those that the delivery moves whose answer is
+-- awaited; its batches go to an address of HTTP, and its identifier holds characters that XML allows.
+pub record CanBeServed (s : Session) : Type 0 where
   pub queried : HasEach s.positions (channels_of s.query.items)
   pub awaited : HasAll s.positions (awaited_to s.outstanding)
+  pub notify_to : is_address s.notify_to ≡ true
+  pub identifier : IfSome s.identifier IsXmlText
 
--- Each session's positions have what may be moved, and the sessions are in the order of their names, each name once.
+-- Each session can be served, and the sessions are in the order of their names, each name once.
 pub record AreKept (ss : List Session) : Type 0 where
-  pub covered : All IsCovered ss
+  pub served : All CanBeServed ss
   pub in_order : IsInOrder (names_of ss)
+
+-- the id whose answer a session awaits is below this one
+abbrev pub AwaitsBelow : ℕ → Session → Type 0
+AwaitsBelow next s = IfSome s.outstanding (λ (o : Outstanding). o.id < next)
+
+-- so is that of each session
+abbrev pub AwaitBelow : ℕ → List Session → Type 0
+AwaitBelow next ss = AllByRecursion (AwaitsBelow next) ss
+
+-- What a source keeps true of what it remembers: each session can be served, no two have one name, and each awaits at most the
+-- answer to an id that was drawn, so none to the next one.
+pub record HasKeptSessions (end : End) : Type 0 where
+  pub sessions : AreKept end.sessions
+  pub drawn : AwaitBelow (next_id end) end.sessions

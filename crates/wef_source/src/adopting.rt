@@ -2,10 +2,11 @@
 
 ghost use Rattle.std.specs.Prelude.{◌≡◌, [], IfOk, IfErr, OnOk};
 ghost use Rattle.wef_eventing.specs.Addresses.{subscription_in};
+ghost use Rattle.wef_eventing.specs.Sending.{AreServable, IsServable};
 ghost use Rattle.wef_query.specs.Selected.{channels_of};
 ghost use Rattle.wef_source.specs.Answers.{WantsMemory};
 ghost use Rattle.wef_source.specs.Placing as placing;
-ghost use Rattle.wef_source.specs.Serving.{AreKept, IsCovered};
+ghost use Rattle.wef_source.specs.Serving.{AreKept, CanBeServed};
 ghost use Rattle.wef_source.specs.Sessions as spec;
 
 use crate::faults::SourceFault;
@@ -24,6 +25,7 @@ pub fn sessions_of(
     offers: &List<Offer>,
     now: Moment,
 ) -> Result<Vec<Session>, SourceFault>
+    requires { AreServable offers.now }
     ensures ok { IfOk result (λ sessions. sessions.items ≡ spec.with_offers now [] offers.now) }
     ensures kept { IfOk result (λ sessions. AreKept sessions.items) }
     ensures refusal { IfErr result WantsMemory }
@@ -43,7 +45,8 @@ fn take_offer(
     subscribe: &Subscribe,
     now: Moment,
 ) -> Result<(), SourceFault>
-    requires { AreKept sessions.old.items }
+    requires kept { AreKept sessions.old.items }
+    requires servable { IsServable subscribe.now }
     ensures ok { OnOk result (sessions.new.items
         ≡ spec.with_offered now sessions.old.items subscribe.now (subscription_in subscribe.now.notify_to)) }
     ensures kept { OnOk result (AreKept sessions.new.items) }
@@ -120,7 +123,7 @@ fn add_channels(positions: &mut Bookmark, channels: &[ChannelName]) -> Result<()
 /// Puts a session at its place, in place of one of its name.
 fn put_session(sessions: &mut Vec<Session>, session: Session) -> Result<(), AllocError>
     requires kept { AreKept sessions.old.items }
-    requires covered { IsCovered session }
+    requires served { CanBeServed session }
     ensures ok { OnOk result (sessions.new.items ≡ spec.with_session sessions.old.items session) }
     ensures kept { OnOk result (AreKept sessions.new.items) }
 {

@@ -2,6 +2,7 @@
 
 ghost use Rattle.std.specs.Prelude.{◌≡◌, false, true, is_some, Some, IfOk, IfErr, IfSome, OnOk, OnErr};
 ghost use Rattle.wef_batch.specs.Numbers.{AreNumbered};
+ghost use Rattle.wef_eventing.specs.Sending.{AreServable};
 ghost use Rattle.wef_ids.specs.IdTexts.{id_of_value};
 ghost use Rattle.wef_ids.specs.Ids.{ids_agree};
 ghost use Rattle.wef_keeper.specs.Access as access;
@@ -13,7 +14,7 @@ ghost use Rattle.wef_source.specs.Faults.{source_store};
 ghost use Rattle.wef_source.specs.Judged.{JudgesBatch, JudgesPoll};
 ghost use Rattle.wef_source.specs.Machine as machine;
 ghost use Rattle.wef_source.specs.Prepared.{MayDraw, MayRefuseToPrepare, Prepares, RefusesToPrepare};
-ghost use Rattle.wef_source.specs.Serving.{IsCovered};
+ghost use Rattle.wef_source.specs.Serving.{CanBeServed, HasKeptSessions};
 ghost use Rattle.wef_source.specs.Sessions as the_sessions;
 
 use crate::adopting::sessions_of;
@@ -51,7 +52,7 @@ impl Model for Memory {
     ghost use Rattle.std.specs.Prelude.{ℕ, List, Option, refl};
     ghost use Rattle.std.specs.Coded.{code_by, coded_ℕ, coded_list, coded_option, coded×};
     ghost use Rattle.wef_source.specs.Machine.{End};
-    ghost use Rattle.wef_source.specs.Serving.{AreKept};
+    ghost use Rattle.wef_source.specs.Serving.{HasKeptSessions};
     ghost use Rattle.wef_source.specs.contracts.sessions.Session as session;
     ghost use Rattle.wef_source.specs.declared.sessions.Session.{Session};
 
@@ -63,7 +64,7 @@ impl Model for Memory {
 
     ghost view = { λ m. record { boot = m.boot; drawn = m.drawn; ask = m.ask; sessions = m.sessions.items } };
 
-    ghost invariant = { λ m. AreKept m.sessions.items };
+    ghost invariant = { λ m. HasKeptSessions (record { boot = m.boot; drawn = m.drawn; ask = m.ask; sessions = m.sessions.items }) };
 }
 
 impl Memory {
@@ -103,13 +104,15 @@ impl Memory {
 
     /// Takes the offers that answer the ask, at a moment: the sessions are theirs from now on, and begin where
     /// the offers say. Of two offers of one name the later stands; one whose address leads to no subscription
-    /// is passed over. Answers how many sessions there are.
+    /// is passed over. Answers how many sessions there are. The offers' batches have to go to addresses of HTTP, with
+    /// identifiers that XML allows.
     pub fn adopt(
         &mut self,
         relates: &MessageId,
         offers: &List<Offer>,
         now: Moment,
     ) -> Result<u64, SourceFault>
+        requires { AreServable offers.now }
         ensures ok { IfOk result (answers.Adopts self.old self.new relates.now offers.now now) }
         ensures refusal { IfErr result (λ fault. answers.RefusesAdopt fault self.old relates.now) }
         ensures err { OnErr result (self.new ≡ self.old) }
@@ -122,6 +125,13 @@ impl Memory {
         self.sessions = sessions;
         self.ask = None;
         Ok(count)
+    }
+
+    /// What is remembered keeps this of its sessions.
+    pub fn sessions_are_kept(&self)
+        ensures { HasKeptSessions self.now }
+    {
+        let _sessions = self.sessions.as_slice();
     }
 
     /// The names of the sessions' subscriptions, in the order of their bytes.
@@ -222,7 +232,7 @@ impl Memory {
         log: &mut Log<K>,
         session: &Session,
     ) -> Result<Option<(Delivery, Outstanding)>, SourceFault>
-        requires { IsCovered session.now }
+        requires { CanBeServed session.now }
         ensures ok { IfSome (K.store log.new.keeper).rows (λ rows. IfOk result (Prepares rows self.now session.now)) }
         ensures refusal { IfSome (K.store log.new.keeper).rows (λ rows. IfErr result (RefusesToPrepare rows self.now session.now)) }
         ensures draws { IfOk result (MayDraw self.now session.now) }
@@ -248,7 +258,7 @@ impl Memory {
         log: &mut Log<K>,
         session: &Session,
     ) -> Result<Option<(Delivery, Outstanding)>, SourceFault>
-        requires covered { IsCovered session.now }
+        requires served { CanBeServed session.now }
         requires idle { is_some session.now.outstanding ≡ false }
         requires ready { access.IsReady (K.store log.old.keeper) }
         ensures ok { IfSome (K.store log.new.keeper).rows (λ rows. IfOk result (Prepares rows self.now session.now)) }

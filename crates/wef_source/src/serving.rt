@@ -3,7 +3,7 @@
 ghost use Rattle.std.specs.Prelude.{◌≡◌, false, is_some, if◌then◌else◌};
 ghost use Rattle.std.specs.List.{position};
 ghost use Rattle.wef_bookmark.specs.Order.{joined};
-ghost use Rattle.wef_source.specs.Serving.{AreKept, HasAll, IsCovered};
+ghost use Rattle.wef_source.specs.Serving.{AreKept, HasAll, CanBeServed};
 ghost use Rattle.wef_source.specs.Machine.{is_unreachable};
 ghost use Rattle.wef_source.specs.Sessions as spec;
 
@@ -123,7 +123,7 @@ fn settle(session: &mut Session)
 }
 
 fn take_answer(session: &mut Session, answer: Answer)
-    requires { IsCovered session.old }
+    requires { CanBeServed session.old }
     ensures { session.new ≡ spec.answered answer session.old }
 {
     match answer {
@@ -134,7 +134,7 @@ fn take_answer(session: &mut Session, answer: Answer)
 
 /// Moves a session behind its delivery. It takes no memory.
 fn acknowledge(session: &mut Session)
-    requires { IsCovered session.old }
+    requires { CanBeServed session.old }
     ensures { session.new ≡ spec.acknowledged session.old }
 {
     if let Some(outstanding) = session.outstanding.take() {

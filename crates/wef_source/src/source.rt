@@ -1,6 +1,7 @@
 //! The source end.
 
 ghost use Rattle.std.specs.Prelude.{◌≡◌, ◌≤◌, true, false, IfOk, IfErr, IfSome, OnOk, OnErr, MatchResult};
+ghost use Rattle.wef_eventing.specs.Sending.{AreServable};
 ghost use Rattle.wef_keeper.specs.Access as access;
 ghost use Rattle.wef_keeper.specs.Calls.{IsCall, Looks, fails};
 ghost use Rattle.wef_keeper.specs.Keeping as keeping;
@@ -14,6 +15,7 @@ ghost use Rattle.wef_source.specs.Calls.{start_effect, write_effect};
 ghost use Rattle.wef_source.specs.Faults.{source_answer, source_store};
 ghost use Rattle.wef_source.specs.Judged.{JudgesPoll};
 ghost use Rattle.wef_source.specs.Machine as machine;
+ghost use Rattle.wef_source.specs.Serving.{HasKeptSessions};
 ghost use Rattle.wef_source.specs.Sessions as the_sessions;
 
 use crate::faults::SourceFault;
@@ -121,13 +123,15 @@ impl<K: Keeper> SourceEnd<K> {
 
     /// Takes the offers that answer the ask, at a moment: the sessions are theirs from now on, and begin where
     /// the offers say. Of two offers of one name the later stands; one whose address leads to no subscription
-    /// is passed over. Answers how many sessions there are.
+    /// is passed over. Answers how many sessions there are. The offers' batches have to go to addresses of HTTP, with
+    /// identifiers that XML allows.
     pub fn adopt(
         &mut self,
         relates: &MessageId,
         offers: &List<Offer>,
         now: Moment,
     ) -> Result<u64, SourceFault>
+        requires { AreServable offers.now }
         ensures ok { IfOk result (answers.Adopts self.old.memory self.new.memory relates.now offers.now now) }
         ensures refusal { IfErr result (λ fault. answers.RefusesAdopt fault self.old.memory relates.now) }
         ensures err { OnErr result (self.new.memory ≡ self.old.memory) }
@@ -135,6 +139,13 @@ impl<K: Keeper> SourceEnd<K> {
         ensures name { self.new.name ≡ self.old.name }
     {
         self.memory.adopt(relates, offers, now)
+    }
+
+    /// What a source remembers keeps this of its sessions.
+    pub fn sessions_are_kept(&self)
+        ensures { HasKeptSessions self.now.memory }
+    {
+        self.memory.sessions_are_kept();
     }
 
     /// The names of the sessions' subscriptions, in the order of their bytes.

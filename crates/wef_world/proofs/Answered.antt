@@ -20,7 +20,7 @@ use Rattle.wef_front.specs.Heard.{Hears}
 use Rattle.wef_front.specs.Replies.{IsAnswer, IsKnownReply, IsSpeltFor, answer_of, ids_behind, reply_bytes}
 use Rattle.wef_front.specs.Sending.{CanBeSent, delivery_bytes}
 use Rattle.wef_front.specs.Steps.{IsAnswered, IsKnownSaid, Steps, done_said, fault_for, said_of}
-use Rattle.wef_front.specs.declared.answering.Answer.{Answer}
+use Rattle.wef_http_heads.specs.declared.answers.Answer.{Answer}
 use Rattle.wef_front.specs.declared.hearing.Asked.{Asked}
 use Rattle.wef_front.specs.declared.hearing.Asked.TheVariants.{Take}
 use Rattle.wef_front.specs.declared.hearing.Heard.{Heard}

@@ -18,7 +18,7 @@ use Rattle.wef_front.specs.Heard.{Hears}
 use Rattle.wef_front.specs.Replies.{CanBeAnswered, IsAnswer, IsSpeltFor, answer_of, ids_after, ids_behind, offers_bytes}
 use Rattle.wef_front.specs.Sending.{CanBeAsked, Wish, enumerate_bytes}
 use Rattle.wef_front.specs.Steps.{CallsFor, IsAnswered, said_with}
-use Rattle.wef_front.specs.declared.answering.Answer.{Answer}
+use Rattle.wef_http_heads.specs.declared.answers.Answer.{Answer}
 use Rattle.wef_front.specs.declared.hearing.Asked.TheVariants.{Enumerate}
 use Rattle.wef_front.specs.declared.hearing.Heard.{Heard}
 use Rattle.wef_front.specs.declared.saying.Said.TheVariants as says

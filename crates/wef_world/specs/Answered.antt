@@ -15,7 +15,7 @@ use Rattle.wef_eventing.specs.Addresses.{source_in, subscription_in}
 use Rattle.wef_front.specs.HeardReplies.{Told, told}
 use Rattle.wef_front.specs.Replies.{IsSpeltFor, answer_of}
 use Rattle.wef_front.specs.Steps.{IsKnownSaid}
-use Rattle.wef_front.specs.declared.answering.Answer.{Answer}
+use Rattle.wef_http_heads.specs.declared.answers.Answer.{Answer}
 use Rattle.wef_front.specs.declared.hearing.Asked as the_asked
 use Rattle.wef_front.specs.declared.hearing.Asked.TheVariants.{Refused, Take}
 use Rattle.wef_front.specs.declared.hearing.Heard.{Heard}

@@ -6,7 +6,8 @@ use Rattle.wef_source.specs.Answers.{Polls, Sends, SendsAddressed, SendsNumbered
 use Rattle.wef_source.specs.declared.messages.Poll.{Poll}
 use Rattle.wef_source.specs.declared.messages.Poll.TheVariants.{Send}
 use Rattle.wef_source_log.specs.Forms.{AreFormed}
-use Rattle.wef_forwarding.proofs.Forwarded.{delivered_forwards, delivered_settles, delivered_unread}
+use Rattle.wef_forwarding.proofs.Forwarded.{delivered_forwards, delivered_unread}
+use Rattle.wef_forwarding.proofs.Settling.{delivered_settles}
 use Rattle.wef_forwarding.proofs.Taking.{sent_can_be_written, sent_is_awaited}
 use Rattle.wef_forwarding.proofs.forwarding.forward_once.Goals as goal
 
@@ -16,7 +17,7 @@ deliver-requires-clause-written g c =
     let mid = c.poll.new.self.memory in
     let u = c.args.sub.now in
     let is = c.in-Ok-Send.field-0-is in
-    sent_can_be_written end mid u c.args.now c.in-Ok-Send.delivery c.requires (subst (Sends end mid u c.args.now) is c.in-Ok-Send.ensures.sends) (subst (SendsAddressed end u) is c.in-Ok-Send.ensures.addressed)
+    sent_can_be_written end mid u c.args.now c.in-Ok-Send.delivery c.sessions_are_kept.ensures (subst (Sends end mid u c.args.now) is c.in-Ok-Send.ensures.sends) (subst (SendsAddressed end u) is c.in-Ok-Send.ensures.addressed)
     (subst SendsNumbered is c.in-Ok-Send.ensures.numbered)
 
 pub deliver-requires-clause-awaited : goal.deliver-requires-clause-awaited
@@ -49,4 +50,7 @@ returns-in-Ok-Send-clause-reads g c =
 
 pub returns-in-Ok-Send-clause-settled : goal.returns-in-Ok-Send-clause-settled
 returns-in-Ok-Send-clause-settled g c =
-    delivered_settles c.in-Ok-Send.delivery c.args.sub.now (g.L.Port.told c.args.link.now) (g.L.Port.told c.deliver.new.link) c.poll.new.self.memory c.deliver.new.source.memory c.deliver.result c.deliver.ensures.delivered
+    let end = c.args.source.now.memory in
+    let mid = c.poll.new.self.memory in
+    delivered_settles end mid c.deliver.new.source.memory c.args.sub.now c.args.now c.in-Ok-Send.delivery c.deliver.ensures.delivered.answer c.deliver.result c.sessions_are_kept.ensures
+    (subst (Sends end mid c.args.sub.now c.args.now) c.in-Ok-Send.field-0-is c.in-Ok-Send.ensures.sends) c.deliver.ensures.delivered.ends

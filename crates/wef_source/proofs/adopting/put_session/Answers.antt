@@ -25,7 +25,7 @@ returns-in-Ok-clause-ok c =
 
 pub returns-in-Ok-clause-kept : goal.returns-in-Ok-clause-kept
 returns-in-Ok-clause-kept c =
-    subst AreKept (sym (returns-in-Ok-clause-ok c)) (with_session_kept c.args.sessions.now.items c.args.session c.requires.kept c.requires.covered)
+    subst AreKept (sym (returns-in-Ok-clause-ok c)) (with_session_kept c.args.sessions.now.items c.args.session c.requires.kept c.requires.served)
 
 pub returns-in_ok-insert-in-Err-clause-ok : goal.returns-in_ok-insert-in-Err-clause-ok
 returns-in_ok-insert-in-Err-clause-ok c =
@@ -34,4 +34,4 @@ returns-in_ok-insert-in-Err-clause-ok c =
 
 pub returns-in_ok-insert-in-Err-clause-kept : goal.returns-in_ok-insert-in-Err-clause-kept
 returns-in_ok-insert-in-Err-clause-kept c =
-    subst AreKept (sym (returns-in_ok-insert-in-Err-clause-ok c)) (with_session_kept c.args.sessions.now.items c.args.session c.requires.kept c.requires.covered)
+    subst AreKept (sym (returns-in_ok-insert-in-Err-clause-ok c)) (with_session_kept c.args.sessions.now.items c.args.session c.requires.kept c.requires.served)

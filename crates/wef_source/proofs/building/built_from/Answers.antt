@@ -12,9 +12,9 @@ use Rattle.wef_source.proofs.Judging.{batch_judged}
 use Rattle.wef_source.proofs.Told.{both_told}
 use Rattle.wef_source.proofs.building.built_from.Goals as goal
 
-pub filled-requires-clause-covered : goal.filled-requires-clause-covered
-filled-requires-clause-covered g c =
-    subst (HasEach c.args.session.now.positions) (sym c.requires.channels) c.requires.covered.queried
+pub filled-requires-clause-served : goal.filled-requires-clause-served
+filled-requires-clause-served g c =
+    subst (HasEach c.args.session.now.positions) (sym c.requires.channels) c.requires.served.queried
 
 pub returns-clause-ok : goal.returns-clause-ok
 returns-clause-ok g c =

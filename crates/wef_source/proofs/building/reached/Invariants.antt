@@ -9,7 +9,7 @@ use Rattle.wef_source.proofs.building.reached.Given as goal
 abbrev pub invariant-loop-channel : goal.invariant-loop-channel
 invariant-loop-channel g l = record {
   read : HasRead (g.K.Keeper.store l.fn.log.keeper) (g.K.Keeper.store l.log.keeper);
-  covered : HasAll l.session.positions l.to;
+  served : HasAll l.session.positions l.to;
   rest : IfSome (g.K.Keeper.store l.log.keeper).rows (λ rows. with_reaches l.session.positions l.to (reaches rows (drop l.channel-index l.channels) (option_to_list l.left))
       ≡ with_reaches l.session.positions map.empty (reaches rows l.channels (option_to_list l.left)));
 }

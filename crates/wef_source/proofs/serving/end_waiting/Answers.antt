@@ -2,7 +2,7 @@ use Rattle.std.proofs.Common.{◌≡◌, ap, sym, ◌∙◌, Some, None}
 use Rattle.std.specs.Prelude.{is_some}
 use Rattle.std.specs.List.{position}
 use Rattle.wef_source.specs.Sessions.{waits_for}
-use Rattle.wef_source.proofs.Covering.{removed_covered}
+use Rattle.wef_source.proofs.Served.{removed_served}
 use Rattle.wef_source.proofs.InOrder.{without_in_order}
 use Rattle.wef_source.proofs.Places.{first_nowhere, is_there, within_at, without_at, without_nowhere}
 use Rattle.wef_source.proofs.serving.end_waiting.Goals as goal
@@ -31,6 +31,6 @@ pub returns-clause-kept : goal.returns-clause-kept
 returns-clause-kept c =
     let at : position (waits_for c.args.id) c.args.sessions.now.items ≡ Some c.in-Some.place = cc in
     record {
-      covered = rw c.remove-ended.ensures.items (removed_covered c.args.sessions.now.items c.in-Some.place c.requires.covered (within_at (waits_for c.args.id) c.args.sessions.now.items c.in-Some.place at));
+      served = rw c.remove-ended.ensures.items (removed_served c.args.sessions.now.items c.in-Some.place c.requires.served (within_at (waits_for c.args.id) c.args.sessions.now.items c.in-Some.place at));
       in_order = rw (returns-clause-changed c) (without_in_order (waits_for c.args.id) c.args.sessions.now.items c.requires.in_order);
     }

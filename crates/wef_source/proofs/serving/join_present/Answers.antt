@@ -3,7 +3,7 @@ use Rattle.std.specs.FinMap as map
 use Rattle.std.specs.List.{AllByRecursion}
 use Rattle.wef_bookmark.specs.Order.{raised_by}
 use Rattle.wef_source.specs.Serving.{HasAll}
-use Rattle.wef_source.proofs.Covering.{AreIn, IsWithin, entries_are_in, entries_within, raised_has_all}
+use Rattle.wef_source.proofs.Served.{AreIn, IsWithin, entries_are_in, entries_within, raised_has_all}
 use Rattle.wef_source.proofs.serving.join_present.Goals as goal
 
 pub loop-channel-init : goal.loop-channel-init

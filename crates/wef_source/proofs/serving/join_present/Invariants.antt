@@ -2,7 +2,7 @@ use Rattle.std.proofs.Common.{◌≡◌}
 use Rattle.std.specs.List.{AllByRecursion}
 use Rattle.wef_bookmark.specs.Order.{joined, raised_by}
 use Rattle.wef_source.specs.Serving.{HasAll}
-use Rattle.wef_source.proofs.Covering.{AreIn, IsWithin}
+use Rattle.wef_source.proofs.Served.{AreIn, IsWithin}
 use Rattle.wef_source.proofs.serving.join_present.Given as goal
 
 abbrev pub invariant-loop-channel : goal.invariant-loop-channel

@@ -1,4 +1,4 @@
-use Rattle.std.proofs.Common.{◌≡◌, ◌+◌, ◌<◌, ◌∙◌, ap, arith, sym, subst, set, Some, None}
+use Rattle.std.proofs.Common.{◌≡◌, ℕ, ◌+◌, ◌*◌, ◌<◌, ◌∙◌, ap, arith, sym, subst, set, Some, None}
 use Rattle.std.specs.Prelude.{Err}
 use Rattle.std.specs.List.{position}
 use Rattle.std.specs.Cmp.Lexicographic.{same_text}
@@ -8,18 +8,19 @@ use Rattle.wef_keeper.specs.Rows.{Rows}
 use Rattle.wef_source_log.specs.Forms.{AreFormed}
 use Rattle.wef_source.specs.Answers.{Polls, RefusesPoll}
 use Rattle.wef_source.specs.Faults.{source_store}
-use Rattle.wef_source.specs.Machine.{End, is_spent, most_drawn}
+use Rattle.wef_source.specs.Machine.{End, is_spent, most_drawn, next_id}
 use Rattle.wef_source.specs.Prepared.{MayDraw, Prepares, RefusesToPrepare}
-use Rattle.wef_source.specs.Serving.{HasAll}
+use Rattle.wef_source.specs.Serving.{AwaitBelow, HasAll}
 use Rattle.wef_source.specs.Sessions.{is_named, sending, session_of}
 use Rattle.wef_source.specs.declared.faults.SourceFault.TheVariants.{UnknownSubscription}
 use Rattle.wef_source.specs.declared.messages.Poll.TheVariants.{Nothing, Send}
 use Rattle.wef_source.specs.declared.sessions.Session.{Session}
 use Rattle.wef_source.proofs.Cases.{le_fails}
-use Rattle.wef_source.proofs.Covering.{read_covered}
+use Rattle.wef_source.proofs.Served.{read_served}
 use Rattle.wef_source.proofs.Places.{changed_at, first_at, first_nowhere, passes_at, same_session, within_at}
 use Rattle.wef_source.proofs.Polling.{awaits, awaits_nothing, looks_done, looks_refused, may_refuse, may_send_there, never_sends, polls_judged, polls_nothing, polls_send, refuses_poll, sends_addressed, sends_next, sends_nothing, sent_kept}
 use Rattle.wef_source.proofs.Told.{any_told, if_told, opens_itself}
+use Rattle.wef_source.proofs.DrawnIds.{sent_below}
 use Rattle.wef_source.proofs.memories.Memory.poll.Goals as goal
 
 pub returns-in_default-clause-refusal : goal.returns-in_default-clause-refusal
@@ -41,7 +42,7 @@ returns-in_default-clause-reads g c = opens_itself AreFormed (g.K.Keeper.store c
 pub prepared-requires : goal.prepared-requires
 prepared-requires g c =
     let at : position (is_named c.args.sub.now) c.self.inside.sessions.items ≡ Some c.in-Some.place = cc in
-    read_covered c.self.inside.sessions.items c.in-Some.place c.index.result.now c.self.invariant.covered (within_at (is_named c.args.sub.now) c.self.inside.sessions.items c.in-Some.place at) c.index.ensures
+    read_served c.self.inside.sessions.items c.in-Some.place c.index.result.now c.self.invariant.sessions.served (within_at (is_named c.args.sub.now) c.self.inside.sessions.items c.in-Some.place at) c.index.ensures
 
 pub returns-in_err-delivery-clause-refusal : goal.returns-in_err-delivery-clause-refusal
 returns-in_err-delivery-clause-refusal g c =
@@ -75,9 +76,16 @@ invariant_of-self g c =
     let draws = subst (MayDraw c.args.self.now c.index.result.now) c.in-Some-2.is c.in_ok-delivery.ensures.draws in
     let one = same_session (is_named c.args.sub.now) c.self.inside.sessions.items c.in-Some.place c.index.result.now c.index_mut.result.now at c.index.ensures c.index_mut.ensures.value in
     let changed = changed_at (is_named c.args.sub.now) (sending c.in-Some-2.outstanding c.args.now) c.self.inside.sessions.items c.in-Some.place c.index_mut.result.now c.send.new.session at c.index_mut.ensures.value c.send.ensures in
-    sent_kept c.args.sub.now c.args.now c.self.inside.sessions.items c.in-Some.place c.index_mut.result.now c.send.new.session c.in-Some-2.outstanding
-    c.self.invariant (within_at (is_named c.args.sub.now) c.self.inside.sessions.items c.in-Some.place at) c.index_mut.ensures.value
-    (subst (λ (s : Session). HasAll s.positions c.in-Some-2.outstanding.to) one draws.4) c.send.ensures changed
+    let next = c.self.inside.boot * 18446744073709551616 + (c.self.inside.drawn + 1) in
+    let further = c.self.inside.boot * 18446744073709551616 + (c.self.inside.drawn + 1 + 1) in
+    let id : c.in-Some-2.outstanding.id ≡ next = (λ i. (draws.3 i).id) ∙ ap next_id (sym c.self.view_is) in
+    record {
+      sessions = sent_kept c.args.sub.now c.args.now c.self.inside.sessions.items c.in-Some.place c.index_mut.result.now c.send.new.session c.in-Some-2.outstanding
+          c.self.invariant.sessions (within_at (is_named c.args.sub.now) c.self.inside.sessions.items c.in-Some.place at) c.index_mut.ensures.value
+          (subst (λ (s : Session). HasAll s.positions c.in-Some-2.outstanding.to) one draws.4) c.send.ensures changed;
+      drawn = subst (AwaitBelow further) (sym changed)
+          (sent_below next further (is_named c.args.sub.now) c.in-Some-2.outstanding c.args.now (omega arith) (subst (λ (n : ℕ). n < further) (sym id) (omega arith)) c.self.inside.sessions.items c.self.invariant.drawn);
+    }
 
 pub overflow_add-self : goal.overflow_add-self
 overflow_add-self g c =

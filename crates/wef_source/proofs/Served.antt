@@ -18,9 +18,10 @@ use Rattle.wef_base.specs.declared.numbers.TheConstants.{MAX}
 use Rattle.wef_bookmark.specs.Entries.{AreEntries}
 use Rattle.wef_bookmark.specs.Order.{Marks, joined, raised}
 use Rattle.wef_bookmark.proofs.Joining.{both, joined_has, order, raised_has}
+use Rattle.wef_eventing.specs.Sending.{IsServable}
 use Rattle.wef_eventing.specs.declared.offers.Subscribe.{Subscribe}
 use Rattle.wef_query.specs.Selected.{channels_of}
-use Rattle.wef_source.specs.Serving.{AreKept, HasAll, HasEach, IsCovered}
+use Rattle.wef_source.specs.Serving.{AreKept, HasAll, HasEach, CanBeServed}
 use Rattle.wef_source.proofs.InOrder.{none_in_order}
 use Rattle.wef_source.specs.Sessions.{acknowledged, answered, moved_by, sending, session_from, settled, with_channels}
 use Rattle.wef_source.specs.declared.serving.Answer.{Answer}
@@ -57,39 +58,41 @@ raised_only p to c n there has d found = by (same d c) refl (sym (raised_has to 
     by true is h = subst (λ x. is_some (map.get p x) ≡ true) (sym (same_text d c (sym is))) there
     by false is h = has d h
 
-pub settled_covered : (s : Session) → IsCovered s → IsCovered (settled s)
-settled_covered s h = record { queried = h.queried; awaited = has_nothing s.positions }
+pub settled_served : (s : Session) → CanBeServed s → CanBeServed (settled s)
+settled_served s h = record { queried = h.queried; awaited = has_nothing s.positions; notify_to = h.notify_to; identifier = h.identifier }
 
-pub sending_covered : (s : Session) (outstanding : Outstanding) (now : ℕ) → HasAll s.positions outstanding.to → IsCovered s → IsCovered (sending outstanding now s)
-sending_covered s outstanding now has h = record { queried = h.queried; awaited = has }
+pub sending_served : (s : Session) (outstanding : Outstanding) (now : ℕ) → HasAll s.positions outstanding.to → CanBeServed s → CanBeServed (sending outstanding now s)
+sending_served s outstanding now has h = record { queried = h.queried; awaited = has; notify_to = h.notify_to; identifier = h.identifier }
 
-pub acknowledged_covered : (s : Session) → IsCovered s → IsCovered (acknowledged s)
-acknowledged_covered s h = by s.outstanding
+pub acknowledged_served : (s : Session) → CanBeServed s → CanBeServed (acknowledged s)
+acknowledged_served s h = by s.outstanding
   where
-    by : (o : Option Outstanding) → IsCovered (moved_by o s)
-    by None = settled_covered s h
+    by : (o : Option Outstanding) → CanBeServed (moved_by o s)
+    by None = settled_served s h
     by (Some outstanding) = record {
       queried = λ c in_query. joined_has s.positions outstanding.to c ∙ either _ _ (h.queried c in_query);
       awaited = has_nothing (joined s.positions outstanding.to);
+      notify_to = h.notify_to;
+      identifier = h.identifier;
     }
 
-pub answered_covered : (answer : Answer) (s : Session) → IsCovered s → IsCovered (answered answer s)
-answered_covered Taken s h = acknowledged_covered s h
-answered_covered Refused s h = settled_covered s h
+pub answered_served : (answer : Answer) (s : Session) → CanBeServed s → CanBeServed (answered answer s)
+answered_served Taken s h = acknowledged_served s h
+answered_served Refused s h = settled_served s h
 
--- sessions of which one was changed in a way that keeps it covered
-pub changed_covered : (change : Session → Session) → ((s : Session) → IsCovered s → IsCovered (change s)) → (ss : List Session) (k : ℕ) (s t : Session)
-    → All IsCovered ss → k < length ss → s ≡ get_or ss k s → t ≡ change s → All IsCovered (set ss k t)
-changed_covered change keeps ss k s t all within read made =
-    let here : IsCovered s = subst IsCovered (sym read) (All-get_or IsCovered ss k s within all) in
-    All-set IsCovered ss k t (subst IsCovered (sym made) (keeps s here)) all
+-- sessions of which one was changed in a way that keeps it served
+pub changed_served : (change : Session → Session) → ((s : Session) → CanBeServed s → CanBeServed (change s)) → (ss : List Session) (k : ℕ) (s t : Session)
+    → All CanBeServed ss → k < length ss → s ≡ get_or ss k s → t ≡ change s → All CanBeServed (set ss k t)
+changed_served change keeps ss k s t all within read made =
+    let here : CanBeServed s = subst CanBeServed (sym read) (All-get_or CanBeServed ss k s within all) in
+    All-set CanBeServed ss k t (subst CanBeServed (sym made) (keeps s here)) all
 
-pub read_covered : (ss : List Session) (k : ℕ) (s : Session) → All IsCovered ss → k < length ss → s ≡ get_or ss k s → IsCovered s
-read_covered ss k s all within read = subst IsCovered (sym read) (All-get_or IsCovered ss k s within all)
+pub read_served : (ss : List Session) (k : ℕ) (s : Session) → All CanBeServed ss → k < length ss → s ≡ get_or ss k s → CanBeServed s
+read_served ss k s all within read = subst CanBeServed (sym read) (All-get_or CanBeServed ss k s within all)
 
 -- sessions of which one was taken out
-pub removed_covered : (ss : List Session) (k : ℕ) → All IsCovered ss → k < length ss → All IsCovered (remove ss k)
-removed_covered ss k all within = λ j d below.
+pub removed_served : (ss : List Session) (k : ℕ) → All CanBeServed ss → k < length ss → All CanBeServed (remove ss k)
+removed_served ss k all within = λ j d below.
     let long = length-remove ss k within in
     ⊎_elim
     (λ before. rw (get_or-remove_below ss k d j before within) (all j d (omega arith)))
@@ -151,7 +154,7 @@ pub entries_within : (b : Marks) → AreEntries b → AllByRecursion IsWithin (m
 entries_within b kept = within_from b (map.entries b) kept (are_found (map.entries b) (map.entries_sorted b))
 
 pub none_kept : AreKept []
-none_kept = record { covered = λ k d below. absurd (omega arith); in_order = none_in_order }
+none_kept = record { served = λ k d below. absurd (omega arith); in_order = none_in_order }
 
 channel_kept : (b : Marks) (cs : List (List ℕ)) (c : List ℕ) → is_some (map.get b c) ≡ true → is_some (map.get (with_channels b cs) c) ≡ true
 channel_kept b [] c there = there
@@ -171,10 +174,12 @@ channels_added b (x ∷ xs) c listed = by (channels_added (raised b x 0) xs c) (
     by rest true is there = channel_kept (raised b x 0) xs c (raised_has b x 0 c ∙ either _ _ (same_turned x c is))
     by rest false is there = rest there
 
-pub begun_covered : (now : ℕ) (subscribe : Subscribe) (u : List ℕ) → IsCovered (session_from now subscribe u)
-begun_covered now subscribe u =
+pub begun_served : (now : ℕ) (subscribe : Subscribe) (u : List ℕ) → IsServable subscribe → CanBeServed (session_from now subscribe u)
+begun_served now subscribe u servable =
     let positions = with_channels subscribe.from (channels_of subscribe.query.items) in
     record {
       queried = channels_added subscribe.from (channels_of subscribe.query.items);
       awaited = has_nothing positions;
+      notify_to = servable.notify_to;
+      identifier = servable.identifier;
     }

@@ -14,7 +14,7 @@ use wef_keeper::{Keeper, Key, MemKeeper, Row};
 
 /// The subscriptions of a new collector, each to all events of `application`.
 #[derive(Clone, Copy)]
-pub(crate) enum Kept {
+pub enum Kept {
     /// `base`, live.
     Live,
     /// `base`, ended.
@@ -24,7 +24,7 @@ pub(crate) enum Kept {
 }
 
 /// A collector of boot 1 with subscriptions.
-pub(crate) fn collector_of(alloc: Global, kept: Kept) -> Result<Collector<MemKeeper>, AllocError> {
+pub fn collector_of(alloc: Global, kept: Kept) -> Result<Collector<MemKeeper>, AllocError> {
     let mut collector = started(alloc)?;
     add(&mut collector, &subscription(alloc, "base")?)?;
     match kept {
@@ -36,7 +36,7 @@ pub(crate) fn collector_of(alloc: Global, kept: Kept) -> Result<Collector<MemKee
 }
 
 /// The host that requests name.
-pub(crate) fn host(alloc: Global) -> Result<Text, AllocError>
+pub fn host(alloc: Global) -> Result<Text, AllocError>
     ensures { IfOk result (λ host. IsHost host) }
 {
     Text::from_str(alloc, "collector:5985")
@@ -49,7 +49,7 @@ fn started(alloc: Global) -> Result<Collector<MemKeeper>, AllocError> {
     }
 }
 
-pub(crate) fn base(alloc: Global) -> Result<SubId, AllocError> {
+pub fn base(alloc: Global) -> Result<SubId, AllocError> {
     named(alloc, "base")
 }
 
@@ -102,7 +102,7 @@ fn end(collector: &mut Collector<MemKeeper>, sub: &SubId) -> Result<(), AllocErr
 
 /// What is kept behind an answer: `rows as before` where no row of a new collector differs, or the
 /// report and the moments at which sources were heard.
-pub(crate) fn push_left(
+pub fn push_left(
     shown: &mut Text,
     collector: Collector<MemKeeper>,
     kept: Kept,
@@ -112,12 +112,12 @@ pub(crate) fn push_left(
 }
 
 /// The rows of a new collector.
-pub(crate) fn first_rows(alloc: Global, kept: Kept) -> Result<List<Row>, AllocError> {
+pub fn first_rows(alloc: Global, kept: Kept) -> Result<List<Row>, AllocError> {
     rows_of(alloc, collector_of(alloc, kept)?)
 }
 
 /// What is kept, where the rows of a new collector are at hand.
-pub(crate) fn push_changed(
+pub fn push_changed(
     shown: &mut Text,
     before: &[Row],
     collector: Collector<MemKeeper>,

@@ -1,6 +1,6 @@
 use Rattle.std.proofs.Common.{◌≡◌, length}
-use Rattle.wef_bodies.specs.Addresses.{behind_slash}
-use Rattle.wef_bodies.proofs.addresses.behind_slash.Given as goal
+use Rattle.wef_eventing.specs.Addresses.{behind_slash}
+use Rattle.wef_eventing.proofs.targets.behind_slash.Given as goal
 
 abbrev pub invariant-loop-byte : goal.invariant-loop-byte
 invariant-loop-byte l = behind_slash l.rest ≡ behind_slash l.text

@@ -1,0 +1,207 @@
+//! Connections of a front, and what comes of them.
+
+use crate::replies::push_replies;
+use std::alloc::{AllocError, Global};
+use tests_collectors::collectors::{Kept, collector_of, first_rows, push_changed, push_left};
+use tests_collectors::requests::bytes_of;
+use wef_base::{Bytes, List, Moment, Text};
+use wef_collector::Collector;
+use wef_collector_serving::{ConnectionEnd, serve_connection, serve_next_connection};
+use wef_connections::{Front, MemConnection, MemFront};
+use wef_keeper::{MemKeeper, Row};
+use wef_ports::FixedClock;
+
+/// What came of a connection: how it ended, where one was taken, and what was sent in it.
+#[derive(Drop)]
+struct Outcome {
+    over: Option<ConnectionEnd>,
+    sent: Bytes,
+}
+
+/// A front to which one connection comes, in pieces of so many bytes, and of which the call of a
+/// number fails.
+fn front_of(alloc: Global, bytes: &[u8], piece: usize, call: u64) -> Result<MemFront, AllocError> {
+    let mut cuts = List::new(alloc);
+    for place in 0..bytes.len() {
+        if place % piece.max(1) == 0 {
+            cuts.push(place)?;
+        }
+    }
+    let mut connections = List::new(alloc);
+    connections.push(MemConnection {
+        bytes: Bytes::from_slice(alloc, bytes)?,
+        cuts,
+    })?;
+    let mut failing = List::new(alloc);
+    failing.push(call)?;
+    Ok(MemFront::of(alloc, connections, failing))
+}
+
+fn clock() -> FixedClock {
+    FixedClock::at(Moment::of(1_000).unwrap_or(Moment::first()))
+}
+
+/// Takes a connection and serves it.
+fn served(
+    alloc: Global,
+    collector: &mut Collector<MemKeeper>,
+    front: &mut MemFront,
+) -> Result<Outcome, AllocError> {
+    let over = serve_next_connection(alloc, front, collector, &mut clock()).ok();
+    outcome_of(alloc, front, over)
+}
+
+/// The same, with each call of the front by itself.
+fn served_by_hand(
+    alloc: Global,
+    collector: &mut Collector<MemKeeper>,
+    front: &mut MemFront,
+) -> Result<Outcome, AllocError> {
+    if front.accept().is_err() {
+        return outcome_of(alloc, front, None);
+    }
+    let over = serve_connection(alloc, front, collector, &mut clock());
+    front.close();
+    outcome_of(alloc, front, Some(over))
+}
+
+fn outcome_of(
+    alloc: Global,
+    front: &MemFront,
+    over: Option<ConnectionEnd>,
+) -> Result<Outcome, AllocError> {
+    let sent = match front.sent().last() {
+        Some(sent) => Bytes::from_slice(alloc, sent.as_slice())?,
+        None => Bytes::new(alloc),
+    };
+    Ok(Outcome { over, sent })
+}
+
+/// What comes of the connection of a line, whose bytes come at once, and what is kept behind it; and
+/// whether the same comes of it where they come one by one.
+pub(crate) fn push_served(shown: &mut Text, line: &str) -> Result<(), AllocError> {
+    let alloc = shown.alloc();
+    let bytes = bytes_of(alloc, line)?;
+    let mut collector = collector_of(alloc, Kept::Live)?;
+    let mut front = front_of(alloc, bytes.as_slice(), 1_000_000, 0)?;
+    let at_once = served(alloc, &mut collector, &mut front)?;
+    push_outcome(shown, &at_once)?;
+    push_left(shown, collector, Kept::Live)?;
+    let mut collector = collector_of(alloc, Kept::Live)?;
+    let mut front = front_of(alloc, bytes.as_slice(), 1, 0)?;
+    let one_by_one = served_by_hand(alloc, &mut collector, &mut front)?;
+    shown.push_str(if is_same(&at_once, &one_by_one) {
+        ""
+    } else {
+        "; not so one by one"
+    })
+}
+
+/// What comes of the connection of a line where the first commit fails, and leaves nothing.
+pub(crate) fn push_failing(shown: &mut Text, line: &str) -> Result<(), AllocError> {
+    let alloc = shown.alloc();
+    let bytes = bytes_of(alloc, line)?;
+    let mut collector = collector_of(alloc, Kept::Live)?;
+    collector.fail_next(false);
+    let mut front = front_of(alloc, bytes.as_slice(), 1_000_000, 0)?;
+    let failing = served(alloc, &mut collector, &mut front)?;
+    push_outcome(shown, &failing)?;
+    push_left(shown, collector, Kept::Live)
+}
+
+fn is_same(one: &Outcome, other: &Outcome) -> bool {
+    one.over == other.over && one.sent.as_slice() == other.sent.as_slice()
+}
+
+/// How a connection ended, and what was sent.
+fn push_outcome(shown: &mut Text, outcome: &Outcome) -> Result<(), AllocError> {
+    push_ending(shown, outcome)?;
+    push_replies(shown, outcome.sent.as_slice())
+}
+
+fn push_ending(shown: &mut Text, outcome: &Outcome) -> Result<(), AllocError> {
+    let Some(over) = outcome.over else {
+        return shown.push_str("no connection");
+    };
+    let told = format!(in shown.alloc(); "{over:?}")?;
+    shown.push_str(told.as_str())
+}
+
+/// What comes of each front of the bytes of a line, and what is kept behind it.
+pub(crate) fn push_cuts(shown: &mut Text, line: &str) -> Result<(), AllocError> {
+    let alloc = shown.alloc();
+    let bytes = bytes_of(alloc, line)?;
+    let before = first_rows(alloc, Kept::Live)?;
+    let mut runs = Runs::new(alloc);
+    for cut in 0..bytes.len() {
+        let mut front = front_of(alloc, &bytes.as_slice()[..cut], 1_000_000, 0)?;
+        runs.add(shown, cut as u64, before.as_slice(), &mut front)?;
+    }
+    let mut front = front_of(alloc, bytes.as_slice(), 1_000_000, 0)?;
+    runs.add(shown, bytes.len() as u64, before.as_slice(), &mut front)
+}
+
+/// What comes of the connection of a line where one call of the front fails, for the first calls of
+/// all, and what is kept behind it.
+pub(crate) fn push_broken(shown: &mut Text, line: &str) -> Result<(), AllocError> {
+    let alloc = shown.alloc();
+    let bytes = bytes_of(alloc, line)?;
+    let before = first_rows(alloc, Kept::Live)?;
+    let mut runs = Runs::new(alloc);
+    for call in 1..14 {
+        let mut front = front_of(alloc, bytes.as_slice(), 400, call)?;
+        runs.add(shown, call, before.as_slice(), &mut front)?;
+    }
+    Ok(())
+}
+
+/// Outcomes one after the other, of which each that is new is printed with its number.
+#[derive(Drop)]
+struct Runs {
+    last: Text,
+}
+
+impl Runs {
+    fn new(alloc: Global) -> Runs {
+        Runs {
+            last: Text::new(alloc),
+        }
+    }
+
+    /// Serves a connection for a new collector, whose rows these are, and prints what comes of it
+    /// where it isn't what came of the one before.
+    fn add(
+        &mut self,
+        shown: &mut Text,
+        number: u64,
+        before: &[Row],
+        front: &mut MemFront,
+    ) -> Result<(), AllocError> {
+        let text = told(shown.alloc(), before, front)?;
+        if text != self.last {
+            shown.push_str(if self.last.is_empty() {
+                "from "
+            } else {
+                "\n    from "
+            })?;
+            shown.push_number(number)?;
+            shown.push_str(": ")?;
+            shown.push_str(text.as_str())?;
+            self.last = text;
+        }
+        Ok(())
+    }
+}
+
+/// How the connection of a front ends, how much is sent in it, and what is kept behind it.
+fn told(alloc: Global, before: &[Row], front: &mut MemFront) -> Result<Text, AllocError> {
+    let mut text = Text::new(alloc);
+    let mut collector = collector_of(alloc, Kept::Live)?;
+    let outcome = served(alloc, &mut collector, front)?;
+    push_ending(&mut text, &outcome)?;
+    text.push_str(", ")?;
+    text.push_number(outcome.sent.len() as u64)?;
+    text.push_str(" bytes sent")?;
+    push_changed(&mut text, before, collector)?;
+    Ok(text)
+}
