@@ -10,4 +10,8 @@ pub mod outcomes;
 #[cfg(test)]
 mod rows;
 #[cfg(test)]
+mod shows;
+#[cfg(test)]
 mod words;
+#[cfg(test)]
+mod writes;

@@ -1,8 +1,10 @@
 //! Runs of commands over a keeper and streams in memory, and what they leave.
 
 use std::alloc::{AllocError, Global};
-use wef_base::{Bytes, List, MemSink, MemSource, Text};
+use wef_base::{Bytes, List, MemSink, MemSource, Moment, Text};
+use wef_connections::{MemFront, MemLink};
 use wef_keeper::Keeper;
+use wef_ports::FixedClock;
 
 /// What a run told.
 #[derive(Drop)]
@@ -44,18 +46,47 @@ pub fn ran_over<K: Keeper + Drop>(
     failing_reads: List<u64>,
     failing_writes: List<u64>,
 ) -> Result<(K, Outcome), AllocError> {
+    let input = MemSource::of(Bytes::from_slice(alloc, input)?, failing_reads);
+    let out = MemSink::of(alloc, failing_writes);
+    let mut front = MemFront::of(alloc, List::new(alloc), List::new(alloc));
+    ran_with(alloc, line, keeper, input, out, &mut front)
+}
+
+/// Runs `wef` with words that stand in a line, without an input and over a front, and hands the keeper
+/// back.
+pub fn ran_at<K: Keeper + Drop>(
+    alloc: Global,
+    line: &str,
+    keeper: K,
+    front: &mut MemFront,
+) -> Result<(K, Outcome), AllocError> {
+    let input = MemSource::of(Bytes::new(alloc), List::new(alloc));
+    let out = MemSink::of(alloc, List::new(alloc));
+    ran_with(alloc, line, keeper, input, out, front)
+}
+
+fn ran_with<K: Keeper + Drop>(
+    alloc: Global,
+    line: &str,
+    keeper: K,
+    input: MemSource,
+    out: MemSink,
+    front: &mut MemFront,
+) -> Result<(K, Outcome), AllocError> {
     let words = words_of(alloc, line)?;
-    let input = Bytes::from_slice(alloc, input)?;
-    let mut input = MemSource::of(input, failing_reads);
-    let mut out = MemSink::of(alloc, failing_writes);
+    let mut input = input;
+    let mut out = out;
     let mut err = MemSink::of(alloc, List::new(alloc));
     let (keeper, status) = wef_cli::run(
         alloc,
         words.as_slice(),
-        keeper,
         &mut input,
         &mut out,
         &mut err,
+        keeper,
+        front,
+        &mut MemLink::of(alloc, List::new(alloc), List::new(alloc)),
+        &mut FixedClock::at(Moment::first()),
     );
     Ok((keeper, Outcome { status, out, err }))
 }

@@ -21,6 +21,20 @@ const NO_COMMANDS: &[&str] = &[
     "remove -x",
     "remove a b",
     "subscribe a",
+    "write x",
+    "show x",
+    "collect",
+    "collect a:1",
+    "collect  1",
+    "collect h\u{f6}st:1 1",
+    "collect -a:1 1",
+    "collect a:1 ",
+    "collect a:1 0",
+    "collect a:1 01",
+    "collect a:1 1000001",
+    "collect a:1 -1",
+    "collect a:1 one",
+    "collect a:1 1 1",
 ];
 
 /// Inputs of `add`, and what is told of them.

@@ -49,7 +49,7 @@ fn channels(alloc: Global) -> Result<List<ChannelName>, Refusal>
 }
 
 /// The channel's event of a number, or a fault where there is none.
-fn event_of(alloc: Global, number: u64) -> Result<Event, Refusal> {
+pub(crate) fn event_of(alloc: Global, number: u64) -> Result<Event, Refusal> {
     let word = Text::from_str(alloc, "event")?;
     if number > MAX || !is_xml_text(&word)? {
         return Err(ValueFault::TooLarge.into());

@@ -10,7 +10,7 @@ const GREATEST: u64 = 9_223_372_036_854_775_807;
 const SYSTEM: &str = "<System><EventRecordID>7</EventRecordID><Channel>a</Channel></System>";
 
 /// A text with a piece so many times between two others.
-fn filled(
+pub fn filled(
     alloc: Global,
     front: &str,
     piece: &str,

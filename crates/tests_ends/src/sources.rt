@@ -1,5 +1,8 @@
 //! Sources by example: what is done with a source, in words, and what is answered.
 
+ghost use Rattle.std.specs.Prelude.{IfOk};
+ghost use Rattle.wef_eventing.specs.Sending.{AreServable, IsServable};
+
 use crate::failing::FailingKeeper;
 use crate::failures::{Failure, Started, Starts, others, started};
 use crate::steps::{Answer, Does, Refusal, channel, number, parted, push_id, push_steps};
@@ -10,7 +13,7 @@ use wef_base::{ChannelName, List, Moment, SourceName, SubId, Text, ValueFault};
 use wef_batch::{Batch, Item};
 use wef_bookmark::Bookmark;
 use wef_event::Event;
-use wef_eventing::{Offer, Subscribe};
+use wef_eventing::{Offer, Subscribe, is_address};
 use wef_ids::{FaultName, MessageId};
 use wef_keeper::{Keeper, MemKeeper};
 use wef_query::QueryList;
@@ -110,14 +113,21 @@ fn add(names: &mut List<ChannelName>, alloc: Global, name: &str) -> Result<(), V
 }
 
 /// An offer of the subscription `u`.
-fn offer_of(alloc: Global, max_items: u32, max_bytes: u32) -> Result<Offer, ValueFault> {
+fn offer_of(alloc: Global, max_items: u32, max_bytes: u32) -> Result<Offer, ValueFault>
+    ensures { IfOk result (λ offer. IsServable offer.subscribe) }
+{
     let version = Text::from_str(alloc, "1")?;
     let subscribe = subscribe(alloc, max_items, max_bytes)?;
     Ok(Offer { version, subscribe })
 }
 
-fn subscribe(alloc: Global, max_items: u32, max_bytes: u32) -> Result<Subscribe, ValueFault> {
+fn subscribe(alloc: Global, max_items: u32, max_bytes: u32) -> Result<Subscribe, ValueFault>
+    ensures { IfOk result IsServable }
+{
     let notify_to = Text::from_str(alloc, "http://host/wsman/subscriptions/u/s")?;
+    if !is_address(&notify_to) {
+        return Err(ValueFault::BadName);
+    }
     let query = query(alloc)?;
     Ok(Subscribe {
         notify_to,
@@ -132,7 +142,9 @@ fn subscribe(alloc: Global, max_items: u32, max_bytes: u32) -> Result<Subscribe,
     })
 }
 
-fn offers_of(alloc: Global, words: &str) -> Result<List<Offer>, ValueFault> {
+fn offers_of(alloc: Global, words: &str) -> Result<List<Offer>, ValueFault>
+    ensures { IfOk result AreServable }
+{
     let (items, bytes) = parted(words);
     let items = items.parse::<u32>().unwrap_or(0);
     let bytes = bytes.parse::<u32>().unwrap_or(0);
@@ -153,7 +165,9 @@ fn push_adopted<K: Keeper>(
     source: &mut SourceEnd<K>,
     id: &MessageId,
     offers: &List<Offer>,
-) -> Answer {
+) -> Answer
+    requires { AreServable offers.now }
+{
     let count = source.adopt(id, offers, Moment::first())?;
     push_id(text, id)?;
     text.push_str(" adopted ")?;

@@ -1,10 +1,9 @@
 //! Streams that fail, and commits that fail, each in turn.
 
-use crate::outcomes::{BASE, ran, replayed};
+use crate::outcomes::{BASE, ran, replayed, status_of};
 use std::alloc::{AllocError, Global};
 use std::test::Fail;
 use wef_base::{Bytes, List, MemSink, MemSource, Text};
-use wef_keeper::MemKeeper;
 
 /// A run of a word whose reads and writes of these numbers fail; its status, and what it tells. It
 /// prints nothing.
@@ -38,9 +37,7 @@ fn status_into(alloc: Global, schedule: &str, out: &mut MemSink) -> Result<u8, F
     let bytes = Bytes::from_slice(alloc, schedule.as_bytes())?;
     let mut input = MemSource::of(bytes, List::new(alloc));
     let mut err = MemSink::of(alloc, List::new(alloc));
-    let keeper = MemKeeper::new(alloc);
-    let (_, status) = wef_cli::run(alloc, words.as_slice(), keeper, &mut input, out, &mut err);
-    Ok(status)
+    Ok(status_of(alloc, words.as_slice(), &mut input, out, &mut err))
 }
 
 #[test]

@@ -1,8 +1,10 @@
 //! Runs over memory, and what they leave.
 
 use std::alloc::{AllocError, Global};
-use wef_base::{Bytes, List, MemSink, MemSource, Text};
+use wef_base::{Bytes, List, MemSink, MemSource, Moment, Text};
+use wef_connections::{MemFront, MemLink};
 use wef_keeper::MemKeeper;
+use wef_ports::FixedClock;
 
 /// A line that adds a subscription, and prints `added base`.
 pub const BASE: &str = "subscribe base 20 512000 900000 all application c\n";
@@ -28,15 +30,30 @@ pub(crate) fn ran(
     let mut input = MemSource::of(Bytes::from_slice(alloc, schedule)?, failing_reads);
     let mut out = MemSink::of(alloc, failing_writes);
     let mut err = MemSink::of(alloc, List::new(alloc));
+    let status = status_of(alloc, words.as_slice(), &mut input, &mut out, &mut err);
+    Ok(Outcome { status, out, err })
+}
+
+/// Runs `wef` over a store in memory, without connections, and answers its status.
+pub(crate) fn status_of(
+    alloc: Global,
+    words: &[Text],
+    input: &mut MemSource,
+    out: &mut MemSink,
+    err: &mut MemSink,
+) -> u8 {
     let (_, status) = wef_cli::run(
         alloc,
-        words.as_slice(),
+        words,
+        input,
+        out,
+        err,
         MemKeeper::new(alloc),
-        &mut input,
-        &mut out,
-        &mut err,
+        &mut MemFront::of(alloc, List::new(alloc), List::new(alloc)),
+        &mut MemLink::of(alloc, List::new(alloc), List::new(alloc)),
+        &mut FixedClock::at(Moment::first()),
     );
-    Ok(Outcome { status, out, err })
+    status
 }
 
 /// Replays a schedule without faults.

@@ -1,5 +1,5 @@
 -- Why a run says that its store failed.
-use Rattle.std.proofs.Common.{◌≡◌, ◌∙◌, ℕ, ◌≤◌, Bool, true, false, List, refl, ap, arith, inl, inr, true≢false}
+use Rattle.std.proofs.Common.{◌≡◌, ◌∙◌, ℕ, ◌+◌, ◌≤◌, Bool, true, false, List, [], ◌∷◌, length, refl, ap, sym, subst, arith, inl, inr, true≢false}
 use Rattle.std.specs.Prelude.{Option, Some, None, IfSome, Result, Err}
 use Rattle.wef_base.specs.Counts.{Rose}
 use Rattle.wef_keeper.specs.Access.{HasCause}
@@ -9,13 +9,21 @@ use Rattle.wef_collector_rows.specs.Forms.{AreFormed}
 use Rattle.wef_collector_rows.specs.declared.faults.CollectorFault.{CollectorFault}
 use Rattle.wef_collector_rows.specs.declared.faults.CollectorFault.TheVariants as faults
 use Rattle.wef_collector_reports.specs.declared.listing.Listed.{Listed}
+use Rattle.wef_event.specs.Events.{Event}
 use Rattle.wef_eventing.specs.declared.subscriptions.Subscription.{Subscription}
+use Rattle.wef_ports.specs.Telling as ports
+use Rattle.wef_source_log.specs.Forms as source
+use Rattle.wef_source_log.specs.declared.faults.LogFault.{LogFault}
+use Rattle.wef_source_log.specs.declared.faults.LogFault.TheVariants as log_faults
 use Rattle.wef_cli.specs.Adding.{Adds, added_text}
 use Rattle.wef_cli.specs.Calling.{CallEnds, Starts, WroteOut, named_ending, store_ending}
+use Rattle.wef_cli.specs.Collecting.{CollectEnds}
 use Rattle.wef_cli.specs.Complete.{FailsWithCause}
 use Rattle.wef_cli.specs.Endings.{Told}
 use Rattle.wef_cli.specs.Listing.{Lists, WroteList}
 use Rattle.wef_cli.specs.Removing.{Ends, ended_text}
+use Rattle.wef_cli.specs.Writing.{EndsBefore, StartsLog, WriteEnds, WritesAll, WritesEvent, Wrote, log_ending, write_ending, written_text}
+use Rattle.wef_cli.specs.Showing.{Reports}
 use Rattle.wef_cli.specs.declared.command.Command.TheVariants as the
 use Rattle.wef_cli.specs.declared.ending.Ending.{Ending}
 use Rattle.wef_cli.specs.declared.ending.Ending.TheVariants as ends
@@ -56,14 +64,19 @@ list_caused before now faults.Failed call is = call.0.opened.1
 list_caused before now faults.NoMemory call is = absurd (not_failed ends.NoMemory refl is)
 list_caused before now _ call is = absurd call.1
 
+report_caused : (before now : Store) (fault : CollectorFault) → Reports (Err fault) before now → ends.StoreFailed ≡ store_ending fault → Caused before now
+report_caused before now faults.Failed call is = call.0.opened.1
+report_caused before now faults.NoMemory call is = absurd (not_failed ends.NoMemory refl is)
+report_caused before now _ call is = absurd call.1
+
 -- a cause behind a start, whose count of faults doesn't fall
-later_caused : (before mid now : Store) → before.faults ≤ mid.faults → Caused mid now → Caused before now
-later_caused before mid now below cause failed = by now.rows (cause failed)
+later_caused : (Formed : Rows → Type 0) (before mid now : Store) → before.faults ≤ mid.faults → HasCause Formed true mid now → HasCause Formed true before now
+later_caused Formed before mid now below cause failed = by now.rows (cause failed)
   where
     rose : Rose mid.faults now.faults → Rose before.faults now.faults
     rose h = grind (arith)
 
-    by : (o : Option Rows) → IfSome o (λ rows. AreFormed rows → Rose mid.faults now.faults) → IfSome o (λ rows. AreFormed rows → Rose before.faults now.faults)
+    by : (o : Option Rows) → IfSome o (λ rows. Formed rows → Rose mid.faults now.faults) → IfSome o (λ rows. Formed rows → Rose before.faults now.faults)
     by None h = tt
     by (Some rows) h = λ formed. rose (h formed)
 
@@ -75,22 +88,80 @@ call_caused : {T : Type 0} (Call : Result T CollectorFault → Store → Store �
     → CallEnds Call refusal Tells ends.StoreFailed out before now → Caused before now
 call_caused Call refusal Tells out before now caused silent (inl (fault, start, is, unwritten)) = start_caused before now fault start is
 call_caused Call refusal Tells out before now caused silent (inr (inl (fault, started, is, unwritten))) =
-    later_caused before started.mid now started.start.0.faults (caused started.mid fault started.call is)
+    later_caused AreFormed before started.mid now started.start.0.faults (caused started.mid fault started.call is)
 call_caused Call refusal Tells out before now caused silent (inr (inr (given, started, tells))) = absurd (silent given tells)
 
 list_told : (list : List Listed) (out : Told) → WroteList list ends.StoreFailed out → ⊥
 list_told list out (inl h) = h
 list_told list out (inr (is, unwritten)) = not_failed ends.NoMemory refl is
 
+collect_caused : (address : List ℕ) (connections : ℕ) (out : Told) (clock : Option ℕ) (f g : ports.Told) (before now : Store)
+    → CollectEnds address connections ends.StoreFailed out clock f g before now → Caused before now
+collect_caused address connections out clock f g before now (inl ((is, unwritten, same), unasked)) = absurd (not_failed ends.NoMemory refl is)
+collect_caused address connections out clock f g before now (inr (inl (fault, start, is, unwritten, unasked))) = start_caused before now fault start is
+collect_caused address connections out clock f g before now (inr (inr (mid, ids, ids_now, start, inl (is, refused, unwritten, same)))) = absurd (not_failed ends.ListeningFailed refl is)
+collect_caused address connections out clock f g before now (inr (inr (mid, ids, ids_now, start, inr (inl (is, failed, part, bound, same))))) = absurd (not_failed ends.OutputFailed refl is)
+collect_caused address connections out clock f g before now (inr (inr (mid, ids, ids_now, start, inr (inr served)))) = absurd served
+
+-- ---- writing
+
+-- why the log can't be started
+log_start_caused : (before now : Store) (fault : LogFault) → StartsLog (Err fault) before now → ends.StoreFailed ≡ log_ending fault → HasCause source.AreFormed true before now
+log_start_caused before now log_faults.Failed start is = start.0.cause
+log_start_caused before now log_faults.NoMemory start is = absurd (not_failed ends.NoMemory refl is)
+log_start_caused before now log_faults.Full start is = absurd (not_failed ends.Full refl is)
+log_start_caused before now log_faults.TooLong start is = absurd start.1
+
+write_caused : (k : ℕ) (event : Event) (before now : Store) (fault : LogFault) → WritesEvent event (Err fault) before now → ends.StoreFailed ≡ write_ending k fault
+    → HasCause source.AreFormed true before now
+write_caused k event before now log_faults.Failed write is = write.0.cause
+write_caused k event before now log_faults.NoMemory write is = absurd (not_failed ends.NoMemory refl is)
+write_caused k event before now log_faults.Full write is = absurd (not_failed ends.Full refl is)
+write_caused k event before now log_faults.TooLong write is = absurd (not_failed (ends.BadLine k) refl is)
+
+-- events that are written leave no lower count of faults
+wrote_later : (events : List Event) (numbers : List ℕ) (before now : Store) → Wrote events numbers before now → before.faults ≤ now.faults
+wrote_later [] [] before now same = subst (λ (s : Store). before.faults ≤ s.faults) (sym same) (omega arith)
+wrote_later [] (n ∷ numbers) before now wrote = absurd wrote
+wrote_later (event ∷ events) [] before now wrote = absurd wrote
+wrote_later (event ∷ events) (n ∷ numbers) before now (mid, write, wrote) =
+    let first = write.0.faults in
+    let behind = wrote_later events numbers mid now wrote in
+    omega (arith, first, behind)
+
+stopped_caused : (k : ℕ) (events : List Event) (text : List ℕ) (out : Told) (before now : Store) → EndsBefore k events text ends.StoreFailed out before now
+    → HasCause source.AreFormed true before now
+stopped_caused k [] text out before now (is, told, same) = absurd (not_failed ends.Done refl is)
+stopped_caused k (event ∷ events) text out before now (inl (is, told, same)) = absurd (not_failed ends.NoMemory refl is)
+stopped_caused k (event ∷ events) text out before now (inr (inl (fault, write, is, told))) = write_caused k event before now fault write is
+stopped_caused k (event ∷ events) text out before now (inr (inr (n, write, untold))) = absurd untold
+
+events_caused : (events : List Event) (out : Told) (before now : Store) → WritesAll events ends.StoreFailed out before now → HasCause source.AreFormed true before now
+events_caused events out before now (inl (fault, start, is, unwritten)) = log_start_caused before now fault start is
+events_caused events out before now (inr (boot, mid, start, wrote)) =
+    let started = start.0.faults in
+    let later = wrote_later wrote.front wrote.numbers mid wrote.mid wrote.wrote in
+    later_caused source.AreFormed before wrote.mid now (omega (arith, started, later))
+    (stopped_caused (length wrote.front + 1) wrote.behind (written_text wrote.front wrote.numbers) out wrote.mid now wrote.stops)
+
+writing_caused : (input out : Told) (before now : Store) → WriteEnds ends.StoreFailed input out before now → HasCause source.AreFormed true before now
+writing_caused input out before now (inl (judged, unwritten, same)) = absurd judged
+writing_caused input out before now (inr (events, has, ended)) = events_caused events out before now ended
+
 pub fails_with_cause : FailsWithCause
-fails_with_cause None input out before now ended = absurd ended.0
-fails_with_cause (Some the.Replay) input out before now ended = absurd ended.0
-fails_with_cause (Some the.Check) input out before now ended = absurd ended.0
-fails_with_cause (Some the.Add) input out before now (inl (read, unwritten, same)) = absurd read
-fails_with_cause (Some the.Add) input out before now (inr (s, has, ended)) =
+fails_with_cause None input out peers before now ended = absurd ended.0
+fails_with_cause (Some the.Replay) input out peers before now ended = absurd ended.0
+fails_with_cause (Some the.Check) input out peers before now ended = absurd ended.0
+fails_with_cause (Some (the.Collect address connections)) input out peers before now (kept, ended, link) =
+    collect_caused address connections out peers.moment peers.front_before peers.front_after before now ended
+fails_with_cause (Some the.Write) input out peers before now (ended, unused) = writing_caused input out before now ended
+fails_with_cause (Some the.Show) input out peers before now (kept, ended, unused) =
+    call_caused Reports store_ending WroteOut out before now (λ mid fault. report_caused mid now fault) (λ text h. h) ended
+fails_with_cause (Some the.Add) input out peers before now (inl (read, unwritten, same), unused) = absurd read
+fails_with_cause (Some the.Add) input out peers before now (inr (s, has, ended), unused) =
     call_caused (Adds s) (named_ending s.name) (λ _. WroteOut (added_text s.name)) out before now (λ mid fault. add_caused s mid now fault) (λ given h. h) ended
-fails_with_cause (Some (the.Remove u)) input out before now (kept, inl (is, unwritten, same)) = absurd (not_failed ends.NoMemory refl is)
-fails_with_cause (Some (the.Remove u)) input out before now (kept, inr ended) =
+fails_with_cause (Some (the.Remove u)) input out peers before now (kept, inl (is, unwritten, same), unused) = absurd (not_failed ends.NoMemory refl is)
+fails_with_cause (Some (the.Remove u)) input out peers before now (kept, inr ended, unused) =
     call_caused (Ends u) (named_ending u) (λ _. WroteOut (ended_text u)) out before now (λ mid fault. end_caused u mid now fault) (λ given h. h) ended
-fails_with_cause (Some the.List) input out before now (kept, ended) =
+fails_with_cause (Some the.List) input out peers before now (kept, ended, unused) =
     call_caused Lists store_ending WroteList out before now (λ mid fault. list_caused mid now fault) (λ list h. list_told list out h) ended

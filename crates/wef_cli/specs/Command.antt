@@ -1,7 +1,11 @@
--- The command lines: `replay`, `add`, `remove NAME`, `list` and `check`.
-use Rattle.std.specs.Prelude.{ℕ, ◌==◌, Bool, false, List, [], ◌∷◌, Option, Some, None, codes, if◌then◌else◌}
-use Rattle.std.specs.Option.{option_map}
+-- The command lines: `replay`, `add`, `remove NAME`, `list`, `check`, `write`, `collect ADDRESS N` and `show`. No word of one begins
+-- with `-`.
+use Rattle.std.specs.Prelude.{ℕ, ◌==◌, nat_lt, Bool, false, ◌&&◌, List, [], ◌∷◌, length, Option, Some, None, codes, if◌then◌else◌}
+use Rattle.std.specs.List.{list_all, list_any}
+use Rattle.std.specs.Option.{option_and_then, option_map}
 use Rattle.wef_base.specs.Names.{same, subscription_name}
+use Rattle.wef_base.specs.Numbers.{plain_number}
+use Rattle.wef_eventing.specs.Addresses.{is_printed}
 use Rattle.wef_cli.specs.declared.command.Command.{Command}
 use Rattle.wef_cli.specs.declared.command.Command.TheVariants as the
 
@@ -11,24 +15,56 @@ command_named name =
     if same name (codes "replay") then Some the.Replay else
     if same name (codes "add") then Some the.Add else
     if same name (codes "list") then Some the.List else
-    if same name (codes "check") then Some the.Check else None
+    if same name (codes "check") then Some the.Check else
+    if same name (codes "write") then Some the.Write else
+    if same name (codes "show") then Some the.Show else None
 
 abbrev pub begins_with_dash : List ℕ → Bool
 begins_with_dash [] = false
 begins_with_dash (b ∷ bs) = b == 45
 
--- the command that ends the subscription of a name; a word that begins with `-` is none
+-- one printed character of ASCII or more
+abbrev pub is_address : List ℕ → Bool
+is_address word = nat_lt 0 (length word) && list_all is_printed word
+
+-- the address that a word is
+abbrev pub address_of : List ℕ → Option (List ℕ)
+address_of word = if is_address word then Some word else None
+
+-- the greatest number of connections in a run
+abbrev pub greatest_number : ℕ
+greatest_number = 1000000
+
+-- a number that isn't zero
+abbrev pub unless_zero : ℕ → Option ℕ
+unless_zero n = if n == 0 then None else Some n
+
+-- the number that a word is: digits without a leading zero, 1 to 1,000,000
+abbrev pub number_of : List ℕ → Option ℕ
+number_of word = option_and_then unless_zero (plain_number greatest_number word)
+
+-- the command that ends the subscription of a name
 abbrev pub remove_of : List ℕ → Option Command
-remove_of word = if begins_with_dash word then None else option_map the.Remove (subscription_name word)
+remove_of word = option_map the.Remove (subscription_name word)
+
+-- the command that serves so many connections at an address
+abbrev pub collect_of : List ℕ → List ℕ → Option Command
+collect_of at number = option_and_then (λ address. option_map (the.Collect address) (number_of number)) (address_of at)
+
+-- the command that words ask for none of which begins with `-`
+abbrev pub command_in : List (List ℕ) → Option Command
+command_in (name ∷ []) = command_named name
+command_in (name ∷ word ∷ []) = if same name (codes "remove") then remove_of word else None
+command_in (name ∷ at ∷ number ∷ []) = if same name (codes "collect") then collect_of at number else None
+command_in _ = None
 
 -- the command that the words ask for
 abbrev pub command_of : List (List ℕ) → Option Command
-command_of (name ∷ []) = command_named name
-command_of (name ∷ word ∷ []) = if same name (codes "remove") then remove_of word else None
-command_of _ = None
+command_of words = if list_any begins_with_dash words then None else command_in words
 
 -- to read such words memory may be wanting
 abbrev pub MayWantMemory : Option Command → Type 0
 MayWantMemory None = Unit {0}
 MayWantMemory (Some (the.Remove u)) = Unit {0}
+MayWantMemory (Some (the.Collect address number)) = Unit {0}
 MayWantMemory (Some _) = ⊥

@@ -16,7 +16,7 @@ use Rattle.wef_documents.specs.declared.faults.Part.{Part}
 use Rattle.wef_documents.specs.declared.faults.Part.TheVariants as part
 use Rattle.wef_machine.specs.Printed.{name_line}
 use Rattle.wef_cli.specs.declared.ending.Ending.{Ending}
-use Rattle.wef_cli.specs.declared.ending.Ending.TheVariants.{Done, BadCommand, BadLine, TooLong, BadPlace, BadElement, InputFailed, OutputFailed, NoMemory, StoreFailed, Unknown, Already, Exists, TooMany, Full}
+use Rattle.wef_cli.specs.declared.ending.Ending.TheVariants.{Done, BadCommand, BadLine, TooLong, BadPlace, BadElement, InputFailed, OutputFailed, ListeningFailed, LinkFailed, NoMemory, StoreFailed, Unknown, Already, Exists, TooMany, Full, Spent}
 
 abbrev pub status_of : Ending → ℕ
 status_of Done = 0
@@ -28,12 +28,15 @@ status_of (BadElement part) = 3
 status_of StoreFailed = 4
 status_of InputFailed = 5
 status_of OutputFailed = 5
+status_of ListeningFailed = 5
+status_of LinkFailed = 5
 status_of NoMemory = 6
 status_of (Unknown u) = 7
 status_of (Already u) = 7
 status_of (Exists u) = 8
 status_of TooMany = 8
 status_of Full = 8
+status_of Spent = 8
 
 -- what it is that isn't understood
 unfoldable pub not_understood : List ℕ → List ℕ → List ℕ
@@ -65,12 +68,15 @@ message_of (BadElement part) = not_understood (codes "element ") (part_name part
 message_of StoreFailed = codes "store failed" ++ 10 ∷ []
 message_of InputFailed = codes "input failed" ++ 10 ∷ []
 message_of OutputFailed = codes "output failed" ++ 10 ∷ []
+message_of ListeningFailed = codes "listening failed" ++ 10 ∷ []
+message_of LinkFailed = codes "link failed" ++ 10 ∷ []
 message_of NoMemory = codes "no memory" ++ 10 ∷ []
 message_of (Unknown u) = name_line (codes "unknown") u
 message_of (Already u) = name_line (codes "already") u
 message_of (Exists u) = name_line (codes "exists") u
 message_of TooMany = codes "too many" ++ 10 ∷ []
 message_of Full = codes "full" ++ 10 ∷ []
+message_of Spent = codes "spent" ++ 10 ∷ []
 
 -- whether its message is made in memory
 abbrev pub is_made : Ending → Bool

@@ -82,7 +82,7 @@ fn answers_from(alloc: Global, list: &QueryList, text: &[u8]) -> Result<Text, En
 }
 
 /// The first line of a text that isn't empty, without the LF that ends it, and what stands behind that.
-fn cut(text: &[u8]) -> (&[u8], &[u8])
+pub(crate) fn cut(text: &[u8]) -> (&[u8], &[u8])
     requires { 0 < length text.now }
     ensures first { lines_of text.now ≡ result.0.now ∷ lines_of result.1.now }
     ensures shorter { length result.1.now < length text.now }

@@ -1,10 +1,17 @@
 //! The command line.
 
 ghost use Rattle.std.specs.Prelude.{◌≡◌, IfOk, OnErr};
-ghost use Rattle.wef_cli.specs.Command.{MayWantMemory, begins_with_dash, command_named, command_of, remove_of};
+ghost use Rattle.std.specs.List.{list_all, list_any};
+ghost use Rattle.wef_base.specs.Names.{subscription_name};
+ghost use Rattle.wef_eventing.specs.Addresses.{is_printed};
+ghost use Rattle.wef_cli.specs.Command as spec;
 
 use std::alloc::AllocError;
+use wef_base::numbers::read_plain_number;
 use wef_base::{SubId, Text, ValueFault};
+
+/// The greatest number of connections that one run may be told.
+pub const GREATEST_NUMBER: u64 = 1_000_000;
 
 /// What `wef` is told to do.
 #[derive(Debug, Drop)]
@@ -19,23 +26,46 @@ pub enum Command {
     List,
     /// Reads a list of queries and events, and writes of each event whether the list selects it.
     Check,
+    /// Reads events, and writes them to the log of the source.
+    Write,
+    /// Serves connections as the collector, one after the other.
+    Collect {
+        /// A host and a port, where it listens.
+        address: Text,
+        /// How many connections it serves, from 1 to 1,000,000.
+        connections: u64,
+    },
+    /// Writes the report of all that the collector keeps.
+    Show,
 }
 
 impl Command {
     /// The command that the words ask for; none where they are no command line.
     pub fn read(words: &[Text]) -> Result<Option<Command>, AllocError>
-        ensures value { IfOk result (λ command. command ≡ command_of words.now) }
-        ensures wants_memory { OnErr result (MayWantMemory (command_of words.now)) }
+        ensures value { IfOk result (λ command. command ≡ spec.command_of words.now) }
+        ensures wants_memory { OnErr result (spec.MayWantMemory (spec.command_of words.now)) }
+    {
+        if any_begins_with_dash(words) {
+            return Ok(None);
+        }
+        Command::read_words(words)
+    }
+
+    /// The same of words none of which begins with `-`.
+    fn read_words(words: &[Text]) -> Result<Option<Command>, AllocError>
+        ensures value { IfOk result (λ command. command ≡ spec.command_in words.now) }
+        ensures wants_memory { OnErr result (spec.MayWantMemory (spec.command_in words.now)) }
     {
         match words {
             [name] => Ok(Command::named(name)),
             [name, word] if name.as_str() == "remove" => Command::remove(word),
+            [name, at, number] if name.as_str() == "collect" => Command::collect(at, number),
             _ => Ok(None),
         }
     }
 
     fn named(name: &Text) -> Option<Command>
-        ensures { result ≡ command_named name.now }
+        ensures { result ≡ spec.command_named name.now }
     {
         if name.as_str() == "replay" {
             return Some(Command::Replay);
@@ -49,30 +79,104 @@ impl Command {
         if name.as_str() == "check" {
             return Some(Command::Check);
         }
+        if name.as_str() == "write" {
+            return Some(Command::Write);
+        }
+        if name.as_str() == "show" {
+            return Some(Command::Show);
+        }
         None
     }
 
     /// The command that ends the subscription of a name.
+    #[tactic(auto, using(crate::proofs::Wanting::remove_wants))]
     fn remove(word: &Text) -> Result<Option<Command>, AllocError>
-        ensures value { IfOk result (λ command. command ≡ remove_of word.now) }
-        ensures wants_memory { OnErr result (MayWantMemory (remove_of word.now)) }
+        ensures value { IfOk result (λ command. command ≡ spec.remove_of word.now) }
+        ensures wants_memory { OnErr result (spec.MayWantMemory (spec.remove_of word.now)) }
     {
-        if begins_with_dash(word) {
-            return Ok(None);
+        match subscription_in(word)? {
+            Some(name) => Ok(Some(Command::Remove(name))),
+            None => Ok(None),
         }
-        match SubId::read(word) {
-            Ok(sub) => Ok(Some(Command::Remove(sub))),
-            Err(ValueFault::BadName) => Ok(None),
-            Err(_) => Err(AllocError),
+    }
+
+    /// The command that serves connections.
+    #[tactic(auto, using(crate::proofs::Wanting::collect_wants))]
+    fn collect(at: &Text, number: &Text) -> Result<Option<Command>, AllocError>
+        ensures value { IfOk result (λ command. command ≡ spec.collect_of at.now number.now) }
+        ensures wants_memory { OnErr result (spec.MayWantMemory (spec.collect_of at.now number.now)) }
+    {
+        let Some(address) = address_in(at)? else {
+            return Ok(None);
+        };
+        match number_in(number) {
+            Some(connections) => Ok(Some(Command::Collect {
+                address,
+                connections,
+            })),
+            None => Ok(None),
         }
     }
 }
 
+/// The subscription's name that a word is; none where it is no such name.
+fn subscription_in(word: &Text) -> Result<Option<SubId>, AllocError>
+    ensures { IfOk result (λ name. name ≡ subscription_name word.now) }
+{
+    match SubId::read(word) {
+        Ok(name) => Ok(Some(name)),
+        Err(ValueFault::BadName) => Ok(None),
+        Err(_) => Err(AllocError),
+    }
+}
+
+/// The address that a word is; none where it is none.
+fn address_in(word: &Text) -> Result<Option<Text>, AllocError>
+    ensures { IfOk result (λ address. address ≡ spec.address_of word.now) }
+{
+    if is_address(word) {
+        Ok(Some(word.clone()?))
+    } else {
+        Ok(None)
+    }
+}
+
+/// Whether a word begins with `-`.
+fn any_begins_with_dash(words: &[Text]) -> bool
+    ensures { result ≡ list_any spec.begins_with_dash words.now }
+{
+    words.iter().any(|word| begins_with_dash(word))
+}
+
 fn begins_with_dash(word: &Text) -> bool
-    ensures { result ≡ begins_with_dash word.now }
+    ensures { result ≡ spec.begins_with_dash word.now }
 {
     match word.as_str().as_bytes() {
         [first, ..] => *first == b'-',
         [] => false,
+    }
+}
+
+/// Whether a word is an address: one printed character of ASCII or more.
+fn is_address(word: &Text) -> bool
+    ensures { result ≡ spec.is_address word.now }
+{
+    let bytes = word.as_str().as_bytes();
+    bytes.len() > 0 && all_printed(bytes)
+}
+
+fn all_printed(bytes: &[u8]) -> bool
+    ensures { result ≡ list_all is_printed bytes.now }
+{
+    bytes.iter().all(|&b| b >= 33 && b <= 126)
+}
+
+/// The number of connections that a word is; none where it is no such number.
+fn number_in(word: &Text) -> Option<u64>
+    ensures { result ≡ spec.number_of word.now }
+{
+    match read_plain_number(word.as_str().as_bytes(), GREATEST_NUMBER) {
+        Some(number) if number > 0 => Some(number),
+        _ => None,
     }
 }

@@ -28,6 +28,10 @@ pub enum Ending {
     BadElement(Part),
     InputFailed,
     OutputFailed,
+    /// The front can't listen at the address, or can't take a connection.
+    ListeningFailed,
+    /// The link can't connect, read or write.
+    LinkFailed,
     NoMemory,
     /// The store can't be opened, read or written, or holds rows that aren't of their form.
     StoreFailed,
@@ -39,8 +43,10 @@ pub enum Ending {
     Exists(SubId),
     /// There are as many subscriptions as may be, ended ones counted.
     TooMany,
-    /// The boot number of the collector is at its greatest.
+    /// The boot number of an end is at its greatest, or the last number of a channel's log is.
     Full,
+    /// The source has no more ids to send messages with.
+    Spent,
 }
 
 impl Ending {
@@ -58,12 +64,15 @@ impl Ending {
             Ending::StoreFailed => 4,
             Ending::InputFailed => 5,
             Ending::OutputFailed => 5,
+            Ending::ListeningFailed => 5,
+            Ending::LinkFailed => 5,
             Ending::NoMemory => 6,
             Ending::Unknown(_) => 7,
             Ending::Already(_) => 7,
             Ending::Exists(_) => 8,
             Ending::TooMany => 8,
             Ending::Full => 8,
+            Ending::Spent => 8,
         }
     }
 
@@ -115,10 +124,13 @@ impl Ending {
             Ending::TooLong => "schedule too long\n",
             Ending::InputFailed => "input failed\n",
             Ending::OutputFailed => "output failed\n",
+            Ending::ListeningFailed => "listening failed\n",
+            Ending::LinkFailed => "link failed\n",
             Ending::NoMemory => "no memory\n",
             Ending::StoreFailed => "store failed\n",
             Ending::TooMany => "too many\n",
             Ending::Full => "full\n",
+            Ending::Spent => "spent\n",
             _ => "",
         }
     }

@@ -5,14 +5,17 @@
 mod adding;
 mod calling;
 mod checking;
+mod collecting;
 mod command;
 mod ending;
 pub mod laws;
 mod listing;
 mod removing;
 mod runs;
+mod showing;
 mod streams;
 mod top;
+mod writing;
 
 pub use command::Command;
 pub use ending::Ending;

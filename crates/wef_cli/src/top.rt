@@ -9,15 +9,20 @@ ghost use Rattle.wef_cli.specs.declared.ending.Ending as the_ending;
 
 use crate::adding::add;
 use crate::checking::check;
+use crate::collecting::collect;
 use crate::command::Command;
 use crate::ending::Ending;
 use crate::listing::list;
 use crate::removing::remove;
 use crate::runs::{RunFault, run_lines};
+use crate::showing::show;
 use crate::streams::{INPUT_LIMIT, InputFault, read_whole};
+use crate::writing::write;
 use std::alloc::Global;
 use wef_base::{List, Sink, Source, Text};
+use wef_connections::{Front, Link};
 use wef_keeper::Keeper;
+use wef_ports::Clock;
 use wef_replay::{Line, ScheduleFault, read_schedule};
 
 /// Runs `wef` with the words that follow the program's name, and answers the keeper that it was handed
@@ -27,60 +32,78 @@ use wef_replay::{Line, ScheduleFault, read_schedule};
 /// it is made. Each state on the way is kept, and so it is safe. It leaves the keeper alone. `add` adds
 /// the subscription of a document to what the keeper keeps, `remove NAME` ends one, and `list` writes
 /// which there are. `check` reads a list of queries and, line by line, events, and writes of each event
-/// whether the list selects it; it leaves the keeper alone, too. What ended the run is told in one line
-/// to `err`, or in as much of it as `err` takes. Status 6 alone comes free: for want of memory, also for
-/// the text that tells how it ended.
-pub fn run<K: Keeper, I: Source, O: Sink, E: Sink>(
+/// whether the list selects it; it leaves the keeper alone, too. `write` reads lines of events, checks
+/// all of them, and writes each into the log of a source that the keeper keeps, and its number. `collect
+/// ADDRESS N` serves so many connections of the front as the collector, at the moments that the clock
+/// gives; no other command takes a connection, and none makes one. `show` writes the report of all that
+/// the keeper keeps. What ended the run is told in one line to `err`, or in as much of it as `err` takes.
+/// Status 6 alone comes free: for want of memory, also for the text that tells how it ended.
+pub fn run<I: Source, O: Sink, E: Sink, K: Keeper, F: Front, L: Link, C: Clock>(
     alloc: Global,
     words: &[Text],
-    keeper: K,
     input: &mut I,
     out: &mut O,
     err: &mut E,
+    keeper: K,
+    front: &mut F,
+    link: &mut L,
+    clock: &mut C,
 ) -> (K, u8)
-    ensures { (ending : the_ending.Ending) × (told : the_ending.Ending) × IsToldAs ending told × (result.1 ≡ status_of told)
+    ensures ends { (ending : the_ending.Ending) × (told : the_ending.Ending) × IsToldAs ending told × (result.1 ≡ status_of told)
         × WroteMessage told
         (record { before = E.taken err.old; after = E.taken err.new; faults_before = E.faults err.old; faults_after = E.faults err.new })
         × RunEnds (command_of words.now) ending
         (record { before = I.left input.old; after = I.left input.new; faults_before = I.faults input.old; faults_after = I.faults input.new })
         (record { before = O.taken out.old; after = O.taken out.new; faults_before = O.faults out.old; faults_after = O.faults out.new })
+        (record { front_before = F.told front.old; front_after = F.told front.new; link_before = L.told link.old; link_after = L.told link.new; moment = C.told clock.old })
         (K.store keeper) (K.store result.0) }
+    ensures clock { C.told clock.new ≡ C.told clock.old }
 {
-    let (keeper, ending) = ending_of(alloc, words, keeper, input, out);
+    let (keeper, ending) = ending_of(alloc, words, input, out, keeper, front, link, clock);
     let told = ending.tell(alloc, err);
     (keeper, told.status())
 }
 
-fn ending_of<K: Keeper, I: Source, O: Sink>(
+fn ending_of<I: Source, O: Sink, K: Keeper, F: Front, L: Link, C: Clock>(
     alloc: Global,
     words: &[Text],
-    keeper: K,
     input: &mut I,
     out: &mut O,
+    keeper: K,
+    front: &mut F,
+    link: &mut L,
+    clock: &mut C,
 ) -> (K, Ending)
-    ensures { RunEnds (command_of words.now) result.1
+    ensures ends { RunEnds (command_of words.now) result.1
         (record { before = I.left input.old; after = I.left input.new; faults_before = I.faults input.old; faults_after = I.faults input.new })
         (record { before = O.taken out.old; after = O.taken out.new; faults_before = O.faults out.old; faults_after = O.faults out.new })
+        (record { front_before = F.told front.old; front_after = F.told front.new; link_before = L.told link.old; link_after = L.told link.new; moment = C.told clock.old })
         (K.store keeper) (K.store result.0) }
+    ensures clock { C.told clock.new ≡ C.told clock.old }
 {
     match Command::read(words) {
-        Ok(Some(command)) => act(alloc, command, keeper, input, out),
+        Ok(Some(command)) => act(alloc, command, input, out, keeper, front, link, clock),
         Ok(None) => (keeper, Ending::BadCommand),
         Err(_) => (keeper, Ending::NoMemory),
     }
 }
 
-fn act<K: Keeper, I: Source, O: Sink>(
+fn act<I: Source, O: Sink, K: Keeper, F: Front, L: Link, C: Clock>(
     alloc: Global,
     command: Command,
-    keeper: K,
     input: &mut I,
     out: &mut O,
+    keeper: K,
+    front: &mut F,
+    link: &mut L,
+    clock: &mut C,
 ) -> (K, Ending)
-    ensures { RunEnds (Some command) result.1
+    ensures ends { RunEnds (Some command) result.1
         (record { before = I.left input.old; after = I.left input.new; faults_before = I.faults input.old; faults_after = I.faults input.new })
         (record { before = O.taken out.old; after = O.taken out.new; faults_before = O.faults out.old; faults_after = O.faults out.new })
+        (record { front_before = F.told front.old; front_after = F.told front.new; link_before = L.told link.old; link_after = L.told link.new; moment = C.told clock.old })
         (K.store keeper) (K.store result.0) }
+    ensures clock { C.told clock.new ≡ C.told clock.old }
 {
     match command {
         Command::Replay => (keeper, replay(alloc, input, out)),
@@ -88,6 +111,12 @@ fn act<K: Keeper, I: Source, O: Sink>(
         Command::Remove(name) => remove(alloc, keeper, name, out),
         Command::List => list(alloc, keeper, out),
         Command::Check => (keeper, check(alloc, input, out)),
+        Command::Write => write(alloc, keeper, input, out),
+        Command::Collect {
+            address,
+            connections,
+        } => collect(alloc, keeper, &address, connections, out, front, clock),
+        Command::Show => show(alloc, keeper, out),
     }
 }
 
