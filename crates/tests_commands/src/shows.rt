@@ -8,7 +8,12 @@ use wef_keeper::MemKeeper;
 
 /// Commands over a store that has the subscription `Base` and no event: the status, what is printed, and
 /// what is told.
-const SHOWN: &[(&str, u8, &str, &str)] = &[("show", 0, "subscription Base live\nend\n", "")];
+const SHOWN: &[(&str, u8, &str, &str)] = &[
+    ("show", 0, "subscription Base live\nend\n", ""),
+    ("events Base pc1 application", 0, "end\n", ""),
+    ("events base pc1 application", 7, "", "unknown base\n"),
+    ("events 100% pc1 application", 7, "", "unknown 100%25\n"),
+];
 
 /// Whether a command over that store ends so.
 fn ends_so(

@@ -35,6 +35,23 @@ const NO_COMMANDS: &[&str] = &[
     "collect a:1 -1",
     "collect a:1 one",
     "collect a:1 1 1",
+    "forward a:1",
+    "forward a:1 pc1",
+    "forward  pc1 1",
+    "forward a:1  1",
+    "forward a:1 -pc1 1",
+    "forward a:1 pc1 ",
+    "forward a:1 pc1 0",
+    "forward a:1 pc1 1000001",
+    "forward a:1 pc1 1 1",
+    "events",
+    "events base",
+    "events base pc1",
+    "events  pc1 application",
+    "events base  application",
+    "events base pc1 ",
+    "events base pc1 -a",
+    "events base pc1 application x",
 ];
 
 /// Inputs of `add`, and what is told of them.

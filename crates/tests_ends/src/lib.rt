@@ -21,6 +21,8 @@ mod logs;
 #[cfg(test)]
 mod rows;
 #[cfg(test)]
+mod showing;
+#[cfg(test)]
 mod sources;
 #[cfg(test)]
 mod steps;

@@ -1,5 +1,6 @@
 //! What is done with a line.
 
+use crate::commands::push_ran;
 use crate::runs::{push_asked, push_asking, push_broken, push_forwarded, push_sent};
 use std::alloc::AllocError;
 use tests_tasks::Tasks;
@@ -18,6 +19,8 @@ pub(crate) enum Task {
     Broken,
     /// `sent`: what is sent where, until it has come back.
     Sent,
+    /// `command`: what the program prints.
+    Command,
 }
 
 /// The tasks by their names.
@@ -27,6 +30,7 @@ const TASKS: &[(&str, Task)] = &[
     ("asking", Task::Asking),
     ("broken", Task::Broken),
     ("sent", Task::Sent),
+    ("command", Task::Command),
 ];
 
 impl Tasks for Task {
@@ -41,6 +45,7 @@ impl Tasks for Task {
             Task::Asking => push_asking(shown, line),
             Task::Broken => push_broken(shown, line),
             Task::Sent => push_sent(shown, line),
+            Task::Command => push_ran(shown, line),
         }
     }
 }

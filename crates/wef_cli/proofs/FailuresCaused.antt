@@ -27,6 +27,7 @@ use Rattle.wef_cli.specs.Showing.{Reports}
 use Rattle.wef_cli.specs.declared.command.Command.TheVariants as the
 use Rattle.wef_cli.specs.declared.ending.Ending.{Ending}
 use Rattle.wef_cli.specs.declared.ending.Ending.TheVariants as ends
+use Rattle.wef_cli.proofs.ForwardsCaused.{forwarding_caused}
 
 abbrev is_failed : Ending → Bool
 is_failed ends.StoreFailed = true
@@ -155,8 +156,15 @@ fails_with_cause (Some the.Check) input out peers before now ended = absurd ende
 fails_with_cause (Some (the.Collect address connections)) input out peers before now (kept, ended, link) =
     collect_caused address connections out peers.moment peers.front_before peers.front_after before now ended
 fails_with_cause (Some the.Write) input out peers before now (ended, unused) = writing_caused input out before now ended
+fails_with_cause (Some (the.Forward address source deliveries)) input out peers before now (kept, inl ((is, unwritten, same), unasked), unused) = absurd (not_failed ends.NoMemory refl is)
+fails_with_cause (Some (the.Forward address source deliveries)) input out peers before now (kept, inr ended, unused) =
+    forwarding_caused address source deliveries out peers.moment peers.link_before peers.link_after before now ended
 fails_with_cause (Some the.Show) input out peers before now (kept, ended, unused) =
     call_caused Reports store_ending WroteOut out before now (λ mid fault. report_caused mid now fault) (λ text h. h) ended
+fails_with_cause (Some (the.Events u s c)) input out peers before now (kept, inl (is, unwritten, same), unused) = absurd (not_failed ends.NoMemory refl is)
+fails_with_cause (Some (the.Events u s c)) input out peers before now (kept, inr (inl (fault, start, is, unwritten)), unused) = start_caused before now fault start is
+fails_with_cause (Some (the.Events u s c)) input out peers before now (kept, inr (inr started), unused) =
+    later_caused AreFormed before started.mid now started.start.0.faults started.call.reads.1
 fails_with_cause (Some the.Add) input out peers before now (inl (read, unwritten, same), unused) = absurd read
 fails_with_cause (Some the.Add) input out peers before now (inr (s, has, ended), unused) =
     call_caused (Adds s) (named_ending s.name) (λ _. WroteOut (added_text s.name)) out before now (λ mid fault. add_caused s mid now fault) (λ given h. h) ended

@@ -3,9 +3,9 @@ use Rattle.std.proofs.Common.{ℕ, List, inl, refl}
 use Rattle.std.specs.Prelude.{Option, None, Some}
 use Rattle.std.specs.Io.KnownBytes.{Keeps}
 use Rattle.std.specs.Option.{option_and_then, option_map}
-use Rattle.wef_base.specs.Names.{subscription_name}
+use Rattle.wef_base.specs.Names.{channel_name, source_name, subscription_name}
 use Rattle.wef_keeper.specs.Keeping.{Store}
-use Rattle.wef_cli.specs.Command.{MayWantMemory, address_of, collect_of, number_of, remove_of}
+use Rattle.wef_cli.specs.Command.{MayWantMemory, address_of, collect_of, events_of, forward_of, number_of, remove_of}
 use Rattle.wef_cli.specs.Endings.{IsUnwritten, Told}
 use Rattle.wef_cli.specs.Runs.{AreUnused, Peers, RunEnds}
 use Rattle.wef_cli.specs.declared.command.Command.{Command}
@@ -27,10 +27,20 @@ remove_wants word = made (subscription_name word) the.Remove (λ u. tt)
 pub collect_wants : (at number : List ℕ) → MayWantMemory (collect_of at number)
 collect_wants at number = steps (address_of at) _ (λ address. made (number_of number) (the.Collect address) (λ n. tt))
 
+pub forward_wants : (at source number : List ℕ) → MayWantMemory (forward_of at source number)
+forward_wants at source number =
+    steps (address_of at) _ (λ address. steps (source_name source) _ (λ s. made (number_of number) (the.Forward address s) (λ n. tt)))
+
+pub events_wants : (name source channel : List ℕ) → MayWantMemory (events_of name source channel)
+events_wants name source channel =
+    steps (subscription_name name) _ (λ u. steps (source_name source) _ (λ s. made (channel_name channel) (the.Events u s) (λ c. tt)))
+
 -- where memory is wanting for such words, nothing is done
 pub nothing_done : (command : Option Command) (input out : Told) (peers : Peers) (store : Store) → MayWantMemory command → Keeps input.before input.after → IsUnwritten out → AreUnused peers
     → RunEnds command ends.NoMemory input out peers store store
 nothing_done None input out peers store wants kept unwritten unused = (tt, kept, unwritten, refl, unused)
 nothing_done (Some (the.Remove u)) input out peers store wants kept unwritten unused = (kept, inl (refl, unwritten, refl), unused)
 nothing_done (Some (the.Collect address connections)) input out peers store wants kept unwritten unused = (kept, inl ((refl, unwritten, refl), unused.0), unused.1)
+nothing_done (Some (the.Forward address source deliveries)) input out peers store wants kept unwritten unused = (kept, inl ((refl, unwritten, refl), unused.1), unused.0)
+nothing_done (Some (the.Events u s c)) input out peers store wants kept unwritten unused = (kept, inl (refl, unwritten, refl), unused)
 nothing_done (Some _) input out peers store wants kept unwritten unused = absurd wants

@@ -1,11 +1,11 @@
--- The command lines: `replay`, `add`, `remove NAME`, `list`, `check`, `write`, `collect ADDRESS N` and `show`. No word of one begins
--- with `-`.
+-- The command lines: `replay`, `add`, `remove NAME`, `list`, `check`, `write`, `collect ADDRESS N`, `forward ADDRESS SOURCE N`,
+-- `show` and `events NAME SOURCE CHANNEL`. No word of one begins with `-`.
 use Rattle.std.specs.Prelude.{ℕ, ◌==◌, nat_lt, Bool, false, ◌&&◌, List, [], ◌∷◌, length, Option, Some, None, codes, if◌then◌else◌}
 use Rattle.std.specs.List.{list_all, list_any}
 use Rattle.std.specs.Option.{option_and_then, option_map}
-use Rattle.wef_base.specs.Names.{same, subscription_name}
+use Rattle.wef_base.specs.Names.{channel_name, same, source_name, subscription_name}
 use Rattle.wef_base.specs.Numbers.{plain_number}
-use Rattle.wef_eventing.specs.Addresses.{is_printed}
+use Rattle.wef_eventing.specs.Addresses.{IsHost, is_printed}
 use Rattle.wef_cli.specs.declared.command.Command.{Command}
 use Rattle.wef_cli.specs.declared.command.Command.TheVariants as the
 
@@ -31,7 +31,7 @@ is_address word = nat_lt 0 (length word) && list_all is_printed word
 abbrev pub address_of : List ℕ → Option (List ℕ)
 address_of word = if is_address word then Some word else None
 
--- the greatest number of connections in a run
+-- the greatest number of connections or deliveries in a run
 abbrev pub greatest_number : ℕ
 greatest_number = 1000000
 
@@ -51,11 +51,28 @@ remove_of word = option_map the.Remove (subscription_name word)
 abbrev pub collect_of : List ℕ → List ℕ → Option Command
 collect_of at number = option_and_then (λ address. option_map (the.Collect address) (number_of number)) (address_of at)
 
+-- the command that sends at most so many batches of a source to the collector at an address
+abbrev pub forward_of : List ℕ → List ℕ → List ℕ → Option Command
+forward_of at source number =
+    option_and_then (λ address. option_and_then (λ s. option_map (the.Forward address s) (number_of number)) (source_name source)) (address_of at)
+
+-- the command that writes what is held of a source's channel for the subscription of a name
+abbrev pub events_of : List ℕ → List ℕ → List ℕ → Option Command
+events_of name source channel =
+    option_and_then (λ u. option_and_then (λ s. option_map (the.Events u s) (channel_name channel)) (source_name source)) (subscription_name name)
+
+-- the command of a name and three words behind it
+abbrev pub command_of_three : List ℕ → List ℕ → List ℕ → List ℕ → Option Command
+command_of_three name first second third =
+    if same name (codes "forward") then forward_of first second third else
+    if same name (codes "events") then events_of first second third else None
+
 -- the command that words ask for none of which begins with `-`
 abbrev pub command_in : List (List ℕ) → Option Command
 command_in (name ∷ []) = command_named name
 command_in (name ∷ word ∷ []) = if same name (codes "remove") then remove_of word else None
 command_in (name ∷ at ∷ number ∷ []) = if same name (codes "collect") then collect_of at number else None
+command_in (name ∷ first ∷ second ∷ third ∷ []) = command_of_three name first second third
 command_in _ = None
 
 -- the command that the words ask for
@@ -67,4 +84,11 @@ abbrev pub MayWantMemory : Option Command → Type 0
 MayWantMemory None = Unit {0}
 MayWantMemory (Some (the.Remove u)) = Unit {0}
 MayWantMemory (Some (the.Collect address number)) = Unit {0}
+MayWantMemory (Some (the.Forward address s number)) = Unit {0}
+MayWantMemory (Some (the.Events u s c)) = Unit {0}
 MayWantMemory (Some _) = ⊥
+
+-- the address that a source asks at is a host
+abbrev pub HasHost : Command → Type 0
+HasHost (the.Forward address s number) = IsHost address
+HasHost _ = Unit {0}

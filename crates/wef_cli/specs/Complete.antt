@@ -12,7 +12,7 @@ use Rattle.wef_keeper.specs.Rows.{Rows}
 use Rattle.wef_collector_rows.specs.Forms.{AreFormed}
 use Rattle.wef_source_log.specs.Forms as log
 use Rattle.wef_cli.specs.declared.command.Command.{Command}
-use Rattle.wef_cli.specs.declared.command.Command.TheVariants.{Check, Replay, Write}
+use Rattle.wef_cli.specs.declared.command.Command.TheVariants.{Check, Forward, Replay, Write}
 use Rattle.wef_cli.specs.Checking.{checked}
 use Rattle.wef_cli.specs.Endings.{HasFailed, IsToldAs, IsUnwritten, Told}
 use Rattle.wef_cli.specs.Runs.{Peers, RunEnds}
@@ -54,6 +54,7 @@ BadLinesAreTold = (ending told : Ending) (input out : Told) (peers : Peers) (bef
 -- the form that a command asks of the rows that it reads: that of a source's log, or that of the collector
 abbrev pub AreFormedFor : Option Command → Rows → Type 0
 AreFormedFor (Some Write) rows = log.AreFormed rows
+AreFormedFor (Some (Forward address source deliveries)) rows = log.AreFormed rows
 AreFormedFor _ rows = AreFormed rows
 
 -- A failed store is told only where the count of its faults rose in this run, or its rows aren't told, or aren't of their form.

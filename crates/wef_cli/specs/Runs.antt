@@ -1,16 +1,18 @@
 -- What the ending of a run says of the words, of what was read and written, of the connections, and of the store.
-use Rattle.std.specs.Prelude.{◌≡◌, ℕ, Option, Some, None}
+use Rattle.std.specs.Prelude.{◌≡◌, ℕ, ◌⊎◌, Option, Some, None}
 use Rattle.std.specs.Io.KnownBytes.{Keeps}
 use Rattle.wef_keeper.specs.Keeping.{Store}
 use Rattle.wef_ports.specs.Telling as ports
 use Rattle.wef_cli.specs.Adding.{AddEnds}
+use Rattle.wef_cli.specs.Calling.{IsUndone}
 use Rattle.wef_cli.specs.Checking.{CheckEnds}
 use Rattle.wef_cli.specs.Collecting.{CollectEnds}
 use Rattle.wef_cli.specs.Endings.{IsUnwritten, ReplayEnds, Told}
+use Rattle.wef_cli.specs.Forwarding.{ForwardEnds}
 use Rattle.wef_cli.specs.Listing.{ListEnds}
 use Rattle.wef_cli.specs.Removing.{RemoveEnds}
 use Rattle.wef_cli.specs.Writing.{WriteEnds}
-use Rattle.wef_cli.specs.Showing.{ShowEnds}
+use Rattle.wef_cli.specs.Showing.{EventsEnds, ShowEnds}
 use Rattle.wef_cli.specs.declared.command.Command.{Command}
 use Rattle.wef_cli.specs.declared.command.Command.TheVariants as the
 use Rattle.wef_cli.specs.declared.ending.Ending.{Ending}
@@ -52,4 +54,9 @@ RunEnds (Some the.Check) ending input out peers before now = CheckEnds ending in
 RunEnds (Some (the.Collect address connections)) ending input out peers before now =
     Keeps input.before input.after × CollectEnds address connections ending out peers.moment peers.front_before peers.front_after before now × (peers.link_after ≡ peers.link_before)
 RunEnds (Some the.Write) ending input out peers before now = WriteEnds ending input out before now × AreUnused peers
+RunEnds (Some (the.Forward address source deliveries)) ending input out peers before now =
+    Keeps input.before input.after
+    × ((IsUndone ending out before now × (peers.link_after ≡ peers.link_before)) ⊎ ForwardEnds address source deliveries ending out peers.moment peers.link_before peers.link_after before now)
+    × (peers.front_after ≡ peers.front_before)
 RunEnds (Some the.Show) ending input out peers before now = Keeps input.before input.after × ShowEnds ending out before now × AreUnused peers
+RunEnds (Some (the.Events u s c)) ending input out peers before now = Keeps input.before input.after × EventsEnds u s c ending out before now × AreUnused peers

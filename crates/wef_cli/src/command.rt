@@ -2,15 +2,15 @@
 
 ghost use Rattle.std.specs.Prelude.{◌≡◌, IfOk, OnErr};
 ghost use Rattle.std.specs.List.{list_all, list_any};
-ghost use Rattle.wef_base.specs.Names.{subscription_name};
+ghost use Rattle.wef_base.specs.Names.{channel_name, source_name, subscription_name};
 ghost use Rattle.wef_eventing.specs.Addresses.{is_printed};
 ghost use Rattle.wef_cli.specs.Command as spec;
 
 use std::alloc::AllocError;
 use wef_base::numbers::read_plain_number;
-use wef_base::{SubId, Text, ValueFault};
+use wef_base::{ChannelName, SourceName, SubId, Text, ValueFault};
 
-/// The greatest number of connections that one run may be told.
+/// The greatest number of connections or deliveries that one run may be told.
 pub const GREATEST_NUMBER: u64 = 1_000_000;
 
 /// What `wef` is told to do.
@@ -35,8 +35,23 @@ pub enum Command {
         /// How many connections it serves, from 1 to 1,000,000.
         connections: u64,
     },
+    /// Asks the collector for subscriptions, and sends it what they select of the log of the source.
+    Forward {
+        /// A host and a port, where the collector listens.
+        address: Text,
+        /// The name of the source.
+        source: SourceName,
+        /// How many batches it sends at most, from 1 to 1,000,000.
+        deliveries: u64,
+    },
     /// Writes the report of all that the collector keeps.
     Show,
+    /// Writes the events that the collector holds of a source's channel for a subscription.
+    Events {
+        name: SubId,
+        source: SourceName,
+        channel: ChannelName,
+    },
 }
 
 impl Command {
@@ -60,6 +75,7 @@ impl Command {
             [name] => Ok(Command::named(name)),
             [name, word] if name.as_str() == "remove" => Command::remove(word),
             [name, at, number] if name.as_str() == "collect" => Command::collect(at, number),
+            [name, first, second, third] => Command::of_three(name, first, second, third),
             _ => Ok(None),
         }
     }
@@ -86,6 +102,25 @@ impl Command {
             return Some(Command::Show);
         }
         None
+    }
+
+    /// The command of a name and three words behind it.
+    fn of_three(
+        name: &Text,
+        first: &Text,
+        second: &Text,
+        third: &Text,
+    ) -> Result<Option<Command>, AllocError>
+        ensures value { IfOk result (λ command. command ≡ spec.command_of_three name.now first.now second.now third.now) }
+        ensures wants_memory { OnErr result (spec.MayWantMemory (spec.command_of_three name.now first.now second.now third.now)) }
+    {
+        if name.as_str() == "forward" {
+            return Command::forward(first, second, third);
+        }
+        if name.as_str() == "events" {
+            return Command::events(first, second, third);
+        }
+        Ok(None)
     }
 
     /// The command that ends the subscription of a name.
@@ -117,6 +152,50 @@ impl Command {
             None => Ok(None),
         }
     }
+
+    /// The command that sends batches.
+    #[tactic(auto, using(crate::proofs::Wanting::forward_wants))]
+    fn forward(at: &Text, source: &Text, number: &Text) -> Result<Option<Command>, AllocError>
+        ensures value { IfOk result (λ command. command ≡ spec.forward_of at.now source.now number.now) }
+        ensures wants_memory { OnErr result (spec.MayWantMemory (spec.forward_of at.now source.now number.now)) }
+    {
+        let Some(address) = address_in(at)? else {
+            return Ok(None);
+        };
+        let Some(source) = source_in(source)? else {
+            return Ok(None);
+        };
+        match number_in(number) {
+            Some(deliveries) => Ok(Some(Command::Forward {
+                address,
+                source,
+                deliveries,
+            })),
+            None => Ok(None),
+        }
+    }
+
+    /// The command that writes held events.
+    #[tactic(auto, using(crate::proofs::Wanting::events_wants))]
+    fn events(name: &Text, source: &Text, channel: &Text) -> Result<Option<Command>, AllocError>
+        ensures value { IfOk result (λ command. command ≡ spec.events_of name.now source.now channel.now) }
+        ensures wants_memory { OnErr result (spec.MayWantMemory (spec.events_of name.now source.now channel.now)) }
+    {
+        let Some(name) = subscription_in(name)? else {
+            return Ok(None);
+        };
+        let Some(source) = source_in(source)? else {
+            return Ok(None);
+        };
+        match channel_in(channel)? {
+            Some(channel) => Ok(Some(Command::Events {
+                name,
+                source,
+                channel,
+            })),
+            None => Ok(None),
+        }
+    }
 }
 
 /// The subscription's name that a word is; none where it is no such name.
@@ -124,6 +203,28 @@ fn subscription_in(word: &Text) -> Result<Option<SubId>, AllocError>
     ensures { IfOk result (λ name. name ≡ subscription_name word.now) }
 {
     match SubId::read(word) {
+        Ok(name) => Ok(Some(name)),
+        Err(ValueFault::BadName) => Ok(None),
+        Err(_) => Err(AllocError),
+    }
+}
+
+/// The source's name that a word is; none where it is no such name.
+fn source_in(word: &Text) -> Result<Option<SourceName>, AllocError>
+    ensures { IfOk result (λ name. name ≡ source_name word.now) }
+{
+    match SourceName::read(word) {
+        Ok(name) => Ok(Some(name)),
+        Err(ValueFault::BadName) => Ok(None),
+        Err(_) => Err(AllocError),
+    }
+}
+
+/// The channel's name that a word is; none where it is no such name.
+fn channel_in(word: &Text) -> Result<Option<ChannelName>, AllocError>
+    ensures { IfOk result (λ name. name ≡ channel_name word.now) }
+{
+    match ChannelName::read(word) {
         Ok(name) => Ok(Some(name)),
         Err(ValueFault::BadName) => Ok(None),
         Err(_) => Err(AllocError),
@@ -171,7 +272,7 @@ fn all_printed(bytes: &[u8]) -> bool
     bytes.iter().all(|&b| b >= 33 && b <= 126)
 }
 
-/// The number of connections that a word is; none where it is no such number.
+/// The number that a word is, of connections or deliveries; none where it is no such number.
 fn number_in(word: &Text) -> Option<u64>
     ensures { result ≡ spec.number_of word.now }
 {

@@ -8,6 +8,8 @@ mod checking;
 mod collecting;
 mod command;
 mod ending;
+mod events;
+mod forwarding;
 pub mod laws;
 mod listing;
 mod removing;

@@ -2,7 +2,7 @@
 
 ghost use Rattle.std.specs.Prelude.{◌≡◌, Some, IfOk, IfErr};
 ghost use Rattle.wef_replay.specs.Good.{AreGood, no_names};
-ghost use Rattle.wef_cli.specs.Command.{command_of};
+ghost use Rattle.wef_cli.specs.Command.{HasHost, command_of};
 ghost use Rattle.wef_cli.specs.Endings.{EndsReading, HasLines, IsToldAs, Told, ReplayEnds, WroteMessage, status_of};
 ghost use Rattle.wef_cli.specs.Runs.{RunEnds};
 ghost use Rattle.wef_cli.specs.declared.ending.Ending as the_ending;
@@ -12,6 +12,8 @@ use crate::checking::check;
 use crate::collecting::collect;
 use crate::command::Command;
 use crate::ending::Ending;
+use crate::events::events;
+use crate::forwarding::forward;
 use crate::listing::list;
 use crate::removing::remove;
 use crate::runs::{RunFault, run_lines};
@@ -35,9 +37,12 @@ use wef_replay::{Line, ScheduleFault, read_schedule};
 /// whether the list selects it; it leaves the keeper alone, too. `write` reads lines of events, checks
 /// all of them, and writes each into the log of a source that the keeper keeps, and its number. `collect
 /// ADDRESS N` serves so many connections of the front as the collector, at the moments that the clock
-/// gives; no other command takes a connection, and none makes one. `show` writes the report of all that
-/// the keeper keeps. What ended the run is told in one line to `err`, or in as much of it as `err` takes.
-/// Status 6 alone comes free: for want of memory, also for the text that tells how it ended.
+/// gives; no other command takes a connection. `forward ADDRESS SOURCE N` asks the collector there for the
+/// subscriptions of a source, and sends it at most so many batches over the link; no other command makes
+/// a connection. `show` writes the report of all that the keeper keeps, and `events NAME SOURCE CHANNEL`
+/// the events that it holds of a source's channel, page by page. What ended the run is told in one line
+/// to `err`, or in as much of it as `err` takes. Status 6 alone comes free: for want of memory, also for
+/// the text that tells how it ended.
 pub fn run<I: Source, O: Sink, E: Sink, K: Keeper, F: Front, L: Link, C: Clock>(
     alloc: Global,
     words: &[Text],
@@ -64,6 +69,7 @@ pub fn run<I: Source, O: Sink, E: Sink, K: Keeper, F: Front, L: Link, C: Clock>(
     (keeper, told.status())
 }
 
+#[tactic(auto, using(crate::proofs::Hosts::command_host))]
 fn ending_of<I: Source, O: Sink, K: Keeper, F: Front, L: Link, C: Clock>(
     alloc: Global,
     words: &[Text],
@@ -98,6 +104,7 @@ fn act<I: Source, O: Sink, K: Keeper, F: Front, L: Link, C: Clock>(
     link: &mut L,
     clock: &mut C,
 ) -> (K, Ending)
+    requires { HasHost command }
     ensures ends { RunEnds (Some command) result.1
         (record { before = I.left input.old; after = I.left input.new; faults_before = I.faults input.old; faults_after = I.faults input.new })
         (record { before = O.taken out.old; after = O.taken out.new; faults_before = O.faults out.old; faults_after = O.faults out.new })
@@ -116,7 +123,19 @@ fn act<I: Source, O: Sink, K: Keeper, F: Front, L: Link, C: Clock>(
             address,
             connections,
         } => collect(alloc, keeper, &address, connections, out, front, clock),
+        Command::Forward {
+            address,
+            source,
+            deliveries,
+        } => forward(
+            alloc, keeper, &address, source, deliveries, out, link, clock,
+        ),
         Command::Show => show(alloc, keeper, out),
+        Command::Events {
+            name,
+            source,
+            channel,
+        } => events(alloc, keeper, name, &source, &channel, out),
     }
 }
 
