@@ -15,29 +15,30 @@ use wef_connections::{MemConnection, MemFront};
 use wef_event::EVENT_LIMIT;
 use wef_keeper::MemKeeper;
 
-/// How adding goes over a store that fails: done, told as failed, or anything else.
+/// How a command goes over a store that fails: done, told as failed, or anything else.
 #[derive(Clone, Copy, Debug, PartialEq, Eq)]
-enum Added {
+enum Gone {
     Done,
     Failed,
     Wrong,
 }
 
-fn told(ran: &Outcome) -> Added {
+/// How a run went that prints a text where nothing fails.
+fn judged(ran: &Outcome, wanted: &str) -> Gone {
     let (out, err) = (ran.out.taken(), ran.err.taken());
-    if ran.status == 0 && out == b"added Base\n".as_slice() && err.is_empty() {
-        return Added::Done;
+    if ran.status == 0 && out == wanted.as_bytes() && err.is_empty() {
+        return Gone::Done;
     }
     if ran.status == 4 && out.is_empty() && err == b"store failed\n".as_slice() {
-        return Added::Failed;
+        return Gone::Failed;
     }
-    Added::Wrong
+    Gone::Wrong
 }
 
 /// How adding goes where the call of a number fails.
-fn added_over(alloc: Global, document: &[u8], call: u64, keeps: bool) -> Result<Added, AllocError> {
+fn added_over(alloc: Global, document: &[u8], call: u64, keeps: bool) -> Result<Gone, AllocError> {
     let keeper = FailingKeeper::new(alloc, FailsAt::Call(call), keeps);
-    Ok(told(&ran_once(alloc, "add", keeper, document)?))
+    Ok(judged(&ran_once(alloc, "add", keeper, document)?, "added Base\n"))
 }
 
 #[test]
@@ -47,12 +48,49 @@ fn a_store_that_fails_is_told(rt: HostRuntime) -> Result<(), Fail> {
         let mut failed = 0u32;
         for call in 1..32u64 {
             match added_over(rt.alloc(), text.as_str().as_bytes(), call, keeps)? {
-                Added::Done => {}
-                Added::Failed => failed = failed.saturating_add(1),
-                Added::Wrong => assert!(&rt; false, "call {call}"),
+                Gone::Done => {}
+                Gone::Failed => failed = failed.saturating_add(1),
+                Gone::Wrong => assert!(&rt; false, "call {call}"),
             }
         }
         assert!(&rt; failed > 2 && failed < 31);
+    }
+    Ok(())
+}
+
+/// Commands over a store with one subscription, and what each prints.
+const COMMANDS: &[(&str, &str)] = &[
+    ("remove Base", "ended Base\n"),
+    ("list", "Base live source\n"),
+    ("show", "subscription Base live\nend\n"),
+    ("events Base pc1 application", "end\n"),
+    ("forward a:1 pc1 1", "subscriptions 0\ndone\n"),
+];
+
+/// How a command goes over a store where the call of a number fails behind those of an `add`.
+fn goes_over(alloc: Global, line: &str, out: &str, call: u64) -> Result<Gone, AllocError> {
+    let text = document(alloc, "Base")?;
+    let keeper = FailingKeeper::new(alloc, FailsAt::Call(call), false);
+    let (keeper, added) = ran(alloc, "add", keeper, text.as_str().as_bytes())?;
+    if added.status != 0 {
+        return Ok(Gone::Done);
+    }
+    let ran = ran_once(alloc, line, keeper, b"".as_slice())?;
+    Ok(judged(&ran, out))
+}
+
+#[test]
+fn a_store_that_fails_ends_a_command(rt: HostRuntime) -> Result<(), Fail> {
+    for (line, out) in COMMANDS {
+        let mut failed = 0u32;
+        for call in 1..40u64 {
+            match goes_over(rt.alloc(), line, out, call)? {
+                Gone::Done => {}
+                Gone::Failed => failed = failed.saturating_add(1),
+                Gone::Wrong => assert!(&rt; false, "{line}, call {call}"),
+            }
+        }
+        assert!(&rt; failed > 0 && failed < 39, "{line}");
     }
     Ok(())
 }

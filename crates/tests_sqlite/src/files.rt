@@ -1,15 +1,13 @@
 //! Stores in files: what a second opening finds, and what is no store.
 
 use crate::rows::{WALK, keep, key, walk};
-use sqlite::{Connection, Error, File, FileStore, MemStore};
+use sqlite::{Connection, File, FileStore};
 use std::alloc::Global;
 use std::fs;
 use std::test::Fail;
 use wef_base::Text;
 use wef_keeper::{Keeper, KeeperFault};
 use wef_sqlite::SqlKeeper;
-
-type FileKeeper = SqlKeeper<FileStore<File>>;
 
 /// A row that is none: a kind that is none, a negative number, and a text that isn't UTF-8.
 const WRONG: &[&str] = &[
@@ -18,25 +16,42 @@ const WRONG: &[&str] = &[
     "INSERT INTO kept VALUES (2, '', '', '', 1, 0, CAST(x'ff' AS TEXT))",
 ];
 
-fn keeper_at(rt: HostRuntime, path: &str) -> Result<FileKeeper, KeeperFault> {
-    SqlKeeper::at(rt, Text::from_str(rt.alloc(), path)?)
+/// What is done with a store.
+#[derive(Clone, Copy)]
+enum Work {
+    /// The rows are put and taken away.
+    Keep,
+
+    /// All rows are walked over, by pages of this many.
+    Walk(u32),
 }
 
-fn walked(rt: HostRuntime, path: &str, most: u32) -> Result<Text, KeeperFault> {
-    walk(&mut keeper_at(rt, path)?, rt.alloc(), most)
+/// What is told of it where a store at a path is opened for it.
+fn done_at(rt: HostRuntime, path: &str, work: Work) -> Result<Text, KeeperFault> {
+    let path = Text::from_str(rt.alloc(), path)?;
+    match SqlKeeper::<FileStore<File>>::at(rt, path) {
+        Ok(mut keeper) => done(&mut keeper, rt.alloc(), work),
+        Err(fault) => Err(fault),
+    }
 }
 
-fn kept(rt: HostRuntime, path: &str) -> Result<(), KeeperFault> {
-    keep(&mut keeper_at(rt, path)?, rt.alloc())
+fn done<K: Keeper>(keeper: &mut K, alloc: Global, work: Work) -> Result<Text, KeeperFault> {
+    match work {
+        Work::Keep => {
+            keep(keeper, alloc)?;
+            Ok(Text::new(alloc))
+        }
+        Work::Walk(most) => walk(keeper, alloc, most),
+    }
 }
 
 #[test]
 fn a_second_opening_finds_the_rows(rt: HostRuntime) -> Result<(), Fail> {
     let _ = fs::remove_dir_all(&rt, "wef_sqlite_rows");
     fs::create_dir(&rt, "wef_sqlite_rows")?;
-    kept(rt, "wef_sqlite_rows/a.db")?;
+    done_at(rt, "wef_sqlite_rows/a.db", Work::Keep)?;
     for most in [1, 2, 256] {
-        let told = walked(rt, "wef_sqlite_rows/a.db", most)?;
+        let told = done_at(rt, "wef_sqlite_rows/a.db", Work::Walk(most))?;
         assert_eq!(&rt; told.as_str(), WALK);
     }
     fs::remove_dir_all(&rt, "wef_sqlite_rows")?;
@@ -62,7 +77,8 @@ fn what_is_no_store_is_refused(rt: HostRuntime) -> Result<(), Fail> {
     for path in ["text", "folder", "other", "none/none"] {
         let mut whole = Text::from_str(rt.alloc(), "wef_sqlite_others/")?;
         whole.push_str(path)?;
-        assert!(&rt; kept(rt, whole.as_str()) == Err(KeeperFault::Failed));
+        let fault = done_at(rt, whole.as_str(), Work::Keep).err();
+        assert_eq!(&rt; fault, Some(KeeperFault::Failed));
     }
     let text = fs::read_to_string(&rt, "wef_sqlite_others/text")?;
     let after = fs::read(&rt, "wef_sqlite_others/other")?;
@@ -72,30 +88,49 @@ fn what_is_no_store_is_refused(rt: HostRuntime) -> Result<(), Fail> {
     Ok(())
 }
 
-/// A store in memory with the rows, and one row more that SQL puts.
-fn with_row(alloc: Global, put: &str) -> Result<Option<SqlKeeper<MemStore>>, KeeperFault> {
+/// What is seen of a store beside a row that SQL puts.
+#[derive(Clone, Copy, Debug, PartialEq, Eq)]
+struct Seen {
+    /// The value of the row that is looked for.
+    value: Option<u64>,
+
+    /// Whether a walk over all rows comes to its end.
+    is_whole: bool,
+}
+
+/// What is seen in memory beside a row that SQL puts, of a kind's row of a number; none where it can't
+/// be put.
+fn beside(alloc: Global, put: &str, kind: u8, number: u64) -> Result<Option<Seen>, KeeperFault> {
     let mut keeper = SqlKeeper::over(Connection::open_in_memory(alloc)?);
     keep(&mut keeper, alloc)?;
     let Some(mut conn) = keeper.into_connection() else {
         return Ok(None);
     };
-    Ok(match put_by(&mut conn, put) {
-        Ok(_) => Some(SqlKeeper::over(conn)),
-        Err(_) => None,
-    })
+    match conn.execute(put, &[]) {
+        Ok(_) => look_up(&mut SqlKeeper::over(conn), alloc, kind, number),
+        Err(_) => Ok(None),
+    }
 }
 
-fn put_by(conn: &mut Connection<MemStore>, put: &str) -> Result<usize, Error> {
-    conn.execute(put, &[])
+fn look_up<K: Keeper>(
+    keeper: &mut K,
+    alloc: Global,
+    kind: u8,
+    number: u64,
+) -> Result<Option<Seen>, KeeperFault> {
+    let row = keeper.get(&key(alloc, (kind, "", "", "", number))?)?;
+    Ok(Some(Seen {
+        value: row.map(|row| row.value),
+        is_whole: walk(keeper, alloc, 3).is_ok(),
+    }))
 }
 
 #[test]
 fn a_row_that_is_none_fails_the_call_that_reads_it(rt: HostRuntime) -> Result<(), Fail> {
     for put in WRONG {
-        let mut keeper = with_row(rt.alloc(), put)?.ok_or("no store")?;
-        let row = keeper.get(&key(rt.alloc(), (4, "", "", "", 0))?)?;
-        assert!(&rt; row.is_some());
-        assert!(&rt; walk(&mut keeper, rt.alloc(), 3).is_err());
+        let seen = beside(rt.alloc(), put, 4, 0)?.ok_or("no store")?;
+        assert!(&rt; seen.value.is_some());
+        assert!(&rt; !seen.is_whole);
     }
     Ok(())
 }
@@ -103,8 +138,7 @@ fn a_row_that_is_none_fails_the_call_that_reads_it(rt: HostRuntime) -> Result<()
 #[test]
 fn a_negative_value_is_a_great_one(rt: HostRuntime) -> Result<(), Fail> {
     let put = "INSERT INTO kept VALUES (2, '', '', '', 1, -1, '')";
-    let mut keeper = with_row(rt.alloc(), put)?.ok_or("no store")?;
-    let row = keeper.get(&key(rt.alloc(), (2, "", "", "", 1))?)?;
-    assert_eq!(&rt; row.ok_or("no row")?.value, u64::MAX);
+    let seen = beside(rt.alloc(), put, 2, 1)?.ok_or("no store")?;
+    assert_eq!(&rt; seen.value, Some(u64::MAX));
     Ok(())
 }

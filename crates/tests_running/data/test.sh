@@ -1,0 +1,5 @@
+# Runs the program over a store, walks through two folders, and looks at the stores that lie there then.
+#
+#     sh test.sh WEF
+
+sh documents.sh "$1" && echo && sh two-folders.sh "$1" . && sh rows.sh "$1"
