@@ -18,6 +18,9 @@ HERE = os.path.dirname(os.path.abspath(__file__))
 BATCH = 20
 SMALL = 1000
 MEASURED = 50
+# Of the pages of a store, some 2,000 are kept in memory: in MB, with what a batch takes.
+CACHE = 16
+PREPARED = 500
 FORWARDED = 10_000
 SOAP = "http://www.w3.org/2003/05/soap-envelope"
 ADDRESSING = "http://schemas.xmlsoap.org/ws/2004/08/addressing"
@@ -100,9 +103,14 @@ class Collector:
             sys.exit(f"collect ended with {self.process.returncode}")
 
 
+def prepared(batches, made):
+    """What is made for each batch: ahead, so that the time for it isn't measured; but one by one where there are so many that they take much memory."""
+    return [made(i) for i in range(batches)] if batches <= PREPARED else map(made, range(batches))
+
+
 def deliver(program, folder, first, batches):
     """Delivers batches from a record on: seconds, processor seconds, and peak memory in MB."""
-    requests = [request(first + i * BATCH, first + i * BATCH) for i in range(batches)]
+    requests = prepared(batches, lambda i: request(first + i * BATCH, first + i * BATCH))
     collector = Collector(program, folder)
     pid = collector.process.pid
     with collector.connect() as link, link.makefile("rb") as stream:
@@ -126,7 +134,7 @@ def commit_rows(path, first, batches):
         " value INTEGER NOT NULL, body TEXT NOT NULL, PRIMARY KEY (kind, sub, source, channel, number)) STRICT"
     )
     put = "INSERT OR REPLACE INTO kept VALUES (?, 'base', 'pc1', ?, ?, ?, ?)"
-    texts = [[event(first + i * BATCH + k) for k in range(BATCH)] for i in range(batches)]
+    texts = prepared(batches, lambda i: [event(first + i * BATCH + k) for k in range(BATCH)])
     began = time.perf_counter()
     for i, batch in enumerate(texts):
         at = first + i * BATCH
@@ -167,7 +175,7 @@ def main():
     with tempfile.TemporaryDirectory() as room:
         run(program, room, "add", text=SUBSCRIPTION.encode())
         rows = os.path.join(room, "rows.db")
-        paces, peaks = {}, {}
+        paces = {}
         at = 1
         for target in (SMALL, held):
             if target > at:
@@ -178,14 +186,15 @@ def main():
             took, worked, peak = deliver(program, room, at, MEASURED)
             commits = commit_rows(rows, at, MEASURED)
             at += MEASURED * BATCH
-            paces[target], peaks[target] = MEASURED / took, peak
+            paces[target] = MEASURED / took
+            _, _, _, opened = run(program, room, "list")
             print(
                 f"held {target:,}: {MEASURED * BATCH / took:,.0f} events a second, {worked / MEASURED * 1000:.2f} ms of processor time a batch, {MEASURED / took:,.1f} commits a second"
-                f" ({MEASURED / commits:,.1f} with sqlite3, {commits / took:.2f} of it), peak {peak:.0f} MB"
+                f" ({MEASURED / commits:,.1f} with sqlite3, {commits / took:.2f} of it), peak {peak:.0f} MB ({opened:.0f} MB to open the store)"
             )
+            aim("no more memory than an opening takes, and the cache", peak <= opened + CACHE)
             aim("half of sqlite3's commits", commits / took >= 0.5)
         aim("0.8 of the pace with a small store", paces[held] >= 0.8 * paces[SMALL])
-        aim("memory that doesn't grow", peaks[held] <= peaks[SMALL] * 1.5)
         for words in (["show"], ["events", "base", "pc1", "security"]):
             text, took, worked, peak = run(program, room, *words)
             print(f"{words[0]} over {at - 1:,} events: {took:.2f} s, {worked:.2f} s of processor time, peak {peak:.0f} MB, {len(text) / 1e6:.1f} MB printed")
