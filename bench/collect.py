@@ -17,7 +17,7 @@ import time
 HERE = os.path.dirname(os.path.abspath(__file__))
 BATCH = 20
 SMALL = 1000
-MEASURED = 50
+MEASURED = 200
 # Of the pages of a store, some 2,000 are kept in memory: in MB, with what a batch takes.
 CACHE = 16
 PREPARED = 500
@@ -41,10 +41,10 @@ def event(number, with_number=True):
     )
 
 
-def request(first, message):
-    """The delivery of a batch of the records from this number on."""
+def request(first, message, last=None):
+    """The delivery of a batch of the records from this number on; it is refused where it says that it ends at a lower record."""
     items = "".join(f'<w:Event Action="{ACTIONS}/Event"><![CDATA[{event(n)}]]></w:Event>' for n in range(first, first + BATCH))
-    mark = f'<BookmarkList><Bookmark Channel="Security" RecordId="{first + BATCH - 1}" IsCurrent="true"/></BookmarkList>'
+    mark = f'<BookmarkList><Bookmark Channel="Security" RecordId="{last or first + BATCH - 1}" IsCurrent="true"/></BookmarkList>'
     body = (
         f'<s:Envelope xmlns:s="{SOAP}" xmlns:a="{ADDRESSING}" xmlns:w="{MANAGEMENT}"><s:Header><a:Action s:mustUnderstand="true">{ACTIONS}/Events</a:Action>'
         f"<a:MessageID>uuid:0A0B0C0D-0000-0000-0000-{message:012X}</a:MessageID><w:Bookmark>{mark}</w:Bookmark><w:AckRequested/></s:Header>"
@@ -108,16 +108,20 @@ def prepared(batches, made):
     return [made(i) for i in range(batches)] if batches <= PREPARED else map(made, range(batches))
 
 
-def deliver(program, folder, first, batches):
-    """Delivers batches from a record on: seconds, processor seconds, and peak memory in MB."""
-    requests = prepared(batches, lambda i: request(first + i * BATCH, first + i * BATCH))
+def requests_from(first, batches):
+    """The deliveries of batches from a record on."""
+    return prepared(batches, lambda i: request(first + i * BATCH, first + i * BATCH))
+
+
+def deliver(program, folder, requests, wanted=b"200"):
+    """Delivers batches: seconds, processor seconds, and peak memory in MB."""
     collector = Collector(program, folder)
     pid = collector.process.pid
     with collector.connect() as link, link.makefile("rb") as stream:
         before, began = processor_seconds(pid), time.perf_counter()
         for sent in requests:
             link.sendall(sent)
-            if (status := read_response(stream)) != b"200":
+            if (status := read_response(stream)) != wanted:
                 sys.exit(f"a batch was answered with {status}")
         took, worked, peak = time.perf_counter() - began, processor_seconds(pid) - before, peak_megabytes(pid)
     collector.end()
@@ -163,6 +167,19 @@ def run(program, folder, *words, text=b""):
         return printed.read(), time.perf_counter() - began, used.ru_utime + used.ru_stime, used.ru_maxrss / 1024
 
 
+def shares(program, folder, at):
+    """Tells what a batch costs that is refused once it is read, one that comes again, of which the moment alone is committed, and a new one."""
+    below = at - BATCH
+    kinds = {
+        "read, and refused": ([request(at, at + i, last=1) for i in range(MEASURED)], b"500"),
+        "read, and nothing new in it": ([request(below, at + i) for i in range(MEASURED)], b"200"),
+        "read, taken and committed": (requests_from(at, MEASURED), b"200"),
+    }
+    for kind, (requests, wanted) in kinds.items():
+        took, worked, _ = deliver(program, folder, requests, wanted)
+        print(f"a batch that is {kind}: {took / MEASURED * 1000:.2f} ms, {worked / MEASURED * 1000:.2f} ms of processor time")
+
+
 def main():
     program = os.path.abspath(sys.argv[1] if len(sys.argv) > 1 else os.path.join(HERE, "..", "crates", "wef", "out", "wef"))
     held = int(sys.argv[2]) if len(sys.argv) > 2 else 100_000
@@ -180,10 +197,10 @@ def main():
         for target in (SMALL, held):
             if target > at:
                 fill = (target - at + 1) // BATCH
-                deliver(program, room, at, fill)
+                deliver(program, room, requests_from(at, fill))
                 commit_rows(rows, at, fill)
                 at += fill * BATCH
-            took, worked, peak = deliver(program, room, at, MEASURED)
+            took, worked, peak = deliver(program, room, requests_from(at, MEASURED))
             commits = commit_rows(rows, at, MEASURED)
             at += MEASURED * BATCH
             paces[target] = MEASURED / took
@@ -195,6 +212,8 @@ def main():
             aim("no more memory than an opening takes, and the cache", peak <= opened + CACHE)
             aim("half of sqlite3's commits", commits / took >= 0.5)
         aim("0.8 of the pace with a small store", paces[held] >= 0.8 * paces[SMALL])
+        shares(program, room, at)
+        at += MEASURED * BATCH
         for words in (["show"], ["events", "base", "pc1", "security"]):
             text, took, worked, peak = run(program, room, *words)
             print(f"{words[0]} over {at - 1:,} events: {took:.2f} s, {worked:.2f} s of processor time, peak {peak:.0f} MB, {len(text) / 1e6:.1f} MB printed")
@@ -206,7 +225,7 @@ def main():
         for folder in (direct, collecting):
             run(program, folder, "add", text=SUBSCRIPTION.encode())
         batches = FORWARDED // BATCH
-        needed, _, _ = deliver(program, direct, 1, batches)
+        needed, _, _ = deliver(program, direct, requests_from(1, batches))
         lines = "".join(event(n, with_number=False) + "\n" for n in range(1, FORWARDED + 1))
         _, took, worked, peak = run(program, writing, "write", text=lines.encode())
         print(f"write of {FORWARDED:,} events: {took:.2f} s, {worked:.2f} s of processor time, peak {peak:.0f} MB")

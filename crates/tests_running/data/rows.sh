@@ -1,9 +1,9 @@
-# Reads the stores that a walk through two folders has left by sqlite3, where it is installed, and compares the rows
-# with those that are wanted. The program still reads them behind it.
+# Reads the stores that a walk through two folders has left by sqlite3, where it is installed and not older than the
+# kind of their table, and compares the rows with those that are wanted. The program still reads them behind it.
 #
 #     sh rows.sh WEF
 
-command -v sqlite3 > /dev/null || exit 0
+sqlite3 :memory: "CREATE TABLE kept (number INTEGER) STRICT" > /dev/null 2>&1 || exit 0
 
 # Fails where a query of a store gives something else than the input.
 wanted() {

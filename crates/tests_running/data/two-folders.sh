@@ -75,8 +75,9 @@ until_served() {
 
 # Kills the collector, if there is one.
 end_collector() {
-    [ -z "$collector" ] || kill -9 "$collector" 2> /dev/null
-    wait $collector 2> /dev/null
+    [ -n "$collector" ] || return 0
+    kill -9 "$collector" 2> /dev/null
+    wait "$collector" 2> /dev/null
     collector=
 }
 

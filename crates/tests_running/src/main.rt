@@ -24,7 +24,7 @@ fn walk(rt: &HostRuntime) -> io::Result<ExitCode> {
     })
 }
 
-fn status_of(rt: &HostRuntime, program: &Path) -> io::Result<ExitStatus> {
+fn status_of(rt: &HostRuntime, program: Path<'_>) -> io::Result<ExitStatus> {
     let mut shell = Command::new(rt.alloc(), "sh")?;
     shell.arg("test.sh")?.arg(program)?;
     shell.status(rt)
