@@ -86,10 +86,13 @@ class Collector:
             probe.bind(("127.0.0.1", 0))
             port = probe.getsockname()[1]
         self.address = f"127.0.0.1:{port}"
-        self.process = subprocess.Popen([program, "collect", self.address, str(connections)], cwd=folder, stdout=subprocess.PIPE)
+        self.process = self.started(program, folder, ["collect", self.address, str(connections)])
         line = self.process.stdout.readline()
         if not line.startswith(b"listening"):
             sys.exit(f"collect printed {line!r}")
+
+    def started(self, program, folder, words):
+        return subprocess.Popen([program, *words], cwd=folder, stdout=subprocess.PIPE)
 
     def connect(self):
         host, port = self.address.rsplit(":", 1)

@@ -145,5 +145,6 @@ KINDS = {
     "begun": begun,
 }
 
-kind, size, sources = KINDS[sys.argv[1]], int(sys.argv[2]), int(sys.argv[3])
-sys.stdout.writelines(f"{line}\n" for line in kind(size, sources))
+if __name__ == "__main__":
+    kind, size, sources = KINDS[sys.argv[1]], int(sys.argv[2]), int(sys.argv[3])
+    sys.stdout.writelines(f"{line}\n" for line in kind(size, sources))
