@@ -32,6 +32,15 @@ impl<T> List<T> {
         }
     }
 
+    /// No item, with room for so many.
+    pub fn with_room(alloc: Global, room: usize) -> Result<List<T>, AllocError>
+        ensures { IfOk result (λ l. l ≡ []) }
+    {
+        Ok(List {
+            items: Vec::with_capacity(alloc, room)?,
+        })
+    }
+
     /// The items, as a slice. It takes no memory.
     pub fn as_slice(&self) -> &[T]
         ensures { result.now ≡ self.now }
@@ -70,6 +79,28 @@ impl<T> List<T> {
     {
         self.items.push(item)?;
         Ok(())
+    }
+
+    /// Puts an item at the end. The first gets room for itself alone, since many lists have no other.
+    pub fn push_snug(&mut self, item: T) -> Result<(), AllocError>
+    where
+        T: Drop,
+        ensures ok { OnOk result (self.new ≡ self.old ++ item ∷ []) }
+        ensures err { OnErr result (self.new ≡ self.old) }
+    {
+        if self.items.is_empty() {
+            self.items.reserve_exact(1)?;
+        }
+        self.push(item)
+    }
+
+    /// Lets all items go, and keeps the room that they took.
+    pub fn clear(&mut self)
+    where
+        T: Drop,
+        ensures { self.new ≡ [] }
+    {
+        self.items.clear();
     }
 }
 

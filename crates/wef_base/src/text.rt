@@ -1,6 +1,6 @@
 //! Text in UTF-8, which contracts see as the list of its bytes.
 
-ghost use Rattle.std.specs.Prelude.{◌≡◌, ◌<◌, ◌==◌, ◌^◌, List, [], ◌++◌, length, IsTrue, ◌↔◌, IfOk, OnOk, OnErr, encode_utf8};
+ghost use Rattle.std.specs.Prelude.{◌≡◌, ◌<◌, ◌==◌, ◌^◌, List, [], ◌++◌, length, IsTrue, ◌↔◌, IfOk, OnOk, OnErr, encode_utf8, encode_utf8_all};
 ghost use Rattle.std.specs.Fmt.{decimal};
 ghost use Rattle.std.specs.Cmp.{partial_equiv_from_equiv};
 ghost use Rattle.std.specs.Cmp.Lexicographic.{pointwise, slice_cmp, nat_list_eq_equiv, nat_list_cmp_total, texts_po};
@@ -74,6 +74,16 @@ impl Text {
         })
     }
 
+    /// The text of characters. None takes no memory.
+    pub fn from_chars(alloc: Global, characters: &[char]) -> Result<Text, AllocError>
+        ensures { IfOk result (λ t. t ≡ encode_utf8_all characters.now) }
+    {
+        if characters.is_empty() {
+            return Ok(Text::new(alloc));
+        }
+        Text::from_string(string_of(alloc, characters)?)
+    }
+
     /// The text, as a string slice. It takes no memory.
     pub fn as_str(&self) -> &str
         ensures { result.now ≡ self.now }
@@ -125,6 +135,19 @@ impl Text {
         self.push_str(character.encode_utf8(&mut [0; 4]))
     }
 
+    /// Appends characters.
+    pub fn push_chars(&mut self, characters: &[char]) -> Result<(), AllocError>
+        ensures ok { OnOk result (self.new ≡ self.old ++ encode_utf8_all characters.now) }
+        ensures err { OnErr result (self.new ≡ self.old) }
+    {
+        if self.shared.is_none() {
+            *self = Text::from_chars(self.alloc, characters)?;
+            return Ok(());
+        }
+        let more = string_of(self.alloc, characters)?;
+        self.push_str(more.as_str())
+    }
+
     /// Appends a number in decimal digits, without leading zeros.
     pub fn push_number(&mut self, number: u64) -> Result<(), AllocError>
         ensures ok { OnOk result (self.new ≡ self.old ++ decimal number) }
@@ -150,11 +173,7 @@ impl Text {
         ensures { IfOk result (λ t. t ≡ trimmed self.now) }
     {
         let characters = self.characters()?;
-        let mut text = Text::new(self.alloc());
-        for &character in trim(characters.as_slice()) {
-            text.push(character)?;
-        }
-        Ok(text)
+        Text::from_chars(self.alloc(), trim(characters.as_slice()))
     }
 
     /// The characters, in a vector.
@@ -178,6 +197,17 @@ impl Text {
             None => Ok(Text::new(self.alloc)),
         }
     }
+}
+
+/// The string of characters, with room for one byte of each.
+fn string_of(alloc: Global, characters: &[char]) -> Result<String, AllocError>
+    ensures { IfOk result (λ s. string_bytes s ≡ encode_utf8_all characters.now) }
+{
+    let mut string = String::with_capacity(alloc, characters.len())?;
+    for character in characters {
+        string.push(*character)?;
+    }
+    Ok(string)
 }
 
 /// Appends to a string that others may share: where they do, to one of its own.
