@@ -1,4 +1,5 @@
 pub mod Ascii
+pub mod Copied
 pub mod Glyphs
 pub mod GoodNodes
 pub mod Maps

@@ -1,5 +1,5 @@
 -- Digests of namespaces, which tell most of them apart in a fixed time.
-use Rattle.std.specs.Prelude.{◌≡◌, ℕ, ◌==◌, ◌&&◌, true, List, length, nat_eq, replicate, if◌then◌else◌}
+use Rattle.std.specs.Prelude.{◌≡◌, ℕ, nat_lt, ◌&&◌, true, List, length, nat_eq, replicate, if◌then◌else◌}
 use Rattle.std.specs.declared.cmp.Ordering.{Ordering}
 use Rattle.std.specs.declared.option.Option.TheVariants.{Some}
 use Rattle.std.proofs.Common.{sym, ◌∙◌, ap}
@@ -8,9 +8,9 @@ use Rattle.std.specs.Cmp.{IsPartialOrder, IsTotalOrder, both_tied, both_ways, po
 use Rattle.std.specs.Cmp.Lexicographic.{bytes_decides, nat_list_cmp_total, on_texts, pointwise, slice_cmp, texts_ties}
 use Rattle.sha2.specs.Sha256.{sha256}
 
--- the digest of a namespace: its SHA-256, and zeros for no namespace, which most attributes have
+-- the digest of a namespace: its SHA-256, and zeros for one of at most 256 bytes, which is compared as fast as two digests are
 unfoldable pub digest_of : List ℕ → List ℕ
-digest_of space = if length space == 0 then replicate 32 0 else sha256 space
+digest_of space = if nat_lt 256 (length space) then sha256 space else replicate 32 0
 
 -- the order of namespaces by their digests, and then by themselves
 abbrev pub digest_cmp : List ℕ → List ℕ → Ordering

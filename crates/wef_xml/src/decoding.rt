@@ -52,11 +52,14 @@ fn decode_utf8(alloc: Global, bytes: &[u8]) -> Result<Vec<char>, TreeFault>
     }
 }
 
-#[tactic(auto, using(std::proofs::lemmas::Str::chars_from_encodes))]
 fn characters(alloc: Global, text: &str) -> Result<Vec<char>, AllocError>
     ensures { IfOk result (λ characters. characters.items ≡ chars text.now) }
 {
-    text.chars().collect(alloc)
+    let mut characters = Vec::with_capacity(alloc, text.len())?;
+    for character in text.chars() {
+        characters.push(character)?;
+    }
+    Ok(characters)
 }
 
 fn without_utf8_mark(bytes: &[u8]) -> &[u8]

@@ -9,9 +9,13 @@ use std::cmp::Ordering;
 use std::marker::Model;
 use wef_base::{Namespace, Text};
 
+/// A namespace of up to so many bytes is compared in full about as fast as two digests are.
+const LONGEST_SHORT: usize = 256;
+
 /// A namespace with its digest, which contracts see as the namespace alone. Two are compared by
 /// their digests first, and in full only where these are the same. So long namespaces that differ
-/// at their ends are told apart in a fixed time, and nothing but time rests on the digests.
+/// at their ends are told apart in a fixed time, and nothing but time rests on the digests. Short
+/// ones, which nearly all are, have zeros in place of a digest.
 #[derive(Drop)]
 pub struct Digested {
     space: Namespace,
@@ -60,10 +64,10 @@ impl Digested {
 fn digest_of(space: &Text) -> [u8; 32]
     ensures { result ≡ digest_of space.now }
 {
-    if space.is_empty() {
-        return [0; 32];
+    if space.len() > LONGEST_SHORT {
+        return Sha256::digest(space.as_str());
     }
-    Sha256::digest(space.as_str())
+    [0; 32]
 }
 
 impl PartialEq for Digested {

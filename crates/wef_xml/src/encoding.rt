@@ -40,9 +40,14 @@ fn push_character(bytes: &mut Bytes, charset: Charset, character: char) -> Resul
     }
 }
 
+#[tactic(auto, using(std::proofs::lemmas::Str::encode_ascii))]
 fn push_utf8(bytes: &mut Bytes, character: char) -> Result<(), AllocError>
     ensures { OnOk result (bytes.new ≡ bytes.old ++ encode_utf8 character) }
 {
+    let code = u32::from(character);
+    if code < 128 {
+        return bytes.push(code as u8);
+    }
     let mut buffer = [0; 4];
     bytes.extend(character.encode_utf8(&mut buffer).as_bytes())
 }

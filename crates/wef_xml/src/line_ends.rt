@@ -9,7 +9,7 @@ use std::alloc::{AllocError, Global};
 pub fn join_line_ends(alloc: Global, characters: &[char]) -> Result<Vec<char>, AllocError>
     ensures { IfOk result (λ text. text.items ≡ line_ends false characters.now) }
 {
-    let mut text = Vec::new(alloc);
+    let mut text = Vec::with_capacity(alloc, characters.len())?;
     let mut after_return = false;
     for &character in characters {
         if character == '\r' {
