@@ -6,7 +6,9 @@ pub mod GoodTrees
 pub mod Inversions
 pub mod LineEnds
 pub mod Readings
+pub mod Runs
 pub mod Shorter
+pub mod Spelt
 pub mod Stacks
 pub mod Turns
 pub mod Walks

@@ -1,39 +1,49 @@
 -- Going through a text piece by piece.
-use Rattle.std.proofs.Common.{◌≡◌, ℕ, ◌-◌, ◌<◌, ◌≤◌, false, List, [], ◌∷◌, ◌++◌, length, refl, ap, ◌∙◌, subst, arith}
-use Rattle.std.specs.Prelude.{Some, None, Result, IfOk}
+use Rattle.std.proofs.Common.{◌≡◌, ℕ, ◌-◌, ◌<◌, ◌≤◌, false, List, [], ◌∷◌, ◌++◌, length, refl, sym, ap, ◌∙◌, subst, arith}
+use Rattle.std.specs.Prelude.{None, Result, IfOk}
 use Rattle.std.specs.declared.result.Result.TheVariants.{Ok, Err}
 use Rattle.wef_base.specs.declared.tree.Charset.{Charset}
 use Rattle.wef_base.specs.declared.tree.Element.{Element}
-use Rattle.wef_tree_reading.specs.Building.{nothing, taken}
+use Rattle.wef_tree_reading.specs.Building.{nothing}
 use Rattle.wef_xml.specs.Decoding.{decoded, line_ends, place}
 use Rattle.wef_xml.specs.Good.{IsGoodTree}
 use Rattle.wef_tree_reading.specs.Laws.{IsLongest}
 use Rattle.wef_tree_reading.specs.Pieces.{piece_at}
-use Rattle.wef_tree_reading.specs.Spelling.{Leads, Reaches, ReadsText, ReadsTree, Stops, StopsAt, fault_at, kind_of, IsStuck}
+use Rattle.std.specs.Borrow.{Bor}
+use Rattle.wef_tree_reading.specs.Runs.{Walks}
+use Rattle.wef_tree_reading.specs.Spelling.{Leads, Steps, Reaches, ReadsText, ReadsTree, Stops, StopsAt, fault_at, kind_of, IsStuck}
 use Rattle.wef_tree_reading.specs.declared.building.Builder.{Builder}
 use Rattle.wef_tree_reading.specs.declared.faults.FaultKind.{FaultKind}
 use Rattle.wef_tree_reading.specs.declared.faults.FaultKind.TheVariants.{Xml, Deep, Refused as Forbidden}
 use Rattle.wef_tree_reading.specs.declared.faults.Stop.{Stop}
-use Rattle.wef_tree_reading.specs.declared.faults.Stop.TheVariants.{Fault}
+use Rattle.wef_tree_reading.specs.declared.faults.Stop.TheVariants.{NoMemory, Fault}
 use Rattle.wef_xml.specs.declared.faults.TreeFault.{TreeFault}
 use Rattle.wef_tree_reading.specs.declared.pieces.Piece.{Piece}
 use Rattle.wef_tree_reading.proofs.GoodTrees.{spells_good}
 use Rattle.wef_tree_reading.proofs.Readings.{end_is_stuck, goes_on_to_the_fault}
 use Rattle.wef_tree_reading.proofs.Shorter.{piece_shorter}
 
--- one good piece more
-leads_on :
-    (ps : List Piece) (b : Builder) (text : List ℕ) (c : Builder) (rest : List ℕ) (p : Piece) (behind : List ℕ) (d : Builder) →
-    Leads b ps text c rest → piece_at rest ≡ Some (p, behind) → taken c p ≡ Some d → Leads b (ps ++ p ∷ []) text d behind
-leads_on [] b text c rest p behind d leads e f =
-    (d, behind, ap piece_at leads.1 ∙ e, ap (λ x. taken x p) leads.0 ∙ f, (refl, refl))
-leads_on (q ∷ qs) b text c rest p behind d leads e f =
-    (leads.0, leads.1, leads.2, leads.3, leads_on qs leads.0 leads.1 c rest p behind d leads.4 e f)
+-- good pieces behind others
+leads_further :
+    (ps qs : List Piece) (b : Builder) (text : List ℕ) (c : Builder) (rest : List ℕ) (d : Builder) (behind : List ℕ) →
+    Leads b ps text c rest → Leads c qs rest d behind → Leads b (ps ++ qs) text d behind
+leads_further [] qs b text c rest d behind leads more =
+    let P : Builder → Type 0 = λ x. Leads x qs text d behind in
+    let Q : List ℕ → Type 0 = λ x. Leads c qs x d behind in
+    subst P (sym leads.0) (subst Q (sym leads.1) more)
+leads_further (p ∷ ps) qs b text c rest d behind leads more =
+    (leads.0, leads.1, leads.2, leads.3, leads_further ps qs leads.0 leads.1 c rest d behind leads.4 more)
 
-pub reaches_on :
-    (text rest : List ℕ) (c d : Builder) (p : Piece) (behind : List ℕ) → Reaches text c rest → piece_at rest ≡ Some (p, behind) → taken c p ≡ Some d →
-    Reaches text d behind
-reaches_on text rest c d p behind reaches e f = (reaches.0 ++ p ∷ [], leads_on reaches.0 nothing text c rest p behind d reaches.1 e f)
+pub reaches_further :
+    (text rest : List ℕ) (c d : Builder) (qs : List Piece) (behind : List ℕ) → Reaches text c rest → Leads c qs rest d behind → Reaches text d behind
+reaches_further text rest c d qs behind reaches more = (reaches.0 ++ qs, leads_further reaches.0 qs nothing text c rest d behind reaches.1 more)
+
+-- what one step leads to, as what one or more lead to
+pub one_step : (before after : Builder) (text : List ℕ) (result : Result (Bor (List ℕ)) Stop) → Steps before after text result → Walks before after text result
+one_step before after text (Ok behind) step =
+    (step.0 ∷ [], (after, behind.now, step.1, step.2, (refl, refl)), piece_shorter text step.0 behind.now step.1)
+one_step before after text (Err NoMemory) step = tt
+one_step before after text (Err (Fault kind left)) step = step
 
 leads_shorter : (ps : List Piece) (b : Builder) (text : List ℕ) (c : Builder) (rest : List ℕ) → Leads b ps text c rest → length rest ≤ length text
 leads_shorter [] b text c rest leads = let e = ap length leads.1 in omega arith

@@ -6,6 +6,7 @@ pub mod Names
 pub mod Pieces
 pub mod Reads
 pub mod References
+pub mod Runs
 pub mod Scopes
 pub mod Spelling
 pub mod Tags

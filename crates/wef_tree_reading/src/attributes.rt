@@ -133,7 +133,7 @@ fn add_one_of_few(
 fn without_digests(alloc: Global, resolved: List<Resolved>) -> Result<List<Attribute>, AllocError>
     ensures { IfOk result (λ attributes. attributes ≡ resolved) }
 {
-    let mut attributes = List::new(alloc);
+    let mut attributes = List::with_room(alloc, resolved.len())?;
     for one in resolved.into_vec() {
         attributes.push(one.into_attribute())?;
     }

@@ -1,13 +1,13 @@
 //! Putting pieces together.
 
-ghost use Rattle.std.specs.Prelude.{◌≡◌, ◌==◌, [], length, codes, encode_utf8, IfOk, OnOk};
-ghost use Rattle.wef_tree_reading.specs.Building.{element_of, ended, entered, flushed, has_room, is_outside, nothing, opened, passed, placed, same_name, taken, with_letter, with_more};
+ghost use Rattle.std.specs.Prelude.{◌≡◌, ◌==◌, [], ◌++◌, length, true, codes, encode_utf8, encode_utf8_all, IfOk, OnOk};
+ghost use Rattle.wef_tree_reading.specs.Building.{element_of, ended, entered, flushed, has_room, is_outside, nothing, opened, passed, placed, taken, with_letter, with_more};
 ghost use Rattle.wef_xml.specs.Good.{greatest_depth};
 ghost use Rattle.wef_tree_reading.specs.Reads.{Gives, Takes};
 
 use crate::attributes::attributes_by;
 use crate::faults::Halt;
-use crate::names::Name;
+use crate::names::{Name, Spelling};
 use crate::pieces::Piece;
 use crate::spaces::{declared_by, in_scope};
 use crate::stack::{Open, Stack};
@@ -54,8 +54,8 @@ impl Builder {
     /// Takes the next piece, where it is good in its place. What is there after an error may be
     /// anything.
     #[tactic(auto, unfolding(crate::specs::Building::taken))]
-    pub fn take_piece(&mut self, alloc: Global, piece: Piece) -> Result<(), Halt>
-        ensures { Takes result (taken self.old piece) self.new }
+    pub fn take_piece(&mut self, alloc: Global, piece: Piece<'_>) -> Result<(), Halt>
+        ensures { Takes result (taken self.old piece.entry) self.new }
     {
         match piece {
             Piece::Declaration => self.take_declaration(),
@@ -104,14 +104,14 @@ impl Builder {
     }
 
     #[tactic(auto, unfolding(crate::specs::Building::taken))]
-    fn end(&mut self, alloc: Global, name: &Name) -> Result<(), Halt>
+    fn end(&mut self, alloc: Global, name: &Spelling<'_>) -> Result<(), Halt>
         ensures { Takes result (taken self.old (Piece.End name.now)) self.new }
     {
         self.flush(alloc)?;
         let Some(element) = self.around.pop() else {
             return Err(Halt::Bad);
         };
-        if !same_name(name, &element.name) {
+        if !name.is_of(&element.name) {
             return Err(Halt::Bad);
         }
         self.place(element_of(element))?;
@@ -140,6 +140,14 @@ impl Builder {
         self.begun = true;
         self.text.push(character)?;
         Ok(())
+    }
+
+    /// Takes characters that stand for themselves inside an element.
+    pub fn take_letters(&mut self, letters: &[char]) -> Result<(), AllocError>
+        ensures { OnOk result (self.new ≡ record self.old { begun = true; text = self.old.text ++ encode_utf8_all letters.now }) }
+    {
+        self.begun = true;
+        self.text.push_chars(letters)
     }
 
     fn add_text(&mut self, text: &Text) -> Result<(), Halt>
@@ -221,10 +229,4 @@ fn element_of(element: Open) -> Element
         attributes,
         children,
     }
-}
-
-fn same_name(one: &Name, other: &Name) -> bool
-    ensures { result ≡ same_name one.now other.now }
-{
-    one.prefix == other.prefix && one.local == other.local
 }

@@ -66,7 +66,8 @@ fn behind_quoted<'a>(word: &[u8], text: &'a [char]) -> Option<&'a [char]>
     }
 }
 
-fn behind_character(wanted: char, text: &[char]) -> Option<&[char]>
+/// What is left behind this character, where a text begins with it.
+pub fn behind_character(wanted: char, text: &[char]) -> Option<&[char]>
     ensures { option_copied result ≡ behind_character wanted text.now }
 {
     match text {

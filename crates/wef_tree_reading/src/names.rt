@@ -1,11 +1,19 @@
 //! Names as they are spelt.
 
-ghost use Rattle.std.specs.Prelude.{◌≡◌, IfOk};
-ghost use Rattle.wef_tree_reading.specs.Names.{name_after, name_at, name_tail, plain_name_at, with_front};
+ghost use Rattle.std.specs.Prelude.{◌≡◌, ◌≤◌, length, encode_utf8_all, IfOk};
+ghost use Rattle.std.specs.List.{prefix_len};
+ghost use Rattle.std.specs.Option.{option_map};
+ghost use Rattle.wef_base.specs.Names.{same};
+ghost use Rattle.wef_xml.specs.Letters.{is_name_char};
+ghost use Rattle.wef_tree_reading.specs.Building.{same_name};
+ghost use Rattle.wef_tree_reading.specs.Names.{name_after, name_at, plain_name_at};
 ghost use Rattle.wef_tree_reading.specs.Reads.{Reads};
+ghost use Rattle.wef_tree_reading.specs.Runs.{plain_name_length};
 
 use crate::faults::Halt;
+use crate::headings::behind_character;
 use std::alloc::{AllocError, Global};
+use std::marker::Model;
 use wef_base::Text;
 use wef_xml::letters::{is_name_char, is_name_start};
 
@@ -16,65 +24,134 @@ pub struct Name {
     pub local: Text,
 }
 
+/// A name as it stands in a text, which contracts see as the name.
+#[derive(Drop)]
+pub struct Spelling<'a> {
+    prefix: &'a [char],
+    local: &'a [char],
+}
+
+impl<'a> Model for Spelling<'a> {
+    ghost use Rattle.std.specs.Prelude.{encode_utf8_all};
+    ghost use Rattle.wef_tree_reading.specs.declared.names.Name.{Name};
+    ghost use Rattle.wef_tree_reading.specs.contracts.names.Name as name;
+
+    ghost Value = { Name };
+
+    ghost coded = { name.the_row.coded };
+
+    ghost view = { λ s. record { prefix = encode_utf8_all s.prefix.now; local = encode_utf8_all s.local.now } };
+}
+
+impl<'a> Spelling<'a> {
+    /// The name, in texts of its own.
+    pub fn to_name(&self, alloc: Global) -> Result<Name, AllocError>
+        ensures { IfOk result (λ name. name ≡ self.now) }
+    {
+        Ok(Name {
+            prefix: Text::from_chars(alloc, self.prefix)?,
+            local: Text::from_chars(alloc, self.local)?,
+        })
+    }
+
+    /// Whether a name is spelt so.
+    pub fn is_of(&self, name: &Name) -> bool
+        ensures { result ≡ same_name self.now name.now }
+    {
+        spells(self.prefix, &name.prefix) && spells(self.local, &name.local)
+    }
+}
+
+/// Whether characters are those of a text.
+fn spells(characters: &[char], text: &Text) -> bool
+    ensures { result ≡ same (encode_utf8_all characters.now) text.now }
+{
+    let mut rest = characters;
+    for character in text.as_str().chars() {
+        match behind_character(character, rest) {
+            Some(more) => rest = more,
+            None => return false,
+        }
+    }
+    rest.is_empty()
+}
+
 /// The name that a text begins with, and what is left.
-#[tactic(auto, unfolding(crate::specs::Names::name_at))]
 pub fn name_at(alloc: Global, text: &[char]) -> Result<(Name, &[char]), Halt>
     ensures { Reads result (name_at text.now) }
 {
-    let (first, rest) = plain_name_at(alloc, text)?;
-    name_after(alloc, first, rest)
+    let (spelling, rest) = spelling_at(text).ok_or(Halt::Bad)?;
+    Ok((spelling.to_name(alloc)?, rest))
+}
+
+/// The same, as it stands there.
+#[tactic(auto, unfolding(crate::specs::Names::name_at))]
+pub fn spelling_at(text: &[char]) -> Option<(Spelling<'_>, &[char])>
+    ensures { option_map (λ read. (read.0, read.1.now)) result ≡ name_at text.now }
+{
+    let (first, rest) = plain_name_at(text)?;
+    spelling_after(first, rest)
 }
 
 /// The name whose first part was read.
-fn name_after(alloc: Global, first: Text, text: &[char]) -> Result<(Name, &[char]), Halt>
-    ensures { Reads result (name_after first text.now) }
+fn spelling_after<'a>(first: &'a [char], text: &'a [char]) -> Option<(Spelling<'a>, &'a [char])>
+    ensures { option_map (λ read. (read.0, read.1.now)) result ≡ name_after (encode_utf8_all first.now) text.now }
 {
     match text {
         [':', rest @ ..] => {
-            let (second, rest) = plain_name_at(alloc, rest)?;
-            let name = Name {
+            let (second, rest) = plain_name_at(rest)?;
+            let spelling = Spelling {
                 prefix: first,
                 local: second,
             };
-            Ok((name, rest))
+            Some((spelling, rest))
         }
         _ => {
-            let name = Name {
-                prefix: Text::new(alloc),
+            let spelling = Spelling {
+                prefix: &[],
                 local: first,
             };
-            Ok((name, text))
+            Some((spelling, text))
         }
     }
 }
 
 /// The name without `:` that a text begins with, and what is left.
-fn plain_name_at(alloc: Global, text: &[char]) -> Result<(Text, &[char]), Halt>
-    ensures { Reads result (plain_name_at text.now) }
+#[tactic(auto, using(crate::proofs::Runs::plain_is, crate::proofs::Runs::plain_none))]
+fn plain_name_at(text: &[char]) -> Option<(&[char], &[char])>
+    ensures { option_map (λ read. (encode_utf8_all read.0.now, read.1.now)) result ≡ plain_name_at text.now }
 {
-    let [character, rest @ ..] = text else {
-        return Err(Halt::Bad);
-    };
-    if !is_name_start(*character) {
-        return Err(Halt::Bad);
+    let length = plain_name_length(text);
+    if length == 0 {
+        return None;
     }
-    let mut name = Text::new(alloc);
-    name.push(*character)?;
-    Ok(name_tail(name, rest)?)
+    Some(text.split_at(length))
 }
 
-/// A name that was begun, with the characters of it that a text begins with.
-fn name_tail(begun: Text, text: &[char]) -> Result<(Text, &[char]), AllocError>
-    ensures { IfOk result (λ read. (read.0, read.1.now) ≡ with_front begun (name_tail text.now)) }
+/// How many characters the name without `:` has that a text begins with: 0 where there is none.
+fn plain_name_length(text: &[char]) -> usize
+    ensures value { result ≡ plain_name_length text.now }
+    ensures within { result ≤ length text.now }
 {
-    let mut name = begun;
+    match text {
+        [character, ..] if is_name_start(*character) => name_length(text),
+        _ => 0,
+    }
+}
+
+/// How many characters that may stand in a name a text begins with.
+fn name_length(text: &[char]) -> usize
+    ensures value { result ≡ prefix_len is_name_char text.now }
+    ensures within { result ≤ length text.now }
+{
+    let mut length = 0;
     let mut rest = text;
     while let [character, more @ ..] = rest {
         if !is_name_char(*character) {
-            return Ok((name, rest));
+            return length;
         }
-        name.push(*character)?;
+        length += 1;
         rest = more;
     }
-    Ok((name, rest))
+    length
 }

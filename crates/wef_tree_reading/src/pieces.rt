@@ -7,7 +7,7 @@ ghost use Rattle.wef_tree_reading.specs.Reads.{Reads};
 
 use crate::faults::Halt;
 use crate::headings::declaration_tail;
-use crate::names::Name;
+use crate::names::Spelling;
 use crate::references::reference_at;
 use crate::sections::{comment_tail, section_tail};
 use crate::tags::{Tag, end_tag_at, tag_at};
@@ -17,14 +17,14 @@ use wef_xml::fronts::strip;
 
 /// A piece of a document.
 #[derive(Drop)]
-pub enum Piece {
+pub enum Piece<'a> {
     /// `<?xml .. ?>`
     Declaration,
     Comment,
     Start(Tag),
     /// A tag that begins an element and ends it at once.
     Empty(Tag),
-    End(Name),
+    End(Spelling<'a>),
     /// A CDATA section, by its text.
     Section(Text),
     /// A reference, by the character that it stands for.
@@ -35,7 +35,7 @@ pub enum Piece {
 
 /// The piece that a text begins with, and what is left.
 #[tactic(auto, unfolding(crate::specs::Pieces::piece_at))]
-pub fn piece_at(alloc: Global, text: &[char]) -> Result<(Piece, &[char]), Halt>
+pub fn piece_at(alloc: Global, text: &[char]) -> Result<(Piece<'_>, &[char]), Halt>
     ensures { Reads result (piece_at text.now) }
 {
     match text {
@@ -50,7 +50,7 @@ pub fn piece_at(alloc: Global, text: &[char]) -> Result<(Piece, &[char]), Halt>
 }
 
 /// A piece whose text begins behind its `<`.
-fn markup_at(alloc: Global, text: &[char]) -> Result<(Piece, &[char]), Halt>
+fn markup_at(alloc: Global, text: &[char]) -> Result<(Piece<'_>, &[char]), Halt>
     ensures { Reads result (markup_at text.now) }
 {
     if let Some(rest) = strip(b"!--", text) {
@@ -62,7 +62,7 @@ fn markup_at(alloc: Global, text: &[char]) -> Result<(Piece, &[char]), Halt>
         return Ok((Piece::Section(section), rest));
     }
     if let Some(rest) = strip(b"/", text) {
-        let (name, rest) = end_tag_at(alloc, rest)?;
+        let (name, rest) = end_tag_at(rest).ok_or(Halt::Bad)?;
         return Ok((Piece::End(name), rest));
     }
     if let Some(rest) = strip(b"?xml", text) {
@@ -74,7 +74,7 @@ fn markup_at(alloc: Global, text: &[char]) -> Result<(Piece, &[char]), Halt>
 }
 
 /// A tag with its end, `>` or `/>`.
-fn closed_tag(tag: Tag, text: &[char]) -> Result<(Piece, &[char]), Halt>
+fn closed_tag(tag: Tag, text: &[char]) -> Result<(Piece<'_>, &[char]), Halt>
     ensures { Reads result (closed_tag (tag, text.now)) }
 {
     if let Some(rest) = strip(b">", text) {
@@ -87,7 +87,7 @@ fn closed_tag(tag: Tag, text: &[char]) -> Result<(Piece, &[char]), Halt>
 }
 
 /// A character that stands for itself, which `]` doesn't where it begins `]]>`.
-fn letter_at(character: char, rest: &[char]) -> Result<(Piece, &[char]), Halt>
+fn letter_at(character: char, rest: &[char]) -> Result<(Piece<'_>, &[char]), Halt>
     ensures { Reads result (letter_at character rest.now) }
 {
     if !is_xml_char(character) || (character == ']' && strip(b"]>", rest).is_some()) {

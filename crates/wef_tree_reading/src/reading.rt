@@ -1,18 +1,19 @@
 //! Reading a document: piece by piece, until the text ends or no piece is good.
 
-ghost use Rattle.std.specs.Prelude.{◌≡◌, ◌==◌, false, length, IfOk};
-ghost use Rattle.std.specs.List.{list_any};
+ghost use Rattle.std.specs.Prelude.{◌≡◌, ◌==◌, ◌≤◌, false, length, IfOk};
+ghost use Rattle.std.specs.List.{list_any, prefix_len};
 ghost use Rattle.std.specs.declared.result.Result.TheVariants.{Ok};
 ghost use Rattle.wef_xml.specs.Decoding.{decoded, line_ends};
 ghost use Rattle.wef_tree_reading.specs.Documents.{GivesTree, tree_of};
 ghost use Rattle.wef_xml.specs.Good.{IsGoodTree};
+ghost use Rattle.wef_tree_reading.specs.Runs.{Walks, is_letter};
 ghost use Rattle.wef_tree_reading.specs.Spelling.{ReadsText, ReadsTree, Steps, fault_at, is_tag, kind_by};
 
 use crate::building::{Builder, GREATEST_DEPTH};
 use crate::faults::{FaultKind, Halt, Stop};
 use crate::pieces::{Piece, piece_at};
 use std::alloc::Global;
-use wef_base::{Charset, Element};
+use wef_base::{Charset, Element, is_xml_char};
 use wef_xml::TreeFault;
 use wef_xml::decoding::decode;
 use wef_xml::fronts::strip;
@@ -91,7 +92,7 @@ fn read_text(alloc: Global, text: &[char]) -> Result<Element, Stop>
     };
     let mut rest = text;
     while !rest.is_empty() {
-        rest = step(alloc, &mut builder, rest)?;
+        rest = walk(alloc, &mut builder, rest)?;
     }
     let Builder { root, .. } = builder;
     match root {
@@ -101,6 +102,45 @@ fn read_text(alloc: Global, text: &[char]) -> Result<Element, Stop>
             left: 0,
         }),
     }
+}
+
+/// Takes the first piece of a text, or all letters that it begins with, and gives what is behind.
+#[tactic(auto, using(crate::proofs::Walks::one_step))]
+fn walk<'a>(alloc: Global, builder: &mut Builder, text: &'a [char]) -> Result<&'a [char], Stop>
+    ensures { Walks builder.old builder.new text.now result }
+{
+    let length = letters_length(text);
+    if length == 0 || builder.depth() == 0 {
+        return step(alloc, builder, text);
+    }
+    let (letters, behind) = text.split_at(length);
+    match builder.take_letters(letters) {
+        Ok(()) => Ok(behind),
+        Err(_) => Err(Stop::NoMemory),
+    }
+}
+
+/// How many characters a text begins with that are pieces by themselves, whatever follows.
+fn letters_length(text: &[char]) -> usize
+    ensures value { result ≡ prefix_len is_letter text.now }
+    ensures within { result ≤ length text.now }
+{
+    let mut length = 0;
+    let mut rest = text;
+    while let [character, more @ ..] = rest {
+        if !is_letter(*character) {
+            return length;
+        }
+        length += 1;
+        rest = more;
+    }
+    length
+}
+
+fn is_letter(character: char) -> bool
+    ensures { result ≡ is_letter character }
+{
+    !matches!(character, '<' | '&' | ']') && is_xml_char(character)
 }
 
 /// Takes the first piece of a text, and gives what is behind it.
@@ -121,7 +161,7 @@ fn step<'a>(alloc: Global, builder: &mut Builder, text: &'a [char]) -> Result<&'
     }
 }
 
-fn is_tag(piece: &Piece) -> bool
+fn is_tag(piece: &Piece<'_>) -> bool
     ensures { result ≡ is_tag piece.now }
 {
     matches!(piece, Piece::Start(_) | Piece::Empty(_))

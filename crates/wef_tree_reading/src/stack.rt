@@ -128,7 +128,7 @@ impl Stack {
         let Some(innermost) = self.items.last_mut() else {
             return Ok(());
         };
-        innermost.children.push(child)?;
+        innermost.children.push_snug(child)?;
         Ok(())
     }
 }

@@ -1,12 +1,12 @@
 //! Tags, as they are spelt.
 
 ghost use Rattle.std.specs.Prelude.{◌≡◌, length};
-ghost use Rattle.std.specs.Option.{option_copied};
+ghost use Rattle.std.specs.Option.{option_copied, option_map};
 ghost use Rattle.wef_tree_reading.specs.Reads.{Reads};
 ghost use Rattle.wef_tree_reading.specs.Tags.{behind_equals, end_tag_at, ends_tag, given_at, givens_in, spaced_turn, tag_at, tag_turn};
 
 use crate::faults::Halt;
-use crate::names::{Name, name_at};
+use crate::names::{Name, Spelling, name_at, spelling_at};
 use crate::values::quoted_at;
 use std::alloc::Global;
 use wef_base::names::{is_xml_space, trim_start};
@@ -38,14 +38,12 @@ pub fn tag_at(alloc: Global, text: &[char]) -> Result<(Tag, &[char]), Halt>
 }
 
 /// The name of an end tag, whose text begins behind `</`, and what is left.
-pub fn end_tag_at(alloc: Global, text: &[char]) -> Result<(Name, &[char]), Halt>
-    ensures { Reads result (end_tag_at text.now) }
+pub fn end_tag_at(text: &[char]) -> Option<(Spelling<'_>, &[char])>
+    ensures { option_map (λ read. (read.0, read.1.now)) result ≡ end_tag_at text.now }
 {
-    let (name, rest) = name_at(alloc, text)?;
-    match strip(b">", trim_start(rest)) {
-        Some(rest) => Ok((name, rest)),
-        None => Err(Halt::Bad),
-    }
+    let (name, rest) = spelling_at(text)?;
+    let rest = strip(b">", trim_start(rest))?;
+    Some((name, rest))
 }
 
 fn givens_in(alloc: Global, text: &[char]) -> Result<(List<Given>, &[char]), Halt>

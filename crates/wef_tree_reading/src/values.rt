@@ -1,8 +1,11 @@
 //! Values of attributes.
 
-ghost use Rattle.std.specs.Prelude.{◌≡◌, length};
+ghost use Rattle.std.specs.Prelude.{◌≡◌, ◌≤◌, length};
+ghost use Rattle.std.specs.List.{prefix_len};
 ghost use Rattle.std.specs.Option.{option_map};
+ghost use Rattle.wef_tree_reading.specs.Names.{with_front};
 ghost use Rattle.wef_tree_reading.specs.Reads.{Reads};
+ghost use Rattle.wef_tree_reading.specs.Runs.{is_plain};
 ghost use Rattle.wef_tree_reading.specs.Tags.{as_space, quoted_at, value_in, value_turn};
 
 use crate::faults::Halt;
@@ -20,10 +23,43 @@ pub fn quoted_at(alloc: Global, text: &[char]) -> Result<(Text, &[char]), Halt>
     }
 }
 
+#[tactic(auto, using(crate::proofs::Runs::value_is))]
 fn value_in(alloc: Global, quote: char, text: &[char]) -> Result<(Text, &[char]), Halt>
     ensures { Reads result (value_in (length text.now) quote text.now) }
 {
-    let mut value = Text::new(alloc);
+    let (plain, rest) = text.split_at(plain_length(quote, text));
+    value_tail(Text::from_chars(alloc, plain)?, quote, rest)
+}
+
+/// How many characters that stand for themselves a value begins with.
+fn plain_length(quote: char, text: &[char]) -> usize
+    ensures value { result ≡ prefix_len (is_plain quote) text.now }
+    ensures within { result ≤ length text.now }
+{
+    let mut length = 0;
+    let mut rest = text;
+    while let [character, more @ ..] = rest {
+        if !is_plain(quote, *character) {
+            return length;
+        }
+        length += 1;
+        rest = more;
+    }
+    length
+}
+
+/// Whether a character stands for itself in a value, and isn't read as another.
+fn is_plain(quote: char, character: char) -> bool
+    ensures { result ≡ is_plain quote character }
+{
+    character != quote && !matches!(character, '&' | '<' | '\t' | '\n') && is_xml_char(character)
+}
+
+/// A value that was begun, with what follows up to its quote.
+fn value_tail(begun: Text, quote: char, text: &[char]) -> Result<(Text, &[char]), Halt>
+    ensures { Reads result (option_map (with_front begun) (value_in (length text.now) quote text.now)) }
+{
+    let mut value = begun;
     let mut rest = text;
     for _turn in 0..text.len() {
         let Some((next, behind)) = value_turn(quote, rest) else {

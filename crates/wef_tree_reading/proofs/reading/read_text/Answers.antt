@@ -1,14 +1,13 @@
 use Rattle.std.proofs.Common.{◌≡◌, length, arith}
 use Rattle.std.proofs.lemmas.Bool.Decides.{nat_tests}
-use Rattle.wef_tree_reading.proofs.Shorter.{piece_shorter}
-use Rattle.wef_tree_reading.proofs.Walks.{ends_rootless, reaches_on}
+use Rattle.wef_tree_reading.proofs.Walks.{ends_rootless, reaches_further}
 use Rattle.wef_tree_reading.proofs.reading.read_text.Goals as goal
 
 pub loop-rest-smaller : goal.loop-rest-smaller
-loop-rest-smaller c = let step = c.in_ok-rest.ensures in piece_shorter _ step.0 _ step.1
+loop-rest-smaller c = c.in_ok-rest.ensures.2
 
 pub loop-rest-preserved : goal.loop-rest-preserved
-loop-rest-preserved c = let step = c.in_ok-rest.ensures in reaches_on _ _ _ _ step.0 _ c.loop-rest.invariant step.1 step.2
+loop-rest-preserved c = let walk = c.in_ok-rest.ensures in reaches_further _ _ _ _ walk.0 _ c.loop-rest.invariant walk.1
 
 pub returns : goal.returns
 returns c =
