@@ -1,5 +1,5 @@
 -- Loops that write: what is written, and what is left, is the whole.
-use Rattle.std.proofs.Common.{◌≡◌, ℕ, List, [], ◌∷◌, ◌++◌, ◌∙◌, IsUtf8, length, sym, ap, append_assoc, append-nil}
+use Rattle.std.proofs.Common.{◌≡◌, ℕ, List, ◌++◌, ◌∙◌, IsUtf8, length, sym, ap, append_assoc, append-nil}
 use Rattle.std.specs.Prelude.{encode_utf8}
 use Rattle.std.specs.List.{flat_map}
 use Rattle.std.specs.Str.{chars}
@@ -20,13 +20,3 @@ next_written f out all text rest c parts held = record {
 pub all_written : (f : ℕ → List ℕ) (out all text : List ℕ) → length text ≡ 0 → out ++ flat_map f (chars text) ≡ all → out ≡ all
 all_written f out all text none written =
     sym (append-nil out) ∙ sym (ap (λ (cs : List ℕ). out ++ flat_map f cs) (chars_of_empty text none)) ∙ written
-
--- the same where characters are written as they are
-pub next_copied :
-    (out all text rest : List ℕ) (c : ℕ) → IsUtf8 text → text ≡ encode_utf8 c ++ rest →
-    out ++ chars text ≡ all → (out ++ c ∷ []) ++ chars rest ≡ all
-next_copied out all text rest c utf8 parts written =
-    append_assoc out (c ∷ []) _ ∙ ap (λ (cs : List ℕ). out ++ cs) (sym (chars_past_char text rest c utf8 parts)) ∙ written
-
-pub all_copied : (out all text : List ℕ) → length text ≡ 0 → out ++ chars text ≡ all → out ≡ all
-all_copied out all text none written = sym (append-nil out) ∙ sym (ap (λ (cs : List ℕ). out ++ cs) (chars_of_empty text none)) ∙ written

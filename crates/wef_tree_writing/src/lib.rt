@@ -4,6 +4,7 @@
 mod bindings;
 mod escaping;
 mod markup;
+mod pieces;
 mod prefixes;
 mod soap;
 mod text_sets;

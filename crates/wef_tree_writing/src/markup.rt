@@ -8,34 +8,35 @@ ghost use Rattle.wef_tree_writing.specs.Markup.{default_declaration};
 ghost use Rattle.wef_tree_writing.specs.Levels.{all_of};
 
 use crate::bindings::Bindings;
-use crate::escaping::{push_ascii, push_characters, push_value};
+use crate::escaping::{push_ascii, push_value};
+use crate::pieces::Piece;
 use crate::prefixes::attribute_prefix;
 use std::alloc::AllocError;
-use wef_base::{Attribute, List, Namespace, Text};
+use wef_base::{Attribute, Namespace, Text};
 use wef_xml::Binding;
 
 /// Appends a name with its prefix, if it has one.
-pub fn push_name(out: &mut List<char>, prefix: Option<&str>, local: &Text) -> Result<(), AllocError>
+pub fn push_name(out: &mut Piece, prefix: Option<&str>, local: &Text) -> Result<(), AllocError>
     ensures { OnOk result (out.new ≡ out.old ++ name_of (option_copied prefix.entry) local.now) }
 {
     match prefix {
-        None => push_characters(out, local.as_str()),
+        None => out.push_str(local.as_str()),
         Some(prefix) => push_prefixed(out, prefix, local),
     }
 }
 
-fn push_prefixed(out: &mut List<char>, prefix: &str, local: &Text) -> Result<(), AllocError>
+fn push_prefixed(out: &mut Piece, prefix: &str, local: &Text) -> Result<(), AllocError>
     ensures { OnOk result (out.new ≡ out.old ++ name_of (Some prefix.now) local.now) }
 {
-    push_characters(out, prefix)?;
+    out.push_str(prefix)?;
     out.push(':')?;
-    push_characters(out, local.as_str())
+    out.push_str(local.as_str())
 }
 
 /// Appends the declaration of a default namespace, unless the element has a prefix or this one is in
 /// force.
 pub fn push_default(
-    out: &mut List<char>,
+    out: &mut Piece,
     has_prefix: bool,
     default: &Namespace,
     space: &Namespace,
@@ -51,7 +52,7 @@ pub fn push_default(
     push_default_declaration(out, space)
 }
 
-fn push_default_declaration(out: &mut List<char>, space: &Namespace) -> Result<(), AllocError>
+fn push_default_declaration(out: &mut Piece, space: &Namespace) -> Result<(), AllocError>
     ensures { OnOk result (out.new ≡ out.old ++ (codes " xmlns" ++ assigned space.now)) }
 {
     push_ascii(out, b" xmlns")?;
@@ -59,7 +60,7 @@ fn push_default_declaration(out: &mut List<char>, space: &Namespace) -> Result<(
 }
 
 /// Appends the declarations of prefixes.
-pub fn push_declarations(out: &mut List<char>, bindings: &[Binding]) -> Result<(), AllocError>
+pub fn push_declarations(out: &mut Piece, bindings: &[Binding]) -> Result<(), AllocError>
     ensures { OnOk result (out.new ≡ out.old ++ flat_map declaration_of bindings.now) }
 {
     for binding in bindings {
@@ -68,17 +69,17 @@ pub fn push_declarations(out: &mut List<char>, bindings: &[Binding]) -> Result<(
     Ok(())
 }
 
-fn push_declaration(out: &mut List<char>, binding: &Binding) -> Result<(), AllocError>
+fn push_declaration(out: &mut Piece, binding: &Binding) -> Result<(), AllocError>
     ensures { OnOk result (out.new ≡ out.old ++ declaration_of binding.now) }
 {
     push_ascii(out, b" xmlns:")?;
-    push_characters(out, binding.prefix.as_str())?;
+    out.push_str(binding.prefix.as_str())?;
     push_assigned(out, binding.space.as_text())
 }
 
 /// Appends attributes, each behind a space.
 pub fn push_attributes(
-    out: &mut List<char>,
+    out: &mut Piece,
     bound: &Bindings,
     attributes: &[Attribute],
 ) -> Result<(), AllocError>
@@ -91,7 +92,7 @@ pub fn push_attributes(
 }
 
 fn push_attribute(
-    out: &mut List<char>,
+    out: &mut Piece,
     bound: &Bindings,
     attribute: &Attribute,
 ) -> Result<(), AllocError>
@@ -107,7 +108,7 @@ fn push_attribute(
 }
 
 /// Appends an equals sign and a value in its quotes.
-fn push_assigned(out: &mut List<char>, value: &Text) -> Result<(), AllocError>
+fn push_assigned(out: &mut Piece, value: &Text) -> Result<(), AllocError>
     ensures { OnOk result (out.new ≡ out.old ++ assigned value.now) }
 {
     push_ascii(out, b"=\"")?;

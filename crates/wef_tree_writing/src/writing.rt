@@ -11,11 +11,12 @@ ghost use Rattle.wef_tree_writing.specs.Markup.{IsPast, IsTooLong, default_decla
 use crate::bindings::Bindings;
 use crate::escaping::{push_ascii, push_text};
 use crate::markup::{push_attributes, push_declarations, push_default, push_name};
+use crate::pieces::{Piece, Spare};
 use crate::prefixes::{element_prefix, new_bindings};
 use crate::soap::{RootPrefixes, root_bindings};
 use std::alloc::{AllocError, Global};
 use wef_base::{Bytes, Charset, Element, List, Namespace, Node, Text};
-use wef_xml::encoding::{push_characters, push_mark};
+use wef_xml::encoding::{self, push_mark};
 use wef_xml::spaces::no_space;
 use wef_xml::{Binding, TreeFault};
 
@@ -92,7 +93,7 @@ fn write_document(
     Ok(bytes)
 }
 
-/// A document that is being written, piece by piece: a piece is a tag, or a text between two tags.
+/// A document that is being written, piece by piece.
 #[derive(Drop)]
 struct Writer {
     alloc: Global,
@@ -102,6 +103,7 @@ struct Writer {
     bytes: Bytes,
     root: RootPrefixes,
     bound: Bindings,
+    spare: Spare,
 }
 
 impl Writer {
@@ -125,6 +127,7 @@ impl Writer {
             bytes,
             root: RootPrefixes::new(alloc, space)?,
             bound,
+            spare: Spare::new(alloc),
         })
     }
 
@@ -178,9 +181,9 @@ impl Writer {
         ensures within { OnOk result (length self.new.bytes ≤ self.old.limit) }
         ensures past { IfErr result (λ stop. IsPast stop self.old (text_of text.now)) }
     {
-        let mut piece = List::new(self.alloc);
+        let mut piece = self.spare.take(self.alloc);
         push_text(&mut piece, text.as_str())?;
-        self.put(piece.as_slice())
+        self.put(piece)
     }
 
     /// Writes a start tag, whose own bindings stay in force.
@@ -196,7 +199,7 @@ impl Writer {
     {
         let own = new_bindings(self.alloc, &self.bound, element.attributes.as_slice())?;
         let tag = self.start_tag(first, default, element, own)?;
-        self.put(tag.as_slice())
+        self.put(tag)
     }
 
     /// The start tag of an element with these bindings of its own, which come into force.
@@ -206,12 +209,12 @@ impl Writer {
         default: &Namespace,
         element: &Element,
         own: List<Binding>,
-    ) -> Result<List<char>, AllocError>
+    ) -> Result<Piece, AllocError>
         requires { own ≡ new_bindings (all_of self.old.bound) element.now.attributes }
         ensures tag { let e = element.now in IfOk result (λ tag. tag ≡ start_of first.now (scope_of self.old default.now) e.space e.name e.attributes) }
         ensures bound { let e = element.now in OnOk result (self.new ≡ record self.old { bound = own ∷ self.old.bound }) }
     {
-        let mut start = List::new(self.alloc);
+        let mut start = self.spare.take(self.alloc);
         push_opening(&mut start, &self.root, default, element)?;
         push_declarations(&mut start, first)?;
         push_declarations(&mut start, own.as_slice())?;
@@ -227,13 +230,14 @@ impl Writer {
         ensures past { IfErr result (λ stop. IsPast stop self.old (end_of (scope_of self.old []) element.now.space element.now.name)) }
     {
         let tag = self.end_tag(element)?;
-        self.put(tag.as_slice())
+        self.put(tag)
     }
 
-    fn end_tag(&self, element: &Element) -> Result<List<char>, AllocError>
-        ensures { IfOk result (λ tag. tag ≡ end_of (scope_of self.now []) element.now.space element.now.name) }
+    fn end_tag(&mut self, element: &Element) -> Result<Piece, AllocError>
+        ensures tag { IfOk result (λ tag. tag ≡ end_of (scope_of self.old []) element.now.space element.now.name) }
+        ensures same { OnOk result (self.new ≡ self.old) }
     {
-        let mut tag = List::new(self.alloc);
+        let mut tag = self.spare.take(self.alloc);
         push_ascii(&mut tag, b"</")?;
         push_name(
             &mut tag,
@@ -245,12 +249,13 @@ impl Writer {
     }
 
     /// Writes a piece, unless the document has too many bytes with it.
-    fn put(&mut self, piece: &[char]) -> Result<(), Stop>
-        ensures written { OnOk result (self.new ≡ record self.old { bytes = self.old.bytes ++ bytes_of self.old.charset piece.now }) }
+    fn put(&mut self, piece: Piece) -> Result<(), Stop>
+        ensures written { OnOk result (self.new ≡ record self.old { bytes = self.old.bytes ++ bytes_of self.old.charset piece }) }
         ensures within { OnOk result (length self.new.bytes ≤ self.old.limit) }
-        ensures past { IfErr result (λ stop. IsPast stop self.old piece.now) }
+        ensures past { IfErr result (λ stop. IsPast stop self.old piece) }
     {
-        push_characters(&mut self.bytes, self.charset, piece)?;
+        encoding::push_text(&mut self.bytes, self.charset, piece.as_str())?;
+        self.spare.give(piece);
         if self.bytes.len() > self.limit {
             return Err(Stop::TooLong);
         }
@@ -271,7 +276,7 @@ impl Writer {
 /// Appends the name of an element behind the bracket that opens its tag, and the declaration of its
 /// default namespace.
 fn push_opening(
-    out: &mut List<char>,
+    out: &mut Piece,
     root: &RootPrefixes,
     default: &Namespace,
     element: &Element,

@@ -1,6 +1,7 @@
 //! Characters as bytes.
 
-ghost use Rattle.std.specs.Prelude.{◌≡◌, ◌<◌, ◌++◌, encode_utf8, OnOk};
+ghost use Rattle.std.specs.Prelude.{◌≡◌, ◌<◌, ◌++◌, OnOk};
+ghost use Rattle.std.specs.Str.{chars};
 ghost use Rattle.wef_base.specs.declared.tree.Charset.TheVariants.{Utf16};
 ghost use Rattle.wef_xml.specs.Canonical.{bytes_of, character_bytes, unit_bytes, written_mark};
 
@@ -17,39 +18,24 @@ pub fn push_mark(bytes: &mut Bytes, charset: Charset) -> Result<(), AllocError>
     }
 }
 
-/// Appends characters.
-pub fn push_characters(
-    bytes: &mut Bytes,
-    charset: Charset,
-    characters: &[char],
-) -> Result<(), AllocError>
-    ensures { OnOk result (bytes.new ≡ bytes.old ++ bytes_of charset characters.now) }
-{
-    for character in characters {
-        push_character(bytes, charset, *character)?;
-    }
-    Ok(())
-}
-
-fn push_character(bytes: &mut Bytes, charset: Charset, character: char) -> Result<(), AllocError>
-    ensures { OnOk result (bytes.new ≡ bytes.old ++ character_bytes charset character) }
+/// Appends the characters of a text.
+#[tactic(auto, using(crate::proofs::Copied::copied_bytes))]
+pub fn push_text(bytes: &mut Bytes, charset: Charset, text: &str) -> Result<(), AllocError>
+    ensures { OnOk result (bytes.new ≡ bytes.old ++ bytes_of charset (chars text.now)) }
 {
     match charset {
-        Charset::Utf8 => push_utf8(bytes, character),
-        Charset::Utf16 => push_utf16(bytes, character),
+        Charset::Utf8 => bytes.extend(text.as_bytes()),
+        Charset::Utf16 => push_units(bytes, text),
     }
 }
 
-#[tactic(auto, using(std::proofs::lemmas::Str::encode_ascii))]
-fn push_utf8(bytes: &mut Bytes, character: char) -> Result<(), AllocError>
-    ensures { OnOk result (bytes.new ≡ bytes.old ++ encode_utf8 character) }
+fn push_units(bytes: &mut Bytes, text: &str) -> Result<(), AllocError>
+    ensures { OnOk result (bytes.new ≡ bytes.old ++ bytes_of Utf16 (chars text.now)) }
 {
-    let code = u32::from(character);
-    if code < 128 {
-        return bytes.push(code as u8);
+    for character in text.chars() {
+        push_utf16(bytes, character)?;
     }
-    let mut buffer = [0; 4];
-    bytes.extend(character.encode_utf8(&mut buffer).as_bytes())
+    Ok(())
 }
 
 fn push_utf16(bytes: &mut Bytes, character: char) -> Result<(), AllocError>

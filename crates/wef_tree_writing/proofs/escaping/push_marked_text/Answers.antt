@@ -1,6 +1,6 @@
 use Rattle.wef_xml.specs.Canonical.{text_char}
 use Rattle.wef_tree_writing.proofs.Written.{all_written, next_written}
-use Rattle.wef_tree_writing.proofs.escaping.push_text.Goals as goal
+use Rattle.wef_tree_writing.proofs.escaping.push_marked_text.Goals as goal
 
 pub loop-character-preserved : goal.loop-character-preserved
 loop-character-preserved c = rw c.in_ok-push_text_character.ensures (next_written text_char _ _ _ _ c.in-Some.character c.in-Some.ensures.steps.0 c.loop-character.invariant)

@@ -1,10 +1,10 @@
 use Rattle.std.proofs.Common.{◌≡◌, ◌++◌, IsUtf8}
-use Rattle.std.specs.Str.{chars}
 use Rattle.std.specs.Str.Iter.{chars_rest}
-use Rattle.wef_tree_writing.proofs.escaping.push_characters.Given as goal
+use Rattle.wef_xml.specs.Canonical.{value_of}
+use Rattle.wef_tree_writing.proofs.escaping.push_marked_value.Given as goal
 
 abbrev pub invariant-loop-character : goal.invariant-loop-character
 invariant-loop-character l = record {
   utf8 : IsUtf8 (chars_rest l.character-iterator);
-  written : l.out ++ chars (chars_rest l.character-iterator) ≡ l.fn.out ++ chars l.fn.text;
+  written : l.out ++ value_of (chars_rest l.character-iterator) ≡ l.fn.out ++ value_of l.fn.value;
 }
