@@ -1,6 +1,7 @@
 //! Prefixes that a writer has bound to namespaces.
 
 ghost use Rattle.std.specs.Prelude.{◌≡◌, [], ◌∷◌, ◌++◌, drop, Some, MatchOption, IfOk, OnOk, if◌then◌else◌};
+ghost use Rattle.std.specs.FinMap as map;
 ghost use Rattle.std.specs.Option.{option_copied};
 ghost use Rattle.wef_base.specs.Names.{same};
 ghost use Rattle.wef_xml.specs.Prefixes.{bound_by, prefix_of, unless_bound};
@@ -72,8 +73,8 @@ impl Level {
             mut spaces,
         } = self;
         let space = binding.space.as_text();
-        let _outer_prefix = prefixes.insert(space.clone()?, binding.prefix.clone()?)?;
-        let _outer_space = spaces.insert(binding.prefix.clone()?, space.clone()?)?;
+        bind(&mut prefixes, space, &binding.prefix)?;
+        bind(&mut spaces, &binding.prefix, space)?;
         bindings.push(binding)?;
         Ok(Level {
             bindings,
@@ -111,6 +112,14 @@ impl Level {
             _ => None,
         }
     }
+}
+
+/// Lets a copy of a text be found by another one.
+fn bind(found: &mut Lookup<Text>, key: &Text, value: &Text) -> Result<(), AllocError>
+    ensures { OnOk result (found.new ≡ map.insert found.old key.now value.now) }
+{
+    let _before = found.insert(key.clone()?, value.clone()?)?;
+    Ok(())
 }
 
 /// The bindings that are in force where an element is written, by levels, which contracts see with
