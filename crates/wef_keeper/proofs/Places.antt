@@ -1,12 +1,12 @@
--- One key of the tree: what a look-up answers after a room was made, written or taken out there.
-use Rattle.std.proofs.Common.{ℕ, zero, suc, ◌<◌, List, [], ◌∷◌, get_or, length, drop, set, arith, add-one, drop-cons, ◌+◌, ◌≡◌, Bool, true, false, cond, is_some, ◌||◌, refl, sym, ap, ◌∙◌, Option, Some, None}
+-- One key of the tree: what a look-up answers after a room was written or taken out there, and what stood there before.
+use Rattle.std.proofs.Common.{ℕ, zero, suc, ◌<◌, List, [], ◌∷◌, get_or, length, drop, arith, add-one, drop-cons, ◌+◌, ◌≡◌, Bool, true, false, cond, is_some, ◌&&◌, ◌||◌, ◌++◌, refl, sym, ap, ◌∙◌, Option, Some, None}
 use Rattle.std.specs.BTreeMap as tree
-use Rattle.std.specs.Cmp.{Equal-is, eq_by_cmp_equiv}
-use Rattle.std.specs.Option.{option_flatten, unwrap_or}
+use Rattle.std.specs.Cmp.{Equal-is}
+use Rattle.std.specs.Option.{option_flatten}
 use Rattle.std.specs.Ordering.{eq_by_cmp}
-use Rattle.wef_keeper.specs.Cells.{Cells, is_empty_room, puts, is_put, deletes, is_deleted}
+use Rattle.wef_keeper.specs.Cells.{Cells, found, is_empty_room, puts, is_put, is_deleted, undone}
 use Rattle.wef_keeper.specs.Laws.{or_left, or_right}
-use Rattle.wef_keeper.specs.Rows.{found_after, cell_of, cell_of_row, key_cmp, key_cmp_exact, key_cmp_total, key_of, is_named}
+use Rattle.wef_keeper.specs.Rows.{found_after, cell_of, cell_of_row, key_cmp, key_cmp_exact, key_of, is_named}
 use Rattle.wef_keeper.specs.declared.keys.Cell.{Cell}
 use Rattle.wef_keeper.specs.declared.keys.Change.{Change}
 use Rattle.wef_keeper.specs.declared.keys.Change.TheVariants.{Put, Delete}
@@ -18,32 +18,19 @@ tied cells key q e = ap (tree.get key_cmp cells) (sym (key_cmp_exact key q ((Equ
 
 -- ---- x is what stands at a key after a change of one place, y what stood there, b whether the key is that place
 
--- a cell was written
-pub flat_written : (b : Bool) (x y : Option (Option Cell)) (cell : Option Cell) → x ≡ cond b (Some cell) y → option_flatten x ≡ cond b cell (option_flatten y)
-flat_written true x y cell e = ap option_flatten e
-flat_written false x y cell e = ap option_flatten e
+-- a cell was written in the room that is there
+pub flat_written : (b : Bool) (x y : Option (Option Cell)) (cell : Option Cell) → x ≡ cond b (Some cell) y → (b ≡ true → is_some y ≡ true) → option_flatten x ≡ cond (b && is_some y) cell (option_flatten y)
+flat_written true x y cell e there = ap option_flatten e ∙ sym (ap (λ has. cond has cell (option_flatten y)) (there refl))
+flat_written false x y cell e there = ap option_flatten e
 
 pub some_written : (b : Bool) (x y : Option (Option Cell)) (cell : Option Cell) → x ≡ cond b (Some cell) y → (b ≡ true → is_some y ≡ true) → is_some x ≡ is_some y
 some_written true x y cell e there = ap is_some e ∙ sym (there refl)
 some_written false x y cell e there = ap is_some e
 
--- nothing stood there, and nothing is written
-pub flat_unwritten : (b : Bool) (y : Option (Option Cell)) (cell : Option Cell) → (b ≡ true → y ≡ None) → (is_some cell ≡ true → false ≡ true) → option_flatten y ≡ cond b cell (option_flatten y)
-flat_unwritten true y None absent there = ap option_flatten (absent refl)
-flat_unwritten true y (Some cell) absent there = cc (there refl)
-flat_unwritten false y cell absent there = refl
-
--- room is there: what stood in it, or nothing where none was
-pub flat_made : (b : Bool) (x y : Option (Option Cell)) (room : Option Cell) → x ≡ cond b (Some room) y → (b ≡ true → room ≡ unwrap_or y None) → option_flatten x ≡ option_flatten y
-flat_made true x None room e same = ap option_flatten e ∙ same refl
-flat_made true x (Some y) room e same = ap option_flatten e ∙ same refl
-flat_made false x y room e same = ap option_flatten e
-
-pub some_made : (b : Bool) (x y : Option (Option Cell)) (room : Option Cell) → x ≡ cond b (Some room) y → is_some x ≡ (is_some y || b)
-some_made true x None room e = ap is_some e
-some_made true x (Some y) room e = ap is_some e
-some_made false x None room e = ap is_some e
-some_made false x (Some y) room e = ap is_some e
+-- nothing was written, since there is no room
+pub flat_unwritten : (b : Bool) (y : Option (Option Cell)) (cell : Option Cell) → (b ≡ true → y ≡ None) → option_flatten y ≡ cond (b && is_some y) cell (option_flatten y)
+flat_unwritten true y cell absent = sym (ap (λ has. cond has cell (option_flatten y)) (ap is_some (absent refl)))
+flat_unwritten false y cell absent = refl
 
 -- empty room was taken out
 pub flat_swept : (b : Bool) (x y : Option (Option Cell)) → x ≡ cond b None y → (b ≡ true → y ≡ Some None) → option_flatten x ≡ option_flatten y
@@ -95,45 +82,13 @@ pub room_step : (changes : List Change) (i : ℕ) (item : Change) (q : Key) (bef
 room_step changes i item q before after h e made =
     ap (λ b. b || is_put (drop (i + 1) changes) q) made ∙ or_assoc before (puts item q) _ ∙ ap (λ cs. before || is_put cs q) (sym (left_item changes i item h e))
 
-pub write_step : (changes : List Change) (i : ℕ) (item : Change) (q key : Key) (cell before after : Option Cell) → i < length changes → item ≡ get_or changes i item
-    → key ≡ key_of item → cell ≡ cell_of item → after ≡ cond (eq_by_cmp key_cmp key q) cell before
-    → found_after (drop (i + 1) changes) q after ≡ found_after (drop i changes) q before
-write_step changes i item q key cell before after h e is_key is_cell written =
-    ap (found_after (drop (i + 1) changes) q) (written ∙ (λ j. cond (eq_by_cmp key_cmp (is_key j) q) (is_cell j) before)) ∙ ap (λ cs. found_after cs q before) (sym (left_item changes i item h e))
+pub write_step : (changes : List Change) (i : ℕ) (item : Change) (q : Key) (before after : Option Cell) → i < length changes → item ≡ get_or changes i item
+    → after ≡ cond (eq_by_cmp key_cmp (key_of item) q) (cell_of item) before → found_after (drop (i + 1) changes) q after ≡ found_after (drop i changes) q before
+write_step changes i item q before after h e written = ap (found_after (drop (i + 1) changes) q) written ∙ ap (λ cs. found_after cs q before) (sym (left_item changes i item h e))
 
-or_intro : (a b : Bool) → b ≡ true → (a || b) ≡ true
-or_intro true b e = refl
-or_intro false b e = e
-
-or_first : (a b : Bool) → a ≡ true → (a || b) ≡ true
+pub or_first : (a b : Bool) → a ≡ true → (a || b) ≡ true
 or_first true b e = refl
 or_first false b e = cc
-
--- a change that is left behind a place is left at it
-pub put_later : (changes : List Change) (i : ℕ) (item : Change) (q : Key) → i < length changes → item ≡ get_or changes i item → is_put (drop (i + 1) changes) q ≡ true → is_put (drop i changes) q ≡ true
-put_later changes i item q h e p = ap (λ cs. is_put cs q) (left_item changes i item h e) ∙ or_intro (puts item q) _ p
-
-same_key : (key : Key) → eq_by_cmp key_cmp key key ≡ true
-same_key key = (eq_by_cmp_equiv key_cmp_total).refl key
-
-puts_itself : (change : Change) → is_some (cell_of change) ≡ true → puts change (key_of change) ≡ true
-puts_itself (Put row) e = same_key row.key
-puts_itself (Delete key) e = cc
-
--- the change at a place puts its cell at its key
-pub put_now : (changes : List Change) (i : ℕ) (item : Change) → i < length changes → item ≡ get_or changes i item → is_some (cell_of item) ≡ true → is_put (drop i changes) (key_of item) ≡ true
-put_now changes i item h e p = ap (λ cs. is_put cs (key_of item)) (left_item changes i item h e) ∙ or_first (puts item (key_of item)) _ (puts_itself item p)
-
-pub set_there : (changes : List Change) (i : ℕ) (item d : Change) → i < length changes → get_or (set changes i item) i d ≡ item
-set_there [] i item d h = absurd (omega arith)
-set_there (change ∷ changes) zero item d h = refl
-set_there (change ∷ changes) (suc i) item d h = set_there changes i item d (omega arith)
-
--- taking a cell out of a change leaves the keys that are deleted
-pub deleted_set : (changes : List Change) (i : ℕ) (item item' : Change) (q : Key) → item ≡ get_or changes i item → deletes item' q ≡ deletes item q → i < length changes → is_deleted (set changes i item') q ≡ is_deleted changes q
-deleted_set [] i item item' q e k h = absurd (omega arith)
-deleted_set (change ∷ changes) zero item item' q e k h = ap (λ b. b || is_deleted changes q) (k ∙ ap (λ c. deletes c q) e)
-deleted_set (change ∷ changes) (suc i) item item' q e k h = ap (λ b. deletes change q || b) (deleted_set changes i item item' q e k (omega arith))
 
 some_put : (b : Bool) (new : Cell) (cell : Option Cell) → is_some (cond b (Some new) cell) ≡ (is_some cell || b)
 some_put true new None = refl
@@ -157,7 +112,44 @@ some_after (Delete key ∷ changes) q cell e =
     ∙ ap (λ b. b || is_put changes q) (some_undeleted (eq_by_cmp key_cmp key q) cell (or_left _ _ e))
 
 -- a list was written and swept at the deletes
-pub full_written : (deleted : Bool) (room room' room'' : Bool) (cell cell'' : Option Cell) → room'' ≡ cond deleted (is_some cell) room' → cell'' ≡ cell
-    → room' ≡ room → (deleted ≡ false → room ≡ is_some cell) → room'' ≡ is_some cell''
-full_written true room room' room'' cell cell'' swept same rooms full = swept ∙ sym (ap is_some same)
-full_written false room room' room'' cell cell'' swept same rooms full = swept ∙ rooms ∙ full refl ∙ sym (ap is_some same)
+pub full_written : (deleted : Bool) (room room' : Bool) (cell cell' : Option Cell) → room' ≡ cond deleted (is_some cell) room → cell' ≡ cell → (deleted ≡ false → room ≡ is_some cell) → room' ≡ is_some cell'
+full_written true room room' cell cell' swept same full = swept ∙ sym (ap is_some same)
+full_written false room room' cell cell' swept same full = swept ∙ full refl ∙ sym (ap is_some same)
+
+-- ---- what stood before
+
+-- one more change is undone, before the others
+undone_more : (befores : List (Option Cell)) (changes : List Change) (d : Change) (before : Option Cell) (q : Key) (cell : Option Cell) → length befores < length changes
+    → undone (befores ++ before ∷ []) changes q cell ≡ undone befores changes q (cond (eq_by_cmp key_cmp (key_of (get_or changes (length befores) d)) q) before cell)
+undone_more befores [] d before q cell h = absurd (omega arith)
+undone_more [] (change ∷ changes) d before q cell h = refl
+undone_more (b ∷ befores) (change ∷ changes) d before q cell h = ap (cond (eq_by_cmp key_cmp (key_of change) q) b) (undone_more befores changes d before q cell (omega arith))
+
+restored : (b : Bool) (old new cell : Option Cell) → (b ≡ true → cell ≡ old) → cond b old (cond b new cell) ≡ cell
+restored true old new cell same = sym (same refl)
+restored false old new cell same = refl
+
+-- a change is written, and what stood at its key is kept
+pub undone_written : (cells : Cells) (befores befores' : List (Option Cell)) (changes : List Change) (i : ℕ) (item : Change) (q : Key) (after : Option Cell) → i < length changes → item ≡ get_or changes i item
+    → length befores ≡ i → befores' ≡ befores ++ found cells (key_of item) ∷ [] → after ≡ cond (eq_by_cmp key_cmp (key_of item) q) (cell_of item) (found cells q)
+    → undone befores' changes q after ≡ undone befores changes q (found cells q)
+undone_written cells befores befores' changes i item q after h e count kept written =
+    let old = found cells (key_of item) in
+    let at : get_or changes (length befores) item ≡ item = ap (λ n. get_or changes n item) count ∙ sym e in
+    ap (λ bs. undone bs changes q after) kept ∙ undone_more befores changes item old q after (rw count h)
+    ∙ ap (λ c. undone befores changes q (cond (eq_by_cmp key_cmp (key_of c) q) old after)) at
+    ∙ ap (λ cell. undone befores changes q (cond (eq_by_cmp key_cmp (key_of item) q) old cell)) written
+    ∙ ap (undone befores changes q) (restored (eq_by_cmp key_cmp (key_of item) q) old (cell_of item) (found cells q) (λ t. ap option_flatten (tied cells (key_of item) q t)))
+
+-- the last of the changes that are left is undone
+pub undone_last : (befores : List (Option Cell)) (changes : List Change) (item : Change) (q : Key) (before cell after : Option Cell) (room : Bool) → length befores < length changes
+    → item ≡ get_or changes (length befores) item → room ≡ true → after ≡ cond (eq_by_cmp key_cmp (key_of item) q && room) before cell
+    → undone befores changes q after ≡ undone (befores ++ before ∷ []) changes q cell
+undone_last befores changes item q before cell after room h e there written =
+    ap (undone befores changes q)
+    (written ∙ ap (λ r. cond (eq_by_cmp key_cmp (key_of item) q && r) before cell) there ∙ kept (eq_by_cmp key_cmp (key_of item) q) ∙ ap (λ c. cond (eq_by_cmp key_cmp (key_of c) q) before cell) e)
+    ∙ sym (undone_more befores changes item before q cell h)
+  where
+    kept : (b : Bool) → cond (b && true) before cell ≡ cond b before cell
+    kept true = refl
+    kept false = refl

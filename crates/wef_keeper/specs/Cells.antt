@@ -1,13 +1,13 @@
 -- What the table keeps at each key: a cell, or room for one. While a list of changes is applied, room
 -- is made first, so that no later step needs memory; between two calls no room is left empty.
-use Rattle.std.specs.Prelude.{◌≡◌, Bool, true, false, ◌||◌, is_some, List, [], ◌∷◌, Option, Some, None}
+use Rattle.std.specs.Prelude.{◌≡◌, Bool, true, false, ◌||◌, cond, is_some, List, [], ◌∷◌, Option, Some, None}
 use Rattle.std.specs.BTreeMap as tree
 use Rattle.std.specs.BTreeMap.{BTreeMap, IsOrdered}
 use Rattle.std.specs.FinMap as finite
 use Rattle.std.specs.List.{filter_map}
 use Rattle.std.specs.Option.{option_flatten, option_map}
 use Rattle.std.specs.Ordering.{eq_by_cmp}
-use Rattle.wef_keeper.specs.Rows.{Rows, key_cmp, row_of}
+use Rattle.wef_keeper.specs.Rows.{Rows, key_cmp, key_of, row_of}
 use Rattle.wef_keeper.specs.declared.keys.Cell.{Cell}
 use Rattle.wef_keeper.specs.declared.keys.Change.{Change}
 use Rattle.wef_keeper.specs.declared.keys.Change.TheVariants.{Put, Delete}
@@ -65,6 +65,12 @@ deletes (Delete deleted) key = eq_by_cmp key_cmp deleted key
 abbrev pub is_deleted : List Change → Key → Bool
 is_deleted [] key = false
 is_deleted (change ∷ changes) key = deletes change key || is_deleted changes key
+
+-- what stood at a key before some changes: of the first of them that names the key, what stood there before it
+abbrev pub undone : List (Option Cell) → List Change → Key → Option Cell → Option Cell
+undone [] changes key cell = cell
+undone (before ∷ befores) [] key cell = cell
+undone (before ∷ befores) (change ∷ changes) key cell = cond (eq_by_cmp key_cmp (key_of change) key) before (undone befores changes key cell)
 
 -- the rows of entries, in their order
 abbrev pub standing : List (Key × Option Cell) → List Row

@@ -1,22 +1,22 @@
 //! The tree that holds the cells, and how a list of changes is written into it.
 //!
-//! A tree can't set memory aside, but it takes none where a key is there already. So room is made
-//! at each new key first. If that fails, the empty rooms are taken out again; else each change is
-//! written, and then the rooms that deletes left empty are taken out. Neither needs memory.
+//! Each change is written where its key is found, and what stood there before is kept beside it. Only
+//! a put may want memory, for a key that isn't there. If one fails, what stood before is written back,
+//! from the last change to the first, and the rooms that are empty then are taken out; else those that
+//! deletes left empty. Neither needs memory.
 
-ghost use Rattle.std.specs.Prelude.{◌≡◌, ◌||◌, true, false, cond, is_some, OnOk, OnErr};
+ghost use Rattle.std.specs.Prelude.{◌≡◌, ◌≤◌, ◌&&◌, ◌||◌, ◌++◌, [], ◌∷◌, length, true, false, cond, is_some, Some, IfOk, OnOk, OnErr};
 ghost use Rattle.std.specs.BTreeMap.{IsOrdered, get};
 ghost use Rattle.std.specs.Option.{option_copied};
 ghost use Rattle.std.specs.Ordering.{eq_by_cmp};
-ghost use Rattle.wef_keeper.specs.Cells.{is_empty_room, has, found, is_put, puts, is_deleted, deletes, IsSettled};
-ghost use Rattle.wef_keeper.specs.Rows.{found_after, cell_of, key_cmp, key_of, is_named};
+ghost use Rattle.wef_keeper.specs.Cells.{is_empty_room, has, found, is_put, puts, is_deleted, deletes, undone, IsSettled};
+ghost use Rattle.wef_keeper.specs.Rows.{found_after, cell_of, cell_of_row, key_cmp, key_of, is_named};
 ghost use Rattle.wef_keeper.specs.declared.keys.Key.{Key as RowKey};
 
-use crate::keys::{Cell, Change, Key};
-use std::alloc::AllocError;
+use crate::keys::{Cell, Change, Key, Row};
+use std::alloc::{AllocError, Global};
 use std::collections::BTreeMap;
 use std::mem;
-use wef_base::Text;
 
 pub(crate) type Cells = BTreeMap<Key, Option<Cell>>;
 
@@ -28,89 +28,125 @@ pub(crate) fn cell_at<'a>(cells: &'a Cells, key: &Key) -> Option<&'a Cell>
 }
 
 /// Applies a list of changes, or leaves every cell as it was.
-pub(crate) fn change_all(cells: &mut Cells, changes: Vec<Change>) -> Result<(), AllocError>
+pub(crate) fn change_all(
+    alloc: Global,
+    cells: &mut Cells,
+    changes: &[Change],
+) -> Result<(), AllocError>
     requires { IsSettled cells.now }
-    ensures ok { OnOk result ((q : RowKey) → found cells.new q ≡ found_after changes.items q (found cells.old q)) }
+    ensures ok { OnOk result ((q : RowKey) → found cells.new q ≡ found_after changes.now q (found cells.old q)) }
     ensures err { OnErr result ((q : RowKey) → found cells.new q ≡ found cells.old q) }
     ensures settled { IsSettled cells.new }
 {
-    if let Err(fault) = make_room(cells, changes.as_slice()) {
-        sweep(cells, changes.as_slice());
+    let mut before = Vec::with_capacity(alloc, changes.len())?;
+    if let Err(fault) = write_all(cells, changes, &mut before) {
+        undo(cells, changes, before);
+        sweep(cells, changes);
         return Err(fault);
     }
-    write_all(cells, changes);
+    sweep_deleted(cells, changes);
     Ok(())
 }
 
-/// Applies a list of changes, where there is room for every put.
-fn write_all(cells: &mut Cells, changes: Vec<Change>)
-    requires { (q : RowKey) → has cells.now q ≡ (is_some (found cells.now q) || is_put changes.items q) }
-    ensures found { (q : RowKey) → found cells.new q ≡ found_after changes.items q (found cells.old q) }
-    ensures settled { IsSettled cells.new }
-{
-    let mut changes = changes;
-    write(cells, &mut changes);
-    sweep_deleted(cells, changes.as_slice());
-}
-
-/// Makes room for every put. If it fails, some of the rooms are there.
-#[tactic(auto, using(crate::proofs::Places::unnamed_puts, crate::proofs::Places::made_nothing))]
-fn make_room(cells: &mut Cells, changes: &[Change]) -> Result<(), AllocError>
-    ensures found { (q : RowKey) → found cells.new q ≡ found cells.old q }
+/// Writes every change at its key, the first change first, and keeps what stood there before. If it
+/// fails, some of the changes are written.
+fn write_all(
+    cells: &mut Cells,
+    changes: &[Change],
+    before: &mut Vec<Option<Cell>>,
+) -> Result<(), AllocError>
+    requires { before.now.items ≡ [] }
+    ensures count { length before.new.items ≤ length changes.now }
+    ensures undone { (q : RowKey) → undone before.new.items changes.now q (found cells.new q) ≡ found cells.old q }
     ensures others { (q : RowKey) → is_named changes.now q ≡ false → has cells.new q ≡ has cells.old q }
-    ensures ok { OnOk result ((q : RowKey) → has cells.new q ≡ (has cells.old q || is_put changes.now q)) }
+    ensures room { (q : RowKey) → has cells.old q ≡ true → has cells.new q ≡ true }
+    ensures found { OnOk result ((q : RowKey) → found cells.new q ≡ found_after changes.now q (found cells.old q)) }
+    ensures has { OnOk result ((q : RowKey) → has cells.new q ≡ (has cells.old q || is_put changes.now q)) }
 {
     for change in changes {
-        make_room_for(cells, change)?;
+        write_kept(cells, change, before)?;
     }
     Ok(())
 }
 
-/// Makes room for one change, if it is a put.
-fn make_room_for(cells: &mut Cells, change: &Change) -> Result<(), AllocError>
-    ensures found { (q : RowKey) → found cells.new q ≡ found cells.old q }
-    ensures ok { OnOk result ((q : RowKey) → has cells.new q ≡ (has cells.old q || puts change.now q)) }
-    ensures err { OnErr result ((q : RowKey) → has cells.new q ≡ has cells.old q) }
+/// Writes a change at its key, and puts what stood there before behind what is kept already.
+fn write_kept(
+    cells: &mut Cells,
+    change: &Change,
+    before: &mut Vec<Option<Cell>>,
+) -> Result<(), AllocError>
+    ensures kept { OnOk result (before.new.items ≡ before.old.items ++ found cells.old (key_of change.now) ∷ []) }
+    ensures found { OnOk result ((q : RowKey) → found cells.new q ≡ cond (eq_by_cmp key_cmp (key_of change.now) q) (cell_of change.now) (found cells.old q)) }
+    ensures has { OnOk result ((q : RowKey) → has cells.new q ≡ (has cells.old q || puts change.now q)) }
+    ensures err_kept { OnErr result (before.new.items ≡ before.old.items) }
+    ensures err_found { OnErr result ((q : RowKey) → found cells.new q ≡ found cells.old q) }
+    ensures err_has { OnErr result ((q : RowKey) → has cells.new q ≡ has cells.old q) }
+{
+    before.reserve(1)?;
+    let cell = write(cells, change)?;
+    match before.push(cell) {
+        Ok(()) => Ok(()),
+        Err(_) => unreachable!(),
+    }
+}
+
+/// Writes a change at its key. Answers what stood there before.
+fn write(cells: &mut Cells, change: &Change) -> Result<Option<Cell>, AllocError>
+    ensures before { IfOk result (λ before. before ≡ found cells.old (key_of change.now)) }
+    ensures found { OnOk result ((q : RowKey) → found cells.new q ≡ cond (eq_by_cmp key_cmp (key_of change.now) q) (cell_of change.now) (found cells.old q)) }
+    ensures has { OnOk result ((q : RowKey) → has cells.new q ≡ (has cells.old q || puts change.now q)) }
+    ensures err_found { OnErr result ((q : RowKey) → found cells.new q ≡ found cells.old q) }
+    ensures err_has { OnErr result ((q : RowKey) → has cells.new q ≡ has cells.old q) }
 {
     match change {
-        Change::Put(row) => make_room_at(cells, &row.key),
-        Change::Delete(_) => Ok(()),
+        Change::Put(row) => put(cells, row),
+        Change::Delete(key) => Ok(write_at(cells, key, None)),
     }
 }
 
-/// Makes room at a key.
-fn make_room_at(cells: &mut Cells, key: &Key) -> Result<(), AllocError>
-    ensures found { (q : RowKey) → found cells.new q ≡ found cells.old q }
-    ensures ok { OnOk result ((q : RowKey) → has cells.new q ≡ (has cells.old q || eq_by_cmp key_cmp key.now q)) }
-    ensures err { OnErr result ((q : RowKey) → has cells.new q ≡ has cells.old q) }
+/// Puts a row at its key, by one search. Answers what stood there before.
+fn put(cells: &mut Cells, row: &Row) -> Result<Option<Cell>, AllocError>
+    ensures before { IfOk result (λ before. before ≡ found cells.old row.now.key) }
+    ensures found { OnOk result ((q : RowKey) → found cells.new q ≡ cond (eq_by_cmp key_cmp row.now.key q) (Some (cell_of_row row.now)) (found cells.old q)) }
+    ensures has { OnOk result ((q : RowKey) → has cells.new q ≡ (has cells.old q || eq_by_cmp key_cmp row.now.key q)) }
+    ensures err_found { OnErr result ((q : RowKey) → found cells.new q ≡ found cells.old q) }
+    ensures err_has { OnErr result ((q : RowKey) → has cells.new q ≡ has cells.old q) }
 {
-    cells.entry(key.clone()?)?.or_insert(None);
-    Ok(())
+    let key = row.key.clone()?;
+    let cell = row.to_cell()?;
+    Ok(cells.insert(key, Some(cell))?.flatten())
 }
 
-/// Writes every change at its key, the first change first, and takes the cells out of the changes.
-fn write(cells: &mut Cells, changes: &mut Vec<Change>)
-    requires { (q : RowKey) → is_put changes.now.items q ≡ true → has cells.now q ≡ true }
-    ensures found { (q : RowKey) → found cells.new q ≡ found_after changes.old.items q (found cells.old q) }
+/// Writes back what stood at the keys of the first changes, the last of them first. It takes no
+/// memory: where there is no room, nothing stood.
+fn undo(cells: &mut Cells, changes: &[Change], before: Vec<Option<Cell>>)
+    requires { length before.items ≤ length changes.now }
+    ensures found { (q : RowKey) → has cells.old q ≡ true → found cells.new q ≡ undone before.items changes.now q (found cells.old q) }
     ensures has { (q : RowKey) → has cells.new q ≡ has cells.old q }
-    ensures deleted { (q : RowKey) → is_deleted changes.new.items q ≡ is_deleted changes.old.items q }
 {
-    let mut at = 0;
-    while at < changes.len() {
-        let cell = changes[at].take_cell();
-        write_at(cells, changes[at].key(), cell);
-        at += 1;
+    let mut before = before;
+    while let Some(cell) = before.pop() {
+        write_back(cells, &changes[before.len()], cell);
     }
 }
 
-/// Writes what stands at a key from now on.
-fn write_at(cells: &mut Cells, key: &Key, cell: Option<Cell>)
-    requires { is_some cell ≡ true → has cells.now key.now ≡ true }
-    ensures found { (q : RowKey) → found cells.new q ≡ cond (eq_by_cmp key_cmp key.now q) cell (found cells.old q) }
+/// Writes back what stood at the key of a change, where there is room.
+fn write_back(cells: &mut Cells, change: &Change, cell: Option<Cell>)
+    ensures found { (q : RowKey) → found cells.new q ≡ cond (eq_by_cmp key_cmp (key_of change.now) q && has cells.old q) cell (found cells.old q) }
     ensures has { (q : RowKey) → has cells.new q ≡ has cells.old q }
 {
-    if let Some(room) = cells.get_mut(key) {
-        *room = cell;
+    let _written = write_at(cells, change.key(), cell);
+}
+
+/// Writes what stands at a key from now on, where there is room. Answers what stood there before.
+fn write_at(cells: &mut Cells, key: &Key, cell: Option<Cell>) -> Option<Cell>
+    ensures before { result ≡ found cells.old key.now }
+    ensures found { (q : RowKey) → found cells.new q ≡ cond (eq_by_cmp key_cmp key.now q && has cells.old q) cell (found cells.old q) }
+    ensures has { (q : RowKey) → has cells.new q ≡ has cells.old q }
+{
+    match cells.get_mut(key) {
+        Some(room) => mem::replace(room, cell),
+        None => None,
     }
 }
 
@@ -173,24 +209,6 @@ impl Change {
         match self {
             Change::Put(row) => &row.key,
             Change::Delete(key) => key,
-        }
-    }
-
-    /// Takes out the cell that the change puts.
-    fn take_cell(&mut self) -> Option<Cell>
-        ensures cell { result ≡ cell_of self.old }
-        ensures key { key_of self.new ≡ key_of self.old }
-        ensures deletes { (q : RowKey) → deletes self.new q ≡ deletes self.old q }
-    {
-        match self {
-            Change::Put(row) => {
-                let nothing = Text::new(row.body.alloc());
-                Some(Cell {
-                    value: row.value,
-                    body: mem::replace(&mut row.body, nothing),
-                })
-            }
-            Change::Delete(_) => None,
         }
     }
 }

@@ -2,6 +2,7 @@
 
 ghost use Rattle.std.specs.Prelude.{◌≡◌, IfOk};
 ghost use Rattle.std.specs.Option.{option_copied};
+ghost use Rattle.wef_keeper.specs.Rows.{cell_of_row};
 ghost use Rattle.wef_keeper.specs.Sections.{is_under};
 
 use std::alloc::AllocError;
@@ -68,6 +69,16 @@ impl Row {
     {
         Ok(Row {
             key: self.key.clone()?,
+            value: self.value,
+            body: self.body.clone()?,
+        })
+    }
+
+    /// What stands at the row's key, which shares the row's text.
+    pub(crate) fn to_cell(&self) -> Result<Cell, AllocError>
+        ensures { IfOk result (λ cell. cell ≡ cell_of_row self.now) }
+    {
+        Ok(Cell {
             value: self.value,
             body: self.body.clone()?,
         })

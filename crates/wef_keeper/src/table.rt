@@ -88,6 +88,6 @@ impl Rows {
         ensures ok { OnOk result (self.new ≡ applied changes self.old) }
         ensures err { OnErr result (self.new ≡ self.old) }
     {
-        change_all(&mut self.cells, changes.into_vec())
+        change_all(self.alloc, &mut self.cells, changes.as_slice())
     }
 }

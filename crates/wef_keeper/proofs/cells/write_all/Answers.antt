@@ -1,17 +1,22 @@
-use Rattle.std.proofs.Common.{cond, is_some, sym, ap, ◌∙◌}
-use Rattle.wef_keeper.specs.Cells.{has, found, is_deleted}
-use Rattle.wef_keeper.proofs.Places.{some_after, full_written}
+use Rattle.std.proofs.Common.{◌<◌, ◌+◌, ap, ◌∙◌, length, length-append}
+use Rattle.wef_keeper.specs.Cells.{has, found, puts}
+use Rattle.wef_keeper.proofs.Places.{unnamed_puts, made_nothing, or_first, room_step, undone_written, write_step}
 use Rattle.wef_keeper.proofs.cells.write_all.Goals as goal
 
-pub returns-clause-settled : goal.returns-clause-settled
-returns-clause-settled c =
-    let changes = c.args.changes.items in
-    let before = c.args.cells.now in
-    let written = c.write.new.cells in
+pub loop-change-preserved : goal.loop-change-preserved
+loop-change-preserved c =
+    let changes = c.args.changes.now in
+    let i = c.loop-change.change-index in
+    let item = c.change-item.result in
+    let inside : i < length changes = c.loop-change-test.true in
+    let was = c.loop-change.invariant in
+    let done = c.in_ok-write_kept.ensures in
     record {
-      ordered = c.sweep_deleted.ensures.ordered;
-      full = λ q. full_written (is_deleted changes q) (has before q) (has written q) _ (found written q) _
-          (c.sweep_deleted.ensures.has q ∙ ap (λ b. cond b (is_some (found written q)) (has written q)) (ap (λ cs. is_deleted cs q) c.as_slice.ensures.value ∙ c.write.ensures.deleted q))
-          (c.sweep_deleted.ensures.found q) (c.write.ensures.has q)
-          (λ kept. c.requires q ∙ sym (ap is_some (c.write.ensures.found q) ∙ some_after changes q (found before q) kept));
+      count = ap length done.kept ∙ length-append c.loop-change.before.items _ ∙ ap (λ n. n + 1) was.count;
+      restored = λ q. undone_written c.loop-change.cells c.loop-change.before.items c.write_kept.new.before.items changes i item q (found c.write_kept.new.cells q) inside c.change-item.is was.count done.kept
+          (done.found q) ∙ was.restored q;
+      others = λ q e. done.has q ∙ made_nothing _ _ (ap (λ x. puts x q) c.change-item.is ∙ unnamed_puts changes i item q inside e) ∙ was.others q e;
+      grown = λ q e. done.has q ∙ or_first (has c.loop-change.cells q) (puts item q) (was.grown q e);
+      written = λ q. write_step changes i item q (found c.loop-change.cells q) (found c.write_kept.new.cells q) inside c.change-item.is (done.found q) ∙ was.written q;
+      rooms = λ q. room_step changes i item q (has c.loop-change.cells q) (has c.write_kept.new.cells q) inside c.change-item.is (done.has q) ∙ was.rooms q;
     }

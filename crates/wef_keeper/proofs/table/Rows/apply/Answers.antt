@@ -12,7 +12,7 @@ returns-clause-ok c =
     on_ok c.change_all.result
     (λ changed. live_is c.change_all.new.cells.entries _
     (λ q. changed q
-    ∙ ap (λ changes. found_after changes q (found c.self.inside.cells q)) c.into_vec.ensures
+    ∙ ap (λ changes. found_after changes q (found c.self.inside.cells q)) c.as_slice.ensures
     ∙ ap (found_after c.args.changes q) (sym (get-live before q) ∙ ap (λ rows. finite.get rows q) c.self.view_is)
     ∙ sym (get-applied c.args.changes c.args.self.now q)))
     c.change_all.ensures.ok
