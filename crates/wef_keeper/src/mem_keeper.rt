@@ -134,8 +134,7 @@ impl Keeper for MemKeeper {
         Ok(self.rows.page(after, max)?)
     }
 
-    /// The changes are copied. An armed commit that wants memory for them is refused for it, and stays
-    /// armed.
+    /// An armed commit that wants memory for its changes is refused for it, and stays armed.
     fn commit(&mut self, changes: &List<Change>) -> Result<(), KeeperFault> {
         if self.in_doubt {
             return Err(KeeperFault::InDoubt);
@@ -148,7 +147,7 @@ impl Keeper for MemKeeper {
             self.in_doubt = true;
             return Err(KeeperFault::Failed);
         }
-        self.rows.apply(copied(self.rows.alloc(), changes)?)?;
+        self.rows.apply_shared(changes)?;
         self.count_try();
         Ok(())
     }
@@ -175,17 +174,7 @@ fn apply_where(rows: &mut Rows, changes: &List<Change>, kept: bool) -> Result<()
     ensures err { OnErr result (rows.new ≡ rows.old) }
 {
     if kept {
-        rows.apply(copied(rows.alloc(), changes)?)?;
+        rows.apply_shared(changes)?;
     }
     Ok(())
-}
-
-fn copied(alloc: Global, changes: &List<Change>) -> Result<List<Change>, AllocError>
-    ensures { IfOk result (λ copy. copy ≡ changes.now) }
-{
-    let mut copy = List::new(alloc);
-    for change in changes.as_slice() {
-        copy.push(change.clone()?)?;
-    }
-    Ok(copy)
 }

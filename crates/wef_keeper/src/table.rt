@@ -50,11 +50,6 @@ impl Rows {
         }
     }
 
-    /// The allocator that the rows are kept in.
-    pub(crate) fn alloc(&self) -> Global {
-        self.alloc
-    }
-
     /// What stands at a key.
     pub fn get(&self, key: &Key) -> Option<&Cell>
         ensures { option_copied result ≡ finite.get self.now key.now }
@@ -86,6 +81,14 @@ impl Rows {
     /// no change names aren't visited.
     pub fn apply(&mut self, changes: List<Change>) -> Result<(), AllocError>
         ensures ok { OnOk result (self.new ≡ applied changes self.old) }
+        ensures err { OnErr result (self.new ≡ self.old) }
+    {
+        self.apply_shared(&changes)
+    }
+
+    /// Applies changes as `apply` does. What is put shares the texts of the changes.
+    pub fn apply_shared(&mut self, changes: &List<Change>) -> Result<(), AllocError>
+        ensures ok { OnOk result (self.new ≡ applied changes.now self.old) }
         ensures err { OnErr result (self.new ≡ self.old) }
     {
         change_all(self.alloc, &mut self.cells, changes.as_slice())

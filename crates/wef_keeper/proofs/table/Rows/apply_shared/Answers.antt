@@ -4,7 +4,7 @@ use Rattle.wef_keeper.specs.Cells.{found}
 use Rattle.wef_keeper.specs.Rows.{found_after}
 use Rattle.wef_keeper.specs.Laws.{get-applied}
 use Rattle.wef_keeper.proofs.Live.{get-live, live_is, on_ok, on_err}
-use Rattle.wef_keeper.proofs.table.Rows.apply.Goals as goal
+use Rattle.wef_keeper.proofs.table.Rows.apply_shared.Goals as goal
 
 pub returns-clause-ok : goal.returns-clause-ok
 returns-clause-ok c =
@@ -13,8 +13,8 @@ returns-clause-ok c =
     (λ changed. live_is c.change_all.new.cells.entries _
     (λ q. changed q
     ∙ ap (λ changes. found_after changes q (found c.self.inside.cells q)) c.as_slice.ensures
-    ∙ ap (found_after c.args.changes q) (sym (get-live before q) ∙ ap (λ rows. finite.get rows q) c.self.view_is)
-    ∙ sym (get-applied c.args.changes c.args.self.now q)))
+    ∙ ap (found_after c.args.changes.now q) (sym (get-live before q) ∙ ap (λ rows. finite.get rows q) c.self.view_is)
+    ∙ sym (get-applied c.args.changes.now c.args.self.now q)))
     c.change_all.ensures.ok
 
 pub returns-clause-err : goal.returns-clause-err
