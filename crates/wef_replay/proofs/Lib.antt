@@ -1,5 +1,6 @@
 pub mod Among
 pub mod BatchLines
+pub mod CutWords
 pub mod Cuts
 pub mod Fitting
 pub mod Following

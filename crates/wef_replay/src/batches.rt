@@ -4,17 +4,19 @@ ghost use Rattle.std.specs.Prelude.{◌≡◌, [], is_some, IsTrue, IfOk, OnOk};
 ghost use Rattle.wef_base.specs.Characters.{is_xml_text};
 ghost use Rattle.wef_base.specs.Words.{parts};
 ghost use Rattle.wef_replay.specs.Reading.{Gives};
-ghost use Rattle.wef_replay.specs.BatchWords.{empty_batch, added, batch_word, IsWithin, data_word, event_word, dropped_word, long_word, loose_word, reach_word, word_of, read_words};
+ghost use Rattle.wef_replay.specs.BatchWords.{empty_batch, added, batch_word, IsWithin, dropped_word, loose_word, reach_word, read_words};
+ghost use Rattle.wef_replay.specs.Pieces.{GivesHalf, data_in, dropped_in, event_in, said};
 
 use crate::cutting::Parts;
-use crate::values::{LineFault, channel_of, is_word, joined, number_of, text_of};
+use crate::half_words::{HalfWord, NumberedEvent};
+use crate::pieces::{Pieces, has_colon, pieces_of};
+use crate::values::{LineFault, channel_in, number_in, spells, text_in};
 use std::alloc::{AllocError, Global};
 use wef_base::numbers::MAX;
-use wef_base::words::split;
-use wef_base::{Bytes, ChannelName, List, Text, is_xml_text};
+use wef_base::{ChannelName, List, Text, is_xml_text};
 use wef_batch::{Batch, Item};
 use wef_bookmark::Bookmark;
-use wef_event::plain_event;
+use wef_event::PlainEvent;
 
 /// What one word of a batch says.
 #[derive(Drop)]
@@ -28,7 +30,7 @@ pub enum BatchWord {
     Ack,
 }
 
-/// Whether words make a batch. One of them is read at a time, and its event is let go.
+/// Whether words make a batch. No event is made.
 pub fn is_batch(alloc: Global, words: &[u8]) -> Result<bool, AllocError>
     ensures { IfOk result (λ is. is ≡ is_some (read_words empty_batch (parts 32 words.now))) }
 {
@@ -43,8 +45,8 @@ pub fn is_batch(alloc: Global, words: &[u8]) -> Result<bool, AllocError>
 fn is_batch_word(alloc: Global, word: &[u8]) -> Result<bool, AllocError>
     ensures { IfOk result (λ is. is ≡ is_some (batch_word word.now)) }
 {
-    match word_of(alloc, word) {
-        Ok(_) => Ok(true),
+    match half_of(alloc, word) {
+        Ok(half) => Ok(half.fits()),
         Err(LineFault::NoMemory) => Err(AllocError),
         Err(LineFault::NotUnderstood) => Ok(false),
     }
@@ -92,102 +94,101 @@ fn add(batch: &mut Batch, word: BatchWord) -> Result<(), AllocError>
 fn word_of(alloc: Global, word: &[u8]) -> Result<BatchWord, LineFault>
     ensures { Gives result (batch_word word.now) }
 {
-    let pieces = split(alloc, word, b':')?;
-    word_of_pieces(alloc, pieces.as_slice())
+    half_of(alloc, word)?.into_word()
 }
 
-fn word_of_pieces(alloc: Global, pieces: &[Bytes]) -> Result<BatchWord, LineFault>
-    ensures { Gives result (word_of pieces.now) }
+/// What a word says, up to its event.
+fn half_of(alloc: Global, word: &[u8]) -> Result<HalfWord, LineFault>
+    ensures { GivesHalf result (batch_word word.now) }
+{
+    half_of_pieces(alloc, pieces_of(word))
+}
+
+fn half_of_pieces(alloc: Global, pieces: Pieces<'_>) -> Result<HalfWord, LineFault>
+    ensures { GivesHalf result (said pieces.entry) }
 {
     match pieces {
-        [kind] if is_word(kind, "ack") => Ok(BatchWord::Ack),
-        [kind, count] if is_word(kind, "l") => loose_of(count),
-        [kind, channel, number] if is_word(kind, "t") => reach_of(alloc, channel, number),
-        [kind, channel, number, piece, more @ ..] => {
-            long_word_of(alloc, kind, channel, number, piece, more)
+        Pieces::One(kind) if spells(kind, "ack") => Ok(HalfWord::Other(BatchWord::Ack)),
+        Pieces::Two(kind, count) if spells(kind, "l") => loose_of(count),
+        Pieces::Three(kind, channel, number) if spells(kind, "t") => {
+            reach_of(alloc, channel, number)
+        }
+        Pieces::Four(kind, channel, number, text) if spells(kind, "e") => {
+            event_of(alloc, channel, number, text)
+        }
+        Pieces::Four(kind, channel, first, text) if spells(kind, "d") => {
+            dropped_of(alloc, channel, first, text)
         }
         _ => Err(LineFault::NotUnderstood),
     }
 }
 
-/// A word of four pieces or more: a range that is gone, or an event.
-fn long_word_of(
-    alloc: Global,
-    kind: &Bytes,
-    channel: &Bytes,
-    number: &Bytes,
-    piece: &Bytes,
-    more: &[Bytes],
-) -> Result<BatchWord, LineFault>
-    ensures { Gives result (long_word kind.now channel.now number.now piece.now more.now) }
+fn loose_of(count: &[u8]) -> Result<HalfWord, LineFault>
+    ensures { GivesHalf result (loose_word count.now) }
 {
-    if is_word(kind, "d") && more.is_empty() {
-        return dropped_of(alloc, channel, number, piece);
-    }
-    if !is_word(kind, "e") {
-        return Err(LineFault::NotUnderstood);
-    }
-    event_of(alloc, channel, number, piece, more)
+    let count = number_in(count, 0, MAX)?;
+    Ok(HalfWord::Other(BatchWord::Item(Item::Loose { count })))
 }
 
-fn loose_of(count: &Bytes) -> Result<BatchWord, LineFault>
-    ensures { Gives result (loose_word count.now) }
+fn reach_of(alloc: Global, channel: &[u8], number: &[u8]) -> Result<HalfWord, LineFault>
+    ensures { GivesHalf result (reach_word channel.now number.now) }
 {
-    let count = number_of(count, 0, MAX)?;
-    Ok(BatchWord::Item(Item::Loose { count }))
-}
-
-fn reach_of(alloc: Global, channel: &Bytes, number: &Bytes) -> Result<BatchWord, LineFault>
-    ensures { Gives result (reach_word channel.now number.now) }
-{
-    let channel = channel_of(alloc, channel)?;
-    let number = number_of(number, 0, MAX)?;
-    Ok(BatchWord::Reach { channel, number })
+    let channel = channel_in(alloc, channel)?;
+    let number = number_in(number, 0, MAX)?;
+    Ok(HalfWord::Other(BatchWord::Reach { channel, number }))
 }
 
 fn dropped_of(
     alloc: Global,
-    channel: &Bytes,
-    first: &Bytes,
-    last: &Bytes,
-) -> Result<BatchWord, LineFault>
-    ensures { Gives result (dropped_word channel.now first.now last.now) }
+    channel: &[u8],
+    first: &[u8],
+    text: &[u8],
+) -> Result<HalfWord, LineFault>
+    ensures { GivesHalf result (dropped_in channel.now first.now text.now) }
 {
-    let channel = channel_of(alloc, channel)?;
-    let first = number_of(first, 1, MAX)?;
-    let last = number_of(last, 1, MAX)?;
-    Ok(BatchWord::Item(Item::Dropped {
+    if has_colon(text) {
+        return Err(LineFault::NotUnderstood);
+    }
+    let channel = channel_in(alloc, channel)?;
+    let first = number_in(first, 1, MAX)?;
+    let last = number_in(text, 1, MAX)?;
+    Ok(HalfWord::Other(BatchWord::Item(Item::Dropped {
         channel,
         first,
         last,
-    }))
+    })))
 }
 
 /// The plain event of a channel, with the identifier 0 and the level 0. Its data may hold colons.
 fn event_of(
     alloc: Global,
-    channel: &Bytes,
-    number: &Bytes,
-    piece: &Bytes,
-    more: &[Bytes],
-) -> Result<BatchWord, LineFault>
-    ensures { Gives result (event_word channel.now number.now piece.now more.now) }
+    channel: &[u8],
+    number: &[u8],
+    text: &[u8],
+) -> Result<HalfWord, LineFault>
+    ensures { GivesHalf result (event_in channel.now number.now text.now) }
 {
-    let channel = channel_of(alloc, channel)?;
-    let number = number_of(number, 1, MAX)?;
-    let data = data_of(alloc, piece, more)?;
-    let event = plain_event(&channel, number, 0, 0, &data)?;
-    Ok(BatchWord::Item(Item::Event(event)))
+    let channel = channel_in(alloc, channel)?;
+    let number = number_in(number, 1, MAX)?;
+    let word = data_of(alloc, text)?;
+    Ok(HalfWord::Event(NumberedEvent {
+        event: PlainEvent {
+            channel,
+            id: 0,
+            level: 0,
+            word,
+        },
+        number,
+    }))
 }
 
-fn data_of(alloc: Global, piece: &Bytes, more: &[Bytes]) -> Result<Text, LineFault>
-    ensures value { Gives result (data_word piece.now more.now) }
-    ensures characters { IfOk result (λ text. IsTrue (is_xml_text text)) }
+fn data_of(alloc: Global, text: &[u8]) -> Result<Text, LineFault>
+    ensures value { Gives result (data_in text.now) }
+    ensures characters { IfOk result (λ word. IsTrue (is_xml_text word)) }
 {
-    let word = joined(alloc, b':', piece, more)?;
-    let text = text_of(alloc, &word)?;
-    if !is_xml_text(&text)? {
+    let word = text_in(alloc, text)?;
+    if !is_xml_text(&word)? {
         return Err(LineFault::NotUnderstood);
     }
-    Ok(text)
+    Ok(word)
 }

@@ -68,7 +68,14 @@ impl From<EventFault> for LineFault {
 pub fn is_word(word: &Bytes, text: &str) -> bool
     ensures { result ≡ same word.now text.now }
 {
-    word.as_slice() == text.as_bytes()
+    spells(word.as_slice(), text)
+}
+
+/// Whether bytes are this word, letter for letter.
+pub fn spells(bytes: &[u8], text: &str) -> bool
+    ensures { result ≡ same bytes.now text.now }
+{
+    bytes == text.as_bytes()
 }
 
 /// A word and those that follow it, each behind the byte that separates them.
@@ -92,7 +99,14 @@ pub fn joined(
 pub fn text_of(alloc: Global, word: &Bytes) -> Result<Text, LineFault>
     ensures { Gives result (decoded word.now) }
 {
-    decode(alloc, word.as_slice())?.ok_or(LineFault::NotUnderstood)
+    text_in(alloc, word.as_slice())
+}
+
+/// The text that bytes stand for, percent-decoded.
+pub fn text_in(alloc: Global, bytes: &[u8]) -> Result<Text, LineFault>
+    ensures { Gives result (decoded bytes.now) }
+{
+    decode(alloc, bytes)?.ok_or(LineFault::NotUnderstood)
 }
 
 /// The text that bytes are in UTF-8.
@@ -123,7 +137,14 @@ pub fn source_of(alloc: Global, word: &Bytes) -> Result<SourceName, LineFault>
 pub fn channel_of(alloc: Global, word: &Bytes) -> Result<ChannelName, LineFault>
     ensures { Gives result (channel_word word.now) }
 {
-    Ok(ChannelName::read(&text_of(alloc, word)?)?)
+    channel_in(alloc, word.as_slice())
+}
+
+/// The channel's name that bytes give, percent-decoded.
+pub fn channel_in(alloc: Global, bytes: &[u8]) -> Result<ChannelName, LineFault>
+    ensures { Gives result (channel_word bytes.now) }
+{
+    Ok(ChannelName::read(&text_in(alloc, bytes)?)?)
 }
 
 /// A source's name. `collector` names the other end, so no source has that name.
@@ -166,7 +187,16 @@ pub fn number_of(word: &Bytes, least: u64, greatest: u64) -> Result<u64, LineFau
     ensures value { Gives result (number_word least greatest word.now) }
     ensures within { IfOk result (λ n. n ≤ greatest) }
 {
-    match read_plain_number(word.as_slice(), greatest) {
+    number_in(word.as_slice(), least, greatest)
+}
+
+/// The number that bytes are, from `least` to `greatest`.
+pub fn number_in(bytes: &[u8], least: u64, greatest: u64) -> Result<u64, LineFault>
+    requires { greatest ≤ MAX }
+    ensures value { Gives result (number_word least greatest bytes.now) }
+    ensures within { IfOk result (λ n. n ≤ greatest) }
+{
+    match read_plain_number(bytes, greatest) {
         Some(number) if number >= least => Ok(number),
         _ => Err(LineFault::NotUnderstood),
     }
