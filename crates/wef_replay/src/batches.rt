@@ -9,8 +9,9 @@ ghost use Rattle.wef_replay.specs.Pieces.{GivesHalf, data_in, dropped_in, event_
 
 use crate::cutting::Parts;
 use crate::half_words::{HalfWord, NumberedEvent};
+use crate::last_channel::LastChannel;
 use crate::pieces::{Pieces, has_colon, pieces_of};
-use crate::values::{LineFault, channel_in, number_in, spells, text_in};
+use crate::values::{LineFault, number_in, spells, text_in};
 use std::alloc::{AllocError, Global};
 use wef_base::numbers::MAX;
 use wef_base::{ChannelName, List, Text, is_xml_text};
@@ -34,18 +35,23 @@ pub enum BatchWord {
 pub fn is_batch(alloc: Global, words: &[u8]) -> Result<bool, AllocError>
     ensures { IfOk result (λ is. is ≡ is_some (read_words empty_batch (parts 32 words.now))) }
 {
+    let mut channel = LastChannel::none();
     for word in Parts::of(words, b' ') {
-        if !is_batch_word(alloc, word)? {
+        if !is_batch_word(alloc, &mut channel, word)? {
             return Ok(false);
         }
     }
     Ok(true)
 }
 
-fn is_batch_word(alloc: Global, word: &[u8]) -> Result<bool, AllocError>
+fn is_batch_word<'a>(
+    alloc: Global,
+    last: &mut LastChannel<'a>,
+    word: &'a [u8],
+) -> Result<bool, AllocError>
     ensures { IfOk result (λ is. is ≡ is_some (batch_word word.now)) }
 {
-    match half_of(alloc, word) {
+    match half_of(alloc, last, word) {
         Ok(half) => Ok(half.fits()),
         Err(LineFault::NoMemory) => Err(AllocError),
         Err(LineFault::NotUnderstood) => Ok(false),
@@ -61,8 +67,9 @@ pub fn batch_of(alloc: Global, words: &[u8]) -> Result<Batch, LineFault>
         to: Bookmark::new(alloc),
         ack_wanted: false,
     };
+    let mut channel = LastChannel::none();
     for word in Parts::of(words, b' ') {
-        add(&mut batch, word_of(alloc, word)?)?;
+        add(&mut batch, word_of(alloc, &mut channel, word)?)?;
     }
     Ok(batch)
 }
@@ -91,33 +98,45 @@ fn add(batch: &mut Batch, word: BatchWord) -> Result<(), AllocError>
     Ok(())
 }
 
-fn word_of(alloc: Global, word: &[u8]) -> Result<BatchWord, LineFault>
+fn word_of<'a>(
+    alloc: Global,
+    last: &mut LastChannel<'a>,
+    word: &'a [u8],
+) -> Result<BatchWord, LineFault>
     ensures { Gives result (batch_word word.now) }
 {
-    half_of(alloc, word)?.into_word()
+    half_of(alloc, last, word)?.into_word()
 }
 
 /// What a word says, up to its event.
-fn half_of(alloc: Global, word: &[u8]) -> Result<HalfWord, LineFault>
+fn half_of<'a>(
+    alloc: Global,
+    last: &mut LastChannel<'a>,
+    word: &'a [u8],
+) -> Result<HalfWord, LineFault>
     ensures { GivesHalf result (batch_word word.now) }
 {
-    half_of_pieces(alloc, pieces_of(word))
+    half_of_pieces(alloc, last, pieces_of(word))
 }
 
-fn half_of_pieces(alloc: Global, pieces: Pieces<'_>) -> Result<HalfWord, LineFault>
+fn half_of_pieces<'a>(
+    alloc: Global,
+    last: &mut LastChannel<'a>,
+    pieces: Pieces<'a>,
+) -> Result<HalfWord, LineFault>
     ensures { GivesHalf result (said pieces.entry) }
 {
     match pieces {
         Pieces::One(kind) if spells(kind, "ack") => Ok(HalfWord::Other(BatchWord::Ack)),
         Pieces::Two(kind, count) if spells(kind, "l") => loose_of(count),
         Pieces::Three(kind, channel, number) if spells(kind, "t") => {
-            reach_of(alloc, channel, number)
+            reach_of(alloc, last, channel, number)
         }
         Pieces::Four(kind, channel, number, text) if spells(kind, "e") => {
-            event_of(alloc, channel, number, text)
+            event_of(alloc, last, channel, number, text)
         }
         Pieces::Four(kind, channel, first, text) if spells(kind, "d") => {
-            dropped_of(alloc, channel, first, text)
+            dropped_of(alloc, last, channel, first, text)
         }
         _ => Err(LineFault::NotUnderstood),
     }
@@ -130,17 +149,23 @@ fn loose_of(count: &[u8]) -> Result<HalfWord, LineFault>
     Ok(HalfWord::Other(BatchWord::Item(Item::Loose { count })))
 }
 
-fn reach_of(alloc: Global, channel: &[u8], number: &[u8]) -> Result<HalfWord, LineFault>
+fn reach_of<'a>(
+    alloc: Global,
+    last: &mut LastChannel<'a>,
+    channel: &'a [u8],
+    number: &[u8],
+) -> Result<HalfWord, LineFault>
     ensures { GivesHalf result (reach_word channel.now number.now) }
 {
-    let channel = channel_in(alloc, channel)?;
+    let channel = last.read(alloc, channel)?;
     let number = number_in(number, 0, MAX)?;
     Ok(HalfWord::Other(BatchWord::Reach { channel, number }))
 }
 
-fn dropped_of(
+fn dropped_of<'a>(
     alloc: Global,
-    channel: &[u8],
+    last: &mut LastChannel<'a>,
+    channel: &'a [u8],
     first: &[u8],
     text: &[u8],
 ) -> Result<HalfWord, LineFault>
@@ -149,7 +174,7 @@ fn dropped_of(
     if has_colon(text) {
         return Err(LineFault::NotUnderstood);
     }
-    let channel = channel_in(alloc, channel)?;
+    let channel = last.read(alloc, channel)?;
     let first = number_in(first, 1, MAX)?;
     let last = number_in(text, 1, MAX)?;
     Ok(HalfWord::Other(BatchWord::Item(Item::Dropped {
@@ -160,15 +185,16 @@ fn dropped_of(
 }
 
 /// The plain event of a channel, with the identifier 0 and the level 0. Its data may hold colons.
-fn event_of(
+fn event_of<'a>(
     alloc: Global,
-    channel: &[u8],
+    last: &mut LastChannel<'a>,
+    channel: &'a [u8],
     number: &[u8],
     text: &[u8],
 ) -> Result<HalfWord, LineFault>
     ensures { GivesHalf result (event_in channel.now number.now text.now) }
 {
-    let channel = channel_in(alloc, channel)?;
+    let channel = last.read(alloc, channel)?;
     let number = number_in(number, 1, MAX)?;
     let word = data_of(alloc, text)?;
     Ok(HalfWord::Event(NumberedEvent {
