@@ -141,7 +141,7 @@ unfolding event_of
 numbered_made event node made m number =
     λ i. cond (made.root i) (elim (made.channel i) [ Some c ↦ with_number_found node c (number_or true (number i)) | None ↦ Err EventFault.NoChannel ]) (Err (EventFault.BadEvent 0))
 
-fits : (c : List ℕ) (n : ℕ) (text : List ℕ) → nat_lt event_limit (length text) ≡ false → unless_long c n text ≡ Ok (record { channel = c; number = n; text = text })
+pub fits : (c : List ℕ) (n : ℕ) (text : List ℕ) → nat_lt event_limit (length text) ≡ false → unless_long c n text ≡ Ok (record { channel = c; number = n; text = text })
 fits c n text short = ap (λ (b : Bool). by b) short
   where
     by : Bool → Result Event EventFault

@@ -1,5 +1,5 @@
 -- What reading a text says of the event that the text has.
-use Rattle.std.proofs.Common.{◌≡◌, ℕ, ◌==◌, ◌&&◌, true, false, Bool, cond, List, length, nat_lt, refl, ap, sym, ◌∙◌, ◌⊎◌, inl, inr}
+use Rattle.std.proofs.Common.{◌≡◌, ℕ, ◌≤◌, ◌==◌, ◌&&◌, true, false, Bool, cond, List, length, nat_lt, refl, ap, sym, ◌∙◌, ◌⊎◌, inl, inr, subst, arith}
 use Rattle.std.specs.Prelude.{Option, Some, None, Result, IfErr}
 use Rattle.std.specs.Option.{option_and_then}
 use Rattle.std.specs.declared.result.Result.TheVariants.{Ok, Err}
@@ -9,9 +9,12 @@ use Rattle.wef_base.specs.declared.tree.Element.{Element}
 use Rattle.wef_tree_reading.specs.Documents.{tree_of}
 use Rattle.wef_tree_reading.proofs.Functions.{is_given, is_spelt_by}
 use Rattle.wef_tree_reading.proofs.Readings.{has_no_fault}
-use Rattle.wef_event.specs.Events.{Event, Finds, event_in, event_limit, event_of, event_or_none, is_event, is_event_root, is_found, number_or, text_of_tree, with_number_found}
+use Rattle.wef_tree_reading.specs.Spelling.{Spells}
+use Rattle.wef_tree.proofs.SpellsAgain.{spells_again}
+use Rattle.wef_event.specs.Events.{Event, Finds, HasTree, event_in, event_limit, event_of, event_or_none, is_event, is_event_root, is_found, number_or, text_of_tree, with_number_found}
 use Rattle.wef_event.specs.Paths.{channel_in, number_in}
 use Rattle.wef_event.specs.Reading.{AsksForNoNumber, IsFaulty, ReadsEvent, Says}
+use Rattle.wef_event.proofs.Made.{IsMade, fits, made, numbered_made}
 use Rattle.wef_event.specs.declared.records.EventFault.{EventFault}
 use Rattle.wef_event.specs.declared.records.EventFault.TheVariants.{NoMemory, BadEvent, NoChannel, NoRecordId, TooLong}
 
@@ -80,3 +83,30 @@ asks_for_none text (Err (BadEvent at)) reads = tt
 asks_for_none text (Err NoChannel) reads = tt
 asks_for_none text (Err NoRecordId) reads = absurd (found_so reads.0 reads.2)
 asks_for_none text (Err TooLong) reads = tt
+
+-- the text of an event with a number says it, whether this is needed or not
+pub says_so : (needed : Bool) (event : Event) → HasTree event → 1 ≤ event.number → Says needed event.text (Ok event)
+says_so needed event has some =
+    let node = has.0 in
+    let is = has.1 in
+    let is_made = made event node is.event_is in (
+      node,
+      subst (λ (text : List ℕ). Spells Utf8 text node) (sym is_made.text) (spells_again Utf8 node is.good),
+      by needed is.event_is (numbered is_made.number is_made),
+    )
+  where
+    node : Element
+    node = has.0
+
+    numbered : (number_in node ≡ Some event.number) ⊎ ((number_in node ≡ None) × (event.number ≡ 0)) → IsMade event node → event_of true node ≡ Ok event
+    numbered (inl number) is_made =
+        numbered_made event node is_made (Some event.number) number ∙ fits event.channel event.number (text_of_tree node) is_made.short
+        ∙ ap (λ (text : List ℕ). Ok (record { channel = event.channel; number = event.number; text = text })) (sym is_made.text)
+    numbered (inr none) is_made = absurd (clash none.1 some)
+      where
+        clash : event.number ≡ 0 → 1 ≤ event.number → ⊥
+        clash zero h = omega arith
+
+    by : (b : Bool) → event_of false node ≡ Ok event → event_of true node ≡ Ok event → event_of b node ≡ Ok event
+    by true anyhow so = so
+    by false anyhow so = anyhow

@@ -1,19 +1,21 @@
 //! Reading events.
 
 ghost use Rattle.std.specs.Prelude.{◌≡◌, true, false, ◌&&◌, ◌==◌, is_some, Some, IfErr, IfOk, IfSome};
-ghost use Rattle.wef_base.specs.Names.{same};
+ghost use Rattle.wef_base.specs.Names.{channel_name, same};
 ghost use Rattle.wef_base.specs.declared.tree.Charset.TheVariants.{Utf8};
 ghost use Rattle.wef_tree_reading.specs.Documents.{tree_of};
 ghost use Rattle.wef_xml.specs.Good.{IsGoodTree};
 ghost use Rattle.wef_event.specs.Events as events;
-ghost use Rattle.wef_event.specs.Events.{Finds, Gives, IsEventOf, is_event_root, number_or, text_of_tree};
+ghost use Rattle.wef_event.specs.Events.{Finds, Gives, HasTree, IsEventOf, is_event_root, number_or, text_of_tree};
 ghost use Rattle.wef_event.specs.Reading.{AsksForNoNumber, ReadsEvent, short_text};
+ghost use Rattle.wef_event.specs.Recognising.{IsLabel};
 
 use crate::paths::{channel_in, number_in};
 use crate::plain::EVENT_LIMIT;
+use crate::recognising::{Label, recognised};
 use crate::records::{Event, EventFault};
 use std::alloc::AllocError;
-use wef_base::{ChannelName, Charset, Element, Text};
+use wef_base::{ChannelName, Charset, Element, Text, ValueFault};
 use wef_tree::{TreeFault, read_tree, write_tree_within};
 
 /// Reads an event from its text, which is a document (XML 1.0) whose root is called Event. Its
@@ -78,7 +80,26 @@ impl Event {
         ensures some { IfOk result (λ found. is_some found ≡ events.is_event (record { channel = channel.now; number = number; text = text.now })) }
         ensures value { IfOk result (λ found. IfSome found (λ event. event ≡ record { channel = channel.now; number = number; text = text.now })) }
     {
-        match read_event(text) {
+        if is_seen(channel, number, text) {
+            return Ok(Some(Event {
+                channel: channel.clone()?,
+                number,
+                text: text.clone()?,
+            }));
+        }
+        Event::of_read_text(channel, number, text)
+    }
+
+    /// The same, by the tree of the text.
+    fn of_read_text(
+        channel: &ChannelName,
+        number: u64,
+        text: &Text,
+    ) -> Result<Option<Event>, AllocError>
+        ensures some { IfOk result (λ found. is_some found ≡ events.is_event (record { channel = channel.now; number = number; text = text.now })) }
+        ensures value { IfOk result (λ found. IfSome found (λ event. event ≡ record { channel = channel.now; number = number; text = text.now })) }
+    {
+        match read_tree_event(true, text) {
             Ok(event) if event.is(channel, number, text) => Ok(Some(event)),
             Ok(_) => Ok(None),
             Err(fault) => match fault {
@@ -96,8 +117,60 @@ impl Event {
     }
 }
 
+/// Whether this event is seen to be that of its text, in one pass. It takes no memory.
+fn is_seen(channel: &ChannelName, number: u64, text: &Text) -> bool
+    ensures tree { result ≡ true → HasTree (record { channel = channel.now; number = number; text = text.now }) }
+    ensures event { result ≡ true → events.is_event (record { channel = channel.now; number = number; text = text.now }) ≡ true }
+{
+    match recognised(text.as_str()) {
+        Some(label) => number == label.number && gives_name(label.channel, channel),
+        None => false,
+    }
+}
+
+/// Whether a word of ASCII gives this name, without spaces at its ends.
+fn gives_name(word: &str, channel: &ChannelName) -> bool
+    ensures { result ≡ true → channel_name word.now ≡ Some channel.now }
+{
+    let name = channel.as_text().as_str();
+    if !word.is_ascii() {
+        return false;
+    }
+    if !name.is_ascii() {
+        return false;
+    }
+    word.eq_ignore_ascii_case(name)
+}
+
 /// Reads an event; `needed`: it needs a number.
 fn read(needed: bool, text: &Text) -> Result<Event, EventFault>
+    ensures { ReadsEvent needed text.now result }
+{
+    match recognised(text.as_str()) {
+        Some(label) => read_seen(needed, &label, text),
+        None => read_tree_event(needed, text),
+    }
+}
+
+/// Reads an event of whose text this was seen.
+fn read_seen(needed: bool, label: &Label<'_>, text: &Text) -> Result<Event, EventFault>
+    requires { IsLabel text.now label.now.channel.now label.now.number }
+    ensures { ReadsEvent needed text.now result }
+{
+    let word = Text::from_str(text.alloc(), label.channel)?;
+    match ChannelName::read(&word) {
+        Ok(channel) => Ok(Event {
+            channel,
+            number: label.number,
+            text: text.clone()?,
+        }),
+        Err(ValueFault::NoMemory) => Err(EventFault::NoMemory),
+        Err(_) => read_tree_event(needed, text),
+    }
+}
+
+/// Reads an event by its tree.
+fn read_tree_event(needed: bool, text: &Text) -> Result<Event, EventFault>
     ensures { ReadsEvent needed text.now result }
 {
     match read_tree(text.alloc(), text.as_str().as_bytes(), Charset::Utf8) {

@@ -1,5 +1,5 @@
 use Rattle.wef_event.proofs.PlainUtf8.{is_decoded}
-use Rattle.wef_event.proofs.reading.read.Goals as goal
+use Rattle.wef_event.proofs.reading.read_tree_event.Goals as goal
 
 pub returns-in-Err-BadCharset : goal.returns-in-Err-BadCharset
 returns-in-Err-BadCharset c =

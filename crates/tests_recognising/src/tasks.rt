@@ -1,0 +1,143 @@
+//! What is done with a line.
+
+use crate::others::{Counts, count_others};
+use std::alloc::{AllocError, Global};
+use std::str;
+use tests_tasks::Tasks;
+use tests_tasks::escapes::{escaped, unescaped};
+use wef_base::{ChannelName, Charset, Text, ValueFault};
+use wef_event::{Event, EventFault, Label, event_of_node, recognised};
+use wef_tree::read_tree;
+
+/// What is done with a line.
+#[derive(Clone, Copy)]
+pub(crate) enum Task {
+    /// `text`: what is seen in one pass, and of the texts that differ in one character.
+    Text,
+    /// `seen`: the same, of the text alone.
+    Seen,
+    /// `parts`: whether a channel, a number and a text are an event.
+    Parts,
+}
+
+/// The tasks by their names.
+const TASKS: &[(&str, Task)] = &[
+    ("text", Task::Text),
+    ("seen", Task::Seen),
+    ("parts", Task::Parts),
+];
+
+impl Tasks for Task {
+    fn named() -> &'static [(&'static str, Task)] {
+        TASKS
+    }
+
+    fn push_answer(self, shown: &mut Text, line: &str) -> Result<(), AllocError> {
+        let bytes = unescaped(shown.alloc(), line)?;
+        let Ok(text) = str::from_utf8(bytes.as_slice()) else {
+            return shown.push_str("no UTF-8");
+        };
+        let text = Text::from_str(shown.alloc(), text)?;
+        match self {
+            Task::Text => {
+                push_seen(shown, &text)?;
+                push_counts(shown, &count_others(&text)?)
+            }
+            Task::Seen => push_seen(shown, &text),
+            Task::Parts => push_parts(shown, &text),
+        }
+    }
+}
+
+fn push_seen(shown: &mut Text, text: &Text) -> Result<(), AllocError> {
+    match recognised(text.as_str()) {
+        Some(label) => push_label(shown, text, &label),
+        None => push_read(shown, text),
+    }
+}
+
+fn push_label(shown: &mut Text, text: &Text, label: &Label<'_>) -> Result<(), AllocError> {
+    shown.push_str("seen ")?;
+    shown.push_number(label.number)?;
+    shown.push(' ')?;
+    let channel = escaped(&Text::from_str(shown.alloc(), label.channel)?)?;
+    shown.push_str(channel.as_str())?;
+    if !is_read_so(text, label)? {
+        shown.push_str(", and not read so")?;
+    }
+    Ok(())
+}
+
+/// Appends whether the text is an event's, which was not seen in one pass.
+fn push_read(shown: &mut Text, text: &Text) -> Result<(), AllocError> {
+    shown.push_str(match event_read(text) {
+        Ok(Some(_)) => "not seen, but read",
+        Ok(None) => "not seen",
+        Err(fault) => return Err(fault),
+    })
+}
+
+fn push_counts(shown: &mut Text, counts: &Counts) -> Result<(), AllocError> {
+    shown.push_str("; of ")?;
+    shown.push_number(counts.all)?;
+    shown.push_str(" others ")?;
+    shown.push_number(counts.seen)?;
+    shown.push_str(" seen, ")?;
+    shown.push_number(counts.wrong)?;
+    shown.push_str(" of them wrong")
+}
+
+/// Whether a text is read the long way as the event that was seen; where its channel is no name, as
+/// no event.
+pub(crate) fn is_read_so(text: &Text, label: &Label<'_>) -> Result<bool, AllocError> {
+    let name = Text::from_str(text.alloc(), label.channel)?;
+    match ChannelName::read(&name) {
+        Ok(channel) => is_read_as(text, &channel, label.number),
+        Err(ValueFault::NoMemory) => Err(AllocError),
+        Err(_) => Ok(event_read(text)?.is_none()),
+    }
+}
+
+fn is_read_as(text: &Text, channel: &ChannelName, number: u64) -> Result<bool, AllocError> {
+    match event_read(text)? {
+        Some(event) => Ok(event.channel == *channel && event.number == number),
+        None => Ok(false),
+    }
+}
+
+/// The event of a text's tree, where the text is the one of this tree.
+fn event_read(text: &Text) -> Result<Option<Event>, AllocError> {
+    let Ok(root) = read_tree(text.alloc(), text.as_str().as_bytes(), Charset::Utf8) else {
+        return Ok(None);
+    };
+    match event_of_node(&root) {
+        Ok(event) if event.text == *text => Ok(Some(event)),
+        Err(EventFault::NoMemory) => Err(AllocError),
+        _ => Ok(None),
+    }
+}
+
+/// Appends whether the `CHANNEL NUMBER TEXT` of a line are an event.
+fn push_parts(shown: &mut Text, line: &Text) -> Result<(), AllocError> {
+    shown.push_str(match is_event(line) {
+        Ok(true) => "an event",
+        Ok(false) => "no event",
+        Err(ValueFault::NoMemory) => return Err(AllocError),
+        Err(_) => "no row",
+    })
+}
+
+fn is_event(line: &Text) -> Result<bool, ValueFault> {
+    let Some((channel, number, text)) = parts_of(line.as_str()) else {
+        return Ok(false);
+    };
+    let channel = ChannelName::read(&Text::from_str(line.alloc(), channel)?)?;
+    let text = Text::from_str(line.alloc(), text)?;
+    Ok(Event::of_text(&channel, number, &text)?.is_some())
+}
+
+fn parts_of(row: &str) -> Option<(&str, u64, &str)> {
+    let (channel, rest) = row.split_once(' ')?;
+    let (number, text) = rest.split_once(' ')?;
+    Some((channel, number.parse::<u64>().ok()?, text))
+}
