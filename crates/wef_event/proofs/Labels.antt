@@ -11,25 +11,19 @@ use Rattle.wef_base.specs.declared.numbers.TheConstants.{MAX}
 use Rattle.wef_base.specs.declared.tree.Element.{Element}
 use Rattle.wef_xml.specs.Canonical.{canonical, element_text}
 use Rattle.wef_xml.specs.Good.{IsGoodElement}
-use Rattle.wef_xml.specs.Prefixes.{bound_by, is_soap, nine, soap_space}
-use Rattle.wef_xml.specs.Spaces.{is_xml_space, xml_space}
+use Rattle.wef_xml.specs.Prefixes.{bound_by, is_soap, nine}
 use Rattle.wef_xml.specs.declared.bindings.Binding.{Binding}
 use Rattle.wef_tree.proofs.EncodedAgain.{written8}
 use Rattle.wef_elements.specs.Texts.{text_inside}
 use Rattle.wef_elements.proofs.DecimalDigits.{digits_chars, digits_encoded}
-use Rattle.wef_elements.proofs.GoodTexts.{empty_text}
+use Rattle.wef_canonical.specs.Tags.{bare_scope}
 use Rattle.wef_event.specs.Events.{HasTree, event_limit, number_or, text_of_tree}
 use Rattle.wef_event.specs.Paths.{channel_in, field_in, first_child, number_in, number_of_digits, unless_zero}
 use Rattle.wef_event.specs.Reading.{short_text}
-use Rattle.wef_event.specs.Recognising.{IsBareSpace, IsSeen, bare_scope, fields_of, fields_said}
+use Rattle.wef_event.specs.Recognising.{IsSeen, fields_of, fields_said}
 use Rattle.wef_event.specs.declared.recognising.Seen.{Seen}
 use Rattle.wef_event.specs.declared.recognising.System.{System}
 use Rattle.wef_event.proofs.Found.{is_there}
-
--- no namespace
-pub no_space : IsBareSpace []
-unfolding is_xml_space xml_space is_soap soap_space
-no_space = record { allowed = empty_text; no_xml = refl; no_soap = refl }
 
 -- ---- the text of the tree
 

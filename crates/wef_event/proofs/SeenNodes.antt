@@ -15,25 +15,26 @@ use Rattle.wef_base.specs.declared.tree.Element.{Element}
 use Rattle.wef_base.specs.declared.tree.Node.{Node, Chars}
 use Rattle.wef_base.specs.declared.tree.Node.TheVariants.{Element as Child}
 use Rattle.wef_xml.specs.Canonical.{element_text, end_of, name_of, node_of, start_of, text_char, text_of}
-use Rattle.wef_xml.specs.Good.{AreGoodNodes, IsGoodElement, IsXmlText, are_apart, is_text}
+use Rattle.wef_xml.specs.Good.{AreGoodNodes, IsGoodElement, IsLocalName, IsXmlText, are_apart, is_text}
 use Rattle.wef_xml.specs.Prefixes.{Scope, bound_by, inside, new_bindings}
 use Rattle.wef_xml.specs.Spaces.{is_empty, is_xml_space}
 use Rattle.wef_xml.proofs.GoodNodes.{good_child, is_no_text}
-use Rattle.wef_tree.proofs.TextsAgain.{text_chars}
+use Rattle.wef_tree.proofs.TextsAgain.{name_chars, text_chars}
 use Rattle.wef_tree_writing.proofs.WrittenNodes.{node_text}
 use Rattle.wef_elements.specs.Texts.{only_text, text_in, text_inside}
 use Rattle.wef_elements.proofs.Again.{text_again}
 use Rattle.wef_elements.proofs.GoodTrees.{children_of_text}
-use Rattle.wef_event.specs.Passing.{IsPlainRun, IsTextRun, Passes}
+use Rattle.wef_canonical.specs.Passing.{IsPlainRun, IsTextRun, Passes}
+use Rattle.wef_canonical.specs.Tags.{IsStart, bare_scope}
+use Rattle.wef_canonical.specs.declared.tags.Start.{Start}
+use Rattle.wef_canonical.proofs.BareTags.{no_bindings}
+use Rattle.wef_canonical.proofs.Runs.{plain_itself}
 use Rattle.wef_event.specs.Paths.{first_child, if_named}
-use Rattle.wef_event.specs.Recognising.{AreNodes, FindsMore, IsFound, IsInside, IsSeen, IsStart, bare_scope, fields_of, fields_said, node_bytes, nodes_bytes, text_of_first}
-use Rattle.wef_event.specs.declared.canonical_tags.Start.{Start}
+use Rattle.wef_event.specs.Recognising.{AreNodes, FindsMore, IsFound, IsInside, IsSeen, fields_of, fields_said, node_bytes, nodes_bytes, text_of_first}
 use Rattle.wef_event.specs.declared.recognising.Found.{Found}
 use Rattle.wef_event.specs.declared.recognising.Inside.{Inside}
 use Rattle.wef_event.specs.declared.recognising.Seen.{Seen}
-use Rattle.wef_event.proofs.BareTags.{name_again, no_bindings}
 use Rattle.wef_event.proofs.Children.{named_child, text_unnamed}
-use Rattle.wef_event.proofs.Runs.{plain_itself}
 
 -- ---- options
 
@@ -247,6 +248,10 @@ nodes_again : (space : List ℕ) (ns : List Node) → encode_utf8_all (flat_map 
 nodes_again space [] = refl
 nodes_again space (n ∷ ns) =
     encodes-append (node_of n (bare_scope space)) (flat_map (λ n. node_of n (bare_scope space)) ns) ∙ ap (λ (bytes : List ℕ). node_bytes space n ++ bytes) (nodes_again space ns)
+
+-- a name's characters in UTF-8 are the name
+name_again : (name : List ℕ) → IsLocalName name → encode_utf8_all (chars name) ≡ name
+name_again name is = ap encode_utf8_all (name_chars name is) ∙ sym is.spelt
 
 end_bytes : (default space name : List ℕ) → is_xml_space space ≡ false → encode_utf8_all (chars name) ≡ name → encode_utf8_all (end_of (bare_scope default) space name) ≡ codes "</" ++ name ++ codes ">"
 unfolding encode

@@ -1,10 +1,7 @@
 //! Events: records of a channel, as trees of XML and their text.
 #![tactic(auto)]
 
-mod canonical_characters;
-mod canonical_tags;
 pub mod characters;
-mod cuts;
 pub mod laws;
 mod lengths;
 pub mod numbering;

@@ -6,14 +6,15 @@ ghost use Rattle.std.specs.Option.{option_copied, option_map, option_or};
 ghost use Rattle.wef_base.specs.Names.{same};
 ghost use Rattle.wef_base.specs.declared.tree.Element.{Element};
 ghost use Rattle.wef_elements.specs.Texts.{text_inside};
+ghost use Rattle.wef_canonical.specs.Tags.{IsBareSpace};
 ghost use Rattle.wef_event.specs.Paths.{if_named};
-ghost use Rattle.wef_event.specs.Recognising.{FindsMore, HasFields, IsBareSpace, IsFound, IsInside, IsLabel, IsOf, IsSeen, fields_of, fields_said};
+ghost use Rattle.wef_event.specs.Recognising.{FindsMore, HasFields, IsFound, IsInside, IsLabel, IsOf, IsSeen, fields_of, fields_said};
 
-use crate::canonical_characters::{behind_plain, behind_text};
-use crate::canonical_tags::{behind_end, start_at};
-use crate::cuts::{before, strip};
 use crate::plain::EVENT_LIMIT;
 use wef_base::numbers::{MAX, read_plain_number};
+use wef_canonical::characters::{behind_plain, behind_text};
+use wef_canonical::cuts::{before, strip};
+use wef_canonical::tags::{behind_end, start_at};
 
 /// What the text of an event says: the text of its channel, and its number.
 #[derive(Clone, Copy, Debug)]

@@ -4,8 +4,9 @@ use Rattle.std.proofs.lemmas.Bool.{and_parts}
 use Rattle.wef_base.specs.Names.{channel_name, same}
 use Rattle.wef_base.specs.Numbers.{plain_number}
 use Rattle.wef_base.specs.declared.numbers.TheConstants.{MAX}
+use Rattle.wef_canonical.proofs.BareTags.{no_space}
 use Rattle.wef_event.proofs.KeptEvents.{kept_is_read}
-use Rattle.wef_event.proofs.Labels.{no_space, none_left, seen_event}
+use Rattle.wef_event.proofs.Labels.{none_left, seen_event}
 use Rattle.wef_event.proofs.recognising.recognised.Goals as goal
 
 pub element_at-requires : goal.element_at-requires

@@ -1,0 +1,2 @@
+pub mod BareTags
+pub mod Runs

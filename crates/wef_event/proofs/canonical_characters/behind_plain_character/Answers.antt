@@ -1,7 +1,0 @@
-use Rattle.std.proofs.Common.{sym, ◌∙◌}
-use Rattle.wef_event.proofs.Runs.{ascii_passed}
-use Rattle.wef_event.proofs.canonical_characters.behind_plain_character.Goals as goal
-
-pub returns-then-is_plain : goal.returns-then-is_plain
-returns-then-is_plain c =
-    ascii_passed c.in-Some.first c.args.text.now c.in-Some.rest.now (sym c.is_plain.ensures ∙ c.if-is_plain.true) c.in-Some.ensures.1 c.in-Some.ensures.0

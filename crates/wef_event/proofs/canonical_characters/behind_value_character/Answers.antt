@@ -1,5 +1,0 @@
-use Rattle.wef_event.proofs.Runs.{plain_is_value}
-use Rattle.wef_event.proofs.canonical_characters.behind_value_character.Goals as goal
-
-pub returns-in-Some : goal.returns-in-Some
-returns-in-Some c = plain_is_value _ _ c.in-Some.ensures

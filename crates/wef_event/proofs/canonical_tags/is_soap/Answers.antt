@@ -1,6 +1,0 @@
-use Rattle.wef_xml.specs.Prefixes.{is_soap, soap_space}
-use Rattle.wef_event.proofs.canonical_tags.is_soap.Goals as goal
-
-pub returns : goal.returns
-unfolding is_soap soap_space
-returns c = c.eq.ensures

@@ -1,6 +1,0 @@
-use Rattle.wef_xml.specs.Spaces.{is_xmlns}
-use Rattle.wef_event.proofs.canonical_tags.is_xmlns.Goals as goal
-
-pub returns : goal.returns
-unfolding is_xmlns
-returns c = c.eq.ensures

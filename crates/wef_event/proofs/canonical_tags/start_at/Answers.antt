@@ -1,8 +1,0 @@
-use Rattle.wef_event.proofs.BareTags.{start_begins}
-use Rattle.wef_event.proofs.canonical_tags.start_at.Goals as goal
-
-pub returns : goal.returns
-returns c =
-    start_begins c.args.default.now c.args.text.now c.in_ok-named.named.now c.in_ok-behind_name.behind_name.now c.in_ok-space.given.now
-    (record { name = c.in_ok-name.name; space = c.in_ok-space.space; rest = c.in_ok-rest.rest })
-    c.in_ok-named.ensures c.in_ok-behind_name.ensures c.in_ok-name.ensures c.in_ok-space.ensures c.in_ok-rest.ensures
