@@ -6,13 +6,14 @@ use Rattle.std.specs.declared.result.Result.TheVariants.{Ok, Err}
 use Rattle.wef_replay.specs.Schedule.{schedule_of}
 use Rattle.wef_replay.specs.declared.lines.Line.{Line}
 use Rattle.wef_replay.specs.declared.schedule.ScheduleFault as fault
-use Rattle.wef_cli.specs.Checking.{CheckEnds, WroteAnswers, checked, lines_of}
+use Rattle.wef_commands.specs.Checking.{CheckEnds, WroteAnswers, checked, lines_of}
+use Rattle.wef_commands.specs.Endings.{HasFailed, IsToldAs, Told}
+use Rattle.wef_commands.specs.Writing.{EndsJudging, IsBad, WriteEnds, bad_line, events_of}
+use Rattle.wef_commands.specs.declared.ending.Ending.{Ending}
+use Rattle.wef_commands.specs.declared.ending.Ending.TheVariants as ends
 use Rattle.wef_cli.specs.Complete.{BadLinesAreTold, EndsAs, EndsAsCalledFor, ending_checked, ending_for}
 use Rattle.wef_cli.specs.declared.command.Command.TheVariants.{Check, Replay}
-use Rattle.wef_cli.specs.Endings.{HasFailed, IsBadAt, IsToldAs, IsTooLong, ReplayEnds, Told, WroteTrail}
-use Rattle.wef_cli.specs.Writing.{EndsJudging, IsBad, WriteEnds, bad_line, events_of}
-use Rattle.wef_cli.specs.declared.ending.Ending.{Ending}
-use Rattle.wef_cli.specs.declared.ending.Ending.TheVariants as ends
+use Rattle.wef_cli.specs.Replaying.{IsBadAt, IsTooLong, ReplayEnds, WroteTrail}
 
 told_at : (told : Option (List ℕ)) (bytes : List ℕ) (P : List ℕ → Type 0) → told ≡ Some bytes → IfSome told P → P bytes
 told_at told bytes P is h = subst (λ (o : Option (List ℕ)). IfSome o P) is h

@@ -15,18 +15,18 @@ use Rattle.wef_ports.specs.Telling as ports
 use Rattle.wef_source_log.specs.Forms as source
 use Rattle.wef_source_log.specs.declared.faults.LogFault.{LogFault}
 use Rattle.wef_source_log.specs.declared.faults.LogFault.TheVariants as log_faults
-use Rattle.wef_cli.specs.Adding.{Adds, added_text}
-use Rattle.wef_cli.specs.Calling.{CallEnds, Starts, WroteOut, named_ending, store_ending}
-use Rattle.wef_cli.specs.Collecting.{CollectEnds}
+use Rattle.wef_commands.specs.Adding.{Adds, added_text}
+use Rattle.wef_commands.specs.Calling.{CallEnds, Starts, WroteOut, named_ending, store_ending}
+use Rattle.wef_commands.specs.Endings.{Told}
+use Rattle.wef_commands.specs.Listing.{Lists, WroteList}
+use Rattle.wef_commands.specs.Removing.{Ends, ended_text}
+use Rattle.wef_commands.specs.Writing.{EndsBefore, StartsLog, WriteEnds, WritesAll, WritesEvent, Wrote, log_ending, write_ending, written_text}
+use Rattle.wef_commands.specs.Showing.{Reports}
+use Rattle.wef_commands.specs.declared.ending.Ending.{Ending}
+use Rattle.wef_commands.specs.declared.ending.Ending.TheVariants as ends
+use Rattle.wef_running.specs.Collecting.{CollectEnds}
 use Rattle.wef_cli.specs.Complete.{FailsWithCause}
-use Rattle.wef_cli.specs.Endings.{Told}
-use Rattle.wef_cli.specs.Listing.{Lists, WroteList}
-use Rattle.wef_cli.specs.Removing.{Ends, ended_text}
-use Rattle.wef_cli.specs.Writing.{EndsBefore, StartsLog, WriteEnds, WritesAll, WritesEvent, Wrote, log_ending, write_ending, written_text}
-use Rattle.wef_cli.specs.Showing.{Reports}
 use Rattle.wef_cli.specs.declared.command.Command.TheVariants as the
-use Rattle.wef_cli.specs.declared.ending.Ending.{Ending}
-use Rattle.wef_cli.specs.declared.ending.Ending.TheVariants as ends
 use Rattle.wef_cli.proofs.ForwardsCaused.{forwarding_caused}
 
 abbrev is_failed : Ending → Bool

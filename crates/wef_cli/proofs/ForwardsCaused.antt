@@ -19,10 +19,10 @@ use Rattle.wef_source.specs.Machine.{End}
 use Rattle.wef_source.specs.declared.faults.SourceFault.{SourceFault}
 use Rattle.wef_source.specs.declared.faults.SourceFault.TheVariants as faults
 use Rattle.wef_source_log.specs.Forms.{AreFormed}
-use Rattle.wef_cli.specs.Endings.{Told}
-use Rattle.wef_cli.specs.Forwarding.{AreSent, AsksAndSends, EndsBefore, ForwardEnds, IsAsked, IsSent, Plan, Running, SendsAll, SendsFrom, StartsSource, behind, behind_all, front_ending, line_of, next, source_ending, unless_gone}
-use Rattle.wef_cli.specs.declared.ending.Ending.{Ending}
-use Rattle.wef_cli.specs.declared.ending.Ending.TheVariants as ends
+use Rattle.wef_commands.specs.Endings.{Told}
+use Rattle.wef_commands.specs.declared.ending.Ending.{Ending}
+use Rattle.wef_commands.specs.declared.ending.Ending.TheVariants as ends
+use Rattle.wef_running.specs.Forwarding.{AreSent, AsksAndSends, EndsBefore, ForwardEnds, IsAsked, IsSent, Plan, Running, SendsAll, SendsFrom, StartsSource, behind, behind_all, front_ending, line_of, next, source_ending, unless_gone}
 
 abbrev is_failed : Ending → Bool
 is_failed ends.StoreFailed = true

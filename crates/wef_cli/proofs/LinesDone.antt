@@ -4,7 +4,7 @@ use Rattle.std.specs.Prelude.{Option}
 use Rattle.wef_replay.specs.declared.lines.Line.{Line}
 use Rattle.wef_machine.specs.States.{State}
 use Rattle.wef_machine.specs.Steps.{printed_by, step, trail_from}
-use Rattle.wef_cli.specs.Streams.{IsWrittenUpTo}
+use Rattle.wef_commands.specs.Streams.{IsWrittenUpTo}
 
 -- once a line is done, what it printed waits, and else what is left stays as it was
 pub line_done : (a b : Option (List ℕ)) (whole waiting waiting' : List ℕ) (state state' : State) (line : Line) (lines rest : List Line) → lines ≡ line ∷ rest

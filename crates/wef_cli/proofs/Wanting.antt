@@ -5,12 +5,12 @@ use Rattle.std.specs.Io.KnownBytes.{Keeps}
 use Rattle.std.specs.Option.{option_and_then, option_map}
 use Rattle.wef_base.specs.Names.{channel_name, source_name, subscription_name}
 use Rattle.wef_keeper.specs.Keeping.{Store}
+use Rattle.wef_commands.specs.Endings.{IsUnwritten, Told}
+use Rattle.wef_commands.specs.declared.ending.Ending.TheVariants as ends
 use Rattle.wef_cli.specs.Command.{MayWantMemory, address_of, collect_of, events_of, forward_of, number_of, remove_of}
-use Rattle.wef_cli.specs.Endings.{IsUnwritten, Told}
 use Rattle.wef_cli.specs.Runs.{AreUnused, Peers, RunEnds}
 use Rattle.wef_cli.specs.declared.command.Command.{Command}
 use Rattle.wef_cli.specs.declared.command.Command.TheVariants as the
-use Rattle.wef_cli.specs.declared.ending.Ending.TheVariants as ends
 
 -- what a word says, if anything, and what is made of it
 steps : {A : Type 0} (o : Option A) (more : A → Option Command) → ((a : A) → MayWantMemory (more a)) → MayWantMemory (option_and_then more o)

@@ -11,14 +11,14 @@ use Rattle.wef_keeper.specs.Keeping.{Store}
 use Rattle.wef_keeper.specs.Rows.{Rows}
 use Rattle.wef_collector_rows.specs.Forms.{AreFormed}
 use Rattle.wef_source_log.specs.Forms as log
+use Rattle.wef_commands.specs.Checking.{checked}
+use Rattle.wef_commands.specs.Endings.{HasFailed, IsToldAs, IsUnwritten, Told}
+use Rattle.wef_commands.specs.Writing.{bad_line}
+use Rattle.wef_commands.specs.declared.ending.Ending.{Ending}
+use Rattle.wef_commands.specs.declared.ending.Ending.TheVariants as ends
 use Rattle.wef_cli.specs.declared.command.Command.{Command}
 use Rattle.wef_cli.specs.declared.command.Command.TheVariants.{Check, Forward, Replay, Write}
-use Rattle.wef_cli.specs.Checking.{checked}
-use Rattle.wef_cli.specs.Endings.{HasFailed, IsToldAs, IsUnwritten, Told}
 use Rattle.wef_cli.specs.Runs.{Peers, RunEnds}
-use Rattle.wef_cli.specs.Writing.{bad_line}
-use Rattle.wef_cli.specs.declared.ending.Ending.{Ending}
-use Rattle.wef_cli.specs.declared.ending.Ending.TheVariants as ends
 
 -- the ending that a schedule calls for
 abbrev pub ending_for : Result (List Line) fault.ScheduleFault → Ending

@@ -3,20 +3,21 @@ use Rattle.std.specs.Prelude.{◌≡◌, ℕ, ◌⊎◌, Option, Some, None}
 use Rattle.std.specs.Io.KnownBytes.{Keeps}
 use Rattle.wef_keeper.specs.Keeping.{Store}
 use Rattle.wef_ports.specs.Telling as ports
-use Rattle.wef_cli.specs.Adding.{AddEnds}
-use Rattle.wef_cli.specs.Calling.{IsUndone}
-use Rattle.wef_cli.specs.Checking.{CheckEnds}
-use Rattle.wef_cli.specs.Collecting.{CollectEnds}
-use Rattle.wef_cli.specs.Endings.{IsUnwritten, ReplayEnds, Told}
-use Rattle.wef_cli.specs.Forwarding.{ForwardEnds}
-use Rattle.wef_cli.specs.Listing.{ListEnds}
-use Rattle.wef_cli.specs.Removing.{RemoveEnds}
-use Rattle.wef_cli.specs.Writing.{WriteEnds}
-use Rattle.wef_cli.specs.Showing.{EventsEnds, ShowEnds}
+use Rattle.wef_commands.specs.Adding.{AddEnds}
+use Rattle.wef_commands.specs.Calling.{IsUndone}
+use Rattle.wef_commands.specs.Checking.{CheckEnds}
+use Rattle.wef_commands.specs.Endings.{IsUnwritten, Told}
+use Rattle.wef_commands.specs.Listing.{ListEnds}
+use Rattle.wef_commands.specs.Removing.{RemoveEnds}
+use Rattle.wef_commands.specs.Writing.{WriteEnds}
+use Rattle.wef_commands.specs.Showing.{EventsEnds, ShowEnds}
+use Rattle.wef_commands.specs.declared.ending.Ending.{Ending}
+use Rattle.wef_commands.specs.declared.ending.Ending.TheVariants as ends
+use Rattle.wef_running.specs.Collecting.{CollectEnds}
+use Rattle.wef_running.specs.Forwarding.{ForwardEnds}
+use Rattle.wef_cli.specs.Replaying.{ReplayEnds}
 use Rattle.wef_cli.specs.declared.command.Command.{Command}
 use Rattle.wef_cli.specs.declared.command.Command.TheVariants as the
-use Rattle.wef_cli.specs.declared.ending.Ending.{Ending}
-use Rattle.wef_cli.specs.declared.ending.Ending.TheVariants as ends
 
 -- What is told of the connections, before a run and after it, and the moment of the clock: the front takes connections, and the
 -- link makes them.

@@ -2,23 +2,11 @@
 //! input, an output and a place for messages, and the one call that does all of it.
 #![tactic(auto)]
 
-mod adding;
-mod calling;
-mod checking;
-mod collecting;
 mod command;
-mod ending;
-mod events;
-mod forwarding;
 pub mod laws;
-mod listing;
-mod removing;
 mod runs;
-mod showing;
-mod streams;
 mod top;
-mod writing;
 
 pub use command::Command;
-pub use ending::Ending;
 pub use top::run;
+pub use wef_commands::Ending;

@@ -7,12 +7,13 @@ ghost use Rattle.wef_replay.specs.Good.{AreGood, no_names};
 ghost use Rattle.wef_machine.specs.Laws.{AreKept, AreSafe};
 ghost use Rattle.wef_machine.specs.States.{start};
 ghost use Rattle.wef_machine.specs.Steps.{AreAdmitted, admits, printed_by, step, trail, trail_from};
-ghost use Rattle.wef_cli.specs.Streams.{IsWrittenUpTo, StopsRun, WritesPart};
+ghost use Rattle.wef_commands.specs.Streams.{IsWrittenUpTo, WritesPart};
+ghost use Rattle.wef_cli.specs.Replaying.{StopsRun};
 
-use crate::streams::write_whole;
 use std::alloc::Global;
 use std::mem;
 use wef_base::{Bytes, IoFailed, List, Sink};
+use wef_commands::write_whole;
 use wef_replay::Line;
 use wef_world::{Shipped, World, WorldFault};
 

@@ -2,30 +2,25 @@
 
 ghost use Rattle.std.specs.Prelude.{◌≡◌, Some, IfOk, IfErr};
 ghost use Rattle.wef_replay.specs.Good.{AreGood, no_names};
+ghost use Rattle.wef_commands.specs.Endings.{IsToldAs, Told, WroteMessage, status_of};
+ghost use Rattle.wef_commands.specs.declared.ending.Ending as the_ending;
 ghost use Rattle.wef_cli.specs.Command.{HasHost, command_of};
-ghost use Rattle.wef_cli.specs.Endings.{EndsReading, HasLines, IsToldAs, Told, ReplayEnds, WroteMessage, status_of};
+ghost use Rattle.wef_cli.specs.Replaying.{EndsReading, HasLines, ReplayEnds};
 ghost use Rattle.wef_cli.specs.Runs.{RunEnds};
-ghost use Rattle.wef_cli.specs.declared.ending.Ending as the_ending;
 
-use crate::adding::add;
-use crate::checking::check;
-use crate::collecting::collect;
 use crate::command::Command;
-use crate::ending::Ending;
-use crate::events::events;
-use crate::forwarding::forward;
-use crate::listing::list;
-use crate::removing::remove;
 use crate::runs::{RunFault, run_lines};
-use crate::showing::show;
-use crate::streams::{INPUT_LIMIT, InputFault, read_whole};
-use crate::writing::write;
 use std::alloc::Global;
 use wef_base::{List, Sink, Source, Text};
+use wef_commands::events::events;
+use wef_commands::{
+    Ending, INPUT_LIMIT, InputFault, add, check, list, read_whole, remove, show, write,
+};
 use wef_connections::{Front, Link};
 use wef_keeper::Keeper;
 use wef_ports::Clock;
 use wef_replay::{Line, ScheduleFault, read_schedule};
+use wef_running::{collect, forward};
 
 /// Runs `wef` with the words that follow the program's name, and answers the keeper that it was handed
 /// and the exit status.

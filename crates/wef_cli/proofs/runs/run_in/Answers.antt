@@ -3,9 +3,9 @@ use Rattle.std.proofs.lemmas.List.{nil_from_length}
 use Rattle.std.specs.Io.KnownBytes.{Appends}
 use Rattle.wef_machine.specs.States.{State}
 use Rattle.wef_machine.specs.Steps.{AreAdmitted, trail_from}
-use Rattle.wef_cli.specs.Streams.{WritesPart}
+use Rattle.wef_commands.specs.Streams.{WritesPart}
+use Rattle.wef_commands.proofs.Written.{all_written, further, part, part_further, whole_is_part}
 use Rattle.wef_cli.proofs.LinesDone.{line_done, lines_done}
-use Rattle.wef_cli.proofs.Written.{all_written, further, part, part_further, whole_is_part}
 use Rattle.wef_cli.proofs.runs.run_in.Goals as goal
 
 -- memory is wanting

@@ -1,6 +1,6 @@
 use Rattle.std.proofs.Common.{◌++◌, ◌≤◌}
 use Rattle.wef_machine.specs.Steps.{AreAdmitted, trail_from}
-use Rattle.wef_cli.specs.Streams.{IsWrittenUpTo}
+use Rattle.wef_commands.specs.Streams.{IsWrittenUpTo}
 use Rattle.wef_cli.proofs.runs.run_in.Given as goal
 
 abbrev pub invariant-loop-line : goal.invariant-loop-line

@@ -1,6 +1,0 @@
-use Rattle.std.proofs.Common.{take}
-use Rattle.wef_cli.proofs.Checked.{HasNoEnd}
-use Rattle.wef_cli.proofs.checking.cut.Given as goal
-
-abbrev pub invariant-loop-at : goal.invariant-loop-at
-invariant-loop-at l = HasNoEnd (take l.at l.text)

@@ -1,6 +1,0 @@
-use Rattle.std.proofs.Common.{inr}
-use Rattle.wef_cli.proofs.writing.write_all.Goals as goal
-
-pub returns : goal.returns
-returns g c = rw c.into_keeper.ensures
-    (inr (c.in-Ok.log.boot, g.K.Keeper.store c.in-Ok.log.keeper, (c.in-Ok.ensures.call, tt), c.write_lines-ending.ensures))

@@ -1,0 +1,92 @@
+-- What is said of held events once they are written, or can't be.
+use Rattle.std.proofs.Common.{◌≡◌, ◌∙◌, ℕ, true, List, [], ◌∷◌, ◌++◌, map, refl, ap, sym, append_assoc, inr}
+use Rattle.std.proofs.KnownBytes.{Keeps-refl}
+use Rattle.std.specs.Prelude.{Option, Some, None, IfSome, Result, codes}
+use Rattle.std.specs.declared.result.Result.TheVariants.{Ok, Err}
+use Rattle.std.specs.List.{flat_map}
+use Rattle.wef_collector_rows.specs.Answers.{RefusesUnknown, is_known}
+use Rattle.wef_collector_rows.specs.Faults.{collector_store}
+use Rattle.wef_collector_rows.specs.Forms.{AreFormed}
+use Rattle.wef_collector_rows.specs.Held.{event_of_row, held_after, own_event}
+use Rattle.wef_collector_rows.specs.Keys.{held_key}
+use Rattle.wef_collector_rows.specs.Standing.{standing}
+use Rattle.wef_collector_rows.specs.declared.faults.CollectorFault.{CollectorFault}
+use Rattle.wef_collector_rows.specs.declared.faults.CollectorFault.TheVariants as faults
+use Rattle.wef_ids.specs.declared.ids.Ids.{Ids}
+use Rattle.wef_keeper.proofs.Told.{told_any, told_both}
+use Rattle.wef_keeper.specs.Access.{Reads}
+use Rattle.wef_keeper.specs.Calls.{fails}
+use Rattle.wef_keeper.specs.Keeping.{Store}
+use Rattle.wef_keeper.specs.Rows.{Rows}
+use Rattle.wef_keeper.specs.Sections.{rows_under}
+use Rattle.wef_keeper.specs.declared.keys.Depth.TheVariants.{Channel}
+use Rattle.wef_keeper.specs.declared.keys.Row.{Row}
+use Rattle.wef_machine.specs.Printed.{event_line, events_text}
+use Rattle.wef_commands.proofs.PagesWritten.{no_part}
+use Rattle.wef_commands.specs.Calling.{Starts, named_ending}
+use Rattle.wef_commands.specs.Endings.{Told}
+use Rattle.wef_commands.specs.Pages.{end_line, row_line, rows_text}
+use Rattle.wef_commands.specs.Showing.{EndsHeld, EndsWriting, EventsEnds, TellsHeld, WritesHeld, WroteUpTo, held_text, is_store_failed}
+use Rattle.wef_commands.specs.declared.ending.Ending.{Ending}
+use Rattle.wef_commands.specs.declared.ending.Ending.TheVariants as ends
+
+-- ---- the text
+
+-- an event's line doesn't say its channel
+same_line : (c : List ℕ) (row : Row) → row_line row ≡ event_line (event_of_row c row)
+unfolding event_line
+same_line c row = refl
+
+same_lines : (c : List ℕ) (rows : List Row) → flat_map row_line rows ≡ flat_map event_line (map (event_of_row c) rows)
+same_lines c [] = refl
+same_lines c (row ∷ rows) = λ i. same_line c row i ++ same_lines c rows i
+
+-- the lines of the rows of a channel are its held events
+pub same_text : (rows : Rows) (u s c : List ℕ) → rows_text (rows_under Channel (held_key u s c 0) rows) ≡ held_text rows u s c
+unfolding events_text
+same_text rows u s c =
+    ap (λ (text : List ℕ). text ++ end_line) (same_lines c (rows_under Channel (held_key u s c 0) rows))
+    ∙ sym (append_assoc (flat_map event_line (held_after rows u s c 0)) (codes "end") (10 ∷ []))
+
+-- ---- the endings
+
+tells_held : (u s c : List ℕ) (ending : Ending) (out : Told) (rows : Rows) → EndsWriting ending out → is_known (standing rows u) ≡ true → WroteUpTo (held_text rows u s c) ending out
+    → TellsHeld u s c ending out rows
+tells_held u s c ends.Done out rows so known wrote = (known, wrote)
+tells_held u s c (ends.Unknown name) out rows so known wrote = absurd so
+tells_held u s c _ out rows so known wrote = wrote
+
+ends_held : (u : List ℕ) (ending : Ending) (out : Told) → EndsWriting ending out → EndsHeld u ending out
+ends_held u (ends.Unknown name) out so = absurd so
+ends_held u _ out so = so
+
+-- what is held is written for a subscription that there is
+pub known_written : (u s c : List ℕ) (ending : Ending) (out : Told) (before now : Store) → Reads AreFormed (is_store_failed ending) before now
+    → IfSome now.rows (λ rows. is_known (standing rows u) ≡ true) → IfSome now.rows (λ rows. WroteUpTo (held_text rows u s c) ending out) → EndsWriting ending out
+    → WritesHeld u s c ending out before now
+known_written u s c ending out before now reads known wrote so = record {
+  reads = reads;
+  tells = told_both now.rows (λ rows. is_known (standing rows u) ≡ true) (λ rows. WroteUpTo (held_text rows u s c) ending out) (TellsHeld u s c ending out) known wrote
+      (λ rows. tells_held u s c ending out rows so);
+  ends_so = ends_held u ending out so;
+}
+
+-- nothing was written
+abbrev pub unchanged : Option (List ℕ) → ℕ → Told
+unchanged taken faults = record { before = taken; after = taken; faults_before = faults; faults_after = faults }
+
+-- no subscription of the name was found, or none could be looked for
+pub not_known : (u s c : List ℕ) (fault : CollectorFault) (taken : Option (List ℕ)) (count : ℕ) (before now : Store)
+    → Reads AreFormed (fails {T = Unit {0}} collector_store (Err fault)) before now → RefusesUnknown fault now.rows u
+    → WritesHeld u s c (named_ending u fault) (unchanged taken count) before now
+not_known u s c faults.NoMemory taken count before now reads refused =
+    record { reads = reads; tells = told_any now.rows (TellsHeld u s c ends.NoMemory (unchanged taken count)) (λ rows. no_part taken (held_text rows u s c)); ends_so = tt }
+not_known u s c faults.Failed taken count before now reads refused =
+    record { reads = reads; tells = told_any now.rows (TellsHeld u s c ends.StoreFailed (unchanged taken count)) (λ rows. no_part taken (held_text rows u s c)); ends_so = tt }
+not_known u s c faults.NoSubscription taken count before now reads refused = record { reads = reads; tells = refused; ends_so = (refl, Keeps-refl taken) }
+not_known u s c _ taken count before now reads refused = absurd refused
+
+-- behind a start
+pub events_written : (u s c : List ℕ) (ending : Ending) (out : Told) (before mid now : Store) (ids : Ids) → Starts (Ok ids) before mid → WritesHeld u s c ending out mid now
+    → EventsEnds u s c ending out before now
+events_written u s c ending out before mid now ids start call = inr (inr (record { mid = mid; ids = ids; start = start; call = call }))

@@ -1,0 +1,78 @@
+-- Held events, written page by page.
+use Rattle.std.proofs.Common.{◌≡◌, ◌∙◌, ℕ, List, [], ◌∷◌, ◌++◌, take, refl, ap, sym, subst, append_assoc, append-nil, inl, inr}
+use Rattle.std.specs.Prelude.{Option, None, Some, IfSome}
+use Rattle.std.specs.List.{flat_map}
+use Rattle.std.specs.Io.KnownBytes.{Appends, Keeps}
+use Rattle.wef_keeper.proofs.Told.{told_map, told_still}
+use Rattle.wef_keeper.specs.Keeping.{Stays}
+use Rattle.wef_keeper.specs.Rows.{Rows}
+use Rattle.wef_keeper.specs.declared.keys.Row.{Row}
+use Rattle.wef_commands.proofs.Written.{both, further, part, part_further, unwritten}
+use Rattle.wef_commands.specs.Calling.{WroteOut}
+use Rattle.wef_commands.specs.Pages.{WroteLast, end_line, row_line, rows_text}
+use Rattle.wef_commands.specs.Showing.{WroteUpTo}
+use Rattle.wef_commands.specs.Streams.{IsWrittenUpTo, WritesPart}
+use Rattle.wef_commands.specs.declared.ending.Ending.{Ending}
+use Rattle.wef_commands.specs.declared.ending.Ending.TheVariants as ends
+
+-- the text of a page and of what stands behind it
+pub page_first : (page rest : List Row) → rows_text (page ++ rest) ≡ flat_map row_line page ++ rows_text rest
+page_first [] rest = refl
+page_first (row ∷ page) rest =
+    append_assoc (row_line row) (flat_map row_line (page ++ rest)) end_line ∙ ap (λ (text : List ℕ). row_line row ++ text) (page_first page rest)
+    ∙ sym (append_assoc (row_line row) (flat_map row_line page) (rows_text rest))
+
+-- what is left, by the text of the page that comes next
+pub page_left : (all page rest : List Row) (text : List ℕ) → all ≡ page ++ rest → text ≡ flat_map row_line page → rows_text all ≡ text ++ rows_text rest
+page_left all page rest text splits is = ap rows_text splits ∙ page_first page rest ∙ ap (λ (t : List ℕ). t ++ rows_text rest) (sym is)
+
+-- and by that of the last page
+pub last_left : (all page : List Row) (text : List ℕ) → all ≡ page → text ≡ flat_map row_line page → rows_text all ≡ text ++ end_line
+last_left all page text whole is = ap rows_text whole ∙ ap (λ (t : List ℕ). t ++ end_line) (sym is)
+
+-- nothing was written of a text yet
+pub no_part : (a : Option (List ℕ)) (text : List ℕ) → WritesPart a a text
+no_part a text = part a a text text (unwritten a text)
+
+-- once a page is written, what is left is what stands behind it
+pub page_written : (a b c : Option (List ℕ)) (whole waiting rest : List ℕ) → IsWrittenUpTo a b whole (waiting ++ rest) → Appends b c waiting → IsWrittenUpTo a c whole rest
+page_written a b c whole waiting rest first next =
+    further a b c whole waiting [] rest first (record { front = waiting; written = next; whole = append-nil waiting })
+
+-- all that was left
+left_written : (a b c : Option (List ℕ)) (whole left : List ℕ) → IsWrittenUpTo a b whole left → Appends b c left → Appends a c whole
+left_written a b c whole left first next = subst (Appends a c) first.whole (both a b c first.front left first.written next)
+
+-- a part of what was left
+left_in_part : (a b c : Option (List ℕ)) (whole left : List ℕ) → IsWrittenUpTo a b whole left → WritesPart b c left → WritesPart a c whole
+left_in_part a b c whole left first next = part_further a b c whole left [] (subst (IsWrittenUpTo a b whole) (sym (append-nil left)) first) next
+
+-- what leaves the known bytes alone leaves what was written
+kept_still : (a b c : Option (List ℕ)) (text : List ℕ) → Appends a b text → Keeps b c → Appends a c text
+kept_still None b c text written kept = tt
+kept_still (Some x) None c text written kept = absurd written
+kept_still (Some x) (Some y) None text written kept = absurd kept
+kept_still (Some x) (Some y) (Some z) text written kept = kept ∙ written
+
+kept_part : (a b c : Option (List ℕ)) (text : List ℕ) → WritesPart a b text → Keeps b c → WritesPart a c text
+kept_part a b c text (k, written) kept = (k, kept_still a b c (take k text) written kept)
+
+last_out : (ending : Ending) (whole left : List ℕ) (a b c : Option (List ℕ)) (f g h : ℕ) → IsWrittenUpTo a b whole left
+    → WroteOut left ending (record { before = b; after = c; faults_before = g; faults_after = h }) → WroteUpTo whole ending (record { before = a; after = c; faults_before = f; faults_after = h })
+last_out ends.Done whole left a b c f g h first wrote = left_written a b c whole left first wrote
+last_out ends.OutputFailed whole left a b c f g h first wrote = left_in_part a b c whole left first wrote.1
+last_out _ whole left a b c f g h first wrote = absurd wrote
+
+-- what was left is written, as far as the ending says
+pub last_written : (ending : Ending) (whole left : List ℕ) (a b c : Option (List ℕ)) (f g h : ℕ) → IsWrittenUpTo a b whole left
+    → WroteLast left ending (record { before = b; after = c; faults_before = g; faults_after = h }) → WroteUpTo whole ending (record { before = a; after = c; faults_before = f; faults_after = h })
+last_written ending whole left a b c f g h first (inl wrote) = last_out ending whole left a b c f g h first wrote
+last_written ending whole left a b c f g h first (inr (is, unwritten)) =
+    subst (λ (e : Ending). WroteUpTo whole e (record { before = a; after = c; faults_before = f; faults_after = h })) (sym is) (kept_part a b c whole (part a b whole left first) unwritten)
+
+-- where it stops, a front part was written, by the rows that are still told
+pub stopped : (a b : Option (List ℕ)) (before now : Option Rows) (whole left : Rows → List ℕ) → Stays before now → IfSome before (λ rows. IsWrittenUpTo a b (whole rows) (left rows))
+    → IfSome now (λ rows. WritesPart a b (whole rows))
+stopped a b before now whole left stays written =
+    told_map now (λ rows. IsWrittenUpTo a b (whole rows) (left rows)) (λ rows. WritesPart a b (whole rows)) (λ rows. part a b (whole rows) (left rows))
+    (told_still before now (λ rows. IsWrittenUpTo a b (whole rows) (left rows)) stays written)

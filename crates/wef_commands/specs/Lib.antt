@@ -1,0 +1,10 @@
+pub mod Adding
+pub mod Calling
+pub mod Checking
+pub mod Endings
+pub mod Listing
+pub mod Pages
+pub mod Removing
+pub mod Showing
+pub mod Streams
+pub mod Writing

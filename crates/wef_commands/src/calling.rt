@@ -1,0 +1,47 @@
+//! What is told of a call of the collector.
+
+ghost use Rattle.std.specs.Prelude.{◌≡◌};
+ghost use Rattle.wef_commands.specs.Calling as spec;
+
+use crate::ending::Ending;
+use crate::streams::write_whole;
+use wef_base::{Sink, SubId, Text};
+use wef_collector::CollectorFault;
+
+/// Writes the text of what is done.
+pub fn write_done<O: Sink>(text: &Text, out: &mut O) -> Ending
+    ensures { spec.WroteOut text.now result
+        (record { before = O.taken out.old; after = O.taken out.new; faults_before = O.faults out.old; faults_after = O.faults out.new }) }
+{
+    match write_whole(out, text.as_str().as_bytes()) {
+        Ok(()) => Ending::Done,
+        Err(_) => Ending::OutputFailed,
+    }
+}
+
+/// The ending that tells of a refusal that is the store's, or the start's.
+pub fn store_ending(fault: CollectorFault) -> Ending
+    ensures { result ≡ spec.store_ending fault }
+{
+    match fault {
+        CollectorFault::NoMemory => Ending::NoMemory,
+        CollectorFault::Full => Ending::Full,
+        _ => Ending::StoreFailed,
+    }
+}
+
+/// The ending that tells of a refusal of a call that names a subscription.
+pub fn named_ending(name: SubId, fault: CollectorFault) -> Ending
+    ensures { result ≡ spec.named_ending name fault }
+{
+    match fault {
+        CollectorFault::NoSubscription => Ending::Unknown(name),
+        CollectorFault::Ended => Ending::Already(name),
+        CollectorFault::Exists => Ending::Exists(name),
+        CollectorFault::TooMany => Ending::TooMany,
+        CollectorFault::NoMemory => Ending::NoMemory,
+        CollectorFault::Full => Ending::Full,
+        CollectorFault::Failed => Ending::StoreFailed,
+        CollectorFault::NotWellFormed => Ending::StoreFailed,
+    }
+}

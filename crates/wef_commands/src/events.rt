@@ -1,0 +1,172 @@
+//! `events`: the events that are held of a source's channel.
+
+ghost use Rattle.std.specs.Prelude.{◌≡◌, ◌++◌, IfOk, IfSome, OnOk};
+ghost use Rattle.std.specs.List.{flat_map};
+ghost use Rattle.wef_collector_reports.specs.Report.{last_row_number};
+ghost use Rattle.wef_collector_rows.specs.Forms.{AreFormed};
+ghost use Rattle.wef_keeper.specs.Access as access;
+ghost use Rattle.wef_keeper.specs.Sections.{rows_under};
+ghost use Rattle.wef_keeper.specs.declared.keys.Depth.TheVariants.{Channel};
+ghost use Rattle.wef_commands.specs.Pages as pages;
+ghost use Rattle.wef_commands.specs.Showing as spec;
+
+use crate::calling::{named_ending, store_ending, write_done};
+use crate::ending::Ending;
+use crate::streams::write_whole;
+use std::alloc::{AllocError, Global};
+use wef_base::{ChannelName, Sink, SourceName, SubId, Text};
+use wef_collector::Collector;
+use wef_collector_rows::CollectorForm;
+use wef_collector_rows::keys::held_key;
+use wef_collector_rows::standings::known_in;
+use wef_keeper::forms::formed_page;
+use wef_keeper::{Depth, Keeper, Key, Row, StoreFault};
+
+/// How many events are read, and written, at once. No more of them are held in memory.
+const PAGE: u32 = 64;
+
+/// Writes a line for each event that is held of a source's channel for a subscription, live or ended,
+/// by number, and `end` behind them.
+pub fn events<K: Keeper, O: Sink>(
+    alloc: Global,
+    keeper: K,
+    name: SubId,
+    source: &SourceName,
+    channel: &ChannelName,
+    out: &mut O,
+) -> (K, Ending)
+    ensures { spec.EventsEnds name source.now channel.now result.1
+        (record { before = O.taken out.old; after = O.taken out.new; faults_before = O.faults out.old; faults_after = O.faults out.new })
+        (K.store keeper) (K.store result.0) }
+{
+    let mut keeper = match Collector::start(alloc, keeper) {
+        Ok(collector) => collector.into_keeper(),
+        Err((keeper, fault)) => return (keeper, store_ending(fault)),
+    };
+    let ending = write_held(alloc, &mut keeper, name, source, channel, out);
+    (keeper, ending)
+}
+
+/// Writes what is held, if there is a subscription of the name.
+fn write_held<K: Keeper, O: Sink>(
+    alloc: Global,
+    keeper: &mut K,
+    name: SubId,
+    source: &SourceName,
+    channel: &ChannelName,
+    out: &mut O,
+) -> Ending
+    requires { access.IsReady (K.store keeper.old) }
+    ensures { spec.WritesHeld name source.now channel.now result
+        (record { before = O.taken out.old; after = O.taken out.new; faults_before = O.faults out.old; faults_after = O.faults out.new })
+        (K.store keeper.old) (K.store keeper.new) }
+{
+    match known_in(keeper, &name) {
+        Ok(()) => write_known(alloc, keeper, &name, source, channel, out),
+        Err(fault) => named_ending(name, fault),
+    }
+}
+
+/// Writes what is held for a subscription that there is.
+fn write_known<K: Keeper, O: Sink>(
+    alloc: Global,
+    keeper: &mut K,
+    name: &SubId,
+    source: &SourceName,
+    channel: &ChannelName,
+    out: &mut O,
+) -> Ending
+    requires { access.IsReady (K.store keeper.old) }
+    ensures reads { access.Reads AreFormed (spec.is_store_failed result) (K.store keeper.old) (K.store keeper.new) }
+    ensures wrote { IfSome (K.store keeper.new).rows (λ rows. spec.WroteUpTo (spec.held_text rows name.now source.now channel.now) result
+        (record { before = O.taken out.old; after = O.taken out.new; faults_before = O.faults out.old; faults_after = O.faults out.new })) }
+    ensures cause { spec.EndsWriting result
+        (record { before = O.taken out.old; after = O.taken out.new; faults_before = O.faults out.old; faults_after = O.faults out.new }) }
+{
+    match held_key(name.as_text(), source.as_text(), channel.as_text(), 0) {
+        Ok(mut after) => write_behind(alloc, keeper, &mut after, out),
+        Err(_) => Ending::NoMemory,
+    }
+}
+
+/// Writes the events of a channel's rows behind a key, page by page, and `end` behind them. The key
+/// moves on to the last of them.
+fn write_behind<K: Keeper, O: Sink>(
+    alloc: Global,
+    keeper: &mut K,
+    after: &mut Key,
+    out: &mut O,
+) -> Ending
+    requires { access.IsReady (K.store keeper.old) }
+    ensures reads { access.Reads AreFormed (spec.is_store_failed result) (K.store keeper.old) (K.store keeper.new) }
+    ensures wrote { IfSome (K.store keeper.new).rows (λ rows. spec.WroteUpTo (pages.rows_text (rows_under Channel after.old rows)) result
+        (record { before = O.taken out.old; after = O.taken out.new; faults_before = O.faults out.old; faults_after = O.faults out.new })) }
+    ensures cause { spec.EndsWriting result
+        (record { before = O.taken out.old; after = O.taken out.new; faults_before = O.faults out.old; faults_after = O.faults out.new }) }
+{
+    loop {
+        let page = match formed_page::<CollectorForm, K>(keeper, after, Depth::Channel, PAGE) {
+            Ok(page) => page,
+            Err(StoreFault::NoMemory) => return Ending::NoMemory,
+            Err(StoreFault::Failed) => return Ending::StoreFailed,
+        };
+        let text = match page_text(alloc, page.as_slice()) {
+            Ok(text) => text,
+            Err(_) => return Ending::NoMemory,
+        };
+        let is_last = page.len() < PAGE as usize;
+        if is_last {
+            return write_last(text, out);
+        }
+        match write_whole(out, text.as_str().as_bytes()) {
+            Ok(()) => {}
+            Err(_) => return Ending::OutputFailed,
+        }
+        after.number = last_number(after.number, page.as_slice());
+    }
+}
+
+/// Writes the lines of the last page, and `end`.
+fn write_last<O: Sink>(text: Text, out: &mut O) -> Ending
+    ensures { pages.WroteLast (text ++ pages.end_line) result
+        (record { before = O.taken out.old; after = O.taken out.new; faults_before = O.faults out.old; faults_after = O.faults out.new }) }
+{
+    let mut text = text;
+    match text.push_str("end\n") {
+        Ok(()) => write_done(&text, out),
+        Err(_) => Ending::NoMemory,
+    }
+}
+
+/// The lines of a page's events.
+fn page_text(alloc: Global, page: &[Row]) -> Result<Text, AllocError>
+    ensures { IfOk result (λ text. text ≡ flat_map pages.row_line page.now) }
+{
+    let mut text = Text::new(alloc);
+    for row in page {
+        push_line(&mut text, row)?;
+    }
+    Ok(text)
+}
+
+#[tactic(auto, unfolding(wef_machine::specs::Printed::event_line))]
+fn push_line(text: &mut Text, row: &Row) -> Result<(), AllocError>
+    ensures { OnOk result (text.new ≡ text.old ++ pages.row_line row.now) }
+{
+    text.push_str("event ")?;
+    text.push_number(row.key.number)?;
+    text.push_str(" ")?;
+    text.push_str(row.body.as_str())?;
+    text.push_str("\n")?;
+    Ok(())
+}
+
+/// The number of the last row, and the one given where there is none.
+fn last_number(after: u64, page: &[Row]) -> u64
+    ensures { result ≡ last_row_number after page.now }
+{
+    match page.split_last() {
+        Some((row, _)) => row.key.number,
+        None => after,
+    }
+}

@@ -1,0 +1,24 @@
+//! The commands over a store and streams, and what all commands have in common: how they end, what is
+//! told of a call of the collector, and whole inputs and texts.
+#![tactic(auto)]
+
+mod adding;
+mod calling;
+mod checking;
+mod ending;
+pub mod events;
+mod listing;
+mod removing;
+mod showing;
+mod streams;
+mod writing;
+
+pub use adding::add;
+pub use calling::store_ending;
+pub use checking::check;
+pub use ending::Ending;
+pub use listing::list;
+pub use removing::remove;
+pub use showing::show;
+pub use streams::{INPUT_LIMIT, InputFault, read_whole, write_whole};
+pub use writing::{LOG_CAPACITY, write};

@@ -1,0 +1,26 @@
+//! `show`: the report of all that the collector keeps.
+
+ghost use Rattle.wef_commands.specs.Showing as spec;
+
+use crate::calling::{store_ending, write_done};
+use crate::ending::Ending;
+use std::alloc::Global;
+use wef_base::Sink;
+use wef_collector::Collector;
+use wef_keeper::Keeper;
+
+/// Writes the report, all of it at once.
+pub fn show<K: Keeper, O: Sink>(alloc: Global, keeper: K, out: &mut O) -> (K, Ending)
+    ensures { spec.ShowEnds result.1
+        (record { before = O.taken out.old; after = O.taken out.new; faults_before = O.faults out.old; faults_after = O.faults out.new })
+        (K.store keeper) (K.store result.0) }
+{
+    let mut collector = match Collector::start(alloc, keeper) {
+        Ok(collector) => collector,
+        Err((keeper, fault)) => return (keeper, store_ending(fault)),
+    };
+    match collector.report() {
+        Ok(text) => (collector.into_keeper(), write_done(&text, out)),
+        Err(fault) => (collector.into_keeper(), store_ending(fault)),
+    }
+}

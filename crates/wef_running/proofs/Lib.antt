@@ -1,0 +1,2 @@
+pub mod BatchesSent
+pub mod Collected

@@ -1,0 +1,8 @@
+//! The commands that run over connections: `collect` takes them, and `forward` makes them.
+#![tactic(auto)]
+
+mod collecting;
+mod forwarding;
+
+pub use collecting::collect;
+pub use forwarding::forward;
