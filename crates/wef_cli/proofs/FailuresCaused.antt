@@ -1,10 +1,8 @@
 -- Why a run says that its store failed.
-use Rattle.std.proofs.Common.{◌≡◌, ◌∙◌, ℕ, ◌+◌, ◌≤◌, Bool, true, false, List, [], ◌∷◌, length, refl, ap, sym, subst, arith, inl, inr, true≢false}
-use Rattle.std.specs.Prelude.{Option, Some, None, IfSome, Result, Err}
-use Rattle.wef_base.specs.Counts.{Rose}
+use Rattle.std.proofs.Common.{◌≡◌, ℕ, ◌+◌, ◌≤◌, true, List, [], ◌∷◌, length, refl, sym, subst, arith, inl, inr}
+use Rattle.std.specs.Prelude.{Option, Some, None, Result, Err}
 use Rattle.wef_keeper.specs.Access.{HasCause}
 use Rattle.wef_keeper.specs.Keeping.{Store}
-use Rattle.wef_keeper.specs.Rows.{Rows}
 use Rattle.wef_collector_rows.specs.Forms.{AreFormed}
 use Rattle.wef_collector_rows.specs.declared.faults.CollectorFault.{CollectorFault}
 use Rattle.wef_collector_rows.specs.declared.faults.CollectorFault.TheVariants as faults
@@ -27,17 +25,11 @@ use Rattle.wef_commands.specs.declared.ending.Ending.TheVariants as ends
 use Rattle.wef_running.specs.Collecting.{CollectEnds}
 use Rattle.wef_cli.specs.Complete.{FailsWithCause}
 use Rattle.wef_cli.specs.declared.command.Command.TheVariants as the
+use Rattle.wef_cli.proofs.Causes.{later_caused, not_failed}
 use Rattle.wef_cli.proofs.ForwardsCaused.{forwarding_caused}
-
-abbrev is_failed : Ending → Bool
-is_failed ends.StoreFailed = true
-is_failed _ = false
 
 abbrev Caused : Store → Store → Type 0
 Caused before now = HasCause AreFormed true before now
-
-not_failed : (ending : Ending) → is_failed ending ≡ false → ends.StoreFailed ≡ ending → ⊥
-not_failed ending other is = true≢false (ap is_failed is ∙ other)
 
 -- why the collector can't be started
 start_caused : (before now : Store) (fault : CollectorFault) → Starts (Err fault) before now → ends.StoreFailed ≡ store_ending fault → Caused before now
@@ -69,17 +61,6 @@ report_caused : (before now : Store) (fault : CollectorFault) → Reports (Err f
 report_caused before now faults.Failed call is = call.0.opened.1
 report_caused before now faults.NoMemory call is = absurd (not_failed ends.NoMemory refl is)
 report_caused before now _ call is = absurd call.1
-
--- a cause behind a start, whose count of faults doesn't fall
-later_caused : (Formed : Rows → Type 0) (before mid now : Store) → before.faults ≤ mid.faults → HasCause Formed true mid now → HasCause Formed true before now
-later_caused Formed before mid now below cause failed = by now.rows (cause failed)
-  where
-    rose : Rose mid.faults now.faults → Rose before.faults now.faults
-    rose h = grind (arith)
-
-    by : (o : Option Rows) → IfSome o (λ rows. Formed rows → Rose mid.faults now.faults) → IfSome o (λ rows. Formed rows → Rose before.faults now.faults)
-    by None h = tt
-    by (Some rows) h = λ formed. rose (h formed)
 
 -- why a call isn't done, where each refusal of the call itself has its cause
 call_caused : {T : Type 0} (Call : Result T CollectorFault → Store → Store → Type 0) (refusal : CollectorFault → Ending) (Tells : T → Ending → Told → Type 0)

@@ -1,8 +1,7 @@
 -- Why a run of `forward` says that its store failed.
-use Rattle.std.proofs.Common.{◌≡◌, ◌∙◌, ℕ, ◌≤◌, Bool, true, false, List, [], ◌∷◌, ◌++◌, refl, ap, sym, subst, arith, inl, inr, true≢false}
+use Rattle.std.proofs.Common.{◌≡◌, ◌∙◌, ℕ, ◌≤◌, true, false, List, [], ◌∷◌, ◌++◌, refl, ap, sym, subst, arith, inl, inr}
 use Rattle.std.specs.List.{flat_map}
-use Rattle.std.specs.Prelude.{Option, Some, None, IfSome, Result, Ok, Err}
-use Rattle.wef_base.specs.Counts.{Rose}
+use Rattle.std.specs.Prelude.{Option, Some, None, Result, Ok, Err}
 use Rattle.wef_forwarding.specs.Forwarding.{Forwards, refusal_of}
 use Rattle.wef_forwarding.specs.declared.exchanges.FrontFault.{FrontFault}
 use Rattle.wef_forwarding.specs.declared.exchanges.FrontFault.TheVariants as fronts
@@ -11,7 +10,6 @@ use Rattle.wef_forwarding.specs.declared.forwarding.Exchange.TheVariants.{Nothin
 use Rattle.wef_keeper.specs.Access.{HasCause, OpensAndReads}
 use Rattle.wef_keeper.specs.Calls.{fails}
 use Rattle.wef_keeper.specs.Keeping.{Store}
-use Rattle.wef_keeper.specs.Rows.{Rows}
 use Rattle.wef_ports.specs.Telling as ports
 use Rattle.wef_source.specs.Answers.{RefusesAsk, RefusesStart}
 use Rattle.wef_source.specs.Faults.{source_store}
@@ -20,30 +18,13 @@ use Rattle.wef_source.specs.declared.faults.SourceFault.{SourceFault}
 use Rattle.wef_source.specs.declared.faults.SourceFault.TheVariants as faults
 use Rattle.wef_source_log.specs.Forms.{AreFormed}
 use Rattle.wef_commands.specs.Endings.{Told}
-use Rattle.wef_commands.specs.declared.ending.Ending.{Ending}
+use Rattle.wef_commands.specs.Showing.{is_store_failed}
 use Rattle.wef_commands.specs.declared.ending.Ending.TheVariants as ends
 use Rattle.wef_running.specs.Forwarding.{AreSent, AsksAndSends, EndsBefore, ForwardEnds, IsAsked, IsSent, Plan, Running, SendsAll, SendsFrom, StartsSource, behind, behind_all, front_ending, line_of, next, source_ending, unless_gone}
-
-abbrev is_failed : Ending → Bool
-is_failed ends.StoreFailed = true
-is_failed _ = false
-
-not_failed : (ending : Ending) → is_failed ending ≡ false → ends.StoreFailed ≡ ending → ⊥
-not_failed ending other is = true≢false (ap is_failed is ∙ other)
+use Rattle.wef_cli.proofs.Causes.{later_caused, not_failed}
 
 abbrev Caused : Store → Store → Type 0
 Caused before now = HasCause AreFormed true before now
-
--- a cause behind a call, whose count of faults doesn't fall
-later_caused : (before mid now : Store) → before.faults ≤ mid.faults → Caused mid now → Caused before now
-later_caused before mid now below cause failed = by now.rows (cause failed)
-  where
-    rose : Rose mid.faults now.faults → Rose before.faults now.faults
-    rose h = grind (arith)
-
-    by : (o : Option Rows) → IfSome o (λ rows. AreFormed rows → Rose mid.faults now.faults) → IfSome o (λ rows. AreFormed rows → Rose before.faults now.faults)
-    by None h = tt
-    by (Some rows) h = λ formed. rose (h formed)
 
 -- ---- a batch
 
@@ -64,7 +45,7 @@ which one other is = cc
 
 module _ (u : List ℕ) (moment : ℕ) (fault : FrontFault) (before now : Running) (is : ends.StoreFailed ≡ front_ending fault) where
   -- a refusal that is told otherwise
-  told_so : (other : FrontFault) → is_failed (front_ending other) ≡ false → refused fault ≡ refused other → ⊥
+  told_so : (other : FrontFault) → is_store_failed (front_ending other) ≡ false → refused fault ≡ refused other → ⊥
   told_so other differs same = not_failed (front_ending other) differs (is ∙ ap front_ending (which fault other same))
 
   batch_by : (answer : Answer) → refused fault ≡ unless_gone answer → Forwards now.store.rows before.memory now.memory u moment before.link now.link answer
@@ -101,7 +82,7 @@ stopped_caused clock (Some u) text out before now (inr (e, sent, untold)) = absu
 all_caused : (clock : Option ℕ) (plan : Plan) (text : List ℕ) (out : Told) (before now : Running) → SendsAll clock plan text ends.StoreFailed out before now
     → Caused before.store now.store
 all_caused clock plan text out before now all =
-    later_caused before.store all.mid.store now.store (sent_later clock plan all.sent before all.mid all.are_sent)
+    later_caused AreFormed before.store all.mid.store now.store (sent_later clock plan all.sent before all.mid all.are_sent)
     (stopped_caused clock (next (behind_all all.sent plan)) (text ++ flat_map line_of all.sent) out all.mid now all.stops)
 
 -- ---- the ask
@@ -146,4 +127,4 @@ pub forwarding_caused : (address s : List ℕ) (deliveries : ℕ) (out : Told) (
     → ForwardEnds address s deliveries ends.StoreFailed out clock link link' before now → HasCause AreFormed true before now
 forwarding_caused address s deliveries out clock link link' before now (inl (fault, start, refuses, is, unwritten, same)) = start_caused before now fault start refuses is
 forwarding_caused address s deliveries out clock link link' before now (inr (boot, mid, start, (end, asks))) =
-    later_caused before mid now start.faults (asks_caused clock address s deliveries out _ _ asks)
+    later_caused AreFormed before mid now start.faults (asks_caused clock address s deliveries out _ _ asks)

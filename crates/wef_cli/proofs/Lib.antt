@@ -1,3 +1,4 @@
+pub mod Causes
 pub mod Completing
 pub mod FailuresCaused
 pub mod ForwardsCaused
