@@ -111,7 +111,7 @@ all_written events count a b f g before now so_far = record {
 -- ---- line by line
 
 -- the first of good lines says an event
-pub says_one : (k : ℕ) (line : List ℕ) (lines : List (List ℕ)) → bad_from k (line ∷ lines) ≡ None → is_some (new_event_in line) ≡ true
+says_one : (k : ℕ) (line : List ℕ) (lines : List (List ℕ)) → bad_from k (line ∷ lines) ≡ None → is_some (new_event_in line) ≡ true
 says_one k line lines good = by (new_event_in line) good
   where
     by : (o : Option Event) → cond (is_some o) (bad_from (k + 1) lines) (Some k) ≡ None → is_some o ≡ true
@@ -119,8 +119,8 @@ says_one k line lines good = by (new_event_in line) good
     by (Some event) h = refl
 
 -- and so do those behind it
-pub good_behind : (k : ℕ) (line : List ℕ) (lines : List (List ℕ)) → bad_from k (line ∷ lines) ≡ None → bad_from (k + 1) lines ≡ None
-good_behind k line lines good = by (new_event_in line) good
+pub good_behind : (k : ℕ) (all : List (List ℕ)) (line : List ℕ) (lines : List (List ℕ)) → all ≡ line ∷ lines → bad_from k all ≡ None → bad_from (k + 1) lines ≡ None
+good_behind k all line lines first good = by (new_event_in line) (subst (λ (ls : List (List ℕ)). bad_from k ls ≡ None) first good)
   where
     by : (o : Option Event) → cond (is_some o) (bad_from (k + 1) lines) (Some k) ≡ None → bad_from (k + 1) lines ≡ None
     by None h = absurd (none-some k (sym h))
@@ -142,12 +142,23 @@ pub not_read_again : (found : Option Event) (k : ℕ) (taken : Option (List ℕ)
 not_read_again None k taken f now = tt
 not_read_again (Some event) k taken f now = inl (refl, nothing taken, refl)
 
+-- what is known before the first of the lines that are left, by that line and those behind it
+at_line : (events : List Event) (all : List (List ℕ)) (line : List ℕ) (lines : List (List ℕ)) (count : ℕ) (a b : Option (List ℕ)) (before mid : Store) → all ≡ line ∷ lines
+    → bad_from (count + 1) all ≡ None → IsWrittenTo events (events_of all) count a b before mid
+    → (is_some (new_event_in line) ≡ true) × IsWrittenTo events (events_of (line ∷ lines)) count a b before mid
+at_line events all line lines count a b before mid first good so_far = (
+  says_one (count + 1) line lines (subst (λ (ls : List (List ℕ)). bad_from (count + 1) ls ≡ None) first good),
+  subst (λ (ls : List (List ℕ)). IsWrittenTo events (events_of ls) count a b before mid) first so_far,
+)
+
 -- the event of a line is written and told
-pub line_done : (events : List Event) (line : List ℕ) (lines : List (List ℕ)) (count : ℕ) (done : Unit {0}) (a b c : Option (List ℕ)) (g h : ℕ) (before mid now : Store)
-    → is_some (new_event_in line) ≡ true → IsWrittenTo events (events_of (line ∷ lines)) count a b before mid
+pub line_done : (events : List Event) (all : List (List ℕ)) (line : List ℕ) (lines : List (List ℕ)) (count : ℕ) (done : Unit {0}) (a b c : Option (List ℕ)) (g h : ℕ) (before mid now : Store)
+    → all ≡ line ∷ lines → bad_from (count + 1) all ≡ None → IsWrittenTo events (events_of all) count a b before mid
     → IfSome (new_event_in line) (λ event. TurnsLine (count + 1) event (Ok done) (record { before = b; after = c; faults_before = g; faults_after = h }) mid now)
     → IsWrittenTo events (events_of lines) (count + 1) a c before now
-line_done events line lines count done a b c g h before mid now says so_far turn = by (new_event_in line) says so_far turn
+line_done events all line lines count done a b c g h before mid now first good so_far turn =
+    let known = at_line events all line lines count a b before mid first good so_far in
+    by (new_event_in line) known.0 known.1 turn
   where
     by : (o : Option Event) → is_some o ≡ true → IsWrittenTo events (cons_option o (events_of lines)) count a b before mid
         → IfSome o (λ event. TurnsLine (count + 1) event (Ok done) (record { before = b; after = c; faults_before = g; faults_after = h }) mid now)
@@ -156,11 +167,13 @@ line_done events line lines count done a b c g h before mid now says so_far turn
     by (Some event) is so_far (n, write, told) = one_more events (events_of lines) event count n a b c before mid now so_far write told
 
 -- it ends at a line
-pub line_stops : (events : List Event) (line : List ℕ) (lines : List (List ℕ)) (count : ℕ) (ending : Ending) (a b c : Option (List ℕ)) (f g h : ℕ) (before mid now : Store)
-    → is_some (new_event_in line) ≡ true → IsWrittenTo events (events_of (line ∷ lines)) count a b before mid → f ≤ g
+pub line_stops : (events : List Event) (all : List (List ℕ)) (line : List ℕ) (lines : List (List ℕ)) (count : ℕ) (ending : Ending) (a b c : Option (List ℕ)) (f g h : ℕ) (before mid now : Store)
+    → all ≡ line ∷ lines → bad_from (count + 1) all ≡ None → IsWrittenTo events (events_of all) count a b before mid → f ≤ g
     → IfSome (new_event_in line) (λ event. TurnsLine (count + 1) event (Err ending) (record { before = b; after = c; faults_before = g; faults_after = h }) mid now)
     → WroteEvents events ending (record { before = a; after = c; faults_before = f; faults_after = h }) before now
-line_stops events line lines count ending a b c f g h before mid now says so_far below turn = by (new_event_in line) says so_far turn
+line_stops events all line lines count ending a b c f g h before mid now first good so_far below turn =
+    let known = at_line events all line lines count a b before mid first good so_far in
+    by (new_event_in line) known.0 known.1 turn
   where
     by : (o : Option Event) → is_some o ≡ true → IsWrittenTo events (cons_option o (events_of lines)) count a b before mid
         → IfSome o (λ event. TurnsLine (count + 1) event (Err ending) (record { before = b; after = c; faults_before = g; faults_after = h }) mid now)
