@@ -1,4 +1,4 @@
-use Rattle.std.proofs.Common.{◌≡◌, ◌+◌, ◌≤◌, ◌<◌, ◌∙◌, ℕ, List, length, arith, refl, sym, subst}
+use Rattle.std.proofs.Common.{◌+◌, ◌<◌, ◌∙◌, ℕ, length, arith, refl, sym, subst}
 use Rattle.std.specs.Prelude.{Option, Some, None, Ok, Err}
 use Rattle.wef_commands.specs.declared.ending.Ending.TheVariants.{Done}
 use Rattle.wef_running.specs.Forwarding.{Plan, Running, TurnsSession, done_line, next}
@@ -48,43 +48,20 @@ sending-preserved g c =
 -- it ends at a session
 pub returns-in-Err-clause-ends : goal.returns-in-Err-clause-ends
 returns-in-Err-clause-ends g c =
-    let kept = c.sending.invariant in
-    let clock = g.C.Clock.told c.args.clock.now in
-    let plan : Plan = record { names = c.args.names.now; left = c.args.deliveries } in
-    let left : Plan = record { names = c.sending.rest.now; left = c.sending.left } in
-    let before : Running = record { memory = c.args.source.now.memory; store = g.K.Keeper.store c.args.source.now.keeper; link = g.L.Port.told c.args.link.now } in
-    let mid : Running = record { memory = c.sending.source.memory; store = g.K.Keeper.store c.sending.source.keeper; link = g.L.Port.told c.sending.link } in
-    let now : Running = record { memory = c.send_next.new.source.memory; store = g.K.Keeper.store c.send_next.new.source.keeper; link = g.L.Port.told c.send_next.new.link } in
-    let b = g.O.Sink.taken c.sending.out in
-    let d = g.O.Sink.taken c.send_next.new.out in
-    let f = g.O.Sink.faults c.sending.out in
-    let h = g.O.Sink.faults c.send_next.new.out in
     let u = c.in-Some.sub.now in
-    let turn = subst (λ (m : Option ℕ). TurnsSession m u (Err c.in-Err.ending) (record { before = b; after = d; faults_before = f; faults_after = h }) mid now) kept.clock c.in-Err.ensures.turn in
-    stopped clock plan left (Some u) c.in-Err.ending (g.O.Sink.taken c.args.out.now) b d (g.O.Sink.faults c.args.out.now) f h before mid now kept.so_far kept.later (sym c.in-Some.ensures) turn
+    let ending = c.in-Err.ending in
+    stopped _ _ _ (Some u) ending _ _ _ _ (g.O.Sink.faults c.sending.out) _ _ _ _ c.sending.invariant.so_far c.sending.invariant.later (sym c.in-Some.ensures)
+    (subst (λ (m : Option ℕ). TurnsSession m u (Err ending) _ _ _) c.sending.invariant.clock c.in-Err.ensures.turn)
 
 -- no session is next, and it tells so
 pub returns-in-Ok-write_line-clause-ends : goal.returns-in-Ok-write_line-clause-ends
 unfolding done_line
 returns-in-Ok-write_line-clause-ends g c =
-    let kept = c.sending.invariant in
-    let clock = g.C.Clock.told c.args.clock.now in
-    let plan : Plan = record { names = c.args.names.now; left = c.args.deliveries } in
-    let left : Plan = record { names = c.sending.rest.now; left = c.sending.left } in
-    let before : Running = record { memory = c.args.source.now.memory; store = g.K.Keeper.store c.args.source.now.keeper; link = g.L.Port.told c.args.link.now } in
-    let mid : Running = record { memory = c.sending.source.memory; store = g.K.Keeper.store c.sending.source.keeper; link = g.L.Port.told c.sending.link } in
-    stopped clock plan left None Done (g.O.Sink.taken c.args.out.now) (g.O.Sink.taken c.sending.out) (g.O.Sink.taken c.write_line.new.out)
-    (g.O.Sink.faults c.args.out.now) (g.O.Sink.faults c.sending.out) (g.O.Sink.faults c.write_line.new.out) before mid mid kept.so_far kept.later (sym c.in_default.ensures) (c.in-Ok-write_line.ensures.told, refl)
+    stopped _ _ _ None Done _ _ _ _ (g.O.Sink.faults c.sending.out) _ _ _ _ c.sending.invariant.so_far c.sending.invariant.later (sym c.in_default.ensures) (c.in-Ok-write_line.ensures.told, refl)
 
 pub returns-in-Err-write_line-clause-ends : goal.returns-in-Err-write_line-clause-ends
 unfolding done_line
 returns-in-Err-write_line-clause-ends g c =
-    let kept = c.sending.invariant in
-    let clock = g.C.Clock.told c.args.clock.now in
-    let plan : Plan = record { names = c.args.names.now; left = c.args.deliveries } in
-    let left : Plan = record { names = c.sending.rest.now; left = c.sending.left } in
-    let before : Running = record { memory = c.args.source.now.memory; store = g.K.Keeper.store c.args.source.now.keeper; link = g.L.Port.told c.args.link.now } in
-    let mid : Running = record { memory = c.sending.source.memory; store = g.K.Keeper.store c.sending.source.keeper; link = g.L.Port.told c.sending.link } in
     let ending = c.in-Err-write_line.ending in
-    stopped clock plan left None ending (g.O.Sink.taken c.args.out.now) (g.O.Sink.taken c.sending.out) (g.O.Sink.taken c.write_line.new.out)
-    (g.O.Sink.faults c.args.out.now) (g.O.Sink.faults c.sending.out) (g.O.Sink.faults c.write_line.new.out) before mid mid kept.so_far kept.later (sym c.in_default.ensures) (untold_done ending _ c.in-Err-write_line.ensures.told, refl)
+    stopped _ _ _ None ending _ _ _ _ (g.O.Sink.faults c.sending.out) _ _ _ _ c.sending.invariant.so_far c.sending.invariant.later (sym c.in_default.ensures)
+    (untold_done ending _ c.in-Err-write_line.ensures.told, refl)
