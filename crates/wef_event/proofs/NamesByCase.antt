@@ -14,21 +14,26 @@ use Rattle.wef_base.specs.declared.names.Letters.TheVariants.{Small}
 abbrev small : List ℕ → List ℕ
 small cs = map to_ascii_lowercase cs
 
-space_kept : (c : ℕ) → is_space (to_ascii_lowercase c) ≡ is_space c
-space_kept c = by (nat_lt c 65) refl (nat_lt c 91) refl
+-- what a test says of capitals and of their small letters alike it says of all characters
+kept_by_case : (test : ℕ → Bool) → ((c : ℕ) → nat_lt c 65 ≡ false → nat_lt c 91 ≡ true → test (c + 32) ≡ test c) → (c : ℕ) → test (to_ascii_lowercase c) ≡ test c
+kept_by_case test capitals c = by (nat_lt c 65) refl (nat_lt c 91) refl
   where
-    by : (a : Bool) → nat_lt c 65 ≡ a → (b : Bool) → nat_lt c 91 ≡ b → is_space (cond a c (cond b (c + 32) c)) ≡ is_space c
+    by : (a : Bool) → nat_lt c 65 ≡ a → (b : Bool) → nat_lt c 91 ≡ b → test (cond a c (cond b (c + 32) c)) ≡ test c
     by true e b f = refl
     by false e false f = refl
-    by false e true f = grind (arith, nat_tests)
+    by false e true f = capitals c e f
+
+space_kept : (c : ℕ) → is_space (to_ascii_lowercase c) ≡ is_space c
+space_kept = kept_by_case is_space capitals
+  where
+    capitals : (c : ℕ) → nat_lt c 65 ≡ false → nat_lt c 91 ≡ true → is_space (c + 32) ≡ is_space c
+    capitals c e f = grind (arith, nat_tests)
 
 forbidden_kept : (c : ℕ) → is_forbidden (to_ascii_lowercase c) ≡ is_forbidden c
-forbidden_kept c = by (nat_lt c 65) refl (nat_lt c 91) refl
+forbidden_kept = kept_by_case is_forbidden capitals
   where
-    by : (a : Bool) → nat_lt c 65 ≡ a → (b : Bool) → nat_lt c 91 ≡ b → is_forbidden (cond a c (cond b (c + 32) c)) ≡ is_forbidden c
-    by true e b f = refl
-    by false e false f = refl
-    by false e true f = grind (arith, nat_tests)
+    capitals : (c : ℕ) → nat_lt c 65 ≡ false → nat_lt c 91 ≡ true → is_forbidden (c + 32) ≡ is_forbidden c
+    capitals c e f = grind (arith, nat_tests)
 
 start_small : (cs : List ℕ) → without_start (small cs) ≡ small (without_start cs)
 start_small [] = refl

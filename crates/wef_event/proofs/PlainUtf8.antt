@@ -5,7 +5,7 @@ use Rattle.std.specs.declared.result.Result.TheVariants.{Ok, Err}
 use Rattle.std.specs.List.{flat_map}
 use Rattle.std.specs.Str.{IsUtf8, chars}
 use Rattle.std.specs.Str.Lossy.{utf8_valid_len}
-use Rattle.std.proofs.lemmas.Bool.Decides.{nat_tests}
+use Rattle.std.proofs.lemmas.Bool.{eqb-true}
 use Rattle.std.proofs.lemmas.Str.{IsUtf8-past_char, is_utf8-from_IsUtf8}
 use lib.Utf8.{encode}
 use Rattle.wef_base.specs.declared.tree.Charset.TheVariants.{Utf8}
@@ -26,17 +26,14 @@ pub tree_is_utf8 : (node : Element) → IsGoodTree node → IsUtf8 (text_of_tree
 tree_is_utf8 node good =
     (canonical node, (plain_scalars (canonical node) (canonical_plain node good), sym (all_encoded (canonical node))))
 
-equal : (a b : ℕ) → (a == b) ≡ true → a ≡ b
-equal a b e = grind (arith, nat_tests)
-
 -- a text that begins with a front is the front and what is left
-stripped : (front text rest : List ℕ) → strip front text ≡ Some rest → text ≡ front ++ rest
+pub stripped : (front text rest : List ℕ) → strip front text ≡ Some rest → text ≡ front ++ rest
 stripped [] text rest e = cc
 stripped (w ∷ ws) [] rest e = let bad : ⊥ = cc in absurd bad
 stripped (w ∷ ws) (c ∷ cs) rest e = by (w == c) refl e (stripped ws cs rest)
   where
     by : (b : Bool) → (w == c) ≡ b → cond b (strip ws cs) None ≡ Some rest → (strip ws cs ≡ Some rest → cs ≡ ws ++ rest) → c ∷ cs ≡ (w ∷ ws) ++ rest
-    by true same e further = λ i. sym (equal w c same) i ∷ further e i
+    by true same e further = λ i. sym (eqb-true w c same) i ∷ further e i
     by false same e further = let bad : ⊥ = cc in absurd bad
 
 -- the byte order mark is one character
