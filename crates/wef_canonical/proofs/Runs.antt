@@ -10,7 +10,9 @@ use Rattle.std.proofs.lemmas.List.Folds.{list_all-append}
 use Rattle.std.proofs.lemmas.Str.{encode_ascii, encodes-append}
 use Rattle.wef_base.specs.Characters.{is_xml_char}
 use Rattle.wef_xml.specs.Canonical.{text_char, value_char}
-use Rattle.wef_canonical.specs.Passing.{AreNameLetters, IsPlainRun, IsReference, IsRun, IsTextRun, IsValueRun, LeadsOn, Passes, is_plain, is_plain_byte, itself, stands_in_name}
+use Rattle.wef_canonical.specs.Passing.{AreNameLetters, IsPlainRun, IsReference, IsRun, IsRunOf, IsTextRun, IsValueRun, LeadsOn, Passes, is_plain, is_plain_byte, itself, stands_in_name}
+use Rattle.wef_canonical.specs.declared.characters.Run.{Run}
+use Rattle.wef_canonical.specs.declared.characters.Run.TheVariants.{Letters, Plain, Value, Text}
 
 -- a fact of what there is, if there is one
 pub some_weaker : {T : Type 0} (o : Option T) (P Q : T → Type 0) → ((x : T) → P x → Q x) → IfSome o P → IfSome o Q
@@ -61,6 +63,19 @@ runs_joined test spelt a b first more = record {
       ∙ sym (encodes-append (flat_map spelt first.characters) (flat_map spelt more.characters))
       ∙ ap encode_utf8_all (sym (flat_map-append spelt first.characters more.characters));
 }
+
+-- each kind of run
+pub none_of : (run : Run) → IsRunOf run []
+none_of Letters = refl
+none_of Plain = no_run is_plain itself
+none_of Value = no_run is_xml_char value_char
+none_of Text = no_run is_xml_char text_char
+
+pub of_joined : (run : Run) (a b : List ℕ) → IsRunOf run a → IsRunOf run b → IsRunOf run (a ++ b)
+of_joined Letters = letters_joined
+of_joined Plain = runs_joined is_plain itself
+of_joined Value = runs_joined is_xml_char value_char
+of_joined Text = runs_joined is_xml_char text_char
 
 -- a character that a text begins with
 pub one_passed : (test : ℕ → Bool) (spelt : ℕ → List ℕ) (c : ℕ) (text rest : List ℕ) → test c ≡ true → text ≡ encode_utf8_all (spelt c) ++ rest → Passes (IsRun test spelt) text rest

@@ -5,6 +5,8 @@ use Rattle.std.specs.List.{flat_map, list_all}
 use Rattle.wef_base.specs.Characters.{is_within, is_xml_char}
 use Rattle.wef_xml.specs.Good.{IsXmlText}
 use Rattle.wef_xml.specs.Canonical.{assigned, text_char, value_char}
+use Rattle.wef_canonical.specs.declared.characters.Run.{Run}
+use Rattle.wef_canonical.specs.declared.characters.Run.TheVariants.{Letters, Plain, Value, Text}
 
 -- Such a front is passed in a text of which the rest is left.
 abbrev pub Passes : (List ℕ → Type 0) → List ℕ → List ℕ → Type 0
@@ -60,6 +62,13 @@ IsValueRun = IsRun is_xml_char value_char
 
 abbrev pub IsTextRun : List ℕ → Type 0
 IsTextRun = IsRun is_xml_char text_char
+
+-- the runs that are passed
+abbrev pub IsRunOf : Run → List ℕ → Type 0
+IsRunOf Letters = AreNameLetters
+IsRunOf Plain = IsPlainRun
+IsRunOf Value = IsValueRun
+IsRunOf Text = IsTextRun
 
 -- A character that stands in texts and in values alike.
 pub record IsReference (front : List ℕ) : Type 0 where

@@ -1,7 +1,7 @@
 //! Passing characters, names and values as they stand in the one text of a tree.
 
 ghost use Rattle.std.specs.Prelude.{◌≡◌, IfSome};
-ghost use Rattle.wef_canonical.specs.Passing.{AreNameLetters, IsAsciiName, IsPlainRun, IsReference, IsTextRun, IsValueRun, Passes, begins_name, is_plain_byte, stands_in_name};
+ghost use Rattle.wef_canonical.specs.Passing.{AreNameLetters, IsAsciiName, IsPlainRun, IsReference, IsRunOf, IsTextRun, IsValueRun, Passes, begins_name, is_plain_byte, stands_in_name};
 
 use crate::cuts::{first_of_ascii, strip};
 use wef_base::characters::is_xml_char;
@@ -12,24 +12,10 @@ pub(crate) fn behind_name(text: &str) -> Option<&str>
 {
     let (first, rest) = first_of_ascii(text)?;
     if begins_name(first) {
-        Some(behind_name_characters(rest))
+        Some(behind_run(Run::Letters, rest))
     } else {
         None
     }
-}
-
-/// What is left of a text behind characters of a name.
-fn behind_name_characters(text: &str) -> &str
-    ensures { Passes AreNameLetters text.now result.now }
-{
-    let mut rest = text;
-    for _turn in 0..text.len() {
-        match behind_name_character(rest) {
-            Some(more) => rest = more,
-            None => return rest,
-        }
-    }
-    rest
 }
 
 /// What is left of a text behind a character of a name.
@@ -60,23 +46,40 @@ fn stands_in_name(byte: u8) -> bool
 pub fn behind_plain(text: &str) -> &str
     ensures { Passes IsPlainRun text.now result.now }
 {
-    let mut rest = text;
-    for _turn in 0..text.len() {
-        match behind_plain_character(rest) {
-            Some(more) => rest = more,
-            None => return rest,
-        }
-    }
-    rest
+    behind_run(Run::Plain, text)
 }
 
 /// What is left of a text behind a value, before its quote.
 pub(crate) fn behind_value(text: &str) -> &str
     ensures { Passes IsValueRun text.now result.now }
 {
+    behind_run(Run::Value, text)
+}
+
+/// What is left of a text behind the text between two tags.
+pub fn behind_text(text: &str) -> &str
+    ensures { Passes IsTextRun text.now result.now }
+{
+    behind_run(Run::Text, text)
+}
+
+/// Which characters stand one behind the other.
+#[derive(Clone, Copy)]
+enum Run {
+    /// Those of a name.
+    Letters,
+    Plain,
+    Value,
+    Text,
+}
+
+/// What is left of a text behind as many of these characters as there are.
+fn behind_run(run: Run, text: &str) -> &str
+    ensures { Passes (IsRunOf run) text.now result.now }
+{
     let mut rest = text;
     for _turn in 0..text.len() {
-        match behind_value_character(rest) {
+        match behind_one(run, rest) {
             Some(more) => rest = more,
             None => return rest,
         }
@@ -84,18 +87,15 @@ pub(crate) fn behind_value(text: &str) -> &str
     rest
 }
 
-/// What is left of a text behind the text between two tags.
-pub fn behind_text(text: &str) -> &str
-    ensures { Passes IsTextRun text.now result.now }
+fn behind_one(run: Run, text: &str) -> Option<&str>
+    ensures { IfSome result (λ rest. Passes (IsRunOf run) text.now rest.now) }
 {
-    let mut rest = text;
-    for _turn in 0..text.len() {
-        match behind_text_character(rest) {
-            Some(more) => rest = more,
-            None => return rest,
-        }
+    match run {
+        Run::Letters => behind_name_character(text),
+        Run::Plain => behind_plain_character(text),
+        Run::Value => behind_value_character(text),
+        Run::Text => behind_text_character(text),
     }
-    rest
 }
 
 fn behind_plain_character(text: &str) -> Option<&str>

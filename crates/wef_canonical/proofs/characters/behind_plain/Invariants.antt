@@ -1,7 +1,0 @@
-use denote.Text.{Utf8}
-use denote.Shadow.{shadow}
-use Rattle.wef_canonical.specs.Passing.{IsPlainRun, LeadsOn}
-use Rattle.wef_canonical.proofs.characters.behind_plain.Given as goal
-
-abbrev pub invariant-loop-turn : goal.invariant-loop-turn
-invariant-loop-turn l = shadow (Utf8 l.rest) × LeadsOn IsPlainRun l.text l.rest

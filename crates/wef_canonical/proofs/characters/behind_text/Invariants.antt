@@ -1,7 +1,0 @@
-use denote.Text.{Utf8}
-use denote.Shadow.{shadow}
-use Rattle.wef_canonical.specs.Passing.{IsTextRun, LeadsOn}
-use Rattle.wef_canonical.proofs.characters.behind_text.Given as goal
-
-abbrev pub invariant-loop-turn : goal.invariant-loop-turn
-invariant-loop-turn l = shadow (Utf8 l.rest) × LeadsOn IsTextRun l.text l.rest
