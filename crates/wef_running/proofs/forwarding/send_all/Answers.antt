@@ -1,5 +1,6 @@
 use Rattle.std.proofs.Common.{◌+◌, ◌<◌, ◌∙◌, ℕ, length, arith, refl, sym, subst}
 use Rattle.std.specs.Prelude.{Option, Some, None, Ok, Err}
+use Rattle.wef_commands.specs.Endings.{Told}
 use Rattle.wef_commands.specs.declared.ending.Ending.TheVariants.{Done}
 use Rattle.wef_running.specs.Forwarding.{Plan, Running, TurnsSession, done_line, next}
 use Rattle.wef_running.proofs.BatchesSent.{IsSentTo, gets_less, none_sent, one_sent, stopped, untold_done}
@@ -48,10 +49,17 @@ sending-preserved g c =
 -- it ends at a session
 pub returns-in-Err-clause-ends : goal.returns-in-Err-clause-ends
 returns-in-Err-clause-ends g c =
-    let u = c.in-Some.sub.now in
-    let ending = c.in-Err.ending in
-    stopped _ _ _ (Some u) ending _ _ _ _ (g.O.Sink.faults c.sending.out) _ _ _ _ c.sending.invariant.so_far c.sending.invariant.later (sym c.in-Some.ensures)
-    (subst (λ (m : Option ℕ). TurnsSession m u (Err ending) _ _ _) c.sending.invariant.clock c.in-Err.ensures.turn)
+    let out : Told = record {
+      before = g.O.Sink.taken c.sending.out;
+      after = g.O.Sink.taken c.send_next.new.out;
+      faults_before = g.O.Sink.faults c.sending.out;
+      faults_after = g.O.Sink.faults c.send_next.new.out;
+    } in
+    let mid : Running = record { memory = c.sending.source.memory; store = g.K.Keeper.store c.sending.source.keeper; link = g.L.Port.told c.sending.link } in
+    let now : Running = record { memory = c.send_next.new.source.memory; store = g.K.Keeper.store c.send_next.new.source.keeper; link = g.L.Port.told c.send_next.new.link } in
+    stopped _ _ _ (Some c.in-Some.sub.now) c.in-Err.ending _ out.before out.after _ out.faults_before out.faults_after _ mid now
+    c.sending.invariant.so_far c.sending.invariant.later (sym c.in-Some.ensures)
+    (subst (λ (m : Option ℕ). TurnsSession m c.in-Some.sub.now (Err c.in-Err.ending) out mid now) c.sending.invariant.clock c.in-Err.ensures.turn)
 
 -- no session is next, and it tells so
 pub returns-in-Ok-write_line-clause-ends : goal.returns-in-Ok-write_line-clause-ends
