@@ -1,11 +1,11 @@
 -- The events that lines say.
-use Rattle.std.proofs.Common.{◌≡◌, ℕ, ◌==◌, Bool, true, false, cond, List, [], ◌∷◌, ◌++◌, refl, sym, subst, arith, true≢false}
-use Rattle.std.proofs.lemmas.Bool.Decides.{nat_tests}
+use Rattle.std.proofs.Common.{◌≡◌, ℕ, Bool, true, false, List, refl, sym, subst, true≢false}
 use Rattle.std.proofs.lemmas.Str.{IsUtf8-append, IsUtf8-from_is_utf8}
 use Rattle.std.specs.Prelude.{Option, Some, None, Err}
 use Rattle.std.specs.Str.{IsUtf8, chars, is_utf8}
 use lib.Utf8.{encode}
 use Rattle.wef_base.specs.declared.tree.Charset.TheVariants.{Utf8}
+use Rattle.wef_event.proofs.PlainUtf8.{stripped}
 use Rattle.wef_event.specs.Reading.{ReadsEvent}
 use Rattle.wef_event.specs.declared.records.EventFault.{EventFault}
 use Rattle.wef_event.specs.declared.records.EventFault.TheVariants as faults
@@ -15,19 +15,6 @@ use Rattle.wef_xml.specs.Fronts.{strip}
 use Rattle.wef_replay.specs.Documents.{new_event_in}
 use Rattle.wef_replay.proofs.SaidEvents.{refused}
 use Rattle.wef_commands.specs.Writing.{is_wanting}
-
-equal : (a b : ℕ) → (a == b) ≡ true → a ≡ b
-equal a b e = grind (arith, nat_tests)
-
--- a text that begins with a front is the front and what is left
-stripped : (front text rest : List ℕ) → strip front text ≡ Some rest → text ≡ front ++ rest
-stripped [] text rest e = cc
-stripped (w ∷ ws) [] rest e = let bad : ⊥ = cc in absurd bad
-stripped (w ∷ ws) (c ∷ cs) rest e = by (w == c) refl e (stripped ws cs rest)
-  where
-    by : (b : Bool) → (w == c) ≡ b → cond b (strip ws cs) None ≡ Some rest → (strip ws cs ≡ Some rest → cs ≡ ws ++ rest) → c ∷ cs ≡ (w ∷ ws) ++ rest
-    by true same e further = λ i. sym (equal w c same) i ∷ further e i
-    by false same e further = let bad : ⊥ = cc in absurd bad
 
 mark_is_utf8 : is_utf8 utf8_mark ≡ true
 unfolding is_utf8 chars encode
