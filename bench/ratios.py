@@ -3,10 +3,12 @@
 schedule, for an event that `show` reports, for an event that `check` asks a list of queries of, and for an event that `collect` takes. Each is the
 difference between two sizes, so that starting the program doesn't count. What the older program can't do is left out. It needs valgrind.
 
-    bench/ratios.py PROGRAM OLDER
+    bench/ratios.py PROGRAM OLDER [EVENTS OLDER_EVENTS]
 
 Beside a program that knows `check` it fails where `check` or `collect` isn't 1.5 times as fast; beside one that doesn't, where batches
-aren't 2.5 times as fast, or `show` 4 times.
+aren't 2.5 times as fast, or `show` 4 times. EVENTS is crates/bench_events as this checkout builds it, OLDER_EVENTS the same source as the older
+one does (laid into its crates/, with its line of crates.txt): with these it also counts for an event as Windows writes it that is read, and for
+one that is had again from its canonical text, and fails where they aren't 1.5 and 3 times as fast.
 """
 import os
 import re
@@ -27,7 +29,7 @@ def counted(words, **given):
     tool = ["valgrind", "--tool=callgrind", "--callgrind-out-file=/dev/null", *words]
     ended = subprocess.run(tool, stdout=subprocess.DEVNULL, stderr=subprocess.PIPE, **given)
     if ended.returncode != 0:
-        sys.exit(f"{words[1]} ended with {ended.returncode}")
+        sys.exit(f"{' '.join(words)} ended with {ended.returncode}")
     return instructions_in(ended.stderr)
 
 
@@ -52,6 +54,16 @@ def shows(program):
 def checks(program):
     few, many = ([LIST, *map(collect.event, range(1, events + 1))] for events in (EVENTS, 2 * EVENTS))
     return (of_lines(program, "check", many) - of_lines(program, "check", few)) / EVENTS
+
+
+def of_events(program, *words):
+    """The instructions for one event more, by the program that reads events."""
+    few, many = ("".join(f"{collect.event(number)}\n" for number in range(1, events + 1)).encode() for events in (EVENTS, 2 * EVENTS))
+    return (counted([program, *words], input=many) - counted([program, *words], input=few)) / EVENTS
+
+
+def held(program):
+    return of_events(program, "judge") - of_events(program)
 
 
 class Counted(collect.Collector):
@@ -89,13 +101,16 @@ def knows(program, word):
 
 
 def main():
-    program, older = map(os.path.abspath, sys.argv[1:3])
+    program, older, *of_each = map(os.path.abspath, sys.argv[1:5])
     rows = [("an event of a batch", batches, 2.5), ("an event that show reports", shows, 4.0)]
     missed = []
     if knows(older, "check"):
         rows = [(what, cost, 0.0) for what, cost, _ in rows] + [("an event that check is asked of", checks, 1.5), ("an event that collect takes", collects, 1.5)]
-    for what, cost, least in rows:
-        before, now = cost(older), cost(program)
+    rows = [(what, cost, least, older, program) for what, cost, least in rows]
+    if len(of_each) == 2:
+        rows += [(what, cost, least, *reversed(of_each)) for what, cost, least in [("an event that is read", of_events, 1.5), ("an event had again from its text", held, 3.0)]]
+    for what, cost, least, beside, ours in rows:
+        before, now = cost(beside), cost(ours)
         print(f"{what}: {before:,.0f} instructions before, {now:,.0f} now, {before / now:.2f} times as fast")
         if before < least * now:
             missed.append(what)
