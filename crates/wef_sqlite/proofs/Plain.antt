@@ -10,7 +10,10 @@ use Rattle.sqlite.specs.Clock.{timed}
 use Rattle.sqlite_schema.specs.declared.schema.Schema.{Schema}
 use Rattle.wef_sqlite.specs.Schema.{kept_schema}
 use Rattle.wef_sqlite.specs.States.{Rests}
-use Rattle.wef_sqlite.specs.declared.read.TheConstants.{GET, BEHIND_NUMBER, BEHIND_CHANNEL, BEHIND_SOURCE, BEHIND_SUB, BEHIND_KIND}
+use Rattle.wef_sqlite.specs.Statements.{text_behind}
+use Rattle.wef_sqlite.specs.declared.read.Section.{Section}
+use Rattle.wef_sqlite.specs.declared.read.Section.TheVariants.{Number, Channel, Source, Sub, Kind}
+use Rattle.wef_sqlite.specs.declared.read.TheConstants.{GET}
 
 get_shows : IsPlain (understood kept_schema GET.now)
 unfolding understood everything
@@ -19,40 +22,16 @@ get_shows = (refl, refl)
 pub get_plain : (schema : Schema) → schema ≡ kept_schema → IsPlain (understood schema GET.now)
 get_plain schema kept = subst (λ s. IsPlain (understood s GET.now)) (sym kept) get_shows
 
-number_shows : IsPlain (understood kept_schema BEHIND_NUMBER.now)
+behind_shows : (section : Section) → IsPlain (understood kept_schema (text_behind section))
 unfolding understood everything
-number_shows = (refl, refl)
+behind_shows Number = (refl, refl)
+behind_shows Channel = (refl, refl)
+behind_shows Source = (refl, refl)
+behind_shows Sub = (refl, refl)
+behind_shows Kind = (refl, refl)
 
-pub number_plain : (schema : Schema) → schema ≡ kept_schema → IsPlain (understood schema BEHIND_NUMBER.now)
-number_plain schema kept = subst (λ s. IsPlain (understood s BEHIND_NUMBER.now)) (sym kept) number_shows
-
-channel_shows : IsPlain (understood kept_schema BEHIND_CHANNEL.now)
-unfolding understood everything
-channel_shows = (refl, refl)
-
-pub channel_plain : (schema : Schema) → schema ≡ kept_schema → IsPlain (understood schema BEHIND_CHANNEL.now)
-channel_plain schema kept = subst (λ s. IsPlain (understood s BEHIND_CHANNEL.now)) (sym kept) channel_shows
-
-source_shows : IsPlain (understood kept_schema BEHIND_SOURCE.now)
-unfolding understood everything
-source_shows = (refl, refl)
-
-pub source_plain : (schema : Schema) → schema ≡ kept_schema → IsPlain (understood schema BEHIND_SOURCE.now)
-source_plain schema kept = subst (λ s. IsPlain (understood s BEHIND_SOURCE.now)) (sym kept) source_shows
-
-sub_shows : IsPlain (understood kept_schema BEHIND_SUB.now)
-unfolding understood everything
-sub_shows = (refl, refl)
-
-pub sub_plain : (schema : Schema) → schema ≡ kept_schema → IsPlain (understood schema BEHIND_SUB.now)
-sub_plain schema kept = subst (λ s. IsPlain (understood s BEHIND_SUB.now)) (sym kept) sub_shows
-
-kind_shows : IsPlain (understood kept_schema BEHIND_KIND.now)
-unfolding understood everything
-kind_shows = (refl, refl)
-
-pub kind_plain : (schema : Schema) → schema ≡ kept_schema → IsPlain (understood schema BEHIND_KIND.now)
-kind_plain schema kept = subst (λ s. IsPlain (understood s BEHIND_KIND.now)) (sym kept) kind_shows
+pub behind_plain : (section : Section) (schema : Schema) → schema ≡ kept_schema → IsPlain (understood schema (text_behind section))
+behind_plain section schema kept = subst (λ s. IsPlain (understood s (text_behind section))) (sym kept) (behind_shows section)
 
 -- what is unchanged rests
 pub unchanged_rests : (old new : State) → IsUnchanged old new → Rests old new

@@ -5,6 +5,9 @@ use Rattle.sqlite_value.specs.declared.value.Value.TheVariants.{Int, Text}
 use Rattle.wef_base.specs.declared.numbers.TheConstants.{MAX}
 use Rattle.wef_keeper.specs.declared.keys.Key.{Key}
 use Rattle.wef_keeper.specs.declared.keys.Row.{Row}
+use Rattle.wef_sqlite.specs.declared.read.Section.{Section}
+use Rattle.wef_sqlite.specs.declared.read.Section.TheVariants.{Number, Channel, Source, Sub, Kind}
+use Rattle.wef_sqlite.specs.declared.read.TheConstants.{BEHIND_NUMBER, BEHIND_CHANNEL, BEHIND_SOURCE, BEHIND_SUB, BEHIND_KIND}
 
 -- the least text that is greater by its bytes
 abbrev pub next_bytes : List ℕ → List ℕ
@@ -20,24 +23,21 @@ row_values row =
     Int (pos row.key.kind) ∷ Text row.key.sub ∷ Text row.key.source ∷ Text row.key.channel ∷ Int (pos row.key.number)
     ∷ Int (pos row.value) ∷ Text row.body ∷ []
 
--- greater numbers of the same channel; no row has a number above the greatest that is kept
-abbrev pub number_values : Key → ℕ → List Value
-number_values after room =
+-- the statement that shows the rows of a section behind a key
+abbrev pub text_behind : Section → List ℕ
+text_behind Number = BEHIND_NUMBER.now
+text_behind Channel = BEHIND_CHANNEL.now
+text_behind Source = BEHIND_SOURCE.now
+text_behind Sub = BEHIND_SUB.now
+text_behind Kind = BEHIND_KIND.now
+
+-- and its values: greater numbers of the same channel, where no row has a number above the greatest that is kept, greater
+-- channels of the same source, greater sources of the same subscription, greater subscriptions of the same kind, greater kinds
+abbrev pub values_behind : Section → Key → ℕ → List Value
+values_behind Number after room =
     Int (pos after.kind) ∷ Text after.sub ∷ Text after.source ∷ Text after.channel ∷ Int (pos (min after.number MAX)) ∷ Int (pos room) ∷ []
-
--- greater channels of the same source
-abbrev pub channel_values : Key → ℕ → List Value
-channel_values after room =
+values_behind Channel after room =
     Int (pos after.kind) ∷ Text after.sub ∷ Text after.source ∷ Text (next_bytes after.channel) ∷ Int (pos room) ∷ []
-
--- greater sources of the same subscription
-abbrev pub source_values : Key → ℕ → List Value
-source_values after room = Int (pos after.kind) ∷ Text after.sub ∷ Text (next_bytes after.source) ∷ Int (pos room) ∷ []
-
--- greater subscriptions of the same kind
-abbrev pub sub_values : Key → ℕ → List Value
-sub_values after room = Int (pos after.kind) ∷ Text (next_bytes after.sub) ∷ Int (pos room) ∷ []
-
--- greater kinds
-abbrev pub kind_values : Key → ℕ → List Value
-kind_values after room = Int (pos (after.kind + 1)) ∷ Int (pos room) ∷ []
+values_behind Source after room = Int (pos after.kind) ∷ Text after.sub ∷ Text (next_bytes after.source) ∷ Int (pos room) ∷ []
+values_behind Sub after room = Int (pos after.kind) ∷ Text (next_bytes after.sub) ∷ Int (pos room) ∷ []
+values_behind Kind after room = Int (pos (after.kind + 1)) ∷ Int (pos room) ∷ []

@@ -11,7 +11,7 @@ ghost use Rattle.wef_keeper.specs.Rows.{is_after};
 ghost use Rattle.wef_keeper.specs.declared.keys.Row as the_row;
 ghost use Rattle.wef_sqlite.specs.Schema.{kept_schema};
 ghost use Rattle.wef_sqlite.specs.States.{Rests};
-ghost use Rattle.wef_sqlite.specs.Statements.{key_values, number_values, channel_values, source_values, sub_values, kind_values, next_bytes};
+ghost use Rattle.wef_sqlite.specs.Statements.{key_values, next_bytes, text_behind, values_behind};
 
 use crate::columns::{kept_number, said_row};
 use crate::refusal::Refusal;
@@ -179,6 +179,7 @@ fn is_behind(after: &Key, key: &Key) -> bool
     after.cmp(key).is_lt()
 }
 
+/// The rows of a section behind a key, where the database has our table.
 fn rows_behind<S: Alter>(
     conn: &mut Connection<S>,
     section: Section,
@@ -191,121 +192,63 @@ fn rows_behind<S: Alter>(
     if !is_kept(conn.schema()) {
         return Err(Refusal::Failed);
     }
+    ask_behind(conn, section, after, room)
+}
+
+/// The rows of a section behind a key, by the statement of the section.
+#[tactic(auto, using(crate::proofs::Plain::behind_plain))]
+fn ask_behind<S: Alter>(
+    conn: &mut Connection<S>,
+    section: Section,
+    after: &Key,
+    room: u32,
+) -> Result<Vec<Columns>, Refusal>
+    requires { conn.old.schema ≡ kept_schema }
+    ensures shows { HasCleanDisk (state S.Store conn.new) → IfOk result (λ rows. Shown (text_behind section) (values_behind section after.now room) (state S.Store conn.old) (state S.Store conn.new) rows.items) }
+    ensures rests { HasCleanDisk (state S.Store conn.new) → OnOk result (Rests (state S.Store conn.old) (state S.Store conn.new)) }
+    ensures survives { Survives (state S.Store conn.old) (state S.Store conn.new) (λ _. ⊥) }
+{
+    let sql = statement_of(section);
+    let kind = u32::from(after.kind);
+    let sub = after.sub.as_str();
+    let source = after.source.as_str();
     match section {
-        Section::Number => rows_behind_number(conn, after, room),
-        Section::Channel => rows_behind_channel(conn, after, room),
-        Section::Source => rows_behind_source(conn, after, room),
-        Section::Sub => rows_behind_sub(conn, after, room),
-        Section::Kind => rows_behind_kind(conn, after, room),
+        Section::Number => {
+            let channel = after.channel.as_str();
+            let number = bounded_number(after.number);
+            ask(conn, sql, params![kind, sub, source, channel, number, room])
+        }
+        Section::Channel => {
+            let channel = next_text(&after.channel)?;
+            ask(
+                conn,
+                sql,
+                params![kind, sub, source, channel.as_str(), room],
+            )
+        }
+        Section::Source => {
+            let source = next_text(&after.source)?;
+            ask(conn, sql, params![kind, sub, source.as_str(), room])
+        }
+        Section::Sub => {
+            let sub = next_text(&after.sub)?;
+            ask(conn, sql, params![kind, sub.as_str(), room])
+        }
+        Section::Kind => ask(conn, sql, params![next_kind(after.kind), room]),
     }
 }
 
-#[tactic(auto, using(crate::proofs::Plain::number_plain))]
-fn rows_behind_number<S: Alter>(
-    conn: &mut Connection<S>,
-    after: &Key,
-    room: u32,
-) -> Result<Vec<Columns>, Refusal>
-    requires { conn.old.schema ≡ kept_schema }
-    ensures shows { HasCleanDisk (state S.Store conn.new) → IfOk result (λ rows. Shown BEHIND_NUMBER.now (number_values after.now room) (state S.Store conn.old) (state S.Store conn.new) rows.items) }
-    ensures rests { HasCleanDisk (state S.Store conn.new) → OnOk result (Rests (state S.Store conn.old) (state S.Store conn.new)) }
-    ensures survives { Survives (state S.Store conn.old) (state S.Store conn.new) (λ _. ⊥) }
+/// The statement that shows the rows of a section behind a key.
+fn statement_of(section: Section) -> &'static str
+    ensures { result.now ≡ text_behind section }
 {
-    let number = bounded_number(after.number);
-    ask(
-        conn,
-        BEHIND_NUMBER,
-        params![
-            u32::from(after.kind),
-            after.sub.as_str(),
-            after.source.as_str(),
-            after.channel.as_str(),
-            number,
-            room
-        ],
-    )
-}
-
-#[tactic(auto, using(crate::proofs::Plain::channel_plain))]
-fn rows_behind_channel<S: Alter>(
-    conn: &mut Connection<S>,
-    after: &Key,
-    room: u32,
-) -> Result<Vec<Columns>, Refusal>
-    requires { conn.old.schema ≡ kept_schema }
-    ensures shows { HasCleanDisk (state S.Store conn.new) → IfOk result (λ rows. Shown BEHIND_CHANNEL.now (channel_values after.now room) (state S.Store conn.old) (state S.Store conn.new) rows.items) }
-    ensures rests { HasCleanDisk (state S.Store conn.new) → OnOk result (Rests (state S.Store conn.old) (state S.Store conn.new)) }
-    ensures survives { Survives (state S.Store conn.old) (state S.Store conn.new) (λ _. ⊥) }
-{
-    let channel = next_text(&after.channel)?;
-    ask(
-        conn,
-        BEHIND_CHANNEL,
-        params![
-            u32::from(after.kind),
-            after.sub.as_str(),
-            after.source.as_str(),
-            channel.as_str(),
-            room
-        ],
-    )
-}
-
-#[tactic(auto, using(crate::proofs::Plain::source_plain))]
-fn rows_behind_source<S: Alter>(
-    conn: &mut Connection<S>,
-    after: &Key,
-    room: u32,
-) -> Result<Vec<Columns>, Refusal>
-    requires { conn.old.schema ≡ kept_schema }
-    ensures shows { HasCleanDisk (state S.Store conn.new) → IfOk result (λ rows. Shown BEHIND_SOURCE.now (source_values after.now room) (state S.Store conn.old) (state S.Store conn.new) rows.items) }
-    ensures rests { HasCleanDisk (state S.Store conn.new) → OnOk result (Rests (state S.Store conn.old) (state S.Store conn.new)) }
-    ensures survives { Survives (state S.Store conn.old) (state S.Store conn.new) (λ _. ⊥) }
-{
-    let source = next_text(&after.source)?;
-    ask(
-        conn,
-        BEHIND_SOURCE,
-        params![
-            u32::from(after.kind),
-            after.sub.as_str(),
-            source.as_str(),
-            room
-        ],
-    )
-}
-
-#[tactic(auto, using(crate::proofs::Plain::sub_plain))]
-fn rows_behind_sub<S: Alter>(
-    conn: &mut Connection<S>,
-    after: &Key,
-    room: u32,
-) -> Result<Vec<Columns>, Refusal>
-    requires { conn.old.schema ≡ kept_schema }
-    ensures shows { HasCleanDisk (state S.Store conn.new) → IfOk result (λ rows. Shown BEHIND_SUB.now (sub_values after.now room) (state S.Store conn.old) (state S.Store conn.new) rows.items) }
-    ensures rests { HasCleanDisk (state S.Store conn.new) → OnOk result (Rests (state S.Store conn.old) (state S.Store conn.new)) }
-    ensures survives { Survives (state S.Store conn.old) (state S.Store conn.new) (λ _. ⊥) }
-{
-    let sub = next_text(&after.sub)?;
-    ask(
-        conn,
-        BEHIND_SUB,
-        params![u32::from(after.kind), sub.as_str(), room],
-    )
-}
-
-#[tactic(auto, using(crate::proofs::Plain::kind_plain))]
-fn rows_behind_kind<S: Alter>(
-    conn: &mut Connection<S>,
-    after: &Key,
-    room: u32,
-) -> Result<Vec<Columns>, Refusal>
-    requires { conn.old.schema ≡ kept_schema }
-    ensures shows { HasCleanDisk (state S.Store conn.new) → IfOk result (λ rows. Shown BEHIND_KIND.now (kind_values after.now room) (state S.Store conn.old) (state S.Store conn.new) rows.items) }
-    ensures rests { HasCleanDisk (state S.Store conn.new) → OnOk result (Rests (state S.Store conn.old) (state S.Store conn.new)) }
-    ensures survives { Survives (state S.Store conn.old) (state S.Store conn.new) (λ _. ⊥) }
-{
-    ask(conn, BEHIND_KIND, params![next_kind(after.kind), room])
+    match section {
+        Section::Number => BEHIND_NUMBER,
+        Section::Channel => BEHIND_CHANNEL,
+        Section::Source => BEHIND_SOURCE,
+        Section::Sub => BEHIND_SUB,
+        Section::Kind => BEHIND_KIND,
+    }
 }
 
 /// A number as a column keeps it, or the greatest that one keeps: no row has a number above it.

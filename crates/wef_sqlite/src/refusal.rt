@@ -1,5 +1,9 @@
 //! Why the database refuses what it is asked.
 
+ghost use Rattle.std.specs.Prelude.{◌≡◌};
+ghost use Rattle.wef_sqlite.specs.declared.refusal.Refusal.TheVariants.{NoMemory};
+ghost use Rattle.wef_sqlite.specs.Refusals.{refusal_of};
+
 use sqlite::{Error, ErrorCode};
 use std::alloc::AllocError;
 
@@ -14,9 +18,6 @@ pub enum Refusal {
 }
 
 impl From<AllocError> for Refusal {
-    ghost use Rattle.std.specs.Prelude.{◌≡◌};
-    ghost use Rattle.wef_sqlite.specs.declared.refusal.Refusal.TheVariants.{NoMemory};
-
     ghost from_gives = { λ _ refusal. refusal ≡ NoMemory };
 
     fn from(_error: AllocError) -> Refusal {
@@ -25,9 +26,6 @@ impl From<AllocError> for Refusal {
 }
 
 impl From<Error> for Refusal {
-    ghost use Rattle.std.specs.Prelude.{◌≡◌};
-    ghost use Rattle.wef_sqlite.specs.Refusals.{refusal_of};
-
     ghost from_gives = { λ error refusal. refusal ≡ refusal_of error };
 
     fn from(error: Error) -> Refusal {
