@@ -6,6 +6,6 @@ pub mod fronts;
 pub mod links;
 pub mod memory;
 
-pub use fronts::{Front, MemFront};
-pub use links::{Link, MemLink};
-pub use memory::MemConnection;
+pub use fronts::Front;
+pub use links::Link;
+pub use memory::{MemConnection, MemConnections, MemFront, MemLink};

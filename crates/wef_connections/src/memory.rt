@@ -1,17 +1,20 @@
 //! Connections in memory, which tell their bytes and fail where they are told to.
 
-ghost use Rattle.std.specs.Prelude.{◌≡◌, ◌+◌, ◌<◌, ◌++◌, drop, length, min, vec_len, vec_capacity, IfOk, OnOk, OnErr};
+ghost use Rattle.std.specs.Prelude.{◌≡◌, ◌+◌, ◌<◌, ◌++◌, drop, length, min, vec_len, vec_capacity, IfOk, OnOk, OnErr, refl};
 ghost use Rattle.std.specs.Io.{ReadsAtMost, WritesAtMost};
 ghost use Rattle.std.specs.Io.KnownBytes.{ReadConsumes, WriteAppends};
+ghost use Rattle.std.specs.declared.option.Option.TheVariants.{Some};
 ghost use Rattle.wef_base.specs.Counts.{HasCause, Gives};
 ghost use Rattle.wef_connections.specs.Memory.{before_last, bytes_of_each, last_of, told_of, unopened, FailsAsTold};
-ghost use Rattle.wef_connections.specs.Opening.{first_of, next_connection, with_address, OnlyFails, Rises};
+ghost use Rattle.wef_connections.specs.Opening.{first_of, next_connection, sent_in_each, with_address, OnlyFails, Rises};
 ghost use Rattle.wef_ports.specs.Telling.{OnlyReads, OnlyWrites};
 
+use crate::fronts::Front;
+use crate::links::Link;
 use std::alloc::{AllocError, Global};
 use std::collections::VecDeque;
 use wef_base::{Bytes, IoFailed, List, Text};
-use wef_ports::{Failures, Pieces};
+use wef_ports::{Failures, Pieces, Port};
 
 /// A connection in memory: the bytes that come in it, and where they are cut.
 #[derive(Debug, Drop)]
@@ -22,9 +25,10 @@ pub struct MemConnection {
     pub cuts: List<usize>,
 }
 
-/// What a front and a link in memory are: one connection after the other.
+/// One connection after the other, which a front takes or a link makes. What is closed can still be
+/// read and written.
 #[derive(Debug, Drop)]
-pub(crate) struct MemConnections {
+pub struct MemConnections {
     alloc: Global,
     waiting: VecDeque<MemConnection>,
     present: Pieces,
@@ -38,13 +42,17 @@ pub(crate) struct MemConnections {
     refused: u64,
 }
 
+/// A front in memory.
+pub type MemFront = MemConnections;
+
+/// A link in memory.
+pub type MemLink = MemConnections;
+
 impl MemConnections {
-    /// These connections are to come. The calls whose numbers stand in `failing` fail.
-    pub(crate) fn of(
-        alloc: Global,
-        connections: List<MemConnection>,
-        failing: List<u64>,
-    ) -> MemConnections
+    /// These connections are to come, and then empty ones. The calls whose numbers, counted from 1
+    /// over all but `close`, stand in `failing` fail. Beside these a write fails that comes before
+    /// the first connection, and a call that finds no memory.
+    pub fn of(alloc: Global, connections: List<MemConnection>, failing: List<u64>) -> MemConnections
         ensures told { told_of result ≡ unopened (bytes_of_each connections) }
         ensures failing { result.failures.failing ≡ failing }
         ensures calls { result.failures.calls ≡ 0 }
@@ -63,112 +71,24 @@ impl MemConnections {
     }
 
     /// What was sent in each connection so far.
-    pub(crate) fn sent(&self) -> &[Bytes]
-        ensures { result.now ≡ self.now.sent.items }
+    pub fn sent(&self) -> &[Bytes]
+        ensures { sent_in_each (told_of self.now) ≡ Some result.now }
     {
         self.sent.as_slice()
     }
 
-    /// The addresses so far.
-    pub(crate) fn addresses(&self) -> &[Text]
-        ensures { result.now ≡ self.now.addresses }
+    /// Each address at which it has listened, or to which it has made a connection.
+    pub fn addresses(&self) -> &[Text]
+        ensures { (told_of self.now).around.addresses ≡ Some result.now }
     {
         self.addresses.as_slice()
     }
 
-    /// How many calls found no memory.
-    pub(crate) fn refused(&self) -> u64
+    /// How many calls found no memory. It stays at 2^64 - 1.
+    pub fn refused(&self) -> u64
         ensures { result ≡ self.now.refused }
     {
         self.refused
-    }
-
-    /// Listens at an address.
-    pub(crate) fn bind(&mut self, address: &Text) -> Result<(), IoFailed>
-        ensures bound { OnOk result (told_of self.new ≡ with_address address.now (told_of self.old)) }
-        ensures rest { OnErr result (OnlyFails (told_of self.old) (told_of self.new)) }
-        ensures cause { HasCause (told_of self.old).faults (told_of self.new).faults result }
-        ensures refusals { HasCause (told_of self.old).around.refusals (told_of self.new).around.refusals result }
-        ensures fails { FailsAsTold self.old self.new result }
-    {
-        if self.failures.next() {
-            return Err(self.refuse());
-        }
-        if self.add_address(address).is_err() {
-            return Err(self.want_memory());
-        }
-        Ok(())
-    }
-
-    /// Takes the next connection.
-    pub(crate) fn accept(&mut self) -> Result<(), IoFailed>
-        ensures accepted { OnOk result (told_of self.new ≡ next_connection (told_of self.old)) }
-        ensures rest { OnErr result (OnlyFails (told_of self.old) (told_of self.new)) }
-        ensures cause { HasCause (told_of self.old).faults (told_of self.new).faults result }
-        ensures refusals { HasCause (told_of self.old).around.refusals (told_of self.new).around.refusals result }
-        ensures fails { FailsAsTold self.old self.new result }
-    {
-        if self.failures.next() {
-            return Err(self.refuse());
-        }
-        if self.begin().is_err() {
-            return Err(self.want_memory());
-        }
-        Ok(())
-    }
-
-    /// Makes the next connection, to an address.
-    pub(crate) fn connect(&mut self, address: &Text) -> Result<(), IoFailed>
-        ensures connected { OnOk result (told_of self.new ≡ next_connection (with_address address.now (told_of self.old))) }
-        ensures rest { OnErr result (OnlyFails (told_of self.old) (told_of self.new)) }
-        ensures cause { HasCause (told_of self.old).faults (told_of self.new).faults result }
-        ensures refusals { HasCause (told_of self.old).around.refusals (told_of self.new).around.refusals result }
-        ensures fails { FailsAsTold self.old self.new result }
-    {
-        if self.failures.next() {
-            return Err(self.refuse());
-        }
-        if self.begin_at(address).is_err() {
-            return Err(self.want_memory());
-        }
-        Ok(())
-    }
-
-    /// Reads from the present connection.
-    pub(crate) fn read(&mut self, buf: &mut [u8]) -> Result<usize, IoFailed>
-        ensures bound { ReadsAtMost result buf.new }
-        ensures bytes { ReadConsumes (told_of self.old).coming (told_of self.new).coming result buf.new }
-        ensures count { Gives (told_of self.old).given (told_of self.new).given result }
-        ensures cause { HasCause (told_of self.old).faults (told_of self.new).faults result }
-        ensures rest { OnlyReads (told_of self.old) (told_of self.new) }
-        ensures fails { FailsAsTold self.old self.new result }
-    {
-        if self.failures.next() {
-            self.faults = self.faults.saturating_add(1);
-            return Err(IoFailed);
-        }
-        Ok(self.present.give(buf))
-    }
-
-    /// Writes to the present connection. It fails too where there was none yet.
-    pub(crate) fn write(&mut self, piece: &[u8]) -> Result<usize, IoFailed>
-        ensures bound { WritesAtMost result piece.now }
-        ensures bytes { WriteAppends (told_of self.old).sent (told_of self.new).sent result piece.now }
-        ensures moves { IfOk result (λ n. 0 < length piece.now → 0 < n) }
-        ensures cause { HasCause (told_of self.old).faults (told_of self.new).faults result }
-        ensures rest { OnlyWrites (told_of self.old) (told_of self.new) }
-        ensures fails { 0 < length self.old.sent.items → FailsAsTold self.old self.new result }
-    {
-        if self.failures.next() || self.sent.is_empty() {
-            self.faults = self.faults.saturating_add(1);
-            return Err(IoFailed);
-        }
-        if append_to_last(&mut self.sent, piece).is_err() {
-            self.faults = self.faults.saturating_add(1);
-            self.refused = self.refused.saturating_add(1);
-            return Err(IoFailed);
-        }
-        Ok(piece.len())
     }
 
     /// Puts an address behind the others.
@@ -243,6 +163,106 @@ impl MemConnections {
         self.refused = self.refused.saturating_add(1);
         self.refuse()
     }
+}
+
+impl Port for MemConnections {
+    ghost told = { told_of };
+
+    ghost tells = { λ a b. refl };
+
+    ghost tells_together = { λ c. (refl, refl, refl, refl) };
+
+    fn read(&mut self, buf: &mut [u8]) -> Result<usize, IoFailed>
+        ensures bound { ReadsAtMost result buf.new }
+        ensures bytes { ReadConsumes (told_of self.old).coming (told_of self.new).coming result buf.new }
+        ensures count { Gives (told_of self.old).given (told_of self.new).given result }
+        ensures cause { HasCause (told_of self.old).faults (told_of self.new).faults result }
+        ensures rest { OnlyReads (told_of self.old) (told_of self.new) }
+        ensures fails { FailsAsTold self.old self.new result }
+    {
+        if self.failures.next() {
+            self.faults = self.faults.saturating_add(1);
+            return Err(IoFailed);
+        }
+        Ok(self.present.give(buf))
+    }
+
+    /// A write fails too where there was no connection yet.
+    fn write(&mut self, piece: &[u8]) -> Result<usize, IoFailed>
+        ensures bound { WritesAtMost result piece.now }
+        ensures bytes { WriteAppends (told_of self.old).sent (told_of self.new).sent result piece.now }
+        ensures moves { IfOk result (λ n. 0 < length piece.now → 0 < n) }
+        ensures cause { HasCause (told_of self.old).faults (told_of self.new).faults result }
+        ensures rest { OnlyWrites (told_of self.old) (told_of self.new) }
+        ensures fails { 0 < length self.old.sent.items → FailsAsTold self.old self.new result }
+    {
+        if self.failures.next() || self.sent.is_empty() {
+            self.faults = self.faults.saturating_add(1);
+            return Err(IoFailed);
+        }
+        if append_to_last(&mut self.sent, piece).is_err() {
+            self.faults = self.faults.saturating_add(1);
+            self.refused = self.refused.saturating_add(1);
+            return Err(IoFailed);
+        }
+        Ok(piece.len())
+    }
+}
+
+impl Front for MemConnections {
+    fn bind(&mut self, address: &Text) -> Result<(), IoFailed>
+        ensures bound { OnOk result (told_of self.new ≡ with_address address.now (told_of self.old)) }
+        ensures rest { OnErr result (OnlyFails (told_of self.old) (told_of self.new)) }
+        ensures cause { HasCause (told_of self.old).faults (told_of self.new).faults result }
+        ensures refusals { HasCause (told_of self.old).around.refusals (told_of self.new).around.refusals result }
+        ensures fails { FailsAsTold self.old self.new result }
+    {
+        if self.failures.next() {
+            return Err(self.refuse());
+        }
+        if self.add_address(address).is_err() {
+            return Err(self.want_memory());
+        }
+        Ok(())
+    }
+
+    fn accept(&mut self) -> Result<(), IoFailed>
+        ensures accepted { OnOk result (told_of self.new ≡ next_connection (told_of self.old)) }
+        ensures rest { OnErr result (OnlyFails (told_of self.old) (told_of self.new)) }
+        ensures cause { HasCause (told_of self.old).faults (told_of self.new).faults result }
+        ensures refusals { HasCause (told_of self.old).around.refusals (told_of self.new).around.refusals result }
+        ensures fails { FailsAsTold self.old self.new result }
+    {
+        if self.failures.next() {
+            return Err(self.refuse());
+        }
+        if self.begin().is_err() {
+            return Err(self.want_memory());
+        }
+        Ok(())
+    }
+
+    fn close(&mut self) {}
+}
+
+impl Link for MemConnections {
+    fn connect(&mut self, address: &Text) -> Result<(), IoFailed>
+        ensures connected { OnOk result (told_of self.new ≡ next_connection (with_address address.now (told_of self.old))) }
+        ensures rest { OnErr result (OnlyFails (told_of self.old) (told_of self.new)) }
+        ensures cause { HasCause (told_of self.old).faults (told_of self.new).faults result }
+        ensures refusals { HasCause (told_of self.old).around.refusals (told_of self.new).around.refusals result }
+        ensures fails { FailsAsTold self.old self.new result }
+    {
+        if self.failures.next() {
+            return Err(self.refuse());
+        }
+        if self.begin_at(address).is_err() {
+            return Err(self.want_memory());
+        }
+        Ok(())
+    }
+
+    fn close(&mut self) {}
 }
 
 /// The first connection, which leaves those that wait, or an empty one where none waits.
