@@ -1,16 +1,16 @@
 -- What is known of a connection of the system: its counts, and whether there is one.
 use Rattle.std.specs.Prelude.{None, false}
 use Rattle.wef_ports.specs.Telling.{Told}
-use Rattle.wef_tcp.specs.declared.streams.TcpPort.{TcpPort}
+use Rattle.wef_tcp.specs.declared.links.TcpLink.{TcpLink}
 
 -- Counts alone are told.
-abbrev pub told_of : TcpPort → Told
-told_of p = record {
+abbrev pub told_of : TcpLink → Told
+told_of l = record {
   coming = None;
   sent = None;
-  given = p.given;
-  faults = p.faults;
-  around = record { addresses = None; waiting = None; earlier = None; began = p.began; refusals = p.refusals };
+  given = l.given;
+  faults = l.faults;
+  around = record { addresses = None; waiting = None; earlier = None; began = l.began; refusals = l.refusals };
 }
 
 -- There was no connection yet, and nothing failed.

@@ -3,36 +3,34 @@
 ghost use Rattle.std.specs.Prelude.{◌≡◌, refl};
 ghost use Rattle.wef_tcp.specs.Streams.{told_of, unopened};
 
-use crate::streams::{TcpPort, limited};
+use crate::links::{TcpLink, limited};
 use std::io;
 use std::net::{TcpListener, TcpStream};
 use wef_base::{IoFailed, Text};
-use wef_connections::Front;
+use wef_connections::{Front, Link};
 use wef_ports::Port;
 
 /// A front that listens at one address of the system at a time.
 #[derive(Drop)]
 pub struct TcpFront {
-    rt: HostRuntime,
     listener: Option<TcpListener>,
-    port: TcpPort,
+    present: TcpLink,
 }
 
 impl TcpFront {
     /// A front that doesn't listen yet.
     pub fn new(rt: HostRuntime) -> TcpFront
-        ensures { told_of result.port ≡ unopened }
+        ensures { told_of result.present ≡ unopened }
     {
         TcpFront {
-            rt,
             listener: None,
-            port: TcpPort::new(),
+            present: TcpLink::new(rt),
         }
     }
 }
 
 impl Port for TcpFront {
-    ghost told = { λ f. told_of f.port };
+    ghost told = { λ f. told_of f.present };
 
     ghost tells = { λ a b. refl };
 
@@ -40,12 +38,12 @@ impl Port for TcpFront {
 
     /// A read fails where there is no connection, or none that isn't closed.
     fn read(&mut self, buf: &mut [u8]) -> Result<usize, IoFailed> {
-        self.port.read(buf)
+        self.present.read(buf)
     }
 
     /// A write fails where there is no connection, or none that isn't closed.
     fn write(&mut self, piece: &[u8]) -> Result<usize, IoFailed> {
-        self.port.write(piece)
+        self.present.write(piece)
     }
 }
 
@@ -53,12 +51,12 @@ impl Front for TcpFront {
     /// The address is `HOST:PORT` or `[IPV6]:PORT`, where HOST may be a name. There is no port that an
     /// address without one has.
     fn bind(&mut self, address: &Text) -> Result<(), IoFailed> {
-        match TcpListener::bind(&self.rt, address.as_str()) {
+        match TcpListener::bind(&self.present.rt, address.as_str()) {
             Ok(listener) => {
                 self.listener = Some(listener);
                 Ok(())
             }
-            Err(_) => Err(self.port.refuse()),
+            Err(_) => Err(self.present.refuse()),
         }
     }
 
@@ -66,15 +64,15 @@ impl Front for TcpFront {
     fn accept(&mut self) -> Result<(), IoFailed> {
         match accepted(&self.listener) {
             Ok(stream) => {
-                self.port.begin(stream);
+                self.present.begin(stream);
                 Ok(())
             }
-            Err(_) => Err(self.port.refuse()),
+            Err(_) => Err(self.present.refuse()),
         }
     }
 
     fn close(&mut self) {
-        self.port.close();
+        self.present.close();
     }
 }
 

@@ -3,7 +3,6 @@
 
 pub mod fronts;
 pub mod links;
-pub mod streams;
 
 pub use fronts::TcpFront;
 pub use links::TcpLink;

@@ -1,36 +1,71 @@
 //! A link over TCP.
 
 ghost use Rattle.std.specs.Prelude.{◌≡◌, refl};
+ghost use Rattle.wef_connections.specs.Opening.{next_connection, OnlyFails, Rises};
 ghost use Rattle.wef_tcp.specs.Streams.{told_of, unopened};
 
-use crate::streams::{TcpPort, limited};
-use std::io;
+use std::io::{self, Read, Write};
 use std::net::TcpStream;
+use std::time::Duration;
 use wef_base::{IoFailed, Text};
 use wef_connections::Link;
 use wef_ports::Port;
 
+/// How many seconds a read or a write of a connection waits for the peer. One that waits longer
+/// fails.
+const TIME_LIMIT: u64 = 30;
+
 /// A link to addresses of the system.
 #[derive(Drop)]
 pub struct TcpLink {
-    rt: HostRuntime,
-    port: TcpPort,
+    pub(crate) rt: HostRuntime,
+
+    // The present connection, where there is one that isn't closed.
+    stream: Option<TcpStream>,
+    began: bool,
+    given: u64,
+    faults: u64,
+    refusals: u64,
 }
 
 impl TcpLink {
     /// A link that has made no connection yet.
     pub fn new(rt: HostRuntime) -> TcpLink
-        ensures { told_of result.port ≡ unopened }
+        ensures { told_of result ≡ unopened }
     {
         TcpLink {
             rt,
-            port: TcpPort::new(),
+            stream: None,
+            began: false,
+            given: 0,
+            faults: 0,
+            refusals: 0,
         }
+    }
+
+    /// Makes a stream the present connection. The one before is closed.
+    pub(crate) fn begin(&mut self, stream: TcpStream)
+        ensures { told_of self.new ≡ next_connection (told_of self.old) }
+    {
+        self.stream = Some(stream);
+        self.began = true;
+        self.given = 0;
+    }
+
+    /// Counts an opening that failed.
+    pub(crate) fn refuse(&mut self) -> IoFailed
+        ensures rest { OnlyFails (told_of self.old) (told_of self.new) }
+        ensures cause { Rises self.old.faults self.new.faults }
+        ensures refusals { Rises self.old.refusals self.new.refusals }
+    {
+        self.faults = self.faults.saturating_add(1);
+        self.refusals = self.refusals.saturating_add(1);
+        IoFailed
     }
 }
 
 impl Port for TcpLink {
-    ghost told = { λ l. told_of l.port };
+    ghost told = { told_of };
 
     ghost tells = { λ a b. refl };
 
@@ -38,12 +73,29 @@ impl Port for TcpLink {
 
     /// A read fails where there is no connection, or none that isn't closed.
     fn read(&mut self, buf: &mut [u8]) -> Result<usize, IoFailed> {
-        self.port.read(buf)
+        if let Some(stream) = &mut self.stream {
+            if let Ok(count) = stream.read(buf) {
+                if let Some(given) = self.given.checked_add(count as u64) {
+                    self.given = given;
+                    return Ok(count);
+                }
+            }
+        }
+        self.faults = self.faults.saturating_add(1);
+        Err(IoFailed)
     }
 
     /// A write fails where there is no connection, or none that isn't closed.
     fn write(&mut self, piece: &[u8]) -> Result<usize, IoFailed> {
-        self.port.write(piece)
+        if let Some(stream) = &mut self.stream {
+            if let Ok(count) = stream.write(piece) {
+                if count > 0 || piece.is_empty() {
+                    return Ok(count);
+                }
+            }
+        }
+        self.faults = self.faults.saturating_add(1);
+        Err(IoFailed)
     }
 }
 
@@ -53,19 +105,27 @@ impl Link for TcpLink {
     fn connect(&mut self, address: &Text) -> Result<(), IoFailed> {
         match connected(&self.rt, address.as_str()) {
             Ok(stream) => {
-                self.port.begin(stream);
+                self.begin(stream);
                 Ok(())
             }
-            Err(_) => Err(self.port.refuse()),
+            Err(_) => Err(self.refuse()),
         }
     }
 
     fn close(&mut self) {
-        self.port.close();
+        self.stream = None;
     }
 }
 
 /// A new connection to an address.
 fn connected(rt: &HostRuntime, address: &str) -> io::Result<TcpStream> {
     limited(TcpStream::connect(rt, address)?)
+}
+
+/// Sets the time limit of a stream's reads and writes.
+pub(crate) fn limited(stream: TcpStream) -> io::Result<TcpStream> {
+    let limit = Some(Duration::from_secs(TIME_LIMIT));
+    stream.set_read_timeout(limit)?;
+    stream.set_write_timeout(limit)?;
+    Ok(stream)
 }
