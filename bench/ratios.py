@@ -24,10 +24,13 @@ SHOWS = 5
 LIST = "<QueryList><Query><Select Path='Security'>*[System[(EventID=4624 or EventID=4625) and (Level=0 or Level=4)]]</Select></Query></QueryList>"
 
 
-def counted(words, **given):
-    """Runs a command under valgrind: its instructions."""
+def counted(words, text):
+    """Runs a command under valgrind with this input, a file, since what reading costs depends on the pieces that a pipe gives: its instructions."""
     tool = ["valgrind", "--tool=callgrind", "--callgrind-out-file=/dev/null", *words]
-    ended = subprocess.run(tool, stdout=subprocess.DEVNULL, stderr=subprocess.PIPE, **given)
+    with tempfile.TemporaryFile() as given:
+        given.write(text.encode())
+        given.seek(0)
+        ended = subprocess.run(tool, stdin=given, stdout=subprocess.DEVNULL, stderr=subprocess.PIPE)
     if ended.returncode != 0:
         sys.exit(f"{' '.join(words)} ended with {ended.returncode}")
     return instructions_in(ended.stderr)
@@ -38,7 +41,7 @@ def instructions_in(told):
 
 
 def of_lines(program, word, lines):
-    return counted([program, word], input="".join(f"{line}\n" for line in lines).encode())
+    return counted([program, word], "".join(f"{line}\n" for line in lines))
 
 
 def batches(program):
@@ -58,8 +61,8 @@ def checks(program):
 
 def of_events(program, *words):
     """The instructions for one event more, by the program that reads events."""
-    few, many = ("".join(f"{collect.event(number)}\n" for number in range(1, events + 1)).encode() for events in (EVENTS, 2 * EVENTS))
-    return (counted([program, *words], input=many) - counted([program, *words], input=few)) / EVENTS
+    few, many = ("".join(f"{collect.event(number)}\n" for number in range(1, events + 1)) for events in (EVENTS, 2 * EVENTS))
+    return (counted([program, *words], many) - counted([program, *words], few)) / EVENTS
 
 
 def held(program):
