@@ -15,12 +15,7 @@ use wef_tree::read_tree;
 
 /// Where a delivery of the source `pc1` for the subscription `base` goes to.
 pub(crate) fn base_path(alloc: Global) -> Result<Target, AllocError> {
-    path_to(alloc, "base")
-}
-
-/// Where a delivery of the source `pc1` for a subscription goes to.
-pub(crate) fn path_to(alloc: Global, sub: &str) -> Result<Target, AllocError> {
-    path_of(alloc, sub, "pc1")
+    path_of(alloc, "base", "pc1")
 }
 
 /// Where a delivery of a source for a subscription goes to.
@@ -45,16 +40,13 @@ pub(crate) fn asked(
     collector_answer(alloc, collector, target, &host, charset, body, now)
 }
 
-/// The whole answer to a document, and what is kept behind it.
-pub(crate) fn push_whole(
-    shown: &mut Text,
-    target: &Target,
-    document: &str,
-) -> Result<(), AllocError> {
+/// The whole answer to a document for a subscription, and what is kept behind it.
+pub(crate) fn push_whole(shown: &mut Text, sub: &str, document: &str) -> Result<(), AllocError> {
     let alloc = shown.alloc();
     let mut collector = collector_of(alloc, Kept::Live)?;
     let body = unescaped(alloc, document)?;
-    let answer = asked(alloc, &mut collector, target, Charset::Utf8, &body, 1)?;
+    let target = path_of(alloc, sub, "pc1")?;
+    let answer = asked(alloc, &mut collector, &target, Charset::Utf8, &body, 1)?;
     push_bytes(shown, &answer)?;
     push_left(shown, collector, Kept::Live)
 }
@@ -64,6 +56,12 @@ pub(crate) fn push_bytes(shown: &mut Text, answer: &Answer) -> Result<(), AllocE
     shown.push_number(u64::from(answer.status))?;
     shown.push_str(" ")?;
     shown.push_str(str::from_utf8(answer.body.as_slice()).unwrap_or("no UTF-8"))
+}
+
+/// What is said to a delivery with edits at the path of a source, and what is kept behind it.
+pub(crate) fn push_delivered(shown: &mut Text, edits: &str) -> Result<(), AllocError> {
+    let target = base_path(shown.alloc())?;
+    push_edited(shown, Kept::Live, &target, edits)
 }
 
 /// What is said to a delivery with edits at a target, and what is kept behind it.
@@ -123,7 +121,23 @@ fn segment(alloc: Global, word: &str) -> Result<Text, AllocError> {
 
 /// What is said to requests that follow each other, with ` then ` between them, and what is kept
 /// behind the last.
-pub(crate) fn push_sequence(
+pub(crate) fn push_sequence(shown: &mut Text, requests: &str) -> Result<(), AllocError> {
+    let collector = collector_of(shown.alloc(), Kept::Live)?;
+    push_sequence_to(shown, collector, requests)
+}
+
+/// The same of requests of which the first that commits fails.
+pub(crate) fn push_failing(
+    shown: &mut Text,
+    after: bool,
+    requests: &str,
+) -> Result<(), AllocError> {
+    let mut collector = collector_of(shown.alloc(), Kept::Live)?;
+    collector.fail_next(after);
+    push_sequence_to(shown, collector, requests)
+}
+
+fn push_sequence_to(
     shown: &mut Text,
     collector: Collector<MemKeeper>,
     requests: &str,

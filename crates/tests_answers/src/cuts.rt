@@ -3,14 +3,16 @@
 use crate::answers::{asked, base_path, push_said};
 use std::alloc::{AllocError, Global};
 use tests_collectors::collectors::{Kept, collector_of, first_rows, push_changed};
+use tests_tasks::deliveries::edited;
 use wef_base::{Bytes, Charset, Text};
 use wef_front::Answer;
 use wef_keeper::Row;
 
-/// What is said to each front of a request and what is kept behind it, `FIRST-LAST: ANSWER` for
-/// fronts of so many bytes.
-pub(crate) fn push_cuts(shown: &mut Text, body: &Bytes) -> Result<(), AllocError> {
+/// What is said to each front of a delivery with edits and what is kept behind it,
+/// `FIRST-LAST: ANSWER` for fronts of so many bytes.
+pub(crate) fn push_cuts(shown: &mut Text, edits: &str) -> Result<(), AllocError> {
     let alloc = shown.alloc();
+    let body = edited(alloc, edits)?;
     let bytes = body.as_slice();
     let before = first_rows(alloc, Kept::Live)?;
     let mut runs = Runs::of(answer_front(alloc, before.as_slice(), &[])?);

@@ -1,6 +1,6 @@
 //! Wishes for subscriptions, and what is said to them.
 
-use crate::answers::{asked, path_of, push_answered, push_bytes};
+use crate::answers::{asked, base_path, path_of, push_answered, push_bytes};
 use std::alloc::AllocError;
 use tests_collectors::collectors::{Kept, collector_of, push_left};
 use tests_collectors::requests::enumerate;
@@ -10,15 +10,21 @@ use tests_tasks::escapes::escaped;
 use wef_base::{Charset, Text};
 use wef_front::Target;
 
-/// What is said to an Enumerate with edits, and what is kept behind it.
-pub(crate) fn push_enumerated(
-    shown: &mut Text,
-    kept: Kept,
-    target: &Target,
-    edits: &str,
-) -> Result<(), AllocError> {
+/// What is said to an Enumerate with edits at the path of the subscriptions, and what is kept behind
+/// it.
+pub(crate) fn push_enumerated(shown: &mut Text, edits: &str) -> Result<(), AllocError> {
+    push_enumerated_at(shown, &Target::Manager, edits)
+}
+
+/// The same where the source `pc1` delivers for the subscription `base`.
+pub(crate) fn push_enumerated_elsewhere(shown: &mut Text, edits: &str) -> Result<(), AllocError> {
+    let target = base_path(shown.alloc())?;
+    push_enumerated_at(shown, &target, edits)
+}
+
+fn push_enumerated_at(shown: &mut Text, target: &Target, edits: &str) -> Result<(), AllocError> {
     let body = enumerate(shown.alloc(), edits)?;
-    push_answered(shown, kept, target, &body)
+    push_answered(shown, Kept::Live, target, &body)
 }
 
 /// The whole answer to an Enumerate with edits, and what is kept behind it.

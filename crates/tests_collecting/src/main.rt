@@ -7,12 +7,23 @@
 #![tactic(auto)]
 
 mod runs;
-mod tasks;
 
+use runs::{push_armed, push_broken, push_collected, push_untold};
 use std::io;
-use tasks::Task;
-use tests_tasks::answer_lines;
+use tests_tasks::{Task, answer_lines};
 
 fn main(rt: HostRuntime) -> io::Result<()> {
-    answer_lines(&rt, Task::Collected)
+    answer_lines(
+        &rt,
+        &[
+            // How the run ends.
+            Task::new("collected", push_collected),
+            // The same where one call of the front fails, for each call.
+            Task::new("broken", push_broken),
+            // The same where one write to the output fails, for each write.
+            Task::new("untold", push_untold),
+            // The same where the first commit fails.
+            Task::new("armed", push_armed),
+        ],
+    )
 }

@@ -4,6 +4,7 @@ use crate::replies::push_replies;
 use std::alloc::{AllocError, Global};
 use tests_collectors::collectors::{Kept, collector_of, first_rows, push_changed, push_left};
 use tests_collectors::requests::bytes_of;
+use tests_tasks::runs::Runs;
 use wef_base::{Bytes, List, Moment, Text};
 use wef_collector::Collector;
 use wef_collector_serving::{ConnectionEnd, serve_connection, serve_next_connection};
@@ -135,10 +136,15 @@ pub(crate) fn push_cuts(shown: &mut Text, line: &str) -> Result<(), AllocError> 
     let mut runs = Runs::new(alloc);
     for cut in 0..bytes.len() {
         let mut front = front_of(alloc, &bytes.as_slice()[..cut], 1_000_000, 0)?;
-        runs.add(shown, cut as u64, before.as_slice(), &mut front)?;
+        runs.add(
+            shown,
+            cut as u64,
+            told(alloc, before.as_slice(), &mut front)?,
+        )?;
     }
     let mut front = front_of(alloc, bytes.as_slice(), 1_000_000, 0)?;
-    runs.add(shown, bytes.len() as u64, before.as_slice(), &mut front)
+    let whole = told(alloc, before.as_slice(), &mut front)?;
+    runs.add(shown, bytes.len() as u64, whole)
 }
 
 /// What comes of the connection of a line where one call of the front fails, for the first calls of
@@ -150,50 +156,13 @@ pub(crate) fn push_broken(shown: &mut Text, line: &str) -> Result<(), AllocError
     let mut runs = Runs::new(alloc);
     for call in 1..14 {
         let mut front = front_of(alloc, bytes.as_slice(), 400, call)?;
-        runs.add(shown, call, before.as_slice(), &mut front)?;
+        runs.add(shown, call, told(alloc, before.as_slice(), &mut front)?)?;
     }
     Ok(())
 }
 
-/// Outcomes one after the other, of which each that is new is printed with its number.
-#[derive(Drop)]
-struct Runs {
-    last: Text,
-}
-
-impl Runs {
-    fn new(alloc: Global) -> Runs {
-        Runs {
-            last: Text::new(alloc),
-        }
-    }
-
-    /// Serves a connection for a new collector, whose rows these are, and prints what comes of it
-    /// where it isn't what came of the one before.
-    fn add(
-        &mut self,
-        shown: &mut Text,
-        number: u64,
-        before: &[Row],
-        front: &mut MemFront,
-    ) -> Result<(), AllocError> {
-        let text = told(shown.alloc(), before, front)?;
-        if text != self.last {
-            shown.push_str(if self.last.is_empty() {
-                "from "
-            } else {
-                "\n    from "
-            })?;
-            shown.push_number(number)?;
-            shown.push_str(": ")?;
-            shown.push_str(text.as_str())?;
-            self.last = text;
-        }
-        Ok(())
-    }
-}
-
-/// How the connection of a front ends, how much is sent in it, and what is kept behind it.
+/// How the connection of a front to a new collector ends, whose rows these are, how much is sent in it,
+/// and what is kept behind it.
 fn told(alloc: Global, before: &[Row], front: &mut MemFront) -> Result<Text, AllocError> {
     let mut text = Text::new(alloc);
     let mut collector = collector_of(alloc, Kept::Live)?;

@@ -9,12 +9,23 @@
 
 mod connections;
 mod replies;
-mod tasks;
 
+use connections::{push_broken, push_cuts, push_failing, push_served};
 use std::io;
-use tasks::Task;
-use tests_tasks::answer_lines;
+use tests_tasks::{Task, answer_lines};
 
 fn main(rt: HostRuntime) -> io::Result<()> {
-    answer_lines(&rt, Task::Served)
+    answer_lines(
+        &rt,
+        &[
+            // What is sent in a connection, and what is kept behind it.
+            Task::new("served", push_served),
+            // The same, where the first commit fails and leaves nothing.
+            Task::new("failing", push_failing),
+            // What comes of each front of its bytes.
+            Task::new("cut", push_cuts),
+            // What comes of it where one call of the front fails, for each call.
+            Task::new("broken", push_broken),
+        ],
+    )
 }

@@ -1,6 +1,7 @@
 //! Events, written out as their number, a space and their channel.
 
 use std::alloc::AllocError;
+use tests_tasks::rows::{parts_of, push_is_event};
 use wef_base::{ChannelName, Charset, Text, ValueFault, is_xml_text};
 use wef_event::{Event, EventFault, event_of_node, plain_event, read_event, read_new_event};
 use wef_tree::read_tree;
@@ -55,27 +56,14 @@ fn numbered(event: Result<Event, EventFault>, number: u64) -> Result<Event, Even
 
 /// Whether the `CHANNEL NUMBER TEXT` of a row are an event.
 pub(crate) fn push_parts(shown: &mut Text, row: &Text) -> Result<(), AllocError> {
-    shown.push_str(match is_event(row) {
-        Ok(true) => "an event",
-        Ok(false) => "no event",
-        Err(ValueFault::NoMemory) => return Err(AllocError),
-        Err(_) => "no row",
-    })
+    push_is_event(shown, is_event(row))
 }
 
 fn is_event(row: &Text) -> Result<bool, ValueFault> {
-    let Some((channel, number, text)) = parts_of(row.as_str()) else {
+    let Some((channel, number, text)) = parts_of(row)? else {
         return Ok(false);
     };
-    let channel = ChannelName::read(&Text::from_str(row.alloc(), channel)?)?;
-    let text = Text::from_str(row.alloc(), text)?;
     Ok(Event::of_text(&channel, number, &text)?.is_some())
-}
-
-fn parts_of(row: &str) -> Option<(&str, u64, &str)> {
-    let (channel, rest) = row.split_once(' ')?;
-    let (number, text) = rest.split_once(' ')?;
-    Some((channel, number.parse::<u64>().ok()?, text))
 }
 
 /// The plain event of `NUMBER ID LEVEL WORD` in the channel application.

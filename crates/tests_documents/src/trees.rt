@@ -5,8 +5,17 @@ ghost use Rattle.wef_xml.specs.Good.{IsGoodTree};
 
 use std::alloc::{AllocError, Global};
 use tests_tasks::hexadecimal::push_hexadecimal;
-use wef_base::{Attribute, Charset, Element, List, Namespace, Node, Text};
+use wef_base::{Attribute, Charset, Element, List, Namespace, Node, Text, is_xml_text};
 use wef_tree::{TreeFault, read_tree, write_tree};
+
+/// Whether a text has the characters of XML alone.
+pub(crate) fn push_judgement(shown: &mut Text, text: &Text) -> Result<(), AllocError> {
+    shown.push_str(if is_xml_text(text)? {
+        "characters of XML"
+    } else {
+        "another character"
+    })
+}
 
 /// What reading answers, written out.
 pub(crate) fn push_reading(

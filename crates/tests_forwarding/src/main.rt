@@ -11,12 +11,28 @@ mod commands;
 mod responses;
 mod runs;
 mod sources;
-mod tasks;
 
+use commands::push_ran;
+use runs::{push_asked, push_asking, push_broken, push_forwarded, push_sent};
 use std::io;
-use tasks::Task;
-use tests_tasks::answer_lines;
+use tests_tasks::{Task, answer_lines};
 
 fn main(rt: HostRuntime) -> io::Result<()> {
-    answer_lines(&rt, Task::Forwarded)
+    answer_lines(
+        &rt,
+        &[
+            // The response comes back to the ask.
+            Task::new("asked", push_asked),
+            // It comes back to the first batch of a source that has a session.
+            Task::new("forwarded", push_forwarded),
+            // It comes back to a batch of one that has asked once more.
+            Task::new("asking", push_asking),
+            // It comes back to both where one call of the link fails, for each call.
+            Task::new("broken", push_broken),
+            // What is sent where, until it has come back.
+            Task::new("sent", push_sent),
+            // What the program prints.
+            Task::new("command", push_ran),
+        ],
+    )
 }

@@ -4,12 +4,24 @@
 #![tactic(auto)]
 
 mod messages;
-mod tasks;
 
+use messages::{push_broken, push_long, push_request, push_response};
 use std::io;
-use tasks::Task;
-use tests_tasks::answer_lines;
+use tests_tasks::{Task, answer_lines};
 
 fn main(rt: HostRuntime) -> io::Result<()> {
-    answer_lines(&rt, Task::Response)
+    answer_lines(
+        &rt,
+        &[
+            // What is sent of the response `STATUS CHARSET BODY`.
+            Task::new("response", push_response),
+            // What is sent of the request `HOST PATH BODY`.
+            Task::new("request", |shown, line| push_request(shown, line, 0)),
+            // What is sent of the request `CALL HOST PATH BODY` where the call of this number fails.
+            Task::new("broken", push_broken),
+            // How many bytes are sent of a request with a body of so many, `CALL SIZE`, where the call of
+            // this number fails.
+            Task::new("long", push_long),
+        ],
+    )
 }

@@ -1,13 +1,25 @@
 //! Envelopes, written out as what they have.
 
+use crate::documents::{read_document, read_headers};
 use crate::ids::push_both;
 use crate::trees::push_element;
 use std::alloc::AllocError;
 use wef_base::{Element, Text};
 use wef_envelope::{Envelope, EnvelopeFault, MessageId, from_node, id_in, to_node};
 
-/// What a tree says.
-pub(crate) fn push_envelope(shown: &mut Text, root: Option<Element>) -> Result<(), AllocError> {
+/// What a document says.
+pub(crate) fn push_document(shown: &mut Text, line: &str) -> Result<(), AllocError> {
+    let root = read_document(shown.alloc(), line)?;
+    push_envelope(shown, root)
+}
+
+/// What an envelope with these headers says.
+pub(crate) fn push_headers(shown: &mut Text, line: &str) -> Result<(), AllocError> {
+    let root = read_headers(shown.alloc(), line)?;
+    push_envelope(shown, root)
+}
+
+fn push_envelope(shown: &mut Text, root: Option<Element>) -> Result<(), AllocError> {
     let Some(root) = root else {
         return shown.push_str("no document");
     };
@@ -82,9 +94,9 @@ fn push_some_id(shown: &mut Text, word: &str, id: Option<&MessageId>) -> Result<
     Ok(())
 }
 
-/// The tree that is written for an envelope.
-pub(crate) fn push_written(shown: &mut Text, root: Option<Element>) -> Result<(), AllocError> {
-    let Some(root) = root else {
+/// The tree that is written for an envelope with these headers.
+pub(crate) fn push_written(shown: &mut Text, line: &str) -> Result<(), AllocError> {
+    let Some(root) = read_headers(shown.alloc(), line)? else {
         return shown.push_str("no document");
     };
     match from_node(&root) {
@@ -93,9 +105,9 @@ pub(crate) fn push_written(shown: &mut Text, root: Option<Element>) -> Result<()
     }
 }
 
-/// The id that an answer to an envelope relates to.
-pub(crate) fn push_answered(shown: &mut Text, root: Option<Element>) -> Result<(), AllocError> {
-    let Some(root) = root else {
+/// The id that an answer to an envelope with these headers relates to.
+pub(crate) fn push_answered(shown: &mut Text, line: &str) -> Result<(), AllocError> {
+    let Some(root) = read_headers(shown.alloc(), line)? else {
         return shown.push_str("no document");
     };
     match id_in(&root)? {

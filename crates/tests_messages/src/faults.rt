@@ -3,14 +3,15 @@
 ghost use Rattle.std.specs.Prelude.{◌≡◌, true};
 ghost use Rattle.wef_envelope.specs.Faults.{is_known};
 
+use crate::documents::read_document;
 use crate::trees::push_element;
 use std::alloc::AllocError;
-use wef_base::{Element, Text};
+use wef_base::Text;
 use wef_envelope::{EnvelopeFault, Fault, FaultCode, FaultName, fault_node, read_fault};
 
-/// The fault that a tree is.
-pub(crate) fn push_fault(shown: &mut Text, root: Option<Element>) -> Result<(), AllocError> {
-    let Some(root) = root else {
+/// The fault that a document is.
+pub(crate) fn push_fault(shown: &mut Text, line: &str) -> Result<(), AllocError> {
+    let Some(root) = read_document(shown.alloc(), line)? else {
         return shown.push_str("no document");
     };
     match read_fault(&root) {

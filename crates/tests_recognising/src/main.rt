@@ -7,12 +7,23 @@
 #![tactic(auto)]
 
 mod others;
-mod tasks;
+mod seen;
 
+use seen::{push_all, push_parts, push_seen};
 use std::io;
-use tasks::Task;
-use tests_tasks::answer_lines;
+use tests_tasks::spelt::push_of_text;
+use tests_tasks::{Task, answer_lines};
 
 fn main(rt: HostRuntime) -> io::Result<()> {
-    answer_lines(&rt, Task::Text)
+    answer_lines(
+        &rt,
+        &[
+            // What is seen in one pass, and of the texts that differ in one character.
+            Task::new("text", |shown, line| push_of_text(shown, line, push_all)),
+            // The same, of the text alone.
+            Task::new("seen", |shown, line| push_of_text(shown, line, push_seen)),
+            // Whether a channel, a number and a text are an event.
+            Task::new("parts", |shown, line| push_of_text(shown, line, push_parts)),
+        ],
+    )
 }

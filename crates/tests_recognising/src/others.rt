@@ -1,7 +1,7 @@
 //! The texts that differ from a text in one character: another one stands in its place, or one more
 //! before it, or it is taken out.
 
-use crate::tasks::is_read_so;
+use crate::seen::is_read_so;
 use std::alloc::AllocError;
 use wef_base::Text;
 use wef_event::recognised;

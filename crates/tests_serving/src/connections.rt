@@ -4,6 +4,7 @@ use crate::echo::Echo;
 use crate::requests::bytes_of;
 use std::alloc::{AllocError, Global};
 use tests_tasks::escapes::escaped;
+use tests_tasks::runs::Runs;
 use wef_base::{Bytes, List, Moment, Text};
 use wef_http_heads::Side;
 use wef_ports::{FixedClock, MemPort};
@@ -87,10 +88,10 @@ pub(crate) fn push_cuts(shown: &mut Text, line: &str) -> Result<(), AllocError> 
     let mut runs = Runs::new(alloc);
     for cut in 0..bytes.len() {
         let front = served(alloc, &bytes.as_slice()[..cut], 1_000_000, 0)?;
-        runs.add(shown, cut, &front)?;
+        runs.add(shown, cut as u64, told(alloc, &front)?)?;
     }
     let whole = served(alloc, bytes.as_slice(), 1_000_000, 0)?;
-    runs.add(shown, bytes.len(), &whole)
+    runs.add(shown, bytes.len() as u64, told(alloc, &whole)?)
 }
 
 /// What comes of the connection of a line where one call of its port fails, for the first calls of
@@ -101,47 +102,17 @@ pub(crate) fn push_broken(shown: &mut Text, line: &str) -> Result<(), AllocError
     let mut runs = Runs::new(alloc);
     for call in 1..16 {
         let broken = served(alloc, bytes.as_slice(), 100, call)?;
-        runs.add(shown, call as usize, &broken)?;
+        runs.add(shown, call, told(alloc, &broken)?)?;
     }
     Ok(())
 }
 
-/// Outcomes one after the other, of which each that is new is printed with its number.
-#[derive(Drop)]
-struct Runs {
-    last: Text,
-}
-
-impl Runs {
-    fn new(alloc: Global) -> Runs {
-        Runs {
-            last: Text::new(alloc),
-        }
-    }
-
-    /// Prints an outcome where it isn't the one before.
-    fn add(
-        &mut self,
-        shown: &mut Text,
-        number: usize,
-        outcome: &Outcome,
-    ) -> Result<(), AllocError> {
-        let mut text = Text::new(shown.alloc());
-        push_ending(&mut text, outcome)?;
-        text.push_str(", ")?;
-        text.push_number(outcome.sent.len() as u64)?;
-        text.push_str(" bytes sent")?;
-        if text != self.last {
-            shown.push_str(if self.last.is_empty() {
-                "from "
-            } else {
-                "\n    from "
-            })?;
-            shown.push_number(number as u64)?;
-            shown.push_str(": ")?;
-            shown.push_str(text.as_str())?;
-            self.last = text;
-        }
-        Ok(())
-    }
+/// How a connection ended, how many requests were answered, and how much was sent.
+fn told(alloc: Global, outcome: &Outcome) -> Result<Text, AllocError> {
+    let mut text = Text::new(alloc);
+    push_ending(&mut text, outcome)?;
+    text.push_str(", ")?;
+    text.push_number(outcome.sent.len() as u64)?;
+    text.push_str(" bytes sent")?;
+    Ok(text)
 }

@@ -9,12 +9,21 @@
 mod connections;
 mod echo;
 mod requests;
-mod tasks;
 
+use connections::{push_broken, push_cuts, push_served};
 use std::io;
-use tasks::Task;
-use tests_tasks::answer_lines;
+use tests_tasks::{Task, answer_lines};
 
 fn main(rt: HostRuntime) -> io::Result<()> {
-    answer_lines(&rt, Task::Served)
+    answer_lines(
+        &rt,
+        &[
+            // What comes of a connection.
+            Task::new("served", push_served),
+            // What comes of each front of its bytes.
+            Task::new("cut", push_cuts),
+            // What comes of it where one call of its port fails, for each call.
+            Task::new("broken", push_broken),
+        ],
+    )
 }

@@ -5,33 +5,49 @@
 pub mod deliveries;
 pub mod escapes;
 pub mod hexadecimal;
+pub mod rows;
+pub mod runs;
+pub mod spelt;
 
 use std::alloc::AllocError;
 use std::io;
 use wef_base::Text;
 
 /// What can be done with a line.
-pub trait Tasks: Copy + Drop + 'static {
-    /// The tasks, each by the name that stands before the colon of a heading.
-    fn named() -> &'static [(&'static str, Self)];
+#[derive(Drop)]
+pub struct Task {
+    name: &'static str,
+    push_answer: fn(&mut Text, &str) -> Result<(), AllocError>,
+    ghost always: { IsAlwaysCallable push_answer },
+}
 
-    /// Appends what is printed for a line.
-    fn push_answer(self, shown: &mut Text, line: &str) -> Result<(), AllocError>;
+impl Task {
+    /// A task by the name that stands before the colon of a heading, and by what appends that which
+    /// is printed for a line.
+    pub fn new(
+        name: &'static str,
+        push_answer: fn(&mut Text, &str) -> Result<(), AllocError>,
+    ) -> Task
+        requires { IsAlwaysCallable push_answer }
+    {
+        Task { name, push_answer }
+    }
 }
 
 /// Prints each line of the input with its answer. A line `=== TASK: TITLE` says what is done with
-/// each line behind it, and `first` what is done before any.
-pub fn answer_lines<T: Tasks>(rt: &HostRuntime, first: T) -> io::Result<()> {
+/// each line behind it.
+pub fn answer_lines(rt: &HostRuntime, tasks: &[Task]) -> io::Result<()> {
     let alloc = rt.alloc();
-    let mut task = first;
+    let mut task = None;
     for line in rt.lines(alloc) {
         let line = line?;
         println!(rt; "{line}")?;
         if let Some(heading) = line.strip_prefix("=== ") {
-            task = task_of(heading).ok_or(io::ErrorKind::InvalidData)?;
+            task = task_of(tasks, heading);
         } else {
+            let task = task.ok_or(io::ErrorKind::InvalidData)?;
             let mut shown = Text::new(alloc);
-            task.push_answer(&mut shown, line.as_str())?;
+            (task.push_answer)(&mut shown, line.as_str())?;
             println!(rt; "    {}", shown.as_str())?;
         }
     }
@@ -39,12 +55,7 @@ pub fn answer_lines<T: Tasks>(rt: &HostRuntime, first: T) -> io::Result<()> {
 }
 
 /// The task of a heading.
-fn task_of<T: Tasks>(heading: &str) -> Option<T> {
+fn task_of<'a>(tasks: &'a [Task], heading: &str) -> Option<&'a Task> {
     let (name, _) = heading.split_once(':')?;
-    for (named, task) in T::named() {
-        if *named == name {
-            return Some(*task);
-        }
-    }
-    None
+    tasks.iter().find(|task| task.name == name)
 }

@@ -42,11 +42,16 @@ fn push_to(
 fn push_led(shown: &mut Text, address: &Text) -> Result<(), AllocError> {
     shown.push_str(address.as_str())?;
     shown.push_str(" for ")?;
-    push_address(shown, address)
+    push_ends(shown, address)
 }
 
 /// The subscription and the source that an address leads to.
-pub(crate) fn push_address(shown: &mut Text, address: &Text) -> Result<(), AllocError> {
+pub(crate) fn push_address(shown: &mut Text, line: &str) -> Result<(), AllocError> {
+    let address = Text::from_str(shown.alloc(), line)?;
+    push_ends(shown, &address)
+}
+
+fn push_ends(shown: &mut Text, address: &Text) -> Result<(), AllocError> {
     push_subscription(shown, address)?;
     push_source(shown, address)
 }

@@ -1,6 +1,6 @@
 //! Batches of a subscription to the channels a and b.
 
-use crate::tasks::letters;
+use crate::channels::letters;
 use std::alloc::AllocError;
 use wef_base::{ChannelName, List, Text, ValueFault};
 use wef_batch::{Batch, cost, judge, loose_sum, reach};

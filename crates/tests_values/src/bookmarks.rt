@@ -1,6 +1,6 @@
 //! Bookmarks, written out as the numbers of the channels a, b and c.
 
-use crate::tasks::{channel, letters};
+use crate::channels::{channel, letters};
 use std::alloc::{AllocError, Global};
 use wef_base::numbers::MAX;
 use wef_base::{ChannelName, Text, ValueFault};

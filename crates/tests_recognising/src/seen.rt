@@ -1,55 +1,21 @@
-//! What is done with a line.
+//! Texts, seen to be events in one pass and read the long way.
 
 use crate::others::{Counts, count_others};
-use std::alloc::{AllocError, Global};
-use std::str;
-use tests_tasks::Tasks;
-use tests_tasks::escapes::{escaped, unescaped};
+use std::alloc::AllocError;
+use tests_tasks::escapes::escaped;
+use tests_tasks::rows::{parts_of, push_is_event};
 use wef_base::{ChannelName, Charset, Text, ValueFault};
 use wef_event::{Event, EventFault, Label, event_of_node, recognised};
 use wef_tree::read_tree;
 
-/// What is done with a line.
-#[derive(Clone, Copy)]
-pub(crate) enum Task {
-    /// `text`: what is seen in one pass, and of the texts that differ in one character.
-    Text,
-    /// `seen`: the same, of the text alone.
-    Seen,
-    /// `parts`: whether a channel, a number and a text are an event.
-    Parts,
+/// What is seen in one pass, and of the texts that differ in one character.
+pub(crate) fn push_all(shown: &mut Text, text: &Text) -> Result<(), AllocError> {
+    push_seen(shown, text)?;
+    push_counts(shown, &count_others(text)?)
 }
 
-/// The tasks by their names.
-const TASKS: &[(&str, Task)] = &[
-    ("text", Task::Text),
-    ("seen", Task::Seen),
-    ("parts", Task::Parts),
-];
-
-impl Tasks for Task {
-    fn named() -> &'static [(&'static str, Task)] {
-        TASKS
-    }
-
-    fn push_answer(self, shown: &mut Text, line: &str) -> Result<(), AllocError> {
-        let bytes = unescaped(shown.alloc(), line)?;
-        let Ok(text) = str::from_utf8(bytes.as_slice()) else {
-            return shown.push_str("no UTF-8");
-        };
-        let text = Text::from_str(shown.alloc(), text)?;
-        match self {
-            Task::Text => {
-                push_seen(shown, &text)?;
-                push_counts(shown, &count_others(&text)?)
-            }
-            Task::Seen => push_seen(shown, &text),
-            Task::Parts => push_parts(shown, &text),
-        }
-    }
-}
-
-fn push_seen(shown: &mut Text, text: &Text) -> Result<(), AllocError> {
+/// What is seen in one pass.
+pub(crate) fn push_seen(shown: &mut Text, text: &Text) -> Result<(), AllocError> {
     match recognised(text.as_str()) {
         Some(label) => push_label(shown, text, &label),
         None => push_read(shown, text),
@@ -118,26 +84,13 @@ fn event_read(text: &Text) -> Result<Option<Event>, AllocError> {
 }
 
 /// Appends whether the `CHANNEL NUMBER TEXT` of a line are an event.
-fn push_parts(shown: &mut Text, line: &Text) -> Result<(), AllocError> {
-    shown.push_str(match is_event(line) {
-        Ok(true) => "an event",
-        Ok(false) => "no event",
-        Err(ValueFault::NoMemory) => return Err(AllocError),
-        Err(_) => "no row",
-    })
+pub(crate) fn push_parts(shown: &mut Text, line: &Text) -> Result<(), AllocError> {
+    push_is_event(shown, is_event(line))
 }
 
 fn is_event(line: &Text) -> Result<bool, ValueFault> {
-    let Some((channel, number, text)) = parts_of(line.as_str()) else {
+    let Some((channel, number, text)) = parts_of(line)? else {
         return Ok(false);
     };
-    let channel = ChannelName::read(&Text::from_str(line.alloc(), channel)?)?;
-    let text = Text::from_str(line.alloc(), text)?;
     Ok(Event::of_text(&channel, number, &text)?.is_some())
-}
-
-fn parts_of(row: &str) -> Option<(&str, u64, &str)> {
-    let (channel, rest) = row.split_once(' ')?;
-    let (number, text) = rest.split_once(' ')?;
-    Some((channel, number.parse::<u64>().ok()?, text))
 }
