@@ -274,7 +274,11 @@ impl Ord for Text {
 
     ghost matches_eq = { texts_ties };
 
+    // Equal texts, as most parts of two keys are, are seen to be so many bytes at a time.
     fn cmp(&self, other: &Text) -> Ordering {
+        if self == other {
+            return Ordering::Equal;
+        }
         self.as_str().cmp(other.as_str())
     }
 }
