@@ -2,6 +2,8 @@ pub mod BoundPrefixes
 pub mod DeclaredAgain
 pub mod EncodedAgain
 pub mod GoodPrefixes
+pub mod LooseTexts
+pub mod LooseTrees
 pub mod NewBindings
 pub mod NewPrefixes
 pub mod OpensAgain

@@ -29,7 +29,7 @@ is_plain c = is_xml_char c && not (c == 13)
 abbrev pub ArePlain : List ℕ → Type 0
 ArePlain cs = list_all is_plain cs ≡ true
 
-plain_append : (xs ys : List ℕ) → ArePlain xs → ArePlain ys → ArePlain (xs ++ ys)
+pub plain_append : (xs ys : List ℕ) → ArePlain xs → ArePlain ys → ArePlain (xs ++ ys)
 plain_append [] ys h k = k
 plain_append (x ∷ xs) ys h k =
     let parts = and_parts (is_plain x) (list_all is_plain xs) h in
@@ -66,7 +66,7 @@ each_plain f (c ∷ cs) each h =
     let parts = and_parts (is_xml_char c) (list_all is_xml_char cs) h in
     plain_append (f c) (flat_map f cs) (each c parts.0) (each_plain f cs each parts.1)
 
-text_plain : (text : List ℕ) → IsXmlText text → ArePlain (text_of text)
+pub text_plain : (text : List ℕ) → IsXmlText text → ArePlain (text_of text)
 text_plain text is =
     let P : List ℕ → Type 0 = λ cs. ArePlain (flat_map text_char cs) in
     subst P (sym (text_chars text is)) (each_plain text_char is.characters text_char_plain is.allowed)
@@ -153,22 +153,26 @@ element_name_plain : (scope : Scope) (space name : List ℕ) → IsLocalName nam
 element_name_plain scope space name is =
     name_plain (element_prefix scope.soap space) name (λ prefix e. local_plain prefix (element_prefix_good scope.soap space prefix e)) (local_plain name is)
 
-inside_good :
+pub inside_good :
     (scope : Scope) (space : List ℕ) (attributes : List Attribute) → AreGoodBindings scope.bound → AreGoodAttributes attributes →
     AreGoodBindings (inside scope space attributes).bound
 inside_good scope space attributes bound good =
     bound_by_good scope.bound (new_bindings scope.bound attributes) bound (new_are_good scope.bound attributes good)
 
-start_of_plain :
-    (first : List Binding) (scope : Scope) (space name : List ℕ) (attributes : List Attribute) → AreGoodBindings first → AreGoodBindings scope.bound →
-    IsGoodHead space name attributes → ArePlain (start_of first scope space name attributes)
-start_of_plain first scope space name attributes plain bound head =
+-- a tag with this at its end
+pub open_of_plain :
+    (first : List Binding) (scope : Scope) (space name : List ℕ) (attributes : List Attribute) (end : List ℕ) → AreGoodBindings first → AreGoodBindings scope.bound →
+    IsGoodHead space name attributes → ArePlain end →
+    ArePlain (60 ∷ name_of (element_prefix scope.soap space) name ++ default_of scope space
+    ++ flat_map declaration_of first ++ flat_map declaration_of (new_bindings scope.bound attributes)
+    ++ flat_map (attribute_of (inside scope space attributes).bound) attributes ++ end)
+open_of_plain first scope space name attributes end plain bound head ends =
     let named : List ℕ = 60 ∷ name_of (element_prefix scope.soap space) name in
     let default : List ℕ = default_of scope space in
     let declared : List ℕ = flat_map declaration_of first in
     let new : List ℕ = flat_map declaration_of (new_bindings scope.bound attributes) in
     let given : List ℕ = flat_map (attribute_of (inside scope space attributes).bound) attributes in
-    plain_append (named ++ default ++ declared ++ new ++ given) (62 ∷ [])
+    plain_append (named ++ default ++ declared ++ new ++ given) end
     (plain_append (named ++ default ++ declared ++ new) given
     (plain_append (named ++ default ++ declared) new
     (plain_append (named ++ default) declared
@@ -176,7 +180,12 @@ start_of_plain first scope space name attributes plain bound head =
     (declarations_plain first plain))
     (declarations_plain (new_bindings scope.bound attributes) (new_are_good scope.bound attributes head.attributed)))
     (attributes_plain (inside scope space attributes).bound attributes (inside_good scope space attributes bound head.attributed) head.attributed))
-    refl
+    ends
+
+start_of_plain :
+    (first : List Binding) (scope : Scope) (space name : List ℕ) (attributes : List Attribute) → AreGoodBindings first → AreGoodBindings scope.bound →
+    IsGoodHead space name attributes → ArePlain (start_of first scope space name attributes)
+start_of_plain first scope space name attributes plain bound head = open_of_plain first scope space name attributes (62 ∷ []) plain bound head refl
 
 end_of_plain : (scope : Scope) (space name : List ℕ) → IsLocalName name → ArePlain (end_of scope space name)
 end_of_plain scope space name is =
@@ -185,7 +194,7 @@ end_of_plain scope space name is =
 
 -- trees
 
-element_plain :
+pub element_plain :
     (first : List Binding) (scope : Scope) (space name : List ℕ) (attributes : List Attribute) (body : List ℕ) → AreGoodBindings first → AreGoodBindings scope.bound →
     IsGoodHead space name attributes → ArePlain body → ArePlain ((start_of first scope space name attributes ++ body) ++ end_of scope space name)
 element_plain first scope space name attributes body plain bound head inner =
@@ -213,7 +222,7 @@ nodes_plain [] room scope good bound = refl
 nodes_plain (n ∷ ns) room scope good bound =
     plain_append (node_of n scope) (flat_map (λ n. node_of n scope) ns) (node_plain n room scope good.0 bound) (nodes_plain ns room scope good.1 bound)
 
-first_good : (soap : Bool) → AreGoodBindings (cond soap nine [])
+pub first_good : (soap : Bool) → AreGoodBindings (cond soap nine [])
 first_good true = nine_are_good
 first_good false = tt
 

@@ -5,6 +5,7 @@ use Rattle.std.specs.Option.{option_or}
 use Rattle.wef_base.specs.Names.{same}
 use Rattle.wef_base.specs.declared.tree.Attribute.{Attribute}
 use Rattle.wef_tree_writing.specs.Levels.{bound_to}
+use Rattle.wef_tree.specs.Loose.{empty_of}
 use Rattle.wef_tree_reading.specs.Building.{has_room, is_outside, opened}
 use Rattle.wef_xml.specs.Canonical.{end_of, start_of, text_of}
 use Rattle.wef_xml.specs.Good.{IsGoodHead, IsLocalName, IsXmlText}
@@ -17,7 +18,7 @@ use Rattle.wef_xml.specs.declared.bindings.Binding.{Binding}
 use Rattle.wef_tree_reading.specs.declared.building.Builder.{Builder}
 use Rattle.wef_tree_reading.specs.declared.names.Name.{Name}
 use Rattle.wef_tree_reading.specs.declared.pieces.Piece.{Piece}
-use Rattle.wef_tree_reading.specs.declared.pieces.Piece.TheVariants.{Start, End}
+use Rattle.wef_tree_reading.specs.declared.pieces.Piece.TheVariants.{Start, Empty, End}
 use Rattle.wef_tree_reading.specs.declared.stack.Open.{Open}
 use Rattle.wef_tree_reading.specs.declared.tags.Given.{Given}
 use Rattle.wef_tree_reading.specs.declared.tags.Tag.{Tag}
@@ -73,6 +74,13 @@ StartAgain =
     (first : List Binding) (scope : Scope) (space name : List ℕ) (attributes : List Attribute) (rest : List ℕ) →
     IsGoodHead space name attributes → AreGoodBindings first → AreGoodBindings scope.bound →
     piece_at (start_of first scope space name attributes ++ rest) ≡ Some (Start (spelled first scope space name attributes), rest)
+
+-- an empty tag is read so
+abbrev pub EmptyAgain : Type 0
+EmptyAgain =
+    (first : List Binding) (scope : Scope) (space name : List ℕ) (attributes : List Attribute) (rest : List ℕ) →
+    IsGoodHead space name attributes → AreGoodBindings first → AreGoodBindings scope.bound →
+    piece_at (empty_of first scope space name attributes ++ rest) ≡ Some (Empty (spelled first scope space name attributes), rest)
 
 -- an end tag is read again
 abbrev pub EndAgain : Type 0

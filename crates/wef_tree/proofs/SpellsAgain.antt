@@ -18,7 +18,7 @@ begins : (root : Element) → canonical root ≡ 60 ∷ behind_first (canonical 
 begins root = refl
 
 -- its bytes are these characters
-decodes : (charset : Charset) (text rest : List ℕ) → text ≡ 60 ∷ rest → ArePlain text → decoded charset (encoded charset text) ≡ Ok text
+pub decodes : (charset : Charset) (text rest : List ℕ) → text ≡ 60 ∷ rest → ArePlain text → decoded charset (encoded charset text) ≡ Ok text
 decodes charset text rest is plain =
     let P : List ℕ → Type 0 = λ t. ArePlain t → decoded charset (encoded charset t) ≡ Ok t in
     subst P (sym is) (λ h. encoded_again charset (60 ∷ rest) (plain_scalars (60 ∷ rest) h) refl) plain

@@ -10,7 +10,7 @@ use Rattle.wef_base.specs.Names.{is_space, same, without_start}
 use Rattle.wef_base.specs.declared.tree.Attribute.{Attribute}
 use Rattle.wef_xml.specs.Canonical.{assigned, attribute_of, declaration_of, default_of, name_of, value_of}
 use Rattle.wef_xml.specs.Fronts.{behind, strip}
-use Rattle.wef_xml.specs.Good.{AreGoodAttributes, IsGoodAttribute, IsLocalName, IsXmlText}
+use Rattle.wef_xml.specs.Good.{AreGoodAttributes, IsGoodAttribute, IsGoodHead, IsLocalName, IsXmlText}
 use Rattle.wef_xml.specs.Letters.{is_name_char, is_name_start}
 use Rattle.wef_tree_reading.specs.Names.{name_after, name_at, name_tail, plain_name_at, with_front}
 use Rattle.wef_tree_reading.specs.Pieces.{closed_tag, comment_tail, declaration_tail, markup_at, piece_at, section_tail}
@@ -19,11 +19,11 @@ use Rattle.wef_tree_reading.specs.Tags.{end_tag_at, ends_tag, given_at, givens_i
 use Rattle.wef_xml.specs.declared.bindings.Binding.{Binding}
 use Rattle.wef_tree_reading.specs.declared.names.Name.{Name}
 use Rattle.wef_tree_reading.specs.declared.pieces.Piece.{Piece}
-use Rattle.wef_tree_reading.specs.declared.pieces.Piece.TheVariants.{Comment, Declaration, End, Section, Start}
+use Rattle.wef_tree_reading.specs.declared.pieces.Piece.TheVariants.{Comment, Declaration, Empty, End, Section, Start}
 use Rattle.wef_tree_reading.specs.declared.tags.Given.{Given}
 use Rattle.wef_xml.proofs.Ascii.{plain_is}
 use Rattle.wef_tree.proofs.GoodPrefixes.{attribute_prefix_good, bound_by_good, element_prefix_good, new_are_good, xmlns_is_name}
-use Rattle.wef_tree.proofs.Spelled.{AreGoodBindings, EndAgain, IsGoodBinding, StartAgain, attribute_given, declaration_given, default_given}
+use Rattle.wef_tree.proofs.Spelled.{AreGoodBindings, EmptyAgain, EndAgain, IsGoodBinding, StartAgain, attribute_given, declaration_given, default_given, spelled}
 use Rattle.wef_tree.proofs.TextsAgain.{name_chars, value_again}
 
 -- names
@@ -159,14 +159,28 @@ written_long text [] w = omega arith
 written_long text (g ∷ gs) w =
     omega (arith, ap length w.2, ap length w.3.is, length-append w.0 w.1, written_long w.1 gs w.4)
 
--- attributes up to the end of a tag
-givens_again : (gs : List Given) (text rest : List ℕ) (n : ℕ) → AreWritten text gs → length gs < n → givens_in n (text ++ 62 ∷ rest) ≡ Some (gs, 62 ∷ rest)
-givens_again gs text rest zero w h = absurd (omega arith)
-givens_again [] text rest (suc n) w h = ap (λ t. givens_in (suc n) (t ++ 62 ∷ rest)) w
-givens_again (g ∷ gs) text rest (suc n) w h =
-    ap (λ t. option_and_then (givens_on (givens_in n)) (tag_turn t)) (ap (λ t. t ++ 62 ∷ rest) w.2 ∙ append_assoc w.0 w.1 (62 ∷ rest))
-    ∙ ap (option_and_then (givens_on (givens_in n))) (w.3.reads (w.1 ++ 62 ∷ rest))
-    ∙ ap (option_map (with_attributes (g ∷ []))) (givens_again gs w.1 rest n w.4 (omega arith))
+-- a sign that ends the attributes of a tag is no space, no character of a name, and no `:`
+end_no_space : (sign : ℕ) → ends_tag sign ≡ true → is_space sign ≡ false
+end_no_space sign h = grind (arith, nat_tests)
+
+end_no_name : (sign : ℕ) → ends_tag sign ≡ true → is_name_char sign ≡ false
+end_no_name sign h = grind (arith, nat_tests)
+
+end_no_colon : (sign : ℕ) → ends_tag sign ≡ true → (sign == 58) ≡ false
+end_no_colon sign h = grind (arith, nat_tests)
+
+-- attributes up to the end of a tag, which this sign begins
+givens_again :
+    (gs : List Given) (text : List ℕ) (sign : ℕ) (rest : List ℕ) (n : ℕ) → ends_tag sign ≡ true → AreWritten text gs → length gs < n →
+    givens_in n (text ++ sign ∷ rest) ≡ Some (gs, sign ∷ rest)
+givens_again gs text sign rest zero ends w h = absurd (omega arith)
+givens_again [] text sign rest (suc n) ends w h =
+    ap (λ t. givens_in (suc n) (t ++ sign ∷ rest)) w
+    ∙ (λ i. option_and_then (givens_on (givens_in n)) (cond (end_no_space sign ends i) (spaced_turn (without_start rest)) (cond (ends i) (Some (None, sign ∷ rest)) None)))
+givens_again (g ∷ gs) text sign rest (suc n) ends w h =
+    ap (λ t. option_and_then (givens_on (givens_in n)) (tag_turn t)) (ap (λ t. t ++ sign ∷ rest) w.2 ∙ append_assoc w.0 w.1 (sign ∷ rest))
+    ∙ ap (option_and_then (givens_on (givens_in n))) (w.3.reads (w.1 ++ sign ∷ rest))
+    ∙ ap (option_map (with_attributes (g ∷ []))) (givens_again gs w.1 sign rest n ends w.4 (omega arith))
 
 -- what stands behind a name in a tag: no character of a name, and no `:`
 record Ends (text : List ℕ) : Type 0 where
@@ -176,12 +190,13 @@ record Ends (text : List ℕ) : Type 0 where
   no_name : is_name_char first ≡ false
   no_colon : (first == 58) ≡ false
 
-written_ends : (gs : List Given) (text rest : List ℕ) → AreWritten text gs → Ends (text ++ 62 ∷ rest)
-written_ends [] text rest w = record { first = 62; more = rest; is = ap (λ t. t ++ 62 ∷ rest) w; no_name = refl; no_colon = refl }
-written_ends (g ∷ gs) text rest w = record {
+written_ends : (gs : List Given) (text : List ℕ) (sign : ℕ) (rest : List ℕ) → ends_tag sign ≡ true → AreWritten text gs → Ends (text ++ sign ∷ rest)
+written_ends [] text sign rest ends w =
+    record { first = sign; more = rest; is = ap (λ t. t ++ sign ∷ rest) w; no_name = end_no_name sign ends; no_colon = end_no_colon sign ends }
+written_ends (g ∷ gs) text sign rest ends w = record {
   first = 32;
-  more = (w.3.inner ++ w.1) ++ 62 ∷ rest;
-  is = ap (λ t. t ++ 62 ∷ rest) (w.2 ∙ ap (λ t. t ++ w.1) w.3.is);
+  more = (w.3.inner ++ w.1) ++ sign ∷ rest;
+  is = ap (λ t. t ++ sign ∷ rest) (w.2 ∙ ap (λ t. t ++ w.1) w.3.is);
   no_name = refl;
   no_colon = refl;
 }
@@ -194,16 +209,18 @@ name_before prefix local text good_prefix good e =
 -- tags
 
 -- the steps that a reader makes are enough
-steps_enough : (text rest : List ℕ) (gs : List Given) → AreWritten text gs → length gs < length (text ++ 62 ∷ rest)
-steps_enough text rest gs w = omega (arith, written_long text gs w, length-append text (62 ∷ rest))
+steps_enough : (text : List ℕ) (sign : ℕ) (rest : List ℕ) (gs : List Given) → AreWritten text gs → length gs < length (text ++ sign ∷ rest)
+steps_enough text sign rest gs w = omega (arith, written_long text gs w, length-append text (sign ∷ rest))
 
 -- the name and the attributes of a tag
 tag_again :
-    (prefix : Option (List ℕ)) (local text rest : List ℕ) (gs : List Given) → IsGoodPrefix prefix → IsLocalName local → AreWritten text gs →
-    tag_at (name_of prefix local ++ (text ++ 62 ∷ rest)) ≡ Some (record { name = named prefix local; given = gs }, 62 ∷ rest)
-tag_again prefix local text rest gs good_prefix good w =
-    ap (option_and_then with_givens) (name_before prefix local (text ++ 62 ∷ rest) good_prefix good (written_ends gs text rest w))
-    ∙ ap (option_map (λ (read : List Given × List ℕ). (record { name = named prefix local; given = read.0 }, read.1))) (givens_again gs text rest (length (text ++ 62 ∷ rest)) w (steps_enough text rest gs w))
+    (prefix : Option (List ℕ)) (local text : List ℕ) (sign : ℕ) (rest : List ℕ) (gs : List Given) → ends_tag sign ≡ true →
+    IsGoodPrefix prefix → IsLocalName local → AreWritten text gs →
+    tag_at (name_of prefix local ++ (text ++ sign ∷ rest)) ≡ Some (record { name = named prefix local; given = gs }, sign ∷ rest)
+tag_again prefix local text sign rest gs ends good_prefix good w =
+    ap (option_and_then with_givens) (name_before prefix local (text ++ sign ∷ rest) good_prefix good (written_ends gs text sign rest ends w))
+    ∙ ap (option_map (λ (read : List Given × List ℕ). (record { name = named prefix local; given = read.0 }, read.1)))
+    (givens_again gs text sign rest (length (text ++ sign ∷ rest)) ends w (steps_enough text sign rest gs w))
 
 -- what begins as a name does is a tag, and no other markup
 markup_again : (text : List ℕ) → Begins text → markup_at text ≡ option_and_then closed_tag (tag_at text)
@@ -224,7 +241,16 @@ start_piece :
 unfolding piece_at
 start_piece prefix local text rest gs good_prefix good w =
     markup_again (name_of prefix local ++ (text ++ 62 ∷ rest)) (name_begins prefix local (text ++ 62 ∷ rest) good_prefix good)
-    ∙ ap (option_and_then closed_tag) (tag_again prefix local text rest gs good_prefix good w)
+    ∙ ap (option_and_then closed_tag) (tag_again prefix local text 62 rest gs refl good_prefix good w)
+
+-- an empty tag, by its parts
+empty_piece :
+    (prefix : Option (List ℕ)) (local text rest : List ℕ) (gs : List Given) → IsGoodPrefix prefix → IsLocalName local → AreWritten text gs →
+    piece_at (60 ∷ (name_of prefix local ++ (text ++ 47 ∷ 62 ∷ rest))) ≡ Some (Empty (record { name = named prefix local; given = gs }), rest)
+unfolding piece_at
+empty_piece prefix local text rest gs good_prefix good w =
+    markup_again (name_of prefix local ++ (text ++ 47 ∷ 62 ∷ rest)) (name_begins prefix local (text ++ 47 ∷ 62 ∷ rest) good_prefix good)
+    ∙ ap (option_and_then closed_tag) (tag_again prefix local text 47 (62 ∷ rest) gs refl good_prefix good w)
 
 -- the attributes of a start tag
 
@@ -270,30 +296,61 @@ attributes_written bound [] good_bound good = refl
 attributes_written bound (a ∷ more) good_bound good =
     (attribute_of bound a, flat_map (attribute_of bound) more, refl, attribute_written bound a good_bound good.0, attributes_written bound more good_bound good.1)
 
--- the parts of a start tag, with the attributes together
-regroup : (name d f n a rest : List ℕ) → (((((name ++ d) ++ f) ++ n) ++ a) ++ 62 ∷ []) ++ rest ≡ name ++ ((((d ++ f) ++ n) ++ a) ++ 62 ∷ rest)
-regroup name d f n a rest = simp append_assoc
+-- all that stands in a tag behind its name
+abbrev behind_name_of : List Binding → Scope → List ℕ → List Attribute → List ℕ
+behind_name_of first scope space attributes =
+    default_of scope space ++ flat_map declaration_of first ++ flat_map declaration_of (new_bindings scope.bound attributes)
+    ++ flat_map (attribute_of (inside scope space attributes).bound) attributes
 
-pub start_again : StartAgain
-start_again first scope space name attributes rest head good_first good_bound =
+all_written :
+    (first : List Binding) (scope : Scope) (space name : List ℕ) (attributes : List Attribute) → IsGoodHead space name attributes → AreGoodBindings first → AreGoodBindings scope.bound →
+    AreWritten (behind_name_of first scope space attributes) (spelled first scope space name attributes).given
+all_written first scope space name attributes head good_first good_bound =
     let new = new_bindings scope.bound attributes in
     let bound = (inside scope space attributes).bound in
-    let prefix = element_prefix scope.soap space in
     let default_text = default_of scope space in
     let first_text = flat_map declaration_of first in
     let new_text = flat_map declaration_of new in
-    let attribute_text = flat_map (attribute_of bound) attributes in
     let default_givens = default_given scope space in
     let first_givens = map declaration_given first in
     let new_givens = map declaration_given new in
-    let attribute_givens = map (attribute_given bound) attributes in
     let good_new = new_are_good scope.bound attributes head.attributed in
     let good_all = bound_by_good scope.bound new good_bound good_new in
-    let all = both_written ((default_text ++ first_text) ++ new_text) attribute_text ((default_givens ++ first_givens) ++ new_givens) attribute_givens
-    (both_written (default_text ++ first_text) new_text (default_givens ++ first_givens) new_givens (both_written default_text first_text default_givens first_givens (default_written scope space head.in_space) (declarations_written first good_first)) (declarations_written new good_new))
-    (attributes_written bound attributes good_all head.attributed) in
-    ap (λ t. piece_at (60 ∷ t)) (regroup (name_of prefix name) default_text first_text new_text attribute_text rest)
-    ∙ start_piece prefix name (((default_text ++ first_text) ++ new_text) ++ attribute_text) rest (((default_givens ++ first_givens) ++ new_givens) ++ attribute_givens) (good_prefix_is prefix (λ p. element_prefix_good scope.soap space p)) head.named all
+    both_written ((default_text ++ first_text) ++ new_text) (flat_map (attribute_of bound) attributes)
+    ((default_givens ++ first_givens) ++ new_givens) (map (attribute_given bound) attributes)
+    (both_written (default_text ++ first_text) new_text (default_givens ++ first_givens) new_givens
+    (both_written default_text first_text default_givens first_givens (default_written scope space head.in_space) (declarations_written first good_first))
+    (declarations_written new good_new))
+    (attributes_written bound attributes good_all head.attributed)
+
+-- the parts of a tag, with the attributes together
+regroup : (name d f n a end rest : List ℕ) → (((((name ++ d) ++ f) ++ n) ++ a) ++ end) ++ rest ≡ name ++ ((((d ++ f) ++ n) ++ a) ++ (end ++ rest))
+regroup name d f n a end rest = simp append_assoc
+
+-- a tag behind its `<`, with the attributes together and this at its end
+tag_regrouped :
+    (first : List Binding) (scope : Scope) (space name : List ℕ) (attributes : List Attribute) (end rest : List ℕ) →
+    (name_of (element_prefix scope.soap space) name ++ default_of scope space
+    ++ flat_map declaration_of first ++ flat_map declaration_of (new_bindings scope.bound attributes)
+    ++ flat_map (attribute_of (inside scope space attributes).bound) attributes ++ end) ++ rest
+    ≡ name_of (element_prefix scope.soap space) name ++ (behind_name_of first scope space attributes ++ (end ++ rest))
+tag_regrouped first scope space name attributes end rest =
+    regroup (name_of (element_prefix scope.soap space) name) (default_of scope space) (flat_map declaration_of first)
+    (flat_map declaration_of (new_bindings scope.bound attributes)) (flat_map (attribute_of (inside scope space attributes).bound) attributes) end rest
+
+pub start_again : StartAgain
+start_again first scope space name attributes rest head good_first good_bound =
+    let prefix = element_prefix scope.soap space in
+    ap (λ t. piece_at (60 ∷ t)) (tag_regrouped first scope space name attributes (62 ∷ []) rest)
+    ∙ start_piece prefix name (behind_name_of first scope space attributes) rest (spelled first scope space name attributes).given
+    (good_prefix_is prefix (λ p. element_prefix_good scope.soap space p)) head.named (all_written first scope space name attributes head good_first good_bound)
+
+pub empty_again : EmptyAgain
+empty_again first scope space name attributes rest head good_first good_bound =
+    let prefix = element_prefix scope.soap space in
+    ap (λ t. piece_at (60 ∷ t)) (tag_regrouped first scope space name attributes (codes "/>") rest)
+    ∙ empty_piece prefix name (behind_name_of first scope space attributes) rest (spelled first scope space name attributes).given
+    (good_prefix_is prefix (λ p. element_prefix_good scope.soap space p)) head.named (all_written first scope space name attributes head good_first good_bound)
 
 -- end tags
 

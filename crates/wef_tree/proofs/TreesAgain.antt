@@ -37,7 +37,7 @@ use Rattle.wef_tree.proofs.TextsAgain.{text_again}
 
 -- pieces that lead on
 
-abbrev Goes : Builder → List ℕ → Builder → List ℕ → Type 0
+abbrev pub Goes : Builder → List ℕ → Builder → List ℕ → Type 0
 Goes b text c rest = (ps : List Piece) × Leads b ps text c rest
 
 leads_append :
@@ -54,11 +54,11 @@ goes_then :
     (b : Builder) (text : List ℕ) (c : Builder) (rest : List ℕ) (d : Builder) (left : List ℕ) → Goes b text c rest → Goes c rest d left → Goes b text d left
 goes_then b text c rest d left one other = (one.0 ++ other.0, leads_append one.0 other.0 b text c rest d left one.1 other.1)
 
-goes_one : (b c : Builder) (text rest : List ℕ) (p : Piece) → piece_at text ≡ Some (p, rest) → taken b p ≡ Some c → Goes b text c rest
+pub goes_one : (b c : Builder) (text rest : List ℕ) (p : Piece) → piece_at text ≡ Some (p, rest) → taken b p ≡ Some c → Goes b text c rest
 goes_one b c text rest p e f = (p ∷ [], (c, rest, e, f, (refl, refl)))
 
 -- a text that begins with a tag
-abbrev BeginsTag : List ℕ → Type 0
+abbrev pub BeginsTag : List ℕ → Type 0
 BeginsTag text = (rest : List ℕ) × (text ≡ 60 ∷ rest)
 
 abbrev pub behind_first : List ℕ → List ℕ
@@ -68,17 +68,17 @@ behind_first (c ∷ cs) = cs
 -- inside an element
 
 -- where these elements are open and this text waits
-abbrev inner : List Open → List ℕ → Builder
+abbrev pub inner : List Open → List ℕ → Builder
 inner around text = record { begun = true; around = around; text = text; root = None }
 
-abbrev with_kids : Open → List Node → Open
+abbrev pub with_kids : Open → List Node → Open
 with_kids o kids = record o { children = kids }
 
 -- children once the text that waits is one of them
-abbrev kids_with : List ℕ → List Node → List Node
+abbrev pub kids_with : List ℕ → List Node → List Node
 kids_with text kids = cond (length text == 0) kids (kids ++ Chars text ∷ [])
 
-flush_is : (text : List ℕ) (o : Open) (os : List Open) (kids : List Node) → with_text text (with_kids o kids ∷ os) ≡ with_kids o (kids_with text kids) ∷ os
+pub flush_is : (text : List ℕ) (o : Open) (os : List Open) (kids : List Node) → with_text text (with_kids o kids ∷ os) ≡ with_kids o (kids_with text kids) ∷ os
 flush_is text o os kids = by (length text == 0)
   where
     by : (b : Bool) → cond b (with_kids o kids ∷ os) (with_child (Chars text) (with_kids o kids ∷ os)) ≡ with_kids o (cond b kids (kids ++ Chars text ∷ [])) ∷ os
@@ -86,7 +86,7 @@ flush_is text o os kids = by (length text == 0)
     by false = refl
 
 -- a text that goes into the innermost element doesn't change what the open ones declare
-declared_with_text : (text : List ℕ) (os : List Open) (prefix : List ℕ) → declared_outside (with_text text os) prefix ≡ declared_outside os prefix
+pub declared_with_text : (text : List ℕ) (os : List Open) (prefix : List ℕ) → declared_outside (with_text text os) prefix ≡ declared_outside os prefix
 declared_with_text text os prefix = by (length text == 0)
   where
     child : (os : List Open) → declared_outside (with_child (Chars text) os) prefix ≡ declared_outside os prefix
@@ -98,7 +98,7 @@ declared_with_text text os prefix = by (length text == 0)
     by false = child os
 
 -- what is in force doesn't depend on children
-agrees_with_kids : (scope : Scope) (o : Open) (os : List Open) (kids : List Node) → Agrees [] scope (o ∷ os) → Agrees [] scope (with_kids o kids ∷ os)
+pub agrees_with_kids : (scope : Scope) (o : Open) (os : List Open) (kids : List Node) → Agrees [] scope (o ∷ os) → Agrees [] scope (with_kids o kids ∷ os)
 agrees_with_kids scope o os kids agrees = record {
   default = agrees.default;
   default_is = agrees.default_is;
@@ -107,10 +107,10 @@ agrees_with_kids scope o os kids agrees = record {
   nine_bound = agrees.nine_bound;
 }
 
-some_open : (o : Open) (os : List Open) → (length (o ∷ os) == 0) ≡ false
+pub some_open : (o : Open) (os : List Open) → (length (o ∷ os) == 0) ≡ false
 some_open o os = grind (arith, nat_tests)
 
-placed_inside :
+pub placed_inside :
     (e : Element) (o : Open) (os : List Open) (kids : List Node) → placed e (inner (with_kids o kids ∷ os) []) ≡ inner (with_kids o (kids ++ Child e ∷ []) ∷ os) []
 placed_inside e o os kids = ap (λ b. cond b outside within) (some_open (with_kids o kids) os)
   where
@@ -121,7 +121,7 @@ placed_inside e o os kids = ap (λ b. cond b outside within) (some_open (with_ki
     within = inner (with_kids o (kids ++ Child e ∷ []) ∷ os) []
 
 -- an element of a row of children, as the data has it
-child_is :
+pub child_is :
     (space name : List ℕ) (attributes : List Attribute) (shape : _) (row : Row_of-Node _) →
     Child (record { space = space; name = name; attributes = attributes; children = items-the_row-Node _ row }) ≡ Element' space name attributes shape row
 child_is space name attributes shape row =
@@ -135,26 +135,26 @@ child_is space name attributes shape row =
 
 -- Good pieces lead from a text to what is left of it, and add these nodes to the children of the innermost element. Some
 -- characters wait before, and some after.
-record Filled (o : Open) (os : List Open) (kids : List Node) (before text rest : List ℕ) (nodes : List Node) : Type 0 where
-  more : List Node
-  waits : List ℕ
-  goes : Goes (inner (with_kids o kids ∷ os) before) text (inner (with_kids o more ∷ os) waits) rest
-  fills : kids_with waits more ≡ kids_with before kids ++ nodes
+pub record Filled (o : Open) (os : List Open) (kids : List Node) (before text rest : List ℕ) (nodes : List Node) : Type 0 where
+  pub more : List Node
+  pub waits : List ℕ
+  pub goes : Goes (inner (with_kids o kids ∷ os) before) text (inner (with_kids o more ∷ os) waits) rest
+  pub fills : kids_with waits more ≡ kids_with before kids ++ nodes
 
 -- The same for one node. Characters wait where it is a text.
-record Added (o : Open) (os : List Open) (kids : List Node) (before text rest : List ℕ) (n : Node) : Type 0 where
-  more : List Node
-  waits : List ℕ
-  goes : Goes (inner (with_kids o kids ∷ os) before) text (inner (with_kids o more ∷ os) waits) rest
-  fills : kids_with waits more ≡ kids_with before kids ++ n ∷ []
-  left : is_empty waits ≡ not (is_text n)
+pub record Added (o : Open) (os : List Open) (kids : List Node) (before text rest : List ℕ) (n : Node) : Type 0 where
+  pub more : List Node
+  pub waits : List ℕ
+  pub goes : Goes (inner (with_kids o kids ∷ os) before) text (inner (with_kids o more ∷ os) waits) rest
+  pub fills : kids_with waits more ≡ kids_with before kids ++ n ∷ []
+  pub left : is_empty waits ≡ not (is_text n)
 
-none_filled : (o : Open) (os : List Open) (kids : List Node) (before tail : List ℕ) → Filled o os kids before tail tail []
+pub none_filled : (o : Open) (os : List Open) (kids : List Node) (before tail : List ℕ) → Filled o os kids before tail tail []
 none_filled o os kids before tail =
     record { more = kids; waits = before; goes = ([], (refl, refl)); fills = sym (append-nil (kids_with before kids)) }
 
 -- a node, and then others
-filled_on :
+pub filled_on :
     (o : Open) (os : List Open) (kids : List Node) (before one two tail : List ℕ) (n : Node) (ns : List Node) (first : Added o os kids before (one ++ (two ++ tail)) (two ++ tail) n) →
     Filled o os first.more first.waits (two ++ tail) tail ns → Filled o os kids before ((one ++ two) ++ tail) tail (n ∷ ns)
 filled_on o os kids before one two tail n ns first others =
@@ -223,12 +223,12 @@ unfolding nine soap_space
 nine_found = (refl, (refl, (refl, (refl, (refl, (refl, (refl, (refl, (refl, tt)))))))))
 
 -- what is in force around a root, by whether it is of the SOAP namespace
-record Begins (soap : Bool) : Type 0 where
-  agrees : Agrees (cond soap nine []) (record { default = []; soap = soap; bound = bound_by [] (cond soap nine []) }) []
-  which : (cond soap nine [] ≡ []) ⊎ ((cond soap nine [] ≡ nine) × (◌≡◌ {A = List Open} [] []) × (soap ≡ true))
-  good : AreGoodBindings (cond soap nine [])
+pub record Begins (soap : Bool) : Type 0 where
+  pub agrees : Agrees (cond soap nine []) (record { default = []; soap = soap; bound = bound_by [] (cond soap nine []) }) []
+  pub which : (cond soap nine [] ≡ []) ⊎ ((cond soap nine [] ≡ nine) × (◌≡◌ {A = List Open} [] []) × (soap ≡ true))
+  pub good : AreGoodBindings (cond soap nine [])
 
-begins_with : (soap : Bool) → Begins soap
+pub begins_with : (soap : Bool) → Begins soap
 begins_with true = record {
   agrees = record {
     default = refl;
@@ -253,7 +253,7 @@ begins_with false = record {
 }
 
 -- an element, whose children are read again wherever they stand inside it
-element_again :
+pub element_again :
     (begun : Bool) (around : List Open) (before : List ℕ) (first : List Binding) (scope : Scope) (space name : List ℕ) (attributes : List Attribute)
     (body : List ℕ) (kids : List Node) (tail : List ℕ) →
     IsGoodHead space name attributes → nat_lt (length around) 64 ≡ true → Agrees first scope around →
@@ -286,7 +286,7 @@ element_again begun around before first scope space name attributes body kids ta
     (subst Q (λ i. record { space = opens.in_space i; name = (opens.named i).local; attributes = opens.attributed i; children = kids }) ends))
 
 -- a text
-text_added :
+pub text_added :
     (o : Open) (os : List Open) (kids : List Node) (before text tail : List ℕ) → IsGoodText text → before ≡ [] → BeginsTag tail →
     Added o os kids before (text_of text ++ tail) tail (Chars text)
 text_added o os kids before text tail good none tag =
@@ -336,18 +336,18 @@ row_begins (more_of-Node (Chars text) rest) scope tail apart tag = absurd (true�
 row_begins (more_of-Node (Element' space name attributes shape row) rest) scope tail apart tag =
     (behind_first ((node_of (Element' space name attributes shape row) scope ++ row_of rest scope) ++ tail), refl)
 
-not_both : (b : Bool) → not b ≡ true → b ≡ false
+pub not_both : (b : Bool) → not b ≡ true → b ≡ false
 not_both true e = absurd (true≢false (sym e))
 not_both false e = refl
 
-waits_for : (after : Bool) (before : List ℕ) → is_empty before ≡ not after → (after && true) ≡ false → before ≡ []
+pub waits_for : (after : Bool) (before : List ℕ) → is_empty before ≡ not after → (after && true) ≡ false → before ≡ []
 waits_for true before e f = absurd (true≢false f)
 waits_for false before e f = empty_is before e
 
-room_left : (room n : ℕ) → suc room + n ≡ 64 → nat_lt n 64 ≡ true
+pub room_left : (room n : ℕ) → suc room + n ≡ 64 → nat_lt n 64 ≡ true
 room_left room n e = grind (arith, nat_tests)
 
-one_deeper : (room n m : ℕ) → suc room + n ≡ 64 → m ≡ n → room + suc m ≡ 64
+pub one_deeper : (room n m : ℕ) → suc room + n ≡ 64 → m ≡ n → room + suc m ≡ 64
 one_deeper room n m e f = omega arith
 
 mutual
