@@ -11,7 +11,7 @@ use Rattle.std.proofs.lemmas.Str.{chars-encodes, encodes-append}
 use Rattle.wef_base.specs.Characters.{is_xml_char}
 use Rattle.wef_base.specs.Names.{same}
 use Rattle.wef_base.specs.declared.tree.Attribute.{Attribute}
-use Rattle.wef_xml.specs.Canonical.{assigned, attribute_of, declaration_of, default_of, name_of, start_of, value_char, value_of}
+use Rattle.wef_xml.specs.Canonical.{assigned, attribute_of, declaration_of, default_of, name_of, value_char, value_of}
 use Rattle.wef_xml.specs.Good.{IsLocalName, IsXmlText}
 use Rattle.wef_xml.specs.Letters.{is_name_char, is_name_start}
 use Rattle.wef_xml.specs.Prefixes.{bindings_from, bound_by, is_soap, new_bindings, new_spaces, outer_prefixes, soap_space, with_space}
@@ -19,7 +19,7 @@ use Rattle.wef_xml.specs.Spaces.{is_attribute, is_empty, is_xml_space, is_xmlns,
 use Rattle.wef_xml.specs.declared.bindings.Binding.{Binding}
 use Rattle.wef_xml.proofs.Ascii as ascii
 use Rattle.wef_canonical.specs.Passing.{IsAsciiName, IsAssigned, IsPlainRun, IsValueRun, Passes, begins_name, itself, stands_in_name}
-use Rattle.wef_canonical.specs.Tags.{AreBare, AreKept, BeginsWithAttributes, HasAttributes, HasSpace, IsBareSpace, IsDeclared, IsStart, KeepsMore, attribute_bytes, attributes_bytes, bare_scope, is_kept}
+use Rattle.wef_canonical.specs.Tags.{AreBare, AreKept, BeginsWithAttributes, HasAttributes, HasSpace, IsBareSpace, IsDeclared, IsOpen, IsStart, KeepsMore, attribute_bytes, attributes_bytes, bare_scope, is_kept, open_of}
 use Rattle.wef_canonical.specs.declared.tags.Names.{Names}
 use Rattle.wef_canonical.specs.declared.tags.Start.{Start}
 use Rattle.wef_canonical.proofs.Runs.{plain_values}
@@ -197,9 +197,8 @@ one_begins names more name rest attribute end left behind named keeps begins goe
     grouped : (a b c d : List ℕ) → a ++ (b ++ (c ++ d)) ≡ ((a ++ b) ++ c) ++ d
     grouped a b c d = simp append_assoc
 
-pub all_begin : (names : Names) (text rest left : List ℕ) → BeginsWithAttributes names text rest → rest ≡ 62 ∷ left → HasAttributes text left
-all_begin names text rest left begins ends =
-    (begins.attributes, begins.good, begins.bare, begins.differ [] tt tt, begins.stand ∙ ap (λ (bytes : List ℕ). attributes_bytes begins.attributes ++ bytes) ends)
+pub all_begin : (names : Names) (text rest : List ℕ) → BeginsWithAttributes names text rest → HasAttributes text rest
+all_begin names text rest begins = (begins.attributes, begins.good, begins.bare, begins.differ [] tt tt, begins.stand)
 
 -- ---- the names that are kept
 
@@ -290,50 +289,65 @@ declared_here default text value space rest is begins = record {
       ∙ ap (λ (bytes : List ℕ). bytes ++ rest) (sym (ap encode_utf8_all (declared_is default space is.bare.no_xml is.other) ∙ declaration_is space is.plain));
 }
 
--- ---- a start tag
+-- ---- a tag
 
-start_is : (default space name : List ℕ) (attributes : List Attribute) → is_xml_space space ≡ false → AreBare attributes →
-    start_of [] (bare_scope default) space name attributes ≡ 60 ∷ chars name ++ default_of (bare_scope default) space ++ flat_map (attribute_of []) attributes ++ 62 ∷ []
-start_is default space name attributes xml bare =
+open_is : (default space name : List ℕ) (attributes : List Attribute) → is_xml_space space ≡ false → AreBare attributes →
+    open_of [] (bare_scope default) space name attributes ≡ 60 ∷ chars name ++ default_of (bare_scope default) space ++ flat_map (attribute_of []) attributes
+open_is default space name attributes xml bare =
     (λ i.
     60 ∷ name_of (cond {A = Option (List ℕ)} (xml i) (Some (codes "xml")) None) name ++ default_of (bare_scope default) space ++ []
     ++ flat_map declaration_of (no_bindings attributes bare i)
-    ++ flat_map (attribute_of (bound_by [] (no_bindings attributes bare i))) attributes ++ 62 ∷ [])
-    ∙ ap (λ (text : List ℕ). text ++ flat_map (attribute_of []) attributes ++ 62 ∷ [])
+    ++ flat_map (attribute_of (bound_by [] (no_bindings attributes bare i))) attributes)
+    ∙ ap (λ (text : List ℕ). text ++ flat_map (attribute_of []) attributes)
     (append-nil (60 ∷ chars name ++ default_of (bare_scope default) space ++ []) ∙ append-nil (60 ∷ chars name ++ default_of (bare_scope default) space))
 
-four_encoded : (a b c d : List ℕ) → encode_utf8_all (a ++ b ++ c ++ d) ≡ encode_utf8_all a ++ encode_utf8_all b ++ encode_utf8_all c ++ encode_utf8_all d
-four_encoded a b c d =
-    encodes-append (a ++ b ++ c) d
-    ∙ ap (λ (bytes : List ℕ). bytes ++ encode_utf8_all d)
-    (encodes-append (a ++ b) c ∙ ap (λ (bytes : List ℕ). bytes ++ encode_utf8_all c) (encodes-append a b))
+three_encoded : (a b c : List ℕ) → encode_utf8_all (a ++ b ++ c) ≡ encode_utf8_all a ++ encode_utf8_all b ++ encode_utf8_all c
+three_encoded a b c = encodes-append (a ++ b) c ∙ ap (λ (bytes : List ℕ). bytes ++ encode_utf8_all c) (encodes-append a b)
 
-start_bytes : (default space name : List ℕ) (attributes : List Attribute) → is_xml_space space ≡ false → AreBare attributes → IsAsciiName name →
-    encode_utf8_all (start_of [] (bare_scope default) space name attributes) ≡ 60 ∷ name ++ encode_utf8_all (default_of (bare_scope default) space) ++ attributes_bytes attributes ++ 62 ∷ []
+open_bytes : (default space name : List ℕ) (attributes : List Attribute) → is_xml_space space ≡ false → AreBare attributes → IsAsciiName name →
+    encode_utf8_all (open_of [] (bare_scope default) space name attributes) ≡ 60 ∷ name ++ encode_utf8_all (default_of (bare_scope default) space) ++ attributes_bytes attributes
 unfolding encode
-start_bytes default space name attributes xml bare named =
-    ap encode_utf8_all (start_is default space name attributes xml bare)
-    ∙ four_encoded (60 ∷ chars name) (default_of (bare_scope default) space) (flat_map (attribute_of []) attributes) (62 ∷ [])
-    ∙ (λ i. 60 ∷ name_again name named i ++ encode_utf8_all (default_of (bare_scope default) space) ++ attributes_again attributes i ++ 62 ∷ [])
+open_bytes default space name attributes xml bare named =
+    ap encode_utf8_all (open_is default space name attributes xml bare)
+    ∙ three_encoded (60 ∷ chars name) (default_of (bare_scope default) space) (flat_map (attribute_of []) attributes)
+    ∙ (λ i. 60 ∷ name_again name named i ++ encode_utf8_all (default_of (bare_scope default) space) ++ attributes_again attributes i)
 
-pub start_begins :
-    (default text named behind given : List ℕ) (start : Start) → text ≡ 60 ∷ named → Passes IsAsciiName named behind → ((passed : List ℕ) → named ≡ passed ++ behind → start.name.now ≡ passed) →
-    HasSpace default behind start.space.now given → HasAttributes given start.rest.now → IsStart default text start
-start_begins default text named behind given start begins name is space attributes =
-    let same_name : start.name.now ≡ name.0 = is name.0 name.2 in
-    let is_name : IsAsciiName start.name.now = subst IsAsciiName (sym same_name) name.1 in
+pub open_begins :
+    (default text named behind given : List ℕ) (tag : Start) → text ≡ 60 ∷ named → Passes IsAsciiName named behind → ((passed : List ℕ) → named ≡ passed ++ behind → tag.name.now ≡ passed) →
+    HasSpace default behind tag.space.now given → HasAttributes given tag.rest.now → IsOpen default text tag
+open_begins default text named behind given tag begins name is space attributes =
+    let same_name : tag.name.now ≡ name.0 = is name.0 name.2 in
+    let is_name : IsAsciiName tag.name.now = subst IsAsciiName (sym same_name) name.1 in
     record {
       attributes = attributes.0;
-      head = record { named = local_name start.name.now is_name; in_space = space.bare.allowed; attributed = attributes.1; different = attributes.3 };
+      head = record { named = local_name tag.name.now is_name; in_space = space.bare.allowed; attributed = attributes.1; different = attributes.3 };
       bare = attributes.2;
       space = space.bare;
       stands =
           begins
           ∙ ap (λ (bytes : List ℕ). 60 ∷ bytes)
-          ((name.2 ∙ (λ i. sym same_name i ++ (space.stands ∙ ap (λ (bytes : List ℕ). encode_utf8_all (default_of (bare_scope default) start.space.now) ++ bytes) attributes.4) i))
-          ∙ grouped start.name.now (encode_utf8_all (default_of (bare_scope default) start.space.now)) (attributes_bytes attributes.0) (62 ∷ []) start.rest.now)
-          ∙ ap (λ (bytes : List ℕ). bytes ++ start.rest.now) (sym (start_bytes default start.space.now start.name.now attributes.0 space.bare.no_xml attributes.2 is_name));
+          ((name.2 ∙ (λ i. sym same_name i ++ (space.stands ∙ ap (λ (bytes : List ℕ). encode_utf8_all (default_of (bare_scope default) tag.space.now) ++ bytes) attributes.4) i))
+          ∙ grouped tag.name.now (encode_utf8_all (default_of (bare_scope default) tag.space.now)) (attributes_bytes attributes.0) tag.rest.now)
+          ∙ ap (λ (bytes : List ℕ). bytes ++ tag.rest.now) (sym (open_bytes default tag.space.now tag.name.now attributes.0 space.bare.no_xml attributes.2 is_name));
     }
   where
-    grouped : (a b c d e : List ℕ) → a ++ (b ++ (c ++ (d ++ e))) ≡ (((a ++ b) ++ c) ++ d) ++ e
-    grouped a b c d e = simp append_assoc
+    grouped : (a b c d : List ℕ) → a ++ (b ++ (c ++ d)) ≡ ((a ++ b) ++ c) ++ d
+    grouped a b c d = simp append_assoc
+
+-- a start tag ends with `>`
+ended : (front rest : List ℕ) → encode_utf8_all (front ++ 62 ∷ []) ++ rest ≡ encode_utf8_all front ++ 62 ∷ rest
+unfolding encode
+ended front rest = ap (λ (bytes : List ℕ). bytes ++ rest) (encodes-append front (62 ∷ [])) ∙ append_assoc (encode_utf8_all front) (62 ∷ []) rest
+
+pub start_ends : (default text : List ℕ) (tag start : Start) → IsOpen default text tag → tag.rest.now ≡ 62 ∷ start.rest.now → start.space ≡ tag.space → start.name ≡ tag.name → IsStart default text start
+start_ends default text tag start is ends space name =
+    let whole : IsStart default text (record { name = tag.name; space = tag.space; rest = start.rest }) = record {
+      attributes = is.attributes;
+      head = is.head;
+      bare = is.bare;
+      space = is.space;
+      stands =
+          is.stands ∙ ap (λ (bytes : List ℕ). encode_utf8_all (open_of [] (bare_scope default) tag.space.now tag.name.now is.attributes) ++ bytes) ends
+          ∙ sym (ended (open_of [] (bare_scope default) tag.space.now tag.name.now is.attributes) start.rest.now);
+    } in
+    subst (IsStart default text) (λ i. record { name = sym name i; space = sym space i; rest = start.rest }) whole

@@ -3,10 +3,11 @@ use Rattle.std.specs.Prelude.{◌≡◌, ℕ, ◌||◌, Bool, true, false, List,
 use Rattle.std.specs.List.{flat_map}
 use Rattle.wef_base.specs.Names.{same}
 use Rattle.wef_base.specs.declared.tree.Attribute.{Attribute}
-use Rattle.wef_xml.specs.Canonical.{attribute_of, default_of, start_of, value_of}
+use Rattle.wef_xml.specs.Canonical.{attribute_of, declaration_of, default_of, name_of, start_of, value_of}
 use Rattle.wef_xml.specs.Good.{AreGoodAttributes, IsGoodHead, IsXmlText, are_different, differ_behind}
-use Rattle.wef_xml.specs.Prefixes.{Scope, is_soap}
+use Rattle.wef_xml.specs.Prefixes.{Scope, element_prefix, inside, is_soap, new_bindings}
 use Rattle.wef_xml.specs.Spaces.{is_empty, is_xml_space, is_xmlns}
+use Rattle.wef_xml.specs.declared.bindings.Binding.{Binding}
 use Rattle.wef_canonical.specs.declared.tags.Names.{Names}
 use Rattle.wef_canonical.specs.declared.tags.Start.{Start}
 
@@ -60,9 +61,9 @@ pub record BeginsWithAttributes (names : Names) (text rest : List ℕ) : Type 0 
   pub differ : DifferFrom names attributes
   pub stand : text ≡ attributes_bytes attributes ++ rest
 
--- all attributes of a tag, and its end
+-- all attributes of a tag
 abbrev pub HasAttributes : List ℕ → List ℕ → Type 0
-HasAttributes text rest = (attributes : List Attribute) × AreGoodAttributes attributes × AreBare attributes × (are_different attributes ≡ true) × (text ≡ attributes_bytes attributes ++ 62 ∷ rest)
+HasAttributes text rest = (attributes : List Attribute) × AreGoodAttributes attributes × AreBare attributes × (are_different attributes ≡ true) × (text ≡ attributes_bytes attributes ++ rest)
 
 -- A namespace that is declared where another one is in force.
 pub record IsDeclared (default value space rest : List ℕ) : Type 0 where
@@ -75,6 +76,21 @@ pub record IsDeclared (default value space rest : List ℕ) : Type 0 where
 pub record HasSpace (default text space rest : List ℕ) : Type 0 where
   pub bare : IsBareSpace space
   pub stands : text ≡ encode_utf8_all (default_of (bare_scope default) space) ++ rest
+
+-- a tag without the sign that ends it
+abbrev pub open_of : List Binding → Scope → List ℕ → List ℕ → List Attribute → List ℕ
+open_of first scope space name attributes =
+    60 ∷ name_of (element_prefix scope.soap space) name ++ default_of scope space
+    ++ flat_map declaration_of first ++ flat_map declaration_of (new_bindings scope.bound attributes)
+    ++ flat_map (attribute_of (inside scope space attributes).bound) attributes
+
+-- Such a tag inside an element of a namespace.
+pub record IsOpen (default text : List ℕ) (tag : Start) : Type 0 where
+  pub attributes : List Attribute
+  pub head : IsGoodHead tag.space.now tag.name.now attributes
+  pub bare : AreBare attributes
+  pub space : IsBareSpace tag.space.now
+  pub stands : text ≡ encode_utf8_all (open_of [] (bare_scope default) tag.space.now tag.name.now attributes) ++ tag.rest.now
 
 -- A start tag inside an element of a namespace.
 pub record IsStart (default text : List ℕ) (start : Start) : Type 0 where

@@ -4,7 +4,7 @@ ghost use Rattle.std.specs.Prelude.{◌≡◌, ◌||◌, ◌++◌, IfSome, codes
 ghost use Rattle.wef_xml.specs.Prefixes.{is_soap};
 ghost use Rattle.wef_xml.specs.Spaces.{is_xml_space, is_xmlns};
 ghost use Rattle.wef_canonical.specs.Passing.{IsAssigned, Passes};
-ghost use Rattle.wef_canonical.specs.Tags.{HasAttributes, HasSpace, IsBareSpace, IsDeclared, IsStart, KeepsMore, is_kept};
+ghost use Rattle.wef_canonical.specs.Tags.{HasAttributes, HasSpace, IsBareSpace, IsDeclared, IsOpen, IsStart, KeepsMore, is_kept};
 
 use crate::characters::{behind_name, behind_plain, behind_value};
 use crate::cuts::{before, strip};
@@ -27,6 +27,21 @@ pub struct Start<'a> {
 pub fn start_at<'a>(default: &'a str, text: &'a str) -> Option<Start<'a>>
     requires { IsBareSpace default.now }
     ensures { IfSome result (λ start. IsStart default.now text.now start) }
+{
+    let tag = open_at(default, text)?;
+    let rest = strip(b">", tag.rest)?;
+    Some(Start {
+        name: tag.name,
+        space: tag.space,
+        rest,
+    })
+}
+
+/// The tag that a text begins with, inside an element of this namespace, up to the `>` or `/>` that
+/// ends it, which is left with what stands behind it.
+pub fn open_at<'a>(default: &'a str, text: &'a str) -> Option<Start<'a>>
+    requires { IsBareSpace default.now }
+    ensures { IfSome result (λ tag. IsOpen default.now text.now tag) }
 {
     let named = strip(b"<", text)?;
     let behind_name = behind_name(named)?;
@@ -89,17 +104,16 @@ fn is_soap(space: &str) -> bool
     space == SOAP
 }
 
-/// What is left behind attributes without a prefix and the end of their tag.
+/// What is left behind the attributes of a tag, which have no prefix.
 fn behind_attributes(text: &str) -> Option<&str>
     ensures { IfSome result (λ rest. HasAttributes text.now rest.now) }
 {
     let mut names = Names::new();
     let mut rest = text;
     for _turn in 0..text.len() {
-        if let Some(rest) = strip(b">", rest) {
+        let Some(attribute) = strip(b" ", rest) else {
             return Some(rest);
-        }
-        let attribute = strip(b" ", rest)?;
+        };
         let end = behind_name(attribute)?;
         let name = before(attribute, end)?;
         names = names.with(name)?;

@@ -1,8 +1,8 @@
-use Rattle.wef_canonical.proofs.BareTags.{start_begins}
+use Rattle.std.proofs.Common.{refl}
+use Rattle.wef_canonical.proofs.BareTags.{start_ends}
 use Rattle.wef_canonical.proofs.tags.start_at.Goals as goal
 
 pub returns : goal.returns
 returns c =
-    start_begins c.args.default.now c.args.text.now c.in_ok-named.named.now c.in_ok-behind_name.behind_name.now c.in_ok-space.given.now
-    (record { name = c.in_ok-name.name; space = c.in_ok-space.space; rest = c.in_ok-rest.rest })
-    c.in_ok-named.ensures c.in_ok-behind_name.ensures c.in_ok-name.ensures c.in_ok-space.ensures c.in_ok-rest.ensures
+    start_ends c.args.default.now c.args.text.now c.in_ok-tag.tag (record { name = c.in_ok-tag.tag.name; space = c.in_ok-tag.tag.space; rest = c.in_ok-rest.rest })
+    c.in_ok-tag.ensures c.in_ok-rest.ensures refl refl
