@@ -30,7 +30,7 @@ use Rattle.wef_event.proofs.Found.{is_there}
 pub none_left : (bytes : List ℕ) → (length bytes == 0) ≡ true → length bytes ≡ 0
 none_left bytes h = grind (arith, nat_tests)
 
-root_text : (e : Element) → is_soap e.space ≡ false → canonical e ≡ element_text [] (bare_scope []) e
+pub root_text : (e : Element) → is_soap e.space ≡ false → canonical e ≡ element_text [] (bare_scope []) e
 root_text e soap = λ i. element_text (cond {A = List Binding} (soap i) nine []) (record { default = []; soap = soap i; bound = bound_by [] (cond {A = List Binding} (soap i) nine []) }) e
 
 whole_text : (room : ℕ) (text : List ℕ) (seen : Seen) (is : IsSeen [] room text seen) → length seen.rest.now ≡ 0 → text ≡ text_of_tree is.element

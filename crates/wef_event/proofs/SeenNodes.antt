@@ -25,7 +25,7 @@ use Rattle.wef_elements.specs.Texts.{only_text, text_in, text_inside}
 use Rattle.wef_elements.proofs.Again.{text_again}
 use Rattle.wef_elements.proofs.GoodTrees.{children_of_text}
 use Rattle.wef_canonical.specs.Passing.{IsPlainRun, IsTextRun, Passes}
-use Rattle.wef_canonical.specs.Tags.{IsStart, bare_scope}
+use Rattle.wef_canonical.specs.Tags.{AreBare, IsStart, bare_scope}
 use Rattle.wef_canonical.specs.declared.tags.Start.{Start}
 use Rattle.wef_canonical.proofs.BareTags.{no_bindings}
 use Rattle.wef_canonical.proofs.Runs.{plain_itself}
@@ -52,7 +52,7 @@ map_or f (Some x) b = refl
 
 -- ---- a text, or none
 
-nothing : (text : List ℕ) → is_empty text ≡ true → text ≡ []
+pub nothing : (text : List ℕ) → is_empty text ≡ true → text ≡ []
 nothing [] e = refl
 nothing (c ∷ cs) e = absurd (grind (arith, nat_tests, e))
 
@@ -71,14 +71,16 @@ only_text_bytes space text = by (is_empty text) refl
 abbrev pub word_of : (front : List ℕ) → IsTextRun front → List ℕ
 word_of front run = encode_utf8_all run.characters
 
-word_is_good : (front : List ℕ) (run : IsTextRun front) → IsXmlText (word_of front run)
+pub word_is_good : (front : List ℕ) (run : IsTextRun front) → IsXmlText (word_of front run)
 word_is_good front run = record { characters = run.characters; spelt = refl; allowed = run.pass }
 
-run_bytes : (space front : List ℕ) (run : IsTextRun front) → nodes_bytes space (only_text (word_of front run)) ≡ front
+-- the bytes of the word that a run spells
+pub word_bytes : (front : List ℕ) (run : IsTextRun front) → encode_utf8_all (text_of (word_of front run)) ≡ front
 unfolding word_is_good
-run_bytes space front run =
-    only_text_bytes space (word_of front run)
-    ∙ ap (λ (cs : List ℕ). encode_utf8_all (flat_map text_char cs)) (text_chars (word_of front run) (word_is_good front run)) ∙ sym run.are_spelt
+word_bytes front run = ap (λ (cs : List ℕ). encode_utf8_all (flat_map text_char cs)) (text_chars (word_of front run) (word_is_good front run)) ∙ sym run.are_spelt
+
+pub run_bytes : (space front : List ℕ) (run : IsTextRun front) → nodes_bytes space (only_text (word_of front run)) ≡ front
+run_bytes space front run = only_text_bytes space (word_of front run) ∙ word_bytes front run
 
 text_first : (name text : List ℕ) (ns : List Node) → first_child name (only_text text ++ ns) ≡ first_child name ns
 text_first name text ns = by (is_empty text)
@@ -165,7 +167,7 @@ found_on f name text e ns all before more is adds =
     ∙ ap (λ o. option_or o (option_map f (first_child name ns))) (sym adds)
 
 -- good children behind a text and an element
-children_on : (text : List ℕ) (e : Element) (ns : List Node) (room : ℕ) → IsXmlText text → IsGoodElement e room → are_apart false ns ≡ true → AreGoodNodes ns room
+pub children_on : (text : List ℕ) (e : Element) (ns : List Node) (room : ℕ) → IsXmlText text → IsGoodElement e room → are_apart false ns ≡ true → AreGoodNodes ns room
     → (are_apart false (only_text text ++ Child e ∷ ns) ≡ true) × AreGoodNodes (only_text text ++ Child e ∷ ns) room
 children_on text e ns room allowed good apart more = by (is_empty text) refl
   where
@@ -237,7 +239,7 @@ leads_to_end space room text rest found inside leads passed none same =
 
 -- ---- an element
 
-inner_scope : (default space : List ℕ) (attributes : List Attribute) → is_xml_space space ≡ false → (bindings : ◌≡◌ (new_bindings [] attributes) []) → inside (bare_scope default) space attributes ≡ bare_scope space
+pub inner_scope : (default space : List ℕ) (attributes : List Attribute) → is_xml_space space ≡ false → (bindings : ◌≡◌ (new_bindings [] attributes) []) → inside (bare_scope default) space attributes ≡ bare_scope space
 inner_scope default space attributes xml bindings = λ i. record {
   default = cond (is_some (cond {A = Option (List ℕ)} (xml i) (Some (codes "xml")) None)) default space;
   soap = false;
@@ -250,18 +252,30 @@ nodes_again space (n ∷ ns) =
     encodes-append (node_of n (bare_scope space)) (flat_map (λ n. node_of n (bare_scope space)) ns) ∙ ap (λ (bytes : List ℕ). node_bytes space n ++ bytes) (nodes_again space ns)
 
 -- a name's characters in UTF-8 are the name
-name_again : (name : List ℕ) → IsLocalName name → encode_utf8_all (chars name) ≡ name
+pub name_again : (name : List ℕ) → IsLocalName name → encode_utf8_all (chars name) ≡ name
 name_again name is = ap encode_utf8_all (name_chars name is) ∙ sym is.spelt
 
-end_bytes : (default space name : List ℕ) → is_xml_space space ≡ false → encode_utf8_all (chars name) ≡ name → encode_utf8_all (end_of (bare_scope default) space name) ≡ codes "</" ++ name ++ codes ">"
+pub end_bytes : (default space name : List ℕ) → is_xml_space space ≡ false → encode_utf8_all (chars name) ≡ name → encode_utf8_all (end_of (bare_scope default) space name) ≡ codes "</" ++ name ++ codes ">"
 unfolding encode
 end_bytes default space name xml again =
     ap (λ (b : Bool). encode_utf8_all (codes "</" ++ name_of (cond {A = Option (List ℕ)} b (Some (codes "xml")) None) name ++ 62 ∷ [])) xml
     ∙ ap (λ (bytes : List ℕ). codes "</" ++ bytes) (encodes-append (chars name) (62 ∷ []))
     ∙ ap (λ (bytes : List ℕ). codes "</" ++ bytes ++ codes ">") again
 
-three_encoded : (a b c : List ℕ) → encode_utf8_all (a ++ b ++ c) ≡ encode_utf8_all a ++ encode_utf8_all b ++ encode_utf8_all c
+pub three_encoded : (a b c : List ℕ) → encode_utf8_all (a ++ b ++ c) ≡ encode_utf8_all a ++ encode_utf8_all b ++ encode_utf8_all c
 three_encoded a b c = encodes-append (a ++ b) c ∙ ap (λ bytes. bytes ++ encode_utf8_all c) (encodes-append a b)
+
+-- the bytes of an element by its parts
+pub element_bytes :
+    (default space called : List ℕ) (attributes : List Attribute) (ns : List Node) → is_xml_space space ≡ false → AreBare attributes → IsLocalName called →
+    encode_utf8_all (element_text [] (bare_scope default) (record { space = space; name = called; attributes = attributes; children = ns }))
+    ≡ encode_utf8_all (start_of [] (bare_scope default) space called attributes) ++ nodes_bytes space ns ++ (codes "</" ++ called ++ codes ">")
+element_bytes default space called attributes ns xml bare named =
+    let scope : Scope = bare_scope default in
+    ap (λ (s : Scope). encode_utf8_all (start_of [] scope space called attributes ++ flat_map (λ n. node_of n s) ns ++ end_of scope space called))
+    (inner_scope default space attributes xml (no_bindings attributes bare))
+    ∙ three_encoded (start_of [] scope space called attributes) (flat_map (λ n. node_of n (bare_scope space)) ns) (end_of scope space called)
+    ∙ (λ i. encode_utf8_all (start_of [] scope space called attributes) ++ nodes_again space ns i ++ end_bytes default space called xml (name_again called named) i)
 
 pub element_seen :
     (default : List ℕ) (room : ℕ) (text : List ℕ) (start : Start) (inner : Inside) (seen : Seen) → (room ≡ 0 → ⊥) → IsStart default text start → IsInside start.space.now (room - 1) start.rest.now inner →
@@ -272,12 +286,8 @@ element_seen default (suc room) text start inner seen some is inside end name pl
     let called = start.name.now in
     let scope : Scope = bare_scope default in
     let e : Element = record { space = space; name = called; attributes = is.attributes; children = inside.nodes } in
-    let bindings = no_bindings is.attributes is.bare in
     let written : encode_utf8_all (element_text [] scope e) ≡ encode_utf8_all (start_of [] scope space called is.attributes) ++ nodes_bytes space inside.nodes ++ (codes "</" ++ called ++ codes ">") =
-    ap (λ (s : Scope). encode_utf8_all (start_of [] scope space called is.attributes ++ flat_map (λ n. node_of n s) inside.nodes ++ end_of scope space called))
-    (inner_scope default space is.attributes is.space.no_xml bindings)
-    ∙ three_encoded (start_of [] scope space called is.attributes) (flat_map (λ n. node_of n (bare_scope space)) inside.nodes) (end_of scope space called)
-    ∙ (λ i. encode_utf8_all (start_of [] scope space called is.attributes) ++ nodes_again space inside.nodes i ++ end_bytes default space called is.space.no_xml (name_again called is.head.named) i) in
+    element_bytes default space called is.attributes inside.nodes is.space.no_xml is.bare is.head.named in
     record {
       element = e;
       good = (is.head, inside.are.apart, subst (λ (r : ℕ). AreGoodNodes inside.nodes r) less inside.are.good);

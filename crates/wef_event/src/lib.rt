@@ -4,6 +4,7 @@
 pub mod characters;
 pub mod laws;
 mod lengths;
+mod loose;
 pub mod numbering;
 mod paths;
 pub mod plain;

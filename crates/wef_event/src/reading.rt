@@ -10,6 +10,7 @@ ghost use Rattle.wef_event.specs.Events.{Finds, Gives, HasTree, IsEventOf, is_ev
 ghost use Rattle.wef_event.specs.Reading.{AsksForNoNumber, ReadsEvent, short_text};
 ghost use Rattle.wef_event.specs.Recognising.{IsLabel};
 
+use crate::loose::canonical_of;
 use crate::paths::{channel_in, number_in};
 use crate::plain::EVENT_LIMIT;
 use crate::recognising::{Label, recognised};
@@ -144,6 +145,29 @@ fn gives_name(word: &str, channel: &ChannelName) -> bool
 
 /// Reads an event; `needed`: it needs a number.
 fn read(needed: bool, text: &Text) -> Result<Event, EventFault>
+    ensures { ReadsEvent needed text.now result }
+{
+    match recognised(text.as_str()) {
+        Some(label) => read_seen(needed, &label, text),
+        None => read_unseen(needed, text),
+    }
+}
+
+/// Reads an event whose text isn't seen to be the one text of its tree, but may be a loose one.
+fn read_unseen(needed: bool, text: &Text) -> Result<Event, EventFault>
+    ensures { ReadsEvent needed text.now result }
+{
+    if !text.as_str().contains("/>") {
+        return read_tree_event(needed, text);
+    }
+    match canonical_of(text) {
+        Some(whole) => read_canonical(needed, &whole),
+        None => read_tree_event(needed, text),
+    }
+}
+
+/// Reads an event from the one text of its tree.
+fn read_canonical(needed: bool, text: &Text) -> Result<Event, EventFault>
     ensures { ReadsEvent needed text.now result }
 {
     match recognised(text.as_str()) {

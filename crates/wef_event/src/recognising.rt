@@ -24,7 +24,7 @@ pub struct Label<'a> {
 }
 
 /// How many elements may be in one another.
-const GREATEST_DEPTH: usize = 64;
+pub(crate) const GREATEST_DEPTH: usize = 64;
 
 /// What a text says that is seen to be the one text of an event's tree. None of other texts, and of
 /// some of these.
