@@ -1,5 +1,5 @@
 -- One key of the tree: what a look-up answers after a room was written or taken out there, and what stood there before.
-use Rattle.std.proofs.Common.{ℕ, zero, suc, ◌<◌, List, [], ◌∷◌, get_or, length, drop, arith, add-one, drop-cons, ◌+◌, ◌≡◌, Bool, true, false, cond, is_some, ◌&&◌, ◌||◌, ◌++◌, refl, sym, ap, ◌∙◌, Option, Some, None}
+use Rattle.std.proofs.Common.{ℕ, zero, suc, ◌<◌, ◌≤◌, List, [], ◌∷◌, get_or, length, drop, arith, add-one, drop-cons, ◌+◌, ◌≡◌, Bool, true, false, cond, is_some, ◌&&◌, ◌||◌, ◌++◌, refl, sym, ap, ◌∙◌, Option, Some, None}
 use Rattle.std.specs.BTreeMap as tree
 use Rattle.std.specs.Cmp.{Equal-is}
 use Rattle.std.specs.Option.{option_flatten}
@@ -17,6 +17,17 @@ pub tied : (cells : Cells) (key q : Key) → eq_by_cmp key_cmp key q ≡ true �
 tied cells key q e = ap (tree.get key_cmp cells) (sym (key_cmp_exact key q ((Equal-is (key_cmp key q)).0 e)))
 
 -- ---- x is what stands at a key after a change of one place, y what stood there, b whether the key is that place
+
+-- a cell was put
+pub flat_put : (b : Bool) (x y : Option (Option Cell)) (cell : Cell) → x ≡ cond b (Some (Some cell)) y → option_flatten x ≡ cond b (Some cell) (option_flatten y)
+flat_put true x y cell e = ap option_flatten e
+flat_put false x y cell e = ap option_flatten e
+
+pub some_room : (b : Bool) (x y : Option (Option Cell)) (cell : Cell) → x ≡ cond b (Some (Some cell)) y → is_some x ≡ (is_some y || b)
+some_room true x None cell e = ap is_some e
+some_room true x (Some y) cell e = ap is_some e
+some_room false x None cell e = ap is_some e
+some_room false x (Some y) cell e = ap is_some e
 
 -- a cell was written in the room that is there
 pub flat_written : (b : Bool) (x y : Option (Option Cell)) (cell : Option Cell) → x ≡ cond b (Some cell) y → (b ≡ true → is_some y ≡ true) → option_flatten x ≡ cond (b && is_some y) cell (option_flatten y)
@@ -72,6 +83,12 @@ made_nothing false b e = e
 -- what is left at a place is its change and what is left behind it
 pub left_item : (changes : List Change) (i : ℕ) (item : Change) → i < length changes → item ≡ get_or changes i item → drop i changes ≡ item ∷ drop (i + 1) changes
 left_item changes i item h e = rw (add-one, drop-cons changes i item) (ap (λ c. c ∷ drop (suc i) changes) (sym e))
+
+pub nothing_left : (changes : List Change) (i : ℕ) → length changes ≤ i → drop i changes ≡ []
+nothing_left [] zero h = refl
+nothing_left [] (suc i) h = refl
+nothing_left (change ∷ changes) zero h = absurd (omega arith)
+nothing_left (change ∷ changes) (suc i) h = nothing_left changes i (omega arith)
 
 or_assoc : (a b c : Bool) → ((a || b) || c) ≡ (a || (b || c))
 or_assoc true b c = refl
