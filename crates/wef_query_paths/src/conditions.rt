@@ -40,7 +40,7 @@ impl Around {
     fn closed_round(self, alloc: Global, or: Or) -> Result<Next, Halt>
         ensures { Reads result (closed_round self or) }
     {
-        match self {
+        match &self {
             Around::Round => grouped(alloc, or),
             Around::Square(_, _, _) => Err(Halt::Refused),
         }
