@@ -77,7 +77,7 @@ end_kept (d ∷ ds) h =
     ap (unless_last_space d) (end_kept ds parts.1) ∙ last_kept d ds parts.0
 
 -- nothing is trimmed off digits
-digits_trimmed : (ds : List ℕ) → list_all is_digit ds ≡ true → trimmed ds ≡ ds
+pub digits_trimmed : (ds : List ℕ) → list_all is_digit ds ≡ true → trimmed ds ≡ ds
 digits_trimmed ds h =
     ap (λ cs. encode_utf8_all (trimmed_characters cs)) (digits_chars ds h)
     ∙ ap (λ cs. encode_utf8_all (without_end cs)) (start_kept ds h) ∙ ap encode_utf8_all (end_kept ds h) ∙ digits_encoded ds h

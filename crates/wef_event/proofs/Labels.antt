@@ -5,7 +5,7 @@ use Rattle.std.specs.List.{list_all}
 use Rattle.std.specs.Option.{option_and_then, option_map}
 use Rattle.std.proofs.lemmas.Bool.{and_parts}
 use Rattle.std.proofs.lemmas.Bool.Decides.{nat_tests}
-use Rattle.wef_base.specs.Names.{channel_name, is_space, same, trimmed, trimmed_characters, unless_last_space, without_end, without_start}
+use Rattle.wef_base.specs.Names.{channel_name, same, trimmed}
 use Rattle.wef_base.specs.Numbers.{has_leading_zero, is_digit, is_numeral, number_within, plain_number}
 use Rattle.wef_base.specs.declared.numbers.TheConstants.{MAX}
 use Rattle.wef_base.specs.declared.tree.Element.{Element}
@@ -15,7 +15,7 @@ use Rattle.wef_xml.specs.Prefixes.{bound_by, is_soap, nine}
 use Rattle.wef_xml.specs.declared.bindings.Binding.{Binding}
 use Rattle.wef_tree.proofs.EncodedAgain.{written8}
 use Rattle.wef_elements.specs.Texts.{text_inside}
-use Rattle.wef_elements.proofs.DecimalDigits.{digits_chars, digits_encoded}
+use Rattle.wef_elements.proofs.DecimalDigits.{digits_trimmed}
 use Rattle.wef_canonical.specs.Tags.{bare_scope}
 use Rattle.wef_event.specs.Events.{HasTree, event_limit, number_or, text_of_tree}
 use Rattle.wef_event.specs.Paths.{channel_in, field_in, first_child, number_in, number_of_digits, unless_zero}
@@ -79,29 +79,6 @@ number_there node text h =
     ap (option_and_then (λ field. number_of_digits (trimmed (text_inside field)))) found.1 ∙ ap (λ (t : List ℕ). number_of_digits (trimmed t)) found.2
 
 -- ---- the number
-
-digit_no_space : (d : ℕ) → is_digit d ≡ true → is_space d ≡ false
-digit_no_space d h = grind (arith, nat_tests)
-
-start_kept : (ds : List ℕ) → list_all is_digit ds ≡ true → without_start ds ≡ ds
-start_kept [] h = refl
-start_kept (d ∷ ds) h = ap (λ (b : Bool). cond b (without_start ds) (d ∷ ds)) (digit_no_space d (and_parts (is_digit d) (list_all is_digit ds) h).0)
-
-last_kept : (d : ℕ) (ds : List ℕ) → is_digit d ≡ true → unless_last_space d ds ≡ d ∷ ds
-last_kept d [] h = ap (λ (b : Bool). cond b [] (d ∷ [])) (digit_no_space d h)
-last_kept d (e ∷ ds) h = refl
-
-end_kept : (ds : List ℕ) → list_all is_digit ds ≡ true → without_end ds ≡ ds
-end_kept [] h = refl
-end_kept (d ∷ ds) h =
-    let parts = and_parts (is_digit d) (list_all is_digit ds) h in
-    ap (unless_last_space d) (end_kept ds parts.1) ∙ last_kept d ds parts.0
-
--- nothing is trimmed off digits
-digits_trimmed : (ds : List ℕ) → list_all is_digit ds ≡ true → trimmed ds ≡ ds
-digits_trimmed ds h =
-    ap (λ (cs : List ℕ). encode_utf8_all (trimmed_characters cs)) (digits_chars ds h)
-    ∙ ap (λ (cs : List ℕ). encode_utf8_all (without_end cs)) (start_kept ds h) ∙ ap encode_utf8_all (end_kept ds h) ∙ digits_encoded ds h
 
 plain_parts : (limit : ℕ) (digits : List ℕ) (n : ℕ) → plain_number limit digits ≡ Some n → (is_numeral digits ≡ true) × (number_within limit digits ≡ Some n)
 unfolding plain_number
