@@ -1,38 +1,32 @@
 -- What is written for a body is a good tree.
-use Rattle.std.proofs.Common.{◌≡◌, ℕ, suc, ◌+◌, ◌<◌, ◌/◌, ◌%◌, true, false, List, [], ◌∷◌, ◌++◌, ap, refl, subst, sym, ◌∙◌, arith}
+use Rattle.std.proofs.Common.{◌≡◌, ℕ, suc, ◌+◌, false, List, [], ◌∷◌, ◌++◌, ap, refl, subst, sym, ◌∙◌}
 use Rattle.std.specs.Prelude.{Option, Some, None, Result, Ok, Err, IfOk, IfSome, codes}
 use Rattle.std.specs.Fmt.{decimal}
-use Rattle.std.specs.List.{All, AllByRecursion, list_all}
+use Rattle.std.specs.List.{All, AllByRecursion}
 use Rattle.std.specs.Option.{option_map, option_to_list}
-use Rattle.std.proofs.lemmas.Bool.{and_from, and_parts}
-use Rattle.std.proofs.lemmas.Bool.Decides.{nat_tests}
 use Rattle.std.proofs.lemmas.List.Elements.{All-from_recursion, recursion_from_All}
-use Rattle.std.proofs.lemmas.List.Folds.{list_all-append}
-use Rattle.std.proofs.lemmas.Str.{is_utf8-from_IsUtf8}
-use Rattle.wef_base.specs.Numbers.{is_digit}
 use Rattle.wef_base.specs.declared.tree.Element.{Element}
 use Rattle.wef_bookmark.proofs.WrittenGood.{written_is_good as bookmark_good}
 use Rattle.wef_elements.specs.Children.{with_elements, with_text}
 use Rattle.wef_elements.specs.Good.{AreGoodElements}
 use Rattle.wef_elements.specs.Spaces.{management}
-use Rattle.wef_elements.proofs.DecimalDigits.{decimal_digits, number_text}
+use Rattle.wef_elements.proofs.DecimalDigits.{number_text}
 use Rattle.wef_elements.proofs.GoodTexts.{empty_text, management_good}
 use Rattle.wef_elements.proofs.GoodTrees.{elements_good, holder_good, leaf_good, said_good}
 use Rattle.wef_envelope.specs.Spaces.{addressing, enumeration, eventing, subscription}
 use Rattle.wef_envelope.specs.Written.{written}
 use Rattle.wef_envelope.proofs.WrittenIsGood.{written_is_good as envelope_good}
-use Rattle.wef_eventing.specs.Addresses.{is_printed}
 use Rattle.wef_eventing.specs.Kept.{HasKeptName}
 use Rattle.wef_eventing.specs.Sending.{AreXmlQueries, CanBeOffered, HasXmlTexts}
 use Rattle.wef_eventing.specs.declared.offers.Offer.{Offer}
 use Rattle.wef_eventing.specs.declared.offers.Subscribe.{Subscribe}
-use Rattle.wef_eventing.proofs.AddressTexts.{printed_text}
+use Rattle.wef_eventing.proofs.DurationTexts.{duration_good}
+use Rattle.wef_eventing.proofs.QueryTexts.{queries_are_xml}
 use Rattle.wef_ids.specs.declared.MessageId.{MessageId}
-use Rattle.wef_query.specs.Laws.{HasXmlTexts as HasXmlItem}
 use Rattle.wef_query.specs.Writing.{query_element}
 use Rattle.wef_query.specs.Items.{QueryItem}
 use Rattle.wef_query.proofs.WrittenGood.{written_is_good as query_good}
-use Rattle.wef_times.specs.Durations.{duration_text, three_digits}
+use Rattle.wef_times.specs.Durations.{duration_text}
 use Rattle.wef_xml.specs.Good.{IsGoodElement, IsGoodHead, IsLocalName, IsXmlText}
 use Rattle.wef_xml.specs.Spaces.{is_xmlns}
 use Rattle.wef_xml.proofs.Ascii.{plain_name, plain_text}
@@ -81,46 +75,6 @@ log_good = plain_text event_log refl
 action_good : IsXmlText subscribe
 unfolding subscribe
 action_good = plain_text subscribe refl
-
--- ---- durations
-
-digit_printed : (c : ℕ) → is_digit c ≡ true → is_printed c ≡ true
-digit_printed c e = grind (arith, nat_tests)
-
-digits_printed : (cs : List ℕ) → list_all is_digit cs ≡ true → list_all is_printed cs ≡ true
-digits_printed [] e = refl
-digits_printed (c ∷ cs) e =
-    let parts = and_parts (is_digit c) (list_all is_digit cs) e in
-    and_from (is_printed c) (list_all is_printed cs) (digit_printed c parts.0) (digits_printed cs parts.1)
-
-one_printed : (d : ℕ) → d < 10 → is_printed (48 + d) ≡ true
-one_printed d less = grind (arith, nat_tests)
-
-three_printed : (n : ℕ) → n < 1000 → list_all is_printed (three_digits n) ≡ true
-three_printed n less =
-    and_from _ _ (one_printed (n / 100) (omega arith)) (and_from _ _ (one_printed (n / 10 % 10) (omega arith)) (and_from _ _ (one_printed (n % 10) (omega arith)) refl))
-
-joined : (cs ds : List ℕ) → list_all is_printed cs ≡ true → list_all is_printed ds ≡ true → list_all is_printed (cs ++ ds) ≡ true
-joined cs ds one other = list_all-append is_printed cs ds ∙ and_from _ _ one other
-
-thousandths : (ms : ℕ) → ms % 1000 < 1000
-thousandths ms = omega arith
-
--- XML allows the text of a duration
-pub duration_good : (ms : ℕ) → IsXmlText (duration_text ms)
-unfolding duration_text
-duration_good ms =
-    let seconds = decimal (ms / 1000) in
-    let decimals = three_digits (ms % 1000) in
-    let front = codes "PT" ++ seconds ++ codes "." in
-    (
-    printed_text (duration_text ms)
-    (joined (front ++ decimals) (codes "S")
-    (joined front decimals
-    (joined (codes "PT" ++ seconds) (codes ".") (joined (codes "PT") seconds refl (digits_printed seconds (decimal_digits (ms / 1000)))) refl)
-    (three_printed (ms % 1000) (thousandths ms)))
-    refl)
-    ).1
 
 -- ---- elements with one attribute
 
@@ -226,14 +180,10 @@ expires_good : (expires : Option ℕ) (room : ℕ) → IsGoodPlace (option_map e
 expires_good None room = tt
 expires_good (Some ms) room = leaf_good eventing (codes "Expires") (duration_text ms) room eventing_good (plain_name (codes "Expires") refl) (duration_good ms)
 
-items_good : (items : List QueryItem) → AllByRecursion HasKeptName items → AreXmlQueries items → AllByRecursion HasXmlItem items
-items_good [] kept texts = tt
-items_good (item ∷ items) kept texts = (record { utf8 = is_utf8-from_IsUtf8 item.channel kept.0.utf8; channel = kept.0.reads_back; text = texts.0 }, items_good items kept.1 texts.1)
-
 filter_good : (items : List QueryItem) (room : ℕ) → AllByRecursion HasKeptName items → AreXmlQueries items → IsGoodElement (filter_element items) (suc (suc (suc (suc room))))
 filter_good items room kept texts =
     marked_good management (codes "Filter") (codes "Dialect") event_query (query_element items ∷ []) (suc (suc (suc room)))
-    management_good (plain_name (codes "Filter") refl) dialect_plain dialect_good (query_good items room (items_good items kept texts), tt)
+    management_good (plain_name (codes "Filter") refl) dialect_plain dialect_good (query_good items room (queries_are_xml items kept texts), tt)
 
 parts_good : (s : Subscribe) (room : ℕ) → HasXmlTexts s → IsKeptSubscribe s → AreGoodElements (subscribe_parts s) (suc (suc (suc (suc room))))
 parts_good s room has kept =

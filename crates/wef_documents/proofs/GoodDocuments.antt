@@ -1,35 +1,30 @@
 -- What is written for a subscription is a good tree.
-use Rattle.std.proofs.Common.{◌≡◌, ℕ, suc, ◌<◌, ◌/◌, ◌%◌, ◌+◌, true, false, List, [], ◌∷◌, ◌++◌, IsUtf8, refl, ◌∙◌, arith, map}
+use Rattle.std.proofs.Common.{◌≡◌, ℕ, suc, ◌+◌, true, false, List, [], ◌∷◌, ◌++◌, IsUtf8, refl, map}
 use Rattle.std.specs.Prelude.{Some, codes}
 use Rattle.std.specs.Fmt.{decimal}
-use Rattle.std.specs.List.{AllByRecursion, list_all}
+use Rattle.std.specs.List.{AllByRecursion}
 use Rattle.std.specs.Str.{chars}
-use Rattle.std.proofs.lemmas.Bool.{and_from, and_parts}
-use Rattle.std.proofs.lemmas.Bool.Decides.{nat_tests}
-use Rattle.std.proofs.lemmas.List.Folds.{list_all-append}
-use Rattle.std.proofs.lemmas.Str.{is_utf8-from_IsUtf8, scalars-chars}
+use Rattle.std.proofs.lemmas.Str.{scalars-chars}
 use Rattle.wef_base.specs.Names.{subscription_name}
-use Rattle.wef_base.specs.Numbers.{is_digit}
 use Rattle.wef_base.specs.declared.names.Letters.TheVariants.{Kept}
 use Rattle.wef_base.specs.declared.tree.Element.{Element}
 use Rattle.wef_base.proofs.Kept.{name_allowed}
 use Rattle.wef_elements.specs.Good.{AreGoodElements}
-use Rattle.wef_elements.proofs.DecimalDigits.{decimal_digits, number_text}
+use Rattle.wef_elements.proofs.DecimalDigits.{number_text}
 use Rattle.wef_elements.proofs.GoodTexts.{all_allowed, empty_text, xml_text}
 use Rattle.wef_elements.proofs.GoodTrees.{elements_good, holder_good, leaf_good, said_good}
-use Rattle.wef_eventing.specs.Addresses.{is_printed}
 use Rattle.wef_eventing.specs.Kept.{HasKeptName}
 use Rattle.wef_eventing.specs.Sending.{AreXmlQueries}
 use Rattle.wef_eventing.specs.declared.subscriptions.SourceAt.{SourceAt}
 use Rattle.wef_eventing.specs.declared.subscriptions.SubKind.{SubKind}
 use Rattle.wef_eventing.specs.declared.subscriptions.SubKind.TheVariants.{BySource, ByCollector}
 use Rattle.wef_eventing.specs.declared.subscriptions.Subscription.{Subscription}
-use Rattle.wef_eventing.proofs.AddressTexts.{printed_text}
-use Rattle.wef_query.specs.Laws.{HasXmlTexts as HasXmlItem}
+use Rattle.wef_eventing.proofs.DurationTexts.{duration_good}
+use Rattle.wef_eventing.proofs.QueryTexts.{queries_are_xml}
 use Rattle.wef_query.specs.Writing.{query_element}
 use Rattle.wef_query.specs.Items.{QueryItem}
 use Rattle.wef_query.proofs.WrittenGood.{written_is_good as query_good}
-use Rattle.wef_times.specs.Durations.{duration_text, three_digits}
+use Rattle.wef_times.specs.Durations.{duration_text}
 use Rattle.wef_xml.specs.Good.{IsGoodElement, IsGoodHead, IsGoodTree, IsLocalName, IsXmlText}
 use Rattle.wef_xml.specs.Spaces.{is_xmlns}
 use Rattle.wef_xml.proofs.Ascii.{plain_name, plain_text}
@@ -51,44 +46,6 @@ name_good name utf8 named = xml_text name utf8 (all_allowed (chars name) (scalar
 kind_good : (kind : SubKind) → IsXmlText (kind_text kind)
 kind_good BySource = plain_text (codes "SourceInitiated") refl
 kind_good ByCollector = plain_text (codes "CollectorInitiated") refl
-
-digit_printed : (c : ℕ) → is_digit c ≡ true → is_printed c ≡ true
-digit_printed c e = grind (arith, nat_tests)
-
-digits_printed : (cs : List ℕ) → list_all is_digit cs ≡ true → list_all is_printed cs ≡ true
-digits_printed [] e = refl
-digits_printed (c ∷ cs) e =
-    let parts = and_parts (is_digit c) (list_all is_digit cs) e in
-    and_from (is_printed c) (list_all is_printed cs) (digit_printed c parts.0) (digits_printed cs parts.1)
-
-one_printed : (d : ℕ) → d < 10 → is_printed (48 + d) ≡ true
-one_printed d less = grind (arith, nat_tests)
-
-three_printed : (n : ℕ) → n < 1000 → list_all is_printed (three_digits n) ≡ true
-three_printed n less =
-    and_from _ _ (one_printed (n / 100) (omega arith)) (and_from _ _ (one_printed (n / 10 % 10) (omega arith)) (and_from _ _ (one_printed (n % 10) (omega arith)) refl))
-
-joined : (cs ds : List ℕ) → list_all is_printed cs ≡ true → list_all is_printed ds ≡ true → list_all is_printed (cs ++ ds) ≡ true
-joined cs ds one other = list_all-append is_printed cs ds ∙ and_from _ _ one other
-
-thousandths : (ms : ℕ) → ms % 1000 < 1000
-thousandths ms = omega arith
-
--- XML allows the text of a duration
-duration_good : (ms : ℕ) → IsXmlText (duration_text ms)
-unfolding duration_text
-duration_good ms =
-    let seconds = decimal (ms / 1000) in
-    let decimals = three_digits (ms % 1000) in
-    let front = codes "PT" ++ seconds ++ codes "." in
-    (
-    printed_text (duration_text ms)
-    (joined (front ++ decimals) (codes "S")
-    (joined front decimals
-    (joined (codes "PT" ++ seconds) (codes ".") (joined (codes "PT") seconds refl (digits_printed seconds (decimal_digits (ms / 1000)))) refl)
-    (three_printed (ms % 1000) (thousandths ms)))
-    refl)
-    ).1
 
 -- ---- elements
 
@@ -132,13 +89,9 @@ delivery_good items ms room =
 
 -- ---- queries and sources
 
-items_good : (items : List QueryItem) → AllByRecursion HasKeptName items → AreXmlQueries items → AllByRecursion HasXmlItem items
-items_good [] kept texts = tt
-items_good (item ∷ items) kept texts = (record { utf8 = is_utf8-from_IsUtf8 item.channel kept.0.utf8; channel = kept.0.reads_back; text = texts.0 }, items_good items kept.1 texts.1)
-
 queries_good : (items : List QueryItem) (room : ℕ) → AllByRecursion HasKeptName items → AreXmlQueries items → IsGoodElement (queries_element items) (suc (suc (suc (suc room))))
 queries_good items room kept texts =
-    single_good (codes "Query") (query_element items) (suc (suc (suc room))) (plain_name (codes "Query") refl) (query_good items room (items_good items kept texts))
+    single_good (codes "Query") (query_element items) (suc (suc (suc room))) (plain_name (codes "Query") refl) (query_good items room (queries_are_xml items kept texts))
 
 source_good : (s : SourceAt) (room : ℕ) → IsXmlText s.address → IsGoodElement (source_element s) (suc (suc room))
 source_good s room allowed =
