@@ -2,9 +2,10 @@
 
 use crate::answers::{asked, push_bytes};
 use crate::replies::push_read;
-use crate::sources::{ask, push_hears, push_next, wish, written};
+use crate::sources::{ask, push_hears, wish};
 use std::alloc::AllocError;
 use tests_collectors::collectors::{Kept, collector_of};
+use tests_collectors::sources::{push_next, written};
 use tests_tasks::deliveries::edited_from;
 use wef_base::{Bytes, Charset, Moment, Text};
 use wef_front::{Target, source_hears};

@@ -1,7 +1,8 @@
 //! What a source makes of replies to a batch, written out.
 
-use crate::sources::{push_hears, push_next, waiting};
+use crate::sources::{push_hears, waiting};
 use std::alloc::AllocError;
+use tests_collectors::sources::push_next;
 use tests_tasks::deliveries::edited_from;
 use wef_base::{Bytes, Moment, Text};
 use wef_front::{read_reply, source_hears};

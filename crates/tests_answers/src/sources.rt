@@ -6,38 +6,12 @@ ghost use Rattle.wef_xml.specs.Good.{IsXmlText};
 use crate::answers::asked;
 use std::alloc::{AllocError, Global};
 use tests_collectors::collectors::{Kept, base, collector_of, host};
-use wef_base::{Bytes, Charset, Moment, SourceName, Text};
-use wef_event::read_new_event;
+use tests_collectors::sources::written;
+use wef_base::{Bytes, Charset, Moment, Text};
 use wef_front::{Hears, Target, source_hears, write_enumerate};
 use wef_ids::MessageId;
 use wef_keeper::MemKeeper;
-use wef_source::{Poll, SourceEnd};
-
-/// An event that the source writes.
-const EVENT: &str =
-    "<Event xmlns=\"http://schemas.microsoft.com/win/2004/08/events/event\"><System><Channel>application</Channel></System></Event>";
-
-/// The source `pc1` of boot 1, which has written an event.
-pub(crate) fn written(alloc: Global) -> Result<SourceEnd<MemKeeper>, AllocError> {
-    let mut source = started(alloc)?;
-    let Ok(event) = read_new_event(&Text::from_str(alloc, EVENT)?) else {
-        return Err(AllocError);
-    };
-    match source.write(&event) {
-        Ok(_) => Ok(source),
-        Err(_) => Err(AllocError),
-    }
-}
-
-fn started(alloc: Global) -> Result<SourceEnd<MemKeeper>, AllocError> {
-    let Ok(name) = SourceName::read(&Text::from_str(alloc, "pc1")?) else {
-        return Err(AllocError);
-    };
-    match SourceEnd::start(alloc, MemKeeper::new(alloc), name, 64) {
-        Ok(source) => Ok(source),
-        Err(_) => Err(AllocError),
-    }
-}
+use wef_source::SourceEnd;
 
 /// Asks a collector for subscriptions, under the next id of the source.
 #[tactic(auto, using(wef_ids::proofs::PlainIds::id_text_good))]
@@ -94,18 +68,5 @@ pub(crate) fn push_hears(shown: &mut Text, hears: Hears) -> Result<(), AllocErro
         Hears::Refused => shown.push_str("refused"),
         Hears::NotAsked => shown.push_str("not asked"),
         Hears::Unreadable => shown.push_str("unreadable"),
-    }
-}
-
-/// What the source has to send for the subscription `base`.
-pub(crate) fn push_next(
-    shown: &mut Text,
-    source: &mut SourceEnd<MemKeeper>,
-) -> Result<(), AllocError> {
-    let sub = base(shown.alloc())?;
-    match source.poll(&sub, Moment::first()) {
-        Ok(Poll::Send(_)) => shown.push_str("; sends"),
-        Ok(Poll::Nothing) => shown.push_str("; has nothing to send"),
-        Err(_) => shown.push_str("; has no session"),
     }
 }

@@ -1,6 +1,7 @@
-//! A collector that tests ask, the requests that it is asked with, and what it keeps.
+//! A collector that tests ask, the requests that it is asked with, and what it keeps; and a source.
 #![tactic(auto)]
 
 pub mod collectors;
 pub mod requests;
+pub mod sources;
 pub mod utf16;

@@ -1,8 +1,8 @@
 //! What the program prints.
 
 use crate::responses::{response_of, text_of};
-use crate::sources::written;
 use std::alloc::{AllocError, Global};
+use tests_collectors::sources::written;
 use tests_tasks::escapes::escaped;
 use wef_base::{Bytes, List, MemSink, MemSource, Moment, Text};
 use wef_connections::{MemConnection, MemFront, MemLink};

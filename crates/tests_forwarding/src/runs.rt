@@ -1,8 +1,10 @@
 //! What comes of a response.
 
 use crate::responses::{offered, response_of, text_of};
-use crate::sources::{forward, host, push_next, written};
+use crate::sources::forward;
 use std::alloc::{AllocError, Global};
+use tests_collectors::collectors::host;
+use tests_collectors::sources::{push_next, written};
 use tests_tasks::escapes::escaped;
 use wef_base::{List, Moment, Text};
 use wef_connections::MemLink;

@@ -1,48 +1,12 @@
-//! The source that asks and forwards.
-
-ghost use Rattle.std.specs.Prelude.{IfOk};
-ghost use Rattle.wef_eventing.specs.Addresses.{IsHost};
+//! The source that forwards.
 
 use std::alloc::{AllocError, Global};
-use wef_base::{Moment, SourceName, SubId, Text};
+use tests_collectors::collectors::base;
+use wef_base::Moment;
 use wef_connections::MemLink;
-use wef_event::read_new_event;
 use wef_forwarding::{Exchange, FrontFault, forward_once};
 use wef_keeper::MemKeeper;
-use wef_source::{Poll, SourceEnd};
-
-/// An event that the source writes.
-const EVENT: &str =
-    "<Event xmlns=\"http://schemas.microsoft.com/win/2004/08/events/event\"><System><Channel>application</Channel></System></Event>";
-
-/// The source `pc1` of boot 1, which has written an event.
-pub(crate) fn written(alloc: Global) -> Result<SourceEnd<MemKeeper>, AllocError> {
-    let mut source = started(alloc)?;
-    let Ok(event) = read_new_event(&Text::from_str(alloc, EVENT)?) else {
-        return Err(AllocError);
-    };
-    match source.write(&event) {
-        Ok(_) => Ok(source),
-        Err(_) => Err(AllocError),
-    }
-}
-
-fn started(alloc: Global) -> Result<SourceEnd<MemKeeper>, AllocError> {
-    let Ok(name) = SourceName::read(&Text::from_str(alloc, "pc1")?) else {
-        return Err(AllocError);
-    };
-    match SourceEnd::start(alloc, MemKeeper::new(alloc), name, 64) {
-        Ok(source) => Ok(source),
-        Err(_) => Err(AllocError),
-    }
-}
-
-/// The host that the source asks.
-pub(crate) fn host(alloc: Global) -> Result<Text, AllocError>
-    ensures { IfOk result (λ host. IsHost host) }
-{
-    Text::from_str(alloc, "collector:5985")
-}
+use wef_source::SourceEnd;
 
 /// Forwards the next batch of the subscription `base`.
 pub(crate) fn forward(
@@ -52,24 +16,4 @@ pub(crate) fn forward(
 ) -> Result<Result<Exchange, FrontFault>, AllocError> {
     let sub = base(alloc)?;
     Ok(forward_once(alloc, link, source, &sub, Moment::first()))
-}
-
-fn base(alloc: Global) -> Result<SubId, AllocError> {
-    match SubId::read(&Text::from_str(alloc, "base")?) {
-        Ok(sub) => Ok(sub),
-        Err(_) => Err(AllocError),
-    }
-}
-
-/// What the source has to send for the subscription `base`.
-pub(crate) fn push_next(
-    shown: &mut Text,
-    source: &mut SourceEnd<MemKeeper>,
-) -> Result<(), AllocError> {
-    let sub = base(shown.alloc())?;
-    match source.poll(&sub, Moment::first()) {
-        Ok(Poll::Send(_)) => shown.push_str("; sends"),
-        Ok(Poll::Nothing) => shown.push_str("; has nothing to send"),
-        Err(_) => shown.push_str("; has no session"),
-    }
 }
