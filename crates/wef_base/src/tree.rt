@@ -1,9 +1,11 @@
 //! Trees of XML: elements with their namespaces, attributes and children.
 
 ghost use Rattle.std.specs.Prelude.{◌≡◌, IfOk};
+ghost use Rattle.wef_base.specs.Digests.{digest_of, is_long};
 
 use crate::list::List;
 use crate::text::Text;
+use sha2::{Digest, Sha256};
 use std::alloc::{AllocError, Global};
 use std::cmp::Ordering;
 use std::marker::Model;
@@ -106,11 +108,65 @@ impl Attribute {
     }
 }
 
+/// A namespace of up to so many bytes is compared in full about as fast as two digests are.
+const LONGEST_SHORT: usize = 256;
+
+/// The name of a namespace with its digest, which contracts see as the name's bytes.
+#[derive(Debug, Drop)]
+struct Digested {
+    name: Text,
+    digest: [u8; 32],
+}
+
+impl Model for Digested {
+    ghost use Rattle.std.specs.Prelude.{◌≡◌, ℕ, List};
+    ghost use Rattle.wef_base.specs.Digests.{digest_of};
+
+    ghost Value = { List ℕ };
+
+    ghost view = { λ d. d.name };
+
+    ghost invariant = { λ d. d.digest ≡ digest_of d.name };
+}
+
+impl Digested {
+    fn new(name: Text) -> Digested
+        ensures { result ≡ name }
+    {
+        let digest = digest_of(&name);
+        Digested { name, digest }
+    }
+
+    fn name(&self) -> &Text
+        ensures { result.now ≡ self.now }
+    {
+        &self.name
+    }
+
+    fn digest(&self) -> &[u8; 32]
+        ensures { result.now ≡ digest_of self.now }
+    {
+        &self.digest
+    }
+}
+
+#[tactic(auto, unfolding(crate::specs::Digests::digest_of))]
+fn digest_of(name: &Text) -> [u8; 32]
+    ensures { result ≡ digest_of name.now }
+{
+    if name.len() > LONGEST_SHORT {
+        return Sha256::digest(name.as_str());
+    }
+    [0; 32]
+}
+
 /// The name of a namespace, which contracts see as its bytes; empty for none. All copies of one
-/// share its text, so a tree is no larger than its document, however long a namespace is.
+/// share its text, so a tree is no larger than its document, however long a namespace is. They share
+/// its digest too, by which two long ones are told apart in a fixed time, also where they differ at
+/// their ends only. Short ones, which nearly all are, have zeros in place of a digest.
 #[derive(Debug, Drop)]
 pub struct Namespace {
-    shared: Rc<Text>,
+    shared: Rc<Digested>,
 }
 
 impl Model for Namespace {
@@ -122,11 +178,11 @@ impl Model for Namespace {
 }
 
 impl Namespace {
-    /// The namespace of this name.
+    /// The namespace of this name, in time in proportion to the length of a long one.
     pub fn new(name: Text) -> Result<Namespace, AllocError>
         ensures { IfOk result (λ n. n ≡ name) }
     {
-        let shared = Rc::new(name.alloc(), name)?;
+        let shared = Rc::new(name.alloc(), Digested::new(name))?;
         Ok(Namespace { shared })
     }
 
@@ -134,7 +190,21 @@ impl Namespace {
     pub fn as_text(&self) -> &Text
         ensures { result.now ≡ self.now }
     {
-        self.shared.as_ref()
+        self.shared.as_ref().name()
+    }
+
+    /// The digest of the name. It takes no memory.
+    pub fn digest(&self) -> &[u8; 32]
+        ensures { result.now ≡ digest_of self.now }
+    {
+        self.shared.as_ref().digest()
+    }
+
+    /// Whether the name is too long to be compared in full in place of its digest.
+    pub fn is_long(&self) -> bool
+        ensures { result ≡ is_long self.now }
+    {
+        self.as_text().len() > LONGEST_SHORT
     }
 
     /// The same namespace again, which shares the text.
@@ -157,7 +227,7 @@ impl PartialEq for Namespace {
     ghost laws = { partial_equiv_from_equiv nat_list_eq_equiv };
 
     fn eq(&self, other: &Namespace) -> bool {
-        self.as_text() == other.as_text()
+        self.digest() == other.digest() && self.as_text() == other.as_text()
     }
 }
 

@@ -1,3 +1,4 @@
+pub mod Apart
 pub mod Ascii
 pub mod Copied
 pub mod Glyphs

@@ -7,3 +7,4 @@ pub mod Good
 pub mod Letters
 pub mod Prefixes
 pub mod Spaces
+pub mod Told

@@ -1,45 +1,34 @@
-//! Namespaces with their digests.
+//! Namespaces in the order of their digests.
 
 ghost use Rattle.std.specs.Prelude.{◌≡◌, IfOk};
-ghost use Rattle.wef_xml.specs.Digests.{digest_of};
 
-use sha2::{Digest, Sha256};
 use std::alloc::AllocError;
 use std::cmp::Ordering;
 use std::marker::Model;
-use wef_base::{Namespace, Text};
+use wef_base::Namespace;
 
-/// A namespace of up to so many bytes is compared in full about as fast as two digests are.
-const LONGEST_SHORT: usize = 256;
-
-/// A namespace with its digest, which contracts see as the namespace alone. Two are compared by
-/// their digests first, and in full only where these are the same. So long namespaces that differ
-/// at their ends are told apart in a fixed time, and nothing but time rests on the digests. Short
-/// ones, which nearly all are, have zeros in place of a digest.
+/// A namespace in the order of digests, which contracts see as the namespace alone. Two are compared
+/// by their digests first, and in full only where these are the same. So long namespaces that differ
+/// at their ends are put in order in a fixed time, and nothing but time rests on the digests.
 #[derive(Drop)]
 pub struct Digested {
     space: Namespace,
-    digest: [u8; 32],
 }
 
 impl Model for Digested {
-    ghost use Rattle.std.specs.Prelude.{◌≡◌, ℕ, List};
-    ghost use Rattle.wef_xml.specs.Digests.{digest_of};
+    ghost use Rattle.std.specs.Prelude.{ℕ, List};
 
     ghost Value = { List ℕ };
 
     ghost view = { λ d. d.space };
-
-    ghost invariant = { λ d. d.digest ≡ digest_of d.space };
 }
 
 impl Digested {
-    /// A namespace with its digest, in time in proportion to its length.
+    /// A namespace in this order.
     pub fn new(space: Namespace) -> Digested
         ensures { result ≡ space }
     {
-        let digest = digest_of(space.as_text());
-        Digested { space, digest }
+        Digested { space }
     }
 
     /// The namespace alone. It takes no memory.
@@ -55,19 +44,8 @@ impl Digested {
     {
         Ok(Digested {
             space: self.space.clone()?,
-            digest: self.digest,
         })
     }
-}
-
-#[tactic(auto, unfolding(crate::specs::Digests::digest_of))]
-fn digest_of(space: &Text) -> [u8; 32]
-    ensures { result ≡ digest_of space.now }
-{
-    if space.len() > LONGEST_SHORT {
-        return Sha256::digest(space.as_str());
-    }
-    [0; 32]
 }
 
 impl PartialEq for Digested {
@@ -80,7 +58,7 @@ impl PartialEq for Digested {
     ghost laws = { partial_equiv_from_equiv nat_list_eq_equiv };
 
     fn eq(&self, other: &Digested) -> bool {
-        self.digest == other.digest && self.space == other.space
+        self.space == other.space
     }
 }
 
@@ -116,7 +94,7 @@ impl Ord for Digested {
     ghost matches_eq = { digest_ties };
 
     fn cmp(&self, other: &Digested) -> Ordering {
-        match self.digest.cmp(&other.digest) {
+        match self.space.digest().cmp(other.space.digest()) {
             Ordering::Equal => self.space.cmp(&other.space),
             decided => decided,
         }

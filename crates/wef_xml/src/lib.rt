@@ -14,8 +14,10 @@ pub mod lookups;
 pub mod messages;
 pub mod places;
 pub mod spaces;
+pub mod told;
 mod utf16;
 
 pub use bindings::Binding;
 pub use faults::TreeFault;
 pub use lookups::Lookup;
+pub use told::ToldTree;
