@@ -4,6 +4,8 @@ pub mod GoodOpens
 pub mod GoodPieces
 pub mod GoodTrees
 pub mod Inversions
+pub mod KnownPieces
+pub mod KnownTrees
 pub mod LineEnds
 pub mod Readings
 pub mod Runs

@@ -1,6 +1,7 @@
 pub mod Building
 pub mod Documents
 pub mod ExpandedNames
+pub mod Known
 pub mod Laws
 pub mod Names
 pub mod Pieces

@@ -5,6 +5,7 @@ mod attributes;
 mod building;
 mod faults;
 mod headings;
+mod known;
 pub mod laws;
 mod names;
 mod pieces;
@@ -17,4 +18,4 @@ mod stack;
 mod tags;
 mod values;
 
-pub use reading::read_tree;
+pub use reading::{read_told_tree, read_tree};

@@ -1,24 +1,28 @@
 //! Reading a document: piece by piece, until the text ends or no piece is good.
 
-ghost use Rattle.std.specs.Prelude.{◌≡◌, ◌==◌, ◌≤◌, false, length, IfOk};
+ghost use Rattle.std.specs.Prelude.{◌≡◌, ◌==◌, ◌≤◌, false, length, IfOk, OnOk};
 ghost use Rattle.std.specs.List.{list_any, prefix_len};
 ghost use Rattle.std.specs.declared.result.Result.TheVariants.{Ok};
 ghost use Rattle.wef_xml.specs.Decoding.{decoded, line_ends};
 ghost use Rattle.wef_tree_reading.specs.Documents.{GivesTree, tree_of};
 ghost use Rattle.wef_xml.specs.Good.{IsGoodTree};
+ghost use Rattle.wef_tree_reading.specs.Building.{taken};
+ghost use Rattle.wef_tree_reading.specs.Known.{KnowsBuilder};
+ghost use Rattle.wef_tree_reading.specs.Reads.{Takes};
 ghost use Rattle.wef_tree_reading.specs.Runs.{Walks, is_letter};
 ghost use Rattle.wef_tree_reading.specs.Spelling.{ReadsText, ReadsTree, Steps, fault_at, is_tag, kind_by};
 
 use crate::building::{Builder, GREATEST_DEPTH};
 use crate::faults::{FaultKind, Halt, Stop};
+use crate::known::Known;
 use crate::pieces::{Piece, piece_at};
 use std::alloc::Global;
 use wef_base::{Charset, Element, is_xml_char};
-use wef_xml::TreeFault;
 use wef_xml::decoding::decode;
 use wef_xml::fronts::strip;
 use wef_xml::line_ends::join_line_ends;
 use wef_xml::places::place;
+use wef_xml::{ToldTree, TreeFault};
 
 /// Reads a document (XML 1.0 with Namespaces in XML 1.0), without document types and processing
 /// instructions. It takes time and memory in proportion to the bytes, but for a logarithm, whatever
@@ -28,11 +32,24 @@ pub fn read_tree(alloc: Global, bytes: &[u8], charset: Charset) -> Result<Elemen
     ensures good { IfOk result (λ root. IsGoodTree root) }
     ensures tree { GivesTree result (tree_of charset bytes.now) }
 {
+    match read_told_tree(alloc, bytes, charset) {
+        Ok(tree) => Ok(tree.into_root()),
+        Err(fault) => Err(fault),
+    }
+}
+
+/// Reads a document as `read_tree` does. The tree is written in a shorter time where long namespaces
+/// stand in it.
+pub fn read_told_tree(alloc: Global, bytes: &[u8], charset: Charset) -> Result<ToldTree, TreeFault>
+    ensures read { ReadsTree charset bytes.now result }
+    ensures good { IfOk result (λ root. IsGoodTree root) }
+    ensures tree { GivesTree result (tree_of charset bytes.now) }
+{
     read_document(alloc, bytes, charset)
 }
 
 #[tactic(auto, using(crate::proofs::LineEnds::as_they_stand))]
-fn read_document(alloc: Global, bytes: &[u8], charset: Charset) -> Result<Element, TreeFault>
+fn read_document(alloc: Global, bytes: &[u8], charset: Charset) -> Result<ToldTree, TreeFault>
     ensures { ReadsTree charset bytes.now result }
 {
     let decoded = decode(alloc, charset, bytes)?;
@@ -58,13 +75,13 @@ fn read_characters(
     bytes: &[u8],
     characters: &[char],
     text: &[char],
-) -> Result<Element, TreeFault>
+) -> Result<ToldTree, TreeFault>
     requires decoded { decoded charset bytes.now ≡ Ok characters.now }
     requires joined { text.now ≡ line_ends false characters.now }
     ensures { ReadsTree charset bytes.now result }
 {
     match read_text(alloc, text) {
-        Ok(root) => Ok(root),
+        Ok(tree) => Ok(tree),
         Err(Stop::NoMemory) => Err(TreeFault::NoMemory),
         Err(Stop::Fault { kind, left }) => {
             let at = place(charset, bytes, characters, text.len() - left);
@@ -84,19 +101,20 @@ fn fault_at(kind: FaultKind, at: usize) -> TreeFault
 }
 
 /// Reads a text whose line ends are one.
-fn read_text(alloc: Global, text: &[char]) -> Result<Element, Stop>
+fn read_text(alloc: Global, text: &[char]) -> Result<ToldTree, Stop>
     ensures { ReadsText text.now result }
 {
     let Ok(mut builder) = Builder::new(alloc) else {
         return Err(Stop::NoMemory);
     };
+    let mut known = Known::new(alloc);
     let mut rest = text;
     while !rest.is_empty() {
-        rest = walk(alloc, &mut builder, rest)?;
+        rest = walk(alloc, &mut builder, &mut known, rest)?;
     }
     let Builder { root, .. } = builder;
     match root {
-        Some(root) => Ok(root),
+        Some(root) => Ok(ToldTree::new(root, known.told)),
         None => Err(Stop::Fault {
             kind: FaultKind::Xml,
             left: 0,
@@ -106,12 +124,19 @@ fn read_text(alloc: Global, text: &[char]) -> Result<Element, Stop>
 
 /// Takes the first piece of a text, or all letters that it begins with, and gives what is behind.
 #[tactic(auto, using(crate::proofs::Walks::one_step))]
-fn walk<'a>(alloc: Global, builder: &mut Builder, text: &'a [char]) -> Result<&'a [char], Stop>
-    ensures { Walks builder.old builder.new text.now result }
+fn walk<'a>(
+    alloc: Global,
+    builder: &mut Builder,
+    known: &mut Known,
+    text: &'a [char],
+) -> Result<&'a [char], Stop>
+    requires { KnowsBuilder known.old builder.old }
+    ensures walks { Walks builder.old builder.new text.now result }
+    ensures knows { OnOk result (KnowsBuilder known.new builder.new) }
 {
     let length = letters_length(text);
     if length == 0 || builder.depth() == 0 {
-        return step(alloc, builder, text);
+        return step(alloc, builder, known, text);
     }
     let (letters, behind) = text.split_at(length);
     match builder.take_letters(letters) {
@@ -144,8 +169,15 @@ fn is_letter(character: char) -> bool
 }
 
 /// Takes the first piece of a text, and gives what is behind it.
-fn step<'a>(alloc: Global, builder: &mut Builder, text: &'a [char]) -> Result<&'a [char], Stop>
-    ensures { Steps builder.old builder.new text.now result }
+fn step<'a>(
+    alloc: Global,
+    builder: &mut Builder,
+    known: &mut Known,
+    text: &'a [char],
+) -> Result<&'a [char], Stop>
+    requires { KnowsBuilder known.old builder.old }
+    ensures steps { Steps builder.old builder.new text.now result }
+    ensures knows { OnOk result (KnowsBuilder known.new builder.new) }
 {
     let depth = builder.depth();
     let (piece, behind) = match piece_at(alloc, text) {
@@ -154,11 +186,26 @@ fn step<'a>(alloc: Global, builder: &mut Builder, text: &'a [char]) -> Result<&'
         Err(Halt::Bad) => return Err(stop_at(text, false, depth)),
     };
     let is_tag = is_tag(&piece);
-    match builder.take_piece(alloc, piece) {
+    match take(alloc, builder, known, piece) {
         Ok(()) => Ok(behind),
         Err(Halt::NoMemory) => Err(Stop::NoMemory),
         Err(Halt::Bad) => Err(stop_at(text, is_tag, depth)),
     }
+}
+
+/// Takes a piece, and lets what it declares be known.
+fn take(
+    alloc: Global,
+    builder: &mut Builder,
+    known: &mut Known,
+    piece: Piece<'_>,
+) -> Result<(), Halt>
+    requires { KnowsBuilder known.old builder.old }
+    ensures takes { Takes result (taken builder.old piece.entry) builder.new }
+    ensures knows { OnOk result (KnowsBuilder known.new builder.new) }
+{
+    known.add_piece(&piece)?;
+    builder.take_piece(alloc, piece)
 }
 
 fn is_tag(piece: &Piece<'_>) -> bool
