@@ -2,6 +2,8 @@ pub mod Bound
 pub mod Digits
 pub mod Numbering
 pub mod Pushed
+pub mod Sizes
+pub mod ToldNodes
 pub mod Unmarked
 pub mod Written
 pub mod WrittenNodes

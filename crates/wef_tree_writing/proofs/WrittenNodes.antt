@@ -148,7 +148,8 @@ element_written w began through first left default inner e index items is past l
     let limit_is = limit_kept w began through first default inner e index items is in
     let root_is = root_kept w began through first default inner e index items is in
     let bytes_are = with_end w began through first default inner e index items is past in
-    λ i. record { alloc = alloc_is i; charset = charset_is i; limit = limit_is i; bytes = bytes_are i; root = root_is i; bound = left_outer i; spare = tt }
+    let told_is = ap (λ (v : Writer). v.told) is.kept ∙ ap (λ (v : Writer). v.told) is.started in
+    λ i. record { alloc = alloc_is i; told = told_is i; charset = charset_is i; limit = limit_is i; bytes = bytes_are i; root = root_is i; bound = left_outer i; spare = tt }
 
 -- A writer that stops at the start tag stops at the element, and so does one that stops at a child or at the end tag.
 pub past_start :

@@ -10,4 +10,4 @@ mod soap;
 mod text_sets;
 mod writing;
 
-pub use writing::{write_tree, write_tree_within};
+pub use writing::{write_told_tree, write_told_tree_within, write_tree, write_tree_within};

@@ -4,6 +4,7 @@ ghost use Rattle.std.specs.Prelude.{◌≡◌, ◌++◌, Some, OnOk, codes};
 ghost use Rattle.std.specs.List.{flat_map};
 ghost use Rattle.std.specs.Option.{option_copied};
 ghost use Rattle.wef_xml.specs.Canonical.{assigned, attribute_of, declaration_of, name_of};
+ghost use Rattle.wef_xml.specs.Told.{AreTold};
 ghost use Rattle.wef_tree_writing.specs.Markup.{default_declaration};
 ghost use Rattle.wef_tree_writing.specs.Levels.{all_of};
 
@@ -14,6 +15,7 @@ use crate::prefixes::attribute_prefix;
 use std::alloc::AllocError;
 use wef_base::{Attribute, Namespace, Text};
 use wef_xml::Binding;
+use wef_xml::told::is_same;
 
 /// Appends a name with its prefix, if it has one.
 pub fn push_name(out: &mut Piece, prefix: Option<&str>, local: &Text) -> Result<(), AllocError>
@@ -34,19 +36,21 @@ fn push_prefixed(out: &mut Piece, prefix: &str, local: &Text) -> Result<(), Allo
 }
 
 /// Appends the declaration of a default namespace, unless the element has a prefix or this one is in
-/// force.
+/// force; `told`: the two are told apart by their digests.
 pub fn push_default(
     out: &mut Piece,
     has_prefix: bool,
+    told: bool,
     default: &Namespace,
     space: &Namespace,
 ) -> Result<(), AllocError>
+    requires { AreTold told default.now space.now }
     ensures { OnOk result (out.new ≡ out.old ++ default_declaration has_prefix default.now space.now) }
 {
     if has_prefix {
         return Ok(());
     }
-    if *default == *space {
+    if is_same(told, default, space) {
         return Ok(());
     }
     push_default_declaration(out, space)

@@ -4,6 +4,7 @@ ghost use Rattle.std.specs.Prelude.{◌≡◌, ◌++◌, ◌≤◌, [], ◌∷�
 ghost use Rattle.wef_xml.specs.Canonical.{bytes_of, canonical, element_text, encoded, end_of, name_of, node_of, start_of, text_of, unless_longer, written_mark};
 ghost use Rattle.wef_xml.specs.Good.{IsGoodTree};
 ghost use Rattle.wef_xml.specs.Prefixes.{element_prefix, inside, new_bindings, outermost, root_bindings};
+ghost use Rattle.wef_xml.specs.Told.{AreTold, IsElementTold, IsNodeTold, IsTold};
 ghost use Rattle.wef_xml.specs.declared.faults.TreeFault.TheVariants.{NoMemory};
 ghost use Rattle.wef_tree_writing.specs.Levels.{all_of};
 ghost use Rattle.wef_tree_writing.specs.Markup.{IsPast, IsTooLong, default_declaration, scope_of};
@@ -18,7 +19,10 @@ use std::alloc::{AllocError, Global};
 use wef_base::{Bytes, Charset, Element, List, Namespace, Node, Text};
 use wef_xml::encoding::{self, push_mark};
 use wef_xml::spaces::no_space;
-use wef_xml::{Binding, TreeFault};
+use wef_xml::{Binding, ToldTree, TreeFault};
+
+/// No memory holds more bytes than this.
+const UNLIMITED: usize = usize::MAX;
 
 /// Why a document isn't written to its end.
 #[derive(Clone, Copy)]
@@ -49,8 +53,20 @@ pub fn write_tree(alloc: Global, root: &Element, charset: Charset) -> Result<Byt
     ensures value { IfOk result (λ bytes. bytes ≡ encoded charset (canonical root.now)) }
     ensures err { IfErr result (λ fault. fault ≡ NoMemory) }
 {
-    // No memory holds more bytes than this.
-    match write_document(alloc, root, charset, usize::MAX) {
+    match write_document(alloc, root, false, charset, UNLIMITED) {
+        Ok(bytes) => Ok(bytes),
+        Err(_) => Err(TreeFault::NoMemory),
+    }
+}
+
+/// Writes a tree that was read as `write_tree` does. Where its namespaces are told apart, many
+/// elements in one long namespace take no more time than others.
+pub fn write_told_tree(alloc: Global, tree: &ToldTree, charset: Charset) -> Result<Bytes, TreeFault>
+    requires { IsGoodTree tree.now }
+    ensures value { IfOk result (λ bytes. bytes ≡ encoded charset (canonical tree.now)) }
+    ensures err { IfErr result (λ fault. fault ≡ NoMemory) }
+{
+    match write_document(alloc, tree.root(), tree.is_told(), charset, UNLIMITED) {
         Ok(bytes) => Ok(bytes),
         Err(_) => Err(TreeFault::NoMemory),
     }
@@ -69,25 +85,46 @@ pub fn write_tree_within(
     ensures value { IfOk result (λ found. found ≡ unless_longer limit (encoded charset (canonical root.now))) }
     ensures err { IfErr result (λ fault. fault ≡ NoMemory) }
 {
-    match write_document(alloc, root, charset, limit) {
+    match write_document(alloc, root, false, charset, limit) {
         Ok(bytes) => Ok(Some(bytes)),
         Err(Stop::TooLong) => Ok(None),
         Err(Stop::NoMemory) => Err(TreeFault::NoMemory),
     }
 }
 
-/// The bytes of a tree's document, where they are at most so many.
+/// Writes a tree that was read as `write_tree_within` does, and as fast as `write_told_tree`.
+pub fn write_told_tree_within(
+    alloc: Global,
+    tree: &ToldTree,
+    charset: Charset,
+    limit: usize,
+) -> Result<Option<Bytes>, TreeFault>
+    requires { IsGoodTree tree.now }
+    ensures value { IfOk result (λ found. found ≡ unless_longer limit (encoded charset (canonical tree.now))) }
+    ensures err { IfErr result (λ fault. fault ≡ NoMemory) }
+{
+    match write_document(alloc, tree.root(), tree.is_told(), charset, limit) {
+        Ok(bytes) => Ok(Some(bytes)),
+        Err(Stop::TooLong) => Ok(None),
+        Err(Stop::NoMemory) => Err(TreeFault::NoMemory),
+    }
+}
+
+/// The bytes of a tree's document, where they are at most so many; `told`: its namespaces are told
+/// apart by their digests.
 fn write_document(
     alloc: Global,
     root: &Element,
+    told: bool,
     charset: Charset,
     limit: usize,
 ) -> Result<Bytes, Stop>
+    requires { IsTold told root.now }
     ensures bytes { IfOk result (λ bytes. bytes ≡ encoded charset (canonical root.now)) }
     ensures within { IfOk result (λ bytes. length bytes ≤ limit) }
     ensures past { IfErr result (λ stop. IsTooLong stop limit (encoded charset (canonical root.now))) }
 {
-    let mut writer = Writer::new(alloc, &root.space, charset, limit)?;
+    let mut writer = Writer::new(alloc, &root.space, told, charset, limit)?;
     writer.write_root(root)?;
     let Writer { bytes, .. } = writer;
     Ok(bytes)
@@ -97,6 +134,8 @@ fn write_document(
 #[derive(Drop)]
 struct Writer {
     alloc: Global,
+    /// Whether the namespaces of the tree are told apart by their digests.
+    told: bool,
     charset: Charset,
     /// How many bytes the document may have.
     limit: usize,
@@ -111,10 +150,11 @@ impl Writer {
     fn new(
         alloc: Global,
         space: &Namespace,
+        told: bool,
         charset: Charset,
         limit: usize,
     ) -> Result<Writer, AllocError>
-        ensures { IfOk result (λ w. (w.bytes ≡ written_mark charset) × (w.charset ≡ charset) × (w.limit ≡ limit) × (scope_of w [] ≡ outermost space.now)) }
+        ensures { IfOk result (λ w. (w.told ≡ told) × (w.bytes ≡ written_mark charset) × (w.charset ≡ charset) × (w.limit ≡ limit) × (scope_of w [] ≡ outermost space.now)) }
     {
         let mut bytes = Bytes::new(alloc);
         push_mark(&mut bytes, charset)?;
@@ -122,6 +162,7 @@ impl Writer {
         bound.enter(alloc, root_bindings(alloc, space)?)?;
         Ok(Writer {
             alloc,
+            told,
             charset,
             limit,
             bytes,
@@ -132,6 +173,7 @@ impl Writer {
     }
 
     fn write_root(&mut self, root: &Element) -> Result<(), Stop>
+        requires { IsTold self.old.told root.now }
         ensures written { OnOk result (self.new ≡ record self.old { bytes = self.old.bytes ++ bytes_of self.old.charset (element_text (root_bindings root.now.space) (scope_of self.old []) root.now) }) }
         ensures within { OnOk result (length self.new.bytes ≤ self.old.limit) }
         ensures past { IfErr result (λ stop. IsPast stop self.old (element_text (root_bindings root.now.space) (scope_of self.old []) root.now)) }
@@ -143,6 +185,7 @@ impl Writer {
     /// Writes a node inside this default namespace.
     #[cycle(writing)]
     fn write_node(&mut self, default: &Namespace, node: &Node) -> Result<(), Stop>
+        requires { IsNodeTold self.old.told default.now node.now }
         ensures written { OnOk result (self.new ≡ record self.old { bytes = self.old.bytes ++ bytes_of self.old.charset (node_of node.now (scope_of self.old default.now)) }) }
         ensures within { OnOk result (length self.new.bytes ≤ self.old.limit) }
         ensures past { IfErr result (λ stop. IsPast stop self.old (node_of node.now (scope_of self.old default.now))) }
@@ -162,6 +205,7 @@ impl Writer {
         default: &Namespace,
         element: &Element,
     ) -> Result<(), Stop>
+        requires { IsElementTold self.old.told default.now element.now }
         ensures written { OnOk result (self.new ≡ record self.old { bytes = self.old.bytes ++ bytes_of self.old.charset (element_text first.now (scope_of self.old default.now) element.now) }) }
         ensures within { OnOk result (length self.new.bytes ≤ self.old.limit) }
         ensures past { IfErr result (λ stop. IsPast stop self.old (element_text first.now (scope_of self.old default.now) element.now)) }
@@ -193,6 +237,7 @@ impl Writer {
         default: &Namespace,
         element: &Element,
     ) -> Result<(), Stop>
+        requires { AreTold self.old.told default.now element.now.space }
         ensures written { let e = element.now in
             OnOk result (self.new ≡ record self.old { bytes = self.old.bytes ++ bytes_of self.old.charset (start_of first.now (scope_of self.old default.now) e.space e.name e.attributes); bound = new_bindings (all_of self.old.bound) e.attributes ∷ self.old.bound }) }
         ensures past { let e = element.now in IfErr result (λ stop. IsPast stop self.old (start_of first.now (scope_of self.old default.now) e.space e.name e.attributes)) }
@@ -210,12 +255,13 @@ impl Writer {
         element: &Element,
         own: List<Binding>,
     ) -> Result<Piece, AllocError>
-        requires { own ≡ new_bindings (all_of self.old.bound) element.now.attributes }
+        requires told { AreTold self.old.told default.now element.now.space }
+        requires own { own ≡ new_bindings (all_of self.old.bound) element.now.attributes }
         ensures tag { let e = element.now in IfOk result (λ tag. tag ≡ start_of first.now (scope_of self.old default.now) e.space e.name e.attributes) }
         ensures bound { let e = element.now in OnOk result (self.new ≡ record self.old { bound = own ∷ self.old.bound }) }
     {
         let mut start = self.spare.take(self.alloc);
-        push_opening(&mut start, &self.root, default, element)?;
+        push_opening(&mut start, &self.root, self.told, default, element)?;
         push_declarations(&mut start, first)?;
         push_declarations(&mut start, own.as_slice())?;
         self.bound.enter(self.alloc, own)?;
@@ -278,14 +324,16 @@ impl Writer {
 fn push_opening(
     out: &mut Piece,
     root: &RootPrefixes,
+    told: bool,
     default: &Namespace,
     element: &Element,
 ) -> Result<(), AllocError>
+    requires { AreTold told default.now element.now.space }
     ensures { let prefix = element_prefix root.now element.now.space in
         OnOk result (out.new ≡ out.old ++ (60 ∷ name_of prefix element.now.name ++ default_declaration (is_some prefix) default.now element.now.space)) }
 {
     let prefix = element_prefix(root, &element.space);
     out.push('<')?;
     push_name(out, prefix, &element.name)?;
-    push_default(out, prefix.is_some(), default, &element.space)
+    push_default(out, prefix.is_some(), told, default, &element.space)
 }
