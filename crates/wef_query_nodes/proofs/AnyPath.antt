@@ -1,9 +1,9 @@
 -- The path `*`, and predicates that are a number.
 use Rattle.std.proofs.Common.{◌≡◌, not, ◌==◌, List, [], ◌∷◌, length, map, sym, ◌∙◌, ap}
 use Rattle.wef_base.specs.declared.tree.Element.{Element}
+use Rattle.wef_query_tokens.specs.declared.operator.Operator.TheVariants.{Equal}
 use Rattle.wef_query_paths.specs.Paths.{any_path, any_step}
 use Rattle.wef_query_paths.specs.declared.path.Literal.TheVariants.{Number}
-use Rattle.wef_query_paths.specs.declared.path.Operator.TheVariants.{Equal}
 use Rattle.wef_query_paths.specs.declared.path.Path.{Path, out-roll-Path}
 use Rattle.wef_query_paths.specs.declared.path.And.{And}
 use Rattle.wef_query_paths.specs.declared.path.Or.{Or}

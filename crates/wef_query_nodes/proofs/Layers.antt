@@ -2,6 +2,7 @@
 use Rattle.std.proofs.Common.{◌≡◌, ◌==◌, ℕ, Bool, ◌&&◌, ◌||◌, List, [], ◌∷◌, map, refl, ◌∙◌, ap}
 use Rattle.std.specs.List.{list_all, list_any}
 use Rattle.std.proofs.lemmas.List.Folds.{list_all-map}
+use Rattle.wef_query_tokens.specs.declared.operator.Operator.{Operator}
 use Rattle.wef_query_paths.specs.declared.path.And.{And, out-And}
 use Rattle.wef_query_paths.specs.declared.path.Or.{Or, out-Or}
 use Rattle.wef_query_paths.specs.declared.path.Path.{Path, out-Path}
@@ -11,7 +12,6 @@ use Rattle.wef_query_paths.specs.declared.path.Unit.{Unit, map-Unit, out-Unit}
 use Rattle.wef_query_paths.specs.declared.path.Value.{Value, map-Value, out-Value}
 use Rattle.wef_query_paths.specs.declared.path.Unit.TheVariants.{Compared, Group}
 use Rattle.wef_query_paths.specs.declared.path.Literal.{Literal}
-use Rattle.wef_query_paths.specs.declared.path.Operator.{Operator}
 use Rattle.wef_query_paths.specs.declared.path.Predicate.TheVariants.{At}
 use Rattle.wef_query_paths.specs.declared.path.Value.TheVariants.{Nodes, Position}
 use Rattle.wef_query_paths.specs.declared.path.Predicate.TheOpen.{Predicate-F, Unit-F, Value-F}

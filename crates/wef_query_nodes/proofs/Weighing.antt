@@ -3,9 +3,9 @@ use Rattle.std.proofs.Common.{◌≡◌, ℕ, ◌+◌, ◌<◌, ◌≤◌, List,
 use Rattle.std.specs.List.{sum_by}
 use Rattle.std.proofs.lemmas.List.Sums.{sum-map, sum_by_more_le, sum_by-take-le}
 use Rattle.std.proofs.lemmas.List.{length-take-le, take-take}
+use Rattle.wef_query_tokens.specs.declared.operator.Operator.{Operator}
 use Rattle.wef_query_paths.specs.declared.path.And.{And, out-And}
 use Rattle.wef_query_paths.specs.declared.path.Literal.{Literal}
-use Rattle.wef_query_paths.specs.declared.path.Operator.{Operator}
 use Rattle.wef_query_paths.specs.declared.path.Or.{Or, out-Or}
 use Rattle.wef_query_paths.specs.declared.path.Path.{Path, out-Path}
 use Rattle.wef_query_paths.specs.declared.path.Predicate.{Predicate, map-Predicate, out-Predicate}

@@ -1,9 +1,9 @@
 -- What holds of all paths, or of a path for all events.
 use Rattle.std.specs.Prelude.{◌≡◌, ℕ, true}
 use Rattle.wef_base.specs.declared.tree.Element.{Element}
+use Rattle.wef_query_tokens.specs.declared.operator.Operator.TheVariants.{Equal}
 use Rattle.wef_query_paths.specs.Paths.{any_path}
 use Rattle.wef_query_paths.specs.declared.path.Literal.TheVariants.{Number}
-use Rattle.wef_query_paths.specs.declared.path.Operator.TheVariants.{Equal}
 use Rattle.wef_query_paths.specs.declared.path.Predicate.TheVariants.{At}
 use Rattle.wef_query_paths.specs.declared.path.Unit.TheVariants.{Compared}
 use Rattle.wef_query_paths.specs.declared.path.Value.TheVariants.{Position}

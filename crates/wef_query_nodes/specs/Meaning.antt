@@ -5,14 +5,14 @@ use Rattle.wef_base.specs.Names.{same}
 use Rattle.wef_base.specs.declared.tree.Attribute.{Attribute}
 use Rattle.wef_base.specs.declared.tree.Element.{Element}
 use Rattle.wef_base.specs.declared.tree.Node.{Node, out-Node, Node-F}
-use Rattle.wef_query_paths.specs.declared.path.Axis.{Axis}
-use Rattle.wef_query_paths.specs.declared.path.Axis.TheVariants.{Child, Attribute as Side}
+use Rattle.wef_query_tokens.specs.declared.axis.Axis.{Axis}
+use Rattle.wef_query_tokens.specs.declared.axis.Axis.TheVariants.{Child, Attribute as Side}
+use Rattle.wef_query_tokens.specs.declared.operator.Operator.{Operator}
+use Rattle.wef_query_tokens.specs.declared.operator.Operator.TheVariants.{Equal, NotEqual, Less, LessOrEqual, Greater, GreaterOrEqual}
 use Rattle.wef_query_paths.specs.declared.path.NameTest.{NameTest}
 use Rattle.wef_query_paths.specs.declared.path.NameTest.TheVariants.{Any, Named}
 use Rattle.wef_query_paths.specs.declared.path.Literal.{Literal}
 use Rattle.wef_query_paths.specs.declared.path.Literal.TheVariants.{Number, Quoted}
-use Rattle.wef_query_paths.specs.declared.path.Operator.{Operator}
-use Rattle.wef_query_paths.specs.declared.path.Operator.TheVariants.{Equal, NotEqual, Less, LessOrEqual, Greater, GreaterOrEqual}
 use Rattle.wef_query_paths.specs.declared.path.And.{And}
 use Rattle.wef_query_paths.specs.declared.path.Or.{Or}
 use Rattle.wef_query_paths.specs.declared.path.Path.{Path}

@@ -2,29 +2,30 @@
 use Rattle.std.proofs.Common.{◌≡◌, Bool, true, false, if◌then◌else◌, List, [], ◌∷◌, ◌++◌, Option, Some, None, refl, sym, ◌∙◌, subst, ◌↔◌, inl}
 use Rattle.std.proofs.lemmas.List.{append-nil}
 use Rattle.std.specs.Option.{option_and_then}
+use Rattle.wef_query_tokens.specs.declared.axis.Axis.{Axis}
+use Rattle.wef_query_tokens.specs.declared.axis.Axis.TheVariants.{Child, Attribute}
+use Rattle.wef_query_tokens.specs.declared.tokens.Token.{Token}
+use Rattle.wef_query_tokens.specs.declared.tokens.Token.TheVariants.{Star, PositionCall, BandCall, OpenSquare, OpenRound, Slash}
+use Rattle.wef_query_tokens.specs.Calls.{is_call}
+use Rattle.wef_query_tokens.specs.Steps.{goes_to_children}
+use Rattle.wef_query_tokens.proofs.Calls.{OpensRound}
 use Rattle.wef_query_paths.specs.declared.conditions.Level.{Level}
 use Rattle.wef_query_paths.specs.declared.steps.Place.{Place}
 use Rattle.wef_query_paths.specs.declared.steps.Place.TheVariants.{Whole, InValue}
 use Rattle.wef_query_paths.specs.declared.values.Side.{Side}
 use Rattle.wef_query_paths.specs.declared.values.Side.TheVariants.{Left, Right}
-use Rattle.wef_query_paths.specs.declared.path.Axis.{Axis}
-use Rattle.wef_query_paths.specs.declared.path.Axis.TheVariants.{Child, Attribute}
 use Rattle.wef_query_paths.specs.declared.path.Literal.TheVariants.{Number, Quoted}
 use Rattle.wef_query_paths.specs.declared.path.Path.{Path}
 use Rattle.wef_query_paths.specs.declared.path.Unit.TheVariants.{Mirrored}
 use Rattle.wef_query_paths.specs.declared.path.Value.{Value}
 use Rattle.wef_query_paths.specs.declared.path.Value.TheVariants.{Nodes, Position, Band}
-use Rattle.wef_query_paths.specs.declared.tokens.Token.{Token}
-use Rattle.wef_query_paths.specs.declared.tokens.Token.TheVariants.{Star, PositionCall, BandCall, OpenSquare, OpenRound, Slash}
 use Rattle.wef_query_paths.specs.declared.turns.Next.{Next}
 use Rattle.wef_query_paths.specs.declared.turns.Next.TheVariants.{BeforeStep, BeforeTest, BehindStep, BeforePredicate, BehindCount, BeforeUnit, BeforeValue, BehindPosition, BehindBand, BehindValue, BehindUnit}
 use Rattle.wef_query_paths.specs.Allows.{Allows, AllowsPath, EndsInAttribute, Gives, IsPath, Part, stop, takes, opens, ends, again, goes_on, says_child_first, says_child, says_nodes, is_open_square, ends_in_path}
-use Rattle.wef_query_paths.specs.Fronts.{begins_path, ends_in_call, is_behind_attribute, is_behind_call, is_call, is_named_call, opens_call, turned}
+use Rattle.wef_query_paths.specs.Fronts.{begins_path, ends_in_call, is_behind_attribute, is_behind_call, is_named_call, opens_call, turned}
 use Rattle.wef_query_paths.specs.Levels.{with_step}
 use Rattle.wef_query_paths.specs.Paths.{any_path}
-use Rattle.wef_query_paths.specs.Steps.{goes_to_children}
 use Rattle.wef_query_paths.specs.Turns.{behind_value, finished, inside, turn}
-use Rattle.wef_query_paths.proofs.Calls.{OpensRound}
 use Rattle.wef_query_paths.proofs.Ends.{end_is_path, is_in_path, last_token, no_step_end, path_is_end}
 use Rattle.wef_query_paths.proofs.Forward.{BehindCall, Further, Named, Taken, forward, further_in, behind_path_in, goes_behind, goes_further, goes_too_far, loosens, misnamed, misnames, named, names, path_refuses, turns, unit_refuses}
 use Rattle.wef_query_paths.proofs.Stacks.{Comes, OnComes, all_back, back, path_parts, step_parts, unit_parts, whole_parts}

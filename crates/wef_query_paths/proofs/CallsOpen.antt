@@ -1,15 +1,15 @@
 -- A text that is read token by token has the `(` behind a function's name, in each state.
 use Rattle.std.proofs.Common.{◌≡◌, ℕ, true, List, ◌∷◌, Some, refl, sym, ap, ◌∙◌, subst}
 use Rattle.wef_base.specs.Names.{without_start}
+use Rattle.wef_query_tokens.specs.declared.tokens.Token.{Token}
+use Rattle.wef_query_tokens.specs.declared.tokens.Token.TheVariants.{OpenRound}
+use Rattle.wef_query_tokens.specs.Tokens.{token_at}
+use Rattle.wef_query_tokens.proofs.Calls.{call_stands_before, round_token}
 use Rattle.wef_query_paths.specs.declared.conditions.Level.{Level}
-use Rattle.wef_query_paths.specs.declared.tokens.Token.{Token}
-use Rattle.wef_query_paths.specs.declared.tokens.Token.TheVariants.{OpenRound}
 use Rattle.wef_query_paths.specs.declared.turns.Next.{Next}
 use Rattle.wef_query_paths.specs.declared.turns.Next.TheVariants.{BehindPosition, BehindBand}
 use Rattle.wef_query_paths.specs.Fronts.{is_behind_call, opens_call}
-use Rattle.wef_query_paths.specs.Tokens.{token_at}
 use Rattle.wef_query_paths.specs.Turns.{turn}
-use Rattle.wef_query_paths.proofs.Calls.{call_stands_before, round_token}
 use Rattle.wef_query_paths.proofs.Ends.{turned_call}
 
 -- where a function's name was read last, the text that is left begins with `(`

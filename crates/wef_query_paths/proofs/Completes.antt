@@ -1,5 +1,11 @@
 -- What the grammar says, the machine reads.
 use Rattle.std.proofs.Common.{◌≡◌, ℕ, true, false, if◌then◌else◌, List, [], ◌∷◌, codes, Option, Some, None, refl, sym, ap, ◌∙◌, subst}
+use Rattle.wef_query_tokens.specs.declared.axis.Axis.{Axis}
+use Rattle.wef_query_tokens.specs.declared.axis.Axis.TheVariants.{Child}
+use Rattle.wef_query_tokens.specs.declared.operator.Operator.{Operator}
+use Rattle.wef_query_tokens.specs.declared.tokens.Token.{Token}
+use Rattle.wef_query_tokens.specs.declared.tokens.Token.TheVariants.{Along, Star, Word, Joint, PositionCall, BandCall, Compare, Figure, CloseSquare, OpenRound, CloseRound}
+use Rattle.wef_query_tokens.specs.Steps.{goes_to_children}
 use Rattle.wef_query_paths.specs.declared.conditions.Around.{Around}
 use Rattle.wef_query_paths.specs.declared.conditions.Around.TheVariants.{Round, Square}
 use Rattle.wef_query_paths.specs.declared.conditions.Level.{Level}
@@ -8,13 +14,10 @@ use Rattle.wef_query_paths.specs.declared.steps.Place.TheVariants.{Whole, InValu
 use Rattle.wef_query_paths.specs.declared.values.Side.{Side}
 use Rattle.wef_query_paths.specs.declared.values.Side.TheVariants.{Left, Right}
 use Rattle.wef_query_paths.specs.declared.path.And.{And}
-use Rattle.wef_query_paths.specs.declared.path.Axis.{Axis}
-use Rattle.wef_query_paths.specs.declared.path.Axis.TheVariants.{Child}
 use Rattle.wef_query_paths.specs.declared.path.Literal.{Literal}
 use Rattle.wef_query_paths.specs.declared.path.Literal.TheVariants.{Number, Quoted}
 use Rattle.wef_query_paths.specs.declared.path.NameTest.{NameTest}
 use Rattle.wef_query_paths.specs.declared.path.NameTest.TheVariants.{Any, Named}
-use Rattle.wef_query_paths.specs.declared.path.Operator.{Operator}
 use Rattle.wef_query_paths.specs.declared.path.Or.{Or, out-Or}
 use Rattle.wef_query_paths.specs.declared.path.Path.{Path, out-Path}
 use Rattle.wef_query_paths.specs.declared.path.Step.{Step}
@@ -22,13 +25,10 @@ use Rattle.wef_query_paths.specs.declared.path.Unit as unit
 use Rattle.wef_query_paths.specs.declared.path.Unit.TheVariants.{Alone, Compared, Mirrored}
 use Rattle.wef_query_paths.specs.declared.path.Value.{Value}
 use Rattle.wef_query_paths.specs.declared.path.Value.TheVariants.{Nodes, Position, Band}
-use Rattle.wef_query_paths.specs.declared.tokens.Token.{Token}
-use Rattle.wef_query_paths.specs.declared.tokens.Token.TheVariants.{Along, Star, Word, Joint, PositionCall, BandCall, Compare, Figure, CloseSquare, OpenRound, CloseRound}
 use Rattle.wef_query_paths.specs.declared.turns.Next.{Next}
 use Rattle.wef_query_paths.specs.declared.turns.Next.TheVariants.{BeforeStep, BeforeTest, BehindStep, BeforePredicate, BehindCount, BeforeUnit, BehindLiteral, BeforeValue, BehindValue, BeforeLiteral, BehindUnit}
 use Rattle.wef_query_paths.specs.Grammar.{Part, the_path, the_steps, the_step, the_test, the_predicates, the_predicate, the_or, the_ands, the_and, the_units, the_unit, the_value, the_literal, Begins, path_is, no_step, one_step, child_step, axis_step, any_name, one_name, no_predicate, one_predicate, at_place, whether, or_is, no_and, one_and, and_is, no_unit, one_unit, group, alone, compared, mirrored, number, quote, nodes, position, band, may_compare, Joins}
 use Rattle.wef_query_paths.specs.Levels.{alternatives_in, square, with_and, with_predicate, with_step, with_unit}
-use Rattle.wef_query_paths.specs.Steps.{goes_to_children}
 use Rattle.wef_query_paths.specs.Turns.{behind_last, behind_unit, closed_round, closed_square, inside, is_position, joined, may_be_position, with_and_behind, with_or_behind}
 use Rattle.wef_query_paths.proofs.Runs.{may_stand, on, run}
 use Rattle.wef_query_paths.proofs.Trees.{and_whole, and_with, or_whole, or_with, path_whole, path_with, step_whole, step_with}

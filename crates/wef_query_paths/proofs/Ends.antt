@@ -2,6 +2,13 @@
 use Rattle.std.proofs.Common.{◌≡◌, ℕ, Bool, true, false, if◌then◌else◌, List, [], ◌∷◌, codes, Option, Some, None, refl, subst, inl, inr}
 use Rattle.std.specs.Option.{option_and_then}
 use Rattle.wef_base.specs.Names.{same}
+use Rattle.wef_query_tokens.specs.declared.axis.Axis.{Axis}
+use Rattle.wef_query_tokens.specs.declared.axis.Axis.TheVariants.{Child, Attribute}
+use Rattle.wef_query_tokens.specs.declared.operator.Operator.{Operator}
+use Rattle.wef_query_tokens.specs.declared.tokens.Token.{Token}
+use Rattle.wef_query_tokens.specs.declared.tokens.Token.TheVariants.{Along, Star, Word, Joint, PositionCall, BandCall, Compare, Figure, Quote, OpenSquare, CloseSquare, OpenRound, CloseRound, Slash, Comma}
+use Rattle.wef_query_tokens.specs.Calls.{is_call}
+use Rattle.wef_query_tokens.specs.Steps.{goes_to_children}
 use Rattle.wef_query_paths.specs.declared.conditions.Around.{Around}
 use Rattle.wef_query_paths.specs.declared.conditions.Around.TheVariants.{Round, Square}
 use Rattle.wef_query_paths.specs.declared.conditions.Level.{Level}
@@ -9,11 +16,8 @@ use Rattle.wef_query_paths.specs.declared.steps.Place.{Place}
 use Rattle.wef_query_paths.specs.declared.steps.Place.TheVariants.{Whole, InValue, InBand}
 use Rattle.wef_query_paths.specs.declared.values.Side.{Side}
 use Rattle.wef_query_paths.specs.declared.values.Side.TheVariants.{Left, Right}
-use Rattle.wef_query_paths.specs.declared.path.Axis.{Axis}
-use Rattle.wef_query_paths.specs.declared.path.Axis.TheVariants.{Child, Attribute}
 use Rattle.wef_query_paths.specs.declared.path.Literal.{Literal}
 use Rattle.wef_query_paths.specs.declared.path.Literal.TheVariants.{Number, Quoted}
-use Rattle.wef_query_paths.specs.declared.path.Operator.{Operator}
 use Rattle.wef_query_paths.specs.declared.path.Or.{Or}
 use Rattle.wef_query_paths.specs.declared.path.Path.{Path}
 use Rattle.wef_query_paths.specs.declared.path.Step.{Step}
@@ -21,14 +25,11 @@ use Rattle.wef_query_paths.specs.declared.path.Unit as unit
 use Rattle.wef_query_paths.specs.declared.path.Unit.TheVariants.{Alone, Mirrored}
 use Rattle.wef_query_paths.specs.declared.path.Value.{Value}
 use Rattle.wef_query_paths.specs.declared.path.Value.TheVariants.{Nodes, Position, Band}
-use Rattle.wef_query_paths.specs.declared.tokens.Token.{Token}
-use Rattle.wef_query_paths.specs.declared.tokens.Token.TheVariants.{Along, Star, Word, Joint, PositionCall, BandCall, Compare, Figure, Quote, OpenSquare, CloseSquare, OpenRound, CloseRound, Slash, Comma}
 use Rattle.wef_query_paths.specs.declared.turns.Next.{Next}
 use Rattle.wef_query_paths.specs.declared.turns.Next.TheVariants.{BeforeStep, BeforeTest, BehindStep, BeforePredicate, BehindCount, BeforeUnit, BehindLiteral, BeforeValue, BehindPosition, InPosition, BehindBand, BeforeMask, BehindMask, BehindValue, BeforeLiteral, BehindUnit}
 use Rattle.wef_query_paths.specs.Allows.{Part, one, the, a_path, a_child_step, an_attribute_step, a_predicate, an_or, an_and, a_unit, a_value, a_numeric_value, a_literal, Gives, done, stop, opens, ends, skips, says_child_first, says_attribute_last, says_attribute_first, says_child, says_along_child, says_attribute, says_place, says_condition, says_or, says_and, says_group, says_value, says_position, says_behind_text, says_behind_number, says_nodes, says_band, says_numeric, says_numeric_position, says_literal, ends_in_path}
-use Rattle.wef_query_paths.specs.Fronts.{ends_in_call, is_behind_call, is_call, turned}
+use Rattle.wef_query_paths.specs.Fronts.{ends_in_call, is_behind_call, turned}
 use Rattle.wef_query_paths.specs.Levels.{alternatives_in, square, with_step}
-use Rattle.wef_query_paths.specs.Steps.{goes_to_children}
 use Rattle.wef_query_paths.specs.Turns.{before_comma, before_literal, before_mask, before_predicate, before_step, before_test, before_unit, before_value, behind_band, behind_count, behind_left, behind_literal, behind_mask, behind_path, behind_position, behind_step, behind_unit, behind_value, closed_round, closed_square, finished, in_position, inside, is_position, joined, turn, with_and_behind, with_or_behind}
 use Rattle.wef_query_paths.proofs.Stacks.{Comes, bracket_parts, further_parts, path_parts, step_parts, unit_parts, value_parts, whole_parts, worth_parts, ends_path}
 

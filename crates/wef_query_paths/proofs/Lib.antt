@@ -1,6 +1,5 @@
 pub mod Allowed
 pub mod AnyPath
-pub mod Calls
 pub mod CallsOpen
 pub mod Completes
 pub mod Ends
@@ -10,7 +9,6 @@ pub mod Readers
 pub mod Runs
 pub mod SaidIsRead
 pub mod SameGrammar
-pub mod Shorter
 pub mod Sound
 pub mod Stacks
 pub mod Stopped

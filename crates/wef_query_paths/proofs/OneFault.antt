@@ -3,17 +3,17 @@ use Rattle.std.proofs.Common.{◌≡◌, ℕ, zero, suc, Bool, true, false, List
 use Rattle.std.specs.Option.{option_and_then}
 use Rattle.std.specs.Str.{chars}
 use Rattle.wef_base.specs.Names.{without_start}
+use Rattle.wef_query_tokens.specs.declared.tokens.Token.{Token}
+use Rattle.wef_query_tokens.specs.Tokens.{before, token_at, tokens_in, tokens_within}
 use Rattle.wef_query_paths.specs.declared.faults.FaultKind.{FaultKind}
 use Rattle.wef_query_paths.specs.declared.faults.FaultKind.TheVariants.{Bad, Unsupported as Foreign, Deep}
 use Rattle.wef_query_paths.specs.declared.path.Path.{Path}
-use Rattle.wef_query_paths.specs.declared.tokens.Token.{Token}
 use Rattle.wef_query_paths.specs.Allows.{Allows, IsPath}
 use Rattle.wef_query_paths.specs.Faults.{FaultAt, HasKind, Refuses, Splits, before_all, behind}
 use Rattle.wef_query_paths.specs.Grammar.{Says, is_shallow}
 use Rattle.wef_query_paths.specs.Laws.{HasNoFault, HasOneFault}
 use Rattle.wef_query_paths.specs.Reading.{depth_behind}
 use Rattle.wef_query_paths.specs.Stops.{place}
-use Rattle.wef_query_paths.specs.Tokens.{before, token_at, tokens_in, tokens_within}
 use Rattle.wef_query_paths.proofs.SaidIsRead.{is_said}
 use Rattle.wef_query_paths.proofs.SameGrammar.{cut_behind, in_front, same_grammar}
 use Rattle.wef_query_paths.proofs.Stopped.{place_is}

@@ -5,23 +5,24 @@ use Rattle.std.specs.Option.{option_and_then}
 use Rattle.std.specs.Str.{chars}
 use Rattle.std.specs.declared.result.Result.TheVariants.{Ok, Err}
 use Rattle.wef_base.specs.Names.{without_start}
+use Rattle.wef_query_tokens.specs.declared.halt.Halt.{Halt}
+use Rattle.wef_query_tokens.specs.declared.halt.Halt.TheVariants.{NoMemory, Refused}
+use Rattle.wef_query_tokens.specs.declared.tokens.Token.{Token}
+use Rattle.wef_query_tokens.specs.Reads.{Reads, ReadsFront}
+use Rattle.wef_query_tokens.specs.Tokens.{before, token_at, token_from, tokens_in}
+use Rattle.wef_query_tokens.proofs.Shorter.{IsWithin, Leaves, token_leaves, token_shorter, tokens_begin, tokens_end, within_tails, without_start_leaves}
 use Rattle.wef_query_paths.specs.declared.faults.Failure.{Failure}
 use Rattle.wef_query_paths.specs.declared.faults.FaultKind.TheVariants.{Bad}
-use Rattle.wef_query_paths.specs.declared.faults.Halt.{Halt}
-use Rattle.wef_query_paths.specs.declared.faults.Halt.TheVariants.{NoMemory, Refused}
 use Rattle.wef_query_paths.specs.declared.faults.PathFault.{PathFault}
 use Rattle.wef_query_paths.specs.declared.faults.PathFault.TheVariants as faults
 use Rattle.wef_query_paths.specs.declared.faults.Stop.{Stop}
 use Rattle.wef_query_paths.specs.declared.path.Path.{Path}
 use Rattle.wef_query_paths.specs.declared.reading.Reader.{Reader}
-use Rattle.wef_query_paths.specs.declared.tokens.Token.{Token}
 use Rattle.wef_query_paths.specs.Paths.{path_of}
 use Rattle.wef_query_paths.specs.Reading.{path_in, read_on, start, taken}
-use Rattle.wef_query_paths.specs.Reads.{Gives, Reads, ReadsFront, ReadsOn, SaysPath}
+use Rattle.wef_query_paths.specs.Reads.{Gives, ReadsOn, SaysPath}
 use Rattle.wef_query_paths.specs.Stops.{GoesOn, at_end, failure_of, kind_at, on_read, on_taken, path_from, path_or_fault, path_within, placed, stop, stop_at}
-use Rattle.wef_query_paths.specs.Tokens.{before, token_at, token_from, tokens_in}
 use Rattle.wef_query_paths.specs.Turns.{finished}
-use Rattle.wef_query_paths.proofs.Shorter.{IsWithin, Leaves, token_leaves, token_shorter, tokens_begin, tokens_end, within_tails, without_start_leaves}
 
 -- a token that is taken
 longer_on : (r longer : Reader) (token : Token) (more : Option (List Token)) → taken r token ≡ Some longer → option_and_then (read_on r) (before token more) ≡ option_and_then (read_on longer) more

@@ -1,12 +1,12 @@
 -- The machine without the count of its brackets, and where a value may stand.
 use Rattle.std.proofs.Common.{◌≡◌, ℕ, Bool, true, false, if◌then◌else◌, List, [], ◌∷◌, Option, Some, None, refl}
 use Rattle.std.specs.Option.{option_map, option_and_then}
+use Rattle.wef_query_tokens.specs.declared.tokens.Token.{Token}
 use Rattle.wef_query_paths.specs.declared.conditions.Level.{Level}
 use Rattle.wef_query_paths.specs.declared.values.Side.{Side}
 use Rattle.wef_query_paths.specs.declared.values.Side.TheVariants.{Left, Right}
 use Rattle.wef_query_paths.specs.declared.path.Path.{Path}
 use Rattle.wef_query_paths.specs.declared.path.Value.{Value}
-use Rattle.wef_query_paths.specs.declared.tokens.Token.{Token}
 use Rattle.wef_query_paths.specs.declared.turns.Next.{Next}
 use Rattle.wef_query_paths.specs.Grammar.{is_shallow, may_compare}
 use Rattle.wef_query_paths.specs.Reading.{depth_behind, read_on, reader_of}

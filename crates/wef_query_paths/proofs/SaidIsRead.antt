@@ -2,15 +2,15 @@
 use Rattle.std.proofs.Common.{◌≡◌, ℕ, Bool, true, false, if◌then◌else◌, List, [], Option, Some, None, refl, sym, ap, ◌∙◌}
 use Rattle.std.specs.Option.{option_and_then}
 use Rattle.std.specs.Str.{chars}
+use Rattle.wef_query_tokens.specs.declared.tokens.Token.{Token}
+use Rattle.wef_query_tokens.specs.Tokens.{tokens_of}
 use Rattle.wef_query_paths.specs.declared.steps.Place.TheVariants.{Whole}
 use Rattle.wef_query_paths.specs.declared.path.Path.{Path}
-use Rattle.wef_query_paths.specs.declared.tokens.Token.{Token}
 use Rattle.wef_query_paths.specs.declared.turns.Next.TheVariants.{BeforeStep}
 use Rattle.wef_query_paths.specs.Grammar.{Says, is_shallow}
 use Rattle.wef_query_paths.specs.Laws.{IsOnlyOne, IsSaid}
 use Rattle.wef_query_paths.specs.Paths.{path_of}
 use Rattle.wef_query_paths.specs.Reading.{read_on, start}
-use Rattle.wef_query_paths.specs.Tokens.{tokens_of}
 use Rattle.wef_query_paths.proofs.Completes.{completed}
 use Rattle.wef_query_paths.proofs.Runs.{apart, run}
 use Rattle.wef_query_paths.proofs.Sound.{said}

@@ -1,19 +1,19 @@
 -- The grammar that may be cut, with nothing cut, and cut anywhere.
 use Rattle.std.proofs.Common.{◌≡◌, Bool, true, false, List, [], ◌∷◌, ◌++◌, Option, Some, None, refl, subst}
+use Rattle.wef_query_tokens.specs.declared.axis.Axis.TheVariants.{Child}
+use Rattle.wef_query_tokens.specs.declared.tokens.Token.{Token}
+use Rattle.wef_query_tokens.specs.Calls.{is_call}
+use Rattle.wef_query_tokens.proofs.Calls.{AreCallsOpened, OpensRound, calls_opened}
 use Rattle.wef_query_paths.specs.declared.conditions.Level.{Level}
-use Rattle.wef_query_paths.specs.declared.path.Axis.TheVariants.{Child}
 use Rattle.wef_query_paths.specs.declared.path.Path.{Path}
 use Rattle.wef_query_paths.specs.declared.steps.Place.TheVariants.{Whole, InValue}
-use Rattle.wef_query_paths.specs.declared.tokens.Token.{Token}
 use Rattle.wef_query_paths.specs.declared.turns.Next.{Next}
 use Rattle.wef_query_paths.specs.declared.turns.Next.TheVariants.{BeforeStep}
 use Rattle.wef_query_paths.specs.Allows.{Gives, IsPath, Part, again, done, ends, goes_on, opens, skips, stop, takes}
-use Rattle.wef_query_paths.specs.Fronts.{is_call}
 use Rattle.wef_query_paths.specs.Grammar.{Begins, the_path}
 use Rattle.wef_query_paths.specs.Laws.{IsAllowedInFront, IsSameGrammar}
 use Rattle.wef_query_paths.specs.Turns.{turn}
 use Rattle.wef_query_paths.proofs.Allowed.{named_is_call, opened_refused}
-use Rattle.wef_query_paths.proofs.Calls.{AreCallsOpened, OpensRound, calls_opened}
 use Rattle.wef_query_paths.proofs.Completes.{completed}
 use Rattle.wef_query_paths.proofs.Ends.{end_is_path, path_is_end}
 use Rattle.wef_query_paths.proofs.Forward.{Taken, forward, loosens, misnamed, misnames, named, names, turns}

@@ -6,6 +6,12 @@ use Rattle.std.specs.Str.{chars}
 use Rattle.std.specs.declared.result.Result.TheVariants.{Ok, Err}
 use Rattle.std.proofs.lemmas.List.{length-append, take_at}
 use Rattle.wef_base.specs.Names.{without_start}
+use Rattle.wef_query_tokens.specs.declared.tokens.Token.{Token}
+use Rattle.wef_query_tokens.specs.declared.tokens.Token.TheVariants.{Along, Star, Word, Joint, PositionCall, BandCall, Compare, Figure, Quote, OpenSquare, CloseSquare, OpenRound, CloseRound, Slash, Comma}
+use Rattle.wef_query_tokens.specs.Calls.{is_call}
+use Rattle.wef_query_tokens.specs.Tokens.{token_at}
+use Rattle.wef_query_tokens.proofs.Calls.{call_stands_before, round_token}
+use Rattle.wef_query_tokens.proofs.Shorter.{IsOfTails, Leaves, token_leaves, token_shorter, without_start_leaves}
 use Rattle.wef_query_paths.specs.declared.conditions.Level.{Level}
 use Rattle.wef_query_paths.specs.declared.faults.FaultKind.{FaultKind}
 use Rattle.wef_query_paths.specs.declared.faults.FaultKind.TheVariants.{Bad, Unsupported as Foreign, Deep}
@@ -15,27 +21,22 @@ use Rattle.wef_query_paths.specs.declared.faults.Stop.{Stop}
 use Rattle.wef_query_paths.specs.declared.path.Path.{Path}
 use Rattle.wef_query_paths.specs.declared.reading.Reader.{Reader}
 use Rattle.wef_query_paths.specs.declared.steps.Place.TheVariants.{Whole}
-use Rattle.wef_query_paths.specs.declared.tokens.Token.{Token}
-use Rattle.wef_query_paths.specs.declared.tokens.Token.TheVariants.{Along, Star, Word, Joint, PositionCall, BandCall, Compare, Figure, Quote, OpenSquare, CloseSquare, OpenRound, CloseRound, Slash, Comma}
 use Rattle.wef_query_paths.specs.declared.turns.Next.{Next}
 use Rattle.wef_query_paths.specs.declared.turns.Next.TheVariants.{BeforeStep, BeforeTest, BeforeValue}
 use Rattle.wef_query_paths.specs.declared.path.Literal.TheVariants.{Number, Quoted}
 use Rattle.wef_query_paths.specs.Allows.{Allows}
 use Rattle.wef_query_paths.specs.Faults.{FaultAt, HasFault, HasKind, IsFault, IsForeign, Refuses, Splits, before_all, behind, is_foreign}
-use Rattle.wef_query_paths.specs.Fronts.{begins_path, is_behind_attribute, is_call, is_named_call, opens_call, turned}
+use Rattle.wef_query_paths.specs.Fronts.{begins_path, is_behind_attribute, is_named_call, opens_call, turned}
 use Rattle.wef_query_paths.specs.Grammar.{is_shallow}
 use Rattle.wef_query_paths.specs.Laws.{HasPathOrFault}
 use Rattle.wef_query_paths.specs.Paths.{path_of}
 use Rattle.wef_query_paths.specs.Reading.{deeper, depth_behind, greatest_depth, reader_of, start, taken}
 use Rattle.wef_query_paths.specs.Reads.{Gives}
 use Rattle.wef_query_paths.specs.Stops.{at_end, bracket_stop, fault_at, kind_at, kind_where, on_read, on_taken, path_from, path_or_fault, path_within, place, placed, stop, stop_at}
-use Rattle.wef_query_paths.specs.Tokens.{token_at}
 use Rattle.wef_query_paths.specs.Turns.{finished, turn}
 use Rattle.wef_query_paths.proofs.Allowed.{allowed, behind_attribute, named_allowed, named_refused, path_is_whole, path_may_begin, refused}
-use Rattle.wef_query_paths.proofs.Calls.{call_stands_before, round_token}
 use Rattle.wef_query_paths.proofs.CallsOpen.{HasRound, next_opens, round_is_next}
 use Rattle.wef_query_paths.proofs.Readers.{if_read, read_is_path}
-use Rattle.wef_query_paths.proofs.Shorter.{IsOfTails, Leaves, token_leaves, token_shorter, without_start_leaves}
 
 -- ---- the end of a text
 

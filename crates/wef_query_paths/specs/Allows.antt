@@ -2,9 +2,10 @@
 -- tokens allow a continuation where the rules give them with each rule that is still open at their end cut after some of its parts.
 use Rattle.std.specs.Prelude.{◌≡◌, ℕ, Bool, true, false, List, [], ◌∷◌, ◌++◌, codes}
 use Rattle.wef_base.specs.Names.{same}
-use Rattle.wef_query_paths.specs.declared.path.Axis.TheVariants.{Child, Attribute}
-use Rattle.wef_query_paths.specs.declared.tokens.Token.{Token}
-use Rattle.wef_query_paths.specs.declared.tokens.Token.TheVariants.{Along, Star, Word, Joint, PositionCall, BandCall, Compare, Figure, Quote, OpenSquare, CloseSquare, OpenRound, CloseRound, Slash, Comma}
+use Rattle.wef_query_tokens.specs.declared.axis.Axis.TheVariants.{Child, Attribute}
+use Rattle.wef_query_tokens.specs.declared.tokens.Token.{Token}
+use Rattle.wef_query_tokens.specs.declared.tokens.Token.TheVariants.{Along, Star, Word, Joint, PositionCall, BandCall, Compare, Figure, Quote, OpenSquare, CloseSquare, OpenRound, CloseRound, Slash, Comma}
+use Rattle.wef_query_tokens.specs.Calls.{is_band_call, is_position_call}
 
 -- ---- what a rule asks of one token
 
@@ -35,15 +36,6 @@ is_and token = joins (codes "and") token
 
 abbrev pub is_or : Token → Bool
 is_or token = joins (codes "or") token
-
--- the functions
-abbrev pub is_position_call : Token → Bool
-is_position_call PositionCall = true
-is_position_call _ = false
-
-abbrev pub is_band_call : Token → Bool
-is_band_call BandCall = true
-is_band_call _ = false
 
 -- an operator between a value and a literal
 abbrev pub is_compare : Token → Bool

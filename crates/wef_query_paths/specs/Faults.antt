@@ -3,15 +3,15 @@ use Rattle.std.specs.Prelude.{◌≡◌, ℕ, Bool, true, false, ◌||◌, ◌==
 use Rattle.std.specs.Str.{chars}
 use Rattle.wef_base.specs.Characters.{is_within}
 use Rattle.wef_base.specs.Names.{without_start}
+use Rattle.wef_query_tokens.specs.declared.tokens.Token.{Token}
+use Rattle.wef_query_tokens.specs.declared.tokens.Token.TheVariants.{Joint, Slash}
+use Rattle.wef_query_tokens.specs.Tokens.{is_name_start, token_at}
 use Rattle.wef_query_paths.specs.declared.faults.FaultKind.{FaultKind}
 use Rattle.wef_query_paths.specs.declared.faults.FaultKind.TheVariants.{Bad, Unsupported as Foreign, Deep}
 use Rattle.wef_query_paths.specs.declared.faults.PathFault.{PathFault}
 use Rattle.wef_query_paths.specs.declared.faults.PathFault.TheVariants.{NoMemory, BadPath, Unsupported, TooDeep}
-use Rattle.wef_query_paths.specs.declared.tokens.Token.{Token}
-use Rattle.wef_query_paths.specs.declared.tokens.Token.TheVariants.{Joint, Slash}
 use Rattle.wef_query_paths.specs.Allows.{Allows, AllowsPath, EndsInAttribute, IsPath}
 use Rattle.wef_query_paths.specs.Grammar.{is_shallow}
-use Rattle.wef_query_paths.specs.Tokens.{is_name_start, token_at}
 
 -- A text that begins with no space begins with these tokens, and this is left of it behind them and their spaces.
 pub data Splits : List ℕ → List Token → List ℕ → Type 0 where

@@ -1,26 +1,20 @@
 -- What the machine's state says of the tokens that it took.
 use Rattle.std.specs.Prelude.{Bool, true, false, if◌then◌else◌, List, [], ◌∷◌, Option, Some, None}
 use Rattle.std.specs.Option.{option_and_then}
+use Rattle.wef_query_tokens.specs.declared.tokens.Token.{Token}
+use Rattle.wef_query_tokens.specs.Calls.{is_call, is_position_call}
+use Rattle.wef_query_tokens.specs.Steps.{goes_to_children}
 use Rattle.wef_query_paths.specs.declared.conditions.Level.{Level}
 use Rattle.wef_query_paths.specs.declared.path.Literal.TheVariants.{Quoted}
-use Rattle.wef_query_paths.specs.declared.tokens.Token.{Token}
-use Rattle.wef_query_paths.specs.declared.tokens.Token.TheVariants.{PositionCall, BandCall}
 use Rattle.wef_query_paths.specs.declared.turns.Next.{Next}
 use Rattle.wef_query_paths.specs.declared.turns.Next.TheVariants.{BeforeStep, BeforeTest, BehindStep, BeforePredicate, BeforeUnit, BeforeValue, BehindPosition, BehindBand}
-use Rattle.wef_query_paths.specs.Allows.{is_open_round, is_position_call}
-use Rattle.wef_query_paths.specs.Steps.{goes_to_children}
+use Rattle.wef_query_paths.specs.Allows.{is_open_round}
 use Rattle.wef_query_paths.specs.Turns.{turn}
 
 -- what tokens make, one after the other, of the open brackets and of what may come next, where each may
 abbrev pub turned : List Level → Next → List Token → Option (List Level × Next)
 turned levels next [] = Some (levels, next)
 turned levels next (token ∷ tokens) = option_and_then (λ t. turned t.0 t.1 tokens) (turn levels next token)
-
--- a function's name before its `(`
-abbrev pub is_call : Token → Bool
-is_call PositionCall = true
-is_call BandCall = true
-is_call _ = false
 
 -- such a name where a step's name may stand and no such call: the name may come, and no `(` behind it
 abbrev pub is_named_call : Next → Token → Bool

@@ -1,14 +1,18 @@
 -- The grammar of a query's path, a rule a line: which tokens say which tree.
 use Rattle.std.specs.Prelude.{◌≡◌, ℕ, Bool, true, false, List, [], ◌∷◌, codes, Some, None}
 use Rattle.std.specs.Str.{chars}
+use Rattle.wef_query_tokens.specs.declared.axis.Axis.{Axis}
+use Rattle.wef_query_tokens.specs.declared.axis.Axis.TheVariants.{Child}
+use Rattle.wef_query_tokens.specs.declared.operator.Operator.{Operator}
+use Rattle.wef_query_tokens.specs.declared.tokens.Token.{Token}
+use Rattle.wef_query_tokens.specs.declared.tokens.Token.TheVariants.{Along, Star, Word, Joint, PositionCall, BandCall, Compare, Figure, Quote, OpenSquare, CloseSquare, OpenRound, CloseRound, Slash, Comma}
+use Rattle.wef_query_tokens.specs.Steps.{goes_to_children}
+use Rattle.wef_query_tokens.specs.Tokens.{tokens_of}
 use Rattle.wef_query_paths.specs.declared.path.And.{And}
-use Rattle.wef_query_paths.specs.declared.path.Axis.{Axis}
-use Rattle.wef_query_paths.specs.declared.path.Axis.TheVariants.{Child}
 use Rattle.wef_query_paths.specs.declared.path.Literal.{Literal}
 use Rattle.wef_query_paths.specs.declared.path.Literal.TheVariants.{Number, Quoted}
 use Rattle.wef_query_paths.specs.declared.path.NameTest.{NameTest}
 use Rattle.wef_query_paths.specs.declared.path.NameTest.TheVariants.{Any, Named}
-use Rattle.wef_query_paths.specs.declared.path.Operator.{Operator}
 use Rattle.wef_query_paths.specs.declared.path.Or.{Or, out-Or}
 use Rattle.wef_query_paths.specs.declared.path.Path.{Path, out-Path}
 use Rattle.wef_query_paths.specs.declared.path.Predicate.{Predicate}
@@ -18,11 +22,7 @@ use Rattle.wef_query_paths.specs.declared.path.Unit as unit
 use Rattle.wef_query_paths.specs.declared.path.Unit.TheVariants.{Group, Alone, Compared, Mirrored}
 use Rattle.wef_query_paths.specs.declared.path.Value.{Value}
 use Rattle.wef_query_paths.specs.declared.path.Value.TheVariants.{Nodes, Position, Band}
-use Rattle.wef_query_paths.specs.declared.tokens.Token.{Token}
-use Rattle.wef_query_paths.specs.declared.tokens.Token.TheVariants.{Along, Star, Word, Joint, PositionCall, BandCall, Compare, Figure, Quote, OpenSquare, CloseSquare, OpenRound, CloseRound, Slash, Comma}
 use Rattle.wef_query_paths.specs.Reading.{depth_behind}
-use Rattle.wef_query_paths.specs.Steps.{goes_to_children}
-use Rattle.wef_query_paths.specs.Tokens.{tokens_of}
 use Rattle.wef_query_paths.specs.Turns.{is_position}
 
 -- a part of a path that a rule speaks of; lists are those of what a rule repeats

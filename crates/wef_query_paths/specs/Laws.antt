@@ -1,17 +1,15 @@
 -- Laws of reading a path.
-use Rattle.std.specs.Prelude.{◌≡◌, ℕ, List, [], ◌∷◌, ◌++◌, Some, ◌↔◌, None, MatchResult}
-use Rattle.std.specs.Option.{option_and_then}
+use Rattle.std.specs.Prelude.{◌≡◌, ℕ, List, [], ◌++◌, Some, ◌↔◌, None, MatchResult}
 use Rattle.std.specs.Str.{chars}
-use Rattle.wef_base.specs.Names.{without_start}
+use Rattle.wef_query_tokens.specs.declared.tokens.Token.{Token}
+use Rattle.wef_query_tokens.specs.Tokens.{tokens_of}
 use Rattle.wef_query_paths.specs.declared.path.Path.{Path}
-use Rattle.wef_query_paths.specs.declared.tokens.Token.{Token}
 use Rattle.wef_query_paths.specs.Allows.{Allows, IsPath}
 use Rattle.wef_query_paths.specs.Grammar.{Begins, Says, the_path}
 use Rattle.wef_query_paths.specs.Faults.{FaultAt, HasFault}
 use Rattle.wef_query_paths.specs.Paths.{path_of}
 use Rattle.wef_query_paths.specs.Stops.{path_or_fault}
 use Rattle.wef_query_paths.specs.declared.faults.FaultKind.{FaultKind}
-use Rattle.wef_query_paths.specs.Tokens.{before, token_at, tokens_in, tokens_of}
 
 -- The path that the function gives is the one that the text says by the grammar.
 abbrev pub IsSaid : Type 0
@@ -20,10 +18,6 @@ IsSaid = (text : List ℕ) (p : Path) → Says text p ↔ (path_of text ≡ Some
 -- One list of tokens has one tree.
 abbrev pub IsOnlyOne : Type 0
 IsOnlyOne = (tokens : List Token) (p q : Path) → Begins (the_path p) tokens [] → Begins (the_path q) tokens [] → p ≡ q
-
--- The tokens of a text are the one that it begins with and those of what is left behind that and its spaces, however many there are.
-abbrev pub IsTokenByToken : Type 0
-IsTokenByToken = (c : ℕ) (cs : List ℕ) → tokens_in (c ∷ cs) ≡ option_and_then (λ read. before read.0 (tokens_in (without_start read.1))) (token_at (c ∷ cs))
 
 -- Of a text's tokens, the grammar that may be cut says the same as the one with trees where nothing is cut.
 abbrev pub IsSameGrammar : Type 0

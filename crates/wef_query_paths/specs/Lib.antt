@@ -8,7 +8,5 @@ pub mod Levels
 pub mod Paths
 pub mod Reading
 pub mod Reads
-pub mod Steps
 pub mod Stops
-pub mod Tokens
 pub mod Turns

@@ -2,14 +2,14 @@
 use Rattle.std.specs.Prelude.{ℕ, ◌==◌, Bool, true, false, ◌&&◌, List, [], length, Option}
 use Rattle.std.specs.Option.{option_and_then}
 use Rattle.std.specs.Str.{chars}
-use Rattle.wef_query_paths.specs.declared.path.Axis.TheVariants.{Child}
+use Rattle.wef_query_tokens.specs.declared.axis.Axis.TheVariants.{Child}
+use Rattle.wef_query_tokens.specs.Steps.{goes_to_children}
+use Rattle.wef_query_tokens.specs.Tokens.{tokens_of}
 use Rattle.wef_query_paths.specs.declared.path.NameTest.{NameTest}
 use Rattle.wef_query_paths.specs.declared.path.NameTest.TheVariants.{Any, Named}
 use Rattle.wef_query_paths.specs.declared.path.Path.{Path, out-Path, roll-Path}
 use Rattle.wef_query_paths.specs.declared.path.Step.{Step}
 use Rattle.wef_query_paths.specs.Reading.{read_on, start}
-use Rattle.wef_query_paths.specs.Steps.{goes_to_children}
-use Rattle.wef_query_paths.specs.Tokens.{tokens_of}
 
 -- the step to a child of any name
 abbrev pub any_step : Step

@@ -1,15 +1,15 @@
 -- Reading a path: token by token, until the text ends or a token can't follow.
 use Rattle.std.specs.Prelude.{ℕ, ◌+◌, ◌-◌, nat_lt, List, [], ◌∷◌, Option, Some, None, if◌then◌else◌}
 use Rattle.std.specs.Option.{option_map, option_and_then}
+use Rattle.wef_query_tokens.specs.declared.tokens.Token.{Token}
+use Rattle.wef_query_tokens.specs.declared.tokens.Token.TheVariants.{OpenSquare, CloseSquare, OpenRound, CloseRound}
+use Rattle.wef_query_tokens.specs.Tokens.{tokens_in}
 use Rattle.wef_query_paths.specs.declared.conditions.Level.{Level}
 use Rattle.wef_query_paths.specs.declared.steps.Place.TheVariants.{Whole}
 use Rattle.wef_query_paths.specs.declared.path.Path.{Path}
 use Rattle.wef_query_paths.specs.declared.reading.Reader.{Reader}
-use Rattle.wef_query_paths.specs.declared.tokens.Token.{Token}
-use Rattle.wef_query_paths.specs.declared.tokens.Token.TheVariants.{OpenSquare, CloseSquare, OpenRound, CloseRound}
 use Rattle.wef_query_paths.specs.declared.turns.Next.{Next}
 use Rattle.wef_query_paths.specs.declared.turns.Next.TheVariants.{BeforeStep}
-use Rattle.wef_query_paths.specs.Tokens.{tokens_in}
 use Rattle.wef_query_paths.specs.Turns.{finished, turn}
 
 -- how many brackets may be open at once

@@ -4,24 +4,24 @@ use Rattle.std.specs.Borrow.{Bor}
 use Rattle.std.specs.Str.{chars}
 use Rattle.std.specs.declared.result.Result.TheVariants.{Ok, Err}
 use Rattle.wef_base.specs.Names.{without_start}
+use Rattle.wef_query_tokens.specs.declared.halt.Halt.{Halt}
+use Rattle.wef_query_tokens.specs.declared.halt.Halt.TheVariants as halts
+use Rattle.wef_query_tokens.specs.declared.tokens.Token.{Token}
+use Rattle.wef_query_tokens.specs.declared.tokens.Token.TheVariants.{Joint, OpenSquare, OpenRound, Slash}
+use Rattle.wef_query_tokens.specs.Tokens.{token_at}
 use Rattle.wef_query_paths.specs.declared.faults.Failure.{Failure}
 use Rattle.wef_query_paths.specs.declared.faults.Failure.TheVariants as failures
 use Rattle.wef_query_paths.specs.declared.faults.FaultKind.{FaultKind}
 use Rattle.wef_query_paths.specs.declared.faults.FaultKind.TheVariants.{Bad, Unsupported as Foreign, Deep}
-use Rattle.wef_query_paths.specs.declared.faults.Halt.{Halt}
-use Rattle.wef_query_paths.specs.declared.faults.Halt.TheVariants as halts
 use Rattle.wef_query_paths.specs.declared.faults.PathFault.{PathFault}
 use Rattle.wef_query_paths.specs.declared.faults.PathFault.TheVariants.{BadPath, Unsupported, TooDeep}
 use Rattle.wef_query_paths.specs.declared.faults.Stop.{Stop}
 use Rattle.wef_query_paths.specs.declared.path.Path.{Path}
 use Rattle.wef_query_paths.specs.declared.reading.Reader.{Reader}
-use Rattle.wef_query_paths.specs.declared.tokens.Token.{Token}
-use Rattle.wef_query_paths.specs.declared.tokens.Token.TheVariants.{Joint, OpenSquare, OpenRound, Slash}
 use Rattle.wef_query_paths.specs.Faults.{is_foreign}
 use Rattle.wef_query_paths.specs.Fronts.{begins_path, is_behind_attribute, is_named_call}
 use Rattle.wef_query_paths.specs.Reading.{greatest_depth, start, taken}
 use Rattle.wef_query_paths.specs.Reads.{ReadsOn}
-use Rattle.wef_query_paths.specs.Tokens.{token_at}
 use Rattle.wef_query_paths.specs.Turns.{finished}
 
 -- ---- what is wrong

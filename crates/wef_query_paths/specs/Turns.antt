@@ -2,6 +2,12 @@
 use Rattle.std.specs.Prelude.{ℕ, Bool, true, false, List, [], ◌∷◌, codes, Option, Some, None, if◌then◌else◌}
 use Rattle.std.specs.Option.{option_map}
 use Rattle.wef_base.specs.Names.{same}
+use Rattle.wef_query_tokens.specs.declared.axis.Axis.{Axis}
+use Rattle.wef_query_tokens.specs.declared.axis.Axis.TheVariants.{Child}
+use Rattle.wef_query_tokens.specs.declared.operator.Operator.{Operator}
+use Rattle.wef_query_tokens.specs.declared.tokens.Token.{Token}
+use Rattle.wef_query_tokens.specs.declared.tokens.Token.TheVariants.{Along, Star, Word, Joint, PositionCall, BandCall, Compare, Figure, Quote, OpenSquare, CloseSquare, OpenRound, CloseRound, Slash, Comma}
+use Rattle.wef_query_tokens.specs.Steps.{goes_to_children}
 use Rattle.wef_query_paths.specs.declared.conditions.Around.{Around}
 use Rattle.wef_query_paths.specs.declared.conditions.Around.TheVariants.{Round, Square}
 use Rattle.wef_query_paths.specs.declared.conditions.Level.{Level}
@@ -9,13 +15,10 @@ use Rattle.wef_query_paths.specs.declared.steps.Place.{Place}
 use Rattle.wef_query_paths.specs.declared.steps.Place.TheVariants.{Whole, InValue, InBand}
 use Rattle.wef_query_paths.specs.declared.values.Side.{Side}
 use Rattle.wef_query_paths.specs.declared.values.Side.TheVariants.{Left, Right}
-use Rattle.wef_query_paths.specs.declared.path.Axis.{Axis}
-use Rattle.wef_query_paths.specs.declared.path.Axis.TheVariants.{Child}
 use Rattle.wef_query_paths.specs.declared.path.Literal.{Literal}
 use Rattle.wef_query_paths.specs.declared.path.Literal.TheVariants.{Number, Quoted}
 use Rattle.wef_query_paths.specs.declared.path.NameTest.{NameTest}
 use Rattle.wef_query_paths.specs.declared.path.NameTest.TheVariants.{Any, Named}
-use Rattle.wef_query_paths.specs.declared.path.Operator.{Operator}
 use Rattle.wef_query_paths.specs.declared.path.Or.{Or}
 use Rattle.wef_query_paths.specs.declared.path.Path.{Path}
 use Rattle.wef_query_paths.specs.declared.path.Predicate.TheVariants.{At, Whether}
@@ -24,12 +27,9 @@ use Rattle.wef_query_paths.specs.declared.path.Unit as unit
 use Rattle.wef_query_paths.specs.declared.path.Unit.TheVariants.{Group, Alone, Compared, Mirrored}
 use Rattle.wef_query_paths.specs.declared.path.Value.{Value}
 use Rattle.wef_query_paths.specs.declared.path.Value.TheVariants.{Nodes, Position, Band}
-use Rattle.wef_query_paths.specs.declared.tokens.Token.{Token}
-use Rattle.wef_query_paths.specs.declared.tokens.Token.TheVariants.{Along, Star, Word, Joint, PositionCall, BandCall, Compare, Figure, Quote, OpenSquare, CloseSquare, OpenRound, CloseRound, Slash, Comma}
 use Rattle.wef_query_paths.specs.declared.turns.Next.{Next}
 use Rattle.wef_query_paths.specs.declared.turns.Next.TheVariants.{BeforeStep, BeforeTest, BehindStep, BeforePredicate, BehindCount, BeforeUnit, BehindLiteral, BeforeValue, BehindPosition, InPosition, BehindBand, BeforeMask, BehindMask, BehindValue, BeforeLiteral, BehindUnit}
 use Rattle.wef_query_paths.specs.Levels.{alternatives_in, is_whole, round, square, with_predicate, with_step, with_unit}
-use Rattle.wef_query_paths.specs.Steps.{goes_to_children}
 
 -- where the brackets that are open stay so
 abbrev pub inside : List Level → Option Next → Option (List Level × Next)

@@ -1,22 +1,22 @@
 //! Conditions that are being read, and the brackets around them.
 
 ghost use Rattle.std.specs.Prelude.{◌≡◌, ◌==◌, [], ◌∷◌, length, MatchOption, Some, IfOk, OnOk, OnErr};
+ghost use Rattle.wef_query_tokens.specs.Reads.{Reads};
 ghost use Rattle.wef_query_paths.specs.declared.path.Unit.TheVariants.{Group};
 ghost use Rattle.wef_query_paths.specs.declared.turns.Next.TheVariants.{BehindUnit};
 ghost use Rattle.wef_query_paths.specs.Levels.{alternatives_in, round, square, with_and, with_unit};
-ghost use Rattle.wef_query_paths.specs.Reads.{Reads, Turns};
+ghost use Rattle.wef_query_paths.specs.Reads.{Turns};
 ghost use Rattle.wef_query_paths.specs.Turns.{before_unit, behind_last, behind_unit, closed_round, closed_square, joined, with_and_behind, with_or_behind};
 
-use crate::faults::Halt;
 use crate::path::{And, Literal, Or, Path, Predicate, Step, Unit};
 use crate::shared::Shared;
 use crate::steps::{Place, behind_predicate};
-use crate::tokens::Token;
 use crate::turns::Next;
 use crate::values::{Side, before_value};
 use std::alloc::{AllocError, Global};
 use std::marker::Model;
 use wef_base::{List, Text};
+use wef_query_tokens::{Halt, Token};
 
 /// The bracket around a condition.
 pub enum Around {

@@ -31,25 +31,6 @@ impl From<AllocError> for PathFault {
     }
 }
 
-/// Why a token isn't there, or isn't taken.
-#[derive(Clone, Copy)]
-pub enum Halt {
-    NoMemory,
-    /// No token begins so, or the token can't follow.
-    Refused,
-}
-
-impl From<AllocError> for Halt {
-    ghost use Rattle.std.specs.Prelude.{◌≡◌};
-    ghost use Rattle.wef_query_paths.specs.declared.faults.Halt.TheVariants.{NoMemory};
-
-    ghost from_gives = { λ _ e. e ≡ NoMemory };
-
-    fn from(_error: AllocError) -> Halt {
-        Halt::NoMemory
-    }
-}
-
 /// What is wrong with a text, its place aside.
 #[derive(Clone, Copy)]
 pub enum FaultKind {

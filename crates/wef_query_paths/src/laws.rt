@@ -1,6 +1,6 @@
 //! Laws of reading a path, each the contract of a function that does nothing.
 
-ghost use Rattle.wef_query_paths.specs.Laws.{HasNoFault, HasOneFault, HasPathOrFault, IsAllowedInFront, IsOnlyOne, IsSaid, IsSameGrammar, IsTokenByToken};
+ghost use Rattle.wef_query_paths.specs.Laws.{HasNoFault, HasOneFault, HasPathOrFault, IsAllowedInFront, IsOnlyOne, IsSaid, IsSameGrammar};
 
 /// The path that is read is the one that the text says by the grammar: its tokens are that path and
 /// nothing more, and never open more than 32 brackets at once.
@@ -11,11 +11,6 @@ pub fn what_is_said_is_read()
 /// One list of tokens has one tree.
 pub fn one_tree_is_said()
     ensures { IsOnlyOne }
-{}
-
-/// The tokens of a text follow each other: each is read from what the one before left.
-pub fn tokens_follow_each_other()
-    ensures { IsTokenByToken }
 {}
 
 /// The grammar by which tokens allow a continuation is, where nothing is cut, the one with trees.

@@ -9,11 +9,11 @@ mod reading;
 mod shared;
 mod steps;
 mod stops;
-mod tokens;
 mod turns;
 mod values;
 
 pub use faults::PathFault;
-pub use path::{And, Axis, Literal, NameTest, Operator, Or, Path, Predicate, Step, Unit, Value};
+pub use path::{And, Literal, NameTest, Or, Path, Predicate, Step, Unit, Value};
 pub use reading::read_path;
 pub use shared::Shared;
+pub use wef_query_tokens::{Axis, Operator};

@@ -15,18 +15,11 @@
 
 ghost use Rattle.std.specs.Prelude.{◌≡◌};
 ghost use Rattle.wef_query_paths.specs.Paths.{any_path, is_any_path, is_any_step, takes_any};
-ghost use Rattle.wef_query_paths.specs.Steps.{goes_to_children};
 
 use crate::shared::Shared;
 use std::alloc::Global;
 use wef_base::{List, Text};
-
-/// Where a step goes from a node (XPath 1.0, 2.2).
-#[derive(Clone, Copy, Debug, PartialEq, Eq)]
-pub enum Axis {
-    Child,
-    Attribute,
-}
+use wef_query_tokens::{Axis, Operator};
 
 /// Which nodes of its axis a step takes (XPath 1.0, 2.3).
 #[derive(Debug, Drop)]
@@ -35,17 +28,6 @@ pub enum NameTest {
     Any,
     /// Those of a local name.
     Named(Text),
-}
-
-/// How a value and a literal compare (XPath 1.0, 3.4).
-#[derive(Clone, Copy, Debug, PartialEq, Eq)]
-pub enum Operator {
-    Equal,
-    NotEqual,
-    Less,
-    LessOrEqual,
-    Greater,
-    GreaterOrEqual,
 }
 
 /// A number or a text that a query writes out.
@@ -151,17 +133,6 @@ impl Step {
         ensures { result ≡ is_any_step self.now }
     {
         self.axis.goes_to_children() && self.test.takes_any() && self.predicates.is_empty()
-    }
-}
-
-impl Axis {
-    pub(crate) fn goes_to_children(self) -> bool
-        ensures { result ≡ goes_to_children self }
-    {
-        match self {
-            Axis::Child => true,
-            Axis::Attribute => false,
-        }
     }
 }
 

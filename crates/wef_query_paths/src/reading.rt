@@ -1,22 +1,23 @@
 //! Reading a path: token by token, until the text ends or a token can't follow.
 
 ghost use Rattle.std.specs.Prelude.{◌≡◌, ◌<◌, length, IfErr};
+ghost use Rattle.wef_query_tokens.specs.Reads.{Reads};
 ghost use Rattle.wef_query_paths.specs.Faults.{IsFault};
 ghost use Rattle.wef_query_paths.specs.Paths.{path_of};
 ghost use Rattle.wef_query_paths.specs.Reading.{depth_behind, start, taken};
-ghost use Rattle.wef_query_paths.specs.Reads.{Gives, Reads, ReadsOn, SaysPath};
+ghost use Rattle.wef_query_paths.specs.Reads.{Gives, ReadsOn, SaysPath};
 ghost use Rattle.wef_query_paths.specs.Stops.{GoesOn, fault_at, path_from, path_or_fault, place};
 ghost use Rattle.wef_query_paths.specs.Turns.{finished};
 
 use crate::conditions::Levels;
-use crate::faults::{Failure, FaultKind, Halt, PathFault, Stop};
+use crate::faults::{Failure, FaultKind, PathFault, Stop};
 use crate::path::Path;
 use crate::steps::Place;
 use crate::stops::{failure_of, fault_at, kind_at, place, stop_at};
-use crate::tokens::{Token, behind_spaces, token_at};
 use crate::turns::Next;
 use std::alloc::Global;
 use wef_base::Text;
+use wef_query_tokens::{Halt, Token, behind_spaces, token_at};
 
 /// How many brackets may be open at once.
 pub(crate) const GREATEST_DEPTH: usize = 32;

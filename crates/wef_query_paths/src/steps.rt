@@ -1,19 +1,19 @@
 //! Steps of a path that is being read, and the place where it stands.
 
 ghost use Rattle.std.specs.Prelude.{◌≡◌, Some, IfOk};
+ghost use Rattle.wef_query_tokens.specs.Reads.{Reads};
 ghost use Rattle.wef_query_paths.specs.declared.turns.Next.TheVariants.{BehindStep};
 ghost use Rattle.wef_query_paths.specs.Levels.{is_whole, with_predicate, with_step};
-ghost use Rattle.wef_query_paths.specs.Reads.{Reads, Turns};
+ghost use Rattle.wef_query_paths.specs.Reads.{Turns};
 ghost use Rattle.wef_query_paths.specs.Turns.{before_predicate, before_step, before_test, behind_count, behind_path, behind_slash, behind_step, name_test, whole_path};
 
 use crate::conditions::{Level, Levels, before_unit};
-use crate::faults::Halt;
-use crate::path::{Axis, Literal, NameTest, Path, Predicate, Step, Value};
-use crate::tokens::Token;
+use crate::path::{Literal, NameTest, Path, Predicate, Step, Value};
 use crate::turns::Next;
 use crate::values::{Side, before_comma};
 use std::alloc::{AllocError, Global};
 use wef_base::List;
+use wef_query_tokens::{Axis, Halt, Token};
 
 /// Where a path stands.
 pub enum Place {

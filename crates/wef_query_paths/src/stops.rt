@@ -5,9 +5,9 @@ ghost use Rattle.wef_query_paths.specs.Faults.{is_foreign, is_foreign_sign, is_f
 ghost use Rattle.wef_query_paths.specs.Fronts.{begins_path, is_behind_attribute};
 ghost use Rattle.wef_query_paths.specs.Stops.{bracket_stop, failure_of, fault_at, kind_at, kind_where, place, stop, stop_at};
 
-use crate::faults::{Failure, FaultKind, Halt, PathFault, Stop};
+use crate::faults::{Failure, FaultKind, PathFault, Stop};
 use crate::reading::{GREATEST_DEPTH, Reader};
-use crate::tokens::{Token, is_name_start};
+use wef_query_tokens::{Halt, Token, is_name_start};
 
 impl Stop {
     pub(crate) fn new(kind: FaultKind, left: usize) -> Stop

@@ -1,22 +1,22 @@
 //! What may come next in a path, and what a token makes of it.
 
 ghost use Rattle.std.specs.Prelude.{◌≡◌};
+ghost use Rattle.wef_query_tokens.specs.Reads.{Reads};
 ghost use Rattle.wef_query_paths.specs.Fronts.{begins_path, is_behind_attribute, is_named_call};
-ghost use Rattle.wef_query_paths.specs.Reads.{Reads, Turns};
+ghost use Rattle.wef_query_paths.specs.Reads.{Turns};
 ghost use Rattle.wef_query_paths.specs.Turns.{ended, turn};
 
 use crate::conditions::{Levels, before_unit, behind_unit};
-use crate::faults::Halt;
-use crate::path::{Axis, Literal, Operator, Path, Step, Unit, Value};
+use crate::path::{Literal, Path, Step, Unit, Value};
 use crate::steps::{
     Place, before_predicate, before_step, before_test, behind_count, behind_step, whole_path,
 };
-use crate::tokens::Token;
 use crate::values::{
     Side, before_literal, before_mask, before_value, behind_band, behind_literal, behind_mask,
     behind_position, in_position,
 };
 use std::alloc::Global;
+use wef_query_tokens::{Axis, Halt, Operator, Token};
 
 /// What may come next, with what is read of the innermost path or unit.
 pub enum Next {

@@ -1,16 +1,16 @@
 //! Values that are being read, and the side of a comparison on which they stand.
 
 ghost use Rattle.std.specs.Prelude.{◌≡◌};
-ghost use Rattle.wef_query_paths.specs.Reads.{Reads, Turns};
+ghost use Rattle.wef_query_tokens.specs.Reads.{Reads};
+ghost use Rattle.wef_query_paths.specs.Reads.{Turns};
 ghost use Rattle.wef_query_paths.specs.Turns.{before_comma, before_literal, before_mask, before_value, behind_alone, behind_band, behind_left, behind_literal, behind_mask, behind_position, behind_value, in_position, is_position, may_be_position};
 
 use crate::conditions::{Levels, behind_unit};
-use crate::faults::Halt;
-use crate::path::{Literal, Operator, Path, Unit, Value};
+use crate::path::{Literal, Path, Unit, Value};
 use crate::steps::{Place, before_step};
-use crate::tokens::Token;
 use crate::turns::Next;
 use std::alloc::Global;
+use wef_query_tokens::{Halt, Operator, Token};
 
 /// The side of a comparison on which a value stands.
 pub enum Side {

@@ -3,10 +3,10 @@ use Rattle.std.specs.Prelude.{ℕ, ◌==◌, Bool, false, not, List, ℤ, pos, n
 use Rattle.std.specs.Option.{option_and_then, option_map_or}
 use Rattle.wef_base.specs.Names.{same, trimmed_characters}
 use Rattle.wef_times.specs.Instants.{instant_at}
+use Rattle.wef_query_tokens.specs.declared.operator.Operator.{Operator}
+use Rattle.wef_query_tokens.specs.declared.operator.Operator.TheVariants.{Equal, NotEqual}
 use Rattle.wef_query_paths.specs.declared.path.Literal.{Literal}
 use Rattle.wef_query_paths.specs.declared.path.Literal.TheVariants.{Number, Quoted}
-use Rattle.wef_query_paths.specs.declared.path.Operator.{Operator}
-use Rattle.wef_query_paths.specs.declared.path.Operator.TheVariants.{Equal, NotEqual}
 use Rattle.wef_query_values.specs.Numbers.{number_of}
 use Rattle.wef_query_values.specs.Operators.{both_hold, holds}
 use Rattle.wef_query_values.specs.Places.{Place, text_at}

@@ -4,7 +4,7 @@ use Rattle.std.specs.Option.{ok_or}
 use Rattle.std.specs.Str.{IsUtf8}
 use Rattle.wef_base.specs.declared.names.ValueFault.TheVariants.{NotAMoment}
 use Rattle.wef_times.specs.Instants.{instant_in}
-use Rattle.wef_query_paths.specs.declared.path.Operator.{Operator}
+use Rattle.wef_query_tokens.specs.declared.operator.Operator.{Operator}
 use Rattle.wef_query_values.specs.Comparisons.{instant_of_text}
 use Rattle.wef_query_values.specs.Operators.{holds, mirrored}
 

@@ -1,8 +1,8 @@
 -- How values compare with each other (XPath 1.0, 3.4).
 use Rattle.std.specs.Prelude.{Bool, false, not, ℤ, int_lt, int_le, Option, Some, None}
 use Rattle.std.specs.Ordering.{int_eq}
-use Rattle.wef_query_paths.specs.declared.path.Operator.{Operator}
-use Rattle.wef_query_paths.specs.declared.path.Operator.TheVariants.{Equal, NotEqual, Less, LessOrEqual, Greater, GreaterOrEqual}
+use Rattle.wef_query_tokens.specs.declared.operator.Operator.{Operator}
+use Rattle.wef_query_tokens.specs.declared.operator.Operator.TheVariants.{Equal, NotEqual, Less, LessOrEqual, Greater, GreaterOrEqual}
 
 -- whether one number is to another as an operator says
 abbrev pub holds : Operator → ℤ → ℤ → Bool

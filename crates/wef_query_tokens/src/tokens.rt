@@ -3,13 +3,13 @@
 ghost use Rattle.std.specs.Prelude.{◌≡◌, IfOk};
 ghost use Rattle.std.specs.Option.{option_map};
 ghost use Rattle.wef_base.specs.Names.{without_start};
-ghost use Rattle.wef_query_paths.specs.Allows.{is_position_call};
-ghost use Rattle.wef_query_paths.specs.Fronts.{is_call};
-ghost use Rattle.wef_query_paths.specs.Reads.{Reads, ReadsFront};
-ghost use Rattle.wef_query_paths.specs.Tokens.{axis_at, axis_named, before_colon, behind_zero, call_named, decimal_digit, decimal_tail, hexadecimal, hexadecimal_tail, if_equals, is_joint, is_name_char, is_name_start, mark, name_tail, named, number_from, one_more, other_at, quoted, quoted_tail, sign_at, slash_at, token_at, token_from, unequal, whole, with_front, word_at};
+ghost use Rattle.wef_query_tokens.specs.Calls.{is_position_call, is_call};
+ghost use Rattle.wef_query_tokens.specs.Reads.{Reads, ReadsFront};
+ghost use Rattle.wef_query_tokens.specs.Tokens.{axis_at, axis_named, before_colon, behind_zero, call_named, decimal_digit, decimal_tail, hexadecimal, hexadecimal_tail, if_equals, is_joint, is_name_char, is_name_start, mark, name_tail, named, number_from, one_more, other_at, quoted, quoted_tail, sign_at, slash_at, token_at, token_from, unequal, whole, with_front, word_at};
 
-use crate::faults::Halt;
-use crate::path::{Axis, Operator};
+use crate::axis::Axis;
+use crate::halt::Halt;
+use crate::operator::Operator;
 use std::alloc::{AllocError, Global};
 use wef_base::Text;
 use wef_base::names::is_xml_space;
@@ -44,7 +44,7 @@ pub enum Token {
 
 impl Token {
     /// Whether it is a function's name before its `(`.
-    pub(crate) fn is_call(&self) -> bool
+    pub fn is_call(&self) -> bool
         ensures { result ≡ is_call self.now }
     {
         match self {
@@ -53,7 +53,7 @@ impl Token {
         }
     }
 
-    pub(crate) fn is_position_call(&self) -> bool
+    pub fn is_position_call(&self) -> bool
         ensures { result ≡ is_position_call self.now }
     {
         match self {
@@ -64,7 +64,7 @@ impl Token {
 }
 
 /// A text without the spaces that it begins with.
-pub(crate) fn behind_spaces(text: &[char]) -> &[char]
+pub fn behind_spaces(text: &[char]) -> &[char]
     ensures { result.now ≡ without_start text.now }
 {
     let mut rest = text;
@@ -78,7 +78,7 @@ pub(crate) fn behind_spaces(text: &[char]) -> &[char]
 }
 
 /// The token that a text begins with, and what is left.
-pub(crate) fn token_at(alloc: Global, text: &[char]) -> Result<(Token, &[char]), Halt>
+pub fn token_at(alloc: Global, text: &[char]) -> Result<(Token, &[char]), Halt>
     ensures { ReadsFront result (token_at text.now) }
 {
     match text {
@@ -109,7 +109,7 @@ fn other_at(alloc: Global, character: char, rest: &[char]) -> Result<(Token, &[c
     sign_at(character, rest)
 }
 
-pub(crate) fn is_name_start(character: char) -> bool
+pub fn is_name_start(character: char) -> bool
     ensures { result ≡ is_name_start character }
 {
     matches!(character, 'A'..='Z' | 'a'..='z' | '_' | '\u{80}'..)

@@ -2,13 +2,13 @@
 use Rattle.std.proofs.Common.{◌≡◌, ℕ, zero, suc, ◌≤◌, ◌<◌, ◌++◌, ◌==◌, Bool, true, false, ◌||◌, if◌then◌else◌, List, [], ◌∷◌, length, codes, encode_utf8, Option, Some, None, refl, ap, ◌∙◌, subst, arith}
 use Rattle.std.specs.Option.{option_map, option_and_then}
 use Rattle.wef_base.specs.Names.{is_space, same, without_start}
-use Rattle.wef_query_paths.specs.declared.path.Axis.TheVariants.{Child, Attribute}
-use Rattle.wef_query_paths.specs.declared.path.Operator.{Operator}
-use Rattle.wef_query_paths.specs.declared.path.Operator.TheVariants.{NotEqual, Less, LessOrEqual, Greater, GreaterOrEqual}
-use Rattle.wef_query_paths.specs.declared.tokens.Token.{Token}
-use Rattle.wef_query_paths.specs.declared.tokens.Token.TheVariants.{Along, Word, Joint, Slash, Compare, Figure, Quote}
-use Rattle.wef_query_paths.specs.Laws.{IsTokenByToken}
-use Rattle.wef_query_paths.specs.Tokens.{axis_at, axis_named, before, before_colon, behind_zero, call_named, decimal_digit, decimal_tail, hexadecimal, hexadecimal_tail, if_equals, is_joint, is_name_char, is_name_start, mark, name_tail, named, number_from, one_more, other_at, quoted, quoted_tail, sign_at, slash_at, token_at, token_from, tokens_in, tokens_within, unequal, whole, with_front, word_at}
+use Rattle.wef_query_tokens.specs.declared.axis.Axis.TheVariants.{Child, Attribute}
+use Rattle.wef_query_tokens.specs.declared.operator.Operator.{Operator}
+use Rattle.wef_query_tokens.specs.declared.operator.Operator.TheVariants.{NotEqual, Less, LessOrEqual, Greater, GreaterOrEqual}
+use Rattle.wef_query_tokens.specs.declared.tokens.Token.{Token}
+use Rattle.wef_query_tokens.specs.declared.tokens.Token.TheVariants.{Along, Word, Joint, Slash, Compare, Figure, Quote}
+use Rattle.wef_query_tokens.specs.Laws.{IsTokenByToken}
+use Rattle.wef_query_tokens.specs.Tokens.{axis_at, axis_named, before, before_colon, behind_zero, call_named, decimal_digit, decimal_tail, hexadecimal, hexadecimal_tail, if_equals, is_joint, is_name_char, is_name_start, mark, name_tail, named, number_from, one_more, other_at, quoted, quoted_tail, sign_at, slash_at, token_at, token_from, tokens_in, tokens_within, unequal, whole, with_front, word_at}
 
 -- what is left behind what was read, if anything, is such a text
 abbrev pub Leaves : {A : Type 0} → (List ℕ → Type 0) → Option (A × List ℕ) → Type 0

@@ -1,5 +1,0 @@
-use Rattle.wef_query_paths.proofs.Shorter.{token_by_token}
-use Rattle.wef_query_paths.proofs.laws.tokens_follow_each_other.Goals as goal
-
-pub returns : goal.returns
-returns c = token_by_token

@@ -1,0 +1,5 @@
+pub mod Calls
+pub mod Laws
+pub mod Reads
+pub mod Steps
+pub mod Tokens
