@@ -49,21 +49,21 @@ use Rattle.wef_source.specs.declared.messages.Delivery.{Delivery}
 use Rattle.wef_source.specs.declared.messages.Reply as answer
 use Rattle.wef_source.specs.declared.messages.Reply.TheVariants as replies
 use Rattle.wef_xml.specs.Good.{IsXmlText}
+use Rattle.wef_places.proofs.Settled.{Goes, WantsNothing, answered_settles, called_of, leaves, settled_seen, told_by}
+use Rattle.wef_places.specs.Collected.{collector_of}
+use Rattle.wef_places.specs.Places.{CameTo, IsPlanned, called_at, end_in, fate_by, is_used_up, keeper_in, running_with, seen, settled}
+use Rattle.wef_places.specs.declared.places.Called.{Called}
+use Rattle.wef_places.specs.declared.places.Called.TheVariants.{Done, Broken, Refused}
+use Rattle.wef_places.specs.declared.places.Place.{Place}
+use Rattle.wef_places.specs.declared.places.Place.TheVariants.{Running, Closed}
+use Rattle.wef_places.specs.declared.places.Placed.{Placed}
+use Rattle.wef_places.specs.declared.places.Used.{Used}
+use Rattle.wef_places.specs.declared.places.Used.TheVariants.{Answered}
 use Rattle.wef_world.proofs.Said.{replied_is}
-use Rattle.wef_world.proofs.Settled.{Goes, WantsNothing, answered_settles, called_of, leaves, settled_seen, told_by}
 use Rattle.wef_world.proofs.Takings.{batch_came, batch_left, delivery_makes}
 use Rattle.wef_world.specs.Answered.{IsSaidToBatch, IsWritten, Leads, answer_word, asked_at, fault_word, heard_of, message_in, name_or_none, reply_in, taken_by, target_of}
 use Rattle.wef_world.specs.Bytes.{AreReply, Replied}
-use Rattle.wef_world.specs.Collected.{collector_of}
 use Rattle.wef_world.specs.Outcomes.{answered_batch, drawn_for, events_left, events_of, outcome_word, reply_to, sent_by}
-use Rattle.wef_world.specs.Places.{CameTo, IsPlanned, called_at, end_in, fate_by, is_used_up, keeper_in, running_with, seen, settled}
-use Rattle.wef_world.specs.declared.places.Called.{Called}
-use Rattle.wef_world.specs.declared.places.Called.TheVariants.{Done, Broken, Refused}
-use Rattle.wef_world.specs.declared.places.Place.{Place}
-use Rattle.wef_world.specs.declared.places.Place.TheVariants.{Running, Closed}
-use Rattle.wef_world.specs.declared.places.Placed.{Placed}
-use Rattle.wef_world.specs.declared.places.Used.{Used}
-use Rattle.wef_world.specs.declared.places.Used.TheVariants.{Answered}
 
 -- ---- what is heard
 

@@ -23,14 +23,14 @@ use Rattle.wef_source.specs.Machine.{End}
 use Rattle.wef_source.specs.Sessions.{session_of}
 use Rattle.wef_source.specs.declared.messages.Delivery.{Delivery}
 use Rattle.wef_source.specs.declared.sessions.Session.{Session}
+use Rattle.wef_places.specs.Places.{UsedAs}
+use Rattle.wef_places.specs.Polls.{CanBeAskedAs, CanBeSentAs}
+use Rattle.wef_places.specs.Slots.{AsksAs, AsksBy, PollsAs, PollsIn}
+use Rattle.wef_places.specs.declared.places.Used.{Used}
+use Rattle.wef_places.specs.declared.places.Used.TheVariants.{Closed, Answered}
+use Rattle.wef_places.specs.declared.slots.Polled.{Polled}
+use Rattle.wef_places.specs.declared.slots.Polled.TheVariants as polled
 use Rattle.wef_world.specs.Answered.{CanOffer, Leads}
-use Rattle.wef_world.specs.Places.{UsedAs}
-use Rattle.wef_world.specs.Polls.{CanBeAskedAs, CanBeSentAs}
-use Rattle.wef_world.specs.Slots.{AsksAs, AsksBy, PollsAs, PollsIn}
-use Rattle.wef_world.specs.declared.places.Used.{Used}
-use Rattle.wef_world.specs.declared.places.Used.TheVariants.{Closed, Answered}
-use Rattle.wef_world.specs.declared.slots.Polled.{Polled}
-use Rattle.wef_world.specs.declared.slots.Polled.TheVariants as polled
 
 -- the address of a delivery that is on its way leads to a subscription and a source
 pub delivery_leads : (before now : State) (k : ℕ) (s : List ℕ) (delivery : Delivery) → message_at before k ≡ Some (Events s delivery) → before ≡ now → IsKept now → Leads delivery

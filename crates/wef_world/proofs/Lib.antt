@@ -1,17 +1,9 @@
 pub mod Answered
 pub mod Asked
-pub mod Calmed
-pub mod CollectorCalls
 pub mod Delivered
-pub mod Heard
 pub mod Kept
 pub mod LastNumbers
-pub mod Lent
-pub mod Opened
 pub mod Ready
 pub mod Said
-pub mod Settled
 pub mod Takings
 pub mod Used
-pub mod Windowed
-pub mod Written

@@ -7,7 +7,7 @@ use Rattle.wef_machine.proofs.SourceSteps.{opened_kept}
 use Rattle.wef_machine.specs.Kept.{IsKept}
 use Rattle.wef_machine.specs.Sources.{slot_opened}
 use Rattle.wef_machine.specs.States.{Slot, State, slot_of}
-use Rattle.wef_world.specs.Slots.{IsFormedAt, IsReady}
+use Rattle.wef_places.specs.Slots.{IsFormedAt, IsReady}
 
 -- the rows of a source that is declared are of their form
 pub slot_formed : (state : State) (s : List ℕ) (slot : Slot) → IsKept state → Some slot ≡ slot_of state s → AreFormed slot.place.rows

@@ -33,12 +33,12 @@ use Rattle.wef_machine.specs.declared.messages.Message.{Message}
 use Rattle.wef_machine.specs.declared.messages.Message.TheVariants as sent
 use Rattle.wef_source.specs.declared.messages.Delivery.{Delivery}
 use Rattle.wef_source.specs.declared.messages.Reply.TheVariants as replies
+use Rattle.wef_places.specs.Places.{CalledAs, CameTo, UsedAs, called_at, called_where_runs}
+use Rattle.wef_places.specs.declared.places.Called.{Called}
+use Rattle.wef_places.specs.declared.places.Called.TheVariants.{Done, Broken, Refused}
+use Rattle.wef_places.specs.declared.places.Used.{Used}
+use Rattle.wef_places.specs.declared.places.Used.TheVariants.{Closed, Answered}
 use Rattle.wef_world.specs.Outcomes.{answer_for, answered_batch, asked_by, asked_left, asked_left_by, asked_of, batch_fault, drawn_for, events_by, events_left, events_left_by, events_of, outcome_word, reply_to, sent_by, with_told, word_for}
-use Rattle.wef_world.specs.Places.{CalledAs, CameTo, UsedAs, called_at, called_where_runs}
-use Rattle.wef_world.specs.declared.places.Called.{Called}
-use Rattle.wef_world.specs.declared.places.Called.TheVariants.{Done, Broken, Refused}
-use Rattle.wef_world.specs.declared.places.Used.{Used}
-use Rattle.wef_world.specs.declared.places.Used.TheVariants.{Closed, Answered}
 
 -- ---- asks
 

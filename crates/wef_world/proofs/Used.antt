@@ -26,15 +26,15 @@ use Rattle.wef_machine.specs.States.{Slot, Slots, State, next_number as next_mes
 use Rattle.wef_machine.specs.declared.arming.Fate as the_fate
 use Rattle.wef_machine.specs.declared.arming.Fate.TheVariants as fates
 use Rattle.wef_machine.specs.declared.messages.Message.TheVariants.{Ask, Events}
-use Rattle.wef_world.specs.Places.{CalledAs, UsedAs}
-use Rattle.wef_world.specs.Polls.{asked_line, polled_line, with_asked, with_polled}
-use Rattle.wef_world.specs.Slots.{AsksAs, AsksBy, LosesAs, PollsAs, PollsIn, Uses, WritesAs, changed_where_runs, given_by, given_to, slot_changed, slot_wrote, word_at, word_by, word_where_runs, written_by, written_line, written_where_runs}
-use Rattle.wef_world.specs.declared.places.Called.{Called}
-use Rattle.wef_world.specs.declared.places.Called.TheVariants.{Done, Broken, Refused}
-use Rattle.wef_world.specs.declared.places.Used.{Used}
-use Rattle.wef_world.specs.declared.places.Used.TheVariants.{Closed, Answered}
-use Rattle.wef_world.specs.declared.slots.Polled.{Polled}
-use Rattle.wef_world.specs.declared.slots.Polled.TheVariants as polled
+use Rattle.wef_places.specs.Places.{CalledAs, UsedAs}
+use Rattle.wef_places.specs.Polls.{asked_line, polled_line, with_asked, with_polled}
+use Rattle.wef_places.specs.Slots.{AsksAs, AsksBy, LosesAs, PollsAs, PollsIn, Uses, WritesAs, changed_where_runs, given_by, given_to, slot_changed, slot_wrote, word_at, word_by, word_where_runs, written_by, written_line, written_where_runs}
+use Rattle.wef_places.specs.declared.places.Called.{Called}
+use Rattle.wef_places.specs.declared.places.Called.TheVariants.{Done, Broken, Refused}
+use Rattle.wef_places.specs.declared.places.Used.{Used}
+use Rattle.wef_places.specs.declared.places.Used.TheVariants.{Closed, Answered}
+use Rattle.wef_places.specs.declared.slots.Polled.{Polled}
+use Rattle.wef_places.specs.declared.slots.Polled.TheVariants as polled
 
 -- what is left of a line that is done, by another name for it
 pub done_as : {X E A : Type 0} (result : Result X E) (after did named : A) → did ≡ named → OnOk result (after ≡ did) → OnOk result (after ≡ named)

@@ -1,27 +1,14 @@
 -- How what models hold is coded.
-use Rattle.std.specs.Prelude.{ℕ, List, Option, refl}
-use Rattle.std.specs.Coded.{Coded, code_by, coded_list, coded_option, coded_ℕ, coded×}
-use Rattle.std.specs.FinMap as map
+use Rattle.std.specs.Prelude.{ℕ, List, refl}
+use Rattle.std.specs.Coded.{Coded, code_by, coded_list, coded_ℕ, coded×}
 use Rattle.wef_eventing.specs.contracts.offers.Offer as offer
 use Rattle.wef_eventing.specs.declared.offers.Offer.{Offer}
 use Rattle.wef_front.specs.Sending.{Wish}
-use Rattle.wef_keeper.specs.Rows.{Rows}
-use Rattle.wef_keeper.specs.contracts.keys.Cell as cell
-use Rattle.wef_keeper.specs.contracts.keys.Key as key
 use Rattle.wef_ids.specs.contracts.MessageId as message_id
 use Rattle.wef_ids.specs.declared.MessageId.{MessageId}
-use Rattle.wef_machine.specs.Places.{Place}
-use Rattle.wef_machine.specs.contracts.arming.Armed as one_armed
-use Rattle.wef_machine.specs.declared.arming.Armed.{Armed}
 use Rattle.wef_source.specs.contracts.messages.Reply as answer
 use Rattle.wef_source.specs.declared.messages.Reply.{Reply}
 use Rattle.wef_world.specs.Bytes.{Answered, Replied}
-
--- where an end is, by a code of what it remembers
-abbrev pub coded_place : {M : Type 0} → Coded M → Coded (Place M)
-coded_place {M} memory = code_by (Rows × (Option M × Option Armed))
-    (coded× (map.code key.the_row.coded cell.the_row.coded) (coded× (coded_option memory) (coded_option one_armed.the_row.coded)))
-    (λ p. (p.rows, (p.memory, p.armed))) (λ t. record { rows = t.0; memory = t.1.0; armed = t.1.1 }) (λ _. refl)
 
 -- what a wish for subscriptions says
 abbrev pub coded_wish : Coded Wish

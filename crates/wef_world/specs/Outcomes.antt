@@ -21,12 +21,12 @@ use Rattle.wef_machine.specs.declared.messages.Message.TheVariants as sent
 use Rattle.wef_source.specs.declared.messages.Delivery.{Delivery}
 use Rattle.wef_source.specs.declared.messages.Reply.{Reply}
 use Rattle.wef_source.specs.declared.messages.Reply.TheVariants as replies
+use Rattle.wef_places.specs.declared.places.Called.{Called}
+use Rattle.wef_places.specs.declared.places.Called.TheVariants.{Done, Broken, Refused}
+use Rattle.wef_places.specs.declared.places.Used.{Used}
+use Rattle.wef_places.specs.declared.places.Used.TheVariants.{Closed, Answered}
 use Rattle.wef_world.specs.Messages.{reply_message}
 use Rattle.wef_world.specs.declared.deliveries.Taken.{Taken}
-use Rattle.wef_world.specs.declared.places.Called.{Called}
-use Rattle.wef_world.specs.declared.places.Called.TheVariants.{Done, Broken, Refused}
-use Rattle.wef_world.specs.declared.places.Used.{Used}
-use Rattle.wef_world.specs.declared.places.Used.TheVariants.{Closed, Answered}
 
 -- the fault that answers a batch which the collector refuses
 abbrev pub batch_fault : the_fault.CollectorFault → FaultName

@@ -18,25 +18,20 @@ ghost use Rattle.wef_base.specs.declared.tree.Charset.TheVariants.{Utf8};
 ghost use Rattle.wef_front.specs.Replies.{IsAnswer};
 ghost use Rattle.wef_front.specs.Sending.{CanBeSent};
 ghost use Rattle.wef_keeper.specs.Keeping.{raised};
+ghost use Rattle.wef_places.specs.Collected.{collector_of};
+ghost use Rattle.wef_places.specs.Counted as counts;
+ghost use Rattle.wef_places.specs.Places as places;
+ghost use Rattle.wef_places.specs.Slots as slots;
 ghost use Rattle.wef_world.specs.Answered as answered;
 ghost use Rattle.wef_world.specs.Bytes.{AreOffers, answered as answered_in};
-ghost use Rattle.wef_world.specs.Collected.{collector_of};
-ghost use Rattle.wef_world.specs.Counted as counts;
 ghost use Rattle.wef_world.specs.Messages.{offers_message};
 ghost use Rattle.wef_world.specs.Outcomes as outcomes;
-ghost use Rattle.wef_world.specs.Places as places;
-ghost use Rattle.wef_world.specs.Slots as slots;
 
-use crate::answers::Answers;
-use crate::collecting::{self, Call, CollectorPlace};
 use crate::ends::Ends;
-use crate::faults::WorldFault;
 use crate::messages::{Content, DeliveryBytes, OffersBytes, ReplyBytes, Sent, WishBytes, host};
-use crate::places::{Called, Used};
 use crate::printing::{
     adopted_word, answered_line, fate_word, fault_answer, no_message_line, took_line,
 };
-use crate::sources::Sources;
 use std::alloc::{AllocError, Global};
 use wef_base::{Bytes, Charset, Moment, SourceName, SubId, Text};
 use wef_batch::Batch;
@@ -46,6 +41,10 @@ use wef_front::{Answer, Hears, Target, read_reply};
 use wef_ids::{FaultName, MessageId};
 use wef_keeper::{Keeper, MemKeeper};
 use wef_machine::Fate;
+use wef_places::collecting::{self, Call, CollectorPlace};
+use wef_places::places::{Called, Used};
+use wef_places::sources::Sources;
+use wef_places::{Answers, WorldFault};
 use wef_source::Reply;
 
 /// What became of a batch that was given to the collector.

@@ -8,20 +8,14 @@ ghost use Rattle.wef_machine.specs.States as states;
 ghost use Rattle.wef_machine.specs.Steps as steps;
 ghost use Rattle.wef_batch.specs.Numbers.{AreNumbered};
 ghost use Rattle.wef_collector_rows.specs.Forms.{AreFormed};
-ghost use Rattle.wef_world.specs.Collected as collected;
-ghost use Rattle.wef_world.specs.Counted.{counted, hears_by};
-ghost use Rattle.wef_world.specs.Made as made;
+ghost use Rattle.wef_places.specs.Collected as collected;
+ghost use Rattle.wef_places.specs.Counted.{counted, hears_by};
+ghost use Rattle.wef_places.specs.Made as made;
 ghost use Rattle.wef_replay.specs.Good.{allows, has_end, is_among};
 
-use crate::answers::Answers;
-use crate::collecting::{self, Call, CollectorPlace};
 use crate::deliveries::{outcome_word, take_batch};
-use crate::faults::WorldFault;
 use crate::messages::Sent;
-use crate::places::{Called, Placed, Used};
 use crate::printing::{batch_line, fate_line, held_text, name_line};
-use crate::slots::Capacity;
-use crate::sources::Sources;
 use std::alloc::{AllocError, Global};
 use std::collections::BTreeSet;
 use std::marker::Model;
@@ -30,6 +24,11 @@ use wef_batch::Batch;
 use wef_collector::CollectorFault;
 use wef_eventing::{SubKind, Subscription};
 use wef_machine::Armed;
+use wef_places::collecting::{self, Call, CollectorPlace};
+use wef_places::places::{Called, Placed, Used};
+use wef_places::slots::Capacity;
+use wef_places::sources::Sources;
+use wef_places::{Answers, WorldFault};
 use wef_query::QueryList;
 use wef_replay::{EndName, Line, is_line};
 
@@ -58,8 +57,8 @@ impl Model for Ends {
     ghost use Rattle.wef_machine.specs.States.{Collector, Slots, State};
     ghost use Rattle.wef_machine.specs.contracts.messages.Message as message;
     ghost use Rattle.wef_machine.specs.declared.messages.Message.{Message};
-    ghost use Rattle.wef_world.specs.Codes.{coded_place};
-    ghost use Rattle.wef_world.specs.contracts.slots.Slot as slot;
+    ghost use Rattle.wef_places.specs.Codes.{coded_place};
+    ghost use Rattle.wef_places.specs.contracts.slots.Slot as slot;
 
     ghost Value = { State };
 
@@ -69,7 +68,7 @@ impl Model for Ends {
         (λ s. ((s.collector, s.foreign), (s.sources, (s.messages, s.moment))))
         (λ p. record { collector = p.0.0; foreign = p.0.1; sources = p.1.0; messages = p.1.1.0; moment = p.1.1.1 }) (λ _. refl) };
 
-    ghost use Rattle.wef_world.specs.Collected.{collector_of};
+    ghost use Rattle.wef_places.specs.Collected.{collector_of};
 
     ghost view = { λ w. record { collector = collector_of w.collector; foreign = w.foreign.keys; sources = w.sources; messages = w.messages; moment = w.moment } };
 }

@@ -7,21 +7,21 @@ ghost use Rattle.wef_machine.specs.Kept.{IsKept};
 ghost use Rattle.wef_machine.specs.Sources as steps;
 ghost use Rattle.wef_machine.specs.States as states;
 ghost use Rattle.wef_machine.specs.declared.messages.Message.TheVariants.{Ask, Events};
-ghost use Rattle.wef_world.specs.Polls as polls;
-ghost use Rattle.wef_world.specs.Slots as slots;
+ghost use Rattle.wef_places.specs.Polls as polls;
+ghost use Rattle.wef_places.specs.Slots as slots;
 
 use crate::ends::Ends;
-use crate::faults::WorldFault;
 use crate::messages::{Content, DeliveryBytes, Sent, WishBytes};
-use crate::places::{Called, Used};
 use crate::printing::{
     fate_line, name_line, pair_line, sent_ask_line, sent_events_line, wrote_line,
 };
-use crate::slots::{Capacity, Polled, Slot};
 use std::alloc::AllocError;
 use wef_base::{SourceName, SubId, Text};
 use wef_event::{Event, PlainEvent};
 use wef_ids::MessageId;
+use wef_places::WorldFault;
+use wef_places::places::{Called, Used};
+use wef_places::slots::{Capacity, Polled, Slot};
 use wef_source::{Delivery, SourceFault};
 
 impl Ends {

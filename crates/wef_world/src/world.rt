@@ -4,15 +4,14 @@ ghost use Rattle.std.specs.Prelude.{◌≡◌, ◌++◌, true, OnOk, OnErr};
 ghost use Rattle.wef_machine.specs.Kept.{IsKept};
 ghost use Rattle.wef_machine.specs.States as states;
 ghost use Rattle.wef_machine.specs.Steps as steps;
-ghost use Rattle.wef_world.specs.Counted.{counted, hears_by};
+ghost use Rattle.wef_places.specs.Counted.{counted, hears_by};
 
-use crate::answers::Answers;
 use crate::ends::Ends;
-use crate::faults::WorldFault;
 use std::alloc::Global;
 use std::marker::Model;
 use std::mem;
 use wef_base::Bytes;
+use wef_places::{Answers, WorldFault};
 use wef_replay::Line;
 
 /// What a world holds: a collector and sources, at a moment, and all messages that they ever sent each

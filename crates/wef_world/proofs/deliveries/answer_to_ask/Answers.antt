@@ -4,8 +4,8 @@ use Rattle.wef_front.specs.Heard.{Hears}
 use Rattle.wef_front.specs.Replies.{IsAnswer}
 use Rattle.wef_front.specs.declared.hearing.Heard.{Heard}
 use Rattle.wef_http_heads.specs.declared.targets.Target.TheVariants.{Manager}
+use Rattle.wef_places.proofs.Settled.{told_by}
 use Rattle.wef_world.proofs.Asked.{ask_answered, wish_heard, wish_heard_is}
-use Rattle.wef_world.proofs.Settled.{told_by}
 use Rattle.wef_world.proofs.deliveries.answer_to_ask.Goals as goal
 
 pub returns-clause-ids : goal.returns-clause-ids

@@ -4,8 +4,8 @@ use Rattle.wef_front.specs.Heard.{Hears}
 use Rattle.wef_front.specs.Replies.{IsAnswer}
 use Rattle.wef_front.specs.declared.hearing.Heard.{Heard}
 use Rattle.wef_http_heads.specs.declared.targets.Target.{Target}
+use Rattle.wef_places.proofs.Settled.{told_by}
 use Rattle.wef_world.proofs.Answered.{heard_is}
-use Rattle.wef_world.proofs.Settled.{told_by}
 use Rattle.wef_world.proofs.deliveries.answer_to_delivery.Goals as goal
 use Rattle.wef_world.specs.Answered.{heard_of, target_of}
 

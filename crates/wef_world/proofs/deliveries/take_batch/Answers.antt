@@ -2,12 +2,12 @@ use Rattle.std.proofs.Common.{sym, subst, ◌∙◌}
 use Rattle.wef_ids.specs.declared.FaultName.{FaultName}
 use Rattle.wef_machine.specs.Collecting.{collector_opened, collector_opening}
 use Rattle.wef_machine.specs.Deliveries.{batch_effect}
+use Rattle.wef_places.specs.Collected.{collector_of}
+use Rattle.wef_places.specs.Places.{CameTo}
+use Rattle.wef_places.specs.declared.places.Called.{Called}
+use Rattle.wef_places.specs.declared.places.Used.{Used}
 use Rattle.wef_world.proofs.Takings.{batch_came, batch_left}
 use Rattle.wef_world.proofs.deliveries.take_batch.Goals as goal
-use Rattle.wef_world.specs.Collected.{collector_of}
-use Rattle.wef_world.specs.Places.{CameTo}
-use Rattle.wef_world.specs.declared.places.Called.{Called}
-use Rattle.wef_world.specs.declared.places.Used.{Used}
 
 pub returns-clause-collector : goal.returns-clause-collector
 returns-clause-collector c =

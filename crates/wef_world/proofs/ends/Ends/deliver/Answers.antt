@@ -7,6 +7,7 @@ use Rattle.wef_machine.specs.Sources.{at_source}
 use Rattle.wef_machine.specs.States.{Slots, State, next_number, slot_of, with_collector}
 use Rattle.wef_machine.specs.declared.messages.Message.{Message}
 use Rattle.wef_machine.specs.declared.messages.Message.TheVariants as sent
+use Rattle.wef_places.specs.Slots.{after_told, told_word}
 use Rattle.wef_world.proofs.Delivered.{delivers, delivers_reply, delivers_reply_text, delivers_text}
 use Rattle.wef_world.proofs.Kept.{ask_can_be_answered, delivery_leads}
 use Rattle.wef_world.proofs.Takings.{asked_state, asked_text, events_state, events_text}
@@ -14,7 +15,6 @@ use Rattle.wef_world.proofs.Used.{done_as, given_state, given_text, said_as, whe
 use Rattle.wef_world.proofs.ends.Ends.deliver.Goals as goal
 use Rattle.wef_world.specs.Messages.{IsOf, message_of}
 use Rattle.wef_world.specs.Outcomes.{with_told}
-use Rattle.wef_world.specs.Slots.{after_told, told_word}
 use Rattle.wef_world.specs.contracts.ends.Ends.{the_view}
 
 -- the message of a number among those that a slice has

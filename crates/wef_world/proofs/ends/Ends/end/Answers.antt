@@ -5,9 +5,9 @@ use Rattle.wef_machine.specs.Collecting.{print_at_collector}
 use Rattle.wef_machine.specs.Printed.{name_line}
 use Rattle.wef_machine.specs.States.{State}
 use Rattle.wef_machine.specs.Steps.{closed_line, end_refused, end_text, end_text_by}
-use Rattle.wef_world.proofs.CollectorCalls.{called_prints}
+use Rattle.wef_places.proofs.CollectorCalls.{called_prints}
+use Rattle.wef_places.specs.Collected.{ended_text}
 use Rattle.wef_world.proofs.ends.Ends.end.Goals as goal
-use Rattle.wef_world.specs.Collected.{ended_text}
 use Rattle.wef_world.specs.contracts.ends.Ends.{the_view}
 
 pub returns-clause-printed : goal.returns-clause-printed

@@ -6,9 +6,9 @@ use Rattle.wef_machine.specs.Collecting.{print_at_collector}
 use Rattle.wef_machine.specs.Printed.{name_line}
 use Rattle.wef_machine.specs.States.{State}
 use Rattle.wef_machine.specs.Steps.{closed_line, subscribe_refused, subscribe_text_by}
-use Rattle.wef_world.proofs.CollectorCalls.{called_prints}
+use Rattle.wef_places.proofs.CollectorCalls.{called_prints}
+use Rattle.wef_places.specs.Collected.{added_text}
 use Rattle.wef_world.proofs.ends.Ends.subscribe.Goals as goal
-use Rattle.wef_world.specs.Collected.{added_text}
 use Rattle.wef_world.specs.contracts.ends.Ends.{the_view}
 
 pub returns-clause-printed : goal.returns-clause-printed

@@ -1,0 +1,9 @@
+pub mod Codes
+pub mod Collected
+pub mod Counted
+pub mod Made
+pub mod Places
+pub mod Polls
+pub mod Recorded
+pub mod Slots
+pub mod Sourced
