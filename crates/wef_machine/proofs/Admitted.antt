@@ -14,10 +14,10 @@ use Rattle.wef_keeper.specs.Calls.{Effect}
 use Rattle.wef_collector.specs.Calls.{add_effect, end_effect}
 use Rattle.wef_ids.specs.declared.ids.Ids.{Ids}
 use Rattle.wef_query.specs.Order.{with_name}
+use Rattle.wef_replay_values.specs.declared.end_name.EndName.{EndName}
+use Rattle.wef_replay_values.specs.declared.end_name.EndName.TheVariants as ends
 use Rattle.wef_replay.specs.Alike.{AreAlike}
 use Rattle.wef_replay.specs.Good.{AreGood, Names, allows, has_end, is_among, is_line, no_names, noted}
-use Rattle.wef_replay.specs.declared.lines.EndName.{EndName}
-use Rattle.wef_replay.specs.declared.lines.EndName.TheVariants as ends
 use Rattle.wef_replay.specs.declared.lines.Line.{Line}
 use Rattle.wef_replay.specs.declared.lines.Line.TheVariants.{Subscribe, End, Batch, Source, Write, WriteXml, Ask, Poll, Deliver, Back, Lost, Crash, Fail, Stop, Calm, Show, Print}
 use Rattle.wef_source.specs.Machine as machine

@@ -32,8 +32,8 @@ use Rattle.wef_keeper.specs.Calls.{Effect}
 use Rattle.wef_keeper.specs.Rows.{Rows, applied, key_cmp_total}
 use Rattle.wef_keeper.specs.declared.keys.Cell.{Cell}
 use Rattle.wef_keeper.specs.declared.keys.Change.{Change}
-use Rattle.wef_replay.specs.declared.lines.EndName.{EndName}
-use Rattle.wef_replay.specs.declared.lines.EndName.TheVariants as ends
+use Rattle.wef_replay_values.specs.declared.end_name.EndName.{EndName}
+use Rattle.wef_replay_values.specs.declared.end_name.EndName.TheVariants as ends
 use Rattle.wef_replay.specs.declared.lines.Line.{Line}
 use Rattle.wef_replay.specs.declared.lines.Line.TheVariants.{Subscribe, End, Batch, Source, Write, WriteXml, Ask, Poll, Deliver, Back, Lost, Crash, Fail, Stop, Calm, Show, Print}
 use Rattle.wef_source.specs.Machine as machine

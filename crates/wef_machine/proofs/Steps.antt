@@ -18,11 +18,11 @@ use Rattle.wef_event.specs.Unnumbered.{new_event}
 use Rattle.wef_eventing.specs.declared.subscriptions.Subscription.{Subscription}
 use Rattle.wef_keeper.specs.Rows.{key_cmp}
 use Rattle.wef_keeper.specs.declared.keys.Cell.{Cell}
+use Rattle.wef_replay_values.specs.declared.end_name.EndName.{EndName}
+use Rattle.wef_replay_values.specs.declared.end_name.EndName.TheVariants as ends
 use Rattle.wef_replay.specs.Good.{are_queries, are_limits, is_among, is_between, is_line, is_no_collector, is_source, is_subscription}
 use Rattle.wef_replay.specs.declared.lines.Line.{Line}
 use Rattle.wef_replay.specs.declared.lines.Line.TheVariants.{Subscribe, End, Batch, Source, Write, WriteXml, Ask, Poll, Deliver, Back, Lost, Crash, Fail, Stop, Calm, Show, Print}
-use Rattle.wef_replay.specs.declared.lines.EndName.{EndName}
-use Rattle.wef_replay.specs.declared.lines.EndName.TheVariants as ends
 use Rattle.wef_source_log.specs.Histories.{history}
 use Rattle.wef_source_log.specs.Keys.{boot_key}
 use Rattle.wef_source_log.specs.Windows.{IsWindow, boot_of}

@@ -6,9 +6,9 @@ use Rattle.std.specs.Prelude.{None, codes, not}
 use Rattle.std.proofs.lemmas.Bool.Decides.{nat_tests}
 use Rattle.wef_base.specs.Names.{same}
 use Rattle.wef_base.specs.Words.{parts}
+use Rattle.wef_replay_values.specs.Values.{joined}
 use Rattle.wef_replay.specs.BatchWords.{dropped_word, event_word, if_word, is_nothing, long_word, word_of}
 use Rattle.wef_replay.specs.Pieces.{dropped_in, event_in, is_colon}
-use Rattle.wef_replay.specs.Values.{joined}
 use Rattle.wef_replay.proofs.Cuts.{has_first}
 
 -- ---- a text and its parts

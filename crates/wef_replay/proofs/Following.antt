@@ -3,12 +3,12 @@ use Rattle.std.proofs.Common.{◌≡◌, ℕ, ◌+◌, Bool, not, ◌&&◌, ◌|
 use Rattle.std.specs.Prelude.{Option, Some, None, is_some}
 use Rattle.std.specs.Option.{option_and_then, option_flatten}
 use Rattle.wef_base.specs.Names.{same}
+use Rattle.wef_replay_values.specs.declared.end_name.EndName.{EndName}
+use Rattle.wef_replay_values.specs.declared.end_name.EndName.TheVariants as end
 use Rattle.wef_replay.specs.Alike.{AreAlike}
 use Rattle.wef_replay.specs.Good.{Names, allows, has_end, noted}
 use Rattle.wef_replay.specs.Grammar.{meaning}
 use Rattle.wef_replay.specs.Schedule.{first_bad, if_allowed, lines_of, meaning_after, noted_if_some, with_line}
-use Rattle.wef_replay.specs.declared.lines.EndName.{EndName}
-use Rattle.wef_replay.specs.declared.lines.EndName.TheVariants as end
 use Rattle.wef_replay.specs.declared.lines.Line.{Line}
 use Rattle.wef_replay.specs.declared.lines.Line.TheVariants.{Subscribe, End, Batch, Source, Write, WriteXml, Ask, Poll, Deliver, Back, Lost, Show, Print, Crash, Fail, Stop, Calm}
 

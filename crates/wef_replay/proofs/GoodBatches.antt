@@ -23,10 +23,10 @@ use Rattle.wef_base.specs.Characters.{is_xml_text}
 use Rattle.wef_event.specs.PlainEvent.{plain_event, plain_text}
 use Rattle.wef_event.specs.Events.{Event, is_event}
 use Rattle.wef_event.proofs.PlainTrees.{plain_is_read}
+use Rattle.wef_replay_values.specs.Values.{channel_word, joined, number_word}
 use Rattle.wef_replay.specs.BatchWords.{added, batch_word, data_word, dropped_word, empty_batch, event_word, if_word, if_xml_text, IsWithin, is_nothing, loose_word, reach_word, read_words, spelled, word_of}
 use Rattle.wef_replay.specs.Good.{are_words, has_word, is_channel, is_count, is_item, is_number, is_one, is_reach}
 use Rattle.wef_replay.specs.PlainEvents.{IsPlainItem}
-use Rattle.wef_replay.specs.Values.{channel_word, joined, number_word}
 use Rattle.wef_replay.specs.declared.batches.BatchWord.{BatchWord}
 use Rattle.wef_replay.specs.declared.batches.BatchWord.TheVariants.{Item, Reach, Ack}
 use Rattle.wef_replay.proofs.Cuts.{HasFirst, has_first}

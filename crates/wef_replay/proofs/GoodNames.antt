@@ -14,8 +14,8 @@ use Rattle.wef_base.specs.Words.{decoded, utf8}
 use Rattle.wef_base.specs.declared.names.Letters.{Letters}
 use Rattle.wef_base.specs.declared.names.Letters.TheVariants.{Kept, Small}
 use Rattle.wef_base.proofs.Kept.{name_kept, scalars-map_spelt, scalars-without_end, scalars-without_start}
+use Rattle.wef_replay_values.specs.Values.{channel_word, sending_source_word, source_word, subscription_word, unless_collector}
 use Rattle.wef_replay.specs.Good.{is_channel, is_no_collector, is_one, is_source, is_subscription}
-use Rattle.wef_replay.specs.Values.{channel_word, sending_source_word, source_word, subscription_word, unless_collector}
 use Rattle.wef_replay.proofs.Gifts.{AllOf, all_of-then}
 
 -- ---- a name is a text

@@ -5,8 +5,8 @@ use Rattle.std.proofs.lemmas.Bool.{and_from, and_parts}
 use Rattle.std.proofs.lemmas.Bool.Decides.{nat_tests}
 use Rattle.wef_base.specs.Numbers.{has_leading_zero, is_numeral, number_within, plain_number, value_from}
 use Rattle.wef_base.specs.declared.numbers.TheConstants.{MAX}
+use Rattle.wef_replay_values.specs.Values.{at_least, number_word}
 use Rattle.wef_replay.specs.Good.{is_between, is_count, is_number}
-use Rattle.wef_replay.specs.Values.{at_least, number_word}
 use Rattle.wef_replay.proofs.Gifts.{AllOf, all_of-if, all_of-tested, all_of-then}
 
 within_greatest : (greatest : ℕ) (word : List ℕ) → AllOf (λ n. nat_le n greatest ≡ true) (plain_number greatest word)

@@ -28,9 +28,9 @@ use Rattle.wef_tree_reading.proofs.GoodTrees.{spells_good}
 use Rattle.wef_tree_reading.proofs.Readings.{has_no_fault}
 use Rattle.wef_tree_reading.specs.Documents.{tree_of}
 use Rattle.wef_xml.specs.Good.{AreGoodNodes, IsGoodElement, IsGoodNode, IsGoodTree}
+use Rattle.wef_replay_values.specs.Reading.{Refuses, event_line_fault}
 use Rattle.wef_replay.specs.Documents.{is_new_event, new_event_in}
 use Rattle.wef_replay.specs.Good.{is_channel, may_be_written}
-use Rattle.wef_replay.specs.Reading.{Refuses, event_line_fault}
 use Rattle.wef_replay.proofs.Gifts.{AllOf}
 use Rattle.wef_replay.proofs.GoodNames.{kept_is_one}
 

@@ -16,7 +16,7 @@ use Rattle.wef_batch.specs.declared.items.Batch as batch
 use Rattle.wef_batch.specs.declared.items.Item.TheVariants as item
 use Rattle.wef_base.specs.Characters.{is_xml_text}
 use Rattle.wef_event.specs.PlainEvent.{plain_event}
-use Rattle.wef_replay.specs.Values.{channel_word, joined, number_word}
+use Rattle.wef_replay_values.specs.Values.{channel_word, joined, number_word}
 use Rattle.wef_replay.specs.declared.batches.BatchWord.{BatchWord}
 use Rattle.wef_replay.specs.declared.batches.BatchWord.TheVariants.{Item, Reach, Ack}
 

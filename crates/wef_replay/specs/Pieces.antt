@@ -9,16 +9,16 @@ use Rattle.wef_base.specs.declared.numbers.TheConstants.{MAX}
 use Rattle.wef_batch.specs.declared.items.Item.TheVariants as item
 use Rattle.wef_event.specs.PlainEvent.{plain_event}
 use Rattle.wef_event.specs.Unnumbered.{plain_numbered}
+use Rattle.wef_replay_values.specs.Reading.{Refuses}
+use Rattle.wef_replay_values.specs.Values.{channel_word, number_word}
+use Rattle.wef_replay_values.specs.declared.values.LineFault.{LineFault}
 use Rattle.wef_replay.specs.BatchWords.{dropped_word, if_word, if_xml_text, loose_word, reach_word}
-use Rattle.wef_replay.specs.Reading.{Refuses}
-use Rattle.wef_replay.specs.Values.{channel_word, number_word}
 use Rattle.wef_replay.specs.declared.batches.BatchWord.{BatchWord}
 use Rattle.wef_replay.specs.declared.batches.BatchWord.TheVariants.{Item, Ack}
 use Rattle.wef_replay.specs.declared.half_words.HalfWord.{HalfWord}
 use Rattle.wef_replay.specs.declared.half_words.HalfWord.TheVariants as half
 use Rattle.wef_replay.specs.declared.pieces.Pieces.{Pieces}
 use Rattle.wef_replay.specs.declared.pieces.Pieces.TheVariants.{One, Two, Three, Four}
-use Rattle.wef_replay.specs.declared.values.LineFault.{LineFault}
 
 abbrev pub is_colon : ℕ → Bool
 is_colon byte = byte == 58

@@ -3,7 +3,7 @@
 ghost use Rattle.std.specs.Prelude.{◌≡◌, [], is_some, IsTrue, IfOk, OnOk};
 ghost use Rattle.wef_base.specs.Characters.{is_xml_text};
 ghost use Rattle.wef_base.specs.Words.{parts};
-ghost use Rattle.wef_replay.specs.Reading.{Gives};
+ghost use Rattle.wef_replay_values.specs.Reading.{Gives};
 ghost use Rattle.wef_replay.specs.BatchWords.{empty_batch, added, batch_word, IsWithin, dropped_word, loose_word, reach_word, read_words};
 ghost use Rattle.wef_replay.specs.Pieces.{GivesHalf, data_in, dropped_in, event_in, said};
 
@@ -11,13 +11,13 @@ use crate::cutting::Parts;
 use crate::half_words::{HalfWord, NumberedEvent};
 use crate::last_channel::LastChannel;
 use crate::pieces::{Pieces, has_colon, pieces_of};
-use crate::values::{LineFault, number_in, spells, text_in};
 use std::alloc::{AllocError, Global};
 use wef_base::numbers::MAX;
 use wef_base::{ChannelName, List, Text, is_xml_text};
 use wef_batch::{Batch, Item};
 use wef_bookmark::Bookmark;
 use wef_event::PlainEvent;
+use wef_replay_values::values::{LineFault, number_in, spells, text_in};
 
 /// What one word of a batch says.
 #[derive(Drop)]

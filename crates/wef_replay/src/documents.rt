@@ -2,16 +2,16 @@
 
 ghost use Rattle.std.specs.Prelude.{◌≡◌, IfOk, IfSome};
 ghost use Rattle.wef_base.specs.declared.tree.Charset.TheVariants.{Utf8};
+ghost use Rattle.wef_replay_values.specs.Reading.{Gives};
 ghost use Rattle.wef_replay.specs.Documents as documents;
-ghost use Rattle.wef_replay.specs.Reading.{Gives};
 ghost use Rattle.wef_tree_reading.specs.Documents.{tree_of};
 ghost use Rattle.wef_xml.specs.Good.{IsGoodTree};
 
-use crate::values::LineFault;
 use std::alloc::{AllocError, Global};
 use wef_base::{Charset, Element, Text};
 use wef_event::{Event, read_new_event};
 use wef_query::{QueryFault, QueryList, read_query};
+use wef_replay_values::values::LineFault;
 use wef_tree_reading::read_tree;
 use wef_xml::TreeFault;
 

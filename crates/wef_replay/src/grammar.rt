@@ -3,26 +3,27 @@
 ghost use Rattle.std.specs.Option.{option_map};
 ghost use Rattle.std.specs.Prelude.{◌≡◌};
 ghost use Rattle.wef_base.specs.Words.{parts};
+ghost use Rattle.wef_replay_values.specs.Reading.{Gives};
+ghost use Rattle.wef_replay_values.specs.Values.{channel_words, joined};
 ghost use Rattle.wef_replay.specs.Grammar.{all_of, ask_line, back_line, batch_line, batch_of_source, calm_line, commit_words, crash_line, deliver_line, does_nothing, end_line, event_words, fail_line, failure_line_of, fitting_event, limit_words, line_of_words, lost_line, meaning, message_words, other_line, pair_words, poll_line, print_line, query_words, seen_words, show_line, source_line, source_line_of, stop_line, subscribe_line, write_line, write_xml_line, xml_event_words};
 ghost use Rattle.wef_replay.specs.Documents.{list_in};
 ghost use Rattle.wef_replay.specs.Parts.{parts_behind};
-ghost use Rattle.wef_replay.specs.Reading.{Gives};
-ghost use Rattle.wef_replay.specs.Values.{channel_words, joined};
 
 use crate::cutting::cut;
 use crate::documents::{list_in, new_event_in};
-use crate::lines::{EndName, Line};
+use crate::lines::Line;
 use crate::spelled::SpelledBatch;
-use crate::values::{
-    LineFault, after_of, channel_of, channels_of, end_of, is_word, joined, number_of,
-    sending_source_of, source_of, subscription_of, text_of, utf8_text_of,
-};
 use std::alloc::Global;
 use wef_base::numbers::MAX;
 use wef_base::words::{is_text, split};
 use wef_base::{Bytes, ChannelName, SourceName, SubId, Text, is_xml_text};
 use wef_event::{Event, PlainEvent};
 use wef_query::QueryList;
+use wef_replay_values::EndName;
+use wef_replay_values::values::{
+    LineFault, after_of, channel_of, channels_of, end_of, is_word, joined, number_of,
+    sending_source_of, source_of, subscription_of, text_of, utf8_text_of,
+};
 
 /// What a line does, if anything.
 pub fn read_line(alloc: Global, text: &[u8]) -> Result<Option<Line>, LineFault>

@@ -4,9 +4,9 @@ ghost use Rattle.std.specs.Prelude.{◌≡◌, ◌≤◌};
 ghost use Rattle.wef_base.specs.declared.numbers.TheConstants.{MAX};
 
 use crate::batches::BatchWord;
-use crate::values::LineFault;
 use wef_batch::Item;
 use wef_event::PlainEvent;
+use wef_replay_values::values::LineFault;
 
 /// What one word of a batch says, before its event is made.
 pub(crate) enum HalfWord {
@@ -34,8 +34,8 @@ pub(crate) struct NumberedEvent {
 
 impl HalfWord {
     ghost use Rattle.std.specs.Prelude.{is_some};
+    ghost use Rattle.wef_replay_values.specs.Reading.{Gives};
     ghost use Rattle.wef_replay.specs.Pieces.{whole};
-    ghost use Rattle.wef_replay.specs.Reading.{Gives};
 
     /// Whether the event fits, where the word says one.
     pub fn fits(&self) -> bool

@@ -7,11 +7,12 @@ ghost use Rattle.wef_base.specs.Characters.{is_xml_text};
 ghost use Rattle.wef_replay.specs.Documents.{is_new_event};
 ghost use Rattle.wef_replay.specs.Good.{are_limits, are_queries, fits_always, may_be_written, is_between, is_channel, is_count, is_end, is_line, is_no_collector, is_query, is_source, is_subscription};
 
-use crate::lines::{EndName, Line};
+use crate::lines::Line;
 use wef_base::numbers::MAX;
 use wef_base::{ChannelName, SourceName, SubId, Text, is_xml_char};
 use wef_event::{Event, PlainEvent};
 use wef_query::{QueryItem, QueryList};
+use wef_replay_values::EndName;
 
 /// Whether the values of a line are within the limits of a schedule, wherever the line stands. It
 /// takes no memory.

@@ -1,12 +1,12 @@
 //! Channels that words name again.
 
 ghost use Rattle.std.specs.Prelude.{◌≡◌, Some, IfOk, IfSome};
-ghost use Rattle.wef_replay.specs.Reading.{Gives};
-ghost use Rattle.wef_replay.specs.Values.{channel_word};
+ghost use Rattle.wef_replay_values.specs.Reading.{Gives};
+ghost use Rattle.wef_replay_values.specs.Values.{channel_word};
 
-use crate::values::{LineFault, channel_in};
 use std::alloc::{AllocError, Global};
 use wef_base::ChannelName;
+use wef_replay_values::values::{LineFault, channel_in};
 
 /// The channel that was read last, if any, and the word that named it. Where the next word is the
 /// same, its name is a copy.

@@ -14,10 +14,10 @@ mod naming;
 mod pieces;
 mod schedule;
 mod spelled;
-mod values;
 
 pub use documents::{list_in, tree_in};
 pub use judging_lines::is_line;
-pub use lines::{EndName, Line};
+pub use lines::Line;
 pub use schedule::{SCHEDULE_LIMIT, ScheduleFault, read_schedule};
 pub use spelled::SpelledBatch;
+pub use wef_replay_values::EndName;

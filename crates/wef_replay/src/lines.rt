@@ -4,16 +4,7 @@ use crate::spelled::SpelledBatch;
 use wef_base::{ChannelName, SourceName, SubId};
 use wef_event::{Event, PlainEvent};
 use wef_query::QueryList;
-
-/// One of the two kinds of ends.
-#[derive(Debug, Drop)]
-pub enum EndName {
-    /// The one collector.
-    Collector,
-
-    /// A source's end.
-    Source(SourceName),
-}
+use wef_replay_values::EndName;
 
 /// What one line of a schedule does. An empty line and a comment do nothing, and are no line here.
 #[derive(Debug)]

@@ -4,11 +4,12 @@ ghost use Rattle.std.specs.Prelude.{◌≡◌, OnOk};
 ghost use Rattle.wef_replay.specs.Good.{allows, has_end, is_among, no_names, noted};
 ghost use Rattle.wef_replay.specs.Alike.{AreAlike};
 
-use crate::lines::{EndName, Line};
+use crate::lines::Line;
 use std::alloc::{AllocError, Global};
 use std::collections::BTreeSet;
 use std::marker::Model;
 use wef_base::SourceName;
+use wef_replay_values::EndName;
 
 /// The names of sources that lines gave: each is looked up and kept in about log N comparisons.
 #[derive(Drop)]

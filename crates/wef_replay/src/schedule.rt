@@ -2,19 +2,19 @@
 
 ghost use Rattle.std.specs.List.{All};
 ghost use Rattle.std.specs.Prelude.{◌≡◌, IfOk};
+ghost use Rattle.wef_replay_values.specs.Reading.{Gives};
 ghost use Rattle.wef_replay.specs.Good.{AreGood, no_names};
 ghost use Rattle.wef_replay.specs.PlainEvents.{HasPlainEvents};
-ghost use Rattle.wef_replay.specs.Reading.{Gives};
 ghost use Rattle.wef_replay.specs.Schedule.{ReadsSchedule, meaning_after, schedule_of};
 
 use crate::cutting::Parts;
 use crate::grammar::read_line;
 use crate::lines::Line;
 use crate::naming::NamedSources;
-use crate::values::LineFault;
 use std::alloc::{AllocError, Global};
 use thiserror::Error;
 use wef_base::List;
+use wef_replay_values::values::LineFault;
 
 /// The greatest schedule, in bytes: 16 MiB.
 pub const SCHEDULE_LIMIT: usize = 16_777_216;

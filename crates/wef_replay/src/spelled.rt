@@ -2,16 +2,16 @@
 
 ghost use Rattle.std.specs.Prelude.{◌≡◌, IfOk};
 ghost use Rattle.wef_base.specs.Words.{parts};
+ghost use Rattle.wef_replay_values.specs.Reading.{Gives};
 ghost use Rattle.wef_replay.specs.BatchWords.{empty_batch, read_words};
 ghost use Rattle.wef_replay.specs.Good.{are_words};
-ghost use Rattle.wef_replay.specs.Reading.{Gives};
 
 use crate::batches::{batch_of, is_batch};
-use crate::values::LineFault;
 use std::alloc::{AllocError, Global};
 use std::marker::Model;
 use wef_base::Bytes;
 use wef_batch::Batch;
+use wef_replay_values::values::LineFault;
 
 /// The batch of a line. It is kept as the words that spell it, and its events are made only where
 /// the line is done: an event takes many times as much as its word.

@@ -2,9 +2,9 @@ use Rattle.std.proofs.Common.{◌≡◌, List, ℕ, ◌∷◌, ap, subst, sym, �
 use Rattle.std.specs.Borrow.{Bor}
 use Rattle.std.specs.Prelude.{Option}
 use Rattle.wef_base.specs.Words.{parts}
+use Rattle.wef_replay_values.specs.Reading.{Gives}
 use Rattle.wef_replay.specs.Grammar.{batch_line, batch_of_source}
 use Rattle.wef_replay.specs.Parts.{parts_behind}
-use Rattle.wef_replay.specs.Reading.{Gives}
 use Rattle.wef_replay.specs.declared.lines.Line.{Line}
 use Rattle.wef_replay.proofs.BatchLines.{more_words}
 use Rattle.wef_replay.proofs.grammar.batch_line_of.Goals as goal

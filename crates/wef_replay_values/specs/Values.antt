@@ -5,9 +5,9 @@ use Rattle.std.specs.Option.{option_and_then, option_map}
 use Rattle.wef_base.specs.Names.{channel_name, source_name, subscription_name, same}
 use Rattle.wef_base.specs.Numbers.{plain_number}
 use Rattle.wef_base.specs.Words.{decoded}
-use Rattle.wef_replay.specs.Reading.{with_first}
-use Rattle.wef_replay.specs.declared.lines.EndName.{EndName}
-use Rattle.wef_replay.specs.declared.lines.EndName.TheVariants as end
+use Rattle.wef_replay_values.specs.Reading.{with_first}
+use Rattle.wef_replay_values.specs.declared.end_name.EndName.{EndName}
+use Rattle.wef_replay_values.specs.declared.end_name.EndName.TheVariants as end
 
 -- a word and those that follow it, each behind the byte that separates them: the text that they were cut from
 abbrev pub joined : ℕ → List ℕ → List (List ℕ) → List ℕ

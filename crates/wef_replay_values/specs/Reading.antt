@@ -5,8 +5,8 @@ use Rattle.wef_base.specs.declared.names.ValueFault as value
 use Rattle.wef_base.specs.declared.names.ValueFault.TheVariants as values
 use Rattle.wef_event.specs.declared.records.EventFault as event
 use Rattle.wef_event.specs.declared.records.EventFault.TheVariants as events
-use Rattle.wef_replay.specs.declared.values.LineFault.{LineFault}
-use Rattle.wef_replay.specs.declared.values.LineFault.TheVariants.{NoMemory, NotUnderstood}
+use Rattle.wef_replay_values.specs.declared.values.LineFault.{LineFault}
+use Rattle.wef_replay_values.specs.declared.values.LineFault.TheVariants.{NoMemory, NotUnderstood}
 
 -- a fault of reading a value, as a fault of the line
 abbrev pub line_fault : value.ValueFault → LineFault

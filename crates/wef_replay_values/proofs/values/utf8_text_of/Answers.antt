@@ -1,7 +1,7 @@
 use Rattle.std.proofs.Common.{Bool, cond, ap, sym, ◌∙◌}
 use Rattle.std.specs.Prelude.{Some, None}
 use Rattle.wef_base.proofs.Utf8.{is_no_text, is_text}
-use Rattle.wef_replay.proofs.values.utf8_text_of.Goals as goal
+use Rattle.wef_replay_values.proofs.values.utf8_text_of.Goals as goal
 
 pub returns-in_ok-from_str-in-Ok : goal.returns-in_ok-from_str-in-Ok
 returns-in_ok-from_str-in-Ok c =

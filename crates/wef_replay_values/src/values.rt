@@ -4,10 +4,10 @@ ghost use Rattle.std.specs.Prelude.{◌≡◌, ◌<◌, ◌≤◌, IfOk};
 ghost use Rattle.wef_base.specs.Names.{same};
 ghost use Rattle.wef_base.specs.Words.{decoded, utf8};
 ghost use Rattle.wef_base.specs.declared.numbers.TheConstants.{MAX};
-ghost use Rattle.wef_replay.specs.Reading.{Gives};
-ghost use Rattle.wef_replay.specs.Values.{subscription_word, source_word, channel_word, sending_source_word, end_word, after_word, joined, number_word, channel_words};
+ghost use Rattle.wef_replay_values.specs.Reading.{Gives};
+ghost use Rattle.wef_replay_values.specs.Values.{subscription_word, source_word, channel_word, sending_source_word, end_word, after_word, joined, number_word, channel_words};
 
-use crate::lines::EndName;
+use crate::end_name::EndName;
 use std::alloc::{AllocError, Global};
 use thiserror::Error;
 use wef_base::numbers::read_plain_number;
@@ -27,7 +27,7 @@ pub enum LineFault {
 
 impl From<AllocError> for LineFault {
     ghost use Rattle.std.specs.Prelude.{◌≡◌};
-    ghost use Rattle.wef_replay.specs.declared.values.LineFault.TheVariants.{NoMemory};
+    ghost use Rattle.wef_replay_values.specs.declared.values.LineFault.TheVariants.{NoMemory};
 
     ghost from_gives = { λ _ e. e ≡ NoMemory };
 
@@ -38,7 +38,7 @@ impl From<AllocError> for LineFault {
 
 impl From<ValueFault> for LineFault {
     ghost use Rattle.std.specs.Prelude.{◌≡◌};
-    ghost use Rattle.wef_replay.specs.Reading.{line_fault};
+    ghost use Rattle.wef_replay_values.specs.Reading.{line_fault};
 
     ghost from_gives = { λ fault e. e ≡ line_fault fault };
 
@@ -52,7 +52,7 @@ impl From<ValueFault> for LineFault {
 
 impl From<EventFault> for LineFault {
     ghost use Rattle.std.specs.Prelude.{◌≡◌};
-    ghost use Rattle.wef_replay.specs.Reading.{event_line_fault};
+    ghost use Rattle.wef_replay_values.specs.Reading.{event_line_fault};
 
     ghost from_gives = { λ fault e. e ≡ event_line_fault fault };
 
