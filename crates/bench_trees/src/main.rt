@@ -7,8 +7,8 @@ ghost use Rattle.wef_xml.specs.Good.{IsGoodTree};
 use std::alloc::Global;
 use std::env;
 use std::io::{self, Read};
-use wef_base::{Charset, Element};
-use wef_tree::{TreeFault, read_tree, write_tree, write_tree_within};
+use wef_base::Charset;
+use wef_tree::{ToldTree, TreeFault, read_told_tree, write_told_tree, write_told_tree_within};
 
 /// The most bytes that an event's text has.
 const LIMIT: usize = 1_048_576;
@@ -19,9 +19,9 @@ fn main(rt: HostRuntime) -> io::Result<()> {
     rt.stdin().lock().read_to_end(&mut bytes)?;
     let writes = has_word(&rt, "write")?;
     let writes_within = has_word(&rt, "within")?;
-    let done = match read_tree(alloc, bytes.as_slice(), Charset::Utf8) {
-        Ok(root) if writes => written(alloc, &root),
-        Ok(root) if writes_within => written_within(alloc, &root),
+    let done = match read_told_tree(alloc, bytes.as_slice(), Charset::Utf8) {
+        Ok(tree) if writes => written(alloc, &tree),
+        Ok(tree) if writes_within => written_within(alloc, &tree),
         Ok(_) => Ok(0),
         Err(fault) => Err(fault),
     };
@@ -37,17 +37,17 @@ fn has_word(rt: &HostRuntime, wanted: &str) -> io::Result<bool> {
 }
 
 /// How many bytes the text of a tree has.
-fn written(alloc: Global, root: &Element) -> Result<usize, TreeFault>
-    requires { IsGoodTree root.now }
+fn written(alloc: Global, tree: &ToldTree) -> Result<usize, TreeFault>
+    requires { IsGoodTree tree.now }
 {
-    Ok(write_tree(alloc, root, Charset::Utf8)?.len())
+    Ok(write_told_tree(alloc, tree, Charset::Utf8)?.len())
 }
 
 /// How many bytes the text of a tree has, 0 where that are more than an event may have.
-fn written_within(alloc: Global, root: &Element) -> Result<usize, TreeFault>
-    requires { IsGoodTree root.now }
+fn written_within(alloc: Global, tree: &ToldTree) -> Result<usize, TreeFault>
+    requires { IsGoodTree tree.now }
 {
-    match write_tree_within(alloc, root, Charset::Utf8, LIMIT)? {
+    match write_told_tree_within(alloc, tree, Charset::Utf8, LIMIT)? {
         Some(bytes) => Ok(bytes.len()),
         None => Ok(0),
     }
