@@ -1,6 +1,6 @@
 -- The namespaces of a document's elements are declared in it: each good piece whose declarations have a property keeps
 -- what a builder has in it.
-use Rattle.std.proofs.Common.{◌≡◌, ℕ, ◌==◌, Bool, true, false, ◌&&◌, cond, List, [], ◌∷◌, ◌++◌, length, refl, sym, ◌∙◌, subst, arith}
+use Rattle.std.proofs.Common.{◌≡◌, ℕ, ◌==◌, Bool, true, false, ◌&&◌, cond, List, [], ◌∷◌, ◌++◌, length, sym, ◌∙◌, subst, arith}
 use Rattle.std.specs.Prelude.{Option, Some, None, IfSome, encode_utf8, is_some, not}
 use Rattle.std.specs.Option.{option_map, option_and_then, option_or}
 use Rattle.std.specs.Ordering.{eq_by_cmp, nat_cmp}
@@ -15,7 +15,7 @@ use Rattle.wef_base.specs.declared.tree.Node.TheVariants.{Element as Child}
 use Rattle.wef_xml.specs.Spaces.{is_empty, is_xml, xml_space}
 use Rattle.wef_xml.specs.Told.{AreNodesIn, IsElementIn, IsNodeIn}
 use Rattle.wef_xml.proofs.Apart.{child_in}
-use Rattle.wef_tree_reading.specs.Building.{element_of, ended, entered, flushed, has_room, is_outside, nothing, opened, opened_with, passed, placed, same_name, taken, with_child, with_letter, with_more, with_text}
+use Rattle.wef_tree_reading.specs.Building.{element_of, ended, entered, flushed, has_room, is_outside, opened, opened_with, passed, placed, same_name, taken, with_child, with_letter, with_more, with_text}
 use Rattle.wef_tree_reading.specs.Known.{AreDeclaredIn, AreGivensIn, AreOpensIn, IsBuilderIn, IsPieceIn, IsRootIn}
 use Rattle.wef_tree_reading.specs.Scopes.{Declared, attributes_by, declare_one, declared_by, declared_outside, declares, in_scope, may_declare, undeclared, with_declaration}
 use Rattle.wef_tree_reading.specs.declared.building.Builder.{Builder}
