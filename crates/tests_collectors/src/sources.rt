@@ -34,10 +34,7 @@ fn started(alloc: Global) -> Result<SourceEnd<MemKeeper>, AllocError> {
 }
 
 /// What the source has to send for the subscription `base`.
-pub fn push_next(
-    shown: &mut Text,
-    source: &mut SourceEnd<MemKeeper>,
-) -> Result<(), AllocError> {
+pub fn push_next(shown: &mut Text, source: &mut SourceEnd<MemKeeper>) -> Result<(), AllocError> {
     let sub = base(shown.alloc())?;
     match source.poll(&sub, Moment::first()) {
         Ok(Poll::Send(_)) => shown.push_str("; sends"),
