@@ -1,23 +1,25 @@
--- The namespaces of a document's elements are declared in it: each good piece whose declarations have a property keeps
--- what a builder has in it.
+-- The namespaces of a document's elements and attributes are declared in it: each good piece whose declarations have a
+-- property keeps what a builder has in it.
 use Rattle.std.proofs.Common.{◌≡◌, ℕ, ◌==◌, Bool, true, false, ◌&&◌, cond, List, [], ◌∷◌, ◌++◌, length, sym, ◌∙◌, subst, arith}
 use Rattle.std.specs.Prelude.{Option, Some, None, IfSome, encode_utf8, is_some, not}
 use Rattle.std.specs.Option.{option_map, option_and_then, option_or}
 use Rattle.std.specs.Ordering.{eq_by_cmp, nat_cmp}
 use Rattle.std.specs.Cmp.Lexicographic.{slice_cmp, nat_list_cmp_total}
+use Rattle.std.specs.List.{list_any}
 use Rattle.std.specs.FinMap as map
 use Rattle.std.proofs.lemmas.Bool.Decides.{nat_tests}
+use Rattle.std.proofs.lemmas.List.Elements.{All-nil, All-push}
 use Rattle.wef_base.specs.Names.{is_space}
 use Rattle.wef_base.specs.declared.tree.Attribute.{Attribute}
 use Rattle.wef_base.specs.declared.tree.Element.{Element}
 use Rattle.wef_base.specs.declared.tree.Node.{Node, Chars}
 use Rattle.wef_base.specs.declared.tree.Node.TheVariants.{Element as Child}
-use Rattle.wef_xml.specs.Spaces.{is_empty, is_xml, xml_space}
-use Rattle.wef_xml.specs.Told.{AreNodesIn, IsElementIn, IsNodeIn}
+use Rattle.wef_xml.specs.Spaces.{is_attribute, is_empty, is_xml, xml_space}
+use Rattle.wef_xml.specs.Told.{AreAttributesIn, AreNodesIn, IsElementIn, IsNodeIn}
 use Rattle.wef_xml.proofs.Apart.{child_in}
 use Rattle.wef_tree_reading.specs.Building.{element_of, ended, entered, flushed, has_room, is_outside, opened, opened_with, passed, placed, same_name, taken, with_child, with_letter, with_more, with_text}
 use Rattle.wef_tree_reading.specs.Known.{AreDeclaredIn, AreGivensIn, AreOpensIn, IsBuilderIn, IsPieceIn, IsRootIn}
-use Rattle.wef_tree_reading.specs.Scopes.{Declared, attributes_by, declare_one, declared_by, declared_outside, declares, in_scope, may_declare, undeclared, with_declaration}
+use Rattle.wef_tree_reading.specs.Scopes.{Declared, attribute_one, attribute_space, attributes_by, declare_one, declared_by, declared_outside, declares, in_scope, may_declare, undeclared, with_attribute, with_declaration}
 use Rattle.wef_tree_reading.specs.declared.building.Builder.{Builder}
 use Rattle.wef_tree_reading.specs.declared.names.Name.{Name}
 use Rattle.wef_tree_reading.specs.declared.pieces.Piece.{Piece}
@@ -59,7 +61,7 @@ module _ (P : List ℕ → Type 0) where
 
   outside_in : (os : List Open) (prefix space : List ℕ) → AreOpensIn P os → declared_outside os prefix ≡ Some space → P space
   outside_in [] prefix space opens e = absurd (none_some space e)
-  outside_in (o ∷ os) prefix space opens e = by (map.get o.declared prefix) (opens.0.1 prefix) (outside_in os prefix space opens.1) e
+  outside_in (o ∷ os) prefix space opens e = by (map.get o.declared prefix) (opens.0.2 prefix) (outside_in os prefix space opens.1) e
     where
       by :
           (found : Option (List ℕ)) → ((s : List ℕ) → found ≡ Some s → P s) → (declared_outside os prefix ≡ Some space → P space) →
@@ -83,6 +85,37 @@ module _ (P : List ℕ → Type 0) where
       by false None (Some s) first second e = second e
       by false None None first second e = subst P (some_is [] space (if_some (is_empty prefix) (Some []) space e).1) fixed.none
 
+  -- attributes
+
+  one_in : (before more : List Attribute) (g : Given) (space : List ℕ) → P space → AreAttributesIn P before → with_attribute before g space ≡ Some more → AreAttributesIn P more
+  one_in before more g space is all e =
+      let next : Attribute = record { space = space; name = g.name.local; value = g.value } in
+      let found = unless_some (list_any (is_attribute space g.name.local) before) (Some (before ++ next ∷ [])) more e in
+      subst (AreAttributesIn P) (some_is (before ++ next ∷ []) more found.1) (All-push (λ (a : Attribute). P a.space) before next all is)
+
+  attribute_in :
+      (own : Declared) (os : List Open) (before more : List Attribute) (g : Given) → AreOwnIn → AreDeclaredIn P own → AreOpensIn P os → AreAttributesIn P before →
+      attribute_one own os before g ≡ Some more → AreAttributesIn P more
+  attribute_in own os before more g fixed in_own opens all = by (is_some (declares g.name))
+    where
+      spaced : (b : Bool) (space : List ℕ) → cond b (Some []) (in_scope own os g.name.prefix) ≡ Some space → P space
+      spaced true space e = subst P (some_is [] space e) fixed.none
+      spaced false space e = scope_in own os g.name.prefix space fixed in_own opens e
+
+      by : (b : Bool) → cond b (Some before) (option_and_then (with_attribute before g) (attribute_space own os g.name.prefix)) ≡ Some more → AreAttributesIn P more
+      by true e = subst (AreAttributesIn P) (some_is before more e) all
+      by false e =
+          let found = and_then_some (with_attribute before g) (attribute_space own os g.name.prefix) more e in
+          one_in before more g found.0 (spaced (is_empty g.name.prefix) found.0 found.1) all found.2
+
+  attributes_in :
+      (own : Declared) (os : List Open) (given : List Given) (before all : List Attribute) → AreOwnIn → AreDeclaredIn P own → AreOpensIn P os → AreAttributesIn P before →
+      attributes_by own os before given ≡ Some all → AreAttributesIn P all
+  attributes_in own os [] before all fixed in_own opens is e = subst (AreAttributesIn P) (some_is before all e) is
+  attributes_in own os (g ∷ gs) before all fixed in_own opens is e =
+      let first = and_then_some (λ (more : List Attribute). attributes_by own os more gs) (attribute_one own os before g) all e in
+      attributes_in own os gs first.0 all fixed in_own opens (attribute_in own os before first.0 g fixed in_own opens is first.1) first.2
+
   -- children
 
   more_in : (ns : List Node) (n : Node) → AreNodesIn P ns → IsNodeIn P n → AreNodesIn P (ns ++ n ∷ [])
@@ -91,7 +124,7 @@ module _ (P : List ℕ → Type 0) where
 
   with_child_in : (n : Node) (os : List Open) → IsNodeIn P n → AreOpensIn P os → AreOpensIn P (with_child n os)
   with_child_in n [] is opens = tt
-  with_child_in n (o ∷ os) is opens = ((opens.0.0, opens.0.1, more_in o.children n opens.0.2 is), opens.1)
+  with_child_in n (o ∷ os) is opens = ((opens.0.0, opens.0.1, opens.0.2, more_in o.children n opens.0.3 is), opens.1)
 
   with_text_in : (text : List ℕ) (os : List Open) → AreOpensIn P os → AreOpensIn P (with_text text os)
   with_text_in text os opens = by (length text == 0)
@@ -120,7 +153,12 @@ module _ (P : List ℕ → Type 0) where
       let space = and_then_some (λ (s : List ℕ). option_map (with s) (attributes_by own.0 b.around [] tag.given)) (in_scope own.0 b.around tag.name.prefix) o own.2 in
       let attributes = map_some (with space.0) (attributes_by own.0 b.around [] tag.given) o space.2 in
       let Q : Open → Type 0 = λ x. AreOpensIn P (x ∷ []) in
-      subst Q attributes.2 ((scope_in own.0 b.around tag.name.prefix space.0 fixed spaces is.0 space.1, spaces, tt), tt)
+      subst Q attributes.2 ((
+        scope_in own.0 b.around tag.name.prefix space.0 fixed spaces is.0 space.1,
+        attributes_in own.0 b.around tag.given [] attributes.0 fixed spaces is.0 (All-nil (λ (a : Attribute). P a.space)) attributes.1,
+        spaces,
+        tt,
+      ), tt)
 
   begun_in : (b c : Builder) → IsBuilderIn P b → record b { begun = true } ≡ c → IsBuilderIn P c
   begun_in b c is e = subst (IsBuilderIn P) e is
@@ -141,14 +179,14 @@ module _ (P : List ℕ → Type 0) where
   entered_in b o is opens = ((opens.0, with_text_in b.text b.around is.0), is.1)
 
   passed_in : (b : Builder) (o : Open) → IsBuilderIn P b → AreOpensIn P (o ∷ []) → IsBuilderIn P (passed b o)
-  passed_in b o is opens = placed_in (element_of o) (flushed b) (flushed b).around (with_text_in b.text b.around is.0) is.1 (opens.0.0, opens.0.2)
+  passed_in b o is opens = placed_in (element_of o) (flushed b) (flushed b).around (with_text_in b.text b.around is.0) is.1 (opens.0.0, opens.0.1, opens.0.3)
 
   ended_in : (name : Name) (b : Builder) (os : List Open) (c : Builder) → AreOpensIn P os → IsRootIn P b.root → ended name b os ≡ Some c → IsBuilderIn P c
   ended_in name b [] c opens root e = absurd (none_some c e)
   ended_in name b (o ∷ os) c opens root e =
       let next = placed (element_of o) (record b { around = os }) in
       let found = if_some (same_name name o.name) (Some next) c e in
-      subst (IsBuilderIn P) (some_is next c found.1) (placed_in (element_of o) b os opens.1 root (opens.0.0, opens.0.2))
+      subst (IsBuilderIn P) (some_is next c found.1) (placed_in (element_of o) b os opens.1 root (opens.0.0, opens.0.1, opens.0.3))
 
   pub taken_in : (b c : Builder) (p : Piece) → P [] → P xml_space → IsBuilderIn P b → IsPieceIn P p → taken b p ≡ Some c → IsBuilderIn P c
   unfolding taken

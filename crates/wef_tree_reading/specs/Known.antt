@@ -5,7 +5,7 @@ use Rattle.std.specs.FinMap as map
 use Rattle.std.specs.Ordering.{nat_cmp}
 use Rattle.std.specs.Cmp.Lexicographic.{slice_cmp}
 use Rattle.wef_base.specs.declared.tree.Element.{Element}
-use Rattle.wef_xml.specs.Told.{AreNodesIn, IsElementIn, IsFound}
+use Rattle.wef_xml.specs.Told.{AreAttributesIn, AreNodesIn, IsElementIn, IsFound}
 use Rattle.wef_tree_reading.specs.Scopes.{Declared, declares}
 use Rattle.wef_tree_reading.specs.declared.building.Builder.{Builder}
 use Rattle.wef_tree_reading.specs.declared.known.Known.{Known}
@@ -46,7 +46,7 @@ AreDeclaredIn P own = (prefix space : List ℕ) → map.get own prefix ≡ Some 
 
 abbrev pub AreOpensIn : (List ℕ → Type 0) → List Open → Type 0
 AreOpensIn P [] = Unit {0}
-AreOpensIn P (o ∷ os) = (P o.space × AreDeclaredIn P o.declared × AreNodesIn P o.children) × AreOpensIn P os
+AreOpensIn P (o ∷ os) = (P o.space × AreAttributesIn P o.attributes × AreDeclaredIn P o.declared × AreNodesIn P o.children) × AreOpensIn P os
 
 abbrev pub IsRootIn : (List ℕ → Type 0) → Option Element → Type 0
 IsRootIn P None = Unit {0}

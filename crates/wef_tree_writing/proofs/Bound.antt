@@ -1,6 +1,7 @@
 -- What the prefixes of levels of bindings stand for.
-use Rattle.std.proofs.Common.{◌≡◌, ℕ, Bool, true, false, ◌||◌, cond, List, [], ◌∷◌, ◌++◌, ◌∙◌, refl, sym, ap}
+use Rattle.std.proofs.Common.{◌≡◌, ℕ, Bool, true, false, ◌&&◌, ◌||◌, cond, List, [], ◌∷◌, ◌++◌, ◌∙◌, refl, sym, ap}
 use Rattle.std.specs.Prelude.{Option, Some, None, is_some, reverse, if◌then◌else◌}
+use Rattle.std.specs.BTreeMap.{BTreeMap, get as got}
 use Rattle.std.specs.BTreeSet.{BTreeSet, contains}
 use Rattle.std.specs.Cmp.Lexicographic.{nat_list_cmp_total, nat_list_eq_equiv, slice_cmp, texts_ties}
 use Rattle.std.specs.FinMap.{get, insert, get-insert}
@@ -8,10 +9,11 @@ use Rattle.std.specs.List.{list_any}
 use Rattle.std.specs.Ordering.{eq_by_cmp, nat_cmp}
 use Rattle.std.proofs.lemmas.List.{reverse-append}
 use Rattle.std.proofs.lemmas.List.Folds.{list_any-append}
+use Rattle.wef_base.specs.Digests.{digest_of, is_long}
 use Rattle.wef_base.specs.Names.{same}
 use Rattle.wef_xml.specs.Prefixes.{bound_by, prefix_of, unless_bound}
 use Rattle.wef_xml.specs.declared.bindings.Binding.{Binding}
-use Rattle.wef_tree_writing.specs.Levels.{HasPrefixes, HasSpaces, HasTexts, Texts, bound_to, if_bound_to, innermost, is_space, prefix_around, unless_any_binds}
+use Rattle.wef_tree_writing.specs.Levels.{HasDigests, HasDigestsOf, HasPrefixes, HasSpaces, HasTexts, Texts, bound_to, has_digest, if_bound_to, innermost, innermost_long, is_space, prefix_around, unless_any_binds}
 
 -- bindings around which others are
 bound_onto : (inner rest bs : List Binding) → bound_by (inner ++ rest) bs ≡ bound_by inner bs ++ rest
@@ -116,6 +118,24 @@ spaces_with m bs b had prefix =
     inserted m b.prefix b.space prefix ∙ ap (λ o. cond (same b.prefix prefix) (Some b.space) o) (had prefix)
     ∙ ap (λ (all : List Binding). bound_to all prefix) (sym (bound_last [] bs b))
 
+-- what a map by digests, or a set of them, has once the digest of a long namespace is put in
+pub at_digest : {A : Type 0} (space key digest : List ℕ) → is_long space ≡ true → key ≡ digest_of space → (x y : A) →
+    cond (eq_by_cmp (slice_cmp nat_cmp) key digest) x y ≡ cond (has_digest digest space) x y
+at_digest space key digest long key_is x y =
+    ap (λ b. cond b x y) (sym (texts_ties key digest) ∙ ap (λ k. same k digest) key_is ∙ ap (λ b. b && same (digest_of space) digest) (sym long))
+
+-- of one that isn't long, nothing is put in
+pub at_none : {A : Type 0} (space digest : List ℕ) → is_long space ≡ false → (x y : A) → y ≡ cond (has_digest digest space) x y
+at_none space digest short x y = ap (λ b. cond (b && same (digest_of space) digest) x y) (sym short)
+
+pub digests_with :
+    (m more : BTreeMap (List ℕ) (List ℕ)) (bs : List Binding) (b : Binding) → HasDigests m (bound_by [] bs) →
+    ((digest : List ℕ) → got (slice_cmp nat_cmp) more digest ≡ cond (has_digest digest b.space) (Some b.prefix) (got (slice_cmp nat_cmp) m digest)) →
+    HasDigests more (bound_by [] (bs ++ b ∷ []))
+digests_with m more bs b had added digest =
+    added digest ∙ ap (λ o. cond (has_digest digest b.space) (Some b.prefix) o) (had digest)
+    ∙ ap (λ (all : List Binding). innermost_long all digest) (sym (bound_last [] bs b))
+
 last : (before this : Bool) → cond this true before ≡ (before || (this || false))
 last true true = refl
 last true false = refl
@@ -130,6 +150,15 @@ pub texts_with :
 texts_with set more texts text had added q =
     added q ∙ (λ i. cond (sym (nat_list_eq_equiv.symm q text ∙ texts_ties text q) i) true (had q i))
     ∙ last (list_any (same q) texts) (same q text) ∙ sym (list_any-append (same q) texts (text ∷ []))
+
+-- the digests of namespaces with one more
+pub digests_of_with :
+    (set more : BTreeSet (List ℕ)) (spaces : List (List ℕ)) (space : List ℕ) → HasDigestsOf set spaces →
+    ((digest : List ℕ) → contains (slice_cmp nat_cmp) more digest ≡ cond (has_digest digest space) true (contains (slice_cmp nat_cmp) set digest)) →
+    HasDigestsOf more (spaces ++ space ∷ [])
+digests_of_with set more spaces space had added digest =
+    added digest ∙ ap (λ b. cond (has_digest digest space) true b) (had digest)
+    ∙ last (list_any (has_digest digest) spaces) (has_digest digest space) ∙ sym (list_any-append (has_digest digest) spaces (space ∷ []))
 
 pub reverse_last : {A : Type 0} (xs : List A) (x : A) → reverse (xs ++ x ∷ []) ≡ x ∷ reverse xs
 reverse_last xs x = reverse-append xs (x ∷ [])

@@ -1,3 +1,4 @@
+pub mod Apart
 pub mod Bound
 pub mod Digits
 pub mod Numbering

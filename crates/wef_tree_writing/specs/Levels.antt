@@ -1,10 +1,12 @@
 -- Bindings by levels: a level has those that one element makes, in their order; the innermost level comes first.
-use Rattle.std.specs.Prelude.{◌≡◌, ℕ, Bool, false, is_some, List, [], ◌∷◌, Option, Some, None, if◌then◌else◌}
+use Rattle.std.specs.Prelude.{◌≡◌, ℕ, Bool, false, ◌&&◌, is_some, List, [], ◌∷◌, Option, Some, None, if◌then◌else◌}
 use Rattle.std.specs.Ordering.{nat_cmp}
 use Rattle.std.specs.Cmp.Lexicographic.{slice_cmp}
 use Rattle.std.specs.List.{list_any}
+use Rattle.std.specs.BTreeMap.{BTreeMap, get}
 use Rattle.std.specs.BTreeSet.{BTreeSet, contains}
 use Rattle.std.specs.FinMap as map
+use Rattle.wef_base.specs.Digests.{digest_of, is_long}
 use Rattle.wef_base.specs.Names.{same}
 use Rattle.wef_xml.specs.Prefixes.{bound_by, unless_bound}
 use Rattle.wef_xml.specs.declared.bindings.Binding.{Binding}
@@ -23,14 +25,27 @@ abbrev pub innermost : List Binding → List ℕ → Option (List ℕ)
 innermost [] space = None
 innermost (b ∷ bs) space = if same b.space space then Some b.prefix else innermost bs space
 
+-- whether a namespace is long, and has this digest
+abbrev pub has_digest : List ℕ → List ℕ → Bool
+has_digest digest space = is_long space && same (digest_of space) digest
+
+-- the prefix of the innermost binding of a long namespace with this digest
+abbrev pub innermost_long : List Binding → List ℕ → Option (List ℕ)
+innermost_long [] digest = None
+innermost_long (b ∷ bs) digest = if has_digest digest b.space then Some b.prefix else innermost_long bs digest
+
 -- the namespace that a prefix stands for
 abbrev pub bound_to : List Binding → List ℕ → Option (List ℕ)
 bound_to [] prefix = None
 bound_to (b ∷ bs) prefix = if same b.prefix prefix then Some b.space else bound_to bs prefix
 
--- A map has the innermost prefix of each namespace; another has what each prefix stands for.
+-- A map has the innermost prefix of each namespace; another has it of each long one, by its digest; a third has what each
+-- prefix stands for.
 abbrev pub HasPrefixes : Texts → List Binding → Type 0
 HasPrefixes prefixes bs = (space : List ℕ) → map.get prefixes space ≡ innermost bs space
+
+abbrev pub HasDigests : BTreeMap (List ℕ) (List ℕ) → List Binding → Type 0
+HasDigests digests bs = (digest : List ℕ) → get (slice_cmp nat_cmp) digests digest ≡ innermost_long bs digest
 
 abbrev pub HasSpaces : Texts → List Binding → Type 0
 HasSpaces spaces bs = (prefix : List ℕ) → map.get spaces prefix ≡ bound_to bs prefix
@@ -57,3 +72,7 @@ unless_any_binds bs (Some prefix) = if is_some (bound_to bs prefix) then None el
 -- a set holds these texts, and no other
 abbrev pub HasTexts : BTreeSet (List ℕ) → List (List ℕ) → Type 0
 HasTexts set texts = (text : List ℕ) → contains (slice_cmp nat_cmp) set text ≡ list_any (same text) texts
+
+-- a set holds the digests of the long ones among these namespaces, and no other
+abbrev pub HasDigestsOf : BTreeSet (List ℕ) → List (List ℕ) → Type 0
+HasDigestsOf set spaces = (digest : List ℕ) → contains (slice_cmp nat_cmp) set digest ≡ list_any (has_digest digest) spaces

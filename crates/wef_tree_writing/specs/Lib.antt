@@ -1,3 +1,4 @@
+pub mod Apart
 pub mod Levels
 pub mod Markup
 pub mod Marks

@@ -1,15 +1,22 @@
 //! Prefixes that a writer has bound to namespaces.
 
-ghost use Rattle.std.specs.Prelude.{◌≡◌, [], ◌∷◌, ◌++◌, drop, Some, MatchOption, IfOk, OnOk, if◌then◌else◌};
+ghost use Rattle.std.specs.Prelude.{◌≡◌, ℕ, List, true, [], ◌∷◌, ◌++◌, drop, Some, MatchOption, IfOk, OnOk, if◌then◌else◌};
+ghost use Rattle.std.specs.BTreeMap.{get};
+ghost use Rattle.std.specs.Cmp.Lexicographic.{slice_cmp};
 ghost use Rattle.std.specs.FinMap as map;
 ghost use Rattle.std.specs.Option.{option_copied};
+ghost use Rattle.std.specs.Ordering.{nat_cmp};
+ghost use Rattle.wef_base.specs.Digests.{digest_of, is_long};
 ghost use Rattle.wef_base.specs.Names.{same};
 ghost use Rattle.wef_xml.specs.Prefixes.{bound_by, prefix_of, unless_bound};
-ghost use Rattle.wef_tree_writing.specs.Levels.{all_of, if_bound_to, prefix_around, unless_any_binds};
+ghost use Rattle.wef_tree_writing.specs.Apart.{IsFoundAmong, IsToldAmong, IsToldIn};
+ghost use Rattle.wef_tree_writing.specs.Levels.{all_of, bound_to, has_digest, if_bound_to, innermost, innermost_long, prefix_around, unless_any_binds};
 
 use std::alloc::{AllocError, Global};
+use std::collections::BTreeMap;
 use std::marker::Model;
 use wef_base::{List, Namespace, Text};
+use wef_xml::told::is_same;
 use wef_xml::{Binding, Lookup};
 
 /// The bindings that one element makes, which contracts see in their order, each inside those before
@@ -19,8 +26,10 @@ pub struct Level {
     bindings: List<Binding>,
     /// The innermost prefix of each namespace.
     prefixes: Lookup<Text>,
+    /// The same of each long one, by its digest.
+    digests: BTreeMap<[u8; 32], Text>,
     /// What each prefix stands for.
-    spaces: Lookup<Text>,
+    spaces: Lookup<Namespace>,
 }
 
 impl Model for Level {
@@ -29,7 +38,7 @@ impl Model for Level {
     ghost use Rattle.wef_xml.specs.Prefixes.{bound_by};
     ghost use Rattle.wef_xml.specs.declared.bindings.Binding.{Binding};
     ghost use Rattle.wef_xml.specs.contracts.bindings.Binding as binding;
-    ghost use Rattle.wef_tree_writing.specs.Levels.{HasPrefixes, HasSpaces};
+    ghost use Rattle.wef_tree_writing.specs.Levels.{HasDigests, HasPrefixes, HasSpaces};
 
     ghost Value = { List Binding };
 
@@ -37,7 +46,7 @@ impl Model for Level {
 
     ghost view = { λ l. l.bindings };
 
-    ghost invariant = { λ l. HasPrefixes l.prefixes (bound_by [] l.bindings) × HasSpaces l.spaces (bound_by [] l.bindings) };
+    ghost invariant = { λ l. HasPrefixes l.prefixes (bound_by [] l.bindings) × HasDigests l.digests (bound_by [] l.bindings) × HasSpaces l.spaces (bound_by [] l.bindings) };
 }
 
 impl Level {
@@ -48,6 +57,7 @@ impl Level {
         Level {
             bindings: List::new(alloc),
             prefixes: Lookup::new(alloc),
+            digests: BTreeMap::new(alloc),
             spaces: Lookup::new(alloc),
         }
     }
@@ -70,37 +80,81 @@ impl Level {
         let Level {
             mut bindings,
             mut prefixes,
+            mut digests,
             mut spaces,
         } = self;
-        let space = binding.space.as_text();
-        bind(&mut prefixes, space, &binding.prefix)?;
-        bind(&mut spaces, &binding.prefix, space)?;
+        bind_text(&mut prefixes, &binding)?;
+        bind_digest(&mut digests, &binding)?;
+        bind_prefix(&mut spaces, &binding)?;
         bindings.push(binding)?;
         Ok(Level {
             bindings,
             prefixes,
+            digests,
             spaces,
         })
     }
 
-    /// The prefix of a namespace inside the level, where it has this one outside.
-    fn prefix_inside<'a>(&'a self, outside: Option<&'a Text>, space: &Namespace) -> Option<&'a Text>
+    /// The prefix of a namespace inside the level, where it has this one outside; `told`: it and those of
+    /// the level are told apart by their digests.
+    fn prefix_inside<'a>(
+        &'a self,
+        told: bool,
+        outside: Option<&'a Text>,
+        space: &Namespace,
+    ) -> Option<&'a Text>
+        requires { IsToldAmong told self.now space.now }
         ensures { option_copied result ≡ prefix_around (option_copied outside.entry) (bound_by [] self.now) space.now }
     {
-        match self.prefixes.get(space.as_text()) {
-            Some(prefix) => self.if_bound_to(prefix, space),
+        match self.innermost(told, space) {
+            Some(prefix) => self.if_bound_to(told, prefix, space),
             None => self.unless_any_binds(outside),
         }
     }
 
+    /// The innermost prefix that the level binds to a namespace, whatever it stands for further in.
+    fn innermost(&self, told: bool, space: &Namespace) -> Option<&Text>
+        requires { IsToldAmong told self.now space.now }
+        ensures { option_copied result ≡ innermost (bound_by [] self.now) space.now }
+    {
+        if told && space.is_long() {
+            return self.innermost_told(space);
+        }
+        self.prefixes.get(space.as_text())
+    }
+
+    /// The same of a long namespace that is told apart from those of the level.
+    fn innermost_told(&self, space: &Namespace) -> Option<&Text>
+        requires long { is_long space.now ≡ true }
+        requires told { IsFoundAmong self.now space.now }
+        ensures { option_copied result ≡ innermost (bound_by [] self.now) space.now }
+    {
+        self.innermost_long(space)
+    }
+
+    /// The innermost prefix that the level binds to a long namespace with the digest of this one.
+    fn innermost_long(&self, space: &Namespace) -> Option<&Text>
+        ensures { option_copied result ≡ innermost_long (bound_by [] self.now) (digest_of space.now) }
+    {
+        self.digests.get(space.digest())
+    }
+
     /// A prefix, if it stands for this namespace.
-    fn if_bound_to<'a>(&self, prefix: &'a Text, space: &Namespace) -> Option<&'a Text>
+    fn if_bound_to<'a>(&self, told: bool, prefix: &'a Text, space: &Namespace) -> Option<&'a Text>
+        requires { IsToldAmong told self.now space.now }
         ensures { option_copied result ≡ if_bound_to (bound_by [] self.now) space.now prefix.now }
     {
-        match self.spaces.get(prefix) {
-            Some(found) if *found == *space.as_text() => Some(prefix),
+        match self.bound_to(prefix) {
+            Some(found) if is_same(told, found, space) => Some(prefix),
             _ => None,
         }
+    }
+
+    /// The namespace that a prefix stands for.
+    fn bound_to(&self, prefix: &Text) -> Option<&Namespace>
+        ensures { option_copied result ≡ bound_to (bound_by [] self.now) prefix.now }
+    {
+        self.spaces.get(prefix)
     }
 
     /// A prefix from outside, unless it is bound here.
@@ -108,17 +162,48 @@ impl Level {
         ensures { option_copied result ≡ unless_any_binds (bound_by [] self.now) (option_copied outside.entry) }
     {
         match outside {
-            Some(prefix) if self.spaces.get(prefix).is_none() => Some(prefix),
+            Some(prefix) if self.bound_to(prefix).is_none() => Some(prefix),
             _ => None,
         }
     }
 }
 
-/// Lets a copy of a text be found by another one.
-fn bind(found: &mut Lookup<Text>, key: &Text, value: &Text) -> Result<(), AllocError>
-    ensures { OnOk result (found.new ≡ map.insert found.old key.now value.now) }
+/// Lets a binding's prefix be found by its namespace.
+fn bind_text(found: &mut Lookup<Text>, binding: &Binding) -> Result<(), AllocError>
+    ensures { OnOk result (found.new ≡ map.insert found.old binding.now.space binding.now.prefix) }
 {
-    let _before = found.insert(key.clone()?, value.clone()?)?;
+    let _before = found.insert(binding.space.as_text().clone()?, binding.prefix.clone()?)?;
+    Ok(())
+}
+
+/// Lets a binding's prefix be found by the digest of its namespace, where that is long.
+fn bind_digest(found: &mut BTreeMap<[u8; 32], Text>, binding: &Binding) -> Result<(), AllocError>
+    ensures { OnOk result ((digest : List ℕ) → get (slice_cmp nat_cmp) found.new digest ≡ (if has_digest digest binding.now.space then Some binding.now.prefix else get (slice_cmp nat_cmp) found.old digest)) }
+{
+    if binding.space.is_long() {
+        return bind_long(found, &binding.space, &binding.prefix);
+    }
+    Ok(())
+}
+
+fn bind_long(
+    found: &mut BTreeMap<[u8; 32], Text>,
+    space: &Namespace,
+    prefix: &Text,
+) -> Result<(), AllocError>
+    requires { is_long space.now ≡ true }
+    ensures { OnOk result ((digest : List ℕ) → get (slice_cmp nat_cmp) found.new digest ≡ (if has_digest digest space.now then Some prefix.now else get (slice_cmp nat_cmp) found.old digest)) }
+{
+    let digest = *space.digest();
+    let _before = found.insert(digest, prefix.clone()?)?;
+    Ok(())
+}
+
+/// Lets a binding's namespace be found by its prefix.
+fn bind_prefix(found: &mut Lookup<Namespace>, binding: &Binding) -> Result<(), AllocError>
+    ensures { OnOk result (found.new ≡ map.insert found.old binding.now.prefix binding.now.space) }
+{
+    let _before = found.insert(binding.prefix.clone()?, binding.space.clone()?)?;
     Ok(())
 }
 
@@ -175,13 +260,15 @@ impl Bindings {
         self.levels.pop()
     }
 
-    /// The innermost prefix that is bound to a namespace, unless it is bound to another one further in.
-    pub fn prefix_of(&self, space: &Namespace) -> Option<&Text>
+    /// The innermost prefix that is bound to a namespace, unless it is bound to another one further in;
+    /// `told`: the namespaces are told apart by their digests.
+    pub fn prefix_of(&self, told: bool, space: &Namespace) -> Option<&Text>
+        requires { IsToldIn told self.now space.now }
         ensures { option_copied result ≡ prefix_of (all_of self.now) space.now }
     {
         let mut prefix = None;
         for level in self.levels.as_slice() {
-            prefix = level.prefix_inside(prefix, space);
+            prefix = level.prefix_inside(told, prefix, space);
         }
         prefix
     }

@@ -7,6 +7,7 @@ mod markup;
 mod pieces;
 mod prefixes;
 mod soap;
+mod space_sets;
 mod text_sets;
 mod writing;
 

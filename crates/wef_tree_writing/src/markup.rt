@@ -5,6 +5,7 @@ ghost use Rattle.std.specs.List.{flat_map};
 ghost use Rattle.std.specs.Option.{option_copied};
 ghost use Rattle.wef_xml.specs.Canonical.{assigned, attribute_of, declaration_of, name_of};
 ghost use Rattle.wef_xml.specs.Told.{AreTold};
+ghost use Rattle.wef_tree_writing.specs.Apart.{AreToldIn, IsToldIn};
 ghost use Rattle.wef_tree_writing.specs.Markup.{default_declaration};
 ghost use Rattle.wef_tree_writing.specs.Levels.{all_of};
 
@@ -81,31 +82,36 @@ fn push_declaration(out: &mut Piece, binding: &Binding) -> Result<(), AllocError
     push_assigned(out, binding.space.as_text())
 }
 
-/// Appends attributes, each behind a space.
+/// Appends attributes, each behind a space; `told`: their namespaces and those that are bound are told
+/// apart by their digests.
 pub fn push_attributes(
     out: &mut Piece,
+    told: bool,
     bound: &Bindings,
     attributes: &[Attribute],
 ) -> Result<(), AllocError>
+    requires { AreToldIn told bound.now attributes.now }
     ensures { OnOk result (out.new ≡ out.old ++ flat_map (attribute_of (all_of bound.now)) attributes.now) }
 {
     for attribute in attributes {
-        push_attribute(out, bound, attribute)?;
+        push_attribute(out, told, bound, attribute)?;
     }
     Ok(())
 }
 
 fn push_attribute(
     out: &mut Piece,
+    told: bool,
     bound: &Bindings,
     attribute: &Attribute,
 ) -> Result<(), AllocError>
+    requires { IsToldIn told bound.now attribute.now.space }
     ensures { OnOk result (out.new ≡ out.old ++ attribute_of (all_of bound.now) attribute.now) }
 {
     out.push(' ')?;
     push_name(
         out,
-        attribute_prefix(bound, &attribute.space),
+        attribute_prefix(told, bound, &attribute.space),
         &attribute.name,
     )?;
     push_assigned(out, &attribute.value)

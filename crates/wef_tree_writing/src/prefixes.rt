@@ -3,10 +3,12 @@
 ghost use Rattle.std.specs.Prelude.{◌≡◌, ◌+◌, [], ◌∷◌, ◌++◌, length, IfOk, OnOk};
 ghost use Rattle.std.specs.Option.{option_copied, option_to_list};
 ghost use Rattle.wef_xml.specs.Prefixes.{attribute_prefix, bindings_from, element_prefix, needs_prefix, new_bindings, new_spaces, next_free, numbered_prefix, outer_prefixes, prefix_of, with_space};
+ghost use Rattle.wef_tree_writing.specs.Apart.{AreToldIn, IsNewTold, IsToldIn};
 ghost use Rattle.wef_tree_writing.specs.Levels.{all_of};
 
 use crate::bindings::Bindings;
 use crate::soap::RootPrefixes;
+use crate::space_sets::SpaceSet;
 use crate::text_sets::TextSet;
 use std::alloc::{AllocError, Global};
 use wef_base::{Attribute, List, Namespace, Text};
@@ -26,8 +28,10 @@ pub fn element_prefix<'a>(root: &'a RootPrefixes, space: &Namespace) -> Option<&
     }
 }
 
-/// The prefix of an attribute, if it has one.
-pub fn attribute_prefix<'a>(bound: &'a Bindings, space: &Namespace) -> Option<&'a str>
+/// The prefix of an attribute, if it has one; `told`: its namespace and those that are bound are told
+/// apart by their digests.
+pub fn attribute_prefix<'a>(told: bool, bound: &'a Bindings, space: &Namespace) -> Option<&'a str>
+    requires { IsToldIn told bound.now space.now }
     ensures { option_copied result ≡ attribute_prefix (all_of bound.now) space.now }
 {
     if space.as_text().is_empty() {
@@ -36,83 +40,99 @@ pub fn attribute_prefix<'a>(bound: &'a Bindings, space: &Namespace) -> Option<&'
     if is_xml_space(space.as_text()) {
         return Some("xml");
     }
-    match bound.prefix_of(space) {
+    match bound.prefix_of(told, space) {
         Some(prefix) => Some(prefix.as_str()),
         None => None,
     }
 }
 
-/// The bindings that an element makes for its attributes.
+/// The bindings that an element makes for its attributes; `told`: their namespaces and those that are
+/// bound are told apart by their digests.
 pub fn new_bindings(
     alloc: Global,
+    told: bool,
     bound: &Bindings,
     attributes: &[Attribute],
 ) -> Result<List<Binding>, AllocError>
+    requires { AreToldIn told bound.now attributes.now }
     ensures { IfOk result (λ bindings. bindings ≡ new_bindings (all_of bound.now) attributes.now) }
 {
-    let spaces = new_spaces(alloc, bound, attributes)?;
+    let spaces = new_spaces(alloc, told, bound, attributes)?;
     if spaces.as_slice().is_empty() {
         return Ok(List::new(alloc));
     }
-    let taken = outer_prefixes(alloc, bound, attributes)?;
+    let taken = outer_prefixes(alloc, told, bound, attributes)?;
     bindings_from(alloc, &taken, spaces.as_slice())
 }
 
 /// The namespaces that need a prefix, each once.
 fn new_spaces(
     alloc: Global,
+    told: bool,
     bound: &Bindings,
     attributes: &[Attribute],
-) -> Result<TextSet, AllocError>
+) -> Result<SpaceSet, AllocError>
+    requires { AreToldIn told bound.now attributes.now }
     ensures { IfOk result (λ spaces. spaces ≡ new_spaces (all_of bound.now) [] attributes.now) }
 {
-    let mut spaces = TextSet::new(alloc);
+    let mut spaces = SpaceSet::new(alloc);
     for attribute in attributes {
-        spaces = with_space(spaces, bound, &attribute.space)?;
+        spaces = with_space(told, spaces, bound, &attribute.space)?;
     }
     Ok(spaces)
 }
 
-fn with_space(spaces: TextSet, bound: &Bindings, space: &Namespace) -> Result<TextSet, AllocError>
+fn with_space(
+    told: bool,
+    spaces: SpaceSet,
+    bound: &Bindings,
+    space: &Namespace,
+) -> Result<SpaceSet, AllocError>
+    requires { IsNewTold told bound.now spaces space.now }
     ensures { IfOk result (λ more. more ≡ with_space (all_of bound.now) spaces space.now) }
 {
-    if !needs_prefix(bound, space) || spaces.contains(space.as_text()) {
+    if !needs_prefix(told, bound, space) || spaces.contains(told, space) {
         return Ok(spaces);
     }
-    spaces.with(space.as_text().clone()?)
+    spaces.with(space.clone()?)
 }
 
-fn needs_prefix(bound: &Bindings, space: &Namespace) -> bool
+fn needs_prefix(told: bool, bound: &Bindings, space: &Namespace) -> bool
+    requires { IsToldIn told bound.now space.now }
     ensures { result ≡ needs_prefix (all_of bound.now) space.now }
 {
     !space.as_text().is_empty()
         && !is_xml_space(space.as_text())
-        && bound.prefix_of(space).is_none()
+        && bound.prefix_of(told, space).is_none()
 }
 
 /// The prefixes that attributes take from outside.
 fn outer_prefixes(
     alloc: Global,
+    told: bool,
     bound: &Bindings,
     attributes: &[Attribute],
 ) -> Result<TextSet, AllocError>
+    requires { AreToldIn told bound.now attributes.now }
     ensures { IfOk result (λ prefixes. prefixes ≡ outer_prefixes (all_of bound.now) attributes.now) }
 {
     let mut prefixes = TextSet::new(alloc);
     for attribute in attributes {
-        prefixes = with_prefix(prefixes, bound, &attribute.space)?;
+        prefixes = with_prefix(told, prefixes, bound, &attribute.space)?;
     }
     Ok(prefixes)
 }
 
 fn with_prefix(
+    told: bool,
     prefixes: TextSet,
     bound: &Bindings,
     space: &Namespace,
 ) -> Result<TextSet, AllocError>
+    requires { IsToldIn told bound.now space.now }
     ensures { IfOk result (λ more. more ≡ prefixes ++ option_to_list (prefix_of (all_of bound.now) space.now)) }
 {
-    match bound.prefix_of(space) {
+    match bound.prefix_of(told, space) {
         Some(prefix) => prefixes.with(prefix.clone()?),
         None => Ok(prefixes),
     }
@@ -122,7 +142,7 @@ fn with_prefix(
 fn bindings_from(
     alloc: Global,
     taken: &TextSet,
-    spaces: &[Text],
+    spaces: &[Namespace],
 ) -> Result<List<Binding>, AllocError>
     ensures { IfOk result (λ bindings. bindings ≡ bindings_from taken.now 1 spaces.now) }
 {
@@ -141,13 +161,13 @@ fn push_numbered(
     bindings: &mut List<Binding>,
     alloc: Global,
     number: u64,
-    space: &Text,
+    space: &Namespace,
 ) -> Result<(), AllocError>
     ensures { OnOk result (bindings.new ≡ bindings.old ++ record { prefix = numbered_prefix number; space = space.now } ∷ []) }
 {
     bindings.push(Binding {
         prefix: numbered_prefix(alloc, number)?,
-        space: Namespace::new(space.clone()?)?,
+        space: space.clone()?,
     })
 }
 

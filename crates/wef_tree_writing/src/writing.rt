@@ -4,8 +4,9 @@ ghost use Rattle.std.specs.Prelude.{◌≡◌, ◌++◌, ◌≤◌, [], ◌∷�
 ghost use Rattle.wef_xml.specs.Canonical.{bytes_of, canonical, element_text, encoded, end_of, name_of, node_of, start_of, text_of, unless_longer, written_mark};
 ghost use Rattle.wef_xml.specs.Good.{IsGoodTree};
 ghost use Rattle.wef_xml.specs.Prefixes.{element_prefix, inside, new_bindings, outermost, root_bindings};
-ghost use Rattle.wef_xml.specs.Told.{AreTold, IsElementTold, IsNodeTold, IsTold};
+ghost use Rattle.wef_xml.specs.Told.{AreTold, IsTold};
 ghost use Rattle.wef_xml.specs.declared.faults.TreeFault.TheVariants.{NoMemory};
+ghost use Rattle.wef_tree_writing.specs.Apart.{IsElementTold, IsNodeTold};
 ghost use Rattle.wef_tree_writing.specs.Levels.{all_of};
 ghost use Rattle.wef_tree_writing.specs.Markup.{IsPast, IsTooLong, default_declaration, scope_of};
 
@@ -60,7 +61,7 @@ pub fn write_tree(alloc: Global, root: &Element, charset: Charset) -> Result<Byt
 }
 
 /// Writes a tree that was read as `write_tree` does. Where its namespaces are told apart, many
-/// elements in one long namespace take no more time than others.
+/// elements and attributes in one long namespace take no more time than others.
 pub fn write_told_tree(alloc: Global, tree: &ToldTree, charset: Charset) -> Result<Bytes, TreeFault>
     requires { IsGoodTree tree.now }
     ensures value { IfOk result (λ bytes. bytes ≡ encoded charset (canonical tree.now)) }
@@ -154,7 +155,7 @@ impl Writer {
         charset: Charset,
         limit: usize,
     ) -> Result<Writer, AllocError>
-        ensures { IfOk result (λ w. (w.told ≡ told) × (w.bytes ≡ written_mark charset) × (w.charset ≡ charset) × (w.limit ≡ limit) × (scope_of w [] ≡ outermost space.now)) }
+        ensures { IfOk result (λ w. (w.told ≡ told) × (w.bytes ≡ written_mark charset) × (w.charset ≡ charset) × (w.limit ≡ limit) × (scope_of w [] ≡ outermost space.now) × (w.bound ≡ root_bindings space.now ∷ [])) }
     {
         let mut bytes = Bytes::new(alloc);
         push_mark(&mut bytes, charset)?;
@@ -173,7 +174,7 @@ impl Writer {
     }
 
     fn write_root(&mut self, root: &Element) -> Result<(), Stop>
-        requires { IsTold self.old.told root.now }
+        requires { IsElementTold self.old.told self.old.bound [] root.now }
         ensures written { OnOk result (self.new ≡ record self.old { bytes = self.old.bytes ++ bytes_of self.old.charset (element_text (root_bindings root.now.space) (scope_of self.old []) root.now) }) }
         ensures within { OnOk result (length self.new.bytes ≤ self.old.limit) }
         ensures past { IfErr result (λ stop. IsPast stop self.old (element_text (root_bindings root.now.space) (scope_of self.old []) root.now)) }
@@ -185,7 +186,7 @@ impl Writer {
     /// Writes a node inside this default namespace.
     #[cycle(writing)]
     fn write_node(&mut self, default: &Namespace, node: &Node) -> Result<(), Stop>
-        requires { IsNodeTold self.old.told default.now node.now }
+        requires { IsNodeTold self.old.told self.old.bound default.now node.now }
         ensures written { OnOk result (self.new ≡ record self.old { bytes = self.old.bytes ++ bytes_of self.old.charset (node_of node.now (scope_of self.old default.now)) }) }
         ensures within { OnOk result (length self.new.bytes ≤ self.old.limit) }
         ensures past { IfErr result (λ stop. IsPast stop self.old (node_of node.now (scope_of self.old default.now))) }
@@ -205,7 +206,7 @@ impl Writer {
         default: &Namespace,
         element: &Element,
     ) -> Result<(), Stop>
-        requires { IsElementTold self.old.told default.now element.now }
+        requires { IsElementTold self.old.told self.old.bound default.now element.now }
         ensures written { OnOk result (self.new ≡ record self.old { bytes = self.old.bytes ++ bytes_of self.old.charset (element_text first.now (scope_of self.old default.now) element.now) }) }
         ensures within { OnOk result (length self.new.bytes ≤ self.old.limit) }
         ensures past { IfErr result (λ stop. IsPast stop self.old (element_text first.now (scope_of self.old default.now) element.now)) }
@@ -237,12 +238,13 @@ impl Writer {
         default: &Namespace,
         element: &Element,
     ) -> Result<(), Stop>
-        requires { AreTold self.old.told default.now element.now.space }
+        requires { IsElementTold self.old.told self.old.bound default.now element.now }
         ensures written { let e = element.now in
             OnOk result (self.new ≡ record self.old { bytes = self.old.bytes ++ bytes_of self.old.charset (start_of first.now (scope_of self.old default.now) e.space e.name e.attributes); bound = new_bindings (all_of self.old.bound) e.attributes ∷ self.old.bound }) }
         ensures past { let e = element.now in IfErr result (λ stop. IsPast stop self.old (start_of first.now (scope_of self.old default.now) e.space e.name e.attributes)) }
     {
-        let own = new_bindings(self.alloc, &self.bound, element.attributes.as_slice())?;
+        let attributes = element.attributes.as_slice();
+        let own = new_bindings(self.alloc, self.told, &self.bound, attributes)?;
         let tag = self.start_tag(first, default, element, own)?;
         self.put(tag)
     }
@@ -255,7 +257,7 @@ impl Writer {
         element: &Element,
         own: List<Binding>,
     ) -> Result<Piece, AllocError>
-        requires told { AreTold self.old.told default.now element.now.space }
+        requires told { IsElementTold self.old.told self.old.bound default.now element.now }
         requires own { own ≡ new_bindings (all_of self.old.bound) element.now.attributes }
         ensures tag { let e = element.now in IfOk result (λ tag. tag ≡ start_of first.now (scope_of self.old default.now) e.space e.name e.attributes) }
         ensures bound { let e = element.now in OnOk result (self.new ≡ record self.old { bound = own ∷ self.old.bound }) }
@@ -265,7 +267,8 @@ impl Writer {
         push_declarations(&mut start, first)?;
         push_declarations(&mut start, own.as_slice())?;
         self.bound.enter(self.alloc, own)?;
-        push_attributes(&mut start, &self.bound, element.attributes.as_slice())?;
+        let attributes = element.attributes.as_slice();
+        push_attributes(&mut start, self.told, &self.bound, attributes)?;
         start.push('>')?;
         Ok(start)
     }

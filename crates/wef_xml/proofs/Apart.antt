@@ -37,7 +37,7 @@ child_in P e is = by (Child e) refl
         let Q : Element → Type 0 = λ x. IsElementIn P x in
         let R : List Node → Type 0 = λ l. AreNodesIn P l in
         let all = subst Q (ap (λ x. elim x [ Node-F.Element z ↦ z | Node-F.Chars t ↦ e ]) (sym opened)) is in
-        (all.0, of_row P row (subst R (items_shown-the_row-Node-0 shape row) all.1))
+        (all.0, all.1, of_row P row (subst R (items_shown-the_row-Node-0 shape row) all.2))
 
 -- the element that a node is
 pub in_child : (P : List ℕ → Type 0) (n : Node) (e : Element) → n ≡ Child e → IsNodeIn P n → IsElementIn P e
@@ -47,7 +47,7 @@ in_child P (Element' space name attributes shape row) e same is =
     let Q : Element → Type 0 = λ x. IsElementIn P x in
     let R : List Node → Type 0 = λ l. AreNodesIn P l in
     subst Q (ap (λ x. elim x [ Node-F.Element z ↦ z | Node-F.Chars t ↦ e ]) opened)
-    (is.0, subst R (sym (items_shown-the_row-Node-0 shape row)) (to_list P row is.1))
+    (is.0, is.1, subst R (sym (items_shown-the_row-Node-0 shape row)) (to_list P row is.2))
 
 -- a node of a list
 pub node_at : (P : List ℕ → Type 0) (ns : List Node) (index : ℕ) (n : Node) (more : List Node) → drop index ns ≡ n ∷ more → AreNodesIn P ns → IsNodeIn P n

@@ -8,9 +8,9 @@ ghost use Rattle.wef_xml.specs.Told.{AreTold, IsTold};
 use std::marker::Model;
 use wef_base::{Element, Namespace};
 
-/// A tree that was read, which contracts see as its root. No two long namespaces of its elements
-/// have one digest, unless that isn't told. So where it is, two namespaces are seen to be the same
-/// in a fixed time.
+/// A tree that was read, which contracts see as its root. No two long namespaces of its elements and
+/// attributes have one digest, unless that isn't told. So where it is, two namespaces are seen to be
+/// the same in a fixed time.
 #[derive(Drop)]
 pub struct ToldTree {
     root: Element,

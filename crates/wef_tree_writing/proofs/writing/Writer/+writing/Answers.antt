@@ -1,6 +1,6 @@
 use Rattle.std.proofs.Common.{rules, arith, ◌≡◌, Bool, ◌∷◌, ◌∙◌, OnOk, ap, drop, suc, subst, sym}
 use Rattle.std.proofs.Math.Seq.{drop-cons}
-use Rattle.wef_xml.specs.Told.{IsNodeTold}
+use Rattle.wef_tree_writing.specs.Apart.{IsNodeTold}
 use Rattle.wef_tree_writing.specs.Markup.{scope_of}
 use Rattle.wef_tree_writing.specs.declared.writing.Writer.{Writer}
 use Rattle.wef_tree_writing.proofs.Sizes.{child_size, element_size, nodes_size}
@@ -71,7 +71,7 @@ write_element-returns-clause-past t c =
 pub write_node-write_element-requires : goal.write_node-write_element-requires
 write_node-write_element-requires t c =
     let size : _ = element_size c.args.node.now c.in-Element.element c.in-Element.is in
-    (omega (arith, size), element_told _ _ _ c.in-Element.element c.in-Element.is c.requires)
+    (omega (arith, size), element_told _ _ _ _ c.in-Element.element c.in-Element.is c.requires)
 
 pub write_element-write_node-requires : goal.write_element-write_node-requires
 write_element-write_node-requires t c =
@@ -80,13 +80,16 @@ write_element-write_node-requires t c =
     let child = c.child-item.result in
     let next : drop index items ≡ child ∷ drop (suc index) items =
     drop-cons items index child c.loop-child-test.true ∙ ap (λ n. n ∷ drop (suc index) items) (sym c.child-item.is) in
-    let told_is : c.args.self.now.told ≡ c.loop-child.self.told =
-    sym (ap (λ (w : Writer). w.told) c.loop-child.invariant.kept ∙ ap (λ (w : Writer). w.told) c.in_ok-write_start.ensures.written) in
-    let P : Bool → Type 0 = λ told. IsNodeTold told c.inner_default-inner.result.now child in
+    let w = c.args.self.now in
+    let began = c.write_start.new.self in
+    let told_is : w.told ≡ c.loop-child.self.told =
+    sym (ap (λ (v : Writer). v.told) c.loop-child.invariant.kept ∙ ap (λ (v : Writer). v.told) c.in_ok-write_start.ensures.written) in
+    let own_is = ap (λ (v : Writer). v.bound) c.loop-child.invariant.kept ∙ ap (λ (v : Writer). v.bound) c.in_ok-write_start.ensures.written in
+    let P : Bool → Type 0 = λ told. IsNodeTold told c.loop-child.self.bound c.inner_default-inner.result.now child in
     let size : _ = child_size items index child (drop (suc index) items) next in
     let all : _ = ap nodes_size c.as_slice-child-items.ensures in (
       omega (arith, size, all),
       subst P told_is
-          (child_told c.args.self.now.told (scope_of c.write_start.new.self c.args.default.now) c.inner_default-inner.result.now c.args.element.now
-          index items child (drop (suc index) items) c.inner_default-inner.ensures c.as_slice-child-items.ensures next c.requires),
+          (child_told w.told w.bound c.loop-child.self.bound (scope_of began c.args.default.now) c.inner_default-inner.result.now c.args.element.now
+          index items child (drop (suc index) items) own_is c.inner_default-inner.ensures c.as_slice-child-items.ensures next c.requires),
     )
