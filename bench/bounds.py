@@ -45,6 +45,11 @@ def one_long_namespace(size):
     return f'<p:a xmlns:p="{"n" * (size // 2)}">' + "<p:b/>" * (size // 12) + "</p:a>"
 
 
+def attributes_in_one_long_namespace(size):
+    """Attributes, one at each child, in a namespace of half the size that has a prefix at the root."""
+    return f'<a xmlns:p="{"n" * (size // 2)}" p:c="">' + '<b p:c=""/>' * (size // 22) + "</a>"
+
+
 def empty_elements(size):
     """Empty elements, as many as fit."""
     return "<a>" + "<a/>" * (size // 4) + "</a>"
@@ -61,7 +66,15 @@ def deep_again(size):
     return '<p:a xmlns:p="n">' + branch * (size // len(branch)) + "</p:a>"
 
 
-DOCUMENTS = (plain_events, many_namespaces, one_long_namespace, empty_elements, one_text, deep_again)
+DOCUMENTS = (
+    plain_events,
+    many_namespaces,
+    one_long_namespace,
+    attributes_in_one_long_namespace,
+    empty_elements,
+    one_text,
+    deep_again,
+)
 
 
 def subscription():
@@ -126,7 +139,7 @@ def meets(words, title, shape, size):
     slower = factor(small[0], great[0], LEAST_SECONDS)
     larger = factor(small[1], great[1], LEAST_BYTES)
     print(
-        f"{title:<32} {2 * size:>9,}: {great[0]:>7.2f} s {great[1] / MEBIBYTE:>7,.0f} MiB,"
+        f"{title:<38} {2 * size:>9,}: {great[0]:>7.2f} s {great[1] / MEBIBYTE:>7,.0f} MiB,"
         f" {slower:.1f} times as long and {larger:.1f} times as much as half of it",
         flush=True,
     )
