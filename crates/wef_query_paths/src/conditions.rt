@@ -194,6 +194,7 @@ impl Levels {
     }
 }
 
+/// Where a unit of a condition begins: a bracket, a literal, or a value.
 pub(crate) fn before_unit(alloc: Global, levels: &mut Levels, token: Token) -> Result<Next, Halt>
     ensures { Turns result levels.new (before_unit levels.old token) }
 {
@@ -208,6 +209,7 @@ pub(crate) fn before_unit(alloc: Global, levels: &mut Levels, token: Token) -> R
     }
 }
 
+/// What follows a unit of the innermost condition: a joint, or the bracket that closes it.
 pub(crate) fn behind_unit(
     alloc: Global,
     levels: &mut Levels,

@@ -65,6 +65,7 @@ impl Place {
     }
 }
 
+/// Where a step of a path begins: its axis, or its name test along `child`.
 pub(crate) fn before_step(
     alloc: Global,
     place: Place,
@@ -79,6 +80,7 @@ pub(crate) fn before_step(
     }
 }
 
+/// Where the name test of a step is due behind its axis.
 pub(crate) fn before_test(
     alloc: Global,
     place: Place,
@@ -107,6 +109,7 @@ fn name_test(token: Token) -> Result<NameTest, Halt>
     }
 }
 
+/// What follows a step or a predicate of it: a predicate, a step more, or what ends the path.
 pub(crate) fn behind_step(
     alloc: Global,
     levels: &mut Levels,
@@ -138,6 +141,7 @@ fn behind_slash(alloc: Global, place: Place, so_far: Option<Path>, step: Step) -
     Ok(Next::BeforeStep(place, Some(path)))
 }
 
+/// What a predicate begins with: a number, or a condition.
 pub(crate) fn before_predicate(
     alloc: Global,
     levels: &mut Levels,

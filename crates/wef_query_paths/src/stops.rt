@@ -10,6 +10,7 @@ use crate::reading::{GREATEST_DEPTH, Reader};
 use wef_query_tokens::{Halt, Token, is_name_start};
 
 impl Stop {
+    /// A stop of a kind, where so many characters are left.
     pub(crate) fn new(kind: FaultKind, left: usize) -> Stop
         ensures { result ≡ stop kind left }
     {

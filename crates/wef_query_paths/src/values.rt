@@ -51,6 +51,7 @@ impl Side {
     }
 }
 
+/// Where a value begins: a call, or the path to it.
 pub(crate) fn before_value(alloc: Global, side: Side, token: Token) -> Result<Next, Halt>
     ensures { Reads result (before_value side token) }
 {
@@ -77,6 +78,7 @@ fn may_be_position(side: &Side) -> bool
     }
 }
 
+/// The bracket that opens behind `position`.
 pub(crate) fn behind_position(side: Side, token: Token) -> Result<Next, Halt>
     ensures { Reads result (behind_position side token) }
 {
@@ -86,6 +88,7 @@ pub(crate) fn behind_position(side: Side, token: Token) -> Result<Next, Halt>
     }
 }
 
+/// The bracket that closes `position(`.
 pub(crate) fn in_position(side: Side, token: Token) -> Result<Next, Halt>
     ensures { Reads result (in_position side token) }
 {
@@ -95,6 +98,7 @@ pub(crate) fn in_position(side: Side, token: Token) -> Result<Next, Halt>
     }
 }
 
+/// The bracket that opens behind `band`.
 pub(crate) fn behind_band(side: Side, token: Token) -> Result<Next, Halt>
     ensures { Reads result (behind_band side token) }
 {
@@ -104,6 +108,7 @@ pub(crate) fn behind_band(side: Side, token: Token) -> Result<Next, Halt>
     }
 }
 
+/// The comma behind the path of a `band`.
 pub(crate) fn before_comma(side: Side, path: Path, token: Token) -> Result<Next, Halt>
     ensures { Reads result (before_comma side path token) }
 {
@@ -113,6 +118,7 @@ pub(crate) fn before_comma(side: Side, path: Path, token: Token) -> Result<Next,
     }
 }
 
+/// The mask of a `band`, a number.
 pub(crate) fn before_mask(side: Side, path: Path, token: Token) -> Result<Next, Halt>
     ensures { Reads result (before_mask side path token) }
 {
@@ -122,6 +128,7 @@ pub(crate) fn before_mask(side: Side, path: Path, token: Token) -> Result<Next, 
     }
 }
 
+/// The bracket that closes a `band`.
 pub(crate) fn behind_mask(side: Side, path: Path, mask: u64, token: Token) -> Result<Next, Halt>
     ensures { Reads result (behind_mask side path mask token) }
 {
@@ -164,6 +171,7 @@ fn is_position(value: &Value) -> bool
     }
 }
 
+/// The operator behind a literal that a comparison begins with.
 pub(crate) fn behind_literal(literal: Literal, token: Token) -> Result<Next, Halt>
     ensures { Reads result (behind_literal literal token) }
 {
@@ -173,6 +181,7 @@ pub(crate) fn behind_literal(literal: Literal, token: Token) -> Result<Next, Hal
     }
 }
 
+/// The literal that a value is compared with.
 pub(crate) fn before_literal(value: Value, operator: Operator, token: Token) -> Result<Next, Halt>
     ensures { Reads result (before_literal value operator token) }
 {
