@@ -16,19 +16,12 @@ use Rattle.wef_collector_rows.specs.Bookmarks.{bookmark_rows}
 use Rattle.wef_collector_rows.specs.Forms.{AreFormed, is_bookmark_row, is_formed}
 use Rattle.wef_collector_rows.specs.Judged.{AreAllFormed}
 use Rattle.wef_collector_rows.specs.Keys.{bookmark_key}
+use Rattle.wef_collector_rows.proofs.RowForms.{bookmark_formed}
 
 under_kind : (u s : List ℕ) (k : Key) → is_under Source (bookmark_key u s []) k ≡ true → k.kind ≡ 2
 under_kind u s k e =
     let outer = and_parts (nat_eq 2 k.kind && pointwise nat_eq u k.sub) (pointwise nat_eq s k.source) e in
     sym (eqb-true 2 k.kind (and_parts (nat_eq 2 k.kind) (pointwise nat_eq u k.sub) outer.0).0)
-
--- a key of a kind
-abbrev of_kind : ℕ → Key → Key
-of_kind kind k = record { kind = kind; sub = k.sub; source = k.source; channel = k.channel; number = k.number }
-
-bookmark_formed : (row : Row) → row.key.kind ≡ 2 → is_bookmark_row row ≡ is_formed row
-unfolding is_formed is_bookmark_row
-bookmark_formed row kind = sym (ap (λ (n : ℕ). is_formed (record { key = of_kind n row.key; value = row.value; body = row.body })) kind)
 
 all_formed : (u s : List ℕ) (rows : List Row) → All (λ (row : Row). is_under Source (bookmark_key u s []) row.key ≡ true) rows → list_all is_bookmark_row rows ≡ list_all is_formed rows
 all_formed u s [] all = refl

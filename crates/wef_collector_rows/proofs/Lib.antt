@@ -1,1 +1,3 @@
 pub mod BookmarkRows
+pub mod RowForms
+pub mod SubscriptionRows

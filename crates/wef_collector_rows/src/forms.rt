@@ -1,6 +1,7 @@
 //! The form of the collector's rows, by their kind.
 
-ghost use Rattle.std.specs.Prelude.{◌≡◌, ◌≤◌, true, is_some, IfOk, IfSome};
+ghost use Rattle.std.specs.Prelude.{◌≡◌, ◌≤◌, true, is_some, Some, IfOk, IfSome};
+ghost use Rattle.wef_documents.specs.Kept as kept;
 ghost use Rattle.wef_collector_rows.specs.Bookmarks.{has_channel};
 ghost use Rattle.wef_collector_rows.specs.Forms as spec;
 ghost use Rattle.wef_collector_rows.specs.Held.{own_event};
@@ -12,6 +13,7 @@ use wef_base::numbers::{MAX, read_plain_number};
 use wef_base::{ChannelName, SourceName, SubId, Text, ValueFault};
 use wef_documents::read_kept;
 use wef_event::Event;
+use wef_eventing::Subscription;
 use wef_keeper::{Form, Key, Row};
 
 /// The form of the collector's rows.
@@ -44,20 +46,28 @@ pub fn is_formed(row: &Row) -> Result<bool, AllocError>
     }
 }
 
-#[tactic(auto, unfolding(crate::specs::Forms::is_subscription_row))]
 fn is_subscription(row: &Row) -> Result<bool, AllocError>
     ensures { IfOk result (λ formed. formed ≡ spec.is_subscription_row row.now) }
 {
+    Ok(kept_subscription(row)?.is_some())
+}
+
+/// The subscription that a row keeps. None where the row isn't of its form.
+#[tactic(auto, unfolding(crate::specs::Forms::is_subscription_row))]
+pub fn kept_subscription(row: &Row) -> Result<Option<Subscription>, AllocError>
+    ensures some { IfOk result (λ found. is_some found ≡ spec.is_subscription_row row.now) }
+    ensures value { IfOk result (λ found. IfSome found (λ subscription. kept.read_kept row.now.key.sub row.now.body ≡ Some subscription)) }
+{
     let Some(name) = subscription_named(&row.key.sub)? else {
-        return Ok(false);
+        return Ok(None);
     };
     if !row.key.source.is_empty() || !row.key.channel.is_empty() {
-        return Ok(false);
+        return Ok(None);
     }
     if row.key.number != 0 || row.value > 1 {
-        return Ok(false);
+        return Ok(None);
     }
-    Ok(read_kept(&name, &row.body)?.is_some())
+    read_kept(&name, &row.body)
 }
 
 fn is_bookmark(row: &Row) -> Result<bool, AllocError>

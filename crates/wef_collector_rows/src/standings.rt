@@ -1,25 +1,25 @@
 //! What the rows know of a subscription.
 
-ghost use Rattle.std.specs.Prelude.{◌≡◌, true, IfErr, IfOk, IfSome, OnOk};
+ghost use Rattle.std.specs.Prelude.{◌≡◌, true, false, IfErr, IfOk, IfSome, OnOk};
 ghost use Rattle.std.specs.FinMap as map;
+ghost use Rattle.wef_documents.specs.Kept.{read_kept};
 ghost use Rattle.wef_keeper.specs.Access as access;
 ghost use Rattle.wef_keeper.specs.Calls.{fails};
 ghost use Rattle.wef_collector_rows.specs.Answers as answers;
 ghost use Rattle.wef_collector_rows.specs.Faults.{collector_store};
-ghost use Rattle.wef_collector_rows.specs.Forms.{AreFormed};
+ghost use Rattle.wef_collector_rows.specs.Forms.{AreFormed, is_subscription_row};
 ghost use Rattle.wef_collector_rows.specs.Judged.{IsFormedAt};
 ghost use Rattle.wef_collector_rows.specs.Keys.{subscription_key};
 ghost use Rattle.wef_collector_rows.specs.Standing as spec;
 
 use crate::faults::CollectorFault;
-use crate::forms::CollectorForm;
+use crate::forms::{CollectorForm, kept_subscription};
 use crate::keys::subscription_key;
-use std::alloc::AllocError;
 use wef_base::SubId;
-use wef_documents::read_kept;
 use wef_eventing::Subscription;
+use wef_keeper::access::row;
 use wef_keeper::forms::formed_cell;
-use wef_keeper::{Cell, Keeper, StoreFault};
+use wef_keeper::{Cell, Keeper, Row, StoreFault};
 
 /// What the collector knows of a subscription's name.
 #[derive(Debug, Drop)]
@@ -68,8 +68,11 @@ pub fn standing_in<K: Keeper>(keeper: &mut K, sub: &SubId) -> Result<Standing, S
     ensures judged { IfSome (K.store keeper.new).rows (λ rows. OnOk result (IsFormedAt (subscription_key sub.now) rows)) }
     ensures reads { access.Reads AreFormed (access.fails result) (K.store keeper.old) (K.store keeper.new) }
 {
-    let cell = subscription_cell(keeper, sub)?;
-    Ok(standing_of(sub, cell)?)
+    let key = subscription_key(sub)?;
+    match row(keeper, &key)? {
+        Some(row) => standing_of(&row),
+        None => Ok(Standing::Unknown),
+    }
 }
 
 /// What stands at a subscription's key, where a row does.
@@ -83,15 +86,16 @@ pub fn subscription_cell<K: Keeper>(keeper: &mut K, sub: &SubId) -> Result<Optio
     formed_cell::<CollectorForm, K>(keeper, &key)
 }
 
-fn standing_of(sub: &SubId, cell: Option<Cell>) -> Result<Standing, AllocError>
-    ensures { IfOk result (λ s. s ≡ spec.standing_of sub.now cell) }
+/// What the row of a subscription's name tells. It fails where the row isn't of its form. The document
+/// is read once, for its form and for what it says.
+fn standing_of(row: &Row) -> Result<Standing, StoreFault>
+    ensures standing { IfOk result (λ s. s ≡ spec.standing_by row.now.value (read_kept row.now.key.sub row.now.body)) }
+    ensures formed { OnOk result (is_subscription_row row.now ≡ true) }
+    ensures failed { access.fails result ≡ true → is_subscription_row row.now ≡ false }
 {
-    let Some(cell) = cell else {
-        return Ok(Standing::Unknown);
-    };
-    match read_kept(sub, &cell.body)? {
-        None => Ok(Standing::Unknown),
-        Some(subscription) if cell.value == 0 => Ok(Standing::Live(subscription)),
+    match kept_subscription(row)? {
+        None => Err(StoreFault::Failed),
+        Some(subscription) if row.value == 0 => Ok(Standing::Live(subscription)),
         Some(subscription) => Ok(Standing::Ended(subscription)),
     }
 }
