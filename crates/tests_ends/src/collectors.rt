@@ -4,7 +4,7 @@ ghost use Rattle.std.specs.Prelude.{◌<◌, length, IfOk};
 ghost use Rattle.wef_batch.specs.Numbers.{AreNumbered};
 ghost use Rattle.wef_eventing.specs.Subscriptions.{IsAllEvents};
 
-use crate::failing::{FailingKeeper, FailsAt};
+use crate::failing::FailingKeeper;
 use crate::rows::holding;
 use crate::steps::Refusal;
 use std::alloc::{AllocError, Global};
@@ -282,7 +282,7 @@ impl Retries {
 /// often the store was said to fail.
 fn reported(alloc: Global, fails_at: u64, keeps: bool) -> Result<Text, Fail> {
     let mut retries = Retries { failed: 0 };
-    let keeper = FailingKeeper::new(alloc, FailsAt::Call(fails_at), keeps);
+    let keeper = FailingKeeper::new(alloc, fails_at, keeps);
     let mut collector = retries.start(alloc, keeper)?;
     reported_by(alloc, &mut retries, &mut collector)
 }

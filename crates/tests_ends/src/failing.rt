@@ -21,7 +21,8 @@ pub struct FailingKeeper {
     /// The changes of the last commit that failed.
     left: List<Change>,
     alloc: Global,
-    fails_at: FailsAt,
+    /// The number of the call that fails, counted from 1.
+    fails_at: u64,
     /// Whether an opening finds the changes of a commit that failed.
     keeps: bool,
     calls: u64,
@@ -31,18 +32,9 @@ pub struct FailingKeeper {
     faults: u64,
 }
 
-/// Where a keeper fails, counted from 1.
-#[derive(Clone, Copy)]
-pub enum FailsAt {
-    /// At the call of a number.
-    Call(u64),
-    /// At the commit of a number.
-    Commit(u64),
-}
-
 impl FailingKeeper {
     /// A keeper without a row, of which nothing was asked yet.
-    pub(crate) fn new(alloc: Global, fails_at: FailsAt, keeps: bool) -> FailingKeeper {
+    pub(crate) fn new(alloc: Global, fails_at: u64, keeps: bool) -> FailingKeeper {
         FailingKeeper {
             rows: Rows::new(alloc),
             left: List::new(alloc),
@@ -67,18 +59,7 @@ impl FailingKeeper {
         ensures faults { self.new.faults ≡ self.old.faults }
     {
         self.calls = self.calls.saturating_add(1);
-        match self.fails_at {
-            FailsAt::Call(number) => number == self.calls,
-            FailsAt::Commit(_) => false,
-        }
-    }
-
-    /// Whether the commit that begins fails for its number.
-    fn is_last_try(&self) -> bool {
-        match self.fails_at {
-            FailsAt::Call(_) => false,
-            FailsAt::Commit(number) => number == self.tries.saturating_add(1),
-        }
+        self.fails_at == self.calls
     }
 
     /// Counts a failure.
@@ -154,7 +135,7 @@ impl Keeper for FailingKeeper {
             return Err(KeeperFault::InDoubt);
         }
         let copy = copied(self.alloc, changes)?;
-        if self.is_last_try() || self.is_listed() {
+        if self.is_listed() {
             self.left = copy;
             self.count_try();
             self.in_doubt = true;

@@ -1,19 +1,11 @@
-//! Both ends, by example: the log, the source, the collector, and a store that fails at each call;
-//! and events at their greatest length.
+//! Both ends, by example: the log, the source, the collector, over a store that fails at each call,
+//! too; and an event at its greatest length.
 #![tactic(auto)]
 
 #[cfg(test)]
-mod answers;
-#[cfg(test)]
 mod collectors;
 #[cfg(test)]
-mod commands;
-#[cfg(test)]
-mod doubting;
-#[cfg(test)]
 mod failing;
-#[cfg(test)]
-mod failures;
 #[cfg(test)]
 mod limits;
 #[cfg(test)]

@@ -1,7 +1,5 @@
 //! Logs by example: what is done with a log, in words, and what is answered.
 
-use crate::failing::FailingKeeper;
-use crate::failures::{Behind, Failure, Started, Starts, others, started};
 use crate::rows::{Kept, holding};
 use crate::steps::{Answer, Does, Refusal, channel, number, parted, push_refusal, push_steps};
 use crate::writing::{Writes, push_long, push_numbers, push_writes};
@@ -85,34 +83,6 @@ const HELD: &[(Kept, &str, &str)] = &[
     ),
 ];
 
-const NEVER_FAILED: &[Behind] = &[("boot;write a 1;ends a", "1;1;1-1;", "1;1;1-1;")];
-
-const STARTED: &[Behind] = &[("boot;write a 1;ends a", "1;1;1-1;", "2;1;1-1;")];
-
-const FIRST_WRITTEN: &[Behind] = &[("first a;last a", "1;0;", "1;1;")];
-
-const WRITTEN: &[Behind] = &[
-    ("last a;boot", "1;1;", "2;1;"),
-    ("page a 0 9", "1;", "1 2;"),
-    // It is made again.
-    ("write a 1;page a 0 9", "2;1 2;", "3;1 2 3;"),
-];
-
-const WRITTEN_ELSEWHERE: &[Behind] = &[("write a 1;page b 0 9", "2;;", "2;1;")];
-
-/// A record leaves the window.
-const MOVED: &[Behind] = &[("ends a;page a 0 9", "1-4;1 2 3 4;", "2-5;2 3 4 5;")];
-
-/// No commit fails, that of the start, or one of a write.
-const FAILURES: &[Failure] = &[
-    (0, "", "", NEVER_FAILED),
-    (1, "", "Failed;", STARTED),
-    (2, "write a 1", "Failed;", FIRST_WRITTEN),
-    (3, "write a 1;write a 1", "1;Failed;", WRITTEN),
-    (3, "write a 1;write b 1", "1;Failed;", WRITTEN_ELSEWHERE),
-    (6, "write a 4;write a 1", "1 2 3 4;Failed;", MOVED),
-];
-
 impl<K: Keeper> Writes for Log<K> {
     fn write_event(&mut self, event: &Event) -> Result<u64, Refusal> {
         Ok(self.write(event)?)
@@ -150,16 +120,6 @@ fn ends_of<K: Keeper>(log: &mut Log<K>, alloc: Global, name: &str) -> Result<(u6
     Ok((log.first(&channel)?, log.last(&channel)?))
 }
 
-fn push_first<K: Keeper>(text: &mut Text, log: &mut Log<K>, name: &str) -> Answer {
-    let first = log.first(&channel(text.alloc(), name)?)?;
-    Ok(text.push_number(first)?)
-}
-
-fn push_last<K: Keeper>(text: &mut Text, log: &mut Log<K>, name: &str) -> Answer {
-    let last = log.last(&channel(text.alloc(), name)?)?;
-    Ok(text.push_number(last)?)
-}
-
 /// Does a step, and appends its answer.
 fn push_done<K: Keeper>(text: &mut Text, log: &mut Log<K>, step: &str) -> Answer {
     let (word, rest) = parted(step);
@@ -168,8 +128,6 @@ fn push_done<K: Keeper>(text: &mut Text, log: &mut Log<K>, step: &str) -> Answer
         "long" => push_long(text, log, rest),
         "page" => push_page(text, log, rest),
         "ends" => push_ends(text, log, rest),
-        "first" => push_first(text, log, rest),
-        "last" => push_last(text, log, rest),
         "boot" => Ok(text.push_number(log.boot())?),
         _ => Err(Refusal::Word("no step")),
     }
@@ -185,12 +143,6 @@ impl Does for Log<MemKeeper> {
             _ => push_done(text, self, step)?,
         }
         Ok(())
-    }
-}
-
-impl Does for Log<FailingKeeper> {
-    fn push_answer(&mut self, text: &mut Text, step: &str) -> Answer {
-        push_done(text, self, step)
     }
 }
 
@@ -251,18 +203,5 @@ fn logs_go_on_from_what_is_held(rt: HostRuntime) -> Result<(), Fail> {
     for (held, steps, want) in HELD {
         assert_eq!(rt; ran_over(rt.alloc(), held, steps)?.as_str(), *want);
     }
-    Ok(())
-}
-
-impl Starts for Log<FailingKeeper> {
-    fn start_over(alloc: Global, keeper: FailingKeeper) -> Started<Log<FailingKeeper>> {
-        started(Log::start(alloc, keeper, 4))
-    }
-}
-
-#[test]
-fn logs_find_what_a_failed_commit_left(rt: HostRuntime) -> Result<(), Fail> {
-    let others = others::<Log<FailingKeeper>>(rt.alloc(), FAILURES)?;
-    assert_eq!(rt; others.as_str(), "");
     Ok(())
 }

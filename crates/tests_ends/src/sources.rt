@@ -3,8 +3,6 @@
 ghost use Rattle.std.specs.Prelude.{IfOk};
 ghost use Rattle.wef_eventing.specs.Sending.{AreServable, IsServable};
 
-use crate::failing::FailingKeeper;
-use crate::failures::{Failure, Started, Starts, others, started};
 use crate::steps::{Answer, Does, Refusal, channel, number, parted, push_id, push_steps};
 use crate::writing::{Writes, push_long, push_writes};
 use std::alloc::{AllocError, Global};
@@ -330,12 +328,6 @@ impl Does for SourceEnd<MemKeeper> {
     }
 }
 
-impl Does for SourceEnd<FailingKeeper> {
-    fn push_answer(&mut self, text: &mut Text, step: &str) -> Answer {
-        push_done(text, self, step)
-    }
-}
-
 fn named(alloc: Global) -> Result<SourceName, ValueFault> {
     SourceName::read(&Text::from_str(alloc, "s")?)
 }
@@ -367,61 +359,5 @@ fn sources_send_what_they_have(rt: HostRuntime) -> Result<(), Fail> {
     for (steps, again, want) in RUNS {
         assert_eq!(rt; ran(rt.alloc(), steps, again)?.as_str(), *want);
     }
-    Ok(())
-}
-
-const FAILURES: &[Failure] = &[
-    // The start.
-    (
-        1,
-        "",
-        "Failed;",
-        &[("boot;ask;write application 1", "1;1.1;1;", "2;2.1;1;")],
-    ),
-    // A write, and each call behind it: a poll sends what is found, and one more is written.
-    (
-        2,
-        "serve 20 512000;write application 1",
-        "1.1 adopted 1 of 1;Failed;",
-        &[
-            (
-                "poll;write application 1;poll;ack 1.2;poll",
-                "nothing;1;1.2 application 1, to application 1;moved;nothing;",
-                "1.2 application 1, to application 1;2;nothing;moved;1.3 application 2, to application 2;",
-            ),
-            (
-                "refuse 1.2;adopt 1.1;write application 1;poll",
-                "NotAsked;NotAsked;1;1.2 application 1, to application 1;",
-                "NotAsked;NotAsked;2;1.2 application 1, application 2, to application 2;",
-            ),
-        ],
-    ),
-    // What asks for nothing of the store leaves the doubt to the next call that does.
-    (
-        3,
-        "serve 20 512000;write application 1;poll;write application 1",
-        "1.1 adopted 1 of 1;1;1.2 application 1, to application 1;Failed;",
-        &[(
-            "poll;lost;ask;sessions;boot;name;ack 1.2;poll",
-            "nothing;;1.3;1;1;s;NotAsked;1.4 application 1, to application 1;",
-            "nothing;;1.3;1;1;s;NotAsked;1.4 application 1, application 2, to application 2;",
-        )],
-    ),
-];
-
-impl Starts for SourceEnd<FailingKeeper> {
-    fn start_over(alloc: Global, keeper: FailingKeeper) -> Started<SourceEnd<FailingKeeper>> {
-        let name = match named(alloc) {
-            Ok(name) => name,
-            Err(fault) => return Err((keeper, Refusal::from(fault))),
-        };
-        started(SourceEnd::start(alloc, keeper, name, 4))
-    }
-}
-
-#[test]
-fn sources_find_what_a_failed_commit_left(rt: HostRuntime) -> Result<(), Fail> {
-    let others = others::<SourceEnd<FailingKeeper>>(rt.alloc(), FAILURES)?;
-    assert_eq!(rt; others.as_str(), "");
     Ok(())
 }
