@@ -11,7 +11,7 @@ use Rattle.wef_xml.specs.Prefixes.{bound_by, prefix_of, unless_bound}
 use Rattle.wef_xml.specs.Spaces.{is_empty}
 use Rattle.wef_xml.specs.declared.bindings.Binding.{Binding}
 use Rattle.wef_tree_reading.proofs.GoodOpens.{one_name}
-use Rattle.wef_tree_reading.proofs.Inversions.{none_some, some_is}
+use Rattle.wef_tree_pieces.proofs.Inversions.{none_some, some_is}
 use Rattle.wef_tree_writing.specs.Levels.{bound_to}
 use Rattle.wef_tree.proofs.Spelled.{AreGoodBindings, IsGoodBinding}
 

@@ -11,11 +11,11 @@ use Rattle.wef_xml.specs.Prefixes.{Scope, element_prefix, nine, prefix_of}
 use Rattle.wef_tree_reading.specs.Scopes.{Declared, declared_by, may_declare, with_declaration}
 use Rattle.wef_xml.specs.Spaces.{is_empty, is_xml, is_xml_space, is_xmlns}
 use Rattle.wef_xml.specs.declared.bindings.Binding.{Binding}
-use Rattle.wef_tree_reading.specs.declared.tags.Given.{Given}
+use Rattle.wef_tree_pieces.specs.declared.tags.Given.{Given}
 use Rattle.wef_tree_writing.specs.Levels.{bound_to}
 use Rattle.wef_tree.proofs.BoundPrefixes.{AreDistinct, at_other, same_self, same_turned}
 use Rattle.wef_tree_reading.proofs.GoodOpens.{one_name, or_right}
-use Rattle.wef_tree_reading.proofs.Inversions.{none_some}
+use Rattle.wef_tree_pieces.proofs.Inversions.{none_some}
 use Rattle.wef_tree.proofs.Spelled.{AreGoodBindings, IsGoodBinding, declaration_given, default_given}
 
 -- one more declaration, at each prefix

@@ -13,7 +13,7 @@ use Rattle.wef_xml.specs.Letters.{is_name_char, is_name_start}
 use Rattle.wef_xml.specs.Prefixes.{attribute_prefix, bindings_from, bound_by, element_prefix, in_digits, needs_prefix, new_bindings, new_spaces, next_free, nine, numbered_prefix, outer_prefixes, prefix_of, soap_space, unless_bound, with_space}
 use Rattle.wef_xml.specs.Spaces.{is_empty, is_xml, is_xml_space, is_xmlns, xml_space}
 use Rattle.wef_xml.specs.declared.bindings.Binding.{Binding}
-use Rattle.wef_tree_reading.proofs.Inversions.{cond_is, none_some, some_is, unless_some}
+use Rattle.wef_tree_pieces.proofs.Inversions.{cond_is, none_some, some_is, unless_some}
 use Rattle.wef_tree.proofs.Spelled.{AreGoodBindings, IsGoodBinding}
 
 -- the two reserved prefixes

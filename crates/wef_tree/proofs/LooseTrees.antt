@@ -15,7 +15,7 @@ use Rattle.wef_xml.specs.declared.bindings.Binding.{Binding}
 use Rattle.wef_tree_reading.specs.Building.{element_of, has_room, nothing, passed, placed, taken, with_text}
 use Rattle.wef_tree_reading.specs.Spelling.{TextSpells}
 use Rattle.wef_tree_reading.specs.declared.building.Builder.{Builder}
-use Rattle.wef_tree_reading.specs.declared.pieces.Piece.TheVariants.{Empty}
+use Rattle.wef_tree_pieces.specs.declared.pieces.Piece.TheVariants.{Empty}
 use Rattle.wef_tree_reading.specs.declared.stack.Open.{Open}
 use Rattle.wef_tree.specs.Loose.{AreLooseNodes, IsLoose, IsLooseNode, IsLooseRow, StandsSo, empty_of}
 use Rattle.wef_tree.proofs.OpensAgain.{opened_again}

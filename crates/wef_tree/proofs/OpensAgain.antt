@@ -18,13 +18,13 @@ use Rattle.wef_xml.specs.Spaces.{is_attribute, is_empty, is_xml, is_xml_space, i
 use Rattle.wef_xml.specs.declared.bindings.Binding.{Binding}
 use Rattle.wef_tree_reading.specs.declared.building.Builder.{Builder}
 use Rattle.wef_tree_reading.specs.declared.stack.Open.{Open}
-use Rattle.wef_tree_reading.specs.declared.tags.Given.{Given}
+use Rattle.wef_tree_pieces.specs.declared.tags.Given.{Given}
 use Rattle.wef_tree_writing.specs.Levels.{bound_to}
 use Rattle.wef_tree.proofs.BoundPrefixes.{AreDistinct, AreLetters, bound_good, bound_letter, has_space, inside_bound, name_some, never, none_empty, prefix_good, prefix_letter, unchanged}
 use Rattle.wef_tree.proofs.DeclaredAgain.{DeclaresThese, default_alone, default_declared, defaults, get_more, these_declared}
 use Rattle.wef_tree_reading.proofs.GoodOpens.{front_true, last_true, one_name}
 use Rattle.wef_tree.proofs.GoodPrefixes.{bound_by_good, new_are_good, nine_are_good}
-use Rattle.wef_tree_reading.proofs.Inversions.{none_some, some_is}
+use Rattle.wef_tree_pieces.proofs.Inversions.{none_some, some_is}
 use Rattle.wef_tree.proofs.NewBindings.{AreNew, IsOneOf, has_prefix, new_are}
 use Rattle.wef_tree.proofs.Spelled.{Agrees, AreGoodBindings, IsGoodBinding, OpenedAgain, Opens, attribute_given, declaration_given, default_given, spelled, spelled_name}
 

@@ -9,19 +9,19 @@ use Rattle.wef_tree.specs.Loose.{empty_of}
 use Rattle.wef_tree_reading.specs.Building.{has_room, is_outside, opened}
 use Rattle.wef_xml.specs.Canonical.{end_of, start_of, text_of}
 use Rattle.wef_xml.specs.Good.{IsGoodHead, IsLocalName, IsXmlText}
-use Rattle.wef_tree_reading.specs.Pieces.{piece_at}
+use Rattle.wef_tree_pieces.specs.Pieces.{piece_at}
 use Rattle.wef_xml.specs.Prefixes.{Scope, attribute_prefix, element_prefix, inside, new_bindings, nine, prefix_of}
 use Rattle.wef_tree_reading.specs.Scopes.{declared_outside}
 use Rattle.wef_xml.specs.Spaces.{is_empty, is_xml, is_xml_space, is_xmlns}
 use Rattle.wef_tree_reading.specs.Spelling.{Leads}
 use Rattle.wef_xml.specs.declared.bindings.Binding.{Binding}
 use Rattle.wef_tree_reading.specs.declared.building.Builder.{Builder}
-use Rattle.wef_tree_reading.specs.declared.names.Name.{Name}
-use Rattle.wef_tree_reading.specs.declared.pieces.Piece.{Piece}
-use Rattle.wef_tree_reading.specs.declared.pieces.Piece.TheVariants.{Start, Empty, End}
+use Rattle.wef_tree_pieces.specs.declared.names.Name.{Name}
+use Rattle.wef_tree_pieces.specs.declared.pieces.Piece.{Piece}
+use Rattle.wef_tree_pieces.specs.declared.pieces.Piece.TheVariants.{Start, Empty, End}
 use Rattle.wef_tree_reading.specs.declared.stack.Open.{Open}
-use Rattle.wef_tree_reading.specs.declared.tags.Given.{Given}
-use Rattle.wef_tree_reading.specs.declared.tags.Tag.{Tag}
+use Rattle.wef_tree_pieces.specs.declared.tags.Given.{Given}
+use Rattle.wef_tree_pieces.specs.declared.tags.Tag.{Tag}
 
 -- the name of an element, as it is spelt
 abbrev pub spelled_name : Scope → List ℕ → List ℕ → Name

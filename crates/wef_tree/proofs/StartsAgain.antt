@@ -12,15 +12,15 @@ use Rattle.wef_xml.specs.Canonical.{assigned, attribute_of, declaration_of, defa
 use Rattle.wef_xml.specs.Fronts.{behind, strip}
 use Rattle.wef_xml.specs.Good.{AreGoodAttributes, IsGoodAttribute, IsGoodHead, IsLocalName, IsXmlText}
 use Rattle.wef_xml.specs.Letters.{is_name_char, is_name_start}
-use Rattle.wef_tree_reading.specs.Names.{name_after, name_at, name_tail, plain_name_at, with_front}
-use Rattle.wef_tree_reading.specs.Pieces.{closed_tag, comment_tail, declaration_tail, markup_at, piece_at, section_tail}
+use Rattle.wef_tree_pieces.specs.Names.{name_after, name_at, name_tail, plain_name_at, with_front}
+use Rattle.wef_tree_pieces.specs.Pieces.{closed_tag, comment_tail, declaration_tail, markup_at, piece_at, section_tail}
 use Rattle.wef_xml.specs.Prefixes.{Scope, attribute_prefix, element_prefix, inside, new_bindings}
-use Rattle.wef_tree_reading.specs.Tags.{end_tag_at, ends_tag, given_at, givens_in, givens_on, spaced_turn, tag_at, tag_turn, with_attributes, with_givens, with_value}
+use Rattle.wef_tree_pieces.specs.Tags.{end_tag_at, ends_tag, given_at, givens_in, givens_on, spaced_turn, tag_at, tag_turn, with_attributes, with_givens, with_value}
 use Rattle.wef_xml.specs.declared.bindings.Binding.{Binding}
-use Rattle.wef_tree_reading.specs.declared.names.Name.{Name}
-use Rattle.wef_tree_reading.specs.declared.pieces.Piece.{Piece}
-use Rattle.wef_tree_reading.specs.declared.pieces.Piece.TheVariants.{Comment, Declaration, Empty, End, Section, Start}
-use Rattle.wef_tree_reading.specs.declared.tags.Given.{Given}
+use Rattle.wef_tree_pieces.specs.declared.names.Name.{Name}
+use Rattle.wef_tree_pieces.specs.declared.pieces.Piece.{Piece}
+use Rattle.wef_tree_pieces.specs.declared.pieces.Piece.TheVariants.{Comment, Declaration, Empty, End, Section, Start}
+use Rattle.wef_tree_pieces.specs.declared.tags.Given.{Given}
 use Rattle.wef_xml.proofs.Ascii.{plain_is}
 use Rattle.wef_tree.proofs.GoodPrefixes.{attribute_prefix_good, bound_by_good, element_prefix_good, new_are_good, xmlns_is_name}
 use Rattle.wef_tree.proofs.Spelled.{AreGoodBindings, EmptyAgain, EndAgain, IsGoodBinding, StartAgain, attribute_given, declaration_given, default_given, spelled}

@@ -15,14 +15,14 @@ use Rattle.wef_xml.specs.Canonical.{text_char, value_char, value_of}
 use Rattle.wef_xml.specs.Fronts.{strip}
 use Rattle.wef_xml.specs.Good.{IsLocalName, IsXmlText}
 use Rattle.wef_xml.specs.Letters.{is_name_char, is_name_start}
-use Rattle.wef_tree_reading.specs.Names.{with_front}
-use Rattle.wef_tree_reading.specs.Pieces.{markup_at, piece_at}
-use Rattle.wef_tree_reading.specs.References.{reference_at}
+use Rattle.wef_tree_pieces.specs.Names.{with_front}
+use Rattle.wef_tree_pieces.specs.Pieces.{markup_at, piece_at}
+use Rattle.wef_tree_pieces.specs.References.{reference_at}
 use Rattle.wef_tree_reading.specs.Spelling.{Leads}
-use Rattle.wef_tree_reading.specs.Tags.{value_in, value_on, value_turn}
+use Rattle.wef_tree_pieces.specs.Tags.{value_in, value_on, value_turn}
 use Rattle.wef_tree_reading.specs.declared.building.Builder.{Builder}
-use Rattle.wef_tree_reading.specs.declared.pieces.Piece.{Piece}
-use Rattle.wef_tree_reading.specs.declared.pieces.Piece.TheVariants.{Letter, Reference}
+use Rattle.wef_tree_pieces.specs.declared.pieces.Piece.{Piece}
+use Rattle.wef_tree_pieces.specs.declared.pieces.Piece.TheVariants.{Letter, Reference}
 use Rattle.wef_tree.proofs.Spelled.{TextAgain}
 
 -- characters

@@ -11,25 +11,26 @@ use Rattle.wef_base.specs.declared.tree.Attribute.{Attribute}
 use Rattle.wef_base.specs.declared.tree.Element.{Element}
 use Rattle.wef_base.specs.declared.tree.Node.{Node, Chars, Element', Row_of-Node, end_of-Node, more_of-Node, items-the_row-Node, items_shown-the_row-Node-0, roll-Node, roll-out-Node, Node-F}
 use Rattle.wef_base.specs.declared.tree.Node.TheVariants.{Element as Child, outs-Element', outs-Element}
-use Rattle.wef_tree_reading.specs.Building.{element_of, ended, entered, has_room, nothing, placed, same_name, taken, with_child, with_text}
+use Rattle.wef_tree_reading.specs.Building.{element_of, ended, entered, has_room, nothing, placed, taken, with_child, with_text}
+use Rattle.wef_tree_pieces.specs.Names.{same_name}
 use Rattle.wef_xml.specs.Canonical.{canonical, end_of, node_of, row_of, start_of, text_of}
 use Rattle.wef_xml.specs.Good.{AreGoodNodes, IsGoodHead, IsGoodNode, IsGoodRow, IsGoodText, IsGoodTree, are_apart, is_text}
-use Rattle.wef_tree_reading.specs.Pieces.{piece_at}
+use Rattle.wef_tree_pieces.specs.Pieces.{piece_at}
 use Rattle.wef_xml.specs.Prefixes.{Scope, bound_by, inside, is_soap, nine, outermost, prefix_of, root_bindings, soap_space, unless_bound}
 use Rattle.wef_tree_reading.specs.Scopes.{declared_outside}
 use Rattle.wef_xml.specs.Spaces.{is_empty}
 use Rattle.wef_tree_reading.specs.Spelling.{Leads, TextSpells}
 use Rattle.wef_xml.specs.declared.bindings.Binding.{Binding}
 use Rattle.wef_tree_reading.specs.declared.building.Builder.{Builder}
-use Rattle.wef_tree_reading.specs.declared.names.Name.{Name}
-use Rattle.wef_tree_reading.specs.declared.pieces.Piece.{Piece}
-use Rattle.wef_tree_reading.specs.declared.pieces.Piece.TheVariants.{Start, End}
+use Rattle.wef_tree_pieces.specs.declared.names.Name.{Name}
+use Rattle.wef_tree_pieces.specs.declared.pieces.Piece.{Piece}
+use Rattle.wef_tree_pieces.specs.declared.pieces.Piece.TheVariants.{Start, End}
 use Rattle.wef_tree_reading.specs.declared.stack.Open.{Open}
-use Rattle.wef_tree_reading.proofs.GoodPieces.{no_text}
+use Rattle.wef_tree_pieces.proofs.GoodPieces.{no_text}
 use Rattle.wef_tree_writing.specs.Levels.{bound_to}
 use Rattle.wef_tree_reading.proofs.GoodTrees.{text_length}
 use Rattle.wef_tree.proofs.GoodPrefixes.{bound_by_good, nine_are_good}
-use Rattle.wef_tree_reading.proofs.Inversions.{none_some, some_is, unless_some}
+use Rattle.wef_tree_pieces.proofs.Inversions.{none_some, some_is, unless_some}
 use Rattle.wef_tree.proofs.OpensAgain.{opened_again}
 use Rattle.wef_tree.proofs.Spelled.{Agrees, AreGoodBindings, Opens, spelled, spelled_name}
 use Rattle.wef_tree.proofs.StartsAgain.{end_again, start_again}

@@ -8,16 +8,16 @@ use Rattle.wef_base.specs.declared.tree.Element.{Element}
 use Rattle.wef_tree_reading.specs.Building.{nothing, taken}
 use Rattle.wef_xml.specs.Decoding.{decoded, line_ends}
 use Rattle.wef_tree_reading.specs.Documents.{GivesTree, IsSpelt, led_on, led_to, root_by, root_of, tree_of}
-use Rattle.wef_tree_reading.specs.Pieces.{piece_at}
+use Rattle.wef_tree_pieces.specs.Pieces.{piece_at}
 use Rattle.wef_tree_reading.specs.Spelling.{Leads, ReadsTree, Spells, StopsAt, TextSpells}
 use Rattle.wef_tree_reading.specs.declared.building.Builder.{Builder}
-use Rattle.wef_tree_reading.specs.declared.faults.FaultKind.{FaultKind}
+use Rattle.wef_tree_pieces.specs.declared.faults.FaultKind.{FaultKind}
 use Rattle.wef_xml.specs.declared.faults.TreeFault.{TreeFault}
 use Rattle.wef_xml.specs.declared.faults.TreeFault.TheVariants.{NoMemory, BadCharset, BadXml, TooDeep, Refused}
-use Rattle.wef_tree_reading.specs.declared.pieces.Piece.{Piece}
-use Rattle.wef_tree_reading.proofs.Inversions.{and_then_some, none_some, some_is}
+use Rattle.wef_tree_pieces.specs.declared.pieces.Piece.{Piece}
+use Rattle.wef_tree_pieces.proofs.Inversions.{and_then_some, none_some, some_is}
 use Rattle.wef_tree_reading.proofs.Readings.{end_is_stuck, has_no_fault}
-use Rattle.wef_tree_reading.proofs.Shorter.{piece_shorter}
+use Rattle.wef_tree_pieces.proofs.Shorter.{piece_shorter}
 
 -- pieces that lead to the end of a text are those that the function takes
 led : (n : ℕ) (ps : List Piece) (b : Builder) (text : List ℕ) (c : Builder) → length text ≤ n → Leads b ps text c [] → led_to n b text ≡ Some c

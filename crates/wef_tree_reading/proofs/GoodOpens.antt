@@ -18,12 +18,12 @@ use Rattle.wef_base.specs.declared.tree.Node.TheVariants.{Element as Child}
 use Rattle.wef_xml.specs.Good.{IsXmlText, IsGoodAttribute, AreGoodAttributes, differ_behind, are_different, is_text, are_apart, IsGoodText, IsGoodNode, AreGoodNodes, IsGoodElement}
 use Rattle.wef_tree_reading.specs.Scopes.{Declared, attribute_one, attribute_space, attributes_by, declare_one, declared_by, declared_outside, declares, in_scope, may_declare, undeclared, with_attribute, with_declaration}
 use Rattle.wef_xml.specs.Spaces.{is_attribute, is_empty, is_xml, is_xml_space, is_xmlns, xml_space}
-use Rattle.wef_tree_reading.specs.declared.names.Name.{Name}
+use Rattle.wef_tree_pieces.specs.declared.names.Name.{Name}
 use Rattle.wef_tree_reading.specs.declared.stack.Open.{Open}
-use Rattle.wef_tree_reading.specs.declared.tags.Given.{Given}
+use Rattle.wef_tree_pieces.specs.declared.tags.Given.{Given}
 use Rattle.wef_xml.proofs.GoodNodes.{good_child, is_no_text}
-use Rattle.wef_tree_reading.proofs.GoodPieces.{AreGoodGivens, IsGoodGiven, IsGoodName, no_text}
-use Rattle.wef_tree_reading.proofs.Inversions.{and_then_some, if_some, none_some, some_is, unless_some}
+use Rattle.wef_tree_pieces.proofs.GoodPieces.{AreGoodGivens, IsGoodGiven, IsGoodName, no_text}
+use Rattle.wef_tree_pieces.proofs.Inversions.{and_then_some, if_some, none_some, some_is, unless_some}
 
 -- declarations
 

@@ -12,20 +12,21 @@ use Rattle.wef_base.specs.declared.tree.Charset.{Charset}
 use Rattle.wef_base.specs.declared.tree.Element.{Element}
 use Rattle.wef_base.specs.declared.tree.Node.{Node, Chars}
 use Rattle.wef_base.specs.declared.tree.Node.TheVariants.{Element as Child}
-use Rattle.wef_tree_reading.specs.Building.{element_of, ended, entered, flushed, has_room, is_outside, nothing, opened, opened_with, passed, placed, same_name, taken, with_child, with_letter, with_more, with_text}
+use Rattle.wef_tree_reading.specs.Building.{element_of, ended, entered, flushed, has_room, is_outside, nothing, opened, opened_with, passed, placed, taken, with_child, with_letter, with_more, with_text}
+use Rattle.wef_tree_pieces.specs.Names.{same_name}
 use Rattle.wef_xml.specs.Good.{IsXmlText, IsGoodElement, IsGoodTree}
 use Rattle.wef_tree_reading.specs.Scopes.{Declared, attributes_by, declared_by, in_scope}
 use Rattle.wef_xml.specs.Spaces.{is_empty}
 use Rattle.wef_tree_reading.specs.Spelling.{Leads, Spells}
 use Rattle.wef_tree_reading.specs.declared.building.Builder.{Builder}
-use Rattle.wef_tree_reading.specs.declared.names.Name.{Name}
-use Rattle.wef_tree_reading.specs.declared.pieces.Piece.{Piece}
-use Rattle.wef_tree_reading.specs.declared.pieces.Piece.TheVariants.{Declaration, Comment, Start, Empty, End, Section, Reference, Letter}
+use Rattle.wef_tree_pieces.specs.declared.names.Name.{Name}
+use Rattle.wef_tree_pieces.specs.declared.pieces.Piece.{Piece}
+use Rattle.wef_tree_pieces.specs.declared.pieces.Piece.TheVariants.{Declaration, Comment, Start, Empty, End, Section, Reference, Letter}
 use Rattle.wef_tree_reading.specs.declared.stack.Open.{Open}
-use Rattle.wef_tree_reading.specs.declared.tags.Tag.{Tag}
+use Rattle.wef_tree_pieces.specs.declared.tags.Tag.{Tag}
 use Rattle.wef_tree_reading.proofs.GoodOpens.{AreGoodChildren, AreGoodOpens, IsGoodOpen, all_declared, ends_with_child, ends_with_text, good_attributes, good_in_scope, none_declared, with_good_child, with_good_text}
-use Rattle.wef_tree_reading.proofs.GoodPieces.{IsGoodPiece, IsGoodTag, no_text, piece_is, text_behind}
-use Rattle.wef_tree_reading.proofs.Inversions.{and_then_some, if_some, map_some, none_some, some_is, unless_some}
+use Rattle.wef_tree_pieces.proofs.GoodPieces.{IsGoodPiece, IsGoodTag, no_text, piece_is, text_behind}
+use Rattle.wef_tree_pieces.proofs.Inversions.{and_then_some, if_some, map_some, none_some, some_is, unless_some}
 
 -- the innermost element doesn't end with a text, which waits in the builder
 abbrev IsFresh : List Open → Type 0

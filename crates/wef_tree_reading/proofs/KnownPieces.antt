@@ -13,15 +13,15 @@ use Rattle.wef_xml.specs.Spaces.{xml_space}
 use Rattle.wef_xml.specs.Told.{IsFound, IsTold}
 use Rattle.wef_tree_reading.specs.Building.{taken}
 use Rattle.wef_tree_reading.specs.Known.{AreGivensIn, Grows, Holds, IsPieceIn, IsRootIn, KnowsBuilder, found_in}
-use Rattle.wef_tree_reading.specs.Reads.{Takes}
+use Rattle.wef_tree_pieces.specs.Reads.{Takes}
 use Rattle.wef_tree_reading.specs.Scopes.{declares}
 use Rattle.wef_tree_reading.specs.declared.building.Builder.{Builder}
-use Rattle.wef_tree_reading.specs.declared.faults.Halt.{Halt}
+use Rattle.wef_tree_pieces.specs.declared.faults.Halt.{Halt}
 use Rattle.wef_tree_reading.specs.declared.known.Known.{Known}
-use Rattle.wef_tree_reading.specs.declared.pieces.Piece.{Piece}
-use Rattle.wef_tree_reading.specs.declared.tags.Given.{Given}
+use Rattle.wef_tree_pieces.specs.declared.pieces.Piece.{Piece}
+use Rattle.wef_tree_pieces.specs.declared.tags.Given.{Given}
 use Rattle.wef_tree_reading.proofs.GoodOpens.{equal_if}
-use Rattle.wef_tree_reading.proofs.Inversions.{none_some}
+use Rattle.wef_tree_pieces.proofs.Inversions.{none_some}
 use Rattle.wef_tree_reading.proofs.KnownTrees.{taken_in}
 
 -- more and more is known

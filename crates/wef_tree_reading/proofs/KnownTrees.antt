@@ -17,17 +17,18 @@ use Rattle.wef_base.specs.declared.tree.Node.TheVariants.{Element as Child}
 use Rattle.wef_xml.specs.Spaces.{is_attribute, is_empty, is_xml, xml_space}
 use Rattle.wef_xml.specs.Told.{AreAttributesIn, AreNodesIn, IsElementIn, IsNodeIn}
 use Rattle.wef_xml.proofs.Apart.{child_in}
-use Rattle.wef_tree_reading.specs.Building.{element_of, ended, entered, flushed, has_room, is_outside, opened, opened_with, passed, placed, same_name, taken, with_child, with_letter, with_more, with_text}
+use Rattle.wef_tree_reading.specs.Building.{element_of, ended, entered, flushed, has_room, is_outside, opened, opened_with, passed, placed, taken, with_child, with_letter, with_more, with_text}
+use Rattle.wef_tree_pieces.specs.Names.{same_name}
 use Rattle.wef_tree_reading.specs.Known.{AreDeclaredIn, AreGivensIn, AreOpensIn, IsBuilderIn, IsPieceIn, IsRootIn}
 use Rattle.wef_tree_reading.specs.Scopes.{Declared, attribute_one, attribute_space, attributes_by, declare_one, declared_by, declared_outside, declares, in_scope, may_declare, undeclared, with_attribute, with_declaration}
 use Rattle.wef_tree_reading.specs.declared.building.Builder.{Builder}
-use Rattle.wef_tree_reading.specs.declared.names.Name.{Name}
-use Rattle.wef_tree_reading.specs.declared.pieces.Piece.{Piece}
-use Rattle.wef_tree_reading.specs.declared.pieces.Piece.TheVariants.{Declaration, Comment, Start, Empty, End, Section, Reference, Letter}
+use Rattle.wef_tree_pieces.specs.declared.names.Name.{Name}
+use Rattle.wef_tree_pieces.specs.declared.pieces.Piece.{Piece}
+use Rattle.wef_tree_pieces.specs.declared.pieces.Piece.TheVariants.{Declaration, Comment, Start, Empty, End, Section, Reference, Letter}
 use Rattle.wef_tree_reading.specs.declared.stack.Open.{Open}
-use Rattle.wef_tree_reading.specs.declared.tags.Given.{Given}
-use Rattle.wef_tree_reading.specs.declared.tags.Tag.{Tag}
-use Rattle.wef_tree_reading.proofs.Inversions.{and_then_some, if_some, map_some, none_some, some_is, unless_some}
+use Rattle.wef_tree_pieces.specs.declared.tags.Given.{Given}
+use Rattle.wef_tree_pieces.specs.declared.tags.Tag.{Tag}
+use Rattle.wef_tree_pieces.proofs.Inversions.{and_then_some, if_some, map_some, none_some, some_is, unless_some}
 
 module _ (P : List ℕ → Type 0) where
   -- declarations
@@ -153,12 +154,15 @@ module _ (P : List ℕ → Type 0) where
       let space = and_then_some (λ (s : List ℕ). option_map (with s) (attributes_by own.0 b.around [] tag.given)) (in_scope own.0 b.around tag.name.prefix) o own.2 in
       let attributes = map_some (with space.0) (attributes_by own.0 b.around [] tag.given) o space.2 in
       let Q : Open → Type 0 = λ x. AreOpensIn P (x ∷ []) in
-      subst Q attributes.2 ((
-        scope_in own.0 b.around tag.name.prefix space.0 fixed spaces is.0 space.1,
-        attributes_in own.0 b.around tag.given [] attributes.0 fixed spaces is.0 (All-nil (λ (a : Attribute). P a.space)) attributes.1,
-        spaces,
+      subst Q attributes.2 (
+        (
+          scope_in own.0 b.around tag.name.prefix space.0 fixed spaces is.0 space.1,
+          attributes_in own.0 b.around tag.given [] attributes.0 fixed spaces is.0 (All-nil (λ (a : Attribute). P a.space)) attributes.1,
+          spaces,
+          tt,
+        ),
         tt,
-      ), tt)
+      )
 
   begun_in : (b c : Builder) → IsBuilderIn P b → record b { begun = true } ≡ c → IsBuilderIn P c
   begun_in b c is e = subst (IsBuilderIn P) e is

@@ -1,16 +1,11 @@
 pub mod Expanded
 pub mod Functions
 pub mod GoodOpens
-pub mod GoodPieces
 pub mod GoodTrees
-pub mod Inversions
 pub mod KnownPieces
 pub mod KnownTrees
 pub mod LineEnds
 pub mod Readings
 pub mod Runs
-pub mod Shorter
-pub mod Spelt
 pub mod Stacks
-pub mod Turns
 pub mod Walks

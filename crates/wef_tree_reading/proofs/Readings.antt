@@ -7,10 +7,10 @@ use Rattle.wef_base.specs.declared.tree.Element.{Element}
 use Rattle.wef_tree_reading.specs.Building.{nothing, taken}
 use Rattle.wef_xml.specs.Decoding.{decoded, line_ends, place}
 use Rattle.wef_tree_reading.specs.Laws.{HasOneRoot, HasNoFault, IsDecoded, HasOneFault, GoesOnToTheFault}
-use Rattle.wef_tree_reading.specs.Pieces.{piece_at}
+use Rattle.wef_tree_pieces.specs.Pieces.{piece_at}
 use Rattle.wef_tree_reading.specs.Spelling.{Leads, Reaches, IsStuck, kind_of}
 use Rattle.wef_tree_reading.specs.declared.building.Builder.{Builder}
-use Rattle.wef_tree_reading.specs.declared.pieces.Piece.{Piece}
+use Rattle.wef_tree_pieces.specs.declared.pieces.Piece.{Piece}
 
 none_some : {A : Type 0} (x : A) → None ≡ Some x → ⊥
 none_some x e = cc

@@ -8,20 +8,20 @@ use Rattle.wef_tree_reading.specs.Building.{nothing}
 use Rattle.wef_xml.specs.Decoding.{decoded, line_ends, place}
 use Rattle.wef_xml.specs.Good.{IsGoodTree}
 use Rattle.wef_tree_reading.specs.Laws.{IsLongest}
-use Rattle.wef_tree_reading.specs.Pieces.{piece_at}
+use Rattle.wef_tree_pieces.specs.Pieces.{piece_at}
 use Rattle.std.specs.Borrow.{Bor}
 use Rattle.wef_tree_reading.specs.Runs.{Walks}
 use Rattle.wef_tree_reading.specs.Spelling.{Leads, Steps, Reaches, ReadsText, ReadsTree, Stops, StopsAt, fault_at, kind_of, IsStuck}
 use Rattle.wef_tree_reading.specs.declared.building.Builder.{Builder}
-use Rattle.wef_tree_reading.specs.declared.faults.FaultKind.{FaultKind}
-use Rattle.wef_tree_reading.specs.declared.faults.FaultKind.TheVariants.{Xml, Deep, Refused as Forbidden}
-use Rattle.wef_tree_reading.specs.declared.faults.Stop.{Stop}
-use Rattle.wef_tree_reading.specs.declared.faults.Stop.TheVariants.{NoMemory, Fault}
+use Rattle.wef_tree_pieces.specs.declared.faults.FaultKind.{FaultKind}
+use Rattle.wef_tree_pieces.specs.declared.faults.FaultKind.TheVariants.{Xml, Deep, Refused as Forbidden}
+use Rattle.wef_tree_pieces.specs.declared.faults.Stop.{Stop}
+use Rattle.wef_tree_pieces.specs.declared.faults.Stop.TheVariants.{NoMemory, Fault}
 use Rattle.wef_xml.specs.declared.faults.TreeFault.{TreeFault}
-use Rattle.wef_tree_reading.specs.declared.pieces.Piece.{Piece}
+use Rattle.wef_tree_pieces.specs.declared.pieces.Piece.{Piece}
 use Rattle.wef_tree_reading.proofs.GoodTrees.{spells_good}
 use Rattle.wef_tree_reading.proofs.Readings.{end_is_stuck, goes_on_to_the_fault}
-use Rattle.wef_tree_reading.proofs.Shorter.{piece_shorter}
+use Rattle.wef_tree_pieces.proofs.Shorter.{piece_shorter}
 
 -- good pieces behind others
 leads_further :

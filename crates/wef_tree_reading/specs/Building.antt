@@ -3,18 +3,19 @@
 use Rattle.std.specs.Prelude.{ℕ, ◌==◌, nat_lt, Bool, true, false, ◌&&◌, not, is_some, List, [], ◌∷◌, ◌++◌, length, encode_utf8, Option, Some, None, if◌then◌else◌}
 use Rattle.std.specs.Option.{option_map, option_and_then}
 use Rattle.std.specs.FinMap as map
-use Rattle.wef_base.specs.Names.{is_space, same}
+use Rattle.wef_base.specs.Names.{is_space}
 use Rattle.wef_base.specs.declared.tree.Element.{Element}
 use Rattle.wef_base.specs.declared.tree.Node.{Node}
 use Rattle.wef_base.specs.declared.tree.Node.TheVariants.{Element as Child, Chars}
 use Rattle.wef_xml.specs.Good.{greatest_depth}
+use Rattle.wef_tree_pieces.specs.Names.{same_name}
 use Rattle.wef_tree_reading.specs.Scopes.{Declared, attributes_by, declared_by, in_scope}
 use Rattle.wef_tree_reading.specs.declared.building.Builder.{Builder}
-use Rattle.wef_tree_reading.specs.declared.names.Name.{Name}
-use Rattle.wef_tree_reading.specs.declared.pieces.Piece.{Piece}
-use Rattle.wef_tree_reading.specs.declared.pieces.Piece.TheVariants.{Declaration, Comment, Start, Empty, End, Section, Reference, Letter}
+use Rattle.wef_tree_pieces.specs.declared.names.Name.{Name}
+use Rattle.wef_tree_pieces.specs.declared.pieces.Piece.{Piece}
+use Rattle.wef_tree_pieces.specs.declared.pieces.Piece.TheVariants.{Declaration, Comment, Start, Empty, End, Section, Reference, Letter}
 use Rattle.wef_tree_reading.specs.declared.stack.Open.{Open}
-use Rattle.wef_tree_reading.specs.declared.tags.Tag.{Tag}
+use Rattle.wef_tree_pieces.specs.declared.tags.Tag.{Tag}
 
 -- before the first piece
 abbrev pub nothing : Builder
@@ -66,10 +67,6 @@ entered b o = record (flushed b) { around = o ∷ (flushed b).around }
 -- an element that begins and ends at once
 abbrev pub passed : Builder → Open → Builder
 passed b o = placed (element_of o) (flushed b)
-
--- two names, letter for letter
-abbrev pub same_name : Name → Name → Bool
-same_name x y = same x.prefix y.prefix && same x.local y.local
 
 -- the innermost of these open elements ends, where its name is this one
 abbrev pub ended : Name → Builder → List Open → Option Builder

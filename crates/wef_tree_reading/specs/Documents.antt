@@ -6,12 +6,12 @@ use Rattle.wef_base.specs.declared.tree.Charset.{Charset}
 use Rattle.wef_base.specs.declared.tree.Element.{Element}
 use Rattle.wef_tree_reading.specs.Building.{nothing, taken}
 use Rattle.wef_xml.specs.Decoding.{decoded, line_ends}
-use Rattle.wef_tree_reading.specs.Pieces.{piece_at}
+use Rattle.wef_tree_pieces.specs.Pieces.{piece_at}
 use Rattle.wef_tree_reading.specs.Spelling.{Spells}
 use Rattle.wef_tree_reading.specs.declared.building.Builder.{Builder}
 use Rattle.wef_xml.specs.declared.faults.TreeFault.{TreeFault}
 use Rattle.wef_xml.specs.declared.faults.TreeFault.TheVariants.{NoMemory, BadCharset, BadXml, TooDeep, Refused}
-use Rattle.wef_tree_reading.specs.declared.pieces.Piece.{Piece}
+use Rattle.wef_tree_pieces.specs.declared.pieces.Piece.{Piece}
 
 -- what a piece and all behind it lead to
 abbrev pub led_on : (Builder → List ℕ → Option Builder) → Builder → Piece × List ℕ → Option Builder

@@ -9,10 +9,10 @@ use Rattle.wef_xml.specs.Told.{AreAttributesIn, AreNodesIn, IsElementIn, IsFound
 use Rattle.wef_tree_reading.specs.Scopes.{Declared, declares}
 use Rattle.wef_tree_reading.specs.declared.building.Builder.{Builder}
 use Rattle.wef_tree_reading.specs.declared.known.Known.{Known}
-use Rattle.wef_tree_reading.specs.declared.pieces.Piece.{Piece}
-use Rattle.wef_tree_reading.specs.declared.pieces.Piece.TheVariants.{Start, Empty}
+use Rattle.wef_tree_pieces.specs.declared.pieces.Piece.{Piece}
+use Rattle.wef_tree_pieces.specs.declared.pieces.Piece.TheVariants.{Start, Empty}
 use Rattle.wef_tree_reading.specs.declared.stack.Open.{Open}
-use Rattle.wef_tree_reading.specs.declared.tags.Given.{Given}
+use Rattle.wef_tree_pieces.specs.declared.tags.Given.{Given}
 
 -- what is found by a digest
 abbrev pub found_in : Known → List ℕ → Option (List ℕ)

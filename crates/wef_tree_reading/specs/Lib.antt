@@ -3,11 +3,6 @@ pub mod Documents
 pub mod ExpandedNames
 pub mod Known
 pub mod Laws
-pub mod Names
-pub mod Pieces
-pub mod Reads
-pub mod References
 pub mod Runs
 pub mod Scopes
 pub mod Spelling
-pub mod Tags

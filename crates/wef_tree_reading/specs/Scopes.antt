@@ -8,8 +8,8 @@ use Rattle.std.specs.List.{list_any}
 use Rattle.std.specs.FinMap as map
 use Rattle.wef_base.specs.declared.tree.Attribute.{Attribute}
 use Rattle.wef_xml.specs.Spaces.{is_attribute, is_empty, is_xml, is_xml_space, is_xmlns, xml_space}
-use Rattle.wef_tree_reading.specs.declared.names.Name.{Name}
-use Rattle.wef_tree_reading.specs.declared.tags.Given.{Given}
+use Rattle.wef_tree_pieces.specs.declared.names.Name.{Name}
+use Rattle.wef_tree_pieces.specs.declared.tags.Given.{Given}
 use Rattle.wef_tree_reading.specs.declared.stack.Open.{Open}
 
 -- the declarations of one tag: a namespace for some prefixes

@@ -9,16 +9,16 @@ use Rattle.wef_xml.specs.Good.{greatest_depth}
 use Rattle.wef_tree_reading.specs.Building.{nothing, taken}
 use Rattle.wef_xml.specs.Decoding.{decoded, line_ends, place}
 use Rattle.wef_xml.specs.Fronts.{strip}
-use Rattle.wef_tree_reading.specs.Pieces.{piece_at}
+use Rattle.wef_tree_pieces.specs.Pieces.{piece_at}
 use Rattle.wef_tree_reading.specs.declared.building.Builder.{Builder}
-use Rattle.wef_tree_reading.specs.declared.faults.FaultKind.{FaultKind}
-use Rattle.wef_tree_reading.specs.declared.faults.FaultKind.TheVariants.{Xml, Deep, Refused as Forbidden}
-use Rattle.wef_tree_reading.specs.declared.faults.Stop.{Stop}
-use Rattle.wef_tree_reading.specs.declared.faults.Stop.TheVariants.{NoMemory as OutOfMemory, Fault}
+use Rattle.wef_tree_pieces.specs.declared.faults.FaultKind.{FaultKind}
+use Rattle.wef_tree_pieces.specs.declared.faults.FaultKind.TheVariants.{Xml, Deep, Refused as Forbidden}
+use Rattle.wef_tree_pieces.specs.declared.faults.Stop.{Stop}
+use Rattle.wef_tree_pieces.specs.declared.faults.Stop.TheVariants.{NoMemory as OutOfMemory, Fault}
 use Rattle.wef_xml.specs.declared.faults.TreeFault.{TreeFault}
 use Rattle.wef_xml.specs.declared.faults.TreeFault.TheVariants.{NoMemory, BadCharset, BadXml, TooDeep, Refused}
-use Rattle.wef_tree_reading.specs.declared.pieces.Piece.{Piece}
-use Rattle.wef_tree_reading.specs.declared.pieces.Piece.TheVariants.{Start, Empty}
+use Rattle.wef_tree_pieces.specs.declared.pieces.Piece.{Piece}
+use Rattle.wef_tree_pieces.specs.declared.pieces.Piece.TheVariants.{Start, Empty}
 
 -- Good pieces lead from a builder and a text to another builder and what is left of the text.
 abbrev pub Leads : Builder → List Piece → List ℕ → Builder → List ℕ → Type 0

@@ -5,20 +5,18 @@ ghost use Rattle.std.specs.BTreeSet.{contains};
 ghost use Rattle.std.specs.Ordering.{eq_by_cmp};
 ghost use Rattle.std.specs.List.{list_any};
 ghost use Rattle.wef_tree_reading.specs.ExpandedNames.{HasNamesOf, name_cmp};
-ghost use Rattle.wef_tree_reading.specs.Reads.{Gives, Takes};
+ghost use Rattle.wef_tree_pieces.specs.Reads.{Gives, Takes};
 ghost use Rattle.wef_tree_reading.specs.Scopes.{attribute_one, attributes_by, declares, with_attribute};
 ghost use Rattle.wef_xml.specs.Spaces.{is_attribute};
 
-use crate::faults::Halt;
-use crate::names::Name;
 use crate::scopes::Declarations;
 use crate::spaces::{attribute_space, declared_prefix};
 use crate::stack::Stack;
-use crate::tags::Given;
 use std::alloc::{AllocError, Global};
 use std::collections::BTreeSet;
 use std::marker::Model;
 use wef_base::{Attribute, List, Text};
+use wef_tree_pieces::{Given, Halt, Name};
 use wef_xml::digests::Digested;
 
 /// Up to this many attributes, comparing each with all before it is faster than a set of names.

@@ -3,19 +3,16 @@
 ghost use Rattle.std.specs.Prelude.{◌≡◌, ◌==◌, [], ◌++◌, length, true, codes, encode_utf8, encode_utf8_all, IfOk, OnOk};
 ghost use Rattle.wef_tree_reading.specs.Building.{element_of, ended, entered, flushed, has_room, is_outside, nothing, opened, passed, placed, taken, with_letter, with_more};
 ghost use Rattle.wef_xml.specs.Good.{greatest_depth};
-ghost use Rattle.wef_tree_reading.specs.Reads.{Gives, Takes};
+ghost use Rattle.wef_tree_pieces.specs.Reads.{Gives, Takes};
 
 use crate::attributes::attributes_by;
-use crate::faults::Halt;
-use crate::names::{Name, Spelling};
-use crate::pieces::Piece;
 use crate::spaces::{declared_by, in_scope};
 use crate::stack::{Open, Stack};
-use crate::tags::Tag;
 use std::alloc::{AllocError, Global};
 use std::mem;
 use wef_base::names::is_xml_space;
 use wef_base::{Element, List, Node, Text};
+use wef_tree_pieces::{Halt, Name, Piece, Spelling, Tag};
 
 /// How many elements may be open at once.
 pub(crate) const GREATEST_DEPTH: usize = 64;

@@ -8,12 +8,11 @@ ghost use Rattle.wef_tree_reading.specs.Known.{AreGivensIn, Grows, Holds, IsPiec
 ghost use Rattle.wef_tree_reading.specs.Scopes.{declares};
 ghost use Rattle.wef_xml.specs.Told.{IsFound};
 
-use crate::pieces::Piece;
 use crate::spaces::declared_prefix;
-use crate::tags::Given;
 use std::alloc::{AllocError, Global};
 use std::collections::BTreeMap;
 use wef_base::Namespace;
+use wef_tree_pieces::{Given, Piece};
 
 /// Long namespaces by their digests. Where two of one digest came, namespaces aren't told apart by
 /// their digests any more.

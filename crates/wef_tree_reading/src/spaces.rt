@@ -3,16 +3,14 @@
 ghost use Rattle.std.specs.Prelude.{◌≡◌};
 ghost use Rattle.std.specs.Option.{option_copied};
 ghost use Rattle.std.specs.FinMap as map;
-ghost use Rattle.wef_tree_reading.specs.Reads.{Gives, Takes};
+ghost use Rattle.wef_tree_pieces.specs.Reads.{Gives, Takes};
 ghost use Rattle.wef_tree_reading.specs.Scopes.{attribute_space, declare_one, declared_by, declares, in_scope, may_declare, with_declaration};
 
-use crate::faults::Halt;
-use crate::names::Name;
 use crate::scopes::Declarations;
 use crate::stack::Stack;
-use crate::tags::Given;
 use std::alloc::Global;
 use wef_base::{Namespace, Text};
+use wef_tree_pieces::{Given, Halt, Name};
 use wef_xml::digests::Digested;
 use wef_xml::spaces::{is_xml, is_xml_space, is_xmlns};
 

@@ -3,11 +3,11 @@
 ghost use Rattle.std.specs.Prelude.{◌≡◌, ◌==◌, [], ◌∷◌, length, MatchOption, IfOk, OnOk, OnErr};
 ghost use Rattle.std.specs.Option.{option_copied};
 
-use crate::names::Name;
 use crate::scopes::Declarations;
 use std::alloc::{AllocError, Global};
 use std::marker::Model;
 use wef_base::{Attribute, List, Namespace, Node, Text};
+use wef_tree_pieces::Name;
 use wef_xml::digests::Digested;
 use wef_xml::spaces::{no_space, xml_space};
 

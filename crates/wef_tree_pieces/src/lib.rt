@@ -1,0 +1,16 @@
+//! The pieces that a document of XML is a list of, read one by one.
+#![tactic(auto)]
+
+mod faults;
+mod headings;
+mod names;
+mod pieces;
+mod references;
+mod sections;
+mod tags;
+mod values;
+
+pub use faults::{FaultKind, Halt, Stop};
+pub use names::{Name, Spelling};
+pub use pieces::{Piece, piece_at};
+pub use tags::{Given, Tag};
