@@ -32,7 +32,7 @@ impl Event {
     {
         let mut root = self.tree()?;
         number_root(number, &mut root)?;
-        event_from(true, &root)
+        event_from(true, None, &root)
     }
 }
 

@@ -1,12 +1,13 @@
 //! Reading events.
 
-ghost use Rattle.std.specs.Prelude.{◌≡◌, true, false, ◌&&◌, ◌==◌, is_some, Some, IfErr, IfOk, IfSome};
+ghost use Rattle.std.specs.Prelude.{◌≡◌, true, false, ◌&&◌, ◌==◌, is_some, Some, option_copied, IfErr, IfOk, IfSome};
 ghost use Rattle.wef_base.specs.Names.{channel_name, same};
 ghost use Rattle.wef_base.specs.declared.tree.Charset.TheVariants.{Utf8};
 ghost use Rattle.wef_tree_reading.specs.Documents.{tree_of};
+ghost use Rattle.wef_xml.specs.Canonical.{unless_longer};
 ghost use Rattle.wef_xml.specs.Good.{IsGoodTree};
 ghost use Rattle.wef_event.specs.Events as events;
-ghost use Rattle.wef_event.specs.Events.{Finds, Gives, HasTree, IsEventOf, is_event_root, number_or, text_of_tree};
+ghost use Rattle.wef_event.specs.Events.{Finds, Gives, HasTree, IsEventOf, event_limit, is_event_root, number_or, text_of_tree};
 ghost use Rattle.wef_event.specs.Reading.{AsksForNoNumber, ReadsEvent, short_text};
 ghost use Rattle.wef_event.specs.Recognising.{IsLabel};
 
@@ -16,8 +17,10 @@ use crate::plain::EVENT_LIMIT;
 use crate::recognising::{Label, recognised};
 use crate::records::{Event, EventFault};
 use std::alloc::AllocError;
-use wef_base::{ChannelName, Charset, Element, Text, ValueFault};
-use wef_tree::{TreeFault, read_tree, write_tree_within};
+use wef_base::{Bytes, ChannelName, Charset, Element, Text, ValueFault};
+use wef_tree::{
+    ToldTree, TreeFault, read_told_tree, read_tree, write_told_tree_within, write_tree_within,
+};
 
 /// Reads an event from its text, which is a document (XML 1.0) whose root is called Event. Its
 /// channel and its number stand in the fields Channel and EventRecordID of its System, whatever the
@@ -42,7 +45,7 @@ pub fn event_of_node(node: &Element) -> Result<Event, EventFault>
     requires { IsGoodTree node.now }
     ensures { Gives result (events.event_of true node.now) }
 {
-    event_from(true, node)
+    event_from(true, None, node)
 }
 
 impl Event {
@@ -197,8 +200,8 @@ fn read_seen(needed: bool, label: &Label<'_>, text: &Text) -> Result<Event, Even
 fn read_tree_event(needed: bool, text: &Text) -> Result<Event, EventFault>
     ensures { ReadsEvent needed text.now result }
 {
-    match read_tree(text.alloc(), text.as_str().as_bytes(), Charset::Utf8) {
-        Ok(root) => event_from(needed, &root),
+    match read_told_tree(text.alloc(), text.as_str().as_bytes(), Charset::Utf8) {
+        Ok(tree) => event_from(needed, Some(&tree), tree.root()),
         Err(TreeFault::NoMemory) => Err(EventFault::NoMemory),
         Err(TreeFault::BadCharset { at }) => Err(EventFault::BadEvent { at }),
         Err(TreeFault::BadXml { at }) => Err(EventFault::BadEvent { at }),
@@ -207,9 +210,15 @@ fn read_tree_event(needed: bool, text: &Text) -> Result<Event, EventFault>
     }
 }
 
-/// The event of a root; `needed`: it needs a number.
-pub(crate) fn event_from(needed: bool, node: &Element) -> Result<Event, EventFault>
-    requires { IsGoodTree node.now }
+/// The event of a root; `needed`: it needs a number; `read`: the tree as it was read, where it was. Its
+/// text is written in a shorter time then.
+pub(crate) fn event_from(
+    needed: bool,
+    read: Option<&ToldTree>,
+    node: &Element,
+) -> Result<Event, EventFault>
+    requires good { IsGoodTree node.now }
+    requires same { IfSome (option_copied read) (λ tree. tree ≡ node.now) }
     ensures { Gives result (events.event_of needed node.now) }
 {
     if !is_event_root(node) {
@@ -221,7 +230,7 @@ pub(crate) fn event_from(needed: bool, node: &Element) -> Result<Event, EventFau
     let Ok(number) = number_or(needed, number_in(node)?) else {
         return Err(EventFault::NoRecordId);
     };
-    let Some(text) = text_of(node)? else {
+    let Some(text) = text_of(read, node)? else {
         return Err(EventFault::TooLong);
     };
     Ok(Event {
@@ -249,12 +258,12 @@ fn number_or(needed: bool, found: Option<u64>) -> Result<u64, EventFault>
 }
 
 /// The one text of a tree. None where it has more than `EVENT_LIMIT` bytes.
-fn text_of(node: &Element) -> Result<Option<Text>, AllocError>
-    requires { IsGoodTree node.now }
+fn text_of(read: Option<&ToldTree>, node: &Element) -> Result<Option<Text>, AllocError>
+    requires good { IsGoodTree node.now }
+    requires same { IfSome (option_copied read) (λ tree. tree ≡ node.now) }
     ensures { IfOk result (λ found. found ≡ short_text (text_of_tree node.now)) }
 {
-    let alloc = node.name.alloc();
-    let Ok(found) = write_tree_within(alloc, node, Charset::Utf8, EVENT_LIMIT) else {
+    let Ok(found) = bytes_of(read, node) else {
         return Err(AllocError);
     };
     let Some(bytes) = found else {
@@ -263,5 +272,18 @@ fn text_of(node: &Element) -> Result<Option<Text>, AllocError>
     let Ok(text) = std::str::from_utf8(bytes.as_slice()) else {
         unreachable!()
     };
-    Ok(Some(Text::from_str(alloc, text)?))
+    Ok(Some(Text::from_str(node.name.alloc(), text)?))
+}
+
+/// The bytes of the one text of a tree. None where they are more than `EVENT_LIMIT`.
+fn bytes_of(read: Option<&ToldTree>, node: &Element) -> Result<Option<Bytes>, TreeFault>
+    requires good { IsGoodTree node.now }
+    requires same { IfSome (option_copied read) (λ tree. tree ≡ node.now) }
+    ensures { IfOk result (λ found. found ≡ unless_longer event_limit (text_of_tree node.now)) }
+{
+    let alloc = node.name.alloc();
+    match read {
+        Some(tree) => write_told_tree_within(alloc, tree, Charset::Utf8, EVENT_LIMIT),
+        None => write_tree_within(alloc, node, Charset::Utf8, EVENT_LIMIT),
+    }
 }

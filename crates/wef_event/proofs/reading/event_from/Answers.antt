@@ -32,7 +32,7 @@ invariant_of-result c =
     let number = ap (number_or c.args.needed) (sym c.in_ok-number_in.ensures) ∙ sym c.number_or.ensures ∙ c.in-Ok.is in (
       c.args.node.now,
       record {
-        good = c.requires;
+        good = c.requires.good;
         event_is = is_there false c.args.node.now c.in-Some.channel c.in-Ok.number c.in-Some-2.text root (sym c.in_ok-channel.ensures ∙ c.in-Some.is)
             (given_anyhow c.args.needed (number_in c.args.node.now) c.in-Ok.number number) (sym c.in_ok-text.ensures ∙ c.in-Some-2.is);
       },

@@ -4,8 +4,10 @@ use Rattle.wef_event.proofs.NumberedTrees.{IsNumbered, is_numbered, numbered_goo
 use Rattle.wef_event.proofs.records.Event.with_number.Goals as goal
 
 pub event_from-requires : goal.event_from-requires
-event_from-requires c =
-    subst IsGoodTree (sym c.in_ok-number_root.ensures) (numbered_good c.args.number c.in_ok-root.root c.requires.greatest c.in_ok-root.ensures.event.good)
+event_from-requires c = record {
+  good = subst IsGoodTree (sym c.in_ok-number_root.ensures) (numbered_good c.args.number c.in_ok-root.root c.requires.greatest c.in_ok-root.ensures.event.good);
+  same = tt;
+}
 
 made : (c : goal.After-drop-root-5) → IsNumbered c.args.self.now c.args.number c.event_from.result
 made c =
