@@ -46,36 +46,9 @@ pub fn ran_over<K: Keeper + Drop>(
     failing_reads: List<u64>,
     failing_writes: List<u64>,
 ) -> Result<(K, Outcome), AllocError> {
-    let input = MemSource::of(Bytes::from_slice(alloc, input)?, failing_reads);
-    let out = MemSink::of(alloc, failing_writes);
-    let mut front = MemFront::of(alloc, List::new(alloc), List::new(alloc));
-    ran_with(alloc, line, keeper, input, out, &mut front)
-}
-
-/// Runs `wef` with words that stand in a line, without an input and over a front, and hands the keeper
-/// back.
-pub fn ran_at<K: Keeper + Drop>(
-    alloc: Global,
-    line: &str,
-    keeper: K,
-    front: &mut MemFront,
-) -> Result<(K, Outcome), AllocError> {
-    let input = MemSource::of(Bytes::new(alloc), List::new(alloc));
-    let out = MemSink::of(alloc, List::new(alloc));
-    ran_with(alloc, line, keeper, input, out, front)
-}
-
-fn ran_with<K: Keeper + Drop>(
-    alloc: Global,
-    line: &str,
-    keeper: K,
-    input: MemSource,
-    out: MemSink,
-    front: &mut MemFront,
-) -> Result<(K, Outcome), AllocError> {
     let words = words_of(alloc, line)?;
-    let mut input = input;
-    let mut out = out;
+    let mut input = MemSource::of(Bytes::from_slice(alloc, input)?, failing_reads);
+    let mut out = MemSink::of(alloc, failing_writes);
     let mut err = MemSink::of(alloc, List::new(alloc));
     let (keeper, status) = wef_cli::run(
         alloc,
@@ -84,7 +57,7 @@ fn ran_with<K: Keeper + Drop>(
         &mut out,
         &mut err,
         keeper,
-        front,
+        &mut MemFront::of(alloc, List::new(alloc), List::new(alloc)),
         &mut MemLink::of(alloc, List::new(alloc), List::new(alloc)),
         &mut FixedClock::at(Moment::first()),
     );

@@ -19,7 +19,7 @@ use wef_event::{Event, plain_event};
 use wef_eventing::{Offer, Subscription};
 use wef_keeper::{Keeper, MemKeeper};
 
-pub(crate) fn channel(alloc: Global) -> Result<ChannelName, Refusal> {
+fn security(alloc: Global) -> Result<ChannelName, Refusal> {
     Ok(ChannelName::read(&Text::from_str(alloc, "security")?)?)
 }
 
@@ -44,7 +44,7 @@ fn channels(alloc: Global) -> Result<List<ChannelName>, Refusal>
     ensures { IfOk result (λ channels. 0 < length channels) }
 {
     let mut channels = List::new(alloc);
-    channels.push(channel(alloc)?)?;
+    channels.push(security(alloc)?)?;
     Ok(channels)
 }
 
@@ -54,7 +54,7 @@ pub(crate) fn event_of(alloc: Global, number: u64) -> Result<Event, Refusal> {
     if number > MAX || !is_xml_text(&word)? {
         return Err(ValueFault::TooLarge.into());
     }
-    Ok(plain_event(&channel(alloc)?, number, 0, 0, &word)?)
+    Ok(plain_event(&security(alloc)?, number, 0, 0, &word)?)
 }
 
 /// A batch of one event, which reads the channel to its number.
@@ -81,7 +81,7 @@ fn reach_of(alloc: Global, number: u64) -> Result<Bookmark, Refusal> {
     if number > MAX {
         return Err(ValueFault::TooLarge.into());
     }
-    to.raise(&channel(alloc)?, number)?;
+    to.raise(&security(alloc)?, number)?;
     Ok(to)
 }
 
@@ -180,7 +180,7 @@ fn printed(alloc: Global, collector: &mut Collector<MemKeeper>) -> Result<Text, 
 
 fn listed(alloc: Global, offers: &[Offer]) -> Result<Text, Fail> {
     let mut text = Text::new(alloc);
-    let channel = channel(alloc)?;
+    let channel = security(alloc)?;
     for offer in offers {
         push_offer(&mut text, offer, &channel)?;
     }

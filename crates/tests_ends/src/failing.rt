@@ -49,8 +49,8 @@ impl FailingKeeper {
         }
     }
 
-    /// Counts a call, and tells whether it fails for its number.
-    fn is_listed(&mut self) -> bool
+    /// Counts a call. Whether it is the one that fails.
+    fn counts_to_failure(&mut self) -> bool
         ensures rows { self.new.rows ≡ self.old.rows }
         ensures left { self.new.left ≡ self.old.left }
         ensures doubt { self.new.in_doubt ≡ self.old.in_doubt }
@@ -93,7 +93,7 @@ impl FailingKeeper {
         if self.in_doubt {
             return Err(KeeperFault::InDoubt);
         }
-        if self.is_listed() {
+        if self.counts_to_failure() {
             return Err(self.failed());
         }
         Ok(())
@@ -135,7 +135,7 @@ impl Keeper for FailingKeeper {
             return Err(KeeperFault::InDoubt);
         }
         let copy = copied(self.alloc, changes)?;
-        if self.is_listed() {
+        if self.counts_to_failure() {
             self.left = copy;
             self.count_try();
             self.in_doubt = true;
@@ -148,7 +148,7 @@ impl Keeper for FailingKeeper {
 
     /// In doubt it fails for want of memory too.
     fn reopen(&mut self) -> Result<(), KeeperFault> {
-        if self.is_listed() {
+        if self.counts_to_failure() {
             return Err(self.failed());
         }
         if self.in_doubt && self.keeps {

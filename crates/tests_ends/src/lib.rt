@@ -1,5 +1,5 @@
-//! Both ends, by example: the log, the source, the collector, over a store that fails at each call,
-//! too; and an event at its greatest length.
+//! Both ends, by example: a log, a source, and a collector, this one also over a store of which each
+//! call fails in turn; pages of events, and an event at its greatest length.
 #![tactic(auto)]
 
 #[cfg(test)]

@@ -26,7 +26,7 @@ fn filled(
 /// The length of an event's text, or 0 where that would be too long.
 fn length(event: Result<Event, EventFault>) -> Result<usize, EventFault> {
     match event {
-        Ok(event) => Ok(event.clone()?.text.len()),
+        Ok(event) => Ok(event.text.len()),
         Err(EventFault::TooLong) => Ok(0),
         Err(fault) => Err(fault),
     }
@@ -35,8 +35,8 @@ fn length(event: Result<Event, EventFault>) -> Result<usize, EventFault> {
 /// The length of an event with so many elements in a namespace of 1,000 letters, which its root
 /// declares and its text repeats, and so many letters.
 fn repeated_length(alloc: Global, elements: usize, letters: usize) -> Result<usize, EventFault> {
-    let front = filled(alloc, "<Event xmlns:p='", "n", 1_000, "'>")?;
-    let mut text = filled(alloc, front.as_str(), "", 0, SYSTEM)?;
+    let mut text = filled(alloc, "<Event xmlns:p='", "n", 1_000, "'>")?;
+    text.push_str(SYSTEM)?;
     text.push_str("<x>")?;
     let text = filled(alloc, text.as_str(), "<p:y/>", elements, "")?;
     let text = filled(alloc, text.as_str(), "x", letters, "</x></Event>")?;

@@ -3,7 +3,6 @@
 use std::alloc::{AllocError, Global};
 use wef_base::{ChannelName, Text, ValueFault};
 use wef_bookmark::BookmarkFault;
-use wef_collector::CollectorFault;
 use wef_event::EventFault;
 use wef_ids::MessageId;
 use wef_source::SourceFault;
@@ -70,21 +69,6 @@ impl From<SourceFault> for Refusal {
             SourceFault::NotAsked => "NotAsked",
             SourceFault::UnknownSubscription => "UnknownSubscription",
             SourceFault::Spent => "Spent",
-        })
-    }
-}
-
-impl From<CollectorFault> for Refusal {
-    fn from(fault: CollectorFault) -> Refusal {
-        Refusal::Word(match fault {
-            CollectorFault::NoMemory => return Refusal::NoMemory,
-            CollectorFault::NoSubscription => "NoSubscription",
-            CollectorFault::Exists => "Exists",
-            CollectorFault::Ended => "Ended",
-            CollectorFault::NotWellFormed => "NotWellFormed",
-            CollectorFault::TooMany => "TooMany",
-            CollectorFault::Failed => "Failed",
-            CollectorFault::Full => "Full",
         })
     }
 }
