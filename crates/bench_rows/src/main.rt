@@ -75,7 +75,12 @@ fn opened(rt: HostRuntime, path: &Text) -> Result<FileKeeper, KeeperFault> {
 }
 
 /// Does a task. Answers how many rows it met.
-fn run(keeper: &mut FileKeeper, alloc: Global, task: &str, count: u64) -> Result<u64, KeeperFault> {
+fn run<K: Keeper>(
+    keeper: &mut K,
+    alloc: Global,
+    task: &str,
+    count: u64,
+) -> Result<u64, KeeperFault> {
     match task {
         "fill" => fill(keeper, alloc, count),
         "get" => get(keeper, alloc, count),
@@ -102,7 +107,7 @@ fn body(alloc: Global) -> Result<Text, AllocError> {
 }
 
 /// Puts rows with the numbers from 1 on, by commits.
-fn fill(keeper: &mut FileKeeper, alloc: Global, count: u64) -> Result<u64, KeeperFault> {
+fn fill<K: Keeper>(keeper: &mut K, alloc: Global, count: u64) -> Result<u64, KeeperFault> {
     for batch in 0..count / ITEMS {
         let changes = puts(alloc, batch)?;
         keeper.commit(changes.as_list())?;
@@ -133,7 +138,7 @@ fn put(alloc: Global, changes: &mut Changes<AnyForm>, number: u64) -> Result<(),
 }
 
 /// Gets as many rows as there are, here and there.
-fn get(keeper: &mut FileKeeper, alloc: Global, count: u64) -> Result<u64, KeeperFault> {
+fn get<K: Keeper>(keeper: &mut K, alloc: Global, count: u64) -> Result<u64, KeeperFault> {
     let mut found = 0u64;
     for turn in 0..count {
         let number = turn.wrapping_mul(7919) % count.max(1);
@@ -146,7 +151,7 @@ fn get(keeper: &mut FileKeeper, alloc: Global, count: u64) -> Result<u64, Keeper
 }
 
 /// Walks over all rows by pages.
-fn walk(keeper: &mut FileKeeper, alloc: Global) -> Result<u64, KeeperFault> {
+fn walk<K: Keeper>(keeper: &mut K, alloc: Global) -> Result<u64, KeeperFault> {
     let mut found = 0u64;
     let mut after = key(alloc, 0)?;
     for _ in 0..u64::MAX {
