@@ -1,9 +1,9 @@
 //! What `check` prints, by example.
 
-use crate::outcomes::{Outcome, ran_once, ran_over};
+use crate::outcomes::{Outcome, ran_once};
 use std::alloc::{AllocError, Global};
 use std::test::Fail;
-use wef_base::{List, Text};
+use wef_base::Text;
 use wef_keeper::MemKeeper;
 
 /// A list that asks for the events of the channel A, but for those whose id is 2.
@@ -82,26 +82,6 @@ fn checked(alloc: Global, row: &str) -> Result<Outcome, AllocError> {
     )
 }
 
-/// The same over streams that fail at the calls of these numbers.
-fn failing(
-    alloc: Global,
-    row: &str,
-    reads: List<u64>,
-    writes: List<u64>,
-) -> Result<Outcome, AllocError> {
-    let text = input(alloc, row)?;
-    let (keeper, outcome) = ran_over(
-        alloc,
-        "check",
-        MemKeeper::new(alloc),
-        text.as_str().as_bytes(),
-        reads,
-        writes,
-    )?;
-    drop(keeper);
-    Ok(outcome)
-}
-
 #[test]
 fn each_event_is_answered(rt: HostRuntime) -> Result<(), Fail> {
     for (row, lines) in ANSWERED {
@@ -121,27 +101,5 @@ fn the_first_bad_line_is_told(rt: HostRuntime) -> Result<(), Fail> {
         assert!(&rt; ran.err.taken() == message.as_bytes(), "{row}");
         assert!(&rt; ran.out.taken().is_empty(), "{row}");
     }
-    Ok(())
-}
-
-#[test]
-fn streams_that_fail_are_told(rt: HostRuntime) -> Result<(), Fail> {
-    let alloc = rt.alloc();
-    let unread = failing(
-        alloc,
-        "L\n1\n",
-        List::from(vec![in alloc; 1u64]?),
-        List::new(alloc),
-    )?;
-    assert_eq!(&rt; unread.status, 5);
-    assert_eq!(&rt; unread.err.taken(), b"input failed\n".as_slice());
-    let full = failing(
-        alloc,
-        "L\n1\n",
-        List::new(alloc),
-        List::from(vec![in alloc; 1u64]?),
-    )?;
-    assert_eq!(&rt; full.status, 5);
-    assert_eq!(&rt; full.err.taken(), b"output failed\n".as_slice());
     Ok(())
 }

@@ -4,8 +4,6 @@
 #[cfg(test)]
 mod checks;
 pub mod documents;
-#[cfg(test)]
-mod failures;
 pub mod outcomes;
 #[cfg(test)]
 mod rows;

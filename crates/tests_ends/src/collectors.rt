@@ -1,10 +1,9 @@
-//! Offers, by example, boot numbers, and a store that fails at each of its calls.
+//! Offers, by example, and boot numbers.
 
 ghost use Rattle.std.specs.Prelude.{◌<◌, length, IfOk};
 ghost use Rattle.wef_batch.specs.Numbers.{AreNumbered};
 ghost use Rattle.wef_eventing.specs.Subscriptions.{IsAllEvents};
 
-use crate::failing::FailingKeeper;
 use crate::rows::holding;
 use crate::steps::Refusal;
 use std::alloc::{AllocError, Global};
@@ -203,143 +202,5 @@ fn live_subscriptions_are_offered(rt: HostRuntime) -> Result<(), Fail> {
         text.as_str(),
         "uuid:00000000-0000-0000-0000-000000000001 http://h:5985/wsman/subscriptions/a%2F1/host-1 0\nuuid:00000000-0000-0000-0000-000000000001 http://h:5985/wsman/subscriptions/b/host-1 7\n"
     );
-    Ok(())
-}
-
-/// Answers that a store failed are counted, and the call is made again.
-#[derive(Drop)]
-struct Retries {
-    failed: u32,
-}
-
-impl Retries {
-    fn note(&mut self) {
-        self.failed = self.failed.saturating_add(1);
-    }
-
-    fn start(
-        &mut self,
-        alloc: Global,
-        keeper: FailingKeeper,
-    ) -> Result<Collector<FailingKeeper>, CollectorFault> {
-        match Collector::start(alloc, keeper) {
-            Ok(collector) => Ok(collector),
-            Err((keeper, CollectorFault::Failed)) => {
-                self.note();
-                start(alloc, keeper)
-            }
-            Err((_, fault)) => Err(fault),
-        }
-    }
-
-    /// A subscription that is there after a failure was added by the call that failed.
-    fn add(
-        &mut self,
-        collector: &mut Collector<FailingKeeper>,
-        subscription: &Subscription,
-    ) -> Result<(), CollectorFault>
-        requires { IsAllEvents subscription.now }
-    {
-        match add(collector, subscription) {
-            Err(CollectorFault::Failed) => {}
-            answer => return answer,
-        }
-        self.note();
-        match add(collector, subscription) {
-            Err(CollectorFault::Exists) => Ok(()),
-            answer => answer,
-        }
-    }
-
-    fn take(
-        &mut self,
-        collector: &mut Collector<FailingKeeper>,
-        sub: &SubId,
-        source: &SourceName,
-        batch: &Batch,
-    ) -> Result<(), CollectorFault>
-        requires { AreNumbered batch.now.items }
-    {
-        match collector.take(sub, source, batch, Moment::first()) {
-            Err(CollectorFault::Failed) => {}
-            answer => return answer,
-        }
-        self.note();
-        collector.take(sub, source, batch, Moment::first())
-    }
-
-    fn report(&mut self, collector: &mut Collector<FailingKeeper>) -> Result<Text, CollectorFault> {
-        match collector.report() {
-            Err(CollectorFault::Failed) => {}
-            answer => return answer,
-        }
-        self.note();
-        collector.report()
-    }
-}
-
-/// What is reported of a batch that was taken once, over a store of which one call fails, and how
-/// often the store was said to fail.
-fn reported(alloc: Global, fails_at: u64, keeps: bool) -> Result<Text, Fail> {
-    let mut retries = Retries { failed: 0 };
-    let keeper = FailingKeeper::new(alloc, fails_at, keeps);
-    let mut collector = retries.start(alloc, keeper)?;
-    reported_by(alloc, &mut retries, &mut collector)
-}
-
-fn reported_by(
-    alloc: Global,
-    retries: &mut Retries,
-    collector: &mut Collector<FailingKeeper>,
-) -> Result<Text, Fail> {
-    retries.add(collector, &subscription(alloc, "u")?)?;
-    take_again(alloc, retries, collector)?;
-    let mut text = retries.report(collector)?;
-    text.push_number(u64::from(retries.failed))?;
-    Ok(text)
-}
-
-fn take_again(
-    alloc: Global,
-    retries: &mut Retries,
-    collector: &mut Collector<FailingKeeper>,
-) -> Result<(), Fail> {
-    let (sub, source) = (id(alloc, "u")?, source(alloc)?);
-    let batch = batch_to(alloc, 7)?;
-    Ok(retries.take(collector, &sub, &source, &batch)?)
-}
-
-/// The calls of the store where none fails: 3 at the start, 4 for the subscription, 5 for the batch
-/// and 8 for the report.
-const CALLS: u64 = 20;
-
-/// What is reported, before the number of failures.
-const REPORT: &str =
-    "subscription u live\n source host-1\n  channel security bookmark 7\n   held 7\nend\n";
-
-/// How many failures are told beside the report, or none where that is another.
-fn told(alloc: Global, fails_at: u64, keeps: bool) -> Result<Option<u64>, Fail> {
-    let text = reported(alloc, fails_at, keeps)?;
-    Ok(match text.as_str().strip_prefix(REPORT) {
-        Some(failures) => failures.parse::<u64>().ok(),
-        None => None,
-    })
-}
-
-#[test]
-fn each_failure_is_told_once_and_changes_nothing_else(rt: HostRuntime) -> Result<(), Fail> {
-    for fails_at in 1..=CALLS {
-        let told = (
-            told(rt.alloc(), fails_at, false)?,
-            told(rt.alloc(), fails_at, true)?,
-        );
-        assert_eq!(rt; told, (Some(1), Some(1)), "at {fails_at}");
-    }
-    Ok(())
-}
-
-#[test]
-fn a_store_that_does_not_fail_is_not_said_to(rt: HostRuntime) -> Result<(), Fail> {
-    assert_eq!(rt; told(rt.alloc(), CALLS + 1, false)?, Some(0));
     Ok(())
 }

@@ -1,11 +1,9 @@
-//! Both ends, by example: a log, a source, and a collector, this one also over a store of which each
-//! call fails in turn; pages of events, and an event at its greatest length.
+//! Both ends, by example: a log, a source and a collector; pages of events, and an event at its
+//! greatest length.
 #![tactic(auto)]
 
 #[cfg(test)]
 mod collectors;
-#[cfg(test)]
-mod failing;
 #[cfg(test)]
 mod limits;
 #[cfg(test)]

@@ -1,58 +1,9 @@
-//! Streams that fail, and commits that fail, each in turn.
+//! An output that fails in the middle, and commits that fail, each in turn.
 
-use crate::outcomes::{BASE, ran, replayed, status_of};
+use crate::outcomes::{ran, replayed};
 use std::alloc::{AllocError, Global};
 use std::test::Fail;
-use wef_base::{Bytes, List, MemSink, MemSource, Text};
-
-/// A run of a word whose reads and writes of these numbers fail; its status, and what it tells. It
-/// prints nothing.
-fn told(
-    alloc: Global,
-    word: &str,
-    failing_read: u64,
-    failing_write: u64,
-    status: u8,
-    message: &[u8],
-) -> Result<bool, AllocError> {
-    let reads = List::from(vec![in alloc; failing_read]?);
-    let writes = List::from(vec![in alloc; failing_write]?);
-    let ran = ran(alloc, word, BASE.as_bytes(), reads, writes)?;
-    Ok(ran.status == status && ran.err.taken() == message && ran.out.taken().is_empty())
-}
-
-#[test]
-fn faults_of_input_and_output(rt: HostRuntime) -> Result<(), Fail> {
-    let alloc = rt.alloc();
-    assert!(rt; told(alloc, "replay", 2, 0, 5, b"input failed\n".as_slice())?);
-    assert!(rt; told(alloc, "replay", 0, 1, 5, b"output failed\n".as_slice())?);
-    assert!(rt; told(alloc, "reply", 0, 0, 2, b"usage: wef COMMAND\n".as_slice())?);
-    Ok(())
-}
-
-/// Replays a schedule into a sink that has its past.
-fn status_into(alloc: Global, schedule: &str, out: &mut MemSink) -> Result<u8, Fail> {
-    let mut words = Vec::new(alloc);
-    words.push(Text::from_str(alloc, "replay")?)?;
-    let bytes = Bytes::from_slice(alloc, schedule.as_bytes())?;
-    let mut input = MemSource::of(bytes, List::new(alloc));
-    let mut err = MemSink::of(alloc, List::new(alloc));
-    Ok(status_of(alloc, words.as_slice(), &mut input, out, &mut err))
-}
-
-#[test]
-fn a_second_write_that_fails(rt: HostRuntime) -> Result<(), Fail> {
-    let alloc = rt.alloc();
-    let mut out = MemSink::of(alloc, List::from(vec![in alloc; 2u64]?));
-    assert_eq!(rt; status_into(alloc, BASE, &mut out)?, 0);
-    assert_eq!(rt; status_into(alloc, "", &mut out)?, 0);
-    assert_eq!(rt; status_into(alloc, "shew", &mut out)?, 3);
-    assert_eq!(rt; status_into(alloc, "show", &mut out)?, 5);
-    assert_eq!(rt; out.taken(), b"added base\n".as_slice());
-    assert_eq!(rt; status_into(alloc, "show", &mut out)?, 0);
-    assert_eq!(rt; out.taken(), b"added base\nend\n".as_slice());
-    Ok(())
-}
+use wef_base::{Bytes, List, Text};
 
 /// A text, so many times.
 fn repeated(alloc: Global, text: &str, times: usize) -> Result<Bytes, AllocError> {

@@ -35,7 +35,7 @@ pub(crate) fn ran(
 }
 
 /// Runs `wef` over a store in memory, without connections, and answers its status.
-pub(crate) fn status_of(
+fn status_of(
     alloc: Global,
     words: &[Text],
     input: &mut MemSource,
