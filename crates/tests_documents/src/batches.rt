@@ -87,7 +87,7 @@ fn push_answer(
 ) -> Result<(), AllocError>
     requires { AreGoodTrees body.now }
 {
-    match read_batch(shown.alloc(), header, false, body) {
+    match read_batch(shown.alloc(), header, false, false, body) {
         Ok(batch) => push_items(shown, &batch),
         Err(BatchFault::NoMemory) => Err(AllocError),
         Err(BatchFault::BadHead) => shown.push_str("BadHead"),

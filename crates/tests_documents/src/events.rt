@@ -4,7 +4,7 @@ use std::alloc::AllocError;
 use tests_tasks::rows::{parts_of, push_is_event};
 use wef_base::{ChannelName, Charset, Text, ValueFault, is_xml_text};
 use wef_event::{Event, EventFault, event_of_node, plain_event, read_event, read_new_event};
-use wef_tree::read_tree;
+use wef_tree::read_told_tree;
 
 const GREATEST: u64 = 9_223_372_036_854_775_807;
 
@@ -18,8 +18,8 @@ pub(crate) fn push_event(shown: &mut Text, text: &Text) -> Result<(), AllocError
         shown.push_str(", new ")?;
         shown.push_str(new.as_str())?;
     }
-    if let Ok(root) = read_tree(text.alloc(), text.as_str().as_bytes(), Charset::Utf8) {
-        let of_tree = answer_of(text, event_of_node(&root))?;
+    if let Ok(tree) = read_told_tree(text.alloc(), text.as_str().as_bytes(), Charset::Utf8) {
+        let of_tree = answer_of(text, event_of_node(tree.is_told(), tree.root()))?;
         if of_tree != answer {
             shown.push_str(", of its tree ")?;
             shown.push_str(of_tree.as_str())?;

@@ -6,7 +6,7 @@ use tests_tasks::escapes::escaped;
 use tests_tasks::rows::{parts_of, push_is_event};
 use wef_base::{ChannelName, Charset, Text, ValueFault};
 use wef_event::{Event, EventFault, Label, event_of_node, recognised};
-use wef_tree::read_tree;
+use wef_tree::read_told_tree;
 
 /// What is seen in one pass, and of the texts that differ in one character.
 pub(crate) fn push_all(shown: &mut Text, text: &Text) -> Result<(), AllocError> {
@@ -73,10 +73,10 @@ fn is_read_as(text: &Text, channel: &ChannelName, number: u64) -> Result<bool, A
 
 /// The event of a text's tree, where the text is the one of this tree.
 fn event_read(text: &Text) -> Result<Option<Event>, AllocError> {
-    let Ok(root) = read_tree(text.alloc(), text.as_str().as_bytes(), Charset::Utf8) else {
+    let Ok(tree) = read_told_tree(text.alloc(), text.as_str().as_bytes(), Charset::Utf8) else {
         return Ok(None);
     };
-    match event_of_node(&root) {
+    match event_of_node(tree.is_told(), tree.root()) {
         Ok(event) if event.text == *text => Ok(Some(event)),
         Err(EventFault::NoMemory) => Err(AllocError),
         _ => Ok(None),

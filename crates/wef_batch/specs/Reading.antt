@@ -19,6 +19,7 @@ use Rattle.wef_event.specs.Events.{event_in, event_of, event_or_none}
 use Rattle.wef_event.specs.declared.records.EventFault.{EventFault}
 use Rattle.wef_event.specs.declared.records.EventFault.TheVariants as fault
 use Rattle.wef_xml.specs.Good.{IsGoodTree}
+use Rattle.wef_xml.specs.Told.{AreNodesIn, IsElementIn, IsFound, IsNodeIn}
 use Rattle.wef_batch.specs.declared.items.Batch.{Batch}
 use Rattle.wef_batch.specs.declared.items.Item.{Item}
 use Rattle.wef_batch.specs.declared.items.Item.TheVariants.{Event, Dropped, Loose}
@@ -164,3 +165,14 @@ Opens (Err fault.TooLong) found = IfOk found (λ o. o ≡ None)
 -- each of the elements is a good tree
 abbrev pub AreGoodTrees : List Element → Type 0
 AreGoodTrees es = AllByRecursion IsGoodTree es
+
+-- where the elements are told, no two long namespaces in them have one digest
+abbrev pub AreToldTrees : Bool → List Element → Type 0
+AreToldTrees told es = told ≡ true → (find : List ℕ → Option (List ℕ)) × AllByRecursion (λ e. IsElementIn (IsFound find) e) es
+
+-- the same of nodes, and of one
+abbrev pub AreToldNodes : Bool → List Node → Type 0
+AreToldNodes told ns = told ≡ true → (find : List ℕ → Option (List ℕ)) × AreNodesIn (IsFound find) ns
+
+abbrev pub IsToldNode : Bool → Node → Type 0
+IsToldNode told n = told ≡ true → (find : List ℕ → Option (List ℕ)) × IsNodeIn (IsFound find) n

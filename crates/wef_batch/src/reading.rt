@@ -8,7 +8,8 @@ ghost use Rattle.wef_elements.specs.Children.{element_of, is_words};
 ghost use Rattle.wef_elements.specs.Values.{number_said};
 ghost use Rattle.wef_xml.specs.Good.{AreGoodNodes, IsGoodElement, IsGoodNode, IsGoodTree};
 ghost use Rattle.wef_event.specs.Events.{event_in, event_of, event_or_none};
-ghost use Rattle.wef_batch.specs.Reading.{AreGoodTrees, Opens, Reads, ReadsTo, Takes, batch_of, event_at, gone_at, gone_in, is_events, is_range, item_of, items_from, only_events, range_by, range_in, range_said, read_to, with_item, with_node};
+ghost use Rattle.wef_xml.specs.Told.{IsTold};
+ghost use Rattle.wef_batch.specs.Reading.{AreGoodTrees, AreToldNodes, AreToldTrees, IsToldNode, Opens, Reads, ReadsTo, Takes, batch_of, event_at, gone_at, gone_in, is_events, is_range, item_of, items_from, only_events, range_by, range_in, range_said, read_to, with_item, with_node};
 
 use crate::items::{Batch, Item};
 use std::alloc::{AllocError, Global};
@@ -47,21 +48,24 @@ impl From<AllocError> for BatchFault {
 
 /// Reads the batch of a message: `header` is its header Bookmark, if it has one, and `ack_wanted` says
 /// that the source wants to be told. An event as text is read as `read_event` reads it, so it takes no
-/// more than its bytes and an event's limit.
+/// more than its bytes and an event's limit; `told`: the namespaces in the elements are told apart by
+/// their digests, so that an event as elements takes no longer.
 pub fn read_batch(
     alloc: Global,
     header: Option<&Element>,
     ack_wanted: bool,
+    told: bool,
     body: &[Element],
 ) -> Result<Batch, BatchFault>
-    requires { AreGoodTrees body.now }
+    requires good { AreGoodTrees body.now }
+    requires told { AreToldTrees told body.now }
     ensures { Reads result (batch_of (option_copied header.entry) ack_wanted body.now) }
 {
     let Some(events) = only_events(body) else {
         return Err(BatchFault::BadHead);
     };
     let to = read_to(alloc, header)?;
-    let items = items_in(alloc, events.children.as_slice())?;
+    let items = items_in(alloc, told, events.children.as_slice())?;
     Ok(Batch {
         items,
         to,
@@ -119,23 +123,25 @@ fn read_to(alloc: Global, header: Option<&Element>) -> Result<Bookmark, BatchFau
     }
 }
 
-fn items_in(alloc: Global, nodes: &[Node]) -> Result<List<Item>, BatchFault>
-    requires { AreGoodNodes nodes.now 63 }
+fn items_in(alloc: Global, told: bool, nodes: &[Node]) -> Result<List<Item>, BatchFault>
+    requires good { AreGoodNodes nodes.now 63 }
+    requires told { AreToldNodes told nodes.now }
     ensures { Reads result (items_from [] nodes.now) }
 {
     let mut items = List::new(alloc);
     for node in nodes {
-        push_node(&mut items, node)?;
+        push_node(&mut items, told, node)?;
     }
     Ok(items)
 }
 
-fn push_node(items: &mut List<Item>, node: &Node) -> Result<(), BatchFault>
-    requires { IsGoodNode node.now 63 }
+fn push_node(items: &mut List<Item>, told: bool, node: &Node) -> Result<(), BatchFault>
+    requires good { IsGoodNode node.now 63 }
+    requires told { IsToldNode told node.now }
     ensures { Takes result (with_node items.old (element_of node.now) (is_words node.now)) items.new }
 {
     match element_of(node) {
-        Some(element) => push_item(items, item_of(element)?),
+        Some(element) => push_item(items, item_of(told, element)?),
         None if is_words(node) => Err(BatchFault::BadBatch { item: items.len() }),
         None => Ok(()),
     }
@@ -152,12 +158,13 @@ fn push_item(items: &mut List<Item>, item: Option<Item>) -> Result<(), BatchFaul
 
 /// The item that an element says.
 #[tactic(auto, unfolding(crate::specs::Reading::item_of))]
-fn item_of(element: &Element) -> Result<Option<Item>, AllocError>
-    requires { IsGoodElement element.now 63 }
+fn item_of(told: bool, element: &Element) -> Result<Option<Item>, AllocError>
+    requires good { IsGoodElement element.now 63 }
+    requires told { IsTold told element.now }
     ensures { IfOk result (λ found. found ≡ item_of element.now) }
 {
     if is_management("Event", element) {
-        return as_item(event_at(element)?);
+        return as_item(event_at(told, element)?);
     }
     if is_management("DroppedEvents", element) {
         return gone_at(element);
@@ -176,8 +183,9 @@ fn as_item(event: Option<Event>) -> Result<Option<Item>, AllocError>
 
 /// The event of an element: its text says it, or its one element is it.
 #[tactic(auto, unfolding(crate::specs::Reading::event_at))]
-fn event_at(element: &Element) -> Result<Option<Event>, AllocError>
-    requires { IsGoodElement element.now 63 }
+fn event_at(told: bool, element: &Element) -> Result<Option<Event>, AllocError>
+    requires good { IsGoodElement element.now 63 }
+    requires told { IsTold told element.now }
     ensures { IfOk result (λ found. found ≡ event_at element.now) }
 {
     let nodes = element.children.as_slice();
@@ -190,7 +198,7 @@ fn event_at(element: &Element) -> Result<Option<Event>, AllocError>
     if has_words(nodes) {
         return Ok(None);
     }
-    event_of_root(root)
+    event_of_root(told, root)
 }
 
 fn event_of_text(text: &Text) -> Result<Option<Event>, AllocError>
@@ -199,11 +207,12 @@ fn event_of_text(text: &Text) -> Result<Option<Event>, AllocError>
     unless_refused(read_event(text))
 }
 
-fn event_of_root(root: &Element) -> Result<Option<Event>, AllocError>
-    requires { IsGoodTree root.now }
+fn event_of_root(told: bool, root: &Element) -> Result<Option<Event>, AllocError>
+    requires good { IsGoodTree root.now }
+    requires told { IsTold told root.now }
     ensures { IfOk result (λ found. found ≡ event_or_none (event_of true root.now)) }
 {
-    unless_refused(event_of_node(root))
+    unless_refused(event_of_node(told, root))
 }
 
 /// The event, where reading gave one.

@@ -9,10 +9,11 @@ use crate::calling::write_done;
 use crate::ending::Ending;
 use crate::streams::{InputFault, read_whole};
 use std::alloc::{AllocError, Global};
-use wef_base::{Element, Sink, Source, Text};
+use wef_base::{Sink, Source, Text};
 use wef_event::{EventFault, event_of_node};
 use wef_query::{QueryList, selected};
 use wef_replay::{list_in, tree_in};
+use wef_xml::ToldTree;
 
 /// Reads lines, the first of which is a list of queries and each other one an event, and writes a line
 /// for each event: whether the list selects it. Nothing is written before all lines are read. The input
@@ -107,18 +108,18 @@ fn answer_to(alloc: Global, list: &QueryList, line: &[u8]) -> Result<Option<bool
     ensures { IfOk result (λ answer. answer ≡ spec.answer_to list.now line.now) }
 {
     match tree_in(alloc, line)? {
-        Some(root) => answer_of(list, &root),
+        Some(tree) => answer_of(list, &tree),
         None => Ok(None),
     }
 }
 
-/// Whether a list selects the event that a root says; none where it says none.
-fn answer_of(list: &QueryList, root: &Element) -> Result<Option<bool>, AllocError>
-    requires { IsGoodTree root.now }
-    ensures { IfOk result (λ answer. answer ≡ spec.answer_by list.now root.now) }
+/// Whether a list selects the event that a tree says; none where it says none.
+fn answer_of(list: &QueryList, tree: &ToldTree) -> Result<Option<bool>, AllocError>
+    requires { IsGoodTree tree.now }
+    ensures { IfOk result (λ answer. answer ≡ spec.answer_by list.now tree.now) }
 {
-    match event_of_node(root) {
-        Ok(event) => Ok(Some(selected(list, &event.channel, root))),
+    match event_of_node(tree.is_told(), tree.root()) {
+        Ok(event) => Ok(Some(selected(list, &event.channel, tree.root()))),
         Err(EventFault::NoMemory) => Err(AllocError),
         Err(_) => Ok(None),
     }

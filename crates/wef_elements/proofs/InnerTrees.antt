@@ -1,12 +1,14 @@
--- The elements in a good element are good.
+-- The elements in a good element are good, and what holds of all namespaces in an element holds of those in its elements.
 use Rattle.std.proofs.Common.{◌≡◌, ℕ, zero, suc, true, false, List, [], ◌∷◌, refl, ap, sym, ◌∙◌, subst}
 use Rattle.std.specs.Prelude.{Option, Some, None}
-use Rattle.std.specs.List.{cons_option}
+use Rattle.std.specs.List.{AllByRecursion, cons_option}
 use Rattle.wef_base.specs.declared.tree.Attribute.{Attribute}
 use Rattle.wef_base.specs.declared.tree.Element.{Element}
 use Rattle.wef_base.specs.declared.tree.Node.{Node, Chars, Element', Row_of-Node, end_of-Node, more_of-Node, items-the_row-Node, items_shown-the_row-Node-0, Node-F}
 use Rattle.wef_base.specs.declared.tree.Node.TheVariants.{outs-Chars, outs-Element'}
 use Rattle.wef_xml.specs.Good.{AreGoodNodes, IsGoodElement, IsGoodNode, IsGoodRow, are_apart}
+use Rattle.wef_xml.specs.Told.{AreNodesIn, IsElementIn, IsNodeIn}
+use Rattle.wef_xml.proofs.Apart as the_told
 use Rattle.wef_elements.specs.Children.{element_of, elements_in}
 use Rattle.wef_elements.specs.Good.{AreGoodElements}
 
@@ -51,6 +53,27 @@ inner_good (n ∷ ns) room good = by (element_of n) refl (inner_good ns room goo
     by : (o : Option Element) → element_of n ≡ o → AreGoodElements (elements_in ns) room → AreGoodElements (cons_option o (elements_in ns)) room
     by None none rest = rest
     by (Some e) some rest = (good_element n e room some good.0, rest)
+
+-- ---- namespaces
+
+pub element_in : (P : List ℕ → Type 0) (n : Node) (e : Element) → element_of n ≡ Some e → IsNodeIn P n → IsElementIn P e
+element_in P (Chars text) e is all =
+    absurd (none_is (element_of (Chars text)) e (ap (λ o. elim o [ Node-F.Element x ↦ Some x | Node-F.Chars t ↦ None ]) (outs-Chars text)) is)
+element_in P (Element' space name attributes shape row) e is all =
+    let Q : Element → Type 0 = λ x. IsElementIn P x in
+    let R : List Node → Type 0 = λ l. AreNodesIn P l in
+    subst Q
+    (some_is _ e (sym (ap (λ o. elim o [ Node-F.Element x ↦ Some x | Node-F.Chars t ↦ None ]) (outs-Element' space name attributes shape row)) ∙ is))
+    (all.0, all.1, subst R (sym (items_shown-the_row-Node-0 shape row)) (the_told.to_list P row all.2))
+
+-- of the elements among nodes
+pub inner_in : (P : List ℕ → Type 0) (ns : List Node) → AreNodesIn P ns → AllByRecursion (λ e. IsElementIn P e) (elements_in ns)
+inner_in P [] all = tt
+inner_in P (n ∷ ns) all = by (element_of n) refl (inner_in P ns all.1)
+  where
+    by : (o : Option Element) → element_of n ≡ o → AllByRecursion (λ e. IsElementIn P e) (elements_in ns) → AllByRecursion (λ e. IsElementIn P e) (cons_option o (elements_in ns))
+    by None none rest = rest
+    by (Some e) some rest = (element_in P n e some all.0, rest)
 
 -- ---- room for one more
 

@@ -30,9 +30,11 @@ impl Event {
         ensures channel { IfOk result (λ event. event.channel ≡ self.now.channel) }
         ensures number { IfOk result (λ event. event.number ≡ number) }
     {
-        let mut root = self.tree()?;
+        let tree = self.told_tree()?;
+        let told = tree.is_told();
+        let mut root = tree.into_root();
         number_root(number, &mut root)?;
-        event_from(true, None, &root)
+        event_from(true, told, &root)
     }
 }
 

@@ -1,13 +1,13 @@
 //! Reading events.
 
-ghost use Rattle.std.specs.Prelude.{◌≡◌, true, false, ◌&&◌, ◌==◌, is_some, Some, option_copied, IfErr, IfOk, IfSome};
+ghost use Rattle.std.specs.Prelude.{◌≡◌, true, false, ◌&&◌, ◌==◌, is_some, Some, IfErr, IfOk, IfSome};
 ghost use Rattle.wef_base.specs.Names.{channel_name, same};
 ghost use Rattle.wef_base.specs.declared.tree.Charset.TheVariants.{Utf8};
 ghost use Rattle.wef_tree_reading.specs.Documents.{tree_of};
-ghost use Rattle.wef_xml.specs.Canonical.{unless_longer};
 ghost use Rattle.wef_xml.specs.Good.{IsGoodTree};
+ghost use Rattle.wef_xml.specs.Told.{IsTold};
 ghost use Rattle.wef_event.specs.Events as events;
-ghost use Rattle.wef_event.specs.Events.{Finds, Gives, HasTree, IsEventOf, event_limit, is_event_root, number_or, text_of_tree};
+ghost use Rattle.wef_event.specs.Events.{Finds, Gives, HasTree, IsEventOf, is_event_root, number_or, text_of_tree};
 ghost use Rattle.wef_event.specs.Reading.{AsksForNoNumber, ReadsEvent, short_text};
 ghost use Rattle.wef_event.specs.Recognising.{IsLabel};
 
@@ -17,10 +17,8 @@ use crate::plain::EVENT_LIMIT;
 use crate::recognising::{Label, recognised};
 use crate::records::{Event, EventFault};
 use std::alloc::AllocError;
-use wef_base::{Bytes, ChannelName, Charset, Element, Text, ValueFault};
-use wef_tree::{
-    ToldTree, TreeFault, read_told_tree, read_tree, write_told_tree_within, write_tree_within,
-};
+use wef_base::{ChannelName, Charset, Element, Text, ValueFault};
+use wef_tree::{ToldTree, TreeFault, read_told_tree, write_element_within};
 
 /// Reads an event from its text, which is a document (XML 1.0) whose root is called Event. Its
 /// channel and its number stand in the fields Channel and EventRecordID of its System, whatever the
@@ -40,12 +38,14 @@ pub fn read_new_event(text: &Text) -> Result<Event, EventFault>
     read(false, text)
 }
 
-/// The event of a root, as `read_event` has it of a text.
-pub fn event_of_node(node: &Element) -> Result<Event, EventFault>
-    requires { IsGoodTree node.now }
+/// The event of a root, as `read_event` has it of a text; `told`: the namespaces in it are told apart by
+/// their digests, so that its text is written in a shorter time.
+pub fn event_of_node(told: bool, node: &Element) -> Result<Event, EventFault>
+    requires good { IsGoodTree node.now }
+    requires told { IsTold told node.now }
     ensures { Gives result (events.event_of true node.now) }
 {
-    event_from(true, None, node)
+    event_from(true, told, node)
 }
 
 impl Event {
@@ -54,12 +54,20 @@ impl Event {
         ensures event { IfOk result (λ node. IsEventOf self.now node) }
         ensures text { IfOk result (λ node. tree_of Utf8 self.now.text ≡ Some node) }
     {
-        match read_tree(
+        Ok(self.told_tree()?.into_root())
+    }
+
+    /// The same, as it was read.
+    pub(crate) fn told_tree(&self) -> Result<ToldTree, AllocError>
+        ensures event { IfOk result (λ node. IsEventOf self.now node) }
+        ensures text { IfOk result (λ node. tree_of Utf8 self.now.text ≡ Some node) }
+    {
+        match read_told_tree(
             self.text.alloc(),
             self.text.as_str().as_bytes(),
             Charset::Utf8,
         ) {
-            Ok(node) => Ok(node),
+            Ok(tree) => Ok(tree),
             Err(fault) => match fault {
                 TreeFault::NoMemory => Err(AllocError),
                 _ => unreachable!(),
@@ -201,7 +209,7 @@ fn read_tree_event(needed: bool, text: &Text) -> Result<Event, EventFault>
     ensures { ReadsEvent needed text.now result }
 {
     match read_told_tree(text.alloc(), text.as_str().as_bytes(), Charset::Utf8) {
-        Ok(tree) => event_from(needed, Some(&tree), tree.root()),
+        Ok(tree) => event_from(needed, tree.is_told(), tree.root()),
         Err(TreeFault::NoMemory) => Err(EventFault::NoMemory),
         Err(TreeFault::BadCharset { at }) => Err(EventFault::BadEvent { at }),
         Err(TreeFault::BadXml { at }) => Err(EventFault::BadEvent { at }),
@@ -210,15 +218,11 @@ fn read_tree_event(needed: bool, text: &Text) -> Result<Event, EventFault>
     }
 }
 
-/// The event of a root; `needed`: it needs a number; `read`: the tree as it was read, where it was. Its
-/// text is written in a shorter time then.
-pub(crate) fn event_from(
-    needed: bool,
-    read: Option<&ToldTree>,
-    node: &Element,
-) -> Result<Event, EventFault>
+/// The event of a root; `needed`: it needs a number; `told`: the namespaces in it are told apart by their
+/// digests.
+pub(crate) fn event_from(needed: bool, told: bool, node: &Element) -> Result<Event, EventFault>
     requires good { IsGoodTree node.now }
-    requires same { IfSome (option_copied read) (λ tree. tree ≡ node.now) }
+    requires told { IsTold told node.now }
     ensures { Gives result (events.event_of needed node.now) }
 {
     if !is_event_root(node) {
@@ -230,7 +234,7 @@ pub(crate) fn event_from(
     let Ok(number) = number_or(needed, number_in(node)?) else {
         return Err(EventFault::NoRecordId);
     };
-    let Some(text) = text_of(read, node)? else {
+    let Some(text) = text_of(told, node)? else {
         return Err(EventFault::TooLong);
     };
     Ok(Event {
@@ -258,12 +262,13 @@ fn number_or(needed: bool, found: Option<u64>) -> Result<u64, EventFault>
 }
 
 /// The one text of a tree. None where it has more than `EVENT_LIMIT` bytes.
-fn text_of(read: Option<&ToldTree>, node: &Element) -> Result<Option<Text>, AllocError>
+fn text_of(told: bool, node: &Element) -> Result<Option<Text>, AllocError>
     requires good { IsGoodTree node.now }
-    requires same { IfSome (option_copied read) (λ tree. tree ≡ node.now) }
+    requires told { IsTold told node.now }
     ensures { IfOk result (λ found. found ≡ short_text (text_of_tree node.now)) }
 {
-    let Ok(found) = bytes_of(read, node) else {
+    let alloc = node.name.alloc();
+    let Ok(found) = write_element_within(alloc, told, node, Charset::Utf8, EVENT_LIMIT) else {
         return Err(AllocError);
     };
     let Some(bytes) = found else {
@@ -272,18 +277,5 @@ fn text_of(read: Option<&ToldTree>, node: &Element) -> Result<Option<Text>, Allo
     let Ok(text) = std::str::from_utf8(bytes.as_slice()) else {
         unreachable!()
     };
-    Ok(Some(Text::from_str(node.name.alloc(), text)?))
-}
-
-/// The bytes of the one text of a tree. None where they are more than `EVENT_LIMIT`.
-fn bytes_of(read: Option<&ToldTree>, node: &Element) -> Result<Option<Bytes>, TreeFault>
-    requires good { IsGoodTree node.now }
-    requires same { IfSome (option_copied read) (λ tree. tree ≡ node.now) }
-    ensures { IfOk result (λ found. found ≡ unless_longer event_limit (text_of_tree node.now)) }
-{
-    let alloc = node.name.alloc();
-    match read {
-        Some(tree) => write_told_tree_within(alloc, tree, Charset::Utf8, EVENT_LIMIT),
-        None => write_tree_within(alloc, node, Charset::Utf8, EVENT_LIMIT),
-    }
+    Ok(Some(Text::from_str(alloc, text)?))
 }

@@ -4,9 +4,10 @@ ghost use Rattle.std.specs.Prelude.{◌≡◌, option_copied, IfOk};
 ghost use Rattle.std.specs.Option.{option_and_then};
 ghost use Rattle.wef_base.specs.Names.{source_name, subscription_name};
 ghost use Rattle.wef_batch.specs.Numbers.{AreNumbered};
-ghost use Rattle.wef_batch.specs.Reading.{AreGoodTrees, Reads};
+ghost use Rattle.wef_batch.specs.Reading.{AreGoodTrees, AreToldTrees, Reads};
 ghost use Rattle.wef_envelope.specs.Envelopes.{said};
 ghost use Rattle.wef_xml.specs.Good.{IsGoodTree};
+ghost use Rattle.wef_xml.specs.Told.{IsTold};
 ghost use Rattle.wef_front.specs.Heard.{Hears, IsSound, IsSoundAsk, asked_by, asked_of, batch_in, delivery_asked, enumerate_asked, events_asked, heard_in, is_elsewhere, is_nameless, manager_asked, unheard};
 
 use std::alloc::{AllocError, Global};
@@ -16,7 +17,7 @@ use wef_bodies::has_enumerate;
 use wef_envelope::actions::{ENUMERATE, EVENTS, SUBSCRIPTIONS};
 use wef_envelope::{Envelope, EnvelopeFault, FaultName, MessageId, from_node, id_in};
 use wef_http_heads::Target;
-use wef_tree::{TreeFault, read_tree};
+use wef_tree::{TreeFault, read_told_tree};
 
 /// What a message asks.
 #[derive(Debug, Drop)]
@@ -52,8 +53,8 @@ pub fn hear(
     ensures heard { IfOk result (λ heard. Hears target.now charset body.now heard) }
     ensures sound { IfOk result IsSound }
 {
-    match read_tree(alloc, body, charset) {
-        Ok(root) => heard_in(target, &root),
+    match read_told_tree(alloc, body, charset) {
+        Ok(tree) => heard_in(target, tree.is_told(), tree.root()),
         Err(TreeFault::NoMemory) => Err(AllocError),
         Err(TreeFault::BadCharset { .. } | TreeFault::TooDeep { .. }) => {
             Ok(unheard(FaultName::EncodingLimit))
@@ -73,25 +74,29 @@ fn unheard(name: FaultName) -> Heard
     }
 }
 
+/// What the root of a message asks; `told`: the namespaces in it are told apart by their digests, as in
+/// all that follows.
 #[tactic(auto, using(crate::proofs::ReadIsGood::id_is_text))]
-fn heard_in(target: &Target, root: &Element) -> Result<Heard, AllocError>
-    requires { IsGoodTree root.now }
+fn heard_in(target: &Target, told: bool, root: &Element) -> Result<Heard, AllocError>
+    requires good { IsGoodTree root.now }
+    requires told { IsTold told root.now }
     ensures heard { IfOk result (λ heard. heard ≡ heard_in target.now root.now) }
     ensures sound { IfOk result IsSound }
 {
     let relates = id_in(root)?;
-    let asked = asked_in(target, root)?;
+    let asked = asked_in(target, told, root)?;
     Ok(Heard { relates, asked })
 }
 
 #[tactic(auto, using(crate::proofs::ReadIsGood::body_is_good))]
-fn asked_in(target: &Target, root: &Element) -> Result<Asked, AllocError>
-    requires { IsGoodTree root.now }
+fn asked_in(target: &Target, told: bool, root: &Element) -> Result<Asked, AllocError>
+    requires good { IsGoodTree root.now }
+    requires told { IsTold told root.now }
     ensures asked { IfOk result (λ asked. asked ≡ asked_of target.now (said root.now)) }
     ensures sound { IfOk result IsSoundAsk }
 {
     match &from_node(root) {
-        Ok(envelope) => asked_by(target, envelope),
+        Ok(envelope) => asked_by(target, told, envelope),
         Err(EnvelopeFault::NoMemory) => Err(AllocError),
         Err(EnvelopeFault::NotSoap | EnvelopeFault::RepeatedHeader { .. }) => {
             Ok(Asked::Refused(FaultName::InvalidMessage))
@@ -104,8 +109,9 @@ fn asked_in(target: &Target, root: &Element) -> Result<Asked, AllocError>
 }
 
 /// What an envelope asks at a target, by its action.
-fn asked_by(target: &Target, envelope: &Envelope) -> Result<Asked, AllocError>
-    requires { AreGoodTrees envelope.now.body }
+fn asked_by(target: &Target, told: bool, envelope: &Envelope) -> Result<Asked, AllocError>
+    requires good { AreGoodTrees envelope.now.body }
+    requires told { AreToldTrees told envelope.now.body }
     ensures asked { IfOk result (λ asked. asked ≡ asked_by target.now envelope.now) }
     ensures sound { IfOk result IsSoundAsk }
 {
@@ -114,7 +120,7 @@ fn asked_by(target: &Target, envelope: &Envelope) -> Result<Asked, AllocError>
     }
     match target {
         Target::Manager => manager_asked(envelope),
-        Target::Delivery { sub, source } => delivery_asked(sub, source, envelope),
+        Target::Delivery { sub, source } => delivery_asked(sub, source, told, envelope),
         Target::Root => Ok(Asked::Refused(FaultName::ActionNotSupported)),
     }
 }
@@ -175,20 +181,32 @@ fn machine_named(machine: Option<&Text>) -> Result<Option<SourceName>, AllocErro
 }
 
 /// What an envelope asks where a source delivers for a subscription.
-fn delivery_asked(sub: &Text, source: &Text, envelope: &Envelope) -> Result<Asked, AllocError>
-    requires { AreGoodTrees envelope.now.body }
+fn delivery_asked(
+    sub: &Text,
+    source: &Text,
+    told: bool,
+    envelope: &Envelope,
+) -> Result<Asked, AllocError>
+    requires good { AreGoodTrees envelope.now.body }
+    requires told { AreToldTrees told envelope.now.body }
     ensures asked { IfOk result (λ asked. asked ≡ delivery_asked sub.now source.now envelope.now) }
     ensures sound { IfOk result IsSoundAsk }
 {
     if envelope.action.as_str() == EVENTS {
-        return events_asked(sub, source, envelope);
+        return events_asked(sub, source, told, envelope);
     }
     Ok(Asked::Refused(FaultName::ActionNotSupported))
 }
 
 /// What a batch asks that came to the path of a subscription and a source.
-fn events_asked(sub: &Text, source: &Text, envelope: &Envelope) -> Result<Asked, AllocError>
-    requires { AreGoodTrees envelope.now.body }
+fn events_asked(
+    sub: &Text,
+    source: &Text,
+    told: bool,
+    envelope: &Envelope,
+) -> Result<Asked, AllocError>
+    requires good { AreGoodTrees envelope.now.body }
+    requires told { AreToldTrees told envelope.now.body }
     ensures asked { IfOk result (λ asked. asked ≡ events_asked (subscription_name sub.now) (source_name source.now) (batch_in envelope.now)) }
     ensures sound { IfOk result IsSoundAsk }
 {
@@ -198,7 +216,7 @@ fn events_asked(sub: &Text, source: &Text, envelope: &Envelope) -> Result<Asked,
     let Some(source) = source_named(source)? else {
         return Ok(Asked::Unread(sub));
     };
-    match batch_in(envelope) {
+    match batch_in(told, envelope) {
         Ok(batch) => Ok(Asked::Take { sub, source, batch }),
         Err(BatchFault::NoMemory) => Err(AllocError),
         Err(BatchFault::BadHead | BatchFault::BadBatch { .. }) => Ok(Asked::Unread(sub)),
@@ -206,8 +224,9 @@ fn events_asked(sub: &Text, source: &Text, envelope: &Envelope) -> Result<Asked,
 }
 
 #[tactic(auto, using(crate::proofs::Numbered::as_read))]
-fn batch_in(envelope: &Envelope) -> Result<Batch, BatchFault>
-    requires { AreGoodTrees envelope.now.body }
+fn batch_in(told: bool, envelope: &Envelope) -> Result<Batch, BatchFault>
+    requires good { AreGoodTrees envelope.now.body }
+    requires told { AreToldTrees told envelope.now.body }
     ensures batch { Reads result (batch_in envelope.now) }
     ensures numbered { IfOk result (λ batch. AreNumbered batch.items) }
 {
@@ -216,6 +235,7 @@ fn batch_in(envelope: &Envelope) -> Result<Batch, BatchFault>
         alloc,
         envelope.bookmark.as_ref(),
         envelope.ack_wanted,
+        told,
         envelope.body.as_slice(),
     )
 }

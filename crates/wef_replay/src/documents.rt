@@ -8,20 +8,20 @@ ghost use Rattle.wef_tree_reading.specs.Documents.{tree_of};
 ghost use Rattle.wef_xml.specs.Good.{IsGoodTree};
 
 use std::alloc::{AllocError, Global};
-use wef_base::{Charset, Element, Text};
+use wef_base::{Charset, Text};
 use wef_event::{Event, read_new_event};
 use wef_query::{QueryFault, QueryList, read_query};
 use wef_replay_values::values::LineFault;
-use wef_tree_reading::read_tree;
-use wef_xml::TreeFault;
+use wef_tree_reading::read_told_tree;
+use wef_xml::{ToldTree, TreeFault};
 
-/// The root of the document that a text is; none where it is none.
-pub fn tree_in(alloc: Global, text: &[u8]) -> Result<Option<Element>, AllocError>
-    ensures tree { IfOk result (λ root. root ≡ tree_of Utf8 text.now) }
-    ensures good { IfOk result (λ root. IfSome root IsGoodTree) }
+/// The tree of the document that a text is; none where it is none.
+pub fn tree_in(alloc: Global, text: &[u8]) -> Result<Option<ToldTree>, AllocError>
+    ensures tree { IfOk result (λ tree. tree ≡ tree_of Utf8 text.now) }
+    ensures good { IfOk result (λ tree. IfSome tree IsGoodTree) }
 {
-    match read_tree(alloc, text, Charset::Utf8) {
-        Ok(root) => Ok(Some(root)),
+    match read_told_tree(alloc, text, Charset::Utf8) {
+        Ok(tree) => Ok(Some(tree)),
         Err(TreeFault::NoMemory) => Err(AllocError),
         Err(_) => Ok(None),
     }
@@ -32,10 +32,10 @@ pub fn tree_in(alloc: Global, text: &[u8]) -> Result<Option<Element>, AllocError
 pub fn list_in(alloc: Global, text: &[u8]) -> Result<Option<QueryList>, AllocError>
     ensures { IfOk result (λ list. list ≡ documents.list_in text.now) }
 {
-    let Some(root) = tree_in(alloc, text)? else {
+    let Some(tree) = tree_in(alloc, text)? else {
         return Ok(None);
     };
-    match read_query(&root) {
+    match read_query(tree.root()) {
         Ok(list) => Ok(Some(list)),
         Err(QueryFault::NoMemory) => Err(AllocError),
         Err(_) => Ok(None),

@@ -11,4 +11,6 @@ mod space_sets;
 mod text_sets;
 mod writing;
 
-pub use writing::{write_told_tree, write_told_tree_within, write_tree, write_tree_within};
+pub use writing::{
+    write_element_within, write_told_tree, write_told_tree_within, write_tree, write_tree_within,
+};

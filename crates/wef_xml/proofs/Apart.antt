@@ -22,7 +22,7 @@ of_row : (P : List ℕ → Type 0) {m : _} (row : Row_of-Node m) → AreNodesIn 
 of_row P end_of-Node all = tt
 of_row P (more_of-Node n rest) all = (all.0, of_row P rest all.1)
 
-to_list : (P : List ℕ → Type 0) {m : _} (row : Row_of-Node m) → IsRowIn P row → AreNodesIn P (items-the_row-Node m row)
+pub to_list : (P : List ℕ → Type 0) {m : _} (row : Row_of-Node m) → IsRowIn P row → AreNodesIn P (items-the_row-Node m row)
 to_list P end_of-Node all = tt
 to_list P (more_of-Node n rest) all = (all.0, to_list P rest all.1)
 

@@ -17,5 +17,5 @@ themselves limit text bytes e = by (nat_lt limit (length text)) e
 pub unreachable-requires : goal.unreachable-requires
 unreachable-requires c =
     let is : text_of_tree c.args.node.now ≡ c.as_slice.result.now =
-    themselves _ (text_of_tree c.args.node.now) _ (sym c.in-Ok.ensures ∙ c.in-Some.is) ∙ sym c.as_slice.ensures in
+    themselves _ (text_of_tree c.args.node.now) _ (sym c.in-Ok.ensures.value ∙ c.in-Some.is) ∙ sym c.as_slice.ensures in
     c.in_default-from_utf8.ensures.cases.0 (subst IsUtf8 is (tree_is_utf8 c.args.node.now c.requires.good))
