@@ -52,9 +52,10 @@ fn is_subscription(row: &Row) -> Result<bool, AllocError>
     Ok(kept_subscription(row)?.is_some())
 }
 
-/// The subscription that a row keeps. None where the row isn't of its form.
+/// The subscription that a row keeps. None where it isn't of the form of a subscription's row, its kind
+/// aside.
 #[tactic(auto, unfolding(crate::specs::Forms::is_subscription_row))]
-pub fn kept_subscription(row: &Row) -> Result<Option<Subscription>, AllocError>
+pub(crate) fn kept_subscription(row: &Row) -> Result<Option<Subscription>, AllocError>
     ensures some { IfOk result (λ found. is_some found ≡ spec.is_subscription_row row.now) }
     ensures value { IfOk result (λ found. IfSome found (λ subscription. kept.read_kept row.now.key.sub row.now.body ≡ Some subscription)) }
 {

@@ -86,8 +86,7 @@ pub fn subscription_cell<K: Keeper>(keeper: &mut K, sub: &SubId) -> Result<Optio
     formed_cell::<CollectorForm, K>(keeper, &key)
 }
 
-/// What the row of a subscription's name tells. It fails where the row isn't of its form. The document
-/// is read once, for its form and for what it says.
+/// What the row of a subscription's name tells. It fails where the row isn't of its form.
 fn standing_of(row: &Row) -> Result<Standing, StoreFault>
     ensures standing { IfOk result (λ s. s ≡ spec.standing_by row.now.value (read_kept row.now.key.sub row.now.body)) }
     ensures formed { OnOk result (is_subscription_row row.now ≡ true) }

@@ -46,14 +46,14 @@ more_in P (m ∷ ms) n all is = (all.0, more_in P ms n all.1 is)
 
 only_in : (P : List ℕ → Type 0) (digits : List ℕ) → KeepsIn P (with_only digits)
 unfolding KeepsIn
-only_in P digits e is = (is.0, is.1, tt, tt)
+only_in P digits e is = (is.0, is.1, (tt, tt))
 
 children_in : (P : List ℕ → Type 0) (space digits : List ℕ) (ns : List Node) → P space → AreNodesIn P ns → AreNodesIn P (numbered_children space digits ns)
 children_in P space digits ns is all = by (is_some (first_child record_id ns))
   where
     by : (b : Bool) → AreNodesIn P (cond b (with_first_changed record_id (with_only digits) ns) (ns ++ Child (new_field space digits) ∷ []))
     by true = changed_in P record_id (with_only digits) ns (only_in P digits) all
-    by false = more_in P ns (Child (new_field space digits)) all (child_in P (new_field space digits) (is, All-nil (λ (a : Attribute). P a.space), tt, tt))
+    by false = more_in P ns (Child (new_field space digits)) all (child_in P (new_field space digits) (is, All-nil (λ (a : Attribute). P a.space), (tt, tt)))
 
 system_in : (P : List ℕ → Type 0) (digits : List ℕ) → KeepsIn P (numbered_system digits)
 unfolding KeepsIn
@@ -63,4 +63,4 @@ pub numbered_told : (told : Bool) (digits : List ℕ) (root : Element) → IsTol
 numbered_told told digits root all so =
     let found = all so in
     let P : List ℕ → Type 0 = IsFound found.0 in
-    (found.0, found.1.0, found.1.1, changed_in P (codes "System") (numbered_system digits) root.children (system_in P digits) found.1.2)
+    (found.0, (found.1.0, found.1.1, changed_in P (codes "System") (numbered_system digits) root.children (system_in P digits) found.1.2))

@@ -4,7 +4,7 @@ use Rattle.std.specs.declared.result.Result.TheVariants.{Ok, Err}
 use Rattle.wef_base.specs.declared.tree.Charset.TheVariants.{Utf8}
 use Rattle.wef_base.specs.declared.tree.Element.{Element}
 use Rattle.wef_tree_reading.specs.Spelling.{Spells, StopsAt}
-use Rattle.wef_tree_pieces.specs.declared.faults.FaultKind.{FaultKind}
+use Rattle.wef_tree_reading.specs.declared.faults.FaultKind.{FaultKind}
 use Rattle.wef_event.specs.Events.{Event, event_limit, event_of}
 use Rattle.wef_event.specs.declared.records.EventFault.{EventFault}
 use Rattle.wef_event.specs.declared.records.EventFault.TheVariants.{NoMemory, BadEvent, NoChannel, NoRecordId, TooLong}

@@ -10,8 +10,8 @@ use Rattle.wef_ids.specs.declared.FaultName.{FaultName}
 use Rattle.wef_ids.specs.declared.FaultName.TheVariants as the
 use Rattle.wef_source.specs.declared.messages.Delivery as source
 use Rattle.wef_tree_reading.specs.Spelling.{ReadsTree, Spells, StopsAt}
-use Rattle.wef_tree_pieces.specs.declared.faults.FaultKind.{FaultKind}
-use Rattle.wef_tree_pieces.specs.declared.faults.FaultKind.TheVariants as kinds
+use Rattle.wef_tree_reading.specs.declared.faults.FaultKind.{FaultKind}
+use Rattle.wef_tree_reading.specs.declared.faults.FaultKind.TheVariants as kinds
 use Rattle.wef_tree_reading.proofs.Readings.{has_no_fault, has_one_fault, has_one_root, is_decoded}
 use Rattle.wef_xml.specs.Decoding.{decoded}
 use Rattle.wef_xml.specs.declared.faults.TreeFault.{TreeFault}

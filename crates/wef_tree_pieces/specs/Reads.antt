@@ -11,15 +11,3 @@ abbrev pub Reads : {A : Type 0} → Result (A × Bor (List ℕ)) Halt → Option
 Reads (Ok read) given = given ≡ Some (read.0, read.1.now)
 Reads (Err Bad) given = given ≡ None
 Reads (Err NoMemory) given = Unit {0}
-
--- a call that gives a value
-abbrev pub Gives : {A : Type 0} → Result A Halt → Option A → Type 0
-Gives (Ok value) given = given ≡ Some value
-Gives (Err Bad) given = given ≡ None
-Gives (Err NoMemory) given = Unit {0}
-
--- a call that changes what it is given; after an error that may be anything
-abbrev pub Takes : {A B : Type 0} → Result A Halt → Option B → B → Type 0
-Takes (Ok _) given changed = given ≡ Some changed
-Takes (Err Bad) given changed = given ≡ None
-Takes (Err NoMemory) given changed = Unit {0}

@@ -2,14 +2,6 @@
 
 use std::alloc::AllocError;
 
-/// What is wrong with a text, its place aside.
-#[derive(Clone, Copy, PartialEq, Eq)]
-pub enum FaultKind {
-    Xml,
-    Deep,
-    Refused,
-}
-
 /// Why a part of a text couldn't be read.
 #[derive(Clone, Copy)]
 pub enum Halt {
@@ -27,12 +19,4 @@ impl From<AllocError> for Halt {
     fn from(_error: AllocError) -> Halt {
         Halt::NoMemory
     }
-}
-
-/// Why reading a text stopped.
-#[derive(Clone, Copy)]
-pub enum Stop {
-    NoMemory,
-    /// What is wrong, and how many characters are left from there on.
-    Fault { kind: FaultKind, left: usize },
 }

@@ -10,7 +10,7 @@ mod sections;
 mod tags;
 mod values;
 
-pub use faults::{FaultKind, Halt, Stop};
+pub use faults::Halt;
 pub use names::{Name, Spelling};
 pub use pieces::{Piece, piece_at};
 pub use tags::{Given, Tag};

@@ -11,7 +11,7 @@ use Rattle.wef_tree_reading.specs.Documents.{GivesTree, IsSpelt, led_on, led_to,
 use Rattle.wef_tree_pieces.specs.Pieces.{piece_at}
 use Rattle.wef_tree_reading.specs.Spelling.{Leads, ReadsTree, Spells, StopsAt, TextSpells}
 use Rattle.wef_tree_reading.specs.declared.building.Builder.{Builder}
-use Rattle.wef_tree_pieces.specs.declared.faults.FaultKind.{FaultKind}
+use Rattle.wef_tree_reading.specs.declared.faults.FaultKind.{FaultKind}
 use Rattle.wef_xml.specs.declared.faults.TreeFault.{TreeFault}
 use Rattle.wef_xml.specs.declared.faults.TreeFault.TheVariants.{NoMemory, BadCharset, BadXml, TooDeep, Refused}
 use Rattle.wef_tree_pieces.specs.declared.pieces.Piece.{Piece}

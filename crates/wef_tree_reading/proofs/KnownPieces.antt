@@ -13,7 +13,7 @@ use Rattle.wef_xml.specs.Spaces.{xml_space}
 use Rattle.wef_xml.specs.Told.{IsFound, IsTold}
 use Rattle.wef_tree_reading.specs.Building.{taken}
 use Rattle.wef_tree_reading.specs.Known.{AreGivensIn, Grows, Holds, IsPieceIn, IsRootIn, KnowsBuilder, found_in}
-use Rattle.wef_tree_pieces.specs.Reads.{Takes}
+use Rattle.wef_tree_reading.specs.Reads.{Takes}
 use Rattle.wef_tree_reading.specs.Scopes.{declares}
 use Rattle.wef_tree_reading.specs.declared.building.Builder.{Builder}
 use Rattle.wef_tree_pieces.specs.declared.faults.Halt.{Halt}

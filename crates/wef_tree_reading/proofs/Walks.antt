@@ -13,10 +13,10 @@ use Rattle.std.specs.Borrow.{Bor}
 use Rattle.wef_tree_reading.specs.Runs.{Walks}
 use Rattle.wef_tree_reading.specs.Spelling.{Leads, Steps, Reaches, ReadsText, ReadsTree, Stops, StopsAt, fault_at, kind_of, IsStuck}
 use Rattle.wef_tree_reading.specs.declared.building.Builder.{Builder}
-use Rattle.wef_tree_pieces.specs.declared.faults.FaultKind.{FaultKind}
-use Rattle.wef_tree_pieces.specs.declared.faults.FaultKind.TheVariants.{Xml, Deep, Refused as Forbidden}
-use Rattle.wef_tree_pieces.specs.declared.faults.Stop.{Stop}
-use Rattle.wef_tree_pieces.specs.declared.faults.Stop.TheVariants.{NoMemory, Fault}
+use Rattle.wef_tree_reading.specs.declared.faults.FaultKind.{FaultKind}
+use Rattle.wef_tree_reading.specs.declared.faults.FaultKind.TheVariants.{Xml, Deep, Refused as Forbidden}
+use Rattle.wef_tree_reading.specs.declared.faults.Stop.{Stop}
+use Rattle.wef_tree_reading.specs.declared.faults.Stop.TheVariants.{NoMemory, Fault}
 use Rattle.wef_xml.specs.declared.faults.TreeFault.{TreeFault}
 use Rattle.wef_tree_pieces.specs.declared.pieces.Piece.{Piece}
 use Rattle.wef_tree_reading.proofs.GoodTrees.{spells_good}

@@ -6,7 +6,7 @@ use Rattle.wef_base.specs.declared.tree.Element.{Element}
 use Rattle.wef_xml.specs.Decoding.{decoded}
 use Rattle.wef_tree_reading.specs.Spelling.{Leads, Reaches, Spells, Stops, StopsAt}
 use Rattle.wef_tree_reading.specs.declared.building.Builder.{Builder}
-use Rattle.wef_tree_pieces.specs.declared.faults.FaultKind.{FaultKind}
+use Rattle.wef_tree_reading.specs.declared.faults.FaultKind.{FaultKind}
 use Rattle.wef_tree_pieces.specs.declared.pieces.Piece.{Piece}
 
 -- The same bytes don't spell two roots.

@@ -3,6 +3,7 @@ pub mod Documents
 pub mod ExpandedNames
 pub mod Known
 pub mod Laws
+pub mod Reads
 pub mod Runs
 pub mod Scopes
 pub mod Spelling

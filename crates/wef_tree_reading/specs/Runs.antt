@@ -5,8 +5,8 @@ use Rattle.std.specs.declared.result.Result.TheVariants.{Ok, Err}
 use Rattle.wef_base.specs.Characters.{is_xml_char}
 use Rattle.wef_tree_reading.specs.Spelling.{IsStuck, Leads, kind_of}
 use Rattle.wef_tree_reading.specs.declared.building.Builder.{Builder}
-use Rattle.wef_tree_pieces.specs.declared.faults.Stop.{Stop}
-use Rattle.wef_tree_pieces.specs.declared.faults.Stop.TheVariants.{NoMemory as OutOfMemory, Fault}
+use Rattle.wef_tree_reading.specs.declared.faults.Stop.{Stop}
+use Rattle.wef_tree_reading.specs.declared.faults.Stop.TheVariants.{NoMemory as OutOfMemory, Fault}
 use Rattle.wef_tree_pieces.specs.declared.pieces.Piece.{Piece}
 
 -- a character that is a piece by itself, whatever follows

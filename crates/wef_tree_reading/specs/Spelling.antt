@@ -11,10 +11,10 @@ use Rattle.wef_xml.specs.Decoding.{decoded, line_ends, place}
 use Rattle.wef_xml.specs.Fronts.{strip}
 use Rattle.wef_tree_pieces.specs.Pieces.{piece_at}
 use Rattle.wef_tree_reading.specs.declared.building.Builder.{Builder}
-use Rattle.wef_tree_pieces.specs.declared.faults.FaultKind.{FaultKind}
-use Rattle.wef_tree_pieces.specs.declared.faults.FaultKind.TheVariants.{Xml, Deep, Refused as Forbidden}
-use Rattle.wef_tree_pieces.specs.declared.faults.Stop.{Stop}
-use Rattle.wef_tree_pieces.specs.declared.faults.Stop.TheVariants.{NoMemory as OutOfMemory, Fault}
+use Rattle.wef_tree_reading.specs.declared.faults.FaultKind.{FaultKind}
+use Rattle.wef_tree_reading.specs.declared.faults.FaultKind.TheVariants.{Xml, Deep, Refused as Forbidden}
+use Rattle.wef_tree_reading.specs.declared.faults.Stop.{Stop}
+use Rattle.wef_tree_reading.specs.declared.faults.Stop.TheVariants.{NoMemory as OutOfMemory, Fault}
 use Rattle.wef_xml.specs.declared.faults.TreeFault.{TreeFault}
 use Rattle.wef_xml.specs.declared.faults.TreeFault.TheVariants.{NoMemory, BadCharset, BadXml, TooDeep, Refused}
 use Rattle.wef_tree_pieces.specs.declared.pieces.Piece.{Piece}

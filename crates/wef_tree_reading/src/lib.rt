@@ -3,6 +3,7 @@
 
 mod attributes;
 mod building;
+mod faults;
 mod known;
 pub mod laws;
 mod reading;

@@ -8,15 +8,16 @@ ghost use Rattle.wef_tree_reading.specs.Documents.{GivesTree, tree_of};
 ghost use Rattle.wef_xml.specs.Good.{IsGoodTree};
 ghost use Rattle.wef_tree_reading.specs.Building.{taken};
 ghost use Rattle.wef_tree_reading.specs.Known.{KnowsBuilder};
-ghost use Rattle.wef_tree_pieces.specs.Reads.{Takes};
+ghost use Rattle.wef_tree_reading.specs.Reads.{Takes};
 ghost use Rattle.wef_tree_reading.specs.Runs.{Walks, is_letter};
 ghost use Rattle.wef_tree_reading.specs.Spelling.{ReadsText, ReadsTree, Steps, fault_at, is_tag, kind_by};
 
 use crate::building::{Builder, GREATEST_DEPTH};
+use crate::faults::{FaultKind, Stop};
 use crate::known::Known;
 use std::alloc::Global;
 use wef_base::{Charset, Element, is_xml_char};
-use wef_tree_pieces::{FaultKind, Halt, Piece, Stop, piece_at};
+use wef_tree_pieces::{Halt, Piece, piece_at};
 use wef_xml::decoding::decode;
 use wef_xml::fronts::strip;
 use wef_xml::line_ends::join_line_ends;

@@ -15,25 +15,25 @@ AreBoundIn P bs = All (λ b. P b.space) bs
 abbrev pub AreLevelsIn : (List ℕ → Type 0) → List (List Binding) → Type 0
 AreLevelsIn P levels = All (λ level. AreBoundIn P level) levels
 
--- A namespace and other ones are found by one function,
+-- One function finds these namespaces and this one by their digests.
 abbrev pub IsFoundBeside : List (List ℕ) → List ℕ → Type 0
 IsFoundBeside spaces space = (find : List ℕ → Option (List ℕ)) × All (IsFound find) spaces × IsFound find space
 
 abbrev pub IsToldBeside : Bool → List (List ℕ) → List ℕ → Type 0
 IsToldBeside told spaces space = told ≡ true → IsFoundBeside spaces space
 
--- and so are it and those of the bindings of a level,
+-- One function finds the namespaces of these bindings, and this one.
 abbrev pub IsFoundAmong : List Binding → List ℕ → Type 0
 IsFoundAmong bs space = (find : List ℕ → Option (List ℕ)) × AreBoundIn (IsFound find) bs × IsFound find space
 
 abbrev pub IsToldAmong : Bool → List Binding → List ℕ → Type 0
 IsToldAmong told bs space = told ≡ true → IsFoundAmong bs space
 
--- those of all levels,
+-- Where they are told: one function finds the namespaces of all levels, and this one.
 abbrev pub IsToldIn : Bool → List (List Binding) → List ℕ → Type 0
 IsToldIn told levels space = told ≡ true → (find : List ℕ → Option (List ℕ)) × AreLevelsIn (IsFound find) levels × IsFound find space
 
--- and these and other ones.
+-- The same, and these other namespaces.
 abbrev pub IsNewTold : Bool → List (List Binding) → List (List ℕ) → List ℕ → Type 0
 IsNewTold told levels spaces space =
     told ≡ true → (find : List ℕ → Option (List ℕ)) × AreLevelsIn (IsFound find) levels × All (IsFound find) spaces × IsFound find space

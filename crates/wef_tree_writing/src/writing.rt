@@ -47,8 +47,8 @@ impl From<AllocError> for Stop {
 /// Writes a tree that documents say, in its one text: elements have a start tag and an end tag, and
 /// nothing stands between them but their children. UTF-8 has no byte order mark, UTF-16 is
 /// little-endian and has one. Only want of memory is refused. It takes time in proportion to the
-/// text, but for a logarithm; and besides, for each element and attribute in a namespace, to compare
-/// that with others.
+/// text, but for a logarithm; and, for each element and attribute, to compare its namespace with those
+/// in force.
 pub fn write_tree(alloc: Global, root: &Element, charset: Charset) -> Result<Bytes, TreeFault>
     requires { IsGoodTree root.now }
     ensures value { IfOk result (λ bytes. bytes ≡ encoded charset (canonical root.now)) }
