@@ -1,6 +1,5 @@
 -- The one text of elements and texts is written over a loose text of them, one behind the other.
 use Rattle.std.proofs.Common.{◌≡◌, ℕ, zero, suc, ◌-◌, Bool, true, false, cond, List, [], ◌∷◌, ◌++◌, length, codes, encode_utf8_all, refl, ap, sym, ◌∙◌, append_assoc, append-nil, arith, subst, inl, inr}
-use Rattle.std.specs.List.{flat_map}
 use Rattle.std.specs.Str.{chars}
 use Rattle.std.proofs.Math.Utf8.{encode}
 use Rattle.std.proofs.lemmas.Grind.{flat_map-append}
@@ -8,15 +7,14 @@ use Rattle.std.proofs.lemmas.Str.{encodes-append}
 use Rattle.wef_base.specs.declared.tree.Element.{Element}
 use Rattle.wef_base.specs.declared.tree.Node.{Node, Chars}
 use Rattle.wef_base.specs.declared.tree.Node.TheVariants.{Element as Child}
-use Rattle.wef_xml.specs.Canonical.{canonical, element_text, end_of, start_of, text_char, text_of}
-use Rattle.wef_xml.specs.Good.{AreGoodNodes, IsGoodElement}
-use Rattle.wef_xml.specs.Prefixes.{Scope, bound_by, inside, is_soap, nine}
+use Rattle.wef_xml.specs.Canonical.{canonical, element_text, end_of, start_of, text_of}
+use Rattle.wef_xml.specs.Good.{AreGoodNodes}
+use Rattle.wef_xml.specs.Prefixes.{Scope, bound_by, is_soap, nine}
 use Rattle.wef_xml.specs.Spaces.{is_empty}
 use Rattle.wef_xml.specs.declared.bindings.Binding.{Binding}
 use Rattle.wef_tree.specs.Loose.{AreLooseNodes, IsLooseElement, empty_of}
 use Rattle.wef_tree.proofs.EncodedAgain.{written8}
 use Rattle.wef_tree.proofs.LooseTexts.{loose_child}
-use Rattle.wef_tree.proofs.TextsAgain.{text_chars}
 use Rattle.wef_tree_writing.proofs.WrittenNodes.{node_text}
 use Rattle.wef_elements.specs.Texts.{only_text}
 use Rattle.wef_elements.proofs.GoodTrees.{children_of_text}

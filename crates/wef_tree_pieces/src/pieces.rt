@@ -1,7 +1,5 @@
 //! The pieces that a document is a list of.
 
-ghost use Rattle.std.specs.Prelude.{◌≡◌};
-ghost use Rattle.std.specs.Option.{option_map};
 ghost use Rattle.wef_tree_pieces.specs.Pieces.{closed_tag, letter_at, markup_at, piece_at};
 ghost use Rattle.wef_tree_pieces.specs.Reads.{Reads};
 

@@ -6,7 +6,7 @@ ghost use Rattle.std.specs.Ordering.{eq_by_cmp};
 ghost use Rattle.std.specs.List.{list_any};
 ghost use Rattle.wef_tree_reading.specs.ExpandedNames.{HasNamesOf, name_cmp};
 ghost use Rattle.wef_tree_reading.specs.Reads.{Gives, Takes};
-ghost use Rattle.wef_tree_reading.specs.Scopes.{attribute_one, attributes_by, declares, with_attribute};
+ghost use Rattle.wef_tree_reading.specs.Scopes.{attribute_one, attributes_by, with_attribute};
 ghost use Rattle.wef_xml.specs.Spaces.{is_attribute};
 
 use crate::scopes::Declarations;

@@ -1,7 +1,7 @@
 //! The namespaces that a document has declared so far, by their digests.
 
-ghost use Rattle.std.specs.Prelude.{◌≡◌, true, IfOk, IfSome, OnOk, None};
-ghost use Rattle.std.specs.Option.{option_copied, option_map};
+ghost use Rattle.std.specs.Prelude.{◌≡◌, ℕ, List, true, IfSome, OnOk, None};
+ghost use Rattle.std.specs.Option.{option_map};
 ghost use Rattle.wef_base.specs.Digests.{digest_of, is_long};
 ghost use Rattle.wef_base.specs.Names.{same};
 ghost use Rattle.wef_tree_reading.specs.Known.{AreGivensIn, Grows, Holds, IsPieceIn, found_in};
@@ -24,7 +24,10 @@ pub struct Known {
 
 impl Known {
     /// No namespace. It takes no memory.
-    pub fn new(alloc: Global) -> Known {
+    pub fn new(alloc: Global) -> Known
+        ensures told { result.told ≡ true }
+        ensures none { (digest : List ℕ) → found_in result digest ≡ None }
+    {
         Known {
             spaces: BTreeMap::new(alloc),
             told: true,
