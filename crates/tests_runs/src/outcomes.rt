@@ -57,7 +57,7 @@ fn status_of(
 }
 
 /// Replays a schedule without faults.
-pub(crate) fn replayed(alloc: Global, schedule: &[u8]) -> Result<Outcome, AllocError> {
+pub fn replayed(alloc: Global, schedule: &[u8]) -> Result<Outcome, AllocError> {
     ran(
         alloc,
         "replay",

@@ -1,6 +1,6 @@
 //! Connections of a front, and what comes of them.
 
-use crate::replies::push_replies;
+use crate::served_replies::push_replies;
 use std::alloc::{AllocError, Global};
 use tests_collectors::collectors::{Kept, collector_of, first_rows, push_changed, push_left};
 use tests_collectors::requests::bytes_of;

@@ -2,7 +2,7 @@
 
 ghost use Rattle.wef_documents.specs.Laws.{HasXmlTexts};
 
-use crate::documents::{edited, edited_named, push_bytes};
+use crate::subscriptions::{edited, edited_named, push_bytes};
 use std::alloc::AllocError;
 use wef_base::Text;
 use wef_documents::{read_document, write_document};

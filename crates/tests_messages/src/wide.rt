@@ -1,6 +1,6 @@
 //! Documents in UTF-16.
 
-use crate::documents::{edited, push_bytes};
+use crate::subscriptions::{edited, push_bytes};
 use std::alloc::{AllocError, Global};
 use wef_base::{Bytes, Text};
 

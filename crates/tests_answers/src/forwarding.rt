@@ -1,7 +1,7 @@
 //! What comes of a response.
 
+use crate::forwarding_sources::forward;
 use crate::responses::{offered, response_of, text_of};
-use crate::sources::forward;
 use std::alloc::{AllocError, Global};
 use tests_collectors::collectors::host;
 use tests_collectors::sources::{push_next, written};

@@ -1,0 +1,72 @@
+//! Has the lines of its input answered, and replays its schedules, and prints what comes of each.
+//!
+//! A line `=== CRATE TASK: TITLE` says which crate of tests answers each line behind it, and as what. A
+//! line `=== schedule: TITLE` begins a schedule of the lines behind it, and behind a line `=== each: TITLE`
+//! every line is a schedule of its own: it stands last, without an end of its line, behind a line that adds
+//! the subscription `base`.
+#![tactic(auto)]
+
+mod schedules;
+
+use schedules::{push_replayed, push_replayed_last};
+use std::alloc::AllocError;
+use std::io;
+use wef_base::{Bytes, Text};
+
+fn main(rt: HostRuntime) -> io::Result<()> {
+    let alloc = rt.alloc();
+    let mut name = Text::new(alloc);
+    let mut schedule = Bytes::new(alloc);
+    for line in rt.lines(alloc) {
+        let line = line?;
+        if let Some(heading) = line.strip_prefix("=== ") {
+            print_schedule(&rt, schedule.as_slice())?;
+            schedule = Bytes::new(alloc);
+            println!(rt; "{line}")?;
+            name = Text::from_str(alloc, name_of(heading))?;
+        } else if name.as_str() == "schedule" {
+            schedule.extend(line.as_bytes())?;
+            schedule.push(b'\n')?;
+        } else {
+            print_answer(&rt, name.as_str(), line.as_str())?;
+        }
+    }
+    print_schedule(&rt, schedule.as_slice())
+}
+
+/// What stands before the colon of a heading.
+fn name_of(heading: &str) -> &str {
+    let (name, _) = heading.split_once(':').unwrap_or((heading, ""));
+    name
+}
+
+/// Prints what a schedule comes to.
+fn print_schedule(rt: &HostRuntime, schedule: &[u8]) -> io::Result<()> {
+    let mut shown = Text::new(rt.alloc());
+    push_replayed(&mut shown, schedule)?;
+    rt.stdout().write_all(shown.as_str().as_bytes())
+}
+
+/// Prints a line and its answer.
+fn print_answer(rt: &HostRuntime, name: &str, line: &str) -> io::Result<()> {
+    println!(rt; "{line}")?;
+    let mut shown = Text::new(rt.alloc());
+    if !push_answer(&mut shown, name, line)? {
+        return Err(io::ErrorKind::InvalidData.into());
+    }
+    println!(rt; "    {}", shown.as_str())
+}
+
+/// Appends the answer to a line by the name before a heading's colon, and tells whether there is one.
+fn push_answer(shown: &mut Text, name: &str, line: &str) -> Result<bool, AllocError> {
+    let (tests, task) = name.split_once(' ').unwrap_or((name, ""));
+    match tests {
+        "documents" => tests_documents::push_answer(shown, task, line),
+        "values" => tests_values::push_answer(shown, task, line),
+        "messages" => tests_messages::push_answer(shown, task, line),
+        "http" => tests_http::push_answer(shown, task, line),
+        "answers" => tests_answers::push_answer(shown, task, line),
+        "each" => push_replayed_last(shown, line),
+        _ => Ok(false),
+    }
+}
