@@ -1,30 +1,12 @@
 //! What `check` prints, by example.
 
 use crate::outcomes::{Outcome, ran_once};
+use crate::signs::input;
 use std::alloc::{AllocError, Global};
 use std::test::Fail;
-use wef_base::Text;
 use wef_keeper::MemKeeper;
 
-/// A list that asks for the events of the channel A, but for those whose id is 2.
-const LIST: &str =
-    "<QueryList><Query Path='A'><Select>*</Select><Suppress>*[System[EventID=2]]</Suppress></Query></QueryList>";
-
-/// A list with a text that says no path.
-const REFUSED: &str = "<QueryList><Query Path='A'><Select>*[</Select></Query></QueryList>";
-
-const SELECTED: &str =
-    "<Event><System><EventID>1</EventID><EventRecordID>7</EventRecordID><Channel>A</Channel></System></Event>";
-
-const SUPPRESSED: &str =
-    "<Event><System><EventID>2</EventID><EventRecordID>8</EventRecordID><Channel>A</Channel></System></Event>";
-
-const ELSEWHERE: &str =
-    "<Event><System><EventID>1</EventID><EventRecordID>9</EventRecordID><Channel>B</Channel></System></Event>";
-
-const UNNUMBERED: &str = "<Event><System><EventID>1</EventID><Channel>A</Channel></System></Event>";
-
-/// Inputs, each letter and digit of which stands for a document, and what is printed for them.
+/// Inputs by their signs, and what is printed for them.
 const ANSWERED: &[(&str, &str)] = &[
     ("L", ""),
     ("L\n", ""),
@@ -48,29 +30,6 @@ const REFUSALS: &[(&str, &str)] = &[
     ("L\n1\n\n1", "line 3: not understood\n"),
     ("L\n1\n1\nx\nx\n", "line 4: not understood\n"),
 ];
-
-/// What a sign of a row stands for.
-fn document(sign: char) -> &'static str {
-    match sign {
-        'L' => LIST,
-        'R' => REFUSED,
-        '1' => SELECTED,
-        '2' => SUPPRESSED,
-        'B' => ELSEWHERE,
-        'U' => UNNUMBERED,
-        '\n' => "\n",
-        '\r' => "\r",
-        _ => "x",
-    }
-}
-
-fn input(alloc: Global, row: &str) -> Result<Text, AllocError> {
-    let mut text = Text::new(alloc);
-    for sign in row.chars() {
-        text.push_str(document(sign))?;
-    }
-    Ok(text)
-}
 
 fn checked(alloc: Global, row: &str) -> Result<Outcome, AllocError> {
     let text = input(alloc, row)?;

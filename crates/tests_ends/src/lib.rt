@@ -21,6 +21,8 @@ mod showing;
 #[cfg(test)]
 mod shows;
 #[cfg(test)]
+mod signs;
+#[cfg(test)]
 mod sources;
 #[cfg(test)]
 mod steps;

@@ -1,56 +1,26 @@
 //! What `write` writes and prints, by example.
 
 use crate::outcomes::{Outcome, ran, ran_once, ran_over};
+use crate::signs::{UNNUMBERED, input};
 use std::alloc::{AllocError, Global};
 use std::test::Fail;
-use wef_base::{List, Text};
+use wef_base::List;
 use wef_keeper::MemKeeper;
 
-const UNNUMBERED: &str = "<Event><System><EventID>1</EventID><Channel>A</Channel></System></Event>";
-
-const NUMBERED: &str =
-    "<Event><System><EventRecordID>7</EventRecordID><Channel>A</Channel></System></Event>";
-
-const ELSEWHERE: &str = "<Event><System><Channel>b c</Channel></System></Event>";
-
-const NO_CHANNEL: &str = "<Event><System><EventID>1</EventID></System></Event>";
-
-/// What a run reads, each letter and digit of which stands for a document, its status, and what it
-/// prints and tells.
+/// What a run reads by its signs, its status, and what it prints and tells.
 type Run = (&'static str, u8, &'static str, &'static str);
 
 /// Runs over one store, one after the other.
 const RUNS: &[Run] = &[
     ("", 0, "", ""),
-    ("A", 0, "a 1\n", ""),
-    ("A\nB\r\n7\n", 0, "a 2\nb%20c 1\na 3\n", ""),
-    ("A\nB\nx\nA\n", 3, "", "line 3: not understood\n"),
-    ("A\nC\n", 3, "", "line 2: not understood\n"),
-    ("A\n\nA\n", 3, "", "line 2: not understood\n"),
+    ("U", 0, "a 1\n", ""),
+    ("U\nS\r\n7\n", 0, "a 2\nb%20c 1\na 3\n", ""),
+    ("U\nS\nx\nU\n", 3, "", "line 3: not understood\n"),
+    ("U\nC\n", 3, "", "line 2: not understood\n"),
+    ("U\n\nU\n", 3, "", "line 2: not understood\n"),
     ("\n", 3, "", "line 1: not understood\n"),
-    ("B\nA\n", 0, "b%20c 2\na 4\n", ""),
+    ("S\nU\n", 0, "b%20c 2\na 4\n", ""),
 ];
-
-/// What a sign of a row stands for.
-fn document(sign: char) -> &'static str {
-    match sign {
-        'A' => UNNUMBERED,
-        '7' => NUMBERED,
-        'B' => ELSEWHERE,
-        'C' => NO_CHANNEL,
-        '\n' => "\n",
-        '\r' => "\r",
-        _ => "x",
-    }
-}
-
-fn input(alloc: Global, row: &str) -> Result<Text, AllocError> {
-    let mut text = Text::new(alloc);
-    for sign in row.chars() {
-        text.push_str(document(sign))?;
-    }
-    Ok(text)
-}
 
 fn is_told(ran: &Outcome, status: u8, out: &str, err: &str) -> bool {
     ran.status == status && ran.out.taken() == out.as_bytes() && ran.err.taken() == err.as_bytes()
@@ -78,9 +48,9 @@ fn events_become_records(rt: HostRuntime) -> Result<(), Fail> {
 /// Runs over streams of which the read or the write of a number fails, 0 being none, and what the next
 /// run prints for one event.
 const FAILING: &[(u64, u64, Run, &str)] = &[
-    (1, 0, ("A\nA\n", 5, "", "input failed\n"), "a 1\n"),
-    (0, 1, ("A\nA\n", 5, "", "output failed\n"), "a 2\n"),
-    (0, 2, ("A\nA\n", 5, "a 1\n", "output failed\n"), "a 3\n"),
+    (1, 0, ("U\nU\n", 5, "", "input failed\n"), "a 1\n"),
+    (0, 1, ("U\nU\n", 5, "", "output failed\n"), "a 2\n"),
+    (0, 2, ("U\nU\n", 5, "a 1\n", "output failed\n"), "a 3\n"),
 ];
 
 /// The calls of a stream that fail, where one does.
