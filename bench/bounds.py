@@ -148,12 +148,12 @@ def meets(words, title, shape, size):
 
 def main():
     crates = sys.argv[1] if len(sys.argv) > 1 else os.path.join(HERE, "..", "crates")
-    trees = os.path.join(crates, "bench_trees", "out", "bench_trees")
+    layers = os.path.join(crates, "bench_layers", "out", "bench_layers")
     replay = os.path.join(crates, "wef", "out", "wef")
     good = []
     for word in ("read", "write"):
         for shape in DOCUMENTS:
-            good.append(meets([trees, word], f"{word} {shape.__name__}", shape, MEBIBYTE))
+            good.append(meets([layers, "trees", word], f"{word} {shape.__name__}", shape, MEBIBYTE))
     for shape, size in SCHEDULES:
         good.append(meets([replay, "replay"], shape.__name__, shape, size))
     if not all(good):

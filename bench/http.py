@@ -4,7 +4,7 @@ bytes, and in chunks of one byte; and a head of 65,000 bytes that comes byte by 
 five runs) and the factor from a body of 1 MiB to one of 16 MiB. It fails where a factor is above 18 or the head takes more than two
 seconds.
 
-    bench/http.py [PROGRAM]        PROGRAM is crates/bench_http/out/bench_http where it isn't given
+    bench/http.py [PROGRAM]        PROGRAM is crates/bench_layers/out/bench_layers where it isn't given
 """
 import os
 import subprocess
@@ -20,7 +20,7 @@ def seconds(program, form, size, piece, count):
     """The best time of reading so many requests of this form, so many bytes at once."""
     best = None
     for _ in range(TURNS):
-        words = subprocess.run([program, form, str(size), str(piece), str(count)], check=True, capture_output=True, text=True).stdout.split()
+        words = subprocess.run([program, "http", form, str(size), str(piece), str(count)], check=True, capture_output=True, text=True).stdout.split()
         if words[0] != ("0" if form == "head" else str(size * count)):
             sys.exit(" ".join(words))
         took = int(words[2]) / 1e6
@@ -29,7 +29,7 @@ def seconds(program, form, size, piece, count):
 
 
 def main():
-    program = sys.argv[1] if len(sys.argv) > 1 else os.path.join(HERE, "..", "crates", "bench_http", "out", "bench_http")
+    program = sys.argv[1] if len(sys.argv) > 1 else os.path.join(HERE, "..", "crates", "bench_layers", "out", "bench_layers")
     good = True
     for title, form, piece in [("at once", "length", 0), ("in pieces of 1,460 bytes", "length", 1460), ("in chunks of one byte", "chunks", 0)]:
         many, one = seconds(program, form, SMALL, piece, TIMES), seconds(program, form, SMALL * TIMES, piece, 1)

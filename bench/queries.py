@@ -4,7 +4,7 @@ has, over 10,000 events; positions over events of 1,000 and of 2,000 children; a
 brackets in one another. Prints events a second (the best of five runs) and the factors. It fails where 200 numbers take more than 11
 times as long as 20, or twice as many children or terms more than 2.6 times as long.
 
-    bench/queries.py [PROGRAM]        PROGRAM is crates/bench_queries/out/bench_queries where it isn't given
+    bench/queries.py [PROGRAM]        PROGRAM is crates/bench_layers/out/bench_layers where it isn't given
 """
 import os
 import subprocess
@@ -35,7 +35,7 @@ def seconds(program, text, events, times):
     given = "\n".join([queries(text), *events]) + "\n"
     best = None
     for _ in range(TURNS):
-        words = subprocess.run([program, str(times)], input=given, check=True, capture_output=True, text=True).stdout.split()
+        words = subprocess.run([program, "queries", str(times)], input=given, check=True, capture_output=True, text=True).stdout.split()
         if words[1:3] != ["of", str(len(events))]:
             sys.exit(" ".join(words))
         took = int(words[4]) / 1e6
@@ -55,7 +55,7 @@ def twice(program, title, small, great):
 
 
 def main():
-    program = sys.argv[1] if len(sys.argv) > 1 else os.path.join(HERE, "..", "crates", "bench_queries", "out", "bench_queries")
+    program = sys.argv[1] if len(sys.argv) > 1 else os.path.join(HERE, "..", "crates", "bench_layers", "out", "bench_layers")
     events = [event(4624 + n % 40) for n in range(10_000)]
     size = sum(map(len, events)) / len(events)
     few, many = seconds(program, numbers(20), events, 10), seconds(program, numbers(200), events, 1)

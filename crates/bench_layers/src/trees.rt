@@ -1,6 +1,5 @@
-//! Reads the document of its input as a tree. Where its word is `write` it writes the tree again, and
+//! Reads the document of the input as a tree. Where a word is `write` it writes the tree again, and
 //! where it is `within` it does so up to the length of an event, so that all of it can be measured.
-#![tactic(auto)]
 
 ghost use Rattle.wef_xml.specs.Good.{IsGoodTree};
 
@@ -13,12 +12,12 @@ use wef_tree::{ToldTree, TreeFault, read_told_tree, write_told_tree, write_told_
 /// The most bytes that an event's text has.
 const LIMIT: usize = 1_048_576;
 
-fn main(rt: HostRuntime) -> io::Result<()> {
+pub fn measure(rt: &HostRuntime) -> io::Result<()> {
     let alloc = rt.alloc();
     let mut bytes = Vec::new(alloc);
     rt.stdin().lock().read_to_end(&mut bytes)?;
-    let writes = has_word(&rt, "write")?;
-    let writes_within = has_word(&rt, "within")?;
+    let writes = has_word(rt, "write")?;
+    let writes_within = has_word(rt, "within")?;
     let done = match read_told_tree(alloc, bytes.as_slice(), Charset::Utf8) {
         Ok(tree) if writes => written(alloc, &tree),
         Ok(tree) if writes_within => written_within(alloc, &tree),

@@ -1,7 +1,6 @@
-//! Asks the list of queries in the first line of its input of the events in the lines behind it, all of
-//! the channel security, and prints how many it selects. Where its word is a number it asks all of them
-//! so many times, and prints how many microseconds that took.
-#![tactic(auto)]
+//! Asks the list of queries in the first line of the input of the events in the lines behind it, all of
+//! the channel security, and prints how many it selects. Where the next word is a number it asks all of
+//! them so many times, and prints how many microseconds that took.
 
 use std::alloc::Global;
 use std::time::Instant;
@@ -10,8 +9,8 @@ use wef_base::{ChannelName, Charset, Element, Text};
 use wef_query::{QueryList, read_query, selected};
 use wef_tree::read_tree;
 
-fn main(rt: HostRuntime) -> io::Result<()> {
-    let times = times_of(&rt)?;
+pub fn measure(rt: &HostRuntime) -> io::Result<()> {
+    let times = times_of(rt)?;
     let alloc = rt.alloc();
     let channel = security(alloc)?;
     let mut roots = Vec::new(alloc);
@@ -19,24 +18,24 @@ fn main(rt: HostRuntime) -> io::Result<()> {
         roots.push(root_of(alloc, line?.as_str())?)?;
     }
     let Some((first, events)) = roots.as_slice().split_first() else {
-        return println!(rt; "[TIMES] < QUERIES AND EVENTS");
+        return println!(rt; "queries [TIMES] < QUERIES AND EVENTS");
     };
     let list = read_query(first).map_err(|_| io::ErrorKind::InvalidData)?;
-    let begun = Instant::now(&rt)?;
+    let begun = Instant::now(rt)?;
     let mut count = 0;
     for _ in 0..times.unwrap_or(1) {
         count = count_selected(&list, &channel, events);
     }
-    let took = begun.elapsed(&rt)?;
+    let took = begun.elapsed(rt)?;
     match times {
         Some(_) => println!(rt; "{count} of {} in {}", events.len(), took.as_micros()),
         None => println!(rt; "{count} of {}", events.len()),
     }
 }
 
-/// How often the first word says that all events are asked for.
+/// How often the second word says that all events are asked for.
 fn times_of(rt: &HostRuntime) -> io::Result<Option<u64>> {
-    match env::args(rt)?.nth(1) {
+    match env::args(rt)?.nth(2) {
         Some(word) => Ok(word.as_str().parse::<u64>().ok()),
         None => Ok(None),
     }

@@ -1,9 +1,8 @@
-//! Reads requests from a port in memory, and keeps their bodies. Its words are a form (`length`, `chunks`
+//! Reads requests from a port in memory, and keeps their bodies. The words are a form (`length`, `chunks`
 //! of one byte, or `head`, whose size is that of a field), a size in bytes, how many bytes come at once,
 //! and how many requests come behind one another; it prints how many bytes the bodies have and how many
 //! microseconds that took. Without words it reads three small requests of each form, and prints the
 //! sizes alone.
-#![tactic(auto)]
 
 use std::alloc::{AllocError, Global};
 use std::time::Instant;
@@ -30,9 +29,9 @@ struct Task {
     count: usize,
 }
 
-fn main(rt: HostRuntime) -> io::Result<()> {
+pub fn measure(rt: &HostRuntime) -> io::Result<()> {
     let alloc = rt.alloc();
-    let Some(asked) = asked(&rt)? else {
+    let Some(asked) = asked(rt)? else {
         for form in [Form::Length, Form::Chunks, Form::Head] {
             let small = Task {
                 form,
@@ -47,15 +46,15 @@ fn main(rt: HostRuntime) -> io::Result<()> {
         return Ok(());
     };
     let mut port = port_of(alloc, asked)?;
-    let begun = Instant::now(&rt)?;
+    let begun = Instant::now(rt)?;
     let size = size_read(alloc, &mut port, asked.count)?;
-    let took = begun.elapsed(&rt)?;
+    let took = begun.elapsed(rt)?;
     println!(rt; "{size} in {}", took.as_micros())
 }
 
 /// What the words ask for.
 fn asked(rt: &HostRuntime) -> io::Result<Option<Task>> {
-    let Some(word) = env::args(rt)?.nth(1) else {
+    let Some(word) = env::args(rt)?.nth(2) else {
         return Ok(None);
     };
     let form = match word.as_str() {
@@ -65,9 +64,9 @@ fn asked(rt: &HostRuntime) -> io::Result<Option<Task>> {
     };
     Ok(Some(Task {
         form,
-        size: number_at(rt, 2)?,
-        piece: number_at(rt, 3)?,
-        count: number_at(rt, 4)?,
+        size: number_at(rt, 3)?,
+        piece: number_at(rt, 4)?,
+        count: number_at(rt, 5)?,
     }))
 }
 
