@@ -4,13 +4,16 @@
     bench/bounds.py [FOLDER]       FOLDER has the built programs; crates where it isn't given
 
 Prints for each the seconds of processor time (the best of three runs), the peak memory, and the factors from the smaller
-to the greater. It fails where twice as much takes more than 2.6 times as long or as much memory, or a bound of its own
-isn't met.
+to the greater. It fails where twice as much takes more than 2.6 times as long or as much memory. Two documents of 16 MiB are
+taken once: it fails where four million elements take more than 2 GiB, or children whose namespace is too long for an event
+more than two seconds until they are refused.
 """
 import os
 import subprocess
 import sys
 import tempfile
+
+import collect
 
 HERE = os.path.dirname(os.path.abspath(__file__))
 MOST_FACTOR = 2.6
@@ -66,6 +69,17 @@ def deep_again(size):
     return '<p:a xmlns:p="n">' + branch * (size // len(branch)) + "</p:a>"
 
 
+def event_in_one_long_namespace(size):
+    """An event of the size, half of which is the namespace of its many elements."""
+    front = f'<Event xmlns="{"n" * (size // 2)}"><System><EventID>1</EventID><EventRecordID>7</EventRecordID><Channel>Security</Channel></System>'
+    return front + "<a></a>" * ((size - len(front) - 16) // 7) + "</Event>"
+
+
+def checked_event(size):
+    """A list of queries, and such an event behind it."""
+    return "<QueryList><Query Path='Security'><Select>*[System[EventID=1]]</Select></Query></QueryList>\n" + event_in_one_long_namespace(size)
+
+
 DOCUMENTS = (
     plain_events,
     many_namespaces,
@@ -112,30 +126,45 @@ SCHEDULES = ((shows_of_little, 100_000), (shows_of_much, 10_000), (one_batch, 10
 
 
 def run(words, text):
-    """The seconds of processor time of one run, and its peak memory in bytes."""
-    with tempfile.NamedTemporaryFile("w", encoding="utf-8") as file, open(os.devnull, "wb") as out:
-        file.write(text)
-        file.flush()
-        with open(file.name, "rb") as stdin:
-            child = subprocess.Popen(words, stdin=stdin, stdout=out)
-            _, status, usage = os.wait4(child.pid, 0)
+    """The seconds of processor time of one run in a folder of its own, and its peak memory in bytes."""
+    with tempfile.TemporaryDirectory() as folder, tempfile.TemporaryFile() as stdin, open(os.devnull, "wb") as out:
+        stdin.write(text.encode())
+        stdin.seek(0)
+        child = subprocess.Popen(words, stdin=stdin, stdout=out, cwd=folder)
+        _, status, usage = os.wait4(child.pid, 0)
     if status != 0:
         sys.exit(f"{words[0]} ended with status {os.waitstatus_to_exitcode(status)}")
     return usage.ru_utime + usage.ru_stime, usage.ru_maxrss * 1024
 
 
-def measured(words, text):
-    runs = [run(words, text) for _ in range(TURNS)]
+def deliver(words, event):
+    """The same of `collect`, in which an event comes that stands in its message as elements."""
+    with tempfile.TemporaryDirectory() as folder:
+        subprocess.run([words[0], "add"], cwd=folder, input=collect.SUBSCRIPTION, text=True, stdout=subprocess.DEVNULL, check=True)
+        _, seconds, peak = collect.deliver(words[0], folder, [collect.request_of([event], 7, 1)])
+    return seconds, peak * MEBIBYTE
+
+
+def measured(runner, words, text):
+    runs = [runner(words, text) for _ in range(TURNS)]
     return min(seconds for seconds, _ in runs), max(peak for _, peak in runs)
+
+
+# An event is given a number, is asked of a list, and comes as elements.
+EVENTS = (
+    ("write", event_in_one_long_namespace, run),
+    ("check", checked_event, run),
+    ("collect", event_in_one_long_namespace, deliver),
+)
 
 
 def factor(small, great, least):
     return max(great, least) / max(small, least)
 
 
-def meets(words, title, shape, size):
+def meets(words, title, shape, size, runner=run):
     """Measures a shape at a size and at twice that. Answers whether it meets the bound, and the greater's time and peak."""
-    small, great = measured(words, shape(size)), measured(words, shape(2 * size))
+    small, great = measured(runner, words, shape(size)), measured(runner, words, shape(2 * size))
     slower = factor(small[0], great[0], LEAST_SECONDS)
     larger = factor(small[1], great[1], LEAST_BYTES)
     print(
@@ -146,16 +175,29 @@ def meets(words, title, shape, size):
     return slower <= MOST_FACTOR and larger <= MOST_FACTOR
 
 
+def stays(words, title, text, most_seconds, most_bytes):
+    """Measures one run. Answers whether it stays within its bounds."""
+    seconds, peak = run(words, text)
+    print(f"{title:<38} {len(text):>9,}: {seconds:>7.2f} s {peak / MEBIBYTE:>7,.0f} MiB", flush=True)
+    return seconds <= most_seconds and peak <= most_bytes
+
+
 def main():
-    crates = sys.argv[1] if len(sys.argv) > 1 else os.path.join(HERE, "..", "crates")
+    crates = os.path.abspath(sys.argv[1] if len(sys.argv) > 1 else os.path.join(HERE, "..", "crates"))
     layers = os.path.join(crates, "bench_layers", "out", "bench_layers")
-    replay = os.path.join(crates, "wef", "out", "wef")
+    program = os.path.join(crates, "wef", "out", "wef")
     good = []
     for word in ("read", "write"):
         for shape in DOCUMENTS:
             good.append(meets([layers, "trees", word], f"{word} {shape.__name__}", shape, MEBIBYTE))
+    greatest = 16 * MEBIBYTE
+    good.append(stays([layers, "trees", "read"], "read empty_elements", empty_elements(greatest), 10, 2048 * MEBIBYTE))
+    # what has a text that is too long for an event is refused once that is seen
+    good.append(stays([layers, "trees", "within"], "within one_long_namespace", one_long_namespace(greatest), 2, 2048 * MEBIBYTE))
+    for word, shape, runner in EVENTS:
+        good.append(meets([program, word], f"{word} {shape.__name__}", shape, MEBIBYTE // 2, runner))
     for shape, size in SCHEDULES:
-        good.append(meets([replay, "replay"], shape.__name__, shape, size))
+        good.append(meets([program, "replay"], shape.__name__, shape, size))
     if not all(good):
         sys.exit("a bound isn't met")
 

@@ -43,8 +43,14 @@ def event(number, with_number=True):
 
 def request(first, message, last=None):
     """The delivery of a batch of the records from this number on; it is refused where it says that it ends at a lower record."""
-    items = "".join(f'<w:Event Action="{ACTIONS}/Event"><![CDATA[{event(n)}]]></w:Event>' for n in range(first, first + BATCH))
-    mark = f'<BookmarkList><Bookmark Channel="Security" RecordId="{last or first + BATCH - 1}" IsCurrent="true"/></BookmarkList>'
+    events = [f"<![CDATA[{event(n)}]]>" for n in range(first, first + BATCH)]
+    return request_of(events, last or first + BATCH - 1, message)
+
+
+def request_of(events, last, message):
+    """The delivery of events, each as it stands in a message, up to a record."""
+    items = "".join(f'<w:Event Action="{ACTIONS}/Event">{one}</w:Event>' for one in events)
+    mark = f'<BookmarkList><Bookmark Channel="Security" RecordId="{last}" IsCurrent="true"/></BookmarkList>'
     body = (
         f'<s:Envelope xmlns:s="{SOAP}" xmlns:a="{ADDRESSING}" xmlns:w="{MANAGEMENT}"><s:Header><a:Action s:mustUnderstand="true">{ACTIONS}/Events</a:Action>'
         f"<a:MessageID>uuid:0A0B0C0D-0000-0000-0000-{message:012X}</a:MessageID><w:Bookmark>{mark}</w:Bookmark><w:AckRequested/></s:Header>"
