@@ -3,19 +3,16 @@
 use std::alloc::{AllocError, Global};
 use tests_collectors::collectors::{Kept, collector_of};
 use tests_collectors::requests::bytes_of;
+use tests_runs::outcomes::{Outcome, ran_beside};
 use wef_base::{Bytes, List, MemSink, MemSource, Moment, Text};
-use wef_cli::run;
 use wef_collector::Collector;
 use wef_connections::{MemConnection, MemFront, MemLink};
 use wef_keeper::MemKeeper;
-use wef_ports::FixedClock;
 
-/// How a run ended, what it wrote, where its front listened, and what is kept.
+/// How a run ended and what it wrote, where its front listened, and what is kept.
 #[derive(Drop)]
-struct Outcome {
-    status: u8,
-    out: Text,
-    err: Text,
+struct Run {
+    told: Outcome,
     addresses: usize,
     report: Text,
 }
@@ -28,40 +25,33 @@ fn collected(
     keeper: MemKeeper,
     call: u64,
     write: u64,
-) -> Result<Outcome, AllocError> {
+) -> Result<Run, AllocError> {
     let (count, connections) = line.split_once(": ").unwrap_or((line, ""));
-    let words = words_of(alloc, count)?;
-    let mut input = MemSource::of(Bytes::new(alloc), List::new(alloc));
-    let mut out = MemSink::of(alloc, numbers(alloc, write)?);
-    let mut err = MemSink::of(alloc, List::new(alloc));
+    let command = command_of(alloc, count)?;
+    let out = MemSink::of(alloc, numbers(alloc, write)?);
     let mut front = front_of(alloc, connections, call)?;
-    let (keeper, status) = run(
+    let (keeper, told) = ran_beside(
         alloc,
-        words.as_slice(),
-        &mut input,
-        &mut out,
-        &mut err,
+        command.as_str(),
         keeper,
+        &mut MemSource::of(Bytes::new(alloc), List::new(alloc)),
+        out,
         &mut front,
         &mut MemLink::of(alloc, List::new(alloc), List::new(alloc)),
-        &mut FixedClock::at(Moment::of(1_000).unwrap_or(Moment::first())),
-    );
-    Ok(Outcome {
-        status,
-        out: text_of(alloc, out.taken())?,
-        err: text_of(alloc, err.taken())?,
+        Moment::of(1_000).unwrap_or(Moment::first()),
+    )?;
+    Ok(Run {
+        told,
         addresses: front.addresses().len(),
         report: report(alloc, keeper)?,
     })
 }
 
-/// The words that serve so many connections.
-fn words_of(alloc: Global, count: &str) -> Result<Vec<Text>, AllocError> {
-    let mut words = Vec::new(alloc);
-    for word in ["collect", "127.0.0.1:5985", count] {
-        words.push(Text::from_str(alloc, word)?)?;
-    }
-    Ok(words)
+/// The command that serves so many connections.
+fn command_of(alloc: Global, count: &str) -> Result<Text, AllocError> {
+    let mut command = Text::from_str(alloc, "collect 127.0.0.1:5985 ")?;
+    command.push_str(count)?;
+    Ok(command)
 }
 
 fn numbers(alloc: Global, number: u64) -> Result<List<u64>, AllocError> {
@@ -82,10 +72,6 @@ fn front_of(alloc: Global, connections: &str, call: u64) -> Result<MemFront, All
         }
     }
     Ok(MemFront::of(alloc, waiting, numbers(alloc, call)?))
-}
-
-fn text_of(alloc: Global, bytes: &[u8]) -> Result<Text, AllocError> {
-    Text::from_string(String::from_utf8_lossy(alloc, bytes)?)
 }
 
 /// What a store keeps, as a collector tells it; nothing where it can't be started.
@@ -142,7 +128,7 @@ pub(crate) fn push_untold(shown: &mut Text, line: &str) -> Result<(), AllocError
 }
 
 /// An outcome behind a number, on a line of its own.
-fn push_numbered(shown: &mut Text, number: u64, outcome: &Outcome) -> Result<(), AllocError> {
+fn push_numbered(shown: &mut Text, number: u64, outcome: &Run) -> Result<(), AllocError> {
     if number > 1 {
         shown.push_str("\n    ")?;
     }
@@ -151,14 +137,19 @@ fn push_numbered(shown: &mut Text, number: u64, outcome: &Outcome) -> Result<(),
     push_outcome(shown, outcome)
 }
 
-fn push_outcome(shown: &mut Text, outcome: &Outcome) -> Result<(), AllocError> {
-    shown.push_number(u64::from(outcome.status))?;
-    push_lines(shown, outcome.err.as_str())?;
+fn push_outcome(shown: &mut Text, outcome: &Run) -> Result<(), AllocError> {
+    shown.push_number(u64::from(outcome.told.status))?;
+    push_written(shown, &outcome.told.err)?;
     shown.push_str(", listened ")?;
     shown.push_number(outcome.addresses as u64)?;
-    push_lines(shown, outcome.out.as_str())?;
+    push_written(shown, &outcome.told.out)?;
     shown.push_str(", kept")?;
     push_lines(shown, outcome.report.as_str())
+}
+
+fn push_written(shown: &mut Text, sink: &MemSink) -> Result<(), AllocError> {
+    let text = String::from_utf8_lossy(shown.alloc(), sink.taken())?;
+    push_lines(shown, text.as_str())
 }
 
 /// Lines in one, each behind a bar.

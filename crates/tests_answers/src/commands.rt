@@ -3,10 +3,10 @@
 use crate::responses::{response_of, text_of};
 use std::alloc::{AllocError, Global};
 use tests_collectors::sources::written;
+use tests_runs::outcomes::ran_beside;
 use tests_tasks::escapes::escaped;
 use wef_base::{Bytes, List, MemSink, MemSource, Moment, Text};
 use wef_connections::{MemConnection, MemFront, MemLink};
-use wef_ports::FixedClock;
 
 /// What a command prints over the store of the source, which has written an event, and over a link that
 /// brings the responses that stand behind the command, each behind ` then `.
@@ -29,34 +29,20 @@ fn responses_of(alloc: Global, line: &str) -> Result<List<MemConnection>, AllocE
 
 fn push_run(shown: &mut Text, command: &str, link: &mut MemLink) -> Result<(), AllocError> {
     let alloc = shown.alloc();
-    let words = words_of(alloc, command)?;
-    let mut input = MemSource::of(Bytes::new(alloc), List::new(alloc));
-    let mut out = MemSink::of(alloc, List::new(alloc));
-    let mut err = MemSink::of(alloc, List::new(alloc));
-    let (keeper, status) = wef_cli::run(
+    let (keeper, told) = ran_beside(
         alloc,
-        words.as_slice(),
-        &mut input,
-        &mut out,
-        &mut err,
+        command,
         written(alloc)?.into_keeper(),
+        &mut MemSource::of(Bytes::new(alloc), List::new(alloc)),
+        MemSink::of(alloc, List::new(alloc)),
         &mut MemFront::of(alloc, List::new(alloc), List::new(alloc)),
         link,
-        &mut FixedClock::at(Moment::first()),
-    );
+        Moment::first(),
+    )?;
     drop(keeper);
-    shown.push_number(u64::from(status))?;
-    push_text(shown, out.taken())?;
-    push_text(shown, err.taken())
-}
-
-/// The words of a line, each behind a space but the first.
-fn words_of(alloc: Global, line: &str) -> Result<Vec<Text>, AllocError> {
-    let mut words = Vec::new(alloc);
-    for word in line.split(' ') {
-        words.push(Text::from_str(alloc, word)?)?;
-    }
-    Ok(words)
+    shown.push_number(u64::from(told.status))?;
+    push_text(shown, told.out.taken())?;
+    push_text(shown, told.err.taken())
 }
 
 fn push_text(shown: &mut Text, bytes: &[u8]) -> Result<(), AllocError> {

@@ -1,9 +1,9 @@
 //! What `check` prints, by example.
 
-use crate::outcomes::{Outcome, ran_once};
 use crate::signs::input;
 use std::alloc::{AllocError, Global};
 use std::test::Fail;
+use tests_runs::outcomes::{Outcome, ran_once};
 use wef_keeper::MemKeeper;
 
 /// Inputs by their signs, and what is printed for them.

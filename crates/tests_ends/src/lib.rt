@@ -13,8 +13,6 @@ mod limits;
 #[cfg(test)]
 mod logs;
 #[cfg(test)]
-mod outcomes;
-#[cfg(test)]
 mod rows;
 #[cfg(test)]
 mod showing;

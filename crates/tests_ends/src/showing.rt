@@ -1,9 +1,9 @@
 //! `events` over as many events as stand in no page, in one and in more.
 
 use crate::collectors::{add, batch_to, event_of, id, source, start, subscription};
-use crate::outcomes::ran_once;
 use std::alloc::{AllocError, Global};
 use std::test::Fail;
+use tests_runs::outcomes::ran_once;
 use wef_base::{Moment, Text};
 use wef_collector::Collector;
 use wef_event::Event;

@@ -1,9 +1,9 @@
 //! What is kept, as it is shown.
 
 use crate::documents::document;
-use crate::outcomes::{ran, ran_once};
 use std::alloc::{AllocError, Global};
 use std::test::Fail;
+use tests_runs::outcomes::{ran, ran_once};
 use wef_keeper::MemKeeper;
 
 /// Commands over a store that has the subscription `Base` and no event: the status, what is printed, and

@@ -1,9 +1,9 @@
 //! As many subscriptions as may be.
 
 use crate::documents::document;
-use crate::outcomes::{Outcome, ran, ran_once};
 use std::alloc::{AllocError, Global};
 use std::test::Fail;
+use tests_runs::outcomes::{Outcome, ran, ran_once};
 use wef_base::Text;
 use wef_keeper::MemKeeper;
 

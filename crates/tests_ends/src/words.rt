@@ -1,9 +1,9 @@
 //! Words that are no command line, and input that is no document.
 
 use crate::documents::document;
-use crate::outcomes::{ran, ran_once};
 use std::alloc::{AllocError, Global};
 use std::test::Fail;
+use tests_runs::outcomes::{ran, ran_once};
 use wef_keeper::MemKeeper;
 
 const NO_COMMANDS: &[&str] = &[

@@ -1,9 +1,9 @@
 //! What `write` writes and prints, by example.
 
-use crate::outcomes::{Outcome, ran, ran_once, ran_over};
 use crate::signs::{UNNUMBERED, input};
 use std::alloc::{AllocError, Global};
 use std::test::Fail;
+use tests_runs::outcomes::{Outcome, ran, ran_once, ran_over};
 use wef_base::List;
 use wef_keeper::MemKeeper;
 

@@ -1,9 +1,10 @@
 //! An output that fails in the middle, and commits that fail, each in turn.
 
-use crate::outcomes::{ran, replayed};
+use crate::outcomes::{ran_over, replayed};
 use std::alloc::{AllocError, Global};
 use std::test::Fail;
 use wef_base::{Bytes, List, Text};
+use wef_keeper::MemKeeper;
 
 /// A text, so many times.
 fn repeated(alloc: Global, text: &str, times: usize) -> Result<Bytes, AllocError> {
@@ -21,7 +22,8 @@ fn output_that_fails_in_the_middle(rt: HostRuntime) -> Result<(), Fail> {
     let schedule = repeated(alloc, "show\n", 20_000)?;
     let reads = List::new(alloc);
     let writes = List::from(vec![in alloc; 2u64]?);
-    let ran = ran(alloc, "replay", schedule.as_slice(), reads, writes)?;
+    let keeper = MemKeeper::new(alloc);
+    let (_, ran) = ran_over(alloc, "replay", keeper, schedule.as_slice(), reads, writes)?;
     let written = repeated(alloc, "end\n", 16_384)?;
     assert_eq!(rt; ran.status, 5);
     assert_eq!(rt; ran.err.taken(), b"output failed\n".as_slice());

@@ -1,4 +1,4 @@
-//! Runs over memory, and what they leave.
+//! Runs of `wef` over memory, and what they leave.
 
 use std::alloc::{AllocError, Global};
 use wef_base::{Bytes, List, MemSink, MemSource, Moment, Text};
@@ -9,7 +9,7 @@ use wef_ports::FixedClock;
 /// A line that adds a subscription, and prints `added base`.
 pub const BASE: &str = "subscribe base 20 512000 900000 all application c\n";
 
-/// What a run over memory left.
+/// What a run told.
 #[derive(Drop)]
 pub struct Outcome {
     pub status: u8,
@@ -17,52 +17,89 @@ pub struct Outcome {
     pub err: MemSink,
 }
 
-/// Runs `wef` with one word, over streams that fail at the calls of these numbers.
-pub(crate) fn ran(
-    alloc: Global,
-    word: &str,
-    schedule: &[u8],
-    failing_reads: List<u64>,
-    failing_writes: List<u64>,
-) -> Result<Outcome, AllocError> {
-    let mut words = Vec::new(alloc);
-    words.push(Text::from_str(alloc, word)?)?;
-    let mut input = MemSource::of(Bytes::from_slice(alloc, schedule)?, failing_reads);
-    let mut out = MemSink::of(alloc, failing_writes);
-    let mut err = MemSink::of(alloc, List::new(alloc));
-    let status = status_of(alloc, words.as_slice(), &mut input, &mut out, &mut err);
-    Ok(Outcome { status, out, err })
-}
-
-/// Runs `wef` over a store in memory, without connections, and answers its status.
-fn status_of(
-    alloc: Global,
-    words: &[Text],
-    input: &mut MemSource,
-    out: &mut MemSink,
-    err: &mut MemSink,
-) -> u8 {
-    let (_, status) = wef_cli::run(
-        alloc,
-        words,
-        input,
-        out,
-        err,
-        MemKeeper::new(alloc),
-        &mut MemFront::of(alloc, List::new(alloc), List::new(alloc)),
-        &mut MemLink::of(alloc, List::new(alloc), List::new(alloc)),
-        &mut FixedClock::at(Moment::first()),
-    );
-    status
-}
-
 /// Replays a schedule without faults.
 pub fn replayed(alloc: Global, schedule: &[u8]) -> Result<Outcome, AllocError> {
-    ran(
-        alloc,
-        "replay",
-        schedule,
-        List::new(alloc),
-        List::new(alloc),
+    ran_once(alloc, "replay", MemKeeper::new(alloc), schedule)
+}
+
+/// Runs `wef` with words that stand in a line, and hands the store back.
+pub fn ran(
+    alloc: Global,
+    line: &str,
+    keeper: MemKeeper,
+    input: &[u8],
+) -> Result<(MemKeeper, Outcome), AllocError> {
+    let reads = List::new(alloc);
+    ran_over(alloc, line, keeper, input, reads, List::new(alloc))
+}
+
+/// The same, with the store let go.
+pub fn ran_once(
+    alloc: Global,
+    line: &str,
+    keeper: MemKeeper,
+    input: &[u8],
+) -> Result<Outcome, AllocError> {
+    let (keeper, outcome) = ran(alloc, line, keeper, input)?;
+    drop(keeper);
+    Ok(outcome)
+}
+
+/// The same over streams that fail at the calls of these numbers.
+pub fn ran_over(
+    alloc: Global,
+    line: &str,
+    keeper: MemKeeper,
+    input: &[u8],
+    failing_reads: List<u64>,
+    failing_writes: List<u64>,
+) -> Result<(MemKeeper, Outcome), AllocError> {
+    let mut input = MemSource::of(Bytes::from_slice(alloc, input)?, failing_reads);
+    let out = MemSink::of(alloc, failing_writes);
+    let mut front = MemFront::of(alloc, List::new(alloc), List::new(alloc));
+    let mut link = MemLink::of(alloc, List::new(alloc), List::new(alloc));
+    let now = Moment::first();
+    ran_beside(
+        alloc, line, keeper, &mut input, out, &mut front, &mut link, now,
     )
+}
+
+/// The same beside the connections of a front and of a link, at a moment.
+pub fn ran_beside(
+    alloc: Global,
+    line: &str,
+    keeper: MemKeeper,
+    input: &mut MemSource,
+    out: MemSink,
+    front: &mut MemFront,
+    link: &mut MemLink,
+    now: Moment,
+) -> Result<(MemKeeper, Outcome), AllocError> {
+    let words = words_of(alloc, line)?;
+    let mut out = out;
+    let mut err = MemSink::of(alloc, List::new(alloc));
+    let (keeper, status) = wef_cli::run(
+        alloc,
+        words.as_slice(),
+        input,
+        &mut out,
+        &mut err,
+        keeper,
+        front,
+        link,
+        &mut FixedClock::at(now),
+    );
+    Ok((keeper, Outcome { status, out, err }))
+}
+
+/// The words of a line, each behind a space but the first; none of an empty line.
+fn words_of(alloc: Global, line: &str) -> Result<Vec<Text>, AllocError> {
+    let mut words = Vec::new(alloc);
+    if line.is_empty() {
+        return Ok(words);
+    }
+    for word in line.split(' ') {
+        words.push(Text::from_str(alloc, word)?)?;
+    }
+    Ok(words)
 }
