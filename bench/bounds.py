@@ -190,14 +190,15 @@ def main():
     for word in ("read", "write"):
         for shape in DOCUMENTS:
             good.append(meets([layers, "trees", word], f"{word} {shape.__name__}", shape, MEBIBYTE))
-    greatest = 16 * MEBIBYTE
-    good.append(stays([layers, "trees", "read"], "read empty_elements", empty_elements(greatest), 10, 2048 * MEBIBYTE))
-    # what has a text that is too long for an event is refused once that is seen
-    good.append(stays([layers, "trees", "within"], "within one_long_namespace", one_long_namespace(greatest), 2, 2048 * MEBIBYTE))
     for word, shape, runner in EVENTS:
         good.append(meets([program, word], f"{word} {shape.__name__}", shape, MEBIBYTE // 2, runner))
     for shape, size in SCHEDULES:
         good.append(meets([program, "replay"], shape.__name__, shape, size))
+    # last, since the peak of a run counts what this one had before it
+    greatest = 16 * MEBIBYTE
+    good.append(stays([layers, "trees", "read"], "read empty_elements", empty_elements(greatest), 10, 2048 * MEBIBYTE))
+    # what has a text that is too long for an event is refused once that is seen
+    good.append(stays([layers, "trees", "within"], "within one_long_namespace", one_long_namespace(greatest), 2, 2048 * MEBIBYTE))
     if not all(good):
         sys.exit("a bound isn't met")
 
