@@ -29,6 +29,7 @@ struct Task {
     count: usize,
 }
 
+/// Reads the requests that the words ask for, and prints what that took.
 pub fn measure(rt: &HostRuntime) -> io::Result<()> {
     let alloc = rt.alloc();
     let Some(asked) = asked(rt)? else {

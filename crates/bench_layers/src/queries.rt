@@ -9,6 +9,7 @@ use wef_base::{ChannelName, Charset, Element, Text};
 use wef_query::{QueryList, read_query, selected};
 use wef_tree::read_tree;
 
+/// Asks the queries, and prints how many events they select.
 pub fn measure(rt: &HostRuntime) -> io::Result<()> {
     let times = times_of(rt)?;
     let alloc = rt.alloc();

@@ -12,6 +12,7 @@ use wef_tree::{ToldTree, TreeFault, read_told_tree, write_told_tree, write_told_
 /// The most bytes that an event's text has.
 const LIMIT: usize = 1_048_576;
 
+/// Reads the tree, writes it again where a word says so, and prints how long its text is.
 pub fn measure(rt: &HostRuntime) -> io::Result<()> {
     let alloc = rt.alloc();
     let mut bytes = Vec::new(alloc);
