@@ -4,4 +4,4 @@
 #
 #     sh examples/two-folders.sh crates/wef/out/wef [FOLDER]
 
-exec sh "$(dirname "$0")/../crates/tests_running/data/two-folders.sh" "$@"
+exec sh "$(dirname "$0")/../crates/tests_lines/data/two-folders.sh" "$@"

@@ -98,15 +98,6 @@ pub(crate) fn push_collected(shown: &mut Text, line: &str) -> Result<(), AllocEr
     push_outcome(shown, &outcome)
 }
 
-/// The same where the first commit fails, and leaves nothing.
-pub(crate) fn push_armed(shown: &mut Text, line: &str) -> Result<(), AllocError> {
-    let alloc = shown.alloc();
-    let mut collector = collector_of(alloc, Kept::Live)?;
-    collector.fail_next(false);
-    let outcome = collected(alloc, line, collector.into_keeper(), 0, 0)?;
-    push_outcome(shown, &outcome)
-}
-
 /// The same where one call of the front fails, for the first calls of all.
 pub(crate) fn push_broken(shown: &mut Text, line: &str) -> Result<(), AllocError> {
     let alloc = shown.alloc();

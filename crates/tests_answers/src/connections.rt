@@ -1,6 +1,6 @@
 //! Connections of a front, and what comes of them.
 
-use crate::served_replies::push_replies;
+use crate::served::push_replies;
 use std::alloc::{AllocError, Global};
 use tests_collectors::collectors::{Kept, collector_of, first_rows, push_changed, push_left};
 use tests_collectors::requests::bytes_of;
@@ -19,9 +19,8 @@ struct Outcome {
     sent: Bytes,
 }
 
-/// A front to which one connection comes, in pieces of so many bytes, and of which the call of a
-/// number fails.
-fn front_of(alloc: Global, bytes: &[u8], piece: usize, call: u64) -> Result<MemFront, AllocError> {
+/// A front to which one connection comes, in pieces of so many bytes.
+fn front_of(alloc: Global, bytes: &[u8], piece: usize) -> Result<MemFront, AllocError> {
     let mut cuts = List::new(alloc);
     for place in 0..bytes.len() {
         if place % piece.max(1) == 0 {
@@ -33,9 +32,7 @@ fn front_of(alloc: Global, bytes: &[u8], piece: usize, call: u64) -> Result<MemF
         bytes: Bytes::from_slice(alloc, bytes)?,
         cuts,
     })?;
-    let mut failing = List::new(alloc);
-    failing.push(call)?;
-    Ok(MemFront::of(alloc, connections, failing))
+    Ok(MemFront::of(alloc, connections, List::new(alloc)))
 }
 
 fn clock() -> FixedClock {
@@ -84,30 +81,18 @@ pub(crate) fn push_served(shown: &mut Text, line: &str) -> Result<(), AllocError
     let alloc = shown.alloc();
     let bytes = bytes_of(alloc, line)?;
     let mut collector = collector_of(alloc, Kept::Live)?;
-    let mut front = front_of(alloc, bytes.as_slice(), 1_000_000, 0)?;
+    let mut front = front_of(alloc, bytes.as_slice(), 1_000_000)?;
     let at_once = served(alloc, &mut collector, &mut front)?;
     push_outcome(shown, &at_once)?;
     push_left(shown, collector, Kept::Live)?;
     let mut collector = collector_of(alloc, Kept::Live)?;
-    let mut front = front_of(alloc, bytes.as_slice(), 1, 0)?;
+    let mut front = front_of(alloc, bytes.as_slice(), 1)?;
     let one_by_one = served_by_hand(alloc, &mut collector, &mut front)?;
     shown.push_str(if is_same(&at_once, &one_by_one) {
         ""
     } else {
         "; not so one by one"
     })
-}
-
-/// What comes of the connection of a line where the first commit fails, and leaves nothing.
-pub(crate) fn push_failing(shown: &mut Text, line: &str) -> Result<(), AllocError> {
-    let alloc = shown.alloc();
-    let bytes = bytes_of(alloc, line)?;
-    let mut collector = collector_of(alloc, Kept::Live)?;
-    collector.fail_next(false);
-    let mut front = front_of(alloc, bytes.as_slice(), 1_000_000, 0)?;
-    let failing = served(alloc, &mut collector, &mut front)?;
-    push_outcome(shown, &failing)?;
-    push_left(shown, collector, Kept::Live)
 }
 
 fn is_same(one: &Outcome, other: &Outcome) -> bool {
@@ -135,30 +120,16 @@ pub(crate) fn push_cuts(shown: &mut Text, line: &str) -> Result<(), AllocError> 
     let before = first_rows(alloc, Kept::Live)?;
     let mut runs = Runs::new(alloc);
     for cut in 0..bytes.len() {
-        let mut front = front_of(alloc, &bytes.as_slice()[..cut], 1_000_000, 0)?;
+        let mut front = front_of(alloc, &bytes.as_slice()[..cut], 1_000_000)?;
         runs.add(
             shown,
             cut as u64,
             told(alloc, before.as_slice(), &mut front)?,
         )?;
     }
-    let mut front = front_of(alloc, bytes.as_slice(), 1_000_000, 0)?;
+    let mut front = front_of(alloc, bytes.as_slice(), 1_000_000)?;
     let whole = told(alloc, before.as_slice(), &mut front)?;
     runs.add(shown, bytes.len() as u64, whole)
-}
-
-/// What comes of the connection of a line where one call of the front fails, for the first calls of
-/// all, and what is kept behind it.
-pub(crate) fn push_broken(shown: &mut Text, line: &str) -> Result<(), AllocError> {
-    let alloc = shown.alloc();
-    let bytes = bytes_of(alloc, line)?;
-    let before = first_rows(alloc, Kept::Live)?;
-    let mut runs = Runs::new(alloc);
-    for call in 1..14 {
-        let mut front = front_of(alloc, bytes.as_slice(), 400, call)?;
-        runs.add(shown, call, told(alloc, before.as_slice(), &mut front)?)?;
-    }
-    Ok(())
 }
 
 /// How the connection of a front to a new collector ends, whose rows these are, how much is sent in it,

@@ -1,14 +1,13 @@
 //! What comes of a response.
 
-use crate::forwarding_sources::forward;
 use crate::responses::{offered, response_of, text_of};
 use std::alloc::{AllocError, Global};
-use tests_collectors::collectors::host;
+use tests_collectors::collectors::{base, host};
 use tests_collectors::sources::{push_next, written};
 use tests_tasks::escapes::escaped;
 use wef_base::{List, Moment, Text};
 use wef_connections::MemLink;
-use wef_forwarding::{Exchange, FrontFault, ask_once};
+use wef_forwarding::{Exchange, FrontFault, ask_once, forward_once};
 use wef_keeper::MemKeeper;
 use wef_source::SourceEnd;
 
@@ -89,7 +88,8 @@ fn push_batch(
     link: &mut MemLink,
     source: &mut SourceEnd<MemKeeper>,
 ) -> Result<(), AllocError> {
-    match forward(shown.alloc(), link, source)? {
+    let sub = base(shown.alloc())?;
+    match forward_once(shown.alloc(), link, source, &sub, Moment::first()) {
         Ok(Exchange::Nothing) => shown.push_str("nothing")?,
         Ok(Exchange::Acked(count)) => {
             shown.push_str("acked ")?;

@@ -18,12 +18,11 @@ mod connections;
 mod cuts;
 mod enumerates;
 mod forwarding;
-mod forwarding_sources;
 mod offered;
 mod replies;
 mod responses;
 mod sent;
-mod served_replies;
+mod served;
 mod sources;
 mod utf16;
 
@@ -100,20 +99,14 @@ pub fn push_answer(shown: &mut Text, task: &str, line: &str) -> Result<bool, All
         "sent" => push_sent(shown),
         // What is sent in a connection, and what is kept behind it.
         "served" => connections::push_served(shown, line),
-        // The same, where the first commit fails and leaves nothing.
-        "serve failing" => connections::push_failing(shown, line),
         // What comes of each front of its bytes.
         "serve cut" => connections::push_cuts(shown, line),
-        // What comes of it where one call of the front fails, for each call.
-        "serve broken" => connections::push_broken(shown, line),
         // How the run ends.
         "collected" => collecting::push_collected(shown, line),
         // The same where one call of the front fails, for each call.
         "collect broken" => collecting::push_broken(shown, line),
         // The same where one write to the output fails, for each write.
         "collect untold" => collecting::push_untold(shown, line),
-        // The same where the first commit fails.
-        "collect armed" => collecting::push_armed(shown, line),
         // The response comes back to the ask.
         "ask" => forwarding::push_asked(shown, line),
         // It comes back to the first batch of a source that has a session.

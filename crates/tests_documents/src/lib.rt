@@ -21,42 +21,25 @@ use wef_base::{Charset, Text};
 
 /// Appends the answer to a line of a task, and tells whether the task is one of these.
 pub fn push_answer(shown: &mut Text, task: &str, line: &str) -> Result<bool, AllocError> {
+    let charset = charset_of(task);
     let pushed = match task {
         // Its tree.
-        "utf-8" => push_of_bytes(
+        "utf-8" | "utf-16" => push_of_bytes(
             shown,
             line,
-            |shown, bytes| push_reading(shown, Charset::Utf8, bytes),
-        ),
-        // Its tree, where the line's bytes are UTF-16.
-        "utf-16" => push_of_bytes(
-            shown,
-            line,
-            |shown, bytes| push_reading(shown, Charset::Utf16, bytes),
+            |shown, bytes| push_reading(shown, charset, bytes),
         ),
         // Its tree, and the faults of what stands before each byte.
-        "cut" => push_of_bytes(
+        "cut" | "cut utf-16" => push_of_bytes(
             shown,
             line,
-            |shown, bytes| push_cuts(shown, Charset::Utf8, bytes),
-        ),
-        // The same in UTF-16.
-        "cut utf-16" => push_of_bytes(
-            shown,
-            line,
-            |shown, bytes| push_cuts(shown, Charset::Utf16, bytes),
+            |shown, bytes| push_cuts(shown, charset, bytes),
         ),
         // Its tree's one text.
-        "written" => push_of_bytes(
+        "written" | "written in utf-16" => push_of_bytes(
             shown,
             line,
-            |shown, bytes| push_written(shown, Charset::Utf8, bytes),
-        ),
-        // The same in UTF-16.
-        "written in utf-16" => push_of_bytes(
-            shown,
-            line,
-            |shown, bytes| push_written(shown, Charset::Utf16, bytes),
+            |shown, bytes| push_written(shown, charset, bytes),
         ),
         // Whether a text has the characters of XML alone.
         "characters" => push_of_text(shown, line, push_judgement),
@@ -84,4 +67,12 @@ pub fn push_answer(shown: &mut Text, task: &str, line: &str) -> Result<bool, All
     };
     pushed?;
     Ok(true)
+}
+
+/// The charset of the bytes that a line of a task has.
+fn charset_of(task: &str) -> Charset {
+    match task {
+        "utf-16" | "cut utf-16" | "written in utf-16" => Charset::Utf16,
+        _ => Charset::Utf8,
+    }
 }

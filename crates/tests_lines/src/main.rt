@@ -1,4 +1,7 @@
-//! Has the lines of its input answered, and replays its schedules, and prints what comes of each.
+//! Walks through its scripts with itself as `wef`, each command a process of its own; and then has the lines
+//! of its input answered, and replays its schedules, and prints what comes of each.
+//!
+//! With words behind its name it is `wef`.
 //!
 //! A line `=== CRATE TASK: TITLE` says which crate of tests answers each line behind it, and as what. A
 //! line `=== schedule: TITLE` begins a schedule of the lines behind it, and behind a line `=== each: TITLE`
@@ -7,20 +10,34 @@
 #![tactic(auto)]
 
 mod schedules;
+mod scripts;
 
 use schedules::{push_replayed, push_replayed_last};
 use std::alloc::AllocError;
-use std::io;
+use std::process::ExitCode;
+use std::{env, io};
 use wef_base::{Bytes, Text};
 
-fn main(rt: HostRuntime) -> io::Result<()> {
+fn main(rt: HostRuntime) -> io::Result<ExitCode> {
+    if env::args(&rt)?.count() > 1 {
+        return Ok(wef_program::run(rt));
+    }
+    if !scripts::walk(&rt)? {
+        return Ok(ExitCode::FAILURE);
+    }
+    answer_lines(&rt)?;
+    Ok(ExitCode::SUCCESS)
+}
+
+/// Answers the lines of the input, and replays its schedules.
+fn answer_lines(rt: &HostRuntime) -> io::Result<()> {
     let alloc = rt.alloc();
     let mut name = Text::new(alloc);
     let mut schedule = Bytes::new(alloc);
     for line in rt.lines(alloc) {
         let line = line?;
         if let Some(heading) = line.strip_prefix("=== ") {
-            print_schedule(&rt, schedule.as_slice())?;
+            print_schedule(rt, schedule.as_slice())?;
             schedule = Bytes::new(alloc);
             println!(rt; "{line}")?;
             name = Text::from_str(alloc, name_of(heading))?;
@@ -28,10 +45,10 @@ fn main(rt: HostRuntime) -> io::Result<()> {
             schedule.extend(line.as_bytes())?;
             schedule.push(b'\n')?;
         } else {
-            print_answer(&rt, name.as_str(), line.as_str())?;
+            print_answer(rt, name.as_str(), line.as_str())?;
         }
     }
-    print_schedule(&rt, schedule.as_slice())
+    print_schedule(rt, schedule.as_slice())
 }
 
 /// What stands before the colon of a heading.

@@ -1,5 +1,5 @@
 //! Runs of `wef` over memory: schedules whose streams and commits fail, that come to limits, and whose
-//! lines are bad.
+//! lines are bad; and the bytes that a world hands to its answers.
 #![tactic(auto)]
 
 #[cfg(test)]

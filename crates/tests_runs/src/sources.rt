@@ -1,6 +1,6 @@
-//! Sources and the collector in schedules that are too long for the file of examples.
+//! A source's events at the limit of a batch, which are too long for the file of examples.
 
-use crate::outcomes::{BASE, replayed};
+use crate::outcomes::replayed;
 use std::alloc::{AllocError, Global};
 use std::test::Fail;
 use wef_base::Text;
@@ -43,58 +43,5 @@ fn an_event_too_large_and_one_that_just_fits(rt: HostRuntime) -> Result<(), Fail
         let schedule = with_letters(rt.alloc(), letters)?;
         assert!(rt; reports(rt.alloc(), &schedule, report)?, "{letters}");
     }
-    Ok(())
-}
-
-/// Appends a line of a word, a source of this number and what follows.
-fn push_line(schedule: &mut Text, word: &str, source: u64, more: &str) -> Result<(), AllocError> {
-    schedule.push_str(word)?;
-    schedule.push_str(" s")?;
-    schedule.push_number(source)?;
-    schedule.push_str(more)?;
-    schedule.push_str("\n")
-}
-
-/// Four sources whose logs of 100 records wrap: each writes 230 events, and sends what it has in six
-/// batches, every answer coming at once.
-fn long_schedule(alloc: Global) -> Result<Text, AllocError> {
-    let mut schedule = Text::from_str(alloc, BASE)?;
-    for source in 0..4 {
-        push_line(&mut schedule, "source", source, " 100")?;
-    }
-    for _ in 0..230 {
-        for source in 0..4 {
-            push_line(&mut schedule, "write", source, " application 1 4 a")?;
-        }
-    }
-    for source in 0..4 {
-        push_line(&mut schedule, "ask", source, "")?;
-        schedule.push_str("back 0\nback 0\n")?;
-        for _ in 0..6 {
-            push_line(&mut schedule, "poll", source, " base")?;
-            schedule.push_str("back 0\nback 0\n")?;
-        }
-    }
-    schedule.push_str("show\n")?;
-    Ok(schedule)
-}
-
-/// What is held of the four sources in the end.
-fn long_report(alloc: Global) -> Result<Text, AllocError> {
-    let mut report = Text::from_str(alloc, "subscription base live\n")?;
-    for source in 0..4 {
-        push_line(&mut report, " source", source, "")?;
-        report.push_str("  channel application bookmark 230\n   held 131-230\n   dropped 1-130\n")?;
-    }
-    report.push_str("end\n")?;
-    Ok(report)
-}
-
-#[test]
-fn a_thousand_lines(rt: HostRuntime) -> Result<(), Fail> {
-    let alloc = rt.alloc();
-    let schedule = long_schedule(alloc)?;
-    let report = long_report(alloc)?;
-    assert!(rt; reports(alloc, &schedule, report.as_str())?);
     Ok(())
 }

@@ -2,4 +2,5 @@
 #
 #     sh test.sh WEF
 
+exec < /dev/null
 sh documents.sh "$1" && echo && sh two-folders.sh "$1" . && sh rows.sh "$1"
