@@ -80,21 +80,22 @@ front_of bytes more text rest e fits =
     ∙ ap (λ (front : List ℕ). front ++ drop (length text) bytes)
     (sym (take-append-le (length text) bytes more fits) ∙ ap (take (length text)) e ∙ take-append_seam text rest)
 
-pub full_request : (bytes : List ℕ) → behind_head bytes ≡ None → 65536 ≤ length bytes → IsHopeless BeginsRequest bytes
-full_request bytes none full more h rest begins =
-    let fits : length (print_request h) ≤ length bytes = omega (arith, begins.1.bytes) in
-    let front = front_of bytes more (print_request h) rest begins.0.1 fits in
-    let ended = request_ends bytes h (drop (length (print_request h)) bytes) (begins.0.0, front) in
+-- bytes in which no head has ended, and that are as many as its text has, don't begin with it
+not_ended :
+    (bytes more text rest : List ℕ) → bytes ++ more ≡ text ++ rest → length text ≤ length bytes →
+    ((left : List ℕ) → bytes ≡ text ++ left → behind_head bytes ≡ Some left) → behind_head bytes ≡ None → ⊥
+not_ended bytes more text rest e fits ends none =
+    let ended = ends (drop (length text) bytes) (front_of bytes more text rest e fits) in
     let bad : ⊥ = cc in
     bad
 
+pub full_request : (bytes : List ℕ) → behind_head bytes ≡ None → 65536 ≤ length bytes → IsHopeless BeginsRequest bytes
+full_request bytes none full more h rest begins =
+    not_ended bytes more (print_request h) rest begins.0.1 (omega (arith, begins.1.bytes)) (λ left front. request_ends bytes h left (begins.0.0, front)) none
+
 pub full_response : (bytes : List ℕ) → behind_head bytes ≡ None → 65536 ≤ length bytes → IsHopeless BeginsResponse bytes
 full_response bytes none full more h rest begins =
-    let fits : length (print_response h) ≤ length bytes = omega (arith, begins.1.bytes) in
-    let front = front_of bytes more (print_response h) rest begins.0.1 fits in
-    let ended = response_ends bytes h (drop (length (print_response h)) bytes) (begins.0.0, front) in
-    let bad : ⊥ = cc in
-    bad
+    not_ended bytes more (print_response h) rest begins.0.1 (omega (arith, begins.1.bytes)) (λ left front. response_ends bytes h left (begins.0.0, front)) none
 
 -- ---- a head that is too long is hopeless
 

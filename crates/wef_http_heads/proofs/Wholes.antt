@@ -13,7 +13,7 @@ use Rattle.wef_http_heads.specs.declared.plans.Found.TheVariants.{Whole}
 use Rattle.wef_http_heads.specs.declared.plans.RequestPlan.{RequestPlan}
 use Rattle.wef_http_heads.specs.declared.plans.ResponsePlan.{ResponsePlan}
 use Rattle.wef_http_heads.specs.declared.targets.Side.{Side}
-use Rattle.wef_http_heads.specs.Heads.{BeginsRequest, BeginsResponse, FindsRequest, FindsResponse, IsOfBytes, RefusesHead, RefusesRequestHead, RefusesResponseHead}
+use Rattle.wef_http_heads.specs.Heads.{BeginsRequest, BeginsResponse, FindsRequest, FindsResponse, IsOfBytes, IsShort, RefusesHead, RefusesRequestHead, RefusesResponseHead}
 use Rattle.wef_http_heads.specs.Judging.{judged_request, judged_response, request_of, response_of}
 use Rattle.wef_http_heads.specs.Steps.{Judges}
 
@@ -28,6 +28,12 @@ fields_fit buf headers count limit fields are fits room =
     let as_many : length fields ≡ length (take count headers) = sym (length-map fields name_and_value) ∙ ap length (sym are) ∙ length-map (take count headers) (header_bytes buf) in
     let taken = length-take-le count headers fits in
     omega arith
+
+-- a head whose text and spans are within the limits
+is_short :
+    (buf : List ℕ) (headers : List HeaderSpan) (count : ℕ) (text : List ℕ) (fields : List Field) →
+    length text ≤ 65536 → AreFieldsAt buf headers count fields → count ≤ length headers → length headers ≤ 64 → IsShort text fields
+is_short buf headers count text fields short are fits room = record { bytes = short; fields_fit = fields_fit buf headers count 64 fields are fits room }
 
 -- a judge's refusal of a head that is there
 refused : {H P : Type 0} (Begins : List ℕ → H → List ℕ → Type 0) (judged : H → Result P HttpEnd) (bytes : List ℕ) (h : H) (rest : List ℕ) (e : HttpEnd) → Begins bytes h rest → Judges {A = P} (Err e) (judged h) → RefusesHead Begins judged bytes e × IsOfBytes e
@@ -52,13 +58,8 @@ request_judged : (side : Side) (bytes : List ℕ) (headers : List HeaderSpan) (r
 request_judged side bytes headers r h at = λ i. request_of side (at.method i) (at.path i) (at.version i) (at.fields i)
 
 request_begins : (bytes : List ℕ) (headers : List HeaderSpan) (r : RequestSpans) (h : RequestHead) → IsRequestAt bytes headers r h → IsRequestWithin bytes headers r → length headers ≤ 64 → r.len ≤ 65536 → BeginsRequest bytes h (drop r.len bytes)
-request_begins bytes headers r h at within room short = (
-  at.reads,
-  record {
-    bytes = omega (arith, at.len);
-    fields_fit = fields_fit bytes headers r.headers 64 h.fields at.fields within.section.count_fits room;
-  },
-)
+request_begins bytes headers r h at within room short =
+    (at.reads, is_short bytes headers r.headers (print_request h) h.fields (omega (arith, at.len)) at.fields within.section.count_fits room)
 
 request_some : (h : RequestHead) → 0 < length h.method → 0 < length (print_request h)
 unfolding print_request
@@ -84,13 +85,8 @@ response_judged : (bytes : List ℕ) (headers : List HeaderSpan) (r : ResponseSp
 response_judged bytes headers r h at = λ i. response_of (at.code i) (at.fields i)
 
 response_begins : (bytes : List ℕ) (headers : List HeaderSpan) (r : ResponseSpans) (h : ResponseHead) → IsResponseAt bytes headers r h → IsResponseWithin bytes headers r → length headers ≤ 64 → r.len ≤ 65536 → BeginsResponse bytes h (drop r.len bytes)
-response_begins bytes headers r h at within room short = (
-  at.reads,
-  record {
-    bytes = omega (arith, at.len);
-    fields_fit = fields_fit bytes headers r.headers 64 h.fields at.fields within.section.count_fits room;
-  },
-)
+response_begins bytes headers r h at within room short =
+    (at.reads, is_short bytes headers r.headers (print_response h) h.fields (omega (arith, at.len)) at.fields within.section.count_fits room)
 
 response_some : (h : ResponseHead) → 0 < length (print_response h)
 unfolding print_response
