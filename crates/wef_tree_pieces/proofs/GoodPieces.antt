@@ -198,18 +198,19 @@ pub record IsGoodTag (tag : Tag) : Type 0 where
   pub named : IsGoodName tag.name
   pub given : AreGoodGivens tag.given
 
-abbrev HasGoodGiven : Given × List ℕ → Type 0
-HasGoodGiven read = IsGoodGiven read.0
+-- what was read is so, whatever is left
+abbrev HasRead : {A : Type 0} → (A → Type 0) → A × List ℕ → Type 0
+HasRead Is read = Is read.0
 
 abbrev valued : Name → List ℕ × List ℕ → Given × List ℕ
 valued name value = (record { name = name; value = value.0 }, value.1)
 
-given_is : (text : List ℕ) (read : Given × List ℕ) → given_at text ≡ Some read → HasGoodGiven read
+given_is : (text : List ℕ) (read : Given × List ℕ) → given_at text ≡ Some read → HasRead IsGoodGiven read
 given_is text read e =
     let name = and_then_some with_value (name_at text) read e in
     let value = map_some (valued name.0.0) (option_and_then quoted_at (behind_equals name.0.1)) read name.2 in
     let equals = and_then_some quoted_at (behind_equals name.0.1) value.0 value.1 in
-    subst HasGoodGiven value.2 (record { named = name_is text name.0 name.1; value = quoted_is equals.0 value.0 equals.2 })
+    subst (HasRead IsGoodGiven) value.2 (record { named = name_is text name.0 name.1; value = quoted_is equals.0 value.0 equals.2 })
 
 abbrev IsGoodStep : Option Given × List ℕ → Type 0
 IsGoodStep (None, rest) = Unit {0}
@@ -233,13 +234,10 @@ tag_turn_is (c ∷ cs) read e =
     (λ h. subst IsGoodStep (some_is (None, c ∷ cs) read (if_some (ends_tag c) (Some (None, c ∷ cs)) read h.1).1) tt)
     (cond_is (is_space c) (spaced_turn (without_start cs)) ends (Some read) e)
 
-abbrev HaveGoodGivens : List Given × List ℕ → Type 0
-HaveGoodGivens read = AreGoodGivens read.0
-
 abbrev given_before : Given → List Given × List ℕ → List Given × List ℕ
 given_before given more = (given ∷ more.0, more.1)
 
-givens_are : (n : ℕ) (text : List ℕ) (read : List Given × List ℕ) → givens_in n text ≡ Some read → HaveGoodGivens read
+givens_are : (n : ℕ) (text : List ℕ) (read : List Given × List ℕ) → givens_in n text ≡ Some read → HasRead AreGoodGivens read
 givens_are zero text read e = absurd (none_some read e)
 givens_are (suc n) text read e =
     let step = and_then_some (givens_on (givens_in n)) (tag_turn text) read e in
@@ -247,23 +245,20 @@ givens_are (suc n) text read e =
   where
     on :
         (step : Option Given × List ℕ) → IsGoodStep step → givens_on (givens_in n) step ≡ Some read →
-        ((text : List ℕ) (r : List Given × List ℕ) → givens_in n text ≡ Some r → HaveGoodGivens r) → HaveGoodGivens read
-    on (None, rest) is e further = subst HaveGoodGivens (some_is ([], rest) read e) tt
+        ((text : List ℕ) (r : List Given × List ℕ) → givens_in n text ≡ Some r → HasRead AreGoodGivens r) → HasRead AreGoodGivens read
+    on (None, rest) is e further = subst (HasRead AreGoodGivens) (some_is ([], rest) read e) tt
     on (Some given, rest) is e further =
         let found = map_some (given_before given) (givens_in n rest) read e in
-        subst HaveGoodGivens found.2 (is, further rest found.0 found.1)
-
-abbrev HasGoodTag : Tag × List ℕ → Type 0
-HasGoodTag read = IsGoodTag read.0
+        subst (HasRead AreGoodGivens) found.2 (is, further rest found.0 found.1)
 
 abbrev tagged : Name → List Given × List ℕ → Tag × List ℕ
 tagged name given = (record { name = name; given = given.0 }, given.1)
 
-tag_is : (text : List ℕ) (read : Tag × List ℕ) → tag_at text ≡ Some read → HasGoodTag read
+tag_is : (text : List ℕ) (read : Tag × List ℕ) → tag_at text ≡ Some read → HasRead IsGoodTag read
 tag_is text read e =
     let name = and_then_some with_givens (name_at text) read e in
     let given = map_some (tagged name.0.0) (givens_in (length name.0.1) name.0.1) read name.2 in
-    subst HasGoodTag given.2 (record { named = name_is text name.0 name.1; given = givens_are (length name.0.1) name.0.1 given.0 given.1 })
+    subst (HasRead IsGoodTag) given.2 (record { named = name_is text name.0 name.1; given = givens_are (length name.0.1) name.0.1 given.0 given.1 })
 
 -- sections
 

@@ -1,10 +1,10 @@
 -- Comparing a name in a text with a text of bytes, character by character.
-use Rattle.std.proofs.Common.{◌≡◌, ℕ, ◌==◌, Bool, true, false, cond, List, [], ◌∷◌, ◌++◌, length, encode_utf8, encode_utf8_all, refl, sym, ap, ◌∙◌, arith}
+use Rattle.std.proofs.Common.{◌≡◌, ℕ, ◌==◌, Bool, true, false, cond, List, [], ◌∷◌, ◌++◌, length, encode_utf8, encode_utf8_all, IsUtf8, refl, sym, ap, ◌∙◌, arith}
 use Rattle.std.specs.Prelude.{Option, Some, None}
 use Rattle.std.specs.Cmp.{both_ways}
 use Rattle.std.specs.Cmp.Lexicographic.{bytes_decides}
 use Rattle.std.proofs.lemmas.Bool.Decides.{nat_tests}
-use Rattle.std.proofs.lemmas.Str.{cons_from_encodes, length-le-encodes}
+use Rattle.std.proofs.lemmas.Str.{IsUtf8-past_char, cons_from_encodes, length-le-encodes}
 use Rattle.wef_base.specs.Names.{same}
 use Rattle.wef_tree_pieces.specs.Pieces.{behind_character}
 
@@ -27,7 +27,7 @@ begins (d ∷ ds) more c e = by (d == c) refl e
     by false f e = absurd (none_some more (sym e))
 
 -- behind the same character both go on
-pub spelt_on : (rest more bytes behind : List ℕ) (c : ℕ) → bytes ≡ encode_utf8 c ++ behind → Some more ≡ behind_character c rest →
+spelt_on : (rest more bytes behind : List ℕ) (c : ℕ) → bytes ≡ encode_utf8 c ++ behind → Some more ≡ behind_character c rest →
     same (encode_utf8_all rest) bytes ≡ same (encode_utf8_all more) behind
 spelt_on rest more bytes behind c is e =
     (λ i. same (encode_utf8_all (begins rest more c e i)) (is i))
@@ -41,6 +41,14 @@ spelt_on rest more bytes behind c is e =
 
     cut : encode_utf8_all (c ∷ more) ≡ encode_utf8 c ++ behind → encode_utf8_all more ≡ behind
     cut h = let found = cons_from_encodes (c ∷ more) behind c h in ap (λ x. encode_utf8_all (tail x)) found.1 ∙ found.2
+
+-- and so does what the comparison keeps
+pub spelt_further :
+    (whole : Bool) (rest more bytes behind : List ℕ) (c : ℕ) → bytes ≡ encode_utf8 c ++ behind → Some more ≡ behind_character c rest →
+    record { utf8 : IsUtf8 bytes; compared : same (encode_utf8_all rest) bytes ≡ whole } →
+    record { utf8 : IsUtf8 behind; compared : same (encode_utf8_all more) behind ≡ whole }
+spelt_further whole rest more bytes behind c is e held =
+    record { utf8 = IsUtf8-past_char bytes behind c held.utf8 is; compared = sym (spelt_on rest more bytes behind c is e) ∙ held.compared }
 
 -- where another character stands, or none, they differ
 pub spelt_off : (rest bytes behind : List ℕ) (c : ℕ) → bytes ≡ encode_utf8 c ++ behind → None ≡ behind_character c rest →
