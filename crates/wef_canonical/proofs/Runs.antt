@@ -1,9 +1,9 @@
 -- Runs of characters, one behind the other, and what is passed of a text.
-use Rattle.std.proofs.Common.{◌≡◌, ℕ, ◌<◌, ◌≤◌, ◌==◌, Bool, true, false, cond, List, [], ◌∷◌, ◌++◌, codes, encode_utf8, encode_utf8_all, refl, ap, sym, ◌∙◌, append_assoc, append-nil, arith}
+use Rattle.std.proofs.Common.{◌≡◌, ℕ, ◌<◌, ◌≤◌, ◌==◌, Bool, true, false, cond, if◌then◌else◌, List, [], ◌∷◌, ◌++◌, codes, encode_utf8, encode_utf8_all, refl, ap, sym, ◌∙◌, append_assoc, append-nil, arith}
 use Rattle.std.specs.Prelude.{Option, Some, None, IfSome}
 use Rattle.std.specs.List.{flat_map, list_all}
 use Rattle.std.proofs.Math.Utf8.{encode}
-use Rattle.std.proofs.lemmas.Bool.{and_from, and_parts}
+use Rattle.std.proofs.lemmas.Bool.{and_from, and_parts, eqb-true}
 use Rattle.std.proofs.lemmas.Bool.Decides.{nat_tests}
 use Rattle.std.proofs.lemmas.Grind.{flat_map-append}
 use Rattle.std.proofs.lemmas.List.Folds.{list_all-append}
@@ -83,26 +83,23 @@ one_passed test spelt c text rest h parts = (encode_utf8_all (spelt c), one_run 
 
 -- ---- plain characters
 
-pub plain_value_char : (c : ℕ) → is_plain_byte c ≡ true → value_char c ≡ c ∷ []
-plain_value_char c h =
-    let quote : (c == 34) ≡ false = grind (arith, nat_tests, h) in
-    let amp : (c == 38) ≡ false = grind (arith, nat_tests, h) in
-    let lt : (c == 60) ≡ false = grind (arith, nat_tests, h) in
-    let gt : (c == 62) ≡ false = grind (arith, nat_tests, h) in
-    let tab : (c == 9) ≡ false = grind (arith, nat_tests, h) in
-    let lf : (c == 10) ≡ false = grind (arith, nat_tests, h) in
-    let cr : (c == 13) ≡ false = grind (arith, nat_tests, h) in
-    rw (quote, amp, lt, gt, tab, lf, cr) refl
+-- a character that passes a test isn't one that fails it
+other : (test : ℕ → Bool) (n c : ℕ) → test n ≡ false → test c ≡ true → (c == n) ≡ false
+other test n c fails h = by (c == n) refl
+  where
+    by : (same : Bool) → (c == n) ≡ same → same ≡ false
+    by false e = refl
+    by true e = let both : true ≡ false = sym h ∙ ap test (eqb-true c n e) ∙ fails in cc
+
+-- so it stands for itself between two tags, where all for which references stand fail the test
+pub text_itself : (test : ℕ → Bool) (c : ℕ) → test 38 ≡ false → test 60 ≡ false → test 62 ≡ false → test 9 ≡ false → test 10 ≡ false → test 13 ≡ false → test c ≡ true → text_char c ≡ c ∷ []
+text_itself test c amp lt gt tab lf cr h = rw (other test 38 c amp h, other test 60 c lt h, other test 62 c gt h, other test 9 c tab h, other test 10 c lf h, other test 13 c cr h) refl
 
 pub plain_text_char : (c : ℕ) → is_plain_byte c ≡ true → text_char c ≡ c ∷ []
-plain_text_char c h =
-    let amp : (c == 38) ≡ false = grind (arith, nat_tests, h) in
-    let lt : (c == 60) ≡ false = grind (arith, nat_tests, h) in
-    let gt : (c == 62) ≡ false = grind (arith, nat_tests, h) in
-    let tab : (c == 9) ≡ false = grind (arith, nat_tests, h) in
-    let lf : (c == 10) ≡ false = grind (arith, nat_tests, h) in
-    let cr : (c == 13) ≡ false = grind (arith, nat_tests, h) in
-    rw (amp, lt, gt, tab, lf, cr) refl
+plain_text_char c h = text_itself is_plain_byte c refl refl refl refl refl refl h
+
+pub plain_value_char : (c : ℕ) → is_plain_byte c ≡ true → value_char c ≡ c ∷ []
+plain_value_char c h = ap (λ quote. if quote then codes "&quot;" else text_char c) (other is_plain_byte 34 c refl h) ∙ plain_text_char c h
 
 -- a byte of ASCII that is plain is allowed
 pub plain_ascii : (b : ℕ) → b < 128 → is_plain_byte b ≡ true → is_plain b ≡ true
@@ -160,43 +157,26 @@ pub referred : (c : ℕ) (name text amp rest : List ℕ) → is_xml_char c ≡ t
 referred c name text amp rest allowed other spelt first behind =
     (38 ∷ name, record { character = c; allowed = allowed; no_quote = other; is_spelt = sym spelt }, first ∙ ap (λ (t : List ℕ). 38 ∷ t) behind)
 
-pub is_amp : encode_utf8_all (text_char 38) ≡ codes "&amp;"
-unfolding encode
-is_amp = refl
+-- what stands for a character between two tags, and in a value
+pub record References : Type 0 where
+  pub amp : encode_utf8_all (text_char 38) ≡ codes "&amp;"
+  pub lt : encode_utf8_all (text_char 60) ≡ codes "&lt;"
+  pub gt : encode_utf8_all (text_char 62) ≡ codes "&gt;"
+  pub tab : encode_utf8_all (text_char 9) ≡ codes "&#x9;"
+  pub lf : encode_utf8_all (text_char 10) ≡ codes "&#xA;"
+  pub cr : encode_utf8_all (text_char 13) ≡ codes "&#xD;"
+  pub quote : encode_utf8_all (value_char 34) ≡ codes "&quot;"
+  pub sign : encode_utf8_all (text_char 34) ≡ codes "\""
 
-pub is_lt : encode_utf8_all (text_char 60) ≡ codes "&lt;"
+pub references : References
 unfolding encode
-is_lt = refl
-
-pub is_gt : encode_utf8_all (text_char 62) ≡ codes "&gt;"
-unfolding encode
-is_gt = refl
-
-pub is_tab : encode_utf8_all (text_char 9) ≡ codes "&#x9;"
-unfolding encode
-is_tab = refl
-
-pub is_lf : encode_utf8_all (text_char 10) ≡ codes "&#xA;"
-unfolding encode
-is_lf = refl
-
-pub is_cr : encode_utf8_all (text_char 13) ≡ codes "&#xD;"
-unfolding encode
-is_cr = refl
-
-is_quote : encode_utf8_all (value_char 34) ≡ codes "&quot;"
-unfolding encode
-is_quote = refl
-
-is_sign : encode_utf8_all (text_char 34) ≡ codes "\""
-unfolding encode
-is_sign = refl
+references = record { amp = refl; lt = refl; gt = refl; tab = refl; lf = refl; cr = refl; quote = refl; sign = refl }
 
 pub quote_passed : (text rest : List ℕ) → text ≡ codes "&quot;" ++ rest → Passes IsValueRun text rest
-quote_passed text rest parts = one_passed is_xml_char value_char 34 text rest refl (parts ∙ ap (λ (t : List ℕ). t ++ rest) (sym is_quote))
+quote_passed text rest parts = one_passed is_xml_char value_char 34 text rest refl (parts ∙ ap (λ (t : List ℕ). t ++ rest) (sym references.quote))
 
 pub sign_passed : (text rest : List ℕ) → text ≡ codes "\"" ++ rest → Passes IsTextRun text rest
-sign_passed text rest parts = one_passed is_xml_char text_char 34 text rest refl (parts ∙ ap (λ (t : List ℕ). t ++ rest) (sym is_sign))
+sign_passed text rest parts = one_passed is_xml_char text_char 34 text rest refl (parts ∙ ap (λ (t : List ℕ). t ++ rest) (sym references.sign))
 
 -- in a text and in a value
 pub reference_in_text : (text rest : List ℕ) → Passes IsReference text rest → Passes IsTextRun text rest

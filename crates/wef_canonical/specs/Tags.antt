@@ -84,18 +84,18 @@ open_of first scope space name attributes =
     ++ flat_map declaration_of first ++ flat_map declaration_of (new_bindings scope.bound attributes)
     ++ flat_map (attribute_of (inside scope space attributes).bound) attributes
 
--- Such a tag inside an element of a namespace.
-pub record IsOpen (default text : List ℕ) (tag : Start) : Type 0 where
+-- A tag inside an element of a namespace, as it is spelt.
+pub record IsTag (spelt : List Binding → Scope → List ℕ → List ℕ → List Attribute → List ℕ) (default text : List ℕ) (tag : Start) : Type 0 where
   pub attributes : List Attribute
   pub head : IsGoodHead tag.space.now tag.name.now attributes
   pub bare : AreBare attributes
   pub space : IsBareSpace tag.space.now
-  pub stands : text ≡ encode_utf8_all (open_of [] (bare_scope default) tag.space.now tag.name.now attributes) ++ tag.rest.now
+  pub stands : text ≡ encode_utf8_all (spelt [] (bare_scope default) tag.space.now tag.name.now attributes) ++ tag.rest.now
 
--- A start tag inside an element of a namespace.
-pub record IsStart (default text : List ℕ) (start : Start) : Type 0 where
-  pub attributes : List Attribute
-  pub head : IsGoodHead start.space.now start.name.now attributes
-  pub bare : AreBare attributes
-  pub space : IsBareSpace start.space.now
-  pub stands : text ≡ encode_utf8_all (start_of [] (bare_scope default) start.space.now start.name.now attributes) ++ start.rest.now
+-- such a tag without the sign that ends it
+abbrev pub IsOpen : List ℕ → List ℕ → Start → Type 0
+IsOpen = IsTag open_of
+
+-- a start tag
+abbrev pub IsStart : List ℕ → List ℕ → Start → Type 0
+IsStart = IsTag start_of
