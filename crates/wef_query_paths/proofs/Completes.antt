@@ -90,31 +90,16 @@ Starts _ ks ms = Unit {0}
 
 starts : {part : Part} {ks ms : List Token} → Begins part ks ms → Starts part ks ms
 starts (path_is s ss) = starts s
-starts no_step = tt
-starts (one_step g s ss) = tt
 starts (child_step e t xs) = starts t
-starts (axis_step e t xs) = tt
-starts any_name = tt
-starts one_name = tt
-starts no_predicate = tt
-starts (one_predicate x xs) = tt
-starts at_place = tt
-starts (whether o) = tt
 starts (or_is a more) = starts a
-starts no_and = tt
-starts (one_and e a more) = tt
 starts (and_is u us) = starts u
-starts no_unit = tt
-starts (one_unit e u us) = tt
-starts (group o) = tt
 starts (alone {ks = ks} e v) = unit_opens ks (starts v)
 starts (compared {ks = ks} c v l) = unit_opens ks (starts v)
 starts (mirrored {operator = operator} {ls = ls} c l v) = starts l operator ls refl
 starts (number {n = n}) = λ operator ls e. subst (λ (ms : List Token). OpensUnit (Figure n ∷ ms)) (sym e) tt
 starts quote = λ operator ls e. tt
 starts (nodes {ks = ks} p) = value_opens ks (starts p)
-starts position = tt
-starts (band p) = tt
+starts _ = tt
 
 -- behind `[`, a condition that opens so is read as in a bracket that is there
 opens_square : (levels : List Level) (place : Place) (so_far : Option Path) (s : Step) (ks : List Token) → OpensUnit ks
@@ -150,32 +135,21 @@ EndsOr _ = ⊥
 abbrev EndsUnit : List Token → Type 0
 EndsUnit (Word name ∷ ks) = Unit {0}
 EndsUnit (Joint name ∷ ks) = Unit {0}
-EndsUnit (CloseRound ∷ ks) = Unit {0}
-EndsUnit (CloseSquare ∷ ks) = Unit {0}
-EndsUnit _ = ⊥
+EndsUnit ks = EndsOr ks
 
 -- behind a value
 abbrev EndsValue : List Token → Type 0
-EndsValue (Word name ∷ ks) = Unit {0}
-EndsValue (Joint name ∷ ks) = Unit {0}
-EndsValue (CloseRound ∷ ks) = Unit {0}
-EndsValue (CloseSquare ∷ ks) = Unit {0}
 EndsValue (Compare operator ∷ ks) = Unit {0}
-EndsValue _ = ⊥
+EndsValue ks = EndsUnit ks
 
 or_unit : (ks : List Token) → EndsOr ks → EndsUnit ks
-or_unit [] h = absurd h
-or_unit (CloseRound ∷ ks) h = tt
-or_unit (CloseSquare ∷ ks) h = tt
-or_unit (_ ∷ ks) h = absurd h
+or_unit (Word name ∷ ks) h = absurd h
+or_unit (Joint name ∷ ks) h = absurd h
+or_unit ks h = h
 
 unit_value : (ks : List Token) → EndsUnit ks → EndsValue ks
-unit_value [] h = absurd h
-unit_value (Word name ∷ ks) h = tt
-unit_value (Joint name ∷ ks) h = tt
-unit_value (CloseRound ∷ ks) h = tt
-unit_value (CloseSquare ∷ ks) h = tt
-unit_value (_ ∷ ks) h = absurd h
+unit_value (Compare operator ∷ ks) h = absurd h
+unit_value ks h = h
 
 joins_unit : (token : Token) (operator : List ℕ) (ks : List Token) → Joins token operator → EndsUnit (token ∷ ks)
 joins_unit (Word name) operator ks e = tt
@@ -193,28 +167,7 @@ precedes (no_and {ks = ks}) = or_unit ks
 precedes (one_and {token = token} {ks = ks} e a more) = λ h. joins_unit token (codes "or") ks e
 precedes no_unit = λ h. h
 precedes (one_unit {token = token} {ks = ks} e u us) = λ h. joins_unit token (codes "and") ks e
-precedes (path_is s ss) = tt
-precedes no_step = tt
-precedes (one_step g s ss) = tt
-precedes (child_step e t xs) = tt
-precedes (axis_step e t xs) = tt
-precedes any_name = tt
-precedes one_name = tt
-precedes no_predicate = tt
-precedes (one_predicate x xs) = tt
-precedes at_place = tt
-precedes (whether o) = tt
-precedes (or_is a more) = tt
-precedes (and_is u us) = tt
-precedes (group o) = tt
-precedes (alone e v) = tt
-precedes (compared c v l) = tt
-precedes (mirrored c l v) = tt
-precedes number = tt
-precedes quote = tt
-precedes (nodes p) = tt
-precedes position = tt
-precedes (band p) = tt
+precedes _ = tt
 
 -- a path as a value, before what follows a value
 nodes_end : (levels : List Level) (side : Side) (so_far : Option Path) (last : Step) (ks : List Token) → EndsValue ks

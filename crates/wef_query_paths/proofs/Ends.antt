@@ -27,7 +27,7 @@ use Rattle.wef_query_paths.specs.declared.path.Value.{Value}
 use Rattle.wef_query_paths.specs.declared.path.Value.TheVariants.{Nodes, Position, Band}
 use Rattle.wef_query_paths.specs.declared.turns.Next.{Next}
 use Rattle.wef_query_paths.specs.declared.turns.Next.TheVariants.{BeforeStep, BeforeTest, BehindStep, BeforePredicate, BehindCount, BeforeUnit, BehindLiteral, BeforeValue, BehindPosition, InPosition, BehindBand, BeforeMask, BehindMask, BehindValue, BeforeLiteral, BehindUnit}
-use Rattle.wef_query_paths.specs.Allows.{Part, one, the, a_path, a_child_step, an_attribute_step, a_predicate, an_or, an_and, a_unit, a_value, a_numeric_value, a_literal, Gives, done, stop, opens, ends, skips, says_child_first, says_attribute_last, says_attribute_first, says_child, says_along_child, says_attribute, says_place, says_condition, says_or, says_and, says_group, says_value, says_position, says_behind_text, says_behind_number, says_nodes, says_band, says_numeric, says_numeric_position, says_literal, ends_in_path}
+use Rattle.wef_query_paths.specs.Allows.{Part, Rule, one, the, a_path, a_child_step, an_attribute_step, a_predicate, an_or, an_and, a_unit, a_value, a_numeric_value, a_literal, Gives, done, stop, opens, ends, skips, says_child_first, says_attribute_last, says_attribute_first, says_child, says_along_child, says_attribute, says_place, says_condition, says_or, says_and, says_group, says_value, says_position, says_behind_text, says_behind_number, says_nodes, says_band, says_numeric, says_numeric_position, says_literal, ends_in_path}
 use Rattle.wef_query_paths.specs.Fronts.{ends_in_call, is_behind_call, turned}
 use Rattle.wef_query_paths.specs.Levels.{alternatives_in, square, with_step}
 use Rattle.wef_query_paths.specs.Turns.{before_comma, before_literal, before_mask, before_predicate, before_step, before_test, before_unit, before_value, behind_band, behind_count, behind_left, behind_literal, behind_mask, behind_path, behind_position, behind_step, behind_unit, behind_value, closed_round, closed_square, finished, in_position, inside, is_position, joined, turn, with_and_behind, with_or_behind}
@@ -38,55 +38,28 @@ use Rattle.wef_query_paths.proofs.Stacks.{Comes, bracket_parts, further_parts, p
 no_one : (loose : Bool) (test : Token → Bool) (parts : List Part) → Gives loose false (one test ∷ parts) [] → ⊥
 no_one loose test parts (stop e) = cc
 
-no_child : (loose : Bool) (parts : List Part) → Gives loose false (the a_child_step ∷ parts) [] → ⊥
-no_child loose parts (stop e) = cc
-no_child loose parts (opens says_child g) = no_one loose _ _ g
-no_child loose parts (opens says_along_child g) = no_one loose _ _ g
-
-no_attribute : (loose : Bool) (parts : List Part) → Gives loose false (the an_attribute_step ∷ parts) [] → ⊥
-no_attribute loose parts (stop e) = cc
-no_attribute loose parts (opens says_attribute g) = no_one loose _ _ g
-
-no_path : (loose : Bool) (parts : List Part) → Gives loose false (the a_path ∷ parts) [] → ⊥
-no_path loose parts (stop e) = cc
-no_path loose parts (opens says_child_first g) = no_child loose _ g
-no_path loose parts (opens (says_attribute_last e) g) = no_attribute loose _ g
-no_path loose parts (opens (says_attribute_first e) g) = no_attribute loose _ g
-
-no_value : (loose : Bool) (parts : List Part) → Gives loose false (the a_value ∷ parts) [] → ⊥
-no_value loose parts (stop e) = cc
-no_value loose parts (opens says_nodes g) = no_path loose _ g
-no_value loose parts (opens says_band g) = no_one loose _ _ g
-
-no_numeric : (loose : Bool) (parts : List Part) → Gives loose false (the a_numeric_value ∷ parts) [] → ⊥
-no_numeric loose parts (stop e) = cc
-no_numeric loose parts (opens says_numeric g) = no_value loose _ g
-no_numeric loose parts (opens says_numeric_position g) = no_one loose _ _ g
-
-no_literal : (loose : Bool) (parts : List Part) → Gives loose false (the a_literal ∷ parts) [] → ⊥
-no_literal loose parts (stop e) = cc
-no_literal loose parts (opens says_literal g) = no_one loose _ _ g
-
-no_unit : (loose : Bool) (parts : List Part) → Gives loose false (the a_unit ∷ parts) [] → ⊥
-no_unit loose parts (stop e) = cc
-no_unit loose parts (opens says_group g) = no_one loose _ _ g
-no_unit loose parts (opens says_value g) = no_value loose _ g
-no_unit loose parts (opens says_position g) = no_one loose _ _ g
-no_unit loose parts (opens says_behind_text g) = no_one loose _ _ g
-no_unit loose parts (opens says_behind_number g) = no_one loose _ _ g
-
-no_and : (loose : Bool) (parts : List Part) → Gives loose false (the an_and ∷ parts) [] → ⊥
-no_and loose parts (stop e) = cc
-no_and loose parts (opens says_and g) = no_unit loose _ g
-
-no_or : (loose : Bool) (parts : List Part) → Gives loose false (the an_or ∷ parts) [] → ⊥
-no_or loose parts (stop e) = cc
-no_or loose parts (opens says_or g) = no_and loose _ g
-
-no_predicate : (loose : Bool) (parts : List Part) → Gives loose false (the a_predicate ∷ parts) [] → ⊥
-no_predicate loose parts (stop e) = cc
-no_predicate loose parts (opens says_place g) = no_one loose _ _ g
-no_predicate loose parts (opens says_condition g) = no_or loose _ g
+no_rule : (loose : Bool) (rule : Rule) (parts : List Part) → Gives loose false (the rule ∷ parts) [] → ⊥
+no_rule loose rule parts (stop e) = cc
+no_rule loose a_child_step parts (opens says_child g) = no_one loose _ _ g
+no_rule loose a_child_step parts (opens says_along_child g) = no_one loose _ _ g
+no_rule loose an_attribute_step parts (opens says_attribute g) = no_one loose _ _ g
+no_rule loose a_path parts (opens says_child_first g) = no_rule loose a_child_step _ g
+no_rule loose a_path parts (opens (says_attribute_last e) g) = no_rule loose an_attribute_step _ g
+no_rule loose a_path parts (opens (says_attribute_first e) g) = no_rule loose an_attribute_step _ g
+no_rule loose a_value parts (opens says_nodes g) = no_rule loose a_path _ g
+no_rule loose a_value parts (opens says_band g) = no_one loose _ _ g
+no_rule loose a_numeric_value parts (opens says_numeric g) = no_rule loose a_value _ g
+no_rule loose a_numeric_value parts (opens says_numeric_position g) = no_one loose _ _ g
+no_rule loose a_literal parts (opens says_literal g) = no_one loose _ _ g
+no_rule loose a_unit parts (opens says_group g) = no_one loose _ _ g
+no_rule loose a_unit parts (opens says_value g) = no_rule loose a_value _ g
+no_rule loose a_unit parts (opens says_position g) = no_one loose _ _ g
+no_rule loose a_unit parts (opens says_behind_text g) = no_one loose _ _ g
+no_rule loose a_unit parts (opens says_behind_number g) = no_one loose _ _ g
+no_rule loose an_and parts (opens says_and g) = no_rule loose a_unit _ g
+no_rule loose an_or parts (opens says_or g) = no_rule loose an_and _ g
+no_rule loose a_predicate parts (opens says_place g) = no_one loose _ _ g
+no_rule loose a_predicate parts (opens says_condition g) = no_rule loose an_or _ g
 
 -- ---- and so do brackets
 
@@ -134,17 +107,17 @@ path_end loose levels (InBand side) so_far step g = absurd (no_one loose _ _ g)
 
 -- where nothing more has to come, the machine has a path
 pub end_is_path : (loose : Bool) (levels : List Level) (next : Next) → Comes loose false levels next [] → (p : Path) × (finished levels next ≡ Some p)
-end_is_path loose levels (BeforeStep place so_far) g = absurd (no_path loose _ g)
+end_is_path loose levels (BeforeStep place so_far) g = absurd (no_rule loose a_path _ g)
 end_is_path loose levels (BeforeTest place so_far axis) g = absurd (no_one loose _ _ g)
 end_is_path loose levels (BehindStep place so_far step) g = path_end loose levels place so_far step (step_end loose (unit_parts loose levels) (whole_parts levels) step.axis place g)
-end_is_path loose levels (BeforePredicate place so_far step) g = absurd (no_predicate loose _ g)
+end_is_path loose levels (BeforePredicate place so_far step) g = absurd (no_rule loose a_predicate _ g)
 end_is_path loose levels (BehindCount place so_far step n) (inl g) = absurd (no_one loose _ _ g)
 end_is_path loose levels (BehindCount place so_far step n) (inr g) = absurd (no_one loose _ _ g)
-end_is_path loose levels BeforeUnit g = absurd (no_unit loose _ g)
+end_is_path loose levels BeforeUnit g = absurd (no_rule loose a_unit _ g)
 end_is_path loose levels (BehindLiteral (Number n)) g = absurd (no_one loose _ _ g)
 end_is_path loose levels (BehindLiteral (Quoted text)) g = absurd (no_one loose _ _ g)
-end_is_path loose levels (BeforeValue (Number n) operator) g = absurd (no_numeric loose _ g)
-end_is_path loose levels (BeforeValue (Quoted text) operator) g = absurd (no_value loose _ g)
+end_is_path loose levels (BeforeValue (Number n) operator) g = absurd (no_rule loose a_numeric_value _ g)
+end_is_path loose levels (BeforeValue (Quoted text) operator) g = absurd (no_rule loose a_value _ g)
 end_is_path loose levels (BehindPosition side) g = absurd (no_one loose _ _ g)
 end_is_path loose levels (InPosition side) g = absurd (no_one loose _ _ g)
 end_is_path loose levels (BehindBand side) g = absurd (no_one loose _ _ g)
@@ -152,8 +125,8 @@ end_is_path loose levels (BeforeMask side path) g = absurd (no_one loose _ _ g)
 end_is_path loose levels (BehindMask side path n) g = absurd (no_one loose _ _ g)
 end_is_path loose levels (BehindValue side v) g = absurd (no_worth_end loose levels side v g)
 end_is_path loose levels (BeforeLiteral Position operator) g = absurd (no_one loose _ _ g)
-end_is_path loose levels (BeforeLiteral (Nodes path) operator) g = absurd (no_literal loose _ g)
-end_is_path loose levels (BeforeLiteral (Band path n) operator) g = absurd (no_literal loose _ g)
+end_is_path loose levels (BeforeLiteral (Nodes path) operator) g = absurd (no_rule loose a_literal _ g)
+end_is_path loose levels (BeforeLiteral (Band path n) operator) g = absurd (no_rule loose a_literal _ g)
 end_is_path loose levels (BehindUnit u) g = absurd (no_end loose levels g)
 
 whole_is_end : (place : Place) (so_far : Option Path) (step : Step) (p : Path) → finished [] (BehindStep place so_far step) ≡ Some p → Comes false false [] (BehindStep place so_far step) []
