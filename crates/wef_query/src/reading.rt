@@ -6,7 +6,7 @@ ghost use Rattle.std.specs.Str.{IsUtf8};
 ghost use Rattle.wef_base.specs.Names.{trimmed};
 ghost use Rattle.wef_elements.specs.Children.{elements_in};
 ghost use Rattle.wef_query_paths.specs.Stops.{path_or_fault};
-ghost use Rattle.wef_query.specs.Reading.{Reads, Takes, channel_by, channel_of, characters_of, fault_in, is_query, is_query_list, is_select, is_suppress, item_of, items_from, items_in, path_said, queries_from, query_in, text_of, with_item, with_path, with_query};
+ghost use Rattle.wef_query.specs.Reading.{Reads, Takes, channel_by, channel_of, characters_of, fault_in, item_of, items_from, items_in, path_said, queries_from, query_in, text_of, with_item, with_path, with_query};
 
 use crate::{QueryItem, QueryList};
 use std::alloc::{AllocError, Global};
@@ -49,35 +49,11 @@ impl From<AllocError> for QueryFault {
 pub fn read_query(node: &Element) -> Result<QueryList, QueryFault>
     ensures { Reads result (query_in node.now) }
 {
-    if !is_query_list(node) {
+    if node.name.as_str() != "QueryList" {
         return Err(QueryFault::BadQuery { item: 0, at: 0 });
     }
     let items = items_in(node)?;
     Ok(QueryList { items })
-}
-
-fn is_query_list(element: &Element) -> bool
-    ensures { result ≡ is_query_list element.now }
-{
-    element.name.as_str() == "QueryList"
-}
-
-fn is_query(element: &Element) -> bool
-    ensures { result ≡ is_query element.now }
-{
-    element.name.as_str() == "Query"
-}
-
-fn is_select(element: &Element) -> bool
-    ensures { result ≡ is_select element.now }
-{
-    element.name.as_str() == "Select"
-}
-
-fn is_suppress(element: &Element) -> bool
-    ensures { result ≡ is_suppress element.now }
-{
-    element.name.as_str() == "Suppress"
 }
 
 /// The items of a QueryList, which holds one element or more.
@@ -111,7 +87,7 @@ fn push_query(items: &mut List<QueryItem>, group: u64, query: &Element) -> Resul
     ensures { Takes result (with_query group items.old query.now) items.new }
 {
     let nodes = query.children.as_slice();
-    if !is_query(query) || element_at(nodes, 0).is_none() {
+    if query.name.as_str() != "Query" || element_at(nodes, 0).is_none() {
         return Err(QueryFault::BadQuery {
             item: items.len(),
             at: 0,
@@ -158,8 +134,8 @@ fn item_of(
 ) -> Result<QueryItem, QueryFault>
     ensures { Reads result (item_of before group (option_copied around.entry) element.now) }
 {
-    let suppress = is_suppress(element);
-    if !suppress && !is_select(element) {
+    let suppress = element.name.as_str() == "Suppress";
+    if !suppress && element.name.as_str() != "Select" {
         return Err(QueryFault::BadQuery {
             item: before,
             at: 0,
