@@ -54,13 +54,6 @@ nodes_told told es e all is so =
     let P : List ℕ → Type 0 = IsFound found.0 in
     (found.0, (only_of (λ (y : Element). IsElementIn P y) es e found.1 is).2)
 
--- one node of them, and the rest
-pub head_told : (told : Bool) (n : Node) (ns : List Node) → AreToldNodes told (n ∷ ns) → IsToldNode told n
-head_told told n ns all so = let found = all so in (found.0, found.1.0)
-
-pub tail_told : (told : Bool) (n : Node) (ns : List Node) → AreToldNodes told (n ∷ ns) → AreToldNodes told ns
-tail_told told n ns all so = let found = all so in (found.0, found.1.1)
-
 -- the element that a node is
 pub node_told : (told : Bool) (n : Node) (e : Element) → element_of n ≡ Some e → IsToldNode told n → IsTold told e
 node_told told n e is all so = let found = all so in (found.0, element_in (IsFound found.0) n e is found.1)

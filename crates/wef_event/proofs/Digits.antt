@@ -1,28 +1,21 @@
 -- The digits of a number stand for themselves between two tags, and are read as the number.
-use Rattle.std.proofs.Common.{◌≡◌, ℕ, ◌≤◌, ◌==◌, true, false, List, [], ◌∷◌, ◌++◌, refl, ap, ◌∙◌, arith}
+use Rattle.std.proofs.Common.{◌≡◌, ℕ, ◌≤◌, true, false, List, [], ◌∷◌, ◌++◌, refl, ap, ◌∙◌}
 use Rattle.std.specs.Prelude.{Some, None, nat_lt}
 use Rattle.std.specs.Fmt.{decimal}
 use Rattle.std.specs.List.{flat_map, list_all}
 use Rattle.std.proofs.lemmas.Bool.{and_parts, cond-true, lt-ltb}
-use Rattle.std.proofs.lemmas.Bool.Decides.{nat_tests}
 use Rattle.wef_base.specs.Names.{trimmed}
 use Rattle.wef_base.specs.Numbers.{is_digit}
 use Rattle.wef_base.specs.declared.numbers.TheConstants.{MAX}
 use Rattle.wef_xml.specs.Canonical.{text_char, text_of}
+use Rattle.wef_canonical.proofs.Runs.{text_itself}
 use Rattle.wef_elements.proofs.DecimalDigits.{decimal_trimmed, digits_chars}
 use Rattle.wef_elements.proofs.DigitsRead.{decimal_parts}
 use Rattle.wef_event.specs.Paths.{number_of_digits, unless_zero}
 
 -- a digit stands for itself between two tags
 digit_itself : (d : ℕ) → is_digit d ≡ true → text_char d ≡ d ∷ []
-digit_itself d h =
-    let amp : (d == 38) ≡ false = grind (arith, nat_tests, h) in
-    let lt : (d == 60) ≡ false = grind (arith, nat_tests, h) in
-    let gt : (d == 62) ≡ false = grind (arith, nat_tests, h) in
-    let tab : (d == 9) ≡ false = grind (arith, nat_tests, h) in
-    let lf : (d == 10) ≡ false = grind (arith, nat_tests, h) in
-    let cr : (d == 13) ≡ false = grind (arith, nat_tests, h) in
-    rw (amp, lt, gt, tab, lf, cr) refl
+digit_itself d h = text_itself is_digit d refl refl refl refl refl refl h
 
 themselves : (ds : List ℕ) → list_all is_digit ds ≡ true → flat_map text_char ds ≡ ds
 themselves [] h = refl

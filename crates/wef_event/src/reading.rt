@@ -99,18 +99,6 @@ impl Event {
                 text: text.clone()?,
             }));
         }
-        Event::of_read_text(channel, number, text)
-    }
-
-    /// The same, by the tree of the text.
-    fn of_read_text(
-        channel: &ChannelName,
-        number: u64,
-        text: &Text,
-    ) -> Result<Option<Event>, AllocError>
-        ensures some { IfOk result (λ found. is_some found ≡ events.is_event (record { channel = channel.now; number = number; text = text.now })) }
-        ensures value { IfOk result (λ found. IfSome found (λ event. event ≡ record { channel = channel.now; number = number; text = text.now })) }
-    {
         match read_tree_event(true, text) {
             Ok(event) if event.is(channel, number, text) => Ok(Some(event)),
             Ok(_) => Ok(None),
