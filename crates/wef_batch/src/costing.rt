@@ -1,7 +1,7 @@
 //! What items cost.
 
-ghost use Rattle.std.specs.Prelude.{◌≡◌, ◌≤◌, min, length};
 ghost use Rattle.std.specs.Fmt.{decimal};
+ghost use Rattle.std.specs.Prelude.{◌≡◌, ◌≤◌, min, length};
 ghost use Rattle.wef_batch.specs.Cost as spec;
 ghost use Rattle.wef_event.specs.Characters.{escape, escaped};
 

@@ -1,8 +1,8 @@
 //! When a batch is well-formed.
 
-ghost use Rattle.std.specs.Prelude.{◌≡◌};
-ghost use Rattle.std.specs.List.{list_all};
 ghost use Rattle.std.specs.FinMap as map;
+ghost use Rattle.std.specs.List.{list_all};
+ghost use Rattle.std.specs.Prelude.{◌≡◌};
 ghost use Rattle.wef_batch.specs.Reach.{last_in, loose_of, loose_sum};
 ghost use Rattle.wef_batch.specs.WellFormed.{is_in, is_listed, is_above, follows, rises, is_at_least, is_in_order, is_well_formed, ItemsAreReached};
 

@@ -1,15 +1,15 @@
 //! Batches, read from the elements of a message.
 
-ghost use Rattle.std.specs.Prelude.{◌≡◌, [], true, option_copied, IfOk, if◌then◌else◌};
 ghost use Rattle.std.specs.List.{list_any};
 ghost use Rattle.std.specs.Option.{option_map};
+ghost use Rattle.std.specs.Prelude.{◌≡◌, [], true, option_copied, IfOk, if◌then◌else◌};
 ghost use Rattle.wef_base.specs.Names.{channel_name};
+ghost use Rattle.wef_batch.specs.Reading.{AreGoodTrees, AreToldNodes, AreToldTrees, IsToldNode, Opens, Reads, ReadsTo, Takes, batch_of, event_at, gone_at, gone_in, is_events, is_range, item_of, items_from, only_events, range_by, range_in, range_said, read_to, with_item, with_node};
 ghost use Rattle.wef_elements.specs.Children.{element_of, is_words};
 ghost use Rattle.wef_elements.specs.Values.{number_said};
-ghost use Rattle.wef_xml.specs.Good.{AreGoodNodes, IsGoodElement, IsGoodNode, IsGoodTree};
 ghost use Rattle.wef_event.specs.Events.{event_in, event_of, event_or_none};
+ghost use Rattle.wef_xml.specs.Good.{AreGoodNodes, IsGoodElement, IsGoodNode, IsGoodTree};
 ghost use Rattle.wef_xml.specs.Told.{IsTold};
-ghost use Rattle.wef_batch.specs.Reading.{AreGoodTrees, AreToldNodes, AreToldTrees, IsToldNode, Opens, Reads, ReadsTo, Takes, batch_of, event_at, gone_at, gone_in, is_events, is_range, item_of, items_from, only_events, range_by, range_in, range_said, read_to, with_item, with_node};
 
 use crate::items::{Batch, Item};
 use std::alloc::{AllocError, Global};

@@ -1,10 +1,10 @@
 //! Passing tags as they stand in the one text of a tree, with no prefixes.
 
 ghost use Rattle.std.specs.Prelude.{◌≡◌, ◌||◌, ◌++◌, IfSome, codes};
-ghost use Rattle.wef_xml.specs.Prefixes.{is_soap};
-ghost use Rattle.wef_xml.specs.Spaces.{is_xml_space, is_xmlns};
 ghost use Rattle.wef_canonical.specs.Passing.{IsAssigned, Passes};
 ghost use Rattle.wef_canonical.specs.Tags.{HasAttributes, HasSpace, IsBareSpace, IsDeclared, IsOpen, IsStart, KeepsMore, is_kept};
+ghost use Rattle.wef_xml.specs.Prefixes.{is_soap};
+ghost use Rattle.wef_xml.specs.Spaces.{is_xml_space, is_xmlns};
 
 use crate::characters::{behind_name, behind_plain, behind_value};
 use crate::cuts::{before, strip};

@@ -1,7 +1,7 @@
 //! How long the text of an event is, counted without making it.
 
-ghost use Rattle.std.specs.Prelude.{◌≡◌, ◌≤◌, ◌<◌, length};
 ghost use Rattle.std.specs.Fmt.{decimal};
+ghost use Rattle.std.specs.Prelude.{◌≡◌, ◌≤◌, ◌<◌, length};
 ghost use Rattle.wef_event.specs.Characters.{escape, escaped};
 ghost use Rattle.wef_event.specs.Lengths.{length_within};
 

@@ -1,8 +1,8 @@
 //! Giving an event its number.
 
-ghost use Rattle.std.specs.Prelude.{◌≡◌, ◌≤◌, [], ◌∷◌, ◌++◌, codes, is_some, IfOk, OnOk};
 ghost use Rattle.std.specs.Fmt.{decimal};
 ghost use Rattle.std.specs.List.{position};
+ghost use Rattle.std.specs.Prelude.{◌≡◌, ◌≤◌, [], ◌∷◌, ◌++◌, codes, is_some, IfOk, OnOk};
 ghost use Rattle.wef_base.specs.declared.numbers.TheConstants.{MAX};
 ghost use Rattle.wef_base.specs.declared.tree.Node.{Chars};
 ghost use Rattle.wef_base.specs.declared.tree.Node.TheVariants.{Element as Child};

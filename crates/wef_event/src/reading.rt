@@ -3,13 +3,13 @@
 ghost use Rattle.std.specs.Prelude.{◌≡◌, true, false, ◌&&◌, ◌==◌, is_some, Some, IfErr, IfOk, IfSome};
 ghost use Rattle.wef_base.specs.Names.{channel_name, same};
 ghost use Rattle.wef_base.specs.declared.tree.Charset.TheVariants.{Utf8};
-ghost use Rattle.wef_tree_reading.specs.Documents.{tree_of};
-ghost use Rattle.wef_xml.specs.Good.{IsGoodTree};
-ghost use Rattle.wef_xml.specs.Told.{IsTold};
 ghost use Rattle.wef_event.specs.Events as events;
 ghost use Rattle.wef_event.specs.Events.{Finds, Gives, HasTree, IsEventOf, is_event_root, number_or, text_of_tree};
 ghost use Rattle.wef_event.specs.Reading.{AsksForNoNumber, ReadsEvent, short_text};
 ghost use Rattle.wef_event.specs.Recognising.{IsLabel};
+ghost use Rattle.wef_tree_reading.specs.Documents.{tree_of};
+ghost use Rattle.wef_xml.specs.Good.{IsGoodTree};
+ghost use Rattle.wef_xml.specs.Told.{IsTold};
 
 use crate::loose::canonical_of;
 use crate::paths::{channel_in, number_in};

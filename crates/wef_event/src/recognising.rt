@@ -1,12 +1,12 @@
 //! Seeing that a text is the one text of an event's tree, in one pass, without a tree and without
 //! memory. Such texts as hold prefixes aren't looked into, among others.
 
-ghost use Rattle.std.specs.Prelude.{◌≡◌, ℕ, ◌==◌, ◌&&◌, length, List, [], IfSome, codes};
 ghost use Rattle.std.specs.Option.{option_copied, option_map, option_or};
+ghost use Rattle.std.specs.Prelude.{◌≡◌, ℕ, ◌==◌, ◌&&◌, length, List, [], IfSome, codes};
 ghost use Rattle.wef_base.specs.Names.{same};
 ghost use Rattle.wef_base.specs.declared.tree.Element.{Element};
-ghost use Rattle.wef_elements.specs.Texts.{text_inside};
 ghost use Rattle.wef_canonical.specs.Tags.{IsBareSpace};
+ghost use Rattle.wef_elements.specs.Texts.{text_inside};
 ghost use Rattle.wef_event.specs.Paths.{if_named};
 ghost use Rattle.wef_event.specs.Recognising.{FindsMore, HasFields, IsFound, IsInside, IsLabel, IsOf, IsSeen, fields_of, fields_said};
 

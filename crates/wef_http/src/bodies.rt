@@ -1,10 +1,10 @@
 //! The bytes of a body.
 
-ghost use Rattle.std.specs.Prelude.{◌≡◌, ℕ, ◌+◌, ◌<◌, ◌≤◌, List, ◌++◌, length, IfOk, OnOk, IfErr, IfSome};
 ghost use Rattle.std.specs.Io.KnownBytes.{Consumes};
+ghost use Rattle.std.specs.Prelude.{◌≡◌, ℕ, ◌+◌, ◌<◌, ◌≤◌, List, ◌++◌, length, IfOk, OnOk, IfErr, IfSome};
 ghost use Rattle.wef_http.specs.Bodies.{IsFront};
-ghost use Rattle.wef_http_heads.specs.Laws.{IsByBytes};
 ghost use Rattle.wef_http.specs.Reading.{HasRead, Leads, ahead, reach};
+ghost use Rattle.wef_http_heads.specs.Laws.{IsByBytes};
 
 use crate::filling::fill;
 use crate::held::Held;

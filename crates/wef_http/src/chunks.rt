@@ -1,10 +1,10 @@
 //! Bodies in chunks.
 
 ghost use Rattle.std.specs.Prelude.{◌≡◌, ℕ, ◌+◌, ◌<◌, ◌≤◌, true, false, List, ◌++◌, length, IfOk, OnOk, IfErr, IfSome};
-ghost use Rattle.wef_http_heads.specs.declared.heads.TheConstants.{BODY_LIMIT, HEAD_LIMIT};
 ghost use Rattle.wef_http.specs.Chunks.{IsPiece, IsChunked, LastOrMore, RefusesChunk, RefusesChunks, RefusesPiece};
-ghost use Rattle.wef_http_heads.specs.Laws.{IsByBytes};
 ghost use Rattle.wef_http.specs.Reading.{HasRead, Leads, ahead, reach};
+ghost use Rattle.wef_http_heads.specs.Laws.{IsByBytes};
+ghost use Rattle.wef_http_heads.specs.declared.heads.TheConstants.{BODY_LIMIT, HEAD_LIMIT};
 
 use crate::bodies::read_bytes;
 use crate::held::Held;

@@ -1,8 +1,8 @@
 //! Bytes from a port.
 
 ghost use Rattle.std.specs.Prelude.{◌≡◌, ◌<◌, IfOk, IfErr};
-ghost use Rattle.wef_http_heads.specs.Laws.{IsByBytes};
 ghost use Rattle.wef_http.specs.Reading.{Comes, HasRead};
+ghost use Rattle.wef_http_heads.specs.Laws.{IsByBytes};
 
 use wef_http_heads::HttpEnd;
 use wef_ports::Port;

@@ -1,10 +1,10 @@
 //! Heads of requests and of responses, as parts that are read as a whole.
 
 ghost use Rattle.std.specs.Prelude.{◌≡◌, ◌≢◌, ℕ, List, ◌++◌, IfOk, IfErr, if◌then◌else◌, length, ◌==◌};
-ghost use Rattle.wef_http_heads.specs.Heads.{PlansRequest, PlansResponse, RefusesRequestHead, RefusesResponseHead};
 ghost use Rattle.wef_http.specs.Bodies.{FitsBody};
 ghost use Rattle.wef_http.specs.Messages.{FitsRequest};
 ghost use Rattle.wef_http.specs.Parts.{FindsPart, HasNotEnded};
+ghost use Rattle.wef_http_heads.specs.Heads.{PlansRequest, PlansResponse, RefusesRequestHead, RefusesResponseHead};
 ghost use Rattle.wef_http_heads.specs.Laws.{IsByBytes};
 
 use crate::parts::Part;

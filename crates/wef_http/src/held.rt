@@ -1,8 +1,8 @@
 //! Bytes that were read from a port and are still to be understood.
 
 ghost use Rattle.std.specs.Prelude.{◌≡◌, ℕ, ◌<◌, ◌≤◌, [], length, drop, IfOk, IfErr};
-ghost use Rattle.wef_http_heads.specs.Laws.{IsByBytes};
 ghost use Rattle.wef_http.specs.Reading.{Comes, HasRead};
+ghost use Rattle.wef_http_heads.specs.Laws.{IsByBytes};
 
 use crate::filling::fill;
 use std::marker::Model;

@@ -1,12 +1,12 @@
 //! Requests and responses, read from a port.
 
 ghost use Rattle.std.specs.Prelude.{◌≡◌, ℕ, ◌<◌, ◌≤◌, List, [], length, true, IfOk, IfErr, IfSome};
-ghost use Rattle.wef_http_heads.specs.Fields.{is_host};
-ghost use Rattle.wef_http_heads.specs.declared.heads.TheConstants.{BODY_LIMIT, HEAD_LIMIT};
 ghost use Rattle.wef_http.specs.Bodies.{FitsBody, IsBody, RefusesBody};
 ghost use Rattle.wef_http.specs.Messages.{IsRequest, IsResponse, RefusesRequest, RefusesResponse};
-ghost use Rattle.wef_http_heads.specs.Laws.{IsByBytes};
 ghost use Rattle.wef_http.specs.Reading.{HasRead, Leads, ahead, reach};
+ghost use Rattle.wef_http_heads.specs.Fields.{is_host};
+ghost use Rattle.wef_http_heads.specs.Laws.{IsByBytes};
+ghost use Rattle.wef_http_heads.specs.declared.heads.TheConstants.{BODY_LIMIT, HEAD_LIMIT};
 
 use crate::bodies::read_counted;
 use crate::chunks::read_chunks;

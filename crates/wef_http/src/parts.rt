@@ -1,11 +1,11 @@
 //! Parts of a message that are read as a whole: a head, the line of a chunk, the end of a line.
 
 ghost use Rattle.std.specs.Prelude.{◌≡◌, ◌≢◌, ℕ, ◌<◌, ◌≤◌, List, [], ◌++◌, length, IfOk, IfErr, IfSome};
+ghost use Rattle.wef_http.specs.Parts.{FindsPart, TakesPart};
+ghost use Rattle.wef_http.specs.Reading.{HasRead, Leads, ahead, reach};
+ghost use Rattle.wef_http_heads.specs.Laws.{IsByBytes};
 ghost use Rattle.wef_http_heads.specs.declared.ends.HttpEnd.{HttpEnd};
 ghost use Rattle.wef_http_heads.specs.declared.heads.TheConstants.{HEAD_LIMIT};
-ghost use Rattle.wef_http.specs.Parts.{FindsPart, TakesPart};
-ghost use Rattle.wef_http_heads.specs.Laws.{IsByBytes};
-ghost use Rattle.wef_http.specs.Reading.{HasRead, Leads, ahead, reach};
 
 use crate::held::Held;
 use crate::watching::Watch;

@@ -1,12 +1,12 @@
 //! The lines behind the last chunk, which are skipped.
 
 ghost use Rattle.std.specs.Prelude.{◌≡◌, ◌≤◌, Some, None, length, OnOk, IfErr, IfSome};
-ghost use Rattle.wef_http_heads.specs.declared.heads.TheConstants.{HEAD_LIMIT};
+ghost use Rattle.wef_http.specs.Reading.{HasRead, Leads, ahead, reach};
+ghost use Rattle.wef_http.specs.Trailers.{Skips, Steps};
 ghost use Rattle.wef_http_heads.specs.Ends.{behind_empty_line};
 ghost use Rattle.wef_http_heads.specs.Ends as ends;
 ghost use Rattle.wef_http_heads.specs.Laws.{IsByBytes};
-ghost use Rattle.wef_http.specs.Reading.{HasRead, Leads, ahead, reach};
-ghost use Rattle.wef_http.specs.Trailers.{Skips, Steps};
+ghost use Rattle.wef_http_heads.specs.declared.heads.TheConstants.{HEAD_LIMIT};
 
 use crate::held::Held;
 use wef_http_heads::HttpEnd;

@@ -1,12 +1,12 @@
 //! The fields of a head, by their names.
 
-ghost use Rattle.std.specs.Prelude.{◌≡◌, [], ◌∷◌, All, IfOk, length, map};
-ghost use Rattle.std.specs.List.{list_all, list_any};
 ghost use Rattle.httparse.specs.Grammar.{is_ows, skip_ows, trim_ows};
 ghost use Rattle.httparse.specs.Spans.{IsHeaderWithin, header_bytes};
-ghost use Rattle.wef_http_heads.specs.declared.ends.HttpEnd.TheVariants.{BadHead};
+ghost use Rattle.std.specs.List.{list_all, list_any};
+ghost use Rattle.std.specs.Prelude.{◌≡◌, [], ◌∷◌, All, IfOk, length, map};
 ghost use Rattle.wef_http_heads.specs.Fields.{closes, host_in, is_alike, is_close, is_host, is_visible, says_close, the_host, values_of, without_space};
 ghost use Rattle.wef_http_heads.specs.Steps.{Judges, needed};
+ghost use Rattle.wef_http_heads.specs.declared.ends.HttpEnd.TheVariants.{BadHead};
 
 use crate::ends::HttpEnd;
 use httparse::spans::HeaderSpan;
@@ -23,8 +23,8 @@ pub(crate) struct Fields<'a> {
 }
 
 impl<'a> Model for Fields<'a> {
-    ghost use Rattle.std.specs.Prelude.{ℕ, List, All, length, map};
     ghost use Rattle.httparse.specs.Spans.{IsHeaderWithin, header_bytes};
+    ghost use Rattle.std.specs.Prelude.{ℕ, List, All, length, map};
 
     ghost Value = { List (List ℕ × List ℕ) };
 

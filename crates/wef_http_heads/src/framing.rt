@@ -1,11 +1,11 @@
 //! What a head says of where its body ends.
 
-ghost use Rattle.std.specs.Prelude.{◌≡◌, true};
 ghost use Rattle.std.specs.List.{list_all};
+ghost use Rattle.std.specs.Prelude.{◌≡◌, true};
 ghost use Rattle.wef_base.specs.Numbers.{is_digit, is_numeral, number_within};
-ghost use Rattle.wef_http_heads.specs.declared.ends.HttpEnd.TheVariants.{BadHead};
 ghost use Rattle.wef_http_heads.specs.Framing.{coding_said, declared_by, declared_in, length_or_more, length_said};
 ghost use Rattle.wef_http_heads.specs.Steps.{Judges, needed};
+ghost use Rattle.wef_http_heads.specs.declared.ends.HttpEnd.TheVariants.{BadHead};
 
 use crate::ends::HttpEnd;
 use crate::fields::{Fields, is_alike};

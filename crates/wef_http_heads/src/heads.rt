@@ -1,7 +1,7 @@
 //! Heads that bytes begin with.
 
-ghost use Rattle.std.specs.Prelude.{◌≤◌, IfOk, IfErr, length, map, take};
 ghost use Rattle.httparse.specs.Spans.{IsRequestOf, IsRequestWithin, IsResponseOf, IsResponseWithin, header_bytes, span_bytes};
+ghost use Rattle.std.specs.Prelude.{◌≤◌, IfOk, IfErr, length, map, take};
 ghost use Rattle.wef_http_heads.specs.Heads.{FindsRequest, FindsResponse, IsOfBytes, RefusesRequestHead, RefusesResponseHead};
 ghost use Rattle.wef_http_heads.specs.Judging.{request_of, response_of};
 ghost use Rattle.wef_http_heads.specs.Steps.{Judges};

@@ -1,9 +1,9 @@
 //! What a head says of its message, or the first point in which it is refused.
 
 ghost use Rattle.std.specs.Prelude.{◌≡◌, IfOk};
-ghost use Rattle.wef_http_heads.specs.declared.ends.HttpEnd.TheVariants.{BadHead, NoLength, TooLarge};
 ghost use Rattle.wef_http_heads.specs.Judging as spec;
 ghost use Rattle.wef_http_heads.specs.Steps.{Judges, needed};
+ghost use Rattle.wef_http_heads.specs.declared.ends.HttpEnd.TheVariants.{BadHead, NoLength, TooLarge};
 
 use crate::ends::HttpEnd;
 use crate::fields::{Fields, closes, host_in};

@@ -1,11 +1,11 @@
 //! What a request is for.
 
-ghost use Rattle.std.specs.Prelude.{◌≡◌};
 ghost use Rattle.std.specs.List.{position};
-ghost use Rattle.wef_http_heads.specs.declared.ends.HttpEnd.TheVariants.{Path};
-ghost use Rattle.wef_http_heads.specs.declared.targets.Side.TheVariants.{Source};
+ghost use Rattle.std.specs.Prelude.{◌≡◌};
 ghost use Rattle.wef_http_heads.specs.Steps.{Judges, needed};
 ghost use Rattle.wef_http_heads.specs.Targets.{delivery_at, delivery_of, is_question_mark, manager_at, name_said, path_of, root_at, serves, target_at, target_behind, target_of};
+ghost use Rattle.wef_http_heads.specs.declared.ends.HttpEnd.TheVariants.{Path};
+ghost use Rattle.wef_http_heads.specs.declared.targets.Side.TheVariants.{Source};
 
 use crate::ends::HttpEnd;
 use crate::fields::is_alike;

@@ -2,12 +2,12 @@
 //! channel or takes them out again, by a path to nodes of the event's tree.
 #![tactic(auto)]
 
-ghost use Rattle.std.specs.Prelude.{◌≡◌, ◌==◌, ◌+◌, IfOk};
 ghost use Rattle.std.specs.List.{list_any};
+ghost use Rattle.std.specs.Prelude.{◌≡◌, ◌==◌, ◌+◌, IfOk};
 ghost use Rattle.wef_query.specs.Items.{says_path};
 ghost use Rattle.wef_query.specs.Laws.{AllAreSelected, are_grouped, groups_rise};
-ghost use Rattle.wef_query.specs.Queries.{all_events_of, is_unconditional};
 ghost use Rattle.wef_query.specs.Order.{HasSameNames, IsInOrder};
+ghost use Rattle.wef_query.specs.Queries.{all_events_of, is_unconditional};
 ghost use Rattle.wef_query.specs.Selected.{channels_of, is_asking_for_all, is_select_of, is_selected, is_selecting, is_suppressed, is_suppress_at, is_suppress_of, item_gives, selects, selects_all};
 
 pub mod reading;
@@ -53,9 +53,9 @@ impl Drop for QueryItem {
 }
 
 impl Model for QueryItem {
-    ghost use Rattle.wef_query.specs.Items as items;
     ghost use Rattle.std.specs.Prelude.{◌≡◌, Some};
     ghost use Rattle.wef_base.specs.Names.{trimmed};
+    ghost use Rattle.wef_query.specs.Items as items;
     ghost use Rattle.wef_query_paths.specs.Paths.{path_of};
 
     ghost Value = { items.QueryItem };

@@ -1,12 +1,12 @@
 //! Lists of queries, read from trees.
 
-ghost use Rattle.std.specs.Prelude.{◌≡◌, [], ◌++◌, option_copied, IfOk, OnOk};
 ghost use Rattle.std.specs.List.{flat_map};
+ghost use Rattle.std.specs.Prelude.{◌≡◌, [], ◌++◌, option_copied, IfOk, OnOk};
 ghost use Rattle.std.specs.Str.{IsUtf8};
 ghost use Rattle.wef_base.specs.Names.{trimmed};
 ghost use Rattle.wef_elements.specs.Children.{elements_in};
-ghost use Rattle.wef_query_paths.specs.Stops.{path_or_fault};
 ghost use Rattle.wef_query.specs.Reading.{Reads, Takes, channel_by, channel_of, characters_of, fault_in, item_of, items_from, items_in, path_said, queries_from, query_in, text_of, with_item, with_path, with_query};
+ghost use Rattle.wef_query_paths.specs.Stops.{path_or_fault};
 
 use crate::{QueryItem, QueryList};
 use std::alloc::{AllocError, Global};

@@ -1,12 +1,12 @@
 //! The walk of a path through an event, which ends at the first node that is asked for. It goes as
 //! deep as the path's brackets and the event's elements do.
 
-ghost use Rattle.std.specs.Prelude.{◌≡◌, ℕ, ◌+◌, ◌-◌, ◌<◌, ◌≤◌, true, List, [], ◌∷◌, ◌++◌, get_or, length, map};
 ghost use Rattle.std.specs.List.{list_any};
+ghost use Rattle.std.specs.Prelude.{◌≡◌, ℕ, ◌+◌, ◌-◌, ◌<◌, ◌≤◌, true, List, [], ◌∷◌, ◌++◌, get_or, length, map};
 ghost use Rattle.wef_query_nodes.specs.Meaning.{after, alone, compared, given, gives, goes, holds, holds_and, holds_or, holds_unit, left_by, nodes};
 ghost use Rattle.wef_query_nodes.specs.Walk.{AllIgnore, AreCounts, IsPlace, ahead, leaves, raised, tests};
-ghost use Rattle.wef_query_paths.specs.declared.path.Step.{out-Step};
 ghost use Rattle.wef_query_nodes.specs.Wanted.{is_wanted};
+ghost use Rattle.wef_query_paths.specs.declared.path.Step.{out-Step};
 ghost use Rattle.wef_query_values.specs.Places.{Place, plain};
 
 use crate::ignoring::{ignores_place, ignoring_count};

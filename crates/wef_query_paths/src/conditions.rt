@@ -1,12 +1,12 @@
 //! Conditions that are being read, and the brackets around them.
 
 ghost use Rattle.std.specs.Prelude.{◌≡◌, ◌==◌, [], ◌∷◌, length, MatchOption, Some, IfOk, OnOk, OnErr};
-ghost use Rattle.wef_query_tokens.specs.Reads.{Reads};
-ghost use Rattle.wef_query_paths.specs.declared.path.Unit.TheVariants.{Group};
-ghost use Rattle.wef_query_paths.specs.declared.turns.Next.TheVariants.{BehindUnit};
 ghost use Rattle.wef_query_paths.specs.Levels.{alternatives_in, round, square, with_and, with_unit};
 ghost use Rattle.wef_query_paths.specs.Reads.{Turns};
 ghost use Rattle.wef_query_paths.specs.Turns.{before_unit, behind_last, behind_unit, closed_round, closed_square, joined, with_and_behind, with_or_behind};
+ghost use Rattle.wef_query_paths.specs.declared.path.Unit.TheVariants.{Group};
+ghost use Rattle.wef_query_paths.specs.declared.turns.Next.TheVariants.{BehindUnit};
+ghost use Rattle.wef_query_tokens.specs.Reads.{Reads};
 
 use crate::path::{And, Literal, Or, Path, Predicate, Step, Unit};
 use crate::shared::Shared;
@@ -148,10 +148,10 @@ pub struct Levels {
 }
 
 impl Model for Levels {
-    ghost use Rattle.std.specs.Prelude.{List, reverse};
     ghost use Rattle.std.specs.Coded.{coded_list};
-    ghost use Rattle.wef_query_paths.specs.declared.conditions.Level.{Level};
+    ghost use Rattle.std.specs.Prelude.{List, reverse};
     ghost use Rattle.wef_query_paths.specs.contracts.conditions.Level as element;
+    ghost use Rattle.wef_query_paths.specs.declared.conditions.Level.{Level};
 
     ghost Value = { List Level };
 

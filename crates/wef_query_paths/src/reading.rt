@@ -1,13 +1,13 @@
 //! Reading a path: token by token, until the text ends or a token can't follow.
 
 ghost use Rattle.std.specs.Prelude.{◌≡◌, ◌<◌, length, IfErr};
-ghost use Rattle.wef_query_tokens.specs.Reads.{Reads};
 ghost use Rattle.wef_query_paths.specs.Faults.{IsFault};
 ghost use Rattle.wef_query_paths.specs.Paths.{path_of};
 ghost use Rattle.wef_query_paths.specs.Reading.{depth_behind, start, taken};
 ghost use Rattle.wef_query_paths.specs.Reads.{Gives, ReadsOn, SaysPath};
 ghost use Rattle.wef_query_paths.specs.Stops.{GoesOn, fault_at, path_from, path_or_fault, place};
 ghost use Rattle.wef_query_paths.specs.Turns.{finished};
+ghost use Rattle.wef_query_tokens.specs.Reads.{Reads};
 
 use crate::conditions::Levels;
 use crate::faults::{Failure, FaultKind, PathFault, Stop};

@@ -1,11 +1,11 @@
 //! Steps of a path that is being read, and the place where it stands.
 
 ghost use Rattle.std.specs.Prelude.{◌≡◌, Some, IfOk};
-ghost use Rattle.wef_query_tokens.specs.Reads.{Reads};
-ghost use Rattle.wef_query_paths.specs.declared.turns.Next.TheVariants.{BehindStep};
 ghost use Rattle.wef_query_paths.specs.Levels.{is_whole, with_predicate, with_step};
 ghost use Rattle.wef_query_paths.specs.Reads.{Turns};
 ghost use Rattle.wef_query_paths.specs.Turns.{before_predicate, before_step, before_test, behind_count, behind_path, behind_slash, behind_step, name_test, whole_path};
+ghost use Rattle.wef_query_paths.specs.declared.turns.Next.TheVariants.{BehindStep};
+ghost use Rattle.wef_query_tokens.specs.Reads.{Reads};
 
 use crate::conditions::{Level, Levels, before_unit};
 use crate::path::{Literal, NameTest, Path, Predicate, Step, Value};

@@ -1,10 +1,10 @@
 //! What may come next in a path, and what a token makes of it.
 
 ghost use Rattle.std.specs.Prelude.{◌≡◌};
-ghost use Rattle.wef_query_tokens.specs.Reads.{Reads};
 ghost use Rattle.wef_query_paths.specs.Fronts.{begins_path, is_behind_attribute, is_named_call};
 ghost use Rattle.wef_query_paths.specs.Reads.{Turns};
 ghost use Rattle.wef_query_paths.specs.Turns.{ended, turn};
+ghost use Rattle.wef_query_tokens.specs.Reads.{Reads};
 
 use crate::conditions::{Levels, before_unit, behind_unit};
 use crate::path::{Literal, Path, Step, Unit, Value};

@@ -1,9 +1,9 @@
 //! Values that are being read, and the side of a comparison on which they stand.
 
 ghost use Rattle.std.specs.Prelude.{◌≡◌};
-ghost use Rattle.wef_query_tokens.specs.Reads.{Reads};
 ghost use Rattle.wef_query_paths.specs.Reads.{Turns};
 ghost use Rattle.wef_query_paths.specs.Turns.{before_comma, before_literal, before_mask, before_value, behind_alone, behind_band, behind_left, behind_literal, behind_mask, behind_position, behind_value, in_position, is_position, may_be_position};
+ghost use Rattle.wef_query_tokens.specs.Reads.{Reads};
 
 use crate::conditions::{Levels, behind_unit};
 use crate::path::{Literal, Path, Unit, Value};

@@ -1,7 +1,7 @@
 //! How places in an event's tree compare with what a query writes out (XPath 1.0, 3.4).
 
-ghost use Rattle.std.specs.Prelude.{◌≡◌, false, pos};
 ghost use Rattle.std.specs.Option.{option_map_or};
+ghost use Rattle.std.specs.Prelude.{◌≡◌, false, pos};
 ghost use Rattle.wef_query_values.specs.Comparisons.{bits_in, compares, has_bits, instant_of_text, masked, masked_compares, texts_hold};
 ghost use Rattle.wef_query_values.specs.Operators.{both_hold, holds};
 ghost use Rattle.wef_query_values.specs.Places.{plain, text_at};

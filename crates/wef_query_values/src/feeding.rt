@@ -1,7 +1,7 @@
 //! The text of a place, byte by byte.
 
-ghost use Rattle.std.specs.Prelude.{◌≡◌, ℕ};
 ghost use Rattle.std.specs.List.{fold};
+ghost use Rattle.std.specs.Prelude.{◌≡◌, ℕ};
 ghost use Rattle.wef_elements.specs.Texts.{text_in, text_inside};
 ghost use Rattle.wef_query_values.specs.Places.{plain, text_at};
 

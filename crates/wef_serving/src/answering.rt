@@ -10,8 +10,8 @@ pub trait Answering<E> {
     ghost use Rattle.std.specs.Prelude.{◌≡◌, ℕ, true, IfOk, IfErr};
     ghost use Rattle.wef_http.specs.declared.messages.HttpRequest as the_request;
     ghost use Rattle.wef_http_heads.specs.Fields.{is_host};
-    ghost use Rattle.wef_serving.specs.Serving.{CanBeWritten};
     ghost use Rattle.wef_http_heads.specs.declared.answers.Answer as the_answer;
+    ghost use Rattle.wef_serving.specs.Serving.{CanBeWritten};
 
     // at a moment and of an end, a request is answered so, and this is the end then
     ghost answers: { ℕ → E → the_request.HttpRequest → the_answer.Answer → E → Type 0 };

@@ -1,7 +1,7 @@
 //! The declaration of XML.
 
-ghost use Rattle.std.specs.Prelude.{◌≡◌};
 ghost use Rattle.std.specs.Option.{option_copied};
+ghost use Rattle.std.specs.Prelude.{◌≡◌};
 ghost use Rattle.wef_tree_pieces.specs.Pieces.{behind_any_quoted, behind_character, behind_encoding, behind_quote, behind_quoted, behind_standalone, behind_version, behind_word, behind_yes_or_no, declaration_tail};
 
 use crate::tags::behind_equals;

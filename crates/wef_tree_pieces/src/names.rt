@@ -1,13 +1,13 @@
 //! Names as they are spelt.
 
-ghost use Rattle.std.specs.Prelude.{◌≡◌, ◌≤◌, length, encode_utf8_all, IfOk};
 ghost use Rattle.std.specs.List.{prefix_len};
 ghost use Rattle.std.specs.Option.{option_map};
+ghost use Rattle.std.specs.Prelude.{◌≡◌, ◌≤◌, length, encode_utf8_all, IfOk};
 ghost use Rattle.wef_base.specs.Names.{same};
-ghost use Rattle.wef_xml.specs.Letters.{is_name_char};
 ghost use Rattle.wef_tree_pieces.specs.Names.{name_after, name_at, plain_name_at, same_name};
 ghost use Rattle.wef_tree_pieces.specs.Reads.{Reads};
 ghost use Rattle.wef_tree_pieces.specs.Runs.{plain_name_length};
+ghost use Rattle.wef_xml.specs.Letters.{is_name_char};
 
 use crate::faults::Halt;
 use crate::headings::behind_character;
@@ -32,8 +32,8 @@ pub struct Spelling<'a> {
 
 impl<'a> Model for Spelling<'a> {
     ghost use Rattle.std.specs.Prelude.{encode_utf8_all};
-    ghost use Rattle.wef_tree_pieces.specs.declared.names.Name.{Name};
     ghost use Rattle.wef_tree_pieces.specs.contracts.names.Name as name;
+    ghost use Rattle.wef_tree_pieces.specs.declared.names.Name.{Name};
 
     ghost Value = { Name };
 

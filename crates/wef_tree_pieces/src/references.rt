@@ -1,7 +1,7 @@
 //! References to characters.
 
-ghost use Rattle.std.specs.Prelude.{◌≡◌};
 ghost use Rattle.std.specs.Option.{option_map};
+ghost use Rattle.std.specs.Prelude.{◌≡◌};
 ghost use Rattle.wef_tree_pieces.specs.References.{base_of, digit, number_at, number_tail, numbered, one_more, reference_at};
 
 use wef_base::is_xml_char;

@@ -1,7 +1,7 @@
 //! Comments and CDATA sections.
 
-ghost use Rattle.std.specs.Prelude.{◌≡◌, false};
 ghost use Rattle.std.specs.Option.{option_copied};
+ghost use Rattle.std.specs.Prelude.{◌≡◌, false};
 ghost use Rattle.wef_tree_pieces.specs.Pieces.{comment_tail, section_tail};
 ghost use Rattle.wef_tree_pieces.specs.Reads.{Reads};
 

@@ -1,7 +1,7 @@
 //! Tags, as they are spelt.
 
-ghost use Rattle.std.specs.Prelude.{◌≡◌, length};
 ghost use Rattle.std.specs.Option.{option_copied, option_map};
+ghost use Rattle.std.specs.Prelude.{◌≡◌, length};
 ghost use Rattle.wef_tree_pieces.specs.Reads.{Reads};
 ghost use Rattle.wef_tree_pieces.specs.Tags.{behind_equals, end_tag_at, ends_tag, given_at, givens_in, spaced_turn, tag_at, tag_turn};
 

@@ -1,8 +1,8 @@
 //! Values of attributes.
 
-ghost use Rattle.std.specs.Prelude.{◌≡◌, ◌≤◌, length};
 ghost use Rattle.std.specs.List.{prefix_len};
 ghost use Rattle.std.specs.Option.{option_map};
+ghost use Rattle.std.specs.Prelude.{◌≡◌, ◌≤◌, length};
 ghost use Rattle.wef_tree_pieces.specs.Names.{with_front};
 ghost use Rattle.wef_tree_pieces.specs.Reads.{Reads};
 ghost use Rattle.wef_tree_pieces.specs.Runs.{is_plain};

@@ -1,9 +1,9 @@
 //! The attributes of a tag.
 
-ghost use Rattle.std.specs.Prelude.{◌≡◌, ℕ, [], ◌∷◌, ◌++◌, List, true, not, IfOk, OnOk, if◌then◌else◌};
 ghost use Rattle.std.specs.BTreeSet.{contains};
-ghost use Rattle.std.specs.Ordering.{eq_by_cmp};
 ghost use Rattle.std.specs.List.{list_any};
+ghost use Rattle.std.specs.Ordering.{eq_by_cmp};
+ghost use Rattle.std.specs.Prelude.{◌≡◌, ℕ, [], ◌∷◌, ◌++◌, List, true, not, IfOk, OnOk, if◌then◌else◌};
 ghost use Rattle.wef_tree_reading.specs.ExpandedNames.{HasNamesOf, name_cmp};
 ghost use Rattle.wef_tree_reading.specs.Reads.{Gives, Takes};
 ghost use Rattle.wef_tree_reading.specs.Scopes.{attribute_one, attributes_by, with_attribute};
@@ -31,8 +31,8 @@ struct Resolved {
 }
 
 impl Model for Resolved {
-    ghost use Rattle.wef_base.specs.declared.tree.Attribute.{Attribute};
     ghost use Rattle.wef_base.specs.contracts.tree.Attribute as attribute;
+    ghost use Rattle.wef_base.specs.declared.tree.Attribute.{Attribute};
 
     ghost Value = { Attribute };
 

@@ -1,7 +1,7 @@
 //! The namespaces that a document has declared so far, by their digests.
 
-ghost use Rattle.std.specs.Prelude.{◌≡◌, ℕ, List, true, IfSome, OnOk, None};
 ghost use Rattle.std.specs.Option.{option_map};
+ghost use Rattle.std.specs.Prelude.{◌≡◌, ℕ, List, true, IfSome, OnOk, None};
 ghost use Rattle.wef_base.specs.Digests.{digest_of, is_long};
 ghost use Rattle.wef_base.specs.Names.{same};
 ghost use Rattle.wef_tree_reading.specs.Known.{AreGivensIn, Grows, Holds, IsPieceIn, found_in};

@@ -1,16 +1,16 @@
 //! Reading a document: piece by piece, until the text ends or no piece is good.
 
-ghost use Rattle.std.specs.Prelude.{◌≡◌, ◌==◌, ◌≤◌, false, length, IfOk, OnOk};
 ghost use Rattle.std.specs.List.{list_any, prefix_len};
+ghost use Rattle.std.specs.Prelude.{◌≡◌, ◌==◌, ◌≤◌, false, length, IfOk, OnOk};
 ghost use Rattle.std.specs.declared.result.Result.TheVariants.{Ok};
-ghost use Rattle.wef_xml.specs.Decoding.{decoded, line_ends};
-ghost use Rattle.wef_tree_reading.specs.Documents.{GivesTree, tree_of};
-ghost use Rattle.wef_xml.specs.Good.{IsGoodTree};
 ghost use Rattle.wef_tree_reading.specs.Building.{taken};
+ghost use Rattle.wef_tree_reading.specs.Documents.{GivesTree, tree_of};
 ghost use Rattle.wef_tree_reading.specs.Known.{KnowsBuilder};
 ghost use Rattle.wef_tree_reading.specs.Reads.{Takes};
 ghost use Rattle.wef_tree_reading.specs.Runs.{Walks, is_letter};
 ghost use Rattle.wef_tree_reading.specs.Spelling.{ReadsText, ReadsTree, Steps, fault_at, is_tag, kind_by};
+ghost use Rattle.wef_xml.specs.Decoding.{decoded, line_ends};
+ghost use Rattle.wef_xml.specs.Good.{IsGoodTree};
 
 use crate::building::{Builder, GREATEST_DEPTH};
 use crate::faults::{FaultKind, Stop};

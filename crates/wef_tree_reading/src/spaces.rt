@@ -1,8 +1,8 @@
 //! The namespaces that a tag declares, and those that its prefixes stand for.
 
-ghost use Rattle.std.specs.Prelude.{◌≡◌};
-ghost use Rattle.std.specs.Option.{option_copied};
 ghost use Rattle.std.specs.FinMap as map;
+ghost use Rattle.std.specs.Option.{option_copied};
+ghost use Rattle.std.specs.Prelude.{◌≡◌};
 ghost use Rattle.wef_tree_reading.specs.Reads.{Gives, Takes};
 ghost use Rattle.wef_tree_reading.specs.Scopes.{attribute_space, declare_one, declared_by, declares, in_scope, may_declare, with_declaration};
 

@@ -1,7 +1,7 @@
 //! The elements that are open.
 
-ghost use Rattle.std.specs.Prelude.{◌≡◌, ◌==◌, [], ◌∷◌, length, MatchOption, IfOk, OnOk, OnErr};
 ghost use Rattle.std.specs.Option.{option_copied};
+ghost use Rattle.std.specs.Prelude.{◌≡◌, ◌==◌, [], ◌∷◌, length, MatchOption, IfOk, OnOk, OnErr};
 
 use crate::scopes::Declarations;
 use std::alloc::{AllocError, Global};
@@ -32,10 +32,10 @@ pub struct Stack {
 }
 
 impl Model for Stack {
-    ghost use Rattle.std.specs.Prelude.{◌≡◌, [], List, reverse};
     ghost use Rattle.std.specs.Coded.{coded_list};
-    ghost use Rattle.wef_tree_reading.specs.declared.stack.Open.{Open};
+    ghost use Rattle.std.specs.Prelude.{◌≡◌, [], List, reverse};
     ghost use Rattle.wef_tree_reading.specs.contracts.stack.Open as element;
+    ghost use Rattle.wef_tree_reading.specs.declared.stack.Open.{Open};
     ghost use Rattle.wef_xml.specs.Spaces.{xml_space};
 
     ghost Value = { List Open };
@@ -48,8 +48,8 @@ impl Model for Stack {
 }
 
 impl Stack {
-    ghost use Rattle.wef_tree_reading.specs.Scopes.{declared_outside};
     ghost use Rattle.wef_tree_reading.specs.Building.{with_child};
+    ghost use Rattle.wef_tree_reading.specs.Scopes.{declared_outside};
     ghost use Rattle.wef_xml.specs.Spaces.{xml_space};
 
     /// No element.

@@ -22,9 +22,11 @@ is_and_held-loop-unit-init t c =
     ∙ sym (holds_and_by c.args.and.now (plain c.args.node) c.args.place ∙ ap (λ b. b && list_all (λ u. holds_unit u (plain c.args.node) c.args.place) (out-And c.args.and.now).rest) (sym c.is_unit_held.ensures ∙ c.if-not-is_unit_held.false))
 
 pub is_and_held-is_unit_held-requires-in-loop-unit : goal.is_and_held-is_unit_held-requires-in-loop-unit
-is_and_held-is_unit_held-requires-in-loop-unit t c =
-    (part_weighs unit_weight (and_weight c.args.and.now) (unit_weight (out-And c.args.and.now).first) c.loop-unit.unit-index c.as_slice-unit-items.result.now (out-And c.args.and.now).rest c.unit-item.result
-    (and_weighs c.args.and.now) c.as_slice-unit-items.ensures c.loop-unit-test.true c.unit-item.is, tt)
+is_and_held-is_unit_held-requires-in-loop-unit t c = (
+  part_weighs unit_weight (and_weight c.args.and.now) (unit_weight (out-And c.args.and.now).first) c.loop-unit.unit-index c.as_slice-unit-items.result.now (out-And c.args.and.now).rest c.unit-item.result
+      (and_weighs c.args.and.now) c.as_slice-unit-items.ensures c.loop-unit-test.true c.unit-item.is,
+  tt,
+)
 
 pub is_or_held-loop-and-init : goal.is_or_held-loop-and-init
 is_or_held-loop-and-init t c =
@@ -32,9 +34,11 @@ is_or_held-loop-and-init t c =
     ∙ sym (holds_or_by c.args.or.now (plain c.args.node) c.args.place ∙ ap (λ b. b || list_any (λ a. holds_and a (plain c.args.node) c.args.place) (out-Or c.args.or.now).rest) (sym c.is_and_held.ensures ∙ c.if-is_and_held.false))
 
 pub is_or_held-is_and_held-requires-in-loop-and : goal.is_or_held-is_and_held-requires-in-loop-and
-is_or_held-is_and_held-requires-in-loop-and t c =
-    (part_weighs and_weight (or_weight c.args.or.now) (and_weight (out-Or c.args.or.now).first) c.loop-and.and-index c.as_slice-and-items.result.now (out-Or c.args.or.now).rest c.and-item.result
-    (or_weighs c.args.or.now) c.as_slice-and-items.ensures c.loop-and-test.true c.and-item.is, tt)
+is_or_held-is_and_held-requires-in-loop-and t c = (
+  part_weighs and_weight (or_weight c.args.or.now) (and_weight (out-Or c.args.or.now).first) c.loop-and.and-index c.as_slice-and-items.result.now (out-Or c.args.or.now).rest c.and-item.result
+      (or_weighs c.args.or.now) c.as_slice-and-items.ensures c.loop-and-test.true c.and-item.is,
+  tt,
+)
 
 pub is_there-returns-in-Nodes : goal.is_there-returns-in-Nodes
 is_there-returns-in-Nodes t c = λ place. c.finds.ensures ∙ any_node (nodes c.in-Nodes.path (plain c.args.node)) ∙ ap (λ v. alone v (plain c.args.node) place) (sym (ap given c.in-Nodes.is ∙ given_nodes c.in-Nodes.path))
