@@ -35,3 +35,17 @@ crash_of g changes old begun mid end is first made last =
     ((state g mid).now, (mid, makes_from g changes old begun mid is (made late), refl), same))
     (survives_begin g old (state g mid) (λ _. ⊥) (subst (λ held. Survives (state g held) (state g mid) (λ _. ⊥)) is first))
     last
+
+-- what was made of a slice is what was made of the list that it is over
+pub all_made : {S : Type 0} (g : Ghosts S) (slice changes : List Change) (begun mid : Held S) → slice ≡ changes
+    → (HasCleanDisk (state g mid) → IsTrue (state g begun).in_transaction → OnMade g slice begun mid) → HasCleanDisk (state g mid) → IsTrue (state g begun).in_transaction → OnMade g changes begun mid
+all_made g slice changes begun mid same made clean inside = subst (λ all. OnMade g all begun mid) same (made clean inside)
+
+-- the same at the connection that the transaction was over
+pub crash_at : {S : Type 0} (g : Ghosts S) (slice changes : List Change) (old begun mid end now : Held S) → end ≡ now → slice ≡ changes → begun ≡ record old { in_transaction = true }
+    → Survives (state g begun) (state g mid) (λ _. ⊥)
+    → (HasCleanDisk (state g mid) → IsTrue (state g begun).in_transaction → OnMade g slice begun mid)
+    → Survives (state g mid) (state g end) (λ db. db ≡ (state g mid).now.trees)
+    → Survives (state g old) (state g now) (LeavesMade g changes old)
+crash_at g slice changes old begun mid end now same items is first made last =
+    subst (λ held. Survives (state g old) (state g held) (LeavesMade g changes old)) same (crash_of g changes old begun mid end is first (all_made g slice changes begun mid items made) last)

@@ -1,12 +1,16 @@
 //! Rows as the columns of an answer.
 
 ghost use Rattle.std.specs.Prelude.{◌≡◌, ◌≤◌, ◌<◌, pos, IfOk, MatchOption};
+ghost use Rattle.sqlite.specs.Values.{bound};
 ghost use Rattle.sqlite_value.specs.Order.{column};
 ghost use Rattle.wef_base.specs.declared.numbers.TheConstants.{MAX};
 ghost use Rattle.wef_sqlite.specs.Columns.{IsNumber, IsText, IsWrapped, SaysKey, SaysRow};
+ghost use Rattle.wef_sqlite.specs.Statements as statements;
 
 use crate::refusal::Refusal;
 use sqlite::Row as Columns;
+use sqlite::types::ToSql;
+use sqlite_value::value::ValueRef;
 use wef_base::Text;
 use wef_base::numbers::MAX;
 use wef_keeper::{Key, Row};
@@ -19,6 +23,20 @@ pub fn kept_number(number: u64) -> Option<i64>
         return None;
     }
     Some(number as i64)
+}
+
+/// The values of a key for a statement, with its number as a column keeps it.
+pub fn key_values(key: &Key, number: i64) -> [ValueRef<'_>; 5]
+    requires { number ≡ pos key.now.number }
+    ensures { bound result ≡ statements.key_values key.now }
+{
+    [
+        u32::from(key.kind).to_sql(),
+        key.sub.as_str().to_sql(),
+        key.source.as_str().to_sql(),
+        key.channel.as_str().to_sql(),
+        number.to_sql(),
+    ]
 }
 
 /// The row that columns say, in the order of the table. Failed where they say none: a column of

@@ -6,7 +6,7 @@ ghost use Rattle.wef_base.specs.Counts.{Rose};
 ghost use Rattle.wef_keeper.specs.Keeping.{HasFault, raised};
 ghost use Rattle.wef_keeper.specs.Rows.{is_after};
 ghost use Rattle.wef_keeper.specs.declared.keys.Row as the_row;
-ghost use Rattle.wef_sqlite.specs.Keeping.{StaysSet, is_opened};
+ghost use Rattle.wef_sqlite.specs.Keeping.{StaysSet, is_opened, untold};
 ghost use Rattle.wef_sqlite.specs.Places.{has_connection};
 
 use crate::opening::{Opens, Origin};
@@ -178,16 +178,7 @@ impl<S: Opens> SqlKeeper<S> {
 }
 
 impl<S: Opens> Keeper for SqlKeeper<S> {
-    ghost store = { λ k. record {
-      rows = None;
-      images = None;
-      doubt = k.in_doubt;
-      tries = k.tries;
-      reads = k.reads;
-      faults = k.faults;
-      opened = k.opened;
-      plan = None;
-    } };
+    ghost store = { λ k. untold k.in_doubt k.tries k.reads k.faults k.opened };
 
     ghost tells_both = { λ k. refl };
 

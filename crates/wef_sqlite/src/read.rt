@@ -13,7 +13,7 @@ ghost use Rattle.wef_sqlite.specs.Schema.{kept_schema};
 ghost use Rattle.wef_sqlite.specs.States.{Rests};
 ghost use Rattle.wef_sqlite.specs.Statements.{key_values, next_bytes, text_behind, values_behind};
 
-use crate::columns::{kept_number, said_row};
+use crate::columns::{kept_number, key_values, said_row};
 use crate::refusal::Refusal;
 use crate::schema::is_kept;
 use sqlite::{Alter, Connection, Row as Columns, params};
@@ -81,17 +81,7 @@ fn rows_of<S: Alter>(
     ensures rests { HasCleanDisk (state S.Store conn.new) → OnOk result (Rests (state S.Store conn.old) (state S.Store conn.new)) }
     ensures survives { Survives (state S.Store conn.old) (state S.Store conn.new) (λ _. ⊥) }
 {
-    ask(
-        conn,
-        GET,
-        params![
-            u32::from(key.kind),
-            key.sub.as_str(),
-            key.source.as_str(),
-            key.channel.as_str(),
-            number
-        ],
-    )
+    ask(conn, GET, &key_values(key, number))
 }
 
 /// The first `max` rows whose keys are greater than `after`, in the order of their keys: section by

@@ -1,7 +1,6 @@
 //! Whether a database has the table of rows, and nothing else.
 
 ghost use Rattle.std.specs.Prelude.{◌≡◌, [], ◌∷◌, IsTrue};
-ghost use Rattle.sqlite_schema.specs.declared.schema.Kind.TheVariants as kinds;
 ghost use Rattle.wef_sqlite.specs.Schema.{kept_column, kept_columns, key_places, kept_table, kept_index, kept_schema, no_schema};
 
 use sqlite_items::Items;
@@ -76,34 +75,24 @@ fn are_columns(columns: &[Column]) -> bool
 {
     match columns {
         [kind, sub, source, channel, number, value, body] => {
-            is_integer(kind, "kind")
-                && is_text(sub, "sub")
-                && is_text(source, "source")
-                && is_text(channel, "channel")
-                && is_integer(number, "number")
-                && is_integer(value, "value")
-                && is_text(body, "body")
+            is_column(kind, "kind", Kind::Integer)
+                && is_column(sub, "sub", Kind::Text)
+                && is_column(source, "source", Kind::Text)
+                && is_column(channel, "channel", Kind::Text)
+                && is_column(number, "number", Kind::Integer)
+                && is_column(value, "value", Kind::Integer)
+                && is_column(body, "body", Kind::Text)
         }
         _ => false,
     }
 }
 
-fn is_integer(column: &Column, name: &str) -> bool
-    ensures { IsTrue result → column.now ≡ kept_column name.now kinds.Integer }
+/// Whether a column has this name and kind, is strict, and is never null.
+fn is_column(column: &Column, name: &str, kind: Kind) -> bool
+    ensures { IsTrue result → column.now ≡ kept_column name.now kind }
 {
     column.name.as_slice() == name.as_bytes()
-        && matches!(column.kind, Kind::Integer)
-        && column.is_strict
-        && column.not_null
-        && matches!(column.default, Value::Null)
-        && matches!(column.collation, Collation::Binary)
-}
-
-fn is_text(column: &Column, name: &str) -> bool
-    ensures { IsTrue result → column.now ≡ kept_column name.now kinds.Text }
-{
-    column.name.as_slice() == name.as_bytes()
-        && matches!(column.kind, Kind::Text)
+        && column.kind == kind
         && column.is_strict
         && column.not_null
         && matches!(column.default, Value::Null)

@@ -6,7 +6,7 @@ ghost use Rattle.sqlite.specs.State.{HasCleanDisk, ExecutesInside, Survives};
 ghost use Rattle.wef_sqlite.specs.Makes.{Puts, Deletes, Makes, MakesAll, IsMade, LeavesMade};
 ghost use Rattle.wef_sqlite.specs.Statements.{key_values, row_values};
 
-use crate::columns::kept_number;
+use crate::columns::{kept_number, key_values};
 use crate::refusal::Refusal;
 use sqlite::{Alter, Connection, Error, Transaction, params};
 use wef_base::List;
@@ -118,14 +118,5 @@ fn delete_at<S: Alter>(tx: &mut Transaction<'_, S>, key: &Key, number: i64) -> R
     ensures runs { HasCleanDisk (state S.Store tx.new.conn.now) → IsTrue (state S.Store tx.old.conn.now).in_transaction → ExecutesInside 0 DELETE.now (key_values key.now) (state S.Store tx.old.conn.now) (state S.Store tx.new.conn.now) result }
     ensures survives { Survives (state S.Store tx.old.conn.now) (state S.Store tx.new.conn.now) (λ _. ⊥) }
 {
-    tx.execute(
-        DELETE,
-        params![
-            u32::from(key.kind),
-            key.sub.as_str(),
-            key.source.as_str(),
-            key.channel.as_str(),
-            number
-        ],
-    )
+    tx.execute(DELETE, &key_values(key, number))
 }
