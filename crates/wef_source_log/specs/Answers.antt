@@ -14,15 +14,12 @@ use Rattle.wef_source_log.specs.declared.faults.LogFault.TheVariants.{NoMemory, 
 abbrev pub RefusesRead : LogFault → Type 0
 RefusesRead NoMemory = Unit {0}
 RefusesRead Failed = Unit {0}
-RefusesRead Full = ⊥
-RefusesRead TooLong = ⊥
+RefusesRead _ = ⊥
 
 -- a start isn't refused as too long
 abbrev pub RefusesStart : LogFault → Type 0
-RefusesStart NoMemory = Unit {0}
-RefusesStart Failed = Unit {0}
-RefusesStart Full = Unit {0}
 RefusesStart TooLong = ⊥
+RefusesStart _ = Unit {0}
 
 -- whether a channel has all numbers
 abbrev pub is_full : Rows → List ℕ → Bool

@@ -5,7 +5,7 @@ use Rattle.wef_keeper.specs.Calls.{Effect, TellsFault}
 use Rattle.wef_source_log.specs.Faults.{log_store}
 use Rattle.wef_source_log.specs.declared.changing.Prepared.{Prepared}
 use Rattle.wef_source_log.specs.declared.faults.LogFault.{LogFault}
-use Rattle.wef_source_log.specs.declared.faults.LogFault.TheVariants.{NoMemory, Failed, Full, TooLong}
+use Rattle.wef_source_log.specs.declared.faults.LogFault.TheVariants.{NoMemory, TooLong}
 
 -- What is prepared is what the call does, and its number is this one; it is refused where the call is.
 abbrev pub Prepares : Effect LogFault → ℕ → Result Prepared LogFault → Type 0
@@ -16,5 +16,4 @@ Prepares effect number (Err fault) = TellsFault (log_store fault) fault effect
 abbrev pub RefusesNumber : Option Event → LogFault → Type 0
 RefusesNumber numbered NoMemory = Unit {0}
 RefusesNumber numbered TooLong = numbered ≡ None
-RefusesNumber numbered Failed = ⊥
-RefusesNumber numbered Full = ⊥
+RefusesNumber numbered _ = ⊥

@@ -1,55 +1,39 @@
 use Rattle.std.proofs.Common.{refl}
 use Rattle.std.proofs.lemmas.Result.{err_from_is_err_and}
-use Rattle.wef_keeper.proofs.Calls.{committed, not_committed, not_opened, refused}
-use Rattle.wef_keeper.proofs.StayFormed.{applied_formed}
+use Rattle.wef_keeper.proofs.Calls.{refused}
 use Rattle.wef_source_log.specs.Answers.{next_number, write_effect}
-use Rattle.wef_source_log.specs.Faults.{log_fault, log_store}
-use Rattle.wef_source_log.specs.Forms.{AreFormed, is_formed}
+use Rattle.wef_source_log.specs.Faults.{log_store}
+use Rattle.wef_source_log.specs.Forms.{AreFormed}
 use Rattle.wef_source_log.specs.Judged.{JudgesWrite}
-use Rattle.wef_source_log.proofs.Judging.{found_judged, made, numbered}
-use Rattle.wef_source_log.proofs.StoreFaults.{of_log_fault}
+use Rattle.wef_source_log.proofs.Judging.{done, found_judged, uncommitted, unopened}
 use Rattle.wef_source_log.proofs.changing.write_next.Goals as goal
 
 pub returns-in_err-open-clause-call : goal.returns-in_err-open-clause-call
 returns-in_err-open-clause-call g c =
     let p = err_from_is_err_and c.from_residual.result c.from_residual.ensures.1 in
-    let kind = c.in_err-open.field-0.0 in
-    rw (p.1, p.2) (not_opened log_store AreFormed (λ rows. write_effect rows c.args.event.now) (λ rows. next_number rows c.args.event.now) kind (log_fault kind)
-    (g.K.Keeper.store c.args.keeper.now) (g.K.Keeper.store c.open.new.keeper) (of_log_fault kind) (g.met.K.Keeper.few_images c.args.keeper.now)
-    c.in_err-open.ensures.found c.in_err-open.ensures.opened c.in_err-open.ensures.refused)
+    rw (p.1, p.2) (unopened (λ rows. write_effect rows c.args.event.now) (λ rows. next_number rows c.args.event.now) c.in_err-open.field-0.0
+    (g.K.Keeper.store c.args.keeper.now) (g.K.Keeper.store c.open.new.keeper) (g.met.K.Keeper.few_images c.args.keeper.now) c.in_err-open.ensures.found c.in_err-open.ensures.opened c.in_err-open.ensures.refused)
 
 pub returns-in_err-prepared-clause-call : goal.returns-in_err-prepared-clause-call
 returns-in_err-prepared-clause-call g c =
     let p = err_from_is_err_and c.from_residual-in_err-prepared.result c.from_residual-in_err-prepared.ensures.1 in
-    let fault = c.in_err-prepared.field-0.0 in
-    rw (p.1, p.2) (refused log_store AreFormed (λ rows. write_effect rows c.args.event.now) (λ rows. next_number rows c.args.event.now) fault
+    rw (p.1, p.2) (refused log_store AreFormed (λ rows. write_effect rows c.args.event.now) (λ rows. next_number rows c.args.event.now) c.in_err-prepared.field-0.0
     (g.K.Keeper.store c.args.keeper.now) (g.K.Keeper.store c.open.new.keeper) (g.K.Keeper.store c.prepared_write.new.keeper) (c.in_ok-open.ensures.found refl) c.in_ok-open.ensures.opened
     c.in_err-prepared.ensures.reads c.in_err-prepared.ensures.prepared)
 
 pub returns-in_err-commit-clause-call : goal.returns-in_err-commit-clause-call
 returns-in_err-commit-clause-call g c =
     let p = err_from_is_err_and c.from_residual-in_err-commit.result c.from_residual-in_err-commit.ensures.1 in
-    let kind = c.in_err-commit.field-0.0 in
-    let prepared = c.in_ok-prepared.prepared in
-    let mid = g.K.Keeper.store c.prepared_write.new.keeper in
-    let now = g.K.Keeper.store c.commit.new.keeper in
-    let does = made (λ rows. write_effect rows c.args.event.now) (λ rows. next_number rows c.args.event.now) prepared mid.rows c.in_ok-prepared.ensures.prepared in
-    rw (p.1, p.2) (not_committed log_store AreFormed (λ rows. write_effect rows c.args.event.now) (λ rows. next_number rows c.args.event.now) kind (log_fault kind) prepared.changes
-    (g.K.Keeper.store c.args.keeper.now) (g.K.Keeper.store c.open.new.keeper) mid now (applied_formed is_formed prepared.changes c.in_err-commit.ensures.put) (of_log_fault kind) (g.met.K.Keeper.tells_both c.commit.new.keeper)
-    (c.in_ok-open.ensures.found refl) c.in_ok-open.ensures.opened c.in_ok-prepared.ensures.reads does
+    rw (p.1, p.2) (uncommitted (λ rows. write_effect rows c.args.event.now) (λ rows. next_number rows c.args.event.now) c.in_err-commit.field-0.0 c.in_ok-prepared.prepared
+    (g.K.Keeper.store c.args.keeper.now) (g.K.Keeper.store c.open.new.keeper) (g.K.Keeper.store c.prepared_write.new.keeper) (g.K.Keeper.store c.commit.new.keeper)
+    c.in_err-commit.ensures.put (g.met.K.Keeper.tells_both c.commit.new.keeper) (c.in_ok-open.ensures.found refl) c.in_ok-open.ensures.opened c.in_ok-prepared.ensures.reads c.in_ok-prepared.ensures.prepared
     c.in_err-commit.ensures.leaves c.in_err-commit.ensures.planned c.in_err-commit.ensures.faults)
 
 pub returns-clause-call : goal.returns-clause-call
 returns-clause-call g c =
-    let prepared = c.in_ok-prepared.prepared in
-    let mid = g.K.Keeper.store c.prepared_write.new.keeper in
-    let now = g.K.Keeper.store c.commit.new.keeper in
-    let does = made (λ rows. write_effect rows c.args.event.now) (λ rows. next_number rows c.args.event.now) prepared mid.rows c.in_ok-prepared.ensures.prepared in
-    let answers = numbered (λ rows. write_effect rows c.args.event.now) (λ rows. next_number rows c.args.event.now) prepared mid.rows c.in_ok-prepared.ensures.prepared in
-    committed log_store AreFormed (λ rows. write_effect rows c.args.event.now) (λ rows. next_number rows c.args.event.now) prepared.changes prepared.number
-    (g.K.Keeper.store c.args.keeper.now) (g.K.Keeper.store c.open.new.keeper) mid now
-    (applied_formed is_formed prepared.changes c.in_ok-commit.ensures.put) (g.met.K.Keeper.no_doubt c.commit.new.keeper c.in_ok-commit.ensures.leaves.0.1)
-    (c.in_ok-open.ensures.found refl) c.in_ok-open.ensures.opened c.in_ok-prepared.ensures.reads does answers
+    done (λ rows. write_effect rows c.args.event.now) (λ rows. next_number rows c.args.event.now) c.in_ok-prepared.prepared
+    (g.K.Keeper.store c.args.keeper.now) (g.K.Keeper.store c.open.new.keeper) (g.K.Keeper.store c.prepared_write.new.keeper) (g.K.Keeper.store c.commit.new.keeper)
+    c.in_ok-commit.ensures.put (g.met.K.Keeper.no_doubt c.commit.new.keeper c.in_ok-commit.ensures.leaves.0.1) (c.in_ok-open.ensures.found refl) c.in_ok-open.ensures.opened c.in_ok-prepared.ensures.reads c.in_ok-prepared.ensures.prepared
     c.in_ok-commit.ensures.leaves c.in_ok-commit.ensures.planned c.in_ok-commit.ensures.faults
 
 pub returns-clause-judged : goal.returns-clause-judged
