@@ -1,4 +1,5 @@
 pub mod DocumentsAgain
+pub mod FirstFound
 pub mod Found
 pub mod GoodDocuments
 pub mod KeptBack

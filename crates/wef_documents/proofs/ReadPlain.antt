@@ -39,6 +39,7 @@ use Rattle.wef_documents.specs.declared.faults.DocumentFault.TheVariants.{BadDoc
 use Rattle.wef_documents.specs.declared.faults.Part.{Part}
 use Rattle.wef_documents.specs.declared.faults.Part.TheVariants as the
 use Rattle.wef_documents.specs.declared.limits.Limits.{Limits}
+use Rattle.wef_documents.proofs.FirstFound.{either_is}
 use Rattle.wef_documents.proofs.ReadQueries as queries
 use Rattle.wef_documents.proofs.ReadSources as sources
 
@@ -158,11 +159,7 @@ child_good name e room good = among (elements_in e.children) (inner_good e.child
   where
     among : (es : List Element) → AreGoodElements es room → IfSome (find (is_called space name) es) (λ (inner : Element). IsGoodElement inner room)
     among [] good = tt
-    among (x ∷ es) good = by (is_called space name x) (among es good.1)
-      where
-        by : (b : Bool) → IfSome (find (is_called space name) es) (λ (inner : Element). IsGoodElement inner room) → IfSome (cond b (Some x) (find (is_called space name) es)) (λ (inner : Element). IsGoodElement inner room)
-        by true rest = good.0
-        by false rest = rest
+    among (x ∷ es) good = either_is (λ (inner : Element). IsGoodElement inner room) (is_called space name x) x (find (is_called space name) es) good.0 (among es good.1)
 
 elements_of : (o : Option Element) (room : ℕ) → IfSome o (λ (inner : Element). IsGoodElement inner (suc room)) → AreGoodElements (elements_in (nodes_of o)) room
 elements_of None room good = tt

@@ -24,6 +24,7 @@ use Rattle.wef_documents.specs.Values.{child, space}
 use Rattle.wef_documents.specs.declared.faults.DocumentFault.{DocumentFault}
 use Rattle.wef_documents.specs.declared.faults.DocumentFault.TheVariants.{BadDocument}
 use Rattle.wef_documents.specs.declared.faults.Part.TheVariants as the
+use Rattle.wef_documents.proofs.FirstFound.{either_is}
 use Rattle.wef_documents.proofs.TrimmedTexts.{IsTrim, ported_characters, ported_is, trim_allowed, trim_stays, trimmed_is}
 
 -- ---- an address with a port behind it
@@ -163,11 +164,7 @@ child_text name e (suc room) good = among (elements_in e.children) (inner_good e
   where
     among : (es : List Element) → AreGoodElements es room → IfSome (find (is_called space name) es) (λ (inner : Element). IsTrim (said_in inner))
     among [] good = tt
-    among (x ∷ es) good = by (is_called space name x) (among es good.1)
-      where
-        by : (b : Bool) → IfSome (find (is_called space name) es) (λ (inner : Element). IsTrim (said_in inner)) → IfSome (cond b (Some x) (find (is_called space name) es)) (λ (inner : Element). IsTrim (said_in inner))
-        by true rest = trimmed_is (text_inside x) (text_inside_good x room good.0)
-        by false rest = rest
+    among (x ∷ es) good = either_is (λ (inner : Element). IsTrim (said_in inner)) (is_called space name x) x (find (is_called space name) es) (trimmed_is (text_inside x) (text_inside_good x room good.0)) (among es good.1)
 
 address_text : (e : Element) (room : ℕ) → IsGoodElement e room → IfSome (address_at e) (λ (inner : Element). IsTrim (said_in inner))
 address_text e room good = by (is_called space (codes "EventSource") e)

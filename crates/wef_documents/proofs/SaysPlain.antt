@@ -30,6 +30,7 @@ use Rattle.wef_documents.specs.Values.{child, is_enabled, is_pushed, kind_in, li
 use Rattle.wef_documents.specs.declared.faults.DocumentFault.{DocumentFault}
 use Rattle.wef_documents.specs.declared.faults.DocumentFault.TheVariants.{BadDocument}
 use Rattle.wef_documents.specs.declared.faults.Part.TheVariants as the
+use Rattle.wef_documents.proofs.FirstFound.{either_is}
 use Rattle.wef_documents.proofs.NamesSaid.{IsReadName, subscription_is_read}
 use Rattle.wef_documents.proofs.QueriesSaid.{AreGood, IsGood, elements_good, query_said}
 use Rattle.wef_documents.proofs.ReadPlain.{IsSound, read_sound}
@@ -54,11 +55,7 @@ needed_so P fault None is = tt
 
 first_good : (test : Element → Bool) (es : List Element) → AreGood es → IfSome (find test es) IsGood
 first_good test [] good = tt
-first_good test (e ∷ es) good = by (test e) (first_good test es good.1)
-  where
-    by : (b : Bool) → IfSome (find test es) IsGood → IfSome (cond b (Some e) (find test es)) IsGood
-    by true rest = good.0
-    by false rest = rest
+first_good test (e ∷ es) good = either_is IsGood (test e) e (find test es) good.0 (first_good test es good.1)
 
 child_good : (name : List ℕ) (e : Element) → IsGood e → IfSome (child name e) IsGood
 child_good name e good = first_good (is_called space name) (elements_in e.children) (elements_good e good)

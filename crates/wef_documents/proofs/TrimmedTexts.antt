@@ -1,5 +1,5 @@
 -- Texts without spaces at both ends, by their characters.
-use Rattle.std.proofs.Common.{◌≡◌, ℕ, Bool, true, false, cond, List, [], ◌∷◌, ◌++◌, encode_utf8_all, refl, ap, sym, ◌∙◌, append_assoc, arith}
+use Rattle.std.proofs.Common.{◌≡◌, ℕ, true, List, [], ◌∷◌, ◌++◌, encode_utf8_all, refl, ap, sym, ◌∙◌, subst, append_assoc, arith}
 use Rattle.std.specs.Prelude.{codes}
 use Rattle.std.specs.List.{list_all}
 use Rattle.std.specs.Str.{all_scalars, chars}
@@ -10,9 +10,11 @@ use Rattle.std.proofs.lemmas.List.Folds.{list_all-append}
 use Rattle.std.proofs.lemmas.Str.{chars-encodes, encodes-append}
 use lib.Utf8.{encode}
 use Rattle.wef_base.specs.Characters.{is_xml_char}
-use Rattle.wef_base.specs.Names.{is_space, trimmed, trimmed_characters, unless_last_space, without_end, without_start}
+use Rattle.wef_base.specs.Names.{trimmed, trimmed_characters, without_end, without_start}
 use Rattle.wef_query.proofs.Trimmed.{end_solid, end_twice, start_solid, start_stays, starts_solid}
+use Rattle.wef_base.proofs.Kept.{scalars-without_end, scalars-without_start}
 use Rattle.wef_base.proofs.Trimmed.{without_end_other}
+use Rattle.wef_elements.proofs.GoodTextsInside.{trimmed_good}
 use Rattle.wef_xml.specs.Good.{IsXmlText}
 use Rattle.wef_documents.specs.Addresses.{usual_port}
 
@@ -49,31 +51,22 @@ trim_stays text is =
 
 -- ---- what is trimmed is so
 
-either_allowed : (b : Bool) (cs ds : List ℕ) → list_all is_xml_char cs ≡ true → list_all is_xml_char ds ≡ true → list_all is_xml_char (cond b cs ds) ≡ true
-either_allowed true cs ds first second = first
-either_allowed false cs ds first second = second
-
-start_allowed : (cs : List ℕ) → list_all is_xml_char cs ≡ true → list_all is_xml_char (without_start cs) ≡ true
-start_allowed [] h = h
-start_allowed (c ∷ cs) h = either_allowed (is_space c) (without_start cs) (c ∷ cs) (start_allowed cs (and_parts (is_xml_char c) (list_all is_xml_char cs) h).1) h
-
-last_allowed : (c : ℕ) (cs : List ℕ) → is_xml_char c ≡ true → list_all is_xml_char cs ≡ true → list_all is_xml_char (unless_last_space c cs) ≡ true
-last_allowed c [] one rest = either_allowed (is_space c) [] (c ∷ []) refl (and_from _ _ one refl)
-last_allowed c (d ∷ ds) one rest = and_from _ _ one rest
-
-end_allowed : (cs : List ℕ) → list_all is_xml_char cs ≡ true → list_all is_xml_char (without_end cs) ≡ true
-end_allowed [] h = h
-end_allowed (c ∷ cs) h = let parts = and_parts (is_xml_char c) (list_all is_xml_char cs) h in last_allowed c (without_end cs) parts.0 (end_allowed cs parts.1)
-
 -- a text that XML allows, trimmed
 pub trimmed_is : (text : List ℕ) → IsXmlText text → IsTrim (trimmed text)
 trimmed_is text allowed =
     let cs = allowed.characters in
-    let read : chars text ≡ cs = ap chars allowed.spelt ∙ chars-encodes cs (xml_scalars cs allowed.allowed) in
+    let ds = trimmed_characters cs in
+    let good : IsXmlText (trimmed text) = trimmed_good text allowed in
+    let plain : all_scalars cs ≡ true = xml_scalars cs allowed.allowed in
+    let spelt : trimmed text ≡ encode_utf8_all ds = ap (λ xs. encode_utf8_all (trimmed_characters xs)) (ap chars allowed.spelt ∙ chars-encodes cs plain) in
+    let same : good.characters ≡ ds =
+    sym (chars-encodes good.characters (xml_scalars good.characters good.allowed))
+    ∙ ap chars (sym good.spelt ∙ spelt)
+    ∙ chars-encodes ds (scalars-without_end (without_start cs) (scalars-without_start cs plain)) in
     record {
-      characters = trimmed_characters cs;
-      spelt = ap (λ xs. encode_utf8_all (trimmed_characters xs)) read;
-      allowed = end_allowed (without_start cs) (start_allowed cs allowed.allowed);
+      characters = ds;
+      spelt = spelt;
+      allowed = subst (λ xs. list_all is_xml_char xs ≡ true) same good.allowed;
       start = end_solid (without_start cs) (start_solid cs);
       end = end_twice (without_start cs);
     }

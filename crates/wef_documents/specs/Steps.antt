@@ -1,5 +1,5 @@
 -- The steps of a reader: the first fault is the answer.
-use Rattle.std.specs.Prelude.{◌≡◌, Bool, true, false, Option, Some, None, Result}
+use Rattle.std.specs.Prelude.{◌≡◌, Bool, true, false, Option, Result, ok_or}
 use Rattle.std.specs.declared.result.Result.TheVariants.{Ok, Err}
 use Rattle.wef_documents.specs.declared.faults.DocumentFault.{DocumentFault}
 use Rattle.wef_documents.specs.declared.faults.DocumentFault.TheVariants.{NoMemory, Tree, BadDocument}
@@ -11,8 +11,7 @@ and_then (Err fault) more = Err fault
 
 -- what must be there
 abbrev pub needed : {A : Type 0} → DocumentFault → Option A → Result A DocumentFault
-needed fault (Some a) = Ok a
-needed fault None = Err fault
+needed fault o = ok_or o fault
 
 -- what must hold
 abbrev pub must : DocumentFault → Bool → Result (Unit {0}) DocumentFault

@@ -24,20 +24,7 @@ pub enum Part {
 
 impl fmt::Display for Part {
     fn fmt<W: fmt::Write>(&self, f: &mut fmt::Formatter<W>) -> fmt::Result {
-        f.write_str(match self {
-            Part::Subscription => "Subscription",
-            Part::SubscriptionId => "SubscriptionId",
-            Part::SubscriptionType => "SubscriptionType",
-            Part::Enabled => "Enabled",
-            Part::Delivery => "Delivery",
-            Part::MaxItems => "MaxItems",
-            Part::Heartbeat => "Heartbeat",
-            Part::MaxEnvelopeSize => "MaxEnvelopeSize",
-            Part::Expires => "Expires",
-            Part::Query => "Query",
-            Part::Address => "Address",
-            Part::Version => "Version",
-        })
+        fmt::Debug::fmt(self, f)
     }
 }
 

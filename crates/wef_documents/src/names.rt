@@ -30,12 +30,6 @@ fn queried_names_are_kept(items: &[QueryItem])
     ensures { AllByRecursion HasKeptName items.now }
 {
     for item in items {
-        name_is_kept(item);
+        let _name = item.channel.as_text().as_str();
     }
-}
-
-fn name_is_kept(item: &QueryItem)
-    ensures { HasKeptName item.now }
-{
-    let _name = item.channel.as_text().as_str();
 }
