@@ -1,12 +1,12 @@
 //! Addresses in a Subscribe.
 
-ghost use Rattle.std.specs.Prelude.{◌≡◌, codes, option_copied, IfOk};
 ghost use Rattle.std.specs.Option.{option_map};
-ghost use Rattle.wef_elements.specs.Texts.{said_in};
-ghost use Rattle.wef_envelope.specs.Envelopes.{address_in};
+ghost use Rattle.std.specs.Prelude.{◌≡◌, codes, option_copied, IfOk};
 ghost use Rattle.wef_bodies.specs.Addresses.{end_in, identifier_among, identifier_in, target_in};
 ghost use Rattle.wef_bodies.specs.Steps.{Reads};
 ghost use Rattle.wef_bodies.specs.Subscribes.{in_eventing};
+ghost use Rattle.wef_elements.specs.Texts.{said_in};
+ghost use Rattle.wef_envelope.specs.Envelopes.{address_in};
 
 use crate::bodies::{BodyFault, Part};
 use crate::children::{in_addressing, in_eventing};

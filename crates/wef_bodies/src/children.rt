@@ -1,10 +1,10 @@
 //! The parts of a body, by their names.
 
 ghost use Rattle.std.specs.Prelude.{◌≡◌, find, option_copied};
-ghost use Rattle.wef_elements.specs.Children.{first_called, is_called};
-ghost use Rattle.wef_envelope.specs.Spaces.{addressing, enumeration, eventing, soap, subscription};
 ghost use Rattle.wef_bodies.specs.Offers.{is_offer};
 ghost use Rattle.wef_bodies.specs.Subscribes.{has_attribute, in_eventing, in_management};
+ghost use Rattle.wef_elements.specs.Children.{first_called, is_called};
+ghost use Rattle.wef_envelope.specs.Spaces.{addressing, enumeration, eventing, soap, subscription};
 
 use wef_base::Element;
 use wef_elements::{first_called, is_called, value_of};

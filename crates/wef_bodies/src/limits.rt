@@ -2,10 +2,10 @@
 
 ghost use Rattle.std.specs.Prelude.{◌≡◌, ◌≤◌, option_copied, IfOk, IfSome};
 ghost use Rattle.wef_base.specs.declared.numbers.TheConstants.{MAX};
-ghost use Rattle.wef_elements.specs.Texts.{said_in, text_inside};
-ghost use Rattle.wef_times.specs.Durations.{duration_in};
 ghost use Rattle.wef_bodies.specs.Limits.{count_in, duration_near, heartbeats_in, nearest, number_near};
 ghost use Rattle.wef_bodies.specs.Steps.{Reads};
+ghost use Rattle.wef_elements.specs.Texts.{said_in, text_inside};
+ghost use Rattle.wef_times.specs.Durations.{duration_in};
 
 use crate::bodies::{BodyFault, Part};
 use std::alloc::AllocError;

@@ -1,12 +1,12 @@
 //! Reading the offers of a collector.
 
-ghost use Rattle.std.specs.Prelude.{◌≡◌, ◌∷◌, [], option_copied, slice_get, IfOk};
 ghost use Rattle.std.specs.List.{filter};
+ghost use Rattle.std.specs.Prelude.{◌≡◌, ◌∷◌, [], option_copied, slice_get, IfOk};
 ghost use Rattle.wef_base.specs.Names.{same};
-ghost use Rattle.wef_elements.specs.Children.{elements_in};
 ghost use Rattle.wef_bodies.specs.Offers.{is_offer, offer_of, offered, offered_in, offers_among, offers_in, offers_of, unless_none, version_in, with_front};
 ghost use Rattle.wef_bodies.specs.Spaces.{subscribe};
 ghost use Rattle.wef_bodies.specs.Steps.{Reads};
+ghost use Rattle.wef_elements.specs.Children.{elements_in};
 
 use crate::bodies::{BodyFault, Part};
 use crate::children::{enumeration_of, in_management, in_soap, in_subscription, is_offer};

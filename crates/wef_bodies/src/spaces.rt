@@ -1,8 +1,8 @@
 //! The namespaces and fixed texts of what is written.
 
 ghost use Rattle.std.specs.Prelude.{◌≡◌, IfOk};
-ghost use Rattle.wef_envelope.specs.Spaces.{addressing, enumeration, eventing, subscription};
 ghost use Rattle.wef_bodies.specs.Spaces.{anonymous, batches, event_log, event_query, most_elements, subscribe};
+ghost use Rattle.wef_envelope.specs.Spaces.{addressing, enumeration, eventing, subscription};
 
 use std::alloc::{AllocError, Global};
 use wef_base::{Namespace, Text};

@@ -2,8 +2,8 @@
 
 ghost use Rattle.std.specs.Prelude.{◌≡◌, codes, option_copied};
 ghost use Rattle.std.specs.Result.{result_map_both};
-ghost use Rattle.wef_bodies.specs.Steps.{Reads};
 ghost use Rattle.wef_bodies.specs.Spaces.{batches, event_query};
+ghost use Rattle.wef_bodies.specs.Steps.{Reads};
 ghost use Rattle.wef_bodies.specs.Subscribes.{bookmark_of, bytes_in, delivery_in, expires_of, filter_in, has_attribute, items_in, queries_in, subscribe_in, subscribe_of, subscribe_with};
 
 use crate::addresses::{end_in, identifier_in, target_in};

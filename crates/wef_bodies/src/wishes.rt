@@ -1,14 +1,14 @@
 //! Writing a Subscribe.
 
-ghost use Rattle.std.specs.Prelude.{◌≡◌, ◌++◌, ◌∷◌, [], true, option_copied, IfOk, OnOk};
 ghost use Rattle.std.specs.List.{AllByRecursion};
 ghost use Rattle.std.specs.Option.{option_map, option_to_list};
+ghost use Rattle.std.specs.Prelude.{◌≡◌, ◌++◌, ◌∷◌, [], true, option_copied, IfOk, OnOk};
 ghost use Rattle.std.specs.Str.{is_utf8};
+ghost use Rattle.wef_bodies.specs.Laws.{IsKeptOffer, IsKeptSubscribe, IsTextEntry};
+ghost use Rattle.wef_bodies.specs.Written.{address_element, count_element, delivery_element, end_element, expires_element, filter_element, heartbeats_element, last_parts, marked_holder, notify_element, properties_element, size_element, subscribe_element, subscribe_parts};
 ghost use Rattle.wef_bookmark.specs.Entries.{AreEntries};
 ghost use Rattle.wef_bookmark.specs.Nodes.{AreTexts};
 ghost use Rattle.wef_eventing.specs.Kept.{HasKeptName};
-ghost use Rattle.wef_bodies.specs.Laws.{IsKeptOffer, IsKeptSubscribe, IsTextEntry};
-ghost use Rattle.wef_bodies.specs.Written.{address_element, count_element, delivery_element, end_element, expires_element, filter_element, heartbeats_element, last_parts, marked_holder, notify_element, properties_element, size_element, subscribe_element, subscribe_parts};
 
 use crate::spaces::{addressing, batches, event_query, eventing};
 use std::alloc::{AllocError, Global};

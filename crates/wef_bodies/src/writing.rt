@@ -1,11 +1,11 @@
 //! Writing bodies.
 
-ghost use Rattle.std.specs.Prelude.{◌≡◌, ◌++◌, ◌∷◌, [], IfOk, OnOk};
 ghost use Rattle.std.specs.List.{All};
-ghost use Rattle.wef_elements.specs.Good.{AreGoodElements};
-ghost use Rattle.wef_eventing.specs.Sending.{CanBeOffered, HasXmlTexts};
+ghost use Rattle.std.specs.Prelude.{◌≡◌, ◌++◌, ◌∷◌, [], IfOk, OnOk};
 ghost use Rattle.wef_bodies.specs.Laws.{CanBeWritten, IsXmlId};
 ghost use Rattle.wef_bodies.specs.Written.{body_elements, enumerate_element, no_ids, offer_element, offer_elements, offer_envelope, offers_element, response_element, subscribe_element};
+ghost use Rattle.wef_elements.specs.Good.{AreGoodElements};
+ghost use Rattle.wef_eventing.specs.Sending.{CanBeOffered, HasXmlTexts};
 
 use crate::bodies::Body;
 use crate::spaces::{anonymous, enumeration, event_log, most_elements, subscribe, subscription};

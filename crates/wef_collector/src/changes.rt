@@ -1,19 +1,19 @@
 //! What taking a batch changes.
 
-ghost use Rattle.std.specs.Prelude.{◌≡◌, ◌+◌, ◌<◌, ◌≤◌, true, [], ◌∷◌, ◌++◌, IfOk, IfSome, OnOk};
-ghost use Rattle.std.specs.Fmt.{decimal};
 ghost use Rattle.std.specs.FinMap as map;
+ghost use Rattle.std.specs.Fmt.{decimal};
 ghost use Rattle.std.specs.List.{AllByRecursion, flat_map, list_all};
+ghost use Rattle.std.specs.Prelude.{◌≡◌, ◌+◌, ◌<◌, ◌≤◌, true, [], ◌∷◌, ◌++◌, IfOk, IfSome, OnOk};
 ghost use Rattle.wef_batch.specs.Numbers.{AreNumbered};
 ghost use Rattle.wef_batch.specs.Reach as reaches;
 ghost use Rattle.wef_batch.specs.WellFormed as formed;
-ghost use Rattle.wef_keeper.specs.Access as access;
-ghost use Rattle.wef_collector_rows.specs.Forms.{AreFormed, is_formed};
-ghost use Rattle.wef_collector_rows.specs.Judged.{IsFormedAt};
-ghost use Rattle.wef_collector_rows.specs.Keys as keys;
 ghost use Rattle.wef_collector.specs.Judged as judged;
 ghost use Rattle.wef_collector.specs.Keepable.{IsKeepable};
 ghost use Rattle.wef_collector.specs.Taken as spec;
+ghost use Rattle.wef_collector_rows.specs.Forms.{AreFormed, is_formed};
+ghost use Rattle.wef_collector_rows.specs.Judged.{IsFormedAt};
+ghost use Rattle.wef_collector_rows.specs.Keys as keys;
+ghost use Rattle.wef_keeper.specs.Access as access;
 
 use std::alloc::AllocError;
 use wef_base::moments::Moment;

@@ -2,14 +2,13 @@
 
 ghost use Rattle.std.specs.Prelude.{◌≡◌, ◌≤◌, ◌++◌, true, take, Some, Ok, Err, IfOk, IfErr, IsErr, IfSome, OnOk};
 ghost use Rattle.wef_batch.specs.Numbers.{AreNumbered};
-ghost use Rattle.wef_ids.specs.IdTexts.{id_of_value};
-ghost use Rattle.wef_ids.specs.Ids.{next_id, with_drawn};
-ghost use Rattle.wef_documents.specs.Kept.{read_kept};
-ghost use Rattle.wef_documents.specs.Written.{document_text};
-ghost use Rattle.wef_keeper.specs.Access.{From};
-ghost use Rattle.wef_keeper.specs.Calls.{IsCall, Looks};
-ghost use Rattle.wef_keeper.specs.declared.keeping.Plan.TheVariants.{Done, Fails};
-ghost use Rattle.wef_keeper.specs.Keeping.{is_armed};
+ghost use Rattle.wef_collector.specs.Boots.{ids_begun};
+ghost use Rattle.wef_collector.specs.Calls as calls;
+ghost use Rattle.wef_collector.specs.Judged as judged;
+ghost use Rattle.wef_collector.specs.Offers.{CanAllBeOffered, offers};
+ghost use Rattle.wef_collector_reports.specs.Judged.{is_report_formed};
+ghost use Rattle.wef_collector_reports.specs.Listing.{listed};
+ghost use Rattle.wef_collector_reports.specs.Report.{report};
 ghost use Rattle.wef_collector_rows.specs.Answers as answers;
 ghost use Rattle.wef_collector_rows.specs.Bookmarks.{bookmark_of, bookmark_rows};
 ghost use Rattle.wef_collector_rows.specs.Faults.{collector_store};
@@ -20,14 +19,15 @@ ghost use Rattle.wef_collector_rows.specs.Keys.{boot_key, subscription_key};
 ghost use Rattle.wef_collector_rows.specs.Standing as standings;
 ghost use Rattle.wef_collector_rows.specs.declared.faults.CollectorFault.TheVariants.{NoMemory};
 ghost use Rattle.wef_collector_rows.specs.declared.standings.Standing.TheVariants.{Live};
-ghost use Rattle.wef_collector_reports.specs.Judged.{is_report_formed};
-ghost use Rattle.wef_collector_reports.specs.Listing.{listed};
-ghost use Rattle.wef_collector_reports.specs.Report.{report};
-ghost use Rattle.wef_collector.specs.Boots.{ids_begun};
-ghost use Rattle.wef_collector.specs.Calls as calls;
-ghost use Rattle.wef_collector.specs.Judged as judged;
-ghost use Rattle.wef_collector.specs.Offers.{CanAllBeOffered, offers};
+ghost use Rattle.wef_documents.specs.Kept.{read_kept};
+ghost use Rattle.wef_documents.specs.Written.{document_text};
 ghost use Rattle.wef_eventing.specs.Addresses.{IsHost};
+ghost use Rattle.wef_ids.specs.IdTexts.{id_of_value};
+ghost use Rattle.wef_ids.specs.Ids.{next_id, with_drawn};
+ghost use Rattle.wef_keeper.specs.Access.{From};
+ghost use Rattle.wef_keeper.specs.Calls.{IsCall, Looks};
+ghost use Rattle.wef_keeper.specs.Keeping.{is_armed};
+ghost use Rattle.wef_keeper.specs.declared.keeping.Plan.TheVariants.{Done, Fails};
 
 use crate::reading::{bookmark_in, held_in, list_in, offers_in, report_in, state_in};
 use crate::requests::{Request, answer, raise_boot};
@@ -57,8 +57,8 @@ pub struct Collector<K> {
 }
 
 impl<K> Model for Collector<K> {
-    ghost use Rattle.std.specs.Prelude.{refl};
     ghost use Rattle.std.specs.Coded.{code_by, coded×};
+    ghost use Rattle.std.specs.Prelude.{refl};
     ghost use Rattle.wef_collector.specs.State.{CollectorState};
     ghost use Rattle.wef_ids.specs.contracts.ids.Ids as the_ids;
     ghost use Rattle.wef_ids.specs.declared.ids.Ids as drawn;

@@ -1,13 +1,12 @@
 //! What the collector's calls change, or why they are refused.
 
-ghost use Rattle.std.specs.Prelude.{◌≡◌, ◌≤◌, true, false, [], ◌∷◌, take, is_some, Some, Ok, IsErr, IfErr, IfOk, IfSome, OnOk};
 ghost use Rattle.std.specs.FinMap as map;
+ghost use Rattle.std.specs.Prelude.{◌≡◌, ◌≤◌, true, false, [], ◌∷◌, take, is_some, Some, Ok, IsErr, IfErr, IfOk, IfSome, OnOk};
 ghost use Rattle.wef_batch.specs.Numbers.{AreNumbered};
-ghost use Rattle.wef_documents.specs.Kept.{read_kept};
-ghost use Rattle.wef_documents.specs.Written.{document_text};
-ghost use Rattle.wef_keeper.specs.Access as access;
-ghost use Rattle.wef_keeper.specs.Calls.{Tells, TellsFault, fails};
-ghost use Rattle.wef_keeper.specs.Rows as the_rows;
+ghost use Rattle.wef_collector.specs.Boots.{boot_of, ids_begun};
+ghost use Rattle.wef_collector.specs.Calls as calls;
+ghost use Rattle.wef_collector.specs.Judged as judged;
+ghost use Rattle.wef_collector.specs.Taken as taken;
 ghost use Rattle.wef_collector_rows.specs.Answers as answers;
 ghost use Rattle.wef_collector_rows.specs.Faults.{collector_store};
 ghost use Rattle.wef_collector_rows.specs.Forms.{AreFormed, is_formed};
@@ -15,10 +14,11 @@ ghost use Rattle.wef_collector_rows.specs.Judged.{AreAllFormed, IsFormedAt};
 ghost use Rattle.wef_collector_rows.specs.Keys as keys;
 ghost use Rattle.wef_collector_rows.specs.Standing as standings;
 ghost use Rattle.wef_collector_rows.specs.declared.standings.Standing.TheVariants.{Live};
-ghost use Rattle.wef_collector.specs.Boots.{boot_of, ids_begun};
-ghost use Rattle.wef_collector.specs.Calls as calls;
-ghost use Rattle.wef_collector.specs.Judged as judged;
-ghost use Rattle.wef_collector.specs.Taken as taken;
+ghost use Rattle.wef_documents.specs.Kept.{read_kept};
+ghost use Rattle.wef_documents.specs.Written.{document_text};
+ghost use Rattle.wef_keeper.specs.Access as access;
+ghost use Rattle.wef_keeper.specs.Calls.{Tells, TellsFault, fails};
+ghost use Rattle.wef_keeper.specs.Rows as the_rows;
 
 use crate::changes::{batch_changes, push_put};
 use std::alloc::{AllocError, Global};

@@ -1,17 +1,17 @@
 //! The offers to sources that ask for their subscriptions.
 
-ghost use Rattle.std.specs.Prelude.{◌≡◌, [], ◌∷◌, ◌++◌, true, IfOk, IfSome, OnOk};
 ghost use Rattle.std.specs.List.{All, filter_map, list_all};
-ghost use Rattle.wef_eventing.specs.Addresses.{IsHost};
-ghost use Rattle.wef_eventing.specs.Sending.{AreXmlQueries, CanBeOffered};
-ghost use Rattle.wef_xml.specs.Good.{IsXmlText};
-ghost use Rattle.wef_keeper.specs.Access as access;
+ghost use Rattle.std.specs.Prelude.{◌≡◌, [], ◌∷◌, ◌++◌, true, IfOk, IfSome, OnOk};
+ghost use Rattle.wef_collector.specs.Judged as judged;
+ghost use Rattle.wef_collector.specs.Offers as spec;
 ghost use Rattle.wef_collector_reports.specs.Listing.{IsXmlListed};
 ghost use Rattle.wef_collector_rows.specs.Bookmarks.{bookmark_rows};
 ghost use Rattle.wef_collector_rows.specs.Forms.{AreFormed};
 ghost use Rattle.wef_collector_rows.specs.Judged.{AreAllFormed};
-ghost use Rattle.wef_collector.specs.Judged as judged;
-ghost use Rattle.wef_collector.specs.Offers as spec;
+ghost use Rattle.wef_eventing.specs.Addresses.{IsHost};
+ghost use Rattle.wef_eventing.specs.Sending.{AreXmlQueries, CanBeOffered};
+ghost use Rattle.wef_keeper.specs.Access as access;
+ghost use Rattle.wef_xml.specs.Good.{IsXmlText};
 
 use std::alloc::{AllocError, Global};
 use wef_base::{List, SourceName, SubId, Text};

@@ -1,7 +1,12 @@
 //! The calls that only read: each opens the store, and tests each row that it reads.
 
 ghost use Rattle.std.specs.Prelude.{◌≡◌, ◌≤◌, ◌++◌, true, take, IfOk, IfErr, IfSome, OnOk};
-ghost use Rattle.wef_keeper.specs.Calls.{IsCall, Looks};
+ghost use Rattle.wef_collector.specs.Calls.{no_effect};
+ghost use Rattle.wef_collector.specs.Judged as judged;
+ghost use Rattle.wef_collector.specs.Offers.{CanAllBeOffered, offers};
+ghost use Rattle.wef_collector_reports.specs.Judged.{is_report_formed};
+ghost use Rattle.wef_collector_reports.specs.Listing.{listed};
+ghost use Rattle.wef_collector_reports.specs.Report.{report};
 ghost use Rattle.wef_collector_rows.specs.Answers as answers;
 ghost use Rattle.wef_collector_rows.specs.Bookmarks.{bookmark_of, bookmark_rows};
 ghost use Rattle.wef_collector_rows.specs.Faults.{collector_store};
@@ -11,13 +16,8 @@ ghost use Rattle.wef_collector_rows.specs.Judged.{AreAllFormed, IsFormedAt};
 ghost use Rattle.wef_collector_rows.specs.Keys.{subscription_key};
 ghost use Rattle.wef_collector_rows.specs.Standing as standings;
 ghost use Rattle.wef_collector_rows.specs.declared.standings.Standing.TheVariants.{Live};
-ghost use Rattle.wef_collector_reports.specs.Judged.{is_report_formed};
-ghost use Rattle.wef_collector_reports.specs.Listing.{listed};
-ghost use Rattle.wef_collector_reports.specs.Report.{report};
-ghost use Rattle.wef_collector.specs.Calls.{no_effect};
-ghost use Rattle.wef_collector.specs.Judged as judged;
-ghost use Rattle.wef_collector.specs.Offers.{CanAllBeOffered, offers};
 ghost use Rattle.wef_eventing.specs.Addresses.{IsHost};
+ghost use Rattle.wef_keeper.specs.Calls.{IsCall, Looks};
 
 use crate::offering::offers_to;
 use std::alloc::Global;

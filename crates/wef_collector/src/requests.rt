@@ -1,15 +1,15 @@
 //! The calls that change what is kept: each opens the store, reads, and makes at most one commit.
 
 ghost use Rattle.std.specs.Prelude.{IfErr, IfOk, IfSome, OnOk, Ok, Err};
-ghost use Rattle.wef_keeper.specs.Access as access;
-ghost use Rattle.wef_keeper.specs.Calls.{IsCall, Tells, fails};
+ghost use Rattle.wef_collector.specs.Boots.{ids_begun};
+ghost use Rattle.wef_collector.specs.Calls as calls;
+ghost use Rattle.wef_collector.specs.Requests as spec;
 ghost use Rattle.wef_collector_rows.specs.Faults.{collector_store};
 ghost use Rattle.wef_collector_rows.specs.Forms.{AreFormed};
 ghost use Rattle.wef_collector_rows.specs.Judged.{IsFormedAt};
 ghost use Rattle.wef_collector_rows.specs.Keys.{boot_key};
-ghost use Rattle.wef_collector.specs.Boots.{ids_begun};
-ghost use Rattle.wef_collector.specs.Calls as calls;
-ghost use Rattle.wef_collector.specs.Requests as spec;
+ghost use Rattle.wef_keeper.specs.Access as access;
+ghost use Rattle.wef_keeper.specs.Calls.{IsCall, Tells, fails};
 
 use crate::effects::{add_changes, boot_changes, end_changes, take_changes, unread_changes};
 use std::alloc::Global;

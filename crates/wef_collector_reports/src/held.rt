@@ -1,12 +1,12 @@
 //! The events that are held.
 
-ghost use Rattle.std.specs.Prelude.{◌≡◌, ◌≤◌, [], ◌∷◌, ◌++◌, true, false, map, take, IfOk, IfSome, OnOk};
 ghost use Rattle.std.specs.List.{list_all};
-ghost use Rattle.wef_keeper.specs.Access as access;
+ghost use Rattle.std.specs.Prelude.{◌≡◌, ◌≤◌, [], ◌∷◌, ◌++◌, true, false, map, take, IfOk, IfSome, OnOk};
 ghost use Rattle.wef_collector_rows.specs.Forms.{AreFormed, is_held_row};
 ghost use Rattle.wef_collector_rows.specs.Held as spec;
 ghost use Rattle.wef_collector_rows.specs.Judged.{AreAllFormed};
 ghost use Rattle.wef_collector_rows.specs.Keys as keys;
+ghost use Rattle.wef_keeper.specs.Access as access;
 
 use std::alloc::{AllocError, Global};
 use wef_base::{ChannelName, List, SourceName, SubId};

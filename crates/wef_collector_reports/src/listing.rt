@@ -1,12 +1,12 @@
 //! The subscriptions that are kept, one after the other.
 
-ghost use Rattle.std.specs.Prelude.{◌≡◌, [], ◌∷◌, ◌++◌, IfOk, IfSome, OnOk};
 ghost use Rattle.std.specs.List.{filter_map};
-ghost use Rattle.wef_keeper.specs.Access as access;
-ghost use Rattle.wef_collector_rows.specs.Forms.{AreFormed};
+ghost use Rattle.std.specs.Prelude.{◌≡◌, [], ◌∷◌, ◌++◌, IfOk, IfSome, OnOk};
 ghost use Rattle.wef_collector_reports.specs.Listing as spec;
+ghost use Rattle.wef_collector_rows.specs.Forms.{AreFormed};
 ghost use Rattle.wef_collector_rows.specs.Judged.{AreAllFormed};
 ghost use Rattle.wef_collector_rows.specs.Standing as standings;
+ghost use Rattle.wef_keeper.specs.Access as access;
 
 use std::alloc::{AllocError, Global};
 use wef_base::{List, SubId, ValueFault};

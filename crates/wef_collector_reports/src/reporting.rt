@@ -1,17 +1,17 @@
 //! The report of all that is kept, as text.
 
-ghost use Rattle.std.specs.Prelude.{◌≡◌, [], ◌++◌, true, List, map, IfOk, IfSome, OnOk};
 ghost use Rattle.std.specs.List.{flat_map, list_all};
-ghost use Rattle.wef_keeper.specs.Access as access;
-ghost use Rattle.wef_keeper.specs.Sections.{rows_under};
-ghost use Rattle.wef_query.specs.Order.{with_names};
+ghost use Rattle.std.specs.Prelude.{◌≡◌, [], ◌++◌, true, List, map, IfOk, IfSome, OnOk};
+ghost use Rattle.wef_collector_reports.specs.Judged as judged;
+ghost use Rattle.wef_collector_reports.specs.Report as spec;
+ghost use Rattle.wef_collector_reports.specs.Runs.{runs_from, runs_of, runs_text};
 ghost use Rattle.wef_collector_rows.specs.Forms.{AreFormed};
 ghost use Rattle.wef_collector_rows.specs.Held as held;
 ghost use Rattle.wef_collector_rows.specs.Judged.{AreAllFormed};
-ghost use Rattle.wef_collector_reports.specs.Runs.{runs_from, runs_of, runs_text};
-ghost use Rattle.wef_collector_reports.specs.Judged as judged;
-ghost use Rattle.wef_collector_reports.specs.Report as spec;
+ghost use Rattle.wef_keeper.specs.Access as access;
+ghost use Rattle.wef_keeper.specs.Sections.{rows_under};
 ghost use Rattle.wef_keeper.specs.declared.keys.Row as the_row;
+ghost use Rattle.wef_query.specs.Order.{with_names};
 
 use crate::listing::subscription_rows;
 use crate::runs::{RunWriter, Span};

@@ -1,13 +1,13 @@
 //! The kept bookmark of a subscription and a source.
 
-ghost use Rattle.std.specs.Prelude.{◌≡◌, [], ◌∷◌, true, false, IfOk, IfSome, OnOk};
 ghost use Rattle.std.specs.FinMap as map;
 ghost use Rattle.std.specs.List.{filter, list_all};
-ghost use Rattle.wef_keeper.specs.Access as access;
+ghost use Rattle.std.specs.Prelude.{◌≡◌, [], ◌∷◌, true, false, IfOk, IfSome, OnOk};
 ghost use Rattle.wef_collector_rows.specs.Bookmarks as spec;
 ghost use Rattle.wef_collector_rows.specs.Forms.{AreFormed, is_bookmark_row};
 ghost use Rattle.wef_collector_rows.specs.Judged.{AreAllFormed, IsFormedAt};
 ghost use Rattle.wef_collector_rows.specs.Keys as keys;
+ghost use Rattle.wef_keeper.specs.Access as access;
 
 use crate::forms::{CollectorForm, bookmark_channel};
 use crate::keys::{bookmark_key, bookmarks_start};

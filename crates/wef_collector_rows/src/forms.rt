@@ -1,10 +1,10 @@
 //! The form of the collector's rows, by their kind.
 
 ghost use Rattle.std.specs.Prelude.{◌≡◌, ◌≤◌, true, is_some, Some, IfOk, IfSome};
-ghost use Rattle.wef_documents.specs.Kept as kept;
 ghost use Rattle.wef_collector_rows.specs.Bookmarks.{has_channel};
 ghost use Rattle.wef_collector_rows.specs.Forms as spec;
 ghost use Rattle.wef_collector_rows.specs.Held.{own_event};
+ghost use Rattle.wef_documents.specs.Kept as kept;
 
 use crate::keys::{BOOKMARK, BOOT, HEARD, HELD, LOOSE, MARK, SUBSCRIPTION};
 use std::alloc::AllocError;

@@ -1,10 +1,10 @@
 //! The number that stands at a key.
 
 ghost use Rattle.std.specs.Prelude.{◌≡◌, IfOk, IfSome, OnOk};
-ghost use Rattle.wef_keeper.specs.Access as access;
 ghost use Rattle.wef_collector_rows.specs.Forms.{AreFormed};
 ghost use Rattle.wef_collector_rows.specs.Judged.{IsFormedAt};
 ghost use Rattle.wef_collector_rows.specs.Numbers as spec;
+ghost use Rattle.wef_keeper.specs.Access as access;
 
 use crate::forms::CollectorForm;
 use wef_keeper::forms::formed_cell;

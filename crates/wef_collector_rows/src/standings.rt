@@ -1,16 +1,16 @@
 //! What the rows know of a subscription.
 
-ghost use Rattle.std.specs.Prelude.{◌≡◌, true, false, IfErr, IfOk, IfSome, OnOk};
 ghost use Rattle.std.specs.FinMap as map;
-ghost use Rattle.wef_documents.specs.Kept.{read_kept};
-ghost use Rattle.wef_keeper.specs.Access as access;
-ghost use Rattle.wef_keeper.specs.Calls.{fails};
+ghost use Rattle.std.specs.Prelude.{◌≡◌, true, false, IfErr, IfOk, IfSome, OnOk};
 ghost use Rattle.wef_collector_rows.specs.Answers as answers;
 ghost use Rattle.wef_collector_rows.specs.Faults.{collector_store};
 ghost use Rattle.wef_collector_rows.specs.Forms.{AreFormed, is_subscription_row};
 ghost use Rattle.wef_collector_rows.specs.Judged.{IsFormedAt};
 ghost use Rattle.wef_collector_rows.specs.Keys.{subscription_key};
 ghost use Rattle.wef_collector_rows.specs.Standing as spec;
+ghost use Rattle.wef_documents.specs.Kept.{read_kept};
+ghost use Rattle.wef_keeper.specs.Access as access;
+ghost use Rattle.wef_keeper.specs.Calls.{fails};
 
 use crate::faults::CollectorFault;
 use crate::forms::{CollectorForm, kept_subscription};

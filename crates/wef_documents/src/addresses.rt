@@ -1,7 +1,7 @@
 //! Addresses of sources.
 
-ghost use Rattle.std.specs.Prelude.{◌≡◌, encode_utf8_all, IfOk};
 ghost use Rattle.std.specs.List.{list_all, list_any};
+ghost use Rattle.std.specs.Prelude.{◌≡◌, encode_utf8_all, IfOk};
 ghost use Rattle.wef_base.specs.Numbers.{is_digit, is_numeral};
 ghost use Rattle.wef_documents.specs.Addresses.{before_last, behind_last, has_port, is_colon, machine_of, source_of, with_port};
 

@@ -1,10 +1,10 @@
 //! The parts of a document by their names.
 
-ghost use Rattle.std.specs.Prelude.{◌≡◌, option_copied, IfOk};
 ghost use Rattle.std.specs.Option.{option_map};
+ghost use Rattle.std.specs.Prelude.{◌≡◌, option_copied, IfOk};
+ghost use Rattle.wef_documents.specs.Values.{attribute, child, inside, space};
 ghost use Rattle.wef_elements.specs.Children.{is_called};
 ghost use Rattle.wef_elements.specs.Texts.{text_inside};
-ghost use Rattle.wef_documents.specs.Values.{attribute, child, inside, space};
 
 use std::alloc::AllocError;
 use wef_base::{Element, Text};

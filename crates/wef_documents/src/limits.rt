@@ -1,14 +1,14 @@
 //! What the parts of a document say that are words and numbers.
 
-ghost use Rattle.std.specs.Prelude.{◌≡◌, ◌≤◌, option_copied, IfOk, IfSome};
 ghost use Rattle.std.specs.Option.{option_and_then};
+ghost use Rattle.std.specs.Prelude.{◌≡◌, ◌≤◌, option_copied, IfOk, IfSome};
 ghost use Rattle.wef_base.specs.Names.{subscription_name};
-ghost use Rattle.wef_elements.specs.Texts.{said_in};
-ghost use Rattle.wef_elements.specs.Values.{number_said};
-ghost use Rattle.wef_documents.specs.declared.faults.DocumentFault.TheVariants.{BadDocument};
 ghost use Rattle.wef_documents.specs.Steps.{Reads};
 ghost use Rattle.wef_documents.specs.Steps as steps;
 ghost use Rattle.wef_documents.specs.Values.{between, bytes_in, expires_in, heartbeat_in, is_enabled, is_pushed, items_in, kind_in, kind_said, limits_in, name_in, number_in, version_in};
+ghost use Rattle.wef_documents.specs.declared.faults.DocumentFault.TheVariants.{BadDocument};
+ghost use Rattle.wef_elements.specs.Texts.{said_in};
+ghost use Rattle.wef_elements.specs.Values.{number_said};
 
 use crate::children::{attribute, child, inside, text_of};
 use crate::faults::{DocumentFault, Part};

@@ -1,11 +1,11 @@
 //! What the types of a subscription's names keep.
 
-ghost use Rattle.std.specs.Prelude.{◌≡◌, Some};
 ghost use Rattle.std.specs.List.{AllByRecursion};
+ghost use Rattle.std.specs.Prelude.{◌≡◌, Some};
 ghost use Rattle.std.specs.Str.{IsUtf8};
 ghost use Rattle.wef_base.specs.Names.{subscription_name};
-ghost use Rattle.wef_eventing.specs.Kept.{HasKeptName};
 ghost use Rattle.wef_documents.specs.Laws.{HasKeptNames};
+ghost use Rattle.wef_eventing.specs.Kept.{HasKeptName};
 
 use wef_base::SubId;
 use wef_eventing::Subscription;

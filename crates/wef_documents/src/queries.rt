@@ -1,9 +1,9 @@
 //! The queries of a document.
 
 ghost use Rattle.wef_base.specs.declared.tree.Charset.TheVariants.{Utf8};
-ghost use Rattle.wef_tree_reading.specs.Documents.{tree_of};
 ghost use Rattle.wef_documents.specs.Reading.{queries_at, queries_in, queries_of, queries_said};
 ghost use Rattle.wef_documents.specs.Steps.{Reads};
+ghost use Rattle.wef_tree_reading.specs.Documents.{tree_of};
 
 use crate::children::child;
 use crate::faults::{DocumentFault, Part};

@@ -1,11 +1,11 @@
 //! Reading subscription documents.
 
 ghost use Rattle.std.specs.Prelude.{◌≡◌, ◌∷◌, [], IfOk};
-ghost use Rattle.wef_xml.specs.Good.{IsGoodTree};
 ghost use Rattle.wef_documents.specs.Bytes.{Finds, ReadsDocument, charset_of, document_in, fault_of, has_wide_mark};
 ghost use Rattle.wef_documents.specs.Laws.{HasXmlTexts, IsPlain};
 ghost use Rattle.wef_documents.specs.Reading.{subscription_in, subscription_of};
 ghost use Rattle.wef_documents.specs.Steps.{Reads};
+ghost use Rattle.wef_xml.specs.Good.{IsGoodTree};
 
 use crate::children::is_part;
 use crate::faults::{DocumentFault, Part};

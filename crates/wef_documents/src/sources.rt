@@ -3,10 +3,10 @@
 ghost use Rattle.std.specs.BTreeSet.{contains};
 ghost use Rattle.std.specs.Ordering.{eq_by_cmp};
 ghost use Rattle.std.specs.Prelude.{◌≡◌, ℕ, List, [], true, not, option_copied, IfOk, OnOk, if◌then◌else◌};
-ghost use Rattle.wef_elements.specs.Children.{elements_in};
 ghost use Rattle.wef_documents.specs.Names.{HasNamesOf, name_cmp};
 ghost use Rattle.wef_documents.specs.Sources.{address_at, some_source, sources_from, sources_in, sources_of, with_address, with_source};
 ghost use Rattle.wef_documents.specs.Steps.{Reads, Takes};
+ghost use Rattle.wef_elements.specs.Children.{elements_in};
 
 use crate::addresses::source_of;
 use crate::children::{child, is_part};

@@ -1,14 +1,14 @@
 //! Writing subscription documents.
 
 ghost use Rattle.std.specs.Prelude.{◌≡◌, ◌++◌, ◌∷◌, [], Some, map, IfOk, OnOk};
-ghost use Rattle.wef_eventing.specs.declared.subscriptions.SubKind.TheVariants.{ByCollector};
-ghost use Rattle.wef_xml.specs.Canonical.{canonical, encoded};
-ghost use Rattle.wef_xml.specs.Good.{IsGoodTree};
+ghost use Rattle.wef_base.specs.declared.tree.Charset.TheVariants.{Utf8};
 ghost use Rattle.wef_documents.specs.Bytes.{document_in};
 ghost use Rattle.wef_documents.specs.Laws.{HasKeptNames, HasXmlTexts, IsPlain};
 ghost use Rattle.wef_documents.specs.Values.{space};
 ghost use Rattle.wef_documents.specs.Written.{batching_element, delivery_element, document_element, document_parts, document_text, heartbeat_element, holder, kind_text, last_parts, leaf, plain, push_element, queries_element, source_element, source_parts};
-ghost use Rattle.wef_base.specs.declared.tree.Charset.TheVariants.{Utf8};
+ghost use Rattle.wef_eventing.specs.declared.subscriptions.SubKind.TheVariants.{ByCollector};
+ghost use Rattle.wef_xml.specs.Canonical.{canonical, encoded};
+ghost use Rattle.wef_xml.specs.Good.{IsGoodTree};
 
 use crate::children::SPACE;
 use crate::names::names_are_kept;

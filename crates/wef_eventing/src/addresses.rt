@@ -1,12 +1,12 @@
 //! The addresses that batches go to: `http://HOST/wsman/subscriptions/U/S`.
 
-ghost use Rattle.std.specs.Prelude.{◌≡◌, ◌++◌, Some, IfOk, OnOk};
 ghost use Rattle.std.specs.Option.{option_and_then, option_copied};
+ghost use Rattle.std.specs.Prelude.{◌≡◌, ◌++◌, Some, IfOk, OnOk};
 ghost use Rattle.std.specs.Str.{IsUtf8};
 ghost use Rattle.wef_base.specs.Words.{decoded, parts};
-ghost use Rattle.wef_xml.specs.Good.{IsXmlText};
 ghost use Rattle.wef_eventing.specs.Addresses.{AddressesReadBack, AreNames, IsHost, last_piece, piece_before_last, segment};
 ghost use Rattle.wef_eventing.specs.Addresses as spec;
+ghost use Rattle.wef_xml.specs.Good.{IsXmlText};
 
 use percent_encoding::{AsciiSet, NON_ALPHANUMERIC, ascii_set, utf8_percent_encode};
 use std::alloc::{AllocError, Global};

@@ -1,7 +1,7 @@
 //! Which texts are addresses of HTTP, and which of these lead to a subscription.
 
-ghost use Rattle.std.specs.Prelude.{◌≡◌, length, take, drop, Some, None, option_copied, IfOk, if◌then◌else◌};
 ghost use Rattle.std.specs.List.{list_all, list_any};
+ghost use Rattle.std.specs.Prelude.{◌≡◌, length, take, drop, Some, None, option_copied, IfOk, if◌then◌else◌};
 ghost use Rattle.wef_base.specs.Names.{same};
 ghost use Rattle.wef_eventing.specs.Addresses.{behind_slash, has_path, has_segments, is_address, is_delivery, is_printed, is_slash, scheme};
 

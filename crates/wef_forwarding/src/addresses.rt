@@ -1,7 +1,7 @@
 //! The parts of an address of HTTP, `http://AUTHORITY/PATH`.
 
-ghost use Rattle.std.specs.Prelude.{◌≡◌, IfOk};
 ghost use Rattle.std.specs.List.{after_first, before_first};
+ghost use Rattle.std.specs.Prelude.{◌≡◌, IfOk};
 ghost use Rattle.wef_eventing.specs.Addresses.{is_slash};
 ghost use Rattle.wef_forwarding.specs.Addresses as spec;
 

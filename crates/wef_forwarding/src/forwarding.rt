@@ -1,12 +1,12 @@
 //! A session's next batch, forwarded.
 
 ghost use Rattle.std.specs.Prelude.{◌≡◌, ◌≤◌, false, IfOk};
-ghost use Rattle.wef_keeper.specs.Access.{OpensAndReads};
-ghost use Rattle.wef_keeper.specs.Calls.{fails};
 ghost use Rattle.wef_forwarding.specs.Exchanges.{Replied, answer_to, request_of};
 ghost use Rattle.wef_forwarding.specs.Forwarding.{Forwards, IsAwaited, IsDelivered, Settles, answered_in, count_of, outcome_of, refusal_of};
 ghost use Rattle.wef_front.specs.HeardReplies.{told};
 ghost use Rattle.wef_front.specs.Sending.{CanBeWritten};
+ghost use Rattle.wef_keeper.specs.Access.{OpensAndReads};
+ghost use Rattle.wef_keeper.specs.Calls.{fails};
 ghost use Rattle.wef_source.specs.Answers.{may_send};
 ghost use Rattle.wef_source.specs.Faults.{source_store};
 ghost use Rattle.wef_source.specs.Machine.{lost_in};

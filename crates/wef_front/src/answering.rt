@@ -1,18 +1,18 @@
 //! The collector's answers to messages as bytes.
 
-ghost use Rattle.std.specs.Prelude.{◌≡◌, ◌⊎◌, suc, true, length, option_copied, IfErr, IfOk, IfSome, OnErr, OnOk};
 ghost use Rattle.std.specs.List.{All, AllByRecursion};
+ghost use Rattle.std.specs.Prelude.{◌≡◌, ◌⊎◌, suc, true, length, option_copied, IfErr, IfOk, IfSome, OnErr, OnOk};
 ghost use Rattle.wef_bodies.specs.Laws.{IsXmlId};
-ghost use Rattle.wef_eventing.specs.Addresses.{IsHost};
-ghost use Rattle.wef_eventing.specs.Sending.{CanBeOffered};
 ghost use Rattle.wef_collector.specs.Offers.{CanAllBeOffered};
-ghost use Rattle.wef_front.specs.declared.saying.Said.TheVariants.{Offers};
 ghost use Rattle.wef_envelope.specs.Faults.{is_known};
 ghost use Rattle.wef_envelope.specs.Laws.{IsSpelt};
 ghost use Rattle.wef_envelope.specs.Written.{written};
+ghost use Rattle.wef_eventing.specs.Addresses.{IsHost};
+ghost use Rattle.wef_eventing.specs.Sending.{CanBeOffered};
 ghost use Rattle.wef_front.specs.Heard.{Hears, IsSound};
 ghost use Rattle.wef_front.specs.Replies.{IsAnswer, IsUnanswered, IsSpeltFor, MayHaveDrawn, ack_envelope, answer_of, answer_with, drawn_ids, draws_for, envelope_with, fault_envelope, ids_after, ids_behind, offers_envelope};
 ghost use Rattle.wef_front.specs.Steps.{IsKnownSaid};
+ghost use Rattle.wef_front.specs.declared.saying.Said.TheVariants.{Offers};
 ghost use Rattle.wef_ids.specs.IdTexts.{id_of_value};
 ghost use Rattle.wef_ids.specs.Ids.{next_id, with_drawn};
 ghost use Rattle.wef_xml.specs.Good.{IsGoodTree, IsXmlText};

@@ -1,14 +1,14 @@
 //! What a message asks of the collector.
 
-ghost use Rattle.std.specs.Prelude.{◌≡◌, option_copied, IfOk};
 ghost use Rattle.std.specs.Option.{option_and_then};
+ghost use Rattle.std.specs.Prelude.{◌≡◌, option_copied, IfOk};
 ghost use Rattle.wef_base.specs.Names.{source_name, subscription_name};
 ghost use Rattle.wef_batch.specs.Numbers.{AreNumbered};
 ghost use Rattle.wef_batch.specs.Reading.{AreGoodTrees, AreToldTrees, Reads};
 ghost use Rattle.wef_envelope.specs.Envelopes.{said};
+ghost use Rattle.wef_front.specs.Heard.{Hears, IsSound, IsSoundAsk, asked_by, asked_of, batch_in, delivery_asked, enumerate_asked, events_asked, heard_in, is_elsewhere, is_nameless, manager_asked, unheard};
 ghost use Rattle.wef_xml.specs.Good.{IsGoodTree};
 ghost use Rattle.wef_xml.specs.Told.{IsTold};
-ghost use Rattle.wef_front.specs.Heard.{Hears, IsSound, IsSoundAsk, asked_by, asked_of, batch_in, delivery_asked, enumerate_asked, events_asked, heard_in, is_elsewhere, is_nameless, manager_asked, unheard};
 
 use std::alloc::{AllocError, Global};
 use wef_base::{Charset, Element, SourceName, SubId, Text, ValueFault};

@@ -6,8 +6,8 @@ ghost use Rattle.wef_batch.specs.Reading.{AreGoodTrees};
 ghost use Rattle.wef_bodies.specs.Offers.{offers_in};
 ghost use Rattle.wef_envelope.specs.Envelopes.{said};
 ghost use Rattle.wef_eventing.specs.Sending.{AreServable};
-ghost use Rattle.wef_xml.specs.Good.{IsGoodTree};
 ghost use Rattle.wef_front.specs.HeardReplies.{HearsOffers, HearsReply, HearsTold, fault_among, fault_of, offers_told, offers_told_by, offers_told_in, related, reply_in, told, told_by, told_in};
+ghost use Rattle.wef_xml.specs.Good.{IsGoodTree};
 
 use std::alloc::{AllocError, Global};
 use wef_base::moments::Moment;

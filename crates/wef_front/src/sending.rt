@@ -1,17 +1,17 @@
 //! The bytes of what a source sends: its wish for subscriptions, and its deliveries.
 
-ghost use Rattle.std.specs.Prelude.{◌≡◌, true, option_copied, Some, IfOk};
 ghost use Rattle.std.specs.List.{AllByRecursion};
+ghost use Rattle.std.specs.Prelude.{◌≡◌, true, option_copied, Some, IfOk};
 ghost use Rattle.std.specs.Str.{IsUtf8, is_utf8};
 ghost use Rattle.wef_base.specs.Names.{channel_name, source_name};
 ghost use Rattle.wef_base.specs.declared.tree.Charset.TheVariants.{Utf8};
 ghost use Rattle.wef_batch.specs.Laws.{IsKept};
-ghost use Rattle.wef_event.specs.Events.{HasTree};
 ghost use Rattle.wef_envelope.specs.Written.{written};
+ghost use Rattle.wef_event.specs.Events.{HasTree};
 ghost use Rattle.wef_eventing.specs.Addresses.{IsHost};
+ghost use Rattle.wef_front.specs.Sending.{CanBeWritten, delivery_bytes, delivery_envelope, enumerate_bytes, enumerate_envelope, manager_address};
 ghost use Rattle.wef_xml.specs.Canonical.{canonical, encoded};
 ghost use Rattle.wef_xml.specs.Good.{IsGoodTree, IsXmlText};
-ghost use Rattle.wef_front.specs.Sending.{CanBeWritten, delivery_bytes, delivery_envelope, enumerate_bytes, enumerate_envelope, manager_address};
 
 use std::alloc::{AllocError, Global};
 use wef_base::{Bytes, ChannelName, Charset, SourceName, Text};

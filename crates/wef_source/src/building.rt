@@ -1,18 +1,18 @@
 //! The batch that a session sends.
 
-ghost use Rattle.std.specs.Prelude.{◌≡◌, ◌≤◌, true, IfOk, IfErr, IfSome, OnOk};
 ghost use Rattle.std.specs.FinMap as map;
 ghost use Rattle.std.specs.Option.{option_to_list};
+ghost use Rattle.std.specs.Prelude.{◌≡◌, ◌≤◌, true, IfOk, IfErr, IfSome, OnOk};
 ghost use Rattle.wef_batch.specs.Numbers.{AreNumbered, IsNumbered};
 ghost use Rattle.wef_keeper.specs.Access as access;
 ghost use Rattle.wef_keeper.specs.Calls.{fails};
-ghost use Rattle.wef_source_log.specs.Forms.{AreFormed};
 ghost use Rattle.wef_source.specs.Answers.{RefusesRead, WantsMemory};
-ghost use Rattle.wef_source.specs.Faults.{source_store};
 ghost use Rattle.wef_source.specs.Building as spec;
 ghost use Rattle.wef_source.specs.Drafting as drafting;
+ghost use Rattle.wef_source.specs.Faults.{source_store};
 ghost use Rattle.wef_source.specs.Judged.{JudgesBatch, JudgesChannels};
 ghost use Rattle.wef_source.specs.Serving.{HasAll, HasEach, CanBeServed};
+ghost use Rattle.wef_source_log.specs.Forms.{AreFormed};
 
 use crate::drafting::{Draft, room_of};
 use crate::faults::SourceFault;

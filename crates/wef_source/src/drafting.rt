@@ -1,17 +1,17 @@
 //! Drafts of batches: candidates are offered one after the other, and taken while they fit.
 
-ghost use Rattle.std.specs.Prelude.{◌≡◌, ◌+◌, ◌∷◌, [], min, is_some, Some, None, IfErr, IfOk, IfSome, OnOk};
 ghost use Rattle.std.specs.List.{filter_map};
+ghost use Rattle.std.specs.Prelude.{◌≡◌, ◌+◌, ◌∷◌, [], min, is_some, Some, None, IfErr, IfOk, IfSome, OnOk};
 ghost use Rattle.wef_batch.specs.Numbers.{IsNumbered};
 ghost use Rattle.wef_keeper.specs.Access as access;
 ghost use Rattle.wef_keeper.specs.Calls.{fails};
-ghost use Rattle.wef_source_log.specs.Forms.{AreFormed};
 ghost use Rattle.wef_source.specs.Answers.{RefusesRead};
-ghost use Rattle.wef_source.specs.Faults.{source_store};
 ghost use Rattle.wef_source.specs.Building as building;
 ghost use Rattle.wef_source.specs.Drafting as spec;
+ghost use Rattle.wef_source.specs.Faults.{source_store};
 ghost use Rattle.wef_source.specs.Judged as judged;
 ghost use Rattle.wef_source.specs.Selecting.{is_wanted};
+ghost use Rattle.wef_source_log.specs.Forms.{AreFormed};
 ghost use Rattle.wef_source_log.specs.Judged.{JudgesFirst};
 ghost use Rattle.wef_source_log.specs.Windows as windows;
 ghost use Rattle.wef_source_log.specs.Windows.{records_after};

@@ -8,7 +8,6 @@ ghost use Rattle.wef_ids.specs.Ids.{ids_agree};
 ghost use Rattle.wef_keeper.specs.Access as access;
 ghost use Rattle.wef_keeper.specs.Calls.{Looks, fails};
 ghost use Rattle.wef_query.specs.Order.{IsInOrder};
-ghost use Rattle.wef_source_log.specs.Forms.{AreFormed};
 ghost use Rattle.wef_source.specs.Answers as answers;
 ghost use Rattle.wef_source.specs.Faults.{source_store};
 ghost use Rattle.wef_source.specs.Judged.{JudgesBatch, JudgesPoll};
@@ -16,6 +15,7 @@ ghost use Rattle.wef_source.specs.Machine as machine;
 ghost use Rattle.wef_source.specs.Prepared.{MayDraw, MayRefuseToPrepare, Prepares, RefusesToPrepare};
 ghost use Rattle.wef_source.specs.Serving.{CanBeServed, HasKeptSessions};
 ghost use Rattle.wef_source.specs.Sessions as the_sessions;
+ghost use Rattle.wef_source_log.specs.Forms.{AreFormed};
 
 use crate::adopting::sessions_of;
 use crate::building::built;
@@ -49,8 +49,8 @@ pub struct Memory {
 }
 
 impl Model for Memory {
-    ghost use Rattle.std.specs.Prelude.{ℕ, List, Option, refl};
     ghost use Rattle.std.specs.Coded.{code_by, coded_ℕ, coded_list, coded_option, coded×};
+    ghost use Rattle.std.specs.Prelude.{ℕ, List, Option, refl};
     ghost use Rattle.wef_source.specs.Machine.{End};
     ghost use Rattle.wef_source.specs.Serving.{HasKeptSessions};
     ghost use Rattle.wef_source.specs.contracts.sessions.Session as session;

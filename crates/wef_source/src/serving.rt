@@ -1,10 +1,10 @@
 //! What becomes of sessions.
 
-ghost use Rattle.std.specs.Prelude.{◌≡◌, false, is_some, if◌then◌else◌};
 ghost use Rattle.std.specs.List.{position};
+ghost use Rattle.std.specs.Prelude.{◌≡◌, false, is_some, if◌then◌else◌};
 ghost use Rattle.wef_bookmark.specs.Order.{joined};
-ghost use Rattle.wef_source.specs.Serving.{AreKept, HasAll, CanBeServed};
 ghost use Rattle.wef_source.specs.Machine.{is_unreachable};
+ghost use Rattle.wef_source.specs.Serving.{AreKept, HasAll, CanBeServed};
 ghost use Rattle.wef_source.specs.Sessions as spec;
 
 use crate::sessions::{Outstanding, Session};

@@ -7,9 +7,6 @@ ghost use Rattle.wef_keeper.specs.Calls.{IsCall, Looks, fails};
 ghost use Rattle.wef_keeper.specs.Keeping as keeping;
 ghost use Rattle.wef_keeper.specs.declared.keeping.Plan.TheVariants.{Done, Fails};
 ghost use Rattle.wef_query.specs.Order.{IsInOrder};
-ghost use Rattle.wef_source_log.specs.Answers.{ExtendsHistory, next_boot, next_number};
-ghost use Rattle.wef_source_log.specs.Forms.{AreFormed};
-ghost use Rattle.wef_source_log.specs.Judged as log_judged;
 ghost use Rattle.wef_source.specs.Answers as answers;
 ghost use Rattle.wef_source.specs.Calls.{start_effect, write_effect};
 ghost use Rattle.wef_source.specs.Faults.{source_answer, source_store};
@@ -17,6 +14,9 @@ ghost use Rattle.wef_source.specs.Judged.{JudgesPoll};
 ghost use Rattle.wef_source.specs.Machine as machine;
 ghost use Rattle.wef_source.specs.Serving.{HasKeptSessions};
 ghost use Rattle.wef_source.specs.Sessions as the_sessions;
+ghost use Rattle.wef_source_log.specs.Answers.{ExtendsHistory, next_boot, next_number};
+ghost use Rattle.wef_source_log.specs.Forms.{AreFormed};
+ghost use Rattle.wef_source_log.specs.Judged as log_judged;
 
 use crate::faults::SourceFault;
 use crate::memories::Memory;
@@ -41,8 +41,8 @@ pub struct SourceEnd<K> {
 }
 
 impl<K> Model for SourceEnd<K> {
-    ghost use Rattle.std.specs.Prelude.{ℕ, List, refl};
     ghost use Rattle.std.specs.Coded.{code_by, coded_ℕ, coded_list, coded×};
+    ghost use Rattle.std.specs.Prelude.{ℕ, List, refl};
     ghost use Rattle.wef_source.specs.Machine.{End};
     ghost use Rattle.wef_source.specs.State.{SourceState};
     ghost use Rattle.wef_source.specs.contracts.memories.Memory as the_memory;

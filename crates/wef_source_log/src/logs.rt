@@ -1,7 +1,7 @@
 //! The log.
 
-ghost use Rattle.std.specs.Prelude.{◌≡◌, ◌+◌, ◌<◌, ◌≤◌, ◌++◌, take, IfOk, IfErr, IfSome, OnOk, MatchResult};
 ghost use Rattle.std.specs.List.{AllByRecursion};
+ghost use Rattle.std.specs.Prelude.{◌≡◌, ◌+◌, ◌<◌, ◌≤◌, ◌++◌, take, IfOk, IfErr, IfSome, OnOk, MatchResult};
 ghost use Rattle.wef_event.specs.Events as the_event;
 ghost use Rattle.wef_keeper.specs.Access as access;
 ghost use Rattle.wef_keeper.specs.Calls.{IsCall, Looks, fails};
@@ -31,8 +31,8 @@ pub struct Log<K> {
 }
 
 impl<K> Model for Log<K> {
-    ghost use Rattle.std.specs.Prelude.{ℕ, refl};
     ghost use Rattle.std.specs.Coded.{code_by, coded_ℕ, coded×};
+    ghost use Rattle.std.specs.Prelude.{ℕ, refl};
     ghost use Rattle.wef_source_log.specs.State.{LogState};
 
     ghost Value = { LogState K };

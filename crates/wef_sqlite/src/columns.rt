@@ -1,8 +1,8 @@
 //! Rows as the columns of an answer.
 
-ghost use Rattle.std.specs.Prelude.{◌≡◌, ◌≤◌, ◌<◌, pos, IfOk, MatchOption};
 ghost use Rattle.sqlite.specs.Values.{bound};
 ghost use Rattle.sqlite_value.specs.Order.{column};
+ghost use Rattle.std.specs.Prelude.{◌≡◌, ◌≤◌, ◌<◌, pos, IfOk, MatchOption};
 ghost use Rattle.wef_base.specs.declared.numbers.TheConstants.{MAX};
 ghost use Rattle.wef_sqlite.specs.Columns.{IsNumber, IsText, IsWrapped, SaysKey, SaysRow};
 ghost use Rattle.wef_sqlite.specs.Statements as statements;

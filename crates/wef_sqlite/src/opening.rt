@@ -1,8 +1,8 @@
 //! How a database is opened: at a path, with the table of rows in it.
 
-ghost use Rattle.std.specs.Prelude.{◌≡◌, ◌≢◌, false, IsTrue, IfOk, OnOk};
 ghost use Rattle.sqlite.specs.Held.{state, IsNew};
 ghost use Rattle.sqlite.specs.State.{HasCleanDisk, IsLive, Survives};
+ghost use Rattle.std.specs.Prelude.{◌≡◌, ◌≢◌, false, IsTrue, IfOk, OnOk};
 ghost use Rattle.wef_sqlite.specs.Schema.{kept_schema, no_schema};
 ghost use Rattle.wef_sqlite.specs.States.{Rests};
 

@@ -1,17 +1,17 @@
 //! The statements that read.
 
-ghost use Rattle.std.specs.Prelude.{◌≡◌, ◌<◌, ◌≤◌, true, [], ◌∷◌, ◌++◌, ◌+◌, min, pos, length, All, IfOk, OnOk};
-ghost use Rattle.sqlite.specs.Held.{state};
 ghost use Rattle.sqlite.specs.Given.{IsPlain};
+ghost use Rattle.sqlite.specs.Held.{state};
 ghost use Rattle.sqlite.specs.Listing.{understood};
 ghost use Rattle.sqlite.specs.State.{HasCleanDisk, Shown, Survives};
 ghost use Rattle.sqlite.specs.Values.{bound};
+ghost use Rattle.std.specs.Prelude.{◌≡◌, ◌<◌, ◌≤◌, true, [], ◌∷◌, ◌++◌, ◌+◌, min, pos, length, All, IfOk, OnOk};
 ghost use Rattle.wef_base.specs.declared.numbers.TheConstants.{MAX};
 ghost use Rattle.wef_keeper.specs.Rows.{is_after};
 ghost use Rattle.wef_keeper.specs.declared.keys.Row as the_row;
 ghost use Rattle.wef_sqlite.specs.Schema.{kept_schema};
-ghost use Rattle.wef_sqlite.specs.States.{Rests};
 ghost use Rattle.wef_sqlite.specs.Statements.{key_values, next_bytes, text_behind, values_behind};
+ghost use Rattle.wef_sqlite.specs.States.{Rests};
 
 use crate::columns::{kept_number, key_values, said_row};
 use crate::refusal::Refusal;

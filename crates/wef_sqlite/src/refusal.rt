@@ -1,8 +1,8 @@
 //! Why the database refuses what it is asked.
 
 ghost use Rattle.std.specs.Prelude.{◌≡◌};
-ghost use Rattle.wef_sqlite.specs.declared.refusal.Refusal.TheVariants.{NoMemory};
 ghost use Rattle.wef_sqlite.specs.Refusals.{refusal_of};
+ghost use Rattle.wef_sqlite.specs.declared.refusal.Refusal.TheVariants.{NoMemory};
 
 use sqlite::{Error, ErrorCode};
 use std::alloc::AllocError;

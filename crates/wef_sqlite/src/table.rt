@@ -1,8 +1,8 @@
 //! A database that has the table of rows.
 
-ghost use Rattle.std.specs.Prelude.{◌≡◌, ◌≤◌, true, false, length, All, IsTrue, IfOk, OnOk};
 ghost use Rattle.sqlite.specs.Held.{state, IsNew};
 ghost use Rattle.sqlite.specs.State.{HasCleanDisk, IsLive, Survives};
+ghost use Rattle.std.specs.Prelude.{◌≡◌, ◌≤◌, true, false, length, All, IsTrue, IfOk, OnOk};
 ghost use Rattle.wef_keeper.specs.Rows.{is_after};
 ghost use Rattle.wef_keeper.specs.declared.keys.Row as the_row;
 ghost use Rattle.wef_sqlite.specs.Makes.{IsMade, LeavesMade};

@@ -1,8 +1,8 @@
 //! The statements that write, and the transaction round them.
 
-ghost use Rattle.std.specs.Prelude.{◌≡◌, false, pos, IsTrue, OnOk};
 ghost use Rattle.sqlite.specs.Held.{state};
 ghost use Rattle.sqlite.specs.State.{HasCleanDisk, ExecutesInside, Survives};
+ghost use Rattle.std.specs.Prelude.{◌≡◌, false, pos, IsTrue, OnOk};
 ghost use Rattle.wef_sqlite.specs.Makes.{Puts, Deletes, Makes, MakesAll, IsMade, LeavesMade};
 ghost use Rattle.wef_sqlite.specs.Statements.{key_values, row_values};
 
