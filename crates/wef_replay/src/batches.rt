@@ -9,7 +9,6 @@ ghost use Rattle.wef_replay.specs.Pieces.{GivesHalf, data_in, dropped_in, event_
 
 use crate::cutting::Parts;
 use crate::half_words::{HalfWord, NumberedEvent};
-use crate::last_channel::LastChannel;
 use crate::pieces::{Pieces, has_colon, pieces_of};
 use std::alloc::{AllocError, Global};
 use wef_base::numbers::MAX;
@@ -17,6 +16,7 @@ use wef_base::{ChannelName, List, Text, is_xml_text};
 use wef_batch::{Batch, Item};
 use wef_bookmark::Bookmark;
 use wef_event::PlainEvent;
+use wef_replay_values::LastChannel;
 use wef_replay_values::values::{LineFault, number_in, spells, text_in};
 
 /// What one word of a batch says.

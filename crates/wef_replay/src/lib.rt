@@ -7,7 +7,6 @@ mod documents;
 mod grammar;
 mod half_words;
 mod judging_lines;
-mod last_channel;
 pub mod laws;
 mod lines;
 mod naming;

@@ -4,14 +4,14 @@ ghost use Rattle.std.specs.Prelude.{◌≡◌, Some, IfOk, IfSome};
 ghost use Rattle.wef_replay_values.specs.Reading.{Gives};
 ghost use Rattle.wef_replay_values.specs.Values.{channel_word};
 
+use crate::values::{LineFault, channel_in};
 use std::alloc::{AllocError, Global};
 use wef_base::ChannelName;
-use wef_replay_values::values::{LineFault, channel_in};
 
 /// The channel that was read last, if any, and the word that named it. Where the next word is the
 /// same, its name is a copy.
 #[derive(Drop)]
-pub(crate) struct LastChannel<'a> {
+pub struct LastChannel<'a> {
     last: Option<NamedChannel<'a>>,
 }
 
@@ -24,12 +24,12 @@ struct NamedChannel<'a> {
 
 impl<'a> LastChannel<'a> {
     /// No channel was read yet.
-    pub(crate) fn none() -> LastChannel<'a> {
+    pub fn none() -> LastChannel<'a> {
         LastChannel { last: None }
     }
 
     /// The channel's name that a word gives, percent-decoded.
-    pub(crate) fn read(&mut self, alloc: Global, word: &'a [u8]) -> Result<ChannelName, LineFault>
+    pub fn read(&mut self, alloc: Global, word: &'a [u8]) -> Result<ChannelName, LineFault>
         ensures { Gives result (channel_word word.now) }
     {
         if let Some(name) = self.known(word)? {
