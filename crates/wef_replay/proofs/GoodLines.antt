@@ -2,6 +2,7 @@
 use Rattle.std.proofs.Common.{◌≡◌, ℕ, Bool, true, false, ◌&&◌, List, [], ◌∷◌, refl}
 use Rattle.std.specs.Prelude.{Option, Some, None, codes, is_some}
 use Rattle.std.specs.List.{list_all}
+use Rattle.std.specs.Option.{option_map}
 use Rattle.std.specs.Str.{chars, is_utf8}
 use Rattle.std.proofs.lemmas.Bool.{and_parts}
 use lib.Utf8.{encode}
@@ -20,7 +21,7 @@ use Rattle.wef_replay_values.specs.declared.end_name.EndName.TheVariants as end
 use Rattle.wef_replay.specs.BatchWords.{empty_batch, read_words}
 use Rattle.wef_replay.specs.Documents.{new_event_in}
 use Rattle.wef_replay.specs.Good.{are_limits, are_queries, fits_always, may_be_written, is_between, is_channel, is_count, is_end, is_line, is_no_collector, is_query, is_query_text, is_source, is_subscription}
-use Rattle.wef_replay.specs.Grammar.{all_of, ask_line, back_line, batch_line, calm_line, commit_words, crash_line, deliver_line, does_nothing, end_line, event_if_xml, event_words, fail_line, failure_line_of, fitting_event, if_fits, limit_words, line_of_words, lost_line, meaning, message_words, other_line, pair_words, poll_line, print_line, query_words, seen_words, show_line, source_line, source_line_of, stop_line, subscribe_line, write_line, write_xml_line, xml_event_words}
+use Rattle.wef_replay.specs.Grammar.{all_of, ask_line, back_line, batch_line, calm_line, commit_words, crash_line, deliver_line, does_nothing, end_line, event_if_xml, event_words, failure_line_of, fitting_event, if_fits, limit_words, line_of_words, meaning, message_words, other_line, pair_words, print_line, query_words, seen_words, show_line, source_line, source_line_of, subscribe_line, write_line, write_xml_line, xml_event_words}
 use Rattle.wef_replay.specs.PlainEvents.{HasPlainEvents}
 use Rattle.wef_replay.specs.declared.lines.Line.{Line}
 use Rattle.wef_replay.specs.declared.lines.Line.TheVariants.{Subscribe, End, Batch, Source, Write, WriteXml, Ask, Poll, Deliver, Back, Lost, Print, Crash, Fail, Stop}
@@ -172,10 +173,10 @@ good-pair_words (source ∷ sub ∷ []) =
     all_of-map _ (λ pair. (is_source pair.0 && is_subscription pair.1) ≡ true) (λ u. (s, u)) (subscription_word sub) (good-subscription sub) (λ u is_u i. is_s i && is_u i))
 good-pair_words (a ∷ b ∷ c ∷ more) = tt
 
-good-poll_line : (words : List (List ℕ)) → AllOf IsGoodLine (poll_line words)
+good-poll_line : (words : List (List ℕ)) → AllOf IsGoodLine (option_map (λ pair. Poll pair.0 pair.1) (pair_words words))
 good-poll_line words = all_of-map _ IsGoodLine (λ pair. Poll pair.0 pair.1) (pair_words words) (good-pair_words words) (λ pair h. (h, tt))
 
-good-lost_line : (words : List (List ℕ)) → AllOf IsGoodLine (lost_line words)
+good-lost_line : (words : List (List ℕ)) → AllOf IsGoodLine (option_map (λ pair. Lost pair.0 pair.1) (pair_words words))
 good-lost_line words = all_of-map _ IsGoodLine (λ pair. Lost pair.0 pair.1) (pair_words words) (good-pair_words words) (λ pair h. (h, tt))
 
 counts : (given : Option ℕ) → AllOf (λ n. is_between 0 MAX n ≡ true) given → AllOf (λ n. is_count n ≡ true) given
@@ -233,10 +234,10 @@ good-commit_words (end ∷ when ∷ []) =
     all_of-map (λ _. Unit {0}) (λ commit. is_end commit.0 ≡ true) (λ after. (e, after)) (after_word when) (any (after_word when)) (λ after _. is_e))
 good-commit_words (a ∷ b ∷ c ∷ more) = tt
 
-good-fail_line : (words : List (List ℕ)) → AllOf IsGoodLine (fail_line words)
+good-fail_line : (words : List (List ℕ)) → AllOf IsGoodLine (option_map (λ commit. Fail commit.0 commit.1) (commit_words words))
 good-fail_line words = all_of-map _ IsGoodLine (λ commit. Fail commit.0 commit.1) (commit_words words) (good-commit_words words) (λ commit h. (h, tt))
 
-good-stop_line : (words : List (List ℕ)) → AllOf IsGoodLine (stop_line words)
+good-stop_line : (words : List (List ℕ)) → AllOf IsGoodLine (option_map (λ commit. Stop commit.0 commit.1) (commit_words words))
 good-stop_line words = all_of-map _ IsGoodLine (λ commit. Stop commit.0 commit.1) (commit_words words) (good-commit_words words) (λ commit h. (h, tt))
 
 good-calm_line : (words : List (List ℕ)) → AllOf IsGoodLine (calm_line words)

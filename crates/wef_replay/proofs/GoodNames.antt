@@ -1,42 +1,41 @@
 -- Names that words give are such as their readers give: texts that read back as themselves.
-use Rattle.std.proofs.Common.{◌≡◌, ℕ, Bool, true, false, ◌&&◌, cond, List, [], ◌∷◌, map, refl, ap, sym, ◌∙◌, encode_utf8_all}
+use Rattle.std.proofs.Common.{◌≡◌, ℕ, Bool, true, false, ◌&&◌, ◌||◌, cond, List, [], ◌∷◌, length, map, nat_lt, refl, ap, sym, ◌∙◌, subst, encode_utf8_all}
 use Rattle.std.specs.Prelude.{Option, Some, None, IsUtf8, codes, not}
 use Rattle.std.specs.Cmp.Lexicographic.{nat_list_eq_equiv, slice_cmp, texts_ties}
 use Rattle.std.specs.FinMap.{nat_cmp-IsAntisymmetric, slice_cmp-IsAntisymmetric}
+use Rattle.std.specs.List.{list_any}
 use Rattle.std.specs.Ordering.{is_eq, nat_cmp}
 use Rattle.std.specs.Str.{all_scalars, chars, is_utf8}
 use Rattle.std.specs.declared.cmp.Ordering.{Ordering}
 use Rattle.std.specs.declared.cmp.Ordering.TheVariants.{Less, Equal, Greater}
 use Rattle.std.proofs.lemmas.Bool.{and_from, and_parts}
 use Rattle.std.proofs.lemmas.Str.{IsUtf8-from_is_utf8, is_utf8-from_IsUtf8, scalars-chars}
-use Rattle.wef_base.specs.Names.{channel_name, name_of, name_of_characters, same, source_name, spelt, subscription_name, trimmed_characters, without_start}
+use Rattle.wef_base.specs.Names.{channel_name, is_forbidden, name_of, name_of_characters, same, source_name, spelt, subscription_name, trimmed_characters, without_start}
 use Rattle.wef_base.specs.Words.{decoded, utf8}
 use Rattle.wef_base.specs.declared.names.Letters.{Letters}
 use Rattle.wef_base.specs.declared.names.Letters.TheVariants.{Kept, Small}
 use Rattle.wef_base.proofs.Kept.{name_kept, scalars-map_spelt, scalars-without_end, scalars-without_start}
 use Rattle.wef_replay_values.specs.Values.{channel_word, sending_source_word, source_word, subscription_word, unless_collector}
 use Rattle.wef_replay.specs.Good.{is_channel, is_no_collector, is_one, is_source, is_subscription}
-use Rattle.wef_replay.proofs.Gifts.{AllOf, all_of-then}
+use Rattle.wef_replay.proofs.Gifts.{AllOf, all_of-if, all_of-then}
 
 -- ---- a name is a text
-
--- the name of characters is these, as it spells them
-name_is : (letters : Letters) (limit : ℕ) (cs name : List ℕ) → name_of_characters letters limit cs ≡ Some name → encode_utf8_all (map (spelt letters) cs) ≡ name
-name_is letters limit [] name e = cc
-name_is letters limit (c ∷ cs) name e = by _ e
-  where
-    by : (b : Bool) → cond b None (Some (encode_utf8_all (map (spelt letters) (c ∷ cs)))) ≡ Some name → encode_utf8_all (map (spelt letters) (c ∷ cs)) ≡ name
-    by true e = cc
-    by false e = cc
 
 encoded_is_text : (cs : List ℕ) → all_scalars cs ≡ true → is_utf8 (encode_utf8_all cs) ≡ true
 encoded_is_text cs h = is_utf8-from_IsUtf8 (encode_utf8_all cs) (cs, (h, refl))
 
+-- the name of characters is a text, as it spells them
+characters_are_text : (letters : Letters) (limit : ℕ) (cs : List ℕ) → all_scalars cs ≡ true → AllOf (λ name. is_utf8 name ≡ true) (name_of_characters letters limit cs)
+characters_are_text letters limit [] scalars = tt
+characters_are_text letters limit (c ∷ cs) scalars =
+    let spelling = map (spelt letters) (c ∷ cs) in
+    all_of-if (λ name. is_utf8 name ≡ true) (list_any is_forbidden (c ∷ cs) || nat_lt limit (length (encode_utf8_all spelling))) None (Some (encode_utf8_all spelling)) tt
+    (encoded_is_text spelling (scalars-map_spelt letters (c ∷ cs) scalars))
+
 name_is_text : (letters : Letters) (limit : ℕ) (text name : List ℕ) → IsUtf8 text → name_of letters limit text ≡ Some name → is_utf8 name ≡ true
 name_is_text letters limit text name utf8 e =
-    let cs = trimmed_characters (chars text) in
-    let scalars : all_scalars cs ≡ true = scalars-without_end (without_start (chars text)) (scalars-without_start (chars text) (scalars-chars text utf8)) in
-    ap is_utf8 (sym (name_is letters limit cs name e)) ∙ encoded_is_text (map (spelt letters) cs) (scalars-map_spelt letters cs scalars)
+    let scalars : all_scalars (trimmed_characters (chars text)) ≡ true = scalars-without_end (without_start (chars text)) (scalars-without_start (chars text) (scalars-chars text utf8)) in
+    subst (AllOf (λ (read : List ℕ). is_utf8 read ≡ true)) e (characters_are_text letters limit (trimmed_characters (chars text)) scalars)
 
 -- ---- a name reads back
 

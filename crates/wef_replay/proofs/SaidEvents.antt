@@ -42,18 +42,15 @@ unfolding new_event_in
 said text answer says =
     ap (option_and_then (λ root. event_or_none (event_of false root))) (is_given Utf8 text says.0 says.1) ∙ ap event_or_none says.2
 
--- a faulty text has none
-faulty : (text : List ℕ) (at : ℕ) → IsFaulty text at → new_event_in text ≡ None
+-- a faulty text has none, and neither has one whose tree says none
+bad : (text : List ℕ) (at : ℕ) → IsFaulty text at ⊎ Says false text (Err (BadEvent at)) → new_event_in text ≡ None
 unfolding new_event_in
-faulty text at fault = by (tree_of Utf8 text) refl
+bad text at (inr says) = said text (Err (BadEvent at)) says
+bad text at (inl fault) = by (tree_of Utf8 text) refl
   where
     by : (o : Option Element) → tree_of Utf8 text ≡ o → option_and_then (λ root. event_or_none (event_of false root)) o ≡ None
     by None e = refl
     by (Some root) e = absurd (has_no_fault Utf8 text root fault.0 at (is_spelt_by Utf8 text root e) fault.1)
-
-bad : (text : List ℕ) (at : ℕ) → IsFaulty text at ⊎ Says false text (Err (BadEvent at)) → new_event_in text ≡ None
-bad text at (inl fault) = faulty text at fault
-bad text at (inr says) = said text (Err (BadEvent at)) says
 
 -- where reading refuses a text, it says no event
 pub refused : (text : List ℕ) (fault : EventFault) → ReadsEvent false text (Err fault) → Refuses (event_line_fault fault) (new_event_in text)

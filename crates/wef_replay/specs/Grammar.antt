@@ -116,12 +116,6 @@ abbrev pub pair_words : List (List ℕ) → Option (List ℕ × List ℕ)
 pair_words (source ∷ sub ∷ []) = option_and_then (λ s. option_map (λ u. (s, u)) (subscription_word sub)) (source_word source)
 pair_words _ = None
 
-abbrev pub poll_line : List (List ℕ) → Option Line
-poll_line words = option_map (λ pair. Poll pair.0 pair.1) (pair_words words)
-
-abbrev pub lost_line : List (List ℕ) → Option Line
-lost_line words = option_map (λ pair. Lost pair.0 pair.1) (pair_words words)
-
 -- the number of a message, and nothing more
 abbrev pub message_words : List (List ℕ) → Option ℕ
 message_words (number ∷ []) = number_word 0 MAX number
@@ -158,12 +152,6 @@ abbrev pub commit_words : List (List ℕ) → Option (EndName × Bool)
 commit_words (end ∷ when ∷ []) = option_and_then (λ e. option_map (λ after. (e, after)) (after_word when)) (end_word end)
 commit_words _ = None
 
-abbrev pub fail_line : List (List ℕ) → Option Line
-fail_line words = option_map (λ commit. Fail commit.0 commit.1) (commit_words words)
-
-abbrev pub stop_line : List (List ℕ) → Option Line
-stop_line words = option_map (λ commit. Stop commit.0 commit.1) (commit_words words)
-
 abbrev pub calm_line : List (List ℕ) → Option Line
 calm_line [] = Some Calm
 calm_line (word ∷ words) = None
@@ -172,8 +160,8 @@ calm_line (word ∷ words) = None
 abbrev pub failure_line_of : List ℕ → List (List ℕ) → Option Line
 failure_line_of kind words =
     if same kind (codes "crash") then crash_line words
-    else (if same kind (codes "fail") then fail_line words
-    else (if same kind (codes "stop") then stop_line words
+    else (if same kind (codes "fail") then option_map (λ commit. Fail commit.0 commit.1) (commit_words words)
+    else (if same kind (codes "stop") then option_map (λ commit. Stop commit.0 commit.1) (commit_words words)
     else (if same kind (codes "calm") then calm_line words else None)))
 
 -- a line of a source, a message or a failure, by its kind and its other words
@@ -183,8 +171,8 @@ source_line_of kind words =
     else (if same kind (codes "write") then write_line words
     else (if same kind (codes "writexml") then write_xml_line words
     else (if same kind (codes "ask") then ask_line words
-    else (if same kind (codes "poll") then poll_line words
-    else (if same kind (codes "lost") then lost_line words
+    else (if same kind (codes "poll") then option_map (λ pair. Poll pair.0 pair.1) (pair_words words)
+    else (if same kind (codes "lost") then option_map (λ pair. Lost pair.0 pair.1) (pair_words words)
     else (if same kind (codes "deliver") then deliver_line words
     else (if same kind (codes "back") then back_line words else failure_line_of kind words)))))))
 

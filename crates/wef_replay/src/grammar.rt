@@ -5,8 +5,9 @@ ghost use Rattle.std.specs.Prelude.{◌≡◌};
 ghost use Rattle.wef_base.specs.Words.{parts};
 ghost use Rattle.wef_replay_values.specs.Reading.{Gives};
 ghost use Rattle.wef_replay_values.specs.Values.{channel_words, joined};
-ghost use Rattle.wef_replay.specs.Grammar.{all_of, ask_line, back_line, batch_line, batch_of_source, calm_line, commit_words, crash_line, deliver_line, does_nothing, end_line, event_words, fail_line, failure_line_of, fitting_event, limit_words, line_of_words, lost_line, meaning, message_words, other_line, pair_words, poll_line, print_line, query_words, seen_words, show_line, source_line, source_line_of, stop_line, subscribe_line, write_line, write_xml_line, xml_event_words};
+ghost use Rattle.wef_replay.specs.Grammar.{all_of, ask_line, back_line, batch_line, batch_of_source, calm_line, commit_words, crash_line, deliver_line, does_nothing, end_line, event_words, failure_line_of, fitting_event, limit_words, line_of_words, meaning, message_words, other_line, pair_words, print_line, query_words, seen_words, show_line, source_line, source_line_of, subscribe_line, write_line, write_xml_line, xml_event_words};
 ghost use Rattle.wef_replay.specs.Documents.{list_in};
+ghost use Rattle.wef_replay.specs.declared.lines.Line.TheVariants.{Fail, Lost, Poll, Stop};
 ghost use Rattle.wef_replay.specs.Parts.{parts_behind};
 
 use crate::cutting::cut;
@@ -343,14 +344,14 @@ fn pair_of(alloc: Global, words: &[Bytes]) -> Result<(SourceName, SubId), LineFa
 }
 
 fn poll_of(alloc: Global, words: &[Bytes]) -> Result<Line, LineFault>
-    ensures { Gives result (poll_line words.now) }
+    ensures { Gives result (option_map (λ pair. Poll pair.0 pair.1) (pair_words words.now)) }
 {
     let (source, sub) = pair_of(alloc, words)?;
     Ok(Line::Poll { source, sub })
 }
 
 fn lost_of(alloc: Global, words: &[Bytes]) -> Result<Line, LineFault>
-    ensures { Gives result (lost_line words.now) }
+    ensures { Gives result (option_map (λ pair. Lost pair.0 pair.1) (pair_words words.now)) }
 {
     let (source, sub) = pair_of(alloc, words)?;
     Ok(Line::Lost { source, sub })
@@ -451,14 +452,14 @@ fn commit_of(alloc: Global, words: &[Bytes]) -> Result<(EndName, bool), LineFaul
 }
 
 fn fail_of(alloc: Global, words: &[Bytes]) -> Result<Line, LineFault>
-    ensures { Gives result (fail_line words.now) }
+    ensures { Gives result (option_map (λ commit. Fail commit.0 commit.1) (commit_words words.now)) }
 {
     let (end, after) = commit_of(alloc, words)?;
     Ok(Line::Fail { end, after })
 }
 
 fn stop_of(alloc: Global, words: &[Bytes]) -> Result<Line, LineFault>
-    ensures { Gives result (stop_line words.now) }
+    ensures { Gives result (option_map (λ commit. Stop commit.0 commit.1) (commit_words words.now)) }
 {
     let (end, after) = commit_of(alloc, words)?;
     Ok(Line::Stop { end, after })
