@@ -2,8 +2,8 @@
 
 ghost use Rattle.std.specs.Prelude.{◌≡◌, IfOk, IfSome};
 ghost use Rattle.wef_base.specs.declared.tree.Charset.TheVariants.{Utf8};
-ghost use Rattle.wef_replay_values.specs.Reading.{Gives};
 ghost use Rattle.wef_replay.specs.Documents as documents;
+ghost use Rattle.wef_replay_values.specs.Reading.{Gives};
 ghost use Rattle.wef_tree_reading.specs.Documents.{tree_of};
 ghost use Rattle.wef_xml.specs.Good.{IsGoodTree};
 

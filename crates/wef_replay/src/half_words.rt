@@ -34,8 +34,8 @@ pub(crate) struct NumberedEvent {
 
 impl HalfWord {
     ghost use Rattle.std.specs.Prelude.{is_some};
-    ghost use Rattle.wef_replay_values.specs.Reading.{Gives};
     ghost use Rattle.wef_replay.specs.Pieces.{whole};
+    ghost use Rattle.wef_replay_values.specs.Reading.{Gives};
 
     /// Whether the event fits, where the word says one.
     pub fn fits(&self) -> bool

@@ -1,7 +1,7 @@
 //! Which lines have values of the kinds that lines have.
 
-ghost use Rattle.std.specs.Prelude.{◌≡◌, ◌&&◌};
 ghost use Rattle.std.specs.List.{list_all};
+ghost use Rattle.std.specs.Prelude.{◌≡◌, ◌&&◌};
 ghost use Rattle.std.specs.Str.{is_utf8};
 ghost use Rattle.wef_base.specs.Characters.{is_xml_text};
 ghost use Rattle.wef_replay.specs.Documents.{is_new_event};

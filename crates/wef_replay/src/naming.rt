@@ -1,8 +1,8 @@
 //! The sources that the lines of a schedule named so far.
 
 ghost use Rattle.std.specs.Prelude.{◌≡◌, OnOk};
-ghost use Rattle.wef_replay.specs.Good.{allows, has_end, is_among, no_names, noted};
 ghost use Rattle.wef_replay.specs.Alike.{AreAlike};
+ghost use Rattle.wef_replay.specs.Good.{allows, has_end, is_among, no_names, noted};
 
 use crate::lines::Line;
 use std::alloc::{AllocError, Global};
@@ -21,8 +21,8 @@ pub struct NamedSources {
 }
 
 impl Model for NamedSources {
-    ghost use Rattle.std.specs.Prelude.{ℕ, List, refl};
     ghost use Rattle.std.specs.Coded.{code_by, coded_ℕ, coded_list, coded×};
+    ghost use Rattle.std.specs.Prelude.{ℕ, List, refl};
     ghost use Rattle.wef_replay.specs.Good.{Names};
 
     ghost Value = { Names };

@@ -1,7 +1,7 @@
 //! The pieces of a batch word between its colons.
 
-ghost use Rattle.std.specs.Prelude.{◌≡◌};
 ghost use Rattle.std.specs.List.{list_any};
+ghost use Rattle.std.specs.Prelude.{◌≡◌};
 ghost use Rattle.wef_replay.specs.BatchWords.{batch_word};
 ghost use Rattle.wef_replay.specs.Pieces.{is_colon, said};
 

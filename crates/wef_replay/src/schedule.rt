@@ -2,10 +2,10 @@
 
 ghost use Rattle.std.specs.List.{All};
 ghost use Rattle.std.specs.Prelude.{◌≡◌, IfOk};
-ghost use Rattle.wef_replay_values.specs.Reading.{Gives};
 ghost use Rattle.wef_replay.specs.Good.{AreGood, no_names};
 ghost use Rattle.wef_replay.specs.PlainEvents.{HasPlainEvents};
 ghost use Rattle.wef_replay.specs.Schedule.{ReadsSchedule, meaning_after, schedule_of};
+ghost use Rattle.wef_replay_values.specs.Reading.{Gives};
 
 use crate::cutting::Parts;
 use crate::grammar::read_line;

@@ -2,9 +2,9 @@
 
 ghost use Rattle.std.specs.Prelude.{◌≡◌, IfOk};
 ghost use Rattle.wef_base.specs.Words.{parts};
-ghost use Rattle.wef_replay_values.specs.Reading.{Gives};
 ghost use Rattle.wef_replay.specs.BatchWords.{empty_batch, read_words};
 ghost use Rattle.wef_replay.specs.Good.{are_words};
+ghost use Rattle.wef_replay_values.specs.Reading.{Gives};
 
 use crate::batches::{batch_of, is_batch};
 use std::alloc::{AllocError, Global};
@@ -23,9 +23,9 @@ pub struct SpelledBatch {
 
 impl Model for SpelledBatch {
     ghost use Rattle.std.specs.Prelude.{◌≡◌, true, is_some};
-    ghost use Rattle.wef_batch.specs.declared.items.Batch as batch;
     ghost use Rattle.wef_base.specs.Words.{parts};
     ghost use Rattle.wef_batch.specs.contracts.items.Batch as contracts;
+    ghost use Rattle.wef_batch.specs.declared.items.Batch as batch;
     ghost use Rattle.wef_replay.specs.BatchWords.{empty_batch, read_words, spelled};
 
     ghost Value = { batch.Batch };
