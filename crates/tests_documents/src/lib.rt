@@ -24,23 +24,11 @@ pub fn push_answer(shown: &mut Text, task: &str, line: &str) -> Result<bool, All
     let charset = charset_of(task);
     let pushed = match task {
         // Its tree.
-        "utf-8" | "utf-16" => push_of_bytes(
-            shown,
-            line,
-            |shown, bytes| push_reading(shown, charset, bytes),
-        ),
+        "utf-8" | "utf-16" => push_of_bytes(shown, line, charset, push_reading),
         // Its tree, and the faults of what stands before each byte.
-        "cut" | "cut utf-16" => push_of_bytes(
-            shown,
-            line,
-            |shown, bytes| push_cuts(shown, charset, bytes),
-        ),
+        "cut" | "cut utf-16" => push_of_bytes(shown, line, charset, push_cuts),
         // Its tree's one text.
-        "written" | "written in utf-16" => push_of_bytes(
-            shown,
-            line,
-            |shown, bytes| push_written(shown, charset, bytes),
-        ),
+        "written" | "written in utf-16" => push_of_bytes(shown, line, charset, push_written),
         // Whether a text has the characters of XML alone.
         "characters" => push_of_text(shown, line, push_judgement),
         // Its event.

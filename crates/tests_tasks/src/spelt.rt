@@ -2,19 +2,20 @@
 
 use crate::escapes::{escaped, unescaped};
 use std::alloc::AllocError;
-use wef_base::Text;
+use wef_base::{Charset, Text};
 
-/// Appends what is printed for the bytes that a line spells.
+/// Appends what is printed for the bytes that a line spells, in a charset.
 pub fn push_of_bytes(
     shown: &mut Text,
     line: &str,
-    push: fn(&mut Text, &[u8]) -> Result<(), AllocError>,
+    charset: Charset,
+    push: fn(&mut Text, Charset, &[u8]) -> Result<(), AllocError>,
 ) -> Result<(), AllocError>
     requires { IsAlwaysCallable push }
 {
     let alloc = shown.alloc();
     let mut answer = Text::new(alloc);
-    push(&mut answer, unescaped(alloc, line)?.as_slice())?;
+    push(&mut answer, charset, unescaped(alloc, line)?.as_slice())?;
     shown.push_str(escaped(&answer)?.as_str())
 }
 
