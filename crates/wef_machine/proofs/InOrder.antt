@@ -1,5 +1,5 @@
 -- Well-formed batches: each of their channels is in order, and ends by the batch's reach.
-use Rattle.std.proofs.Common.{◌≡◌, ℕ, Bool, true, false, ◌&&◌, ◌||◌, cond, List, [], ◌∷◌, refl, ap, sym, ◌∙◌, Some, None, nat_le}
+use Rattle.std.proofs.Common.{◌≡◌, ℕ, true, false, ◌&&◌, cond, List, [], ◌∷◌, ap, sym, ◌∙◌, Some, None, nat_le}
 use Rattle.std.proofs.lemmas.Bool.{and_parts}
 use Rattle.std.specs.FinMap as finite
 use Rattle.std.specs.List.{list_all}
@@ -9,20 +9,10 @@ use Rattle.wef_batch.specs.WellFormed.{ends_by, is_at_least, is_in, is_in_order,
 use Rattle.wef_batch.specs.declared.items.Batch.{Batch}
 use Rattle.wef_batch.specs.declared.items.Item.{Item}
 use Rattle.wef_batch.specs.declared.items.Item.TheVariants.{Event, Dropped, Loose}
-use Rattle.wef_batch.proofs.Reached.{items_are_reached}
-use Rattle.wef_collector.proofs.Hits.{one_name}
+use Rattle.wef_batch.proofs.Reached.{holds_in, items_are_reached}
 use Rattle.wef_source.specs.Fits.{ranges_in}
 use Rattle.wef_source.specs.Wanted.{EndBy}
 use Rattle.wef_machine.proofs.Numbered.{le_is}
-
-holds_in : (p : List ℕ → Bool) (channels : List (List ℕ)) (c : List ℕ) → list_all p channels ≡ true → is_in channels c ≡ true → p c ≡ true
-holds_in p [] c all here = cc
-holds_in p (d ∷ channels) c all here =
-    let parts = and_parts (p d) (list_all p channels) all in
-    elim (same d c) as (λ t. same d c ≡ t → (t || is_in channels c) ≡ true → p c ≡ true) [
-      | true ↦ λ is _. ap p (sym (one_name d c is)) ∙ parts.0
-      | false ↦ λ _ behind. holds_in p channels c parts.1 behind
-    ] refl here
 
 pub in_order : (channels : List (List ℕ)) (batch : Batch) (c : List ℕ) → is_well_formed channels batch ≡ true → is_in channels c ≡ true → rises c None batch.items ≡ true
 in_order channels batch c formed here =

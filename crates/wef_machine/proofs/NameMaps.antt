@@ -6,11 +6,11 @@ use Rattle.std.specs.declared.cmp.Ordering.TheVariants.{Less, Equal, Greater}
 use Rattle.std.specs.Ordering.{nat_cmp, eq_by_cmp, is_eq}
 use Rattle.std.specs.Cmp.{eq_by_cmp_equiv}
 use Rattle.std.specs.Cmp.Lexicographic.{slice_cmp, nat_list_cmp_total}
-use Rattle.std.specs.Map.{lookup}
 use Rattle.std.specs.BTreeMap.{is_at}
-use Rattle.std.specs.FinMap.{FinMap, get, insert, remove, find, from_entries, same_map, get-insert, get-remove, get-from_entries}
+use Rattle.std.specs.FinMap.{FinMap, get, insert, remove, from_entries, same_map, get-insert, get-remove}
 use Rattle.std.proofs.lemmas.Map.Lookups.{exact_bytes}
 use Rattle.wef_source_log.specs.Histories.{History, extended}
+pub use Rattle.wef_xml.proofs.Maps.{get_given, given_at, one_given}
 
 equal : (r : Ordering) → is_eq r ≡ true → r ≡ Equal
 equal Less e = cc
@@ -20,25 +20,6 @@ equal Greater e = cc
 -- names that tie are one
 one_name : (q s : List ℕ) → eq_by_cmp (slice_cmp nat_cmp) q s ≡ true → q ≡ s
 one_name q s e = exact_bytes q s (equal (slice_cmp nat_cmp q s) e)
-
--- what a list of entries has at a name
-abbrev pub given_at : {X : Type 0} → List (List ℕ × X) → List ℕ → Option X
-given_at es q = lookup (is_at (slice_cmp nat_cmp q)) es
-
-find_given : {X : Type 0} (es : List (List ℕ × X)) (q : List ℕ) → find (slice_cmp nat_cmp) q es ≡ given_at es q
-find_given [] q = refl
-find_given (e ∷ es) q = ap (cond (is_at (slice_cmp nat_cmp q) e.0) (Some e.1)) (find_given es q)
-
--- what the map that the entries make has at a name
-pub get_given : {X : Type 0} (es : List (List ℕ × X)) (q : List ℕ) → get (from_entries {R = slice_cmp nat_cmp} es) q ≡ given_at es q
-get_given es q = get-from_entries nat_list_cmp_total es q ∙ find_given es q
-
--- entries that have a value at one name, and are as others elsewhere, make a map into which it is inserted
-pub one_given : {X : Type 0} (es fs : List (List ℕ × X)) (s : List ℕ) (x : X) → ((q : List ℕ) → given_at fs q ≡ cond (is_at (slice_cmp nat_cmp s) q) (Some x) (given_at es q))
-    → from_entries {R = slice_cmp nat_cmp} fs ≡ insert (from_entries es) s x
-one_given es fs s x h = same_map nat_list_cmp_total exact_bytes _ _ (λ q.
-    get_given fs q ∙ h q ∙ ap (λ b. cond b (Some x) (given_at es q)) ((eq_by_cmp_equiv nat_list_cmp_total).symm s q)
-    ∙ sym (get-insert nat_list_cmp_total (from_entries es) s x q ∙ ap (cond (is_at (slice_cmp nat_cmp q) s) (Some x)) (get_given es q)))
 
 -- entries that have nothing at one name, and are as others elsewhere, make a map from which it is removed
 pub none_given : {X : Type 0} (es fs : List (List ℕ × X)) (s : List ℕ) → ((q : List ℕ) → given_at fs q ≡ cond (is_at (slice_cmp nat_cmp s) q) None (given_at es q))

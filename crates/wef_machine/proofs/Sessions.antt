@@ -41,11 +41,11 @@ all_changed P test change keeps (s ∷ ss) all = by_test (test s) refl (all_chan
 
 pub all_without : (P : Session → Type 0) (test : Session → Bool) (ss : List Session) → AllByRecursion P ss → AllByRecursion P (without test ss)
 all_without P test [] all = tt
-all_without P test (s ∷ ss) all = by_test (test s) (all_without P test ss all.1)
-  where
-    by_test : (t : Bool) → AllByRecursion P (without test ss) → AllByRecursion P (cond t ss (s ∷ without test ss))
-    by_test true rest = all.1
-    by_test false rest = (all.0, rest)
+all_without P test (s ∷ ss) all =
+    elim (test s) as (λ t. AllByRecursion P (cond t ss (s ∷ without test ss))) [
+      | true ↦ all.1
+      | false ↦ (all.0, all_without P test ss all.1)
+    ]
 
 all_placed : (P : Session → Type 0) (o : Ordering) (new s : Session) (ss rest : List Session) → P new → P s → AllByRecursion P ss → AllByRecursion P rest →
     AllByRecursion P (placed o new s ss rest)
