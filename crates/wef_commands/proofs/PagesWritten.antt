@@ -1,15 +1,18 @@
 -- Held events, written page by page.
-use Rattle.std.proofs.Common.{◌≡◌, ◌∙◌, ℕ, List, [], ◌∷◌, ◌++◌, take, refl, ap, sym, subst, append_assoc, append-nil, inl, inr}
+use Rattle.std.proofs.Common.{◌≡◌, ◌∙◌, ℕ, List, [], ◌∷◌, ◌++◌, ◌<◌, length, take, refl, ap, sym, subst, append_assoc, append-nil, inl, inr}
 use Rattle.std.specs.Prelude.{Option, None, Some, IfSome}
-use Rattle.std.specs.List.{flat_map}
+use Rattle.std.specs.List.{AllByRecursion, flat_map}
 use Rattle.std.specs.Io.KnownBytes.{Appends, Keeps}
 use Rattle.wef_keeper.proofs.Told.{told_both, told_map, told_still}
+use Rattle.wef_keeper.specs.Access.{IsBehind}
 use Rattle.wef_keeper.specs.Keeping.{Stays}
 use Rattle.wef_keeper.specs.Rows.{Rows}
 use Rattle.wef_keeper.specs.Sections.{last_key, rows_under}
 use Rattle.wef_keeper.specs.declared.keys.Depth.TheVariants.{Channel}
 use Rattle.wef_keeper.specs.declared.keys.Key.{Key}
 use Rattle.wef_keeper.specs.declared.keys.Row.{Row}
+use Rattle.wef_collector_reports.proofs.Channels.{last_is, page_rises}
+use Rattle.wef_collector_reports.specs.Report.{last_row_number}
 use Rattle.wef_commands.proofs.Written.{both, further, part, part_further, unwritten}
 use Rattle.wef_commands.specs.Calling.{WroteOut}
 use Rattle.wef_commands.specs.Pages.{WroteLast, end_line, row_line, rows_text}
@@ -128,3 +131,8 @@ module _ (a b : Option (List ℕ)) (before now : Option Rows) (first after : Key
       (λ rows. WroteUpTo (whole rows) ending (record { before = a; after = d; faults_before = f; faults_after = h })) all (told_still before now (IsLeftBehind a b first after) stays written)
       (λ rows last left. last_written ending (whole rows) (text ++ end_line) a b d f g h
       (subst (IsWrittenUpTo a b (whole rows)) (last_left (rows_under Channel after rows) page text last is) left) wrote)
+
+-- the number of the last row of a page that isn't empty is greater than that behind which it stands
+pub numbers_rise : (after : Key) (page : List Row) (number : ℕ) → 0 < length page → AllByRecursion (IsBehind Channel after) page → number ≡ last_row_number after.number page → after.number < number
+numbers_rise after page number some behind is =
+    subst (λ (n : ℕ). after.number < n) (sym is) (subst (λ (k : Key). after.number < k.number) (last_is after page behind) (page_rises after page some behind))

@@ -4,11 +4,10 @@ use Rattle.wef_keeper.proofs.ByPages.{last_page}
 use Rattle.wef_keeper.proofs.Told.{told_both}
 use Rattle.wef_keeper.specs.Sections.{last_key, rows_under}
 use Rattle.wef_keeper.specs.declared.keys.Depth.TheVariants.{Channel}
-use Rattle.wef_keeper.specs.declared.keys.Key.{Key}
 use Rattle.wef_collector_reports.specs.Report.{last_row_number}
-use Rattle.wef_collector_reports.proofs.Channels.{last_is, numbered, page_rises}
+use Rattle.wef_collector_reports.proofs.Channels.{last_is, numbered}
 use Rattle.wef_commands.specs.Streams.{WritesPart}
-use Rattle.wef_commands.proofs.PagesWritten.{ended_behind, failed_behind, stopped, written_behind}
+use Rattle.wef_commands.proofs.PagesWritten.{ended_behind, failed_behind, numbers_rise, stopped, written_behind}
 use Rattle.wef_commands.proofs.events.write_behind.Goals as goal
 
 -- the page can't be read
@@ -69,10 +68,7 @@ pub loop-page-smaller : goal.loop-page-smaller
 loop-page-smaller g c =
     let page = c.in-Ok.page in
     let after = c.loop-page.after in
-    let size = c.len.ensures in
-    let test = c.if-is_last.false in
-    let some : 0 < length page = omega arith in
-    let number : c.last_number-after.result ≡ last_row_number after.number page = c.last_number-after.ensures ∙ ap (last_row_number after.number) c.as_slice-in-loop-page.ensures in
-    let rises : after.number < last_row_number after.number page = subst (λ (k : Key). after.number < k.number) (last_is after page c.in-Ok.ensures.behind) (page_rises after page some c.in-Ok.ensures.behind) in
+    let some : 0 < length page = omega (arith, c.len.ensures, c.if-is_last.false) in
+    let rises = numbers_rise after page c.last_number-after.result some c.in-Ok.ensures.behind (c.last_number-after.ensures ∙ ap (last_row_number after.number) c.as_slice-in-loop-page.ensures) in
     let next : c.last_number-after.result < 18446744073709551616 = omega arith in
     omega arith
