@@ -1,10 +1,10 @@
 //! The command line.
 
-ghost use Rattle.std.specs.Prelude.{◌≡◌, IfOk, OnErr};
 ghost use Rattle.std.specs.List.{list_all, list_any};
+ghost use Rattle.std.specs.Prelude.{◌≡◌, IfOk, OnErr};
 ghost use Rattle.wef_base.specs.Names.{channel_name, source_name, subscription_name};
-ghost use Rattle.wef_eventing.specs.Addresses.{is_printed};
 ghost use Rattle.wef_cli.specs.Command as spec;
+ghost use Rattle.wef_eventing.specs.Addresses.{is_printed};
 
 use std::alloc::AllocError;
 use wef_base::numbers::read_plain_number;

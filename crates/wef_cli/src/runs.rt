@@ -1,14 +1,14 @@
 //! Doing the lines of a schedule, and writing what they print as it is made.
 
-ghost use Rattle.std.specs.Prelude.{◌≡◌, ◌++◌, ◌≤◌, true, IfErr, OnOk, OnErr};
 ghost use Rattle.std.specs.Io.KnownBytes.{Appends};
+ghost use Rattle.std.specs.Prelude.{◌≡◌, ◌++◌, ◌≤◌, true, IfErr, OnOk, OnErr};
 ghost use Rattle.wef_base.specs.Counts.{Rose};
-ghost use Rattle.wef_replay.specs.Good.{AreGood, no_names};
+ghost use Rattle.wef_cli.specs.Replaying.{StopsRun};
+ghost use Rattle.wef_commands.specs.Streams.{IsWrittenUpTo, WritesPart};
 ghost use Rattle.wef_machine.specs.Laws.{AreKept, AreSafe};
 ghost use Rattle.wef_machine.specs.States.{start};
 ghost use Rattle.wef_machine.specs.Steps.{AreAdmitted, admits, printed_by, step, trail, trail_from};
-ghost use Rattle.wef_commands.specs.Streams.{IsWrittenUpTo, WritesPart};
-ghost use Rattle.wef_cli.specs.Replaying.{StopsRun};
+ghost use Rattle.wef_replay.specs.Good.{AreGood, no_names};
 
 use std::alloc::Global;
 use std::mem;

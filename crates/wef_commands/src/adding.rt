@@ -1,11 +1,11 @@
 //! `add`: the subscription of a document is added.
 
 ghost use Rattle.std.specs.Prelude.{◌≡◌, Some, IfOk, IfErr};
+ghost use Rattle.wef_commands.specs.Adding as spec;
+ghost use Rattle.wef_commands.specs.Calling.{CallEnds, WroteOut, named_ending};
 ghost use Rattle.wef_documents.specs.Bytes.{document_in};
 ghost use Rattle.wef_documents.specs.Kept.{read_kept};
 ghost use Rattle.wef_documents.specs.Written.{document_text};
-ghost use Rattle.wef_commands.specs.Adding as spec;
-ghost use Rattle.wef_commands.specs.Calling.{CallEnds, WroteOut, named_ending};
 
 use crate::calling::{named_ending, store_ending, write_done};
 use crate::ending::{Ending, name_line};

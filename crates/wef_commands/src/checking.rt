@@ -1,9 +1,9 @@
 //! `check`: which events a list of queries selects.
 
 ghost use Rattle.std.specs.Prelude.{◌≡◌, ◌<◌, [], ◌∷◌, length, IfOk, IfErr};
-ghost use Rattle.wef_xml.specs.Good.{IsGoodTree};
 ghost use Rattle.wef_commands.specs.Checking as spec;
 ghost use Rattle.wef_commands.specs.Checking.{lines_of};
+ghost use Rattle.wef_xml.specs.Good.{IsGoodTree};
 
 use crate::calling::write_done;
 use crate::ending::Ending;

@@ -1,9 +1,9 @@
 //! How a run ends: its status, and the line that it writes to the stream of messages.
 
-ghost use Rattle.std.specs.Prelude.{◌≡◌, true, false, codes, IfOk};
 ghost use Rattle.std.specs.Fmt.{decimal};
-ghost use Rattle.wef_machine.specs.Printed as printed;
+ghost use Rattle.std.specs.Prelude.{◌≡◌, true, false, codes, IfOk};
 ghost use Rattle.wef_commands.specs.Endings as spec;
+ghost use Rattle.wef_machine.specs.Printed as printed;
 
 use crate::streams::write_whole;
 use std::alloc::{AllocError, Global};

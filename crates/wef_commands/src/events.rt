@@ -1,14 +1,14 @@
 //! `events`: the events that are held of a source's channel.
 
-ghost use Rattle.std.specs.Prelude.{◌≡◌, ◌++◌, IfOk, IfSome, OnOk};
 ghost use Rattle.std.specs.List.{flat_map};
+ghost use Rattle.std.specs.Prelude.{◌≡◌, ◌++◌, IfOk, IfSome, OnOk};
 ghost use Rattle.wef_collector_reports.specs.Report.{last_row_number};
 ghost use Rattle.wef_collector_rows.specs.Forms.{AreFormed};
+ghost use Rattle.wef_commands.specs.Pages as pages;
+ghost use Rattle.wef_commands.specs.Showing as spec;
 ghost use Rattle.wef_keeper.specs.Access as access;
 ghost use Rattle.wef_keeper.specs.Sections.{rows_under};
 ghost use Rattle.wef_keeper.specs.declared.keys.Depth.TheVariants.{Channel};
-ghost use Rattle.wef_commands.specs.Pages as pages;
-ghost use Rattle.wef_commands.specs.Showing as spec;
 
 use crate::calling::{named_ending, store_ending, write_done};
 use crate::ending::Ending;

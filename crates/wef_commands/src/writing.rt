@@ -1,9 +1,9 @@
 //! `write`: events become records of a source's log.
 
 ghost use Rattle.std.specs.Prelude.{◌≡◌, ◌≤◌, true, false, None, is_some, IfOk, IfErr, IfSome, OnOk};
-ghost use Rattle.wef_replay.specs.Documents.{new_event_in};
 ghost use Rattle.wef_commands.specs.Checking.{lines_of};
 ghost use Rattle.wef_commands.specs.Writing as spec;
+ghost use Rattle.wef_replay.specs.Documents.{new_event_in};
 
 use crate::checking::cut;
 use crate::ending::Ending;

@@ -2,8 +2,8 @@
 
 ghost use Rattle.wef_machine.specs.Admitting.{GoodLinesAreAdmitted};
 ghost use Rattle.wef_machine.specs.Drawing.{ReplyIdsRise, RequestIdsRise};
-ghost use Rattle.wef_machine.specs.Rising.{SessionsRise};
 ghost use Rattle.wef_machine.specs.Laws.{AcknowledgementIsGiven, BookmarksNeverFall, DeliveriesAreAcknowledged, FittingBatchesAreSafe, KeptIsSafe, SchedulesAreKept, SchedulesAreSafe, StartIsKept, StepsKeep, SubscriptionsStay};
+ghost use Rattle.wef_machine.specs.Rising.{SessionsRise};
 
 /// A well-formed batch for a live subscription that asks for an acknowledgement gets it, unless its
 /// commit is arranged to fail.

@@ -1,7 +1,7 @@
 //! An end as a world holds it: it runs, or its store alone is left.
 
-ghost use Rattle.std.specs.Prelude.{◌≡◌, IfOk, OnOk};
 ghost use Rattle.std.specs.Borrow.{LendsIf, sem};
+ghost use Rattle.std.specs.Prelude.{◌≡◌, IfOk, OnOk};
 ghost use Rattle.wef_machine.specs.Arming as arming;
 
 use crate::faults::WorldFault;
@@ -133,8 +133,8 @@ pub struct Placed<E> {
 }
 
 impl<E: End> Placed<E> {
-    ghost use Rattle.std.specs.Prelude.{None};
     ghost use Rattle.std.specs.Option.{option_map};
+    ghost use Rattle.std.specs.Prelude.{None};
     ghost use Rattle.wef_keeper.specs.Keeping.{is_armed};
     ghost use Rattle.wef_machine.specs.Places as machine;
     ghost use Rattle.wef_places.specs.Places as places;

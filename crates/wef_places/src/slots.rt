@@ -142,17 +142,17 @@ pub struct Slot {
 }
 
 impl Model for Slot {
-    ghost use Rattle.std.specs.Prelude.{ℕ, List, refl};
     ghost use Rattle.std.specs.Cmp.Lexicographic.{slice_cmp};
     ghost use Rattle.std.specs.Coded.{code_by, coded_ℕ, coded_list, coded×};
     ghost use Rattle.std.specs.FinMap as map;
     ghost use Rattle.std.specs.Ordering.{nat_cmp};
+    ghost use Rattle.std.specs.Prelude.{ℕ, List, refl};
     ghost use Rattle.wef_machine.specs.Places.{Place};
     ghost use Rattle.wef_machine.specs.States.{Slot};
+    ghost use Rattle.wef_places.specs.Codes.{coded_place};
     ghost use Rattle.wef_source.specs.Machine.{End};
     ghost use Rattle.wef_source.specs.contracts.memories.Memory as memory;
     ghost use Rattle.wef_source_log.specs.Histories.{Histories};
-    ghost use Rattle.wef_places.specs.Codes.{coded_place};
 
     ghost Value = { Slot };
 
@@ -184,11 +184,11 @@ impl Slot {
     ghost use Rattle.wef_machine.specs.Places as places;
     ghost use Rattle.wef_machine.specs.Sources.{declared_slot, slot_opened};
     ghost use Rattle.wef_machine.specs.States.{slot_with};
+    ghost use Rattle.wef_places.specs.Counted as counts;
+    ghost use Rattle.wef_places.specs.Slots as slots;
     ghost use Rattle.wef_source.specs.Machine.{lost_in};
     ghost use Rattle.wef_source_log.specs.Forms.{AreFormed};
     ghost use Rattle.wef_source_log.specs.Histories.{history};
-    ghost use Rattle.wef_places.specs.Counted as counts;
-    ghost use Rattle.wef_places.specs.Slots as slots;
 
     /// A source that was just declared.
     pub fn new(alloc: Global, name: SourceName, capacity: Capacity) -> Slot

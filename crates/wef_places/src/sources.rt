@@ -1,7 +1,7 @@
 //! The declared sources.
 
-ghost use Rattle.std.specs.Prelude.{◌≡◌, map, OnOk};
 ghost use Rattle.std.specs.FinMap as finite;
+ghost use Rattle.std.specs.Prelude.{◌≡◌, map, OnOk};
 ghost use Rattle.wef_replay.specs.Good.{is_among};
 
 use crate::slots::Slot;
@@ -17,13 +17,13 @@ pub struct Sources {
 }
 
 impl Model for Sources {
-    ghost use Rattle.std.specs.FinMap as map;
-    ghost use Rattle.std.specs.Coded.{coded_ℕ, coded_list};
-    ghost use Rattle.std.specs.Ordering.{nat_cmp};
-    ghost use Rattle.std.specs.Cmp.Lexicographic.{slice_cmp};
     ghost use Rattle.std.specs.BTreeMap.{IsOrdered};
-    ghost use Rattle.wef_places.specs.contracts.slots.Slot as slot;
+    ghost use Rattle.std.specs.Cmp.Lexicographic.{slice_cmp};
+    ghost use Rattle.std.specs.Coded.{coded_ℕ, coded_list};
+    ghost use Rattle.std.specs.FinMap as map;
+    ghost use Rattle.std.specs.Ordering.{nat_cmp};
     ghost use Rattle.wef_machine.specs.States.{Slot};
+    ghost use Rattle.wef_places.specs.contracts.slots.Slot as slot;
 
     ghost Value = { map.FinMap (slice_cmp nat_cmp) Slot };
 

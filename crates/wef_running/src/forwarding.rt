@@ -1,9 +1,9 @@
 //! `forward`: a source asks a collector for subscriptions, and sends it batches.
 
-ghost use Rattle.std.specs.Prelude.{◌≡◌, ◌≤◌, [], ◌++◌, codes, drop, option_copied, IfOk, OnOk};
 ghost use Rattle.std.specs.Fmt.{decimal};
-ghost use Rattle.wef_eventing.specs.Addresses.{IsHost};
+ghost use Rattle.std.specs.Prelude.{◌≡◌, ◌≤◌, [], ◌++◌, codes, drop, option_copied, IfOk, OnOk};
 ghost use Rattle.wef_commands.specs.Writing.{TellsLine};
+ghost use Rattle.wef_eventing.specs.Addresses.{IsHost};
 ghost use Rattle.wef_running.specs.Forwarding as spec;
 
 use std::alloc::{AllocError, Global};

@@ -1,23 +1,23 @@
 //! Deliveries of messages.
 
-ghost use Rattle.std.specs.Prelude.{◌≡◌, ◌+◌, ◌-◌, ◌==◌, length, slice_get, Some, if◌then◌else◌, IfOk, OnOk};
 ghost use Rattle.std.specs.FinMap as map;
 ghost use Rattle.std.specs.Option.{option_copied};
+ghost use Rattle.std.specs.Prelude.{◌≡◌, ◌+◌, ◌-◌, ◌==◌, length, slice_get, Some, if◌then◌else◌, IfOk, OnOk};
+ghost use Rattle.wef_base.specs.declared.tree.Charset.TheVariants.{Utf8};
 ghost use Rattle.wef_batch.specs.Numbers.{AreNumbered};
-ghost use Rattle.wef_collector_rows.specs.Forms.{AreFormed};
 ghost use Rattle.wef_collector.specs.Offers.{offers};
+ghost use Rattle.wef_collector_rows.specs.Forms.{AreFormed};
+ghost use Rattle.wef_front.specs.HeardReplies.{offers_told, told};
+ghost use Rattle.wef_front.specs.Replies.{IsAnswer};
+ghost use Rattle.wef_front.specs.Sending.{CanBeSent};
 ghost use Rattle.wef_ids.specs.Ids.{with_drawn};
+ghost use Rattle.wef_keeper.specs.Keeping.{raised};
 ghost use Rattle.wef_machine.specs.Collecting as collecting;
 ghost use Rattle.wef_machine.specs.Deliveries as steps;
 ghost use Rattle.wef_machine.specs.Kept.{IsKept};
 ghost use Rattle.wef_machine.specs.Printed as texts;
 ghost use Rattle.wef_machine.specs.Seen.{message_line, seen_line};
-ghost use Rattle.wef_front.specs.HeardReplies.{offers_told, told};
 ghost use Rattle.wef_machine.specs.States as states;
-ghost use Rattle.wef_base.specs.declared.tree.Charset.TheVariants.{Utf8};
-ghost use Rattle.wef_front.specs.Replies.{IsAnswer};
-ghost use Rattle.wef_front.specs.Sending.{CanBeSent};
-ghost use Rattle.wef_keeper.specs.Keeping.{raised};
 ghost use Rattle.wef_places.specs.Collected.{collector_of};
 ghost use Rattle.wef_places.specs.Counted as counts;
 ghost use Rattle.wef_places.specs.Places as places;

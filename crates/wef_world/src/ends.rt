@@ -1,13 +1,13 @@
 //! The ends that a schedule moves.
 
 ghost use Rattle.std.specs.Prelude.{◌≡◌, true, [], codes, IfOk, OnOk};
+ghost use Rattle.wef_batch.specs.Numbers.{AreNumbered};
+ghost use Rattle.wef_collector_rows.specs.Forms.{AreFormed};
 ghost use Rattle.wef_machine.specs.Collecting as collecting;
 ghost use Rattle.wef_machine.specs.Kept.{IsKept};
 ghost use Rattle.wef_machine.specs.Printed as texts;
 ghost use Rattle.wef_machine.specs.States as states;
 ghost use Rattle.wef_machine.specs.Steps as steps;
-ghost use Rattle.wef_batch.specs.Numbers.{AreNumbered};
-ghost use Rattle.wef_collector_rows.specs.Forms.{AreFormed};
 ghost use Rattle.wef_places.specs.Collected as collected;
 ghost use Rattle.wef_places.specs.Counted.{counted, hears_by};
 ghost use Rattle.wef_places.specs.Made as made;
@@ -50,9 +50,9 @@ pub struct Ends {
 }
 
 impl Model for Ends {
-    ghost use Rattle.std.specs.Prelude.{ℕ, List, refl};
     ghost use Rattle.std.specs.Coded.{code_by, coded_ℕ, coded_list, coded×};
     ghost use Rattle.std.specs.FinMap as map;
+    ghost use Rattle.std.specs.Prelude.{ℕ, List, refl};
     ghost use Rattle.wef_ids.specs.contracts.ids.Ids as ids;
     ghost use Rattle.wef_machine.specs.States.{Collector, Slots, State};
     ghost use Rattle.wef_machine.specs.contracts.messages.Message as message;

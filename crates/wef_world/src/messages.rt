@@ -168,8 +168,8 @@ pub struct ReplyBytes {
 }
 
 impl Model for ReplyBytes {
-    ghost use Rattle.wef_world.specs.Codes.{coded_reply};
     ghost use Rattle.wef_world.specs.Bytes.{AreReply, Replied, replied};
+    ghost use Rattle.wef_world.specs.Codes.{coded_reply};
 
     ghost Value = { Replied };
 

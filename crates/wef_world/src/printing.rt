@@ -1,11 +1,11 @@
 //! What the lines of a schedule print.
 
-ghost use Rattle.std.specs.Prelude.{◌≡◌, ◌++◌, true, Some, IfOk, IfErr, OnOk};
 ghost use Rattle.std.specs.List.{flat_map};
+ghost use Rattle.std.specs.Prelude.{◌≡◌, ◌++◌, true, Some, IfOk, IfErr, OnOk};
 ghost use Rattle.wef_collector_rows.specs.Answers as answers;
+ghost use Rattle.wef_collector_rows.specs.Forms.{AreFormed};
 ghost use Rattle.wef_collector_rows.specs.Held.{held_after, last_number};
 ghost use Rattle.wef_collector_rows.specs.Standing.{standing};
-ghost use Rattle.wef_collector_rows.specs.Forms.{AreFormed};
 ghost use Rattle.wef_machine.specs.Printed as spec;
 
 use std::alloc::{AllocError, Global};
