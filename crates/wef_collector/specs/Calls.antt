@@ -9,13 +9,13 @@ use Rattle.wef_eventing.specs.declared.subscriptions.Subscription.{Subscription}
 use Rattle.wef_keeper.specs.Calls as keeper
 use Rattle.wef_keeper.specs.Rows.{Rows}
 use Rattle.wef_keeper.specs.declared.keys.Change.{Change}
-use Rattle.wef_collector_rows.specs.Answers.{channels_read, is_there}
+use Rattle.wef_collector_rows.specs.Answers.{IsOfStore, channels_read, is_there}
 use Rattle.wef_collector.specs.Boots.{boot_of}
 use Rattle.wef_collector_rows.specs.Keys.{boot_key, subscription_key}
 use Rattle.wef_collector_rows.specs.Standing.{is_full, kept_body, standing}
 use Rattle.wef_collector.specs.Taken.{batch_changes, put}
 use Rattle.wef_collector_rows.specs.declared.faults.CollectorFault.{CollectorFault}
-use Rattle.wef_collector_rows.specs.declared.faults.CollectorFault.TheVariants.{NoMemory, NoSubscription, Exists, Ended, NotWellFormed, TooMany, Failed, Full}
+use Rattle.wef_collector_rows.specs.declared.faults.CollectorFault.TheVariants.{NoSubscription, Exists, Ended, NotWellFormed, TooMany, Full}
 use Rattle.wef_collector_rows.specs.declared.standings.Standing as state
 use Rattle.wef_collector_rows.specs.declared.standings.Standing.TheVariants as is
 
@@ -74,30 +74,20 @@ boot_effect rows =
     if nat_lt (boot_of rows) MAX then Ok (put boot_key (boot_of rows + 1) [] ∷ []) else Err Full
 
 -- the refusals that there are at all of each call
+abbrev pub OfStart : CollectorFault → Type 0
+OfStart Full = Unit {0}
+OfStart fault = IsOfStore fault
+
 abbrev pub OfAdd : CollectorFault → Type 0
-OfAdd NoMemory = Unit {0}
-OfAdd Failed = Unit {0}
 OfAdd Exists = Unit {0}
 OfAdd TooMany = Unit {0}
-OfAdd _ = ⊥
+OfAdd fault = IsOfStore fault
 
 abbrev pub OfEnd : CollectorFault → Type 0
-OfEnd NoMemory = Unit {0}
-OfEnd Failed = Unit {0}
 OfEnd NoSubscription = Unit {0}
 OfEnd Ended = Unit {0}
-OfEnd _ = ⊥
+OfEnd fault = IsOfStore fault
 
 abbrev pub OfTake : CollectorFault → Type 0
-OfTake NoMemory = Unit {0}
-OfTake Failed = Unit {0}
-OfTake NoSubscription = Unit {0}
-OfTake Ended = Unit {0}
 OfTake NotWellFormed = Unit {0}
-OfTake _ = ⊥
-
-abbrev pub OfStart : CollectorFault → Type 0
-OfStart NoMemory = Unit {0}
-OfStart Failed = Unit {0}
-OfStart Full = Unit {0}
-OfStart _ = ⊥
+OfTake fault = OfEnd fault

@@ -20,35 +20,21 @@ use Rattle.wef_source.specs.declared.messages.Reply as reply
 use Rattle.wef_source.specs.declared.messages.Reply.TheVariants as replies
 use Rattle.wef_source.specs.declared.sessions.Session.{Session}
 
--- the log's refusals
-abbrev pub RefusesLog : SourceFault → Type 0
-RefusesLog NoMemory = Unit {0}
-RefusesLog Failed = Unit {0}
-RefusesLog Full = Unit {0}
-RefusesLog TooLong = Unit {0}
-RefusesLog NotAsked = ⊥
-RefusesLog UnknownSubscription = ⊥
-RefusesLog Spent = ⊥
-
--- a start's refusals
-abbrev pub RefusesStart : SourceFault → Type 0
-RefusesStart NoMemory = Unit {0}
-RefusesStart Failed = Unit {0}
-RefusesStart Full = Unit {0}
-RefusesStart TooLong = ⊥
-RefusesStart NotAsked = ⊥
-RefusesStart UnknownSubscription = ⊥
-RefusesStart Spent = ⊥
-
 -- a call that only reads the log is refused for want of memory, or where the store failed
 abbrev pub RefusesRead : SourceFault → Type 0
 RefusesRead NoMemory = Unit {0}
 RefusesRead Failed = Unit {0}
-RefusesRead Full = ⊥
-RefusesRead TooLong = ⊥
-RefusesRead NotAsked = ⊥
-RefusesRead UnknownSubscription = ⊥
-RefusesRead Spent = ⊥
+RefusesRead _ = ⊥
+
+-- a start's refusals
+abbrev pub RefusesStart : SourceFault → Type 0
+RefusesStart Full = Unit {0}
+RefusesStart fault = RefusesRead fault
+
+-- the log's refusals
+abbrev pub RefusesLog : SourceFault → Type 0
+RefusesLog TooLong = Unit {0}
+RefusesLog fault = RefusesStart fault
 
 -- An ask draws the next id.
 abbrev pub Asks : End → End → MessageId → Type 0

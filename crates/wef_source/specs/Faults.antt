@@ -5,7 +5,7 @@ use Rattle.wef_keeper.specs.declared.access.StoreFault.TheVariants as store
 use Rattle.wef_source_log.specs.declared.faults.LogFault.{LogFault}
 use Rattle.wef_source_log.specs.declared.faults.LogFault.TheVariants as log
 use Rattle.wef_source.specs.declared.faults.SourceFault.{SourceFault}
-use Rattle.wef_source.specs.declared.faults.SourceFault.TheVariants.{NoMemory, Failed, Full, TooLong, NotAsked, UnknownSubscription, Spent}
+use Rattle.wef_source.specs.declared.faults.SourceFault.TheVariants.{NoMemory, Failed, Full, TooLong}
 
 -- a refusal of the log, as the source hands it on
 abbrev pub source_fault : LogFault → SourceFault
@@ -23,8 +23,4 @@ source_answer (Err fault) = Err (source_fault fault)
 abbrev pub source_store : OfStore SourceFault
 source_store NoMemory = Some store.NoMemory
 source_store Failed = Some store.Failed
-source_store Full = None
-source_store TooLong = None
-source_store NotAsked = None
-source_store UnknownSubscription = None
-source_store Spent = None
+source_store _ = None

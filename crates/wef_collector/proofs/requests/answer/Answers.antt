@@ -36,14 +36,12 @@ returns-in_err-changes-clause-judged g c =
 
 pub returns-in_err-commit-clause-call : goal.returns-in_err-commit-clause-call
 returns-in_err-commit-clause-call g c =
-    let fault = c.in_err-commit.field-0.0 in
-    let made = c.in_ok-changes.ensures in
     let commit = c.in_err-commit.ensures in
     let p = err_from_is_err_and c.from_residual-in_err-commit.result c.from_residual-in_err-commit.ensures.1 in
-    rw (p.1, p.2) (not_committed collector_store AreFormed (effect_of c.args.request.now) (λ _. tt) fault (collector_fault fault) c.in_ok-changes.changes
+    rw (p.1, p.2) (not_committed collector_store AreFormed (effect_of c.args.request.now) (λ _. tt) c.in_err-commit.field-0.0 (collector_fault c.in_err-commit.field-0.0) c.in_ok-changes.changes
     (g.K.Keeper.store c.args.keeper.now) (g.K.Keeper.store c.open.new.keeper) (g.K.Keeper.store c.changes_of.new.keeper) (g.K.Keeper.store c.commit.new.keeper)
-    (applied_formed is_formed c.in_ok-changes.changes commit.put) (of_collector_fault fault) (g.met.K.Keeper.tells_both c.commit.new.keeper) (c.in_ok-open.ensures.found refl) c.in_ok-open.ensures.opened
-    made.reads made.effect commit.leaves commit.planned commit.faults)
+    (applied_formed is_formed c.in_ok-changes.changes commit.put) (of_collector_fault c.in_err-commit.field-0.0) (g.met.K.Keeper.tells_both c.commit.new.keeper) (c.in_ok-open.ensures.found refl) c.in_ok-open.ensures.opened
+    c.in_ok-changes.ensures.reads c.in_ok-changes.ensures.effect commit.leaves commit.planned commit.faults)
 
 pub returns-in_err-commit-clause-judged : goal.returns-in_err-commit-clause-judged
 returns-in_err-commit-clause-judged g c =
