@@ -4,11 +4,11 @@ ghost use Rattle.std.specs.Prelude.{◌≡◌, find, option_copied};
 ghost use Rattle.wef_bodies.specs.Offers.{is_offer};
 ghost use Rattle.wef_bodies.specs.Subscribes.{has_attribute, in_eventing, in_management};
 ghost use Rattle.wef_elements.specs.Children.{first_called, is_called};
-ghost use Rattle.wef_envelope.specs.Spaces.{addressing, enumeration, eventing, soap, subscription};
+ghost use Rattle.wef_envelope.specs.Spaces.{addressing, enumeration, eventing};
 
 use wef_base::Element;
 use wef_elements::{first_called, is_called, value_of};
-use wef_xml::messages::{ADDRESSING, ENUMERATION, EVENTING, MANAGEMENT, SOAP, SUBSCRIPTION};
+use wef_xml::messages::{ADDRESSING, ENUMERATION, EVENTING, MANAGEMENT, SUBSCRIPTION};
 
 /// The first child of WS-Eventing that has this local name.
 #[tactic(auto, unfolding(wef_envelope::specs::Spaces::eventing))]
@@ -32,22 +32,6 @@ pub(crate) fn in_addressing<'a>(name: &str, element: &'a Element) -> Option<&'a 
     ensures { option_copied result ≡ first_called addressing name.now element.now.children }
 {
     first_called(ADDRESSING, name, element.children.as_slice())
-}
-
-/// The first child of SOAP that has this local name.
-#[tactic(auto, unfolding(wef_envelope::specs::Spaces::soap))]
-pub(crate) fn in_soap<'a>(name: &str, element: &'a Element) -> Option<&'a Element>
-    ensures { option_copied result ≡ first_called soap name.now element.now.children }
-{
-    first_called(SOAP, name, element.children.as_slice())
-}
-
-/// The first child of the namespace of offers that has this local name.
-#[tactic(auto, unfolding(wef_envelope::specs::Spaces::subscription))]
-pub(crate) fn in_subscription<'a>(name: &str, element: &'a Element) -> Option<&'a Element>
-    ensures { option_copied result ≡ first_called subscription name.now element.now.children }
-{
-    first_called(SUBSCRIPTION, name, element.children.as_slice())
 }
 
 /// Whether an element is an offer.

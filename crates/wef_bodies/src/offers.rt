@@ -9,14 +9,15 @@ ghost use Rattle.wef_bodies.specs.Steps.{Reads};
 ghost use Rattle.wef_elements.specs.Children.{elements_in};
 
 use crate::bodies::{BodyFault, Part};
-use crate::children::{enumeration_of, in_management, in_soap, in_subscription, is_offer};
+use crate::children::{enumeration_of, in_management, is_offer};
 use crate::subscribes::subscribe_in;
 use std::alloc::{AllocError, Global};
 use wef_base::{Element, List, Moment, Node, Text};
-use wef_elements::{element_of, said_in};
+use wef_elements::{element_of, first_called, said_in};
 use wef_envelope::actions::SUBSCRIBE;
 use wef_envelope::{Envelope, EnvelopeFault, from_node};
 use wef_eventing::{Offer, Subscribe};
+use wef_xml::messages::{SOAP, SUBSCRIPTION};
 
 /// Reads the offers among the elements of a Body.
 pub fn read_offers(
@@ -69,20 +70,22 @@ fn offer_of(alloc: Global, element: &Element, now: Moment) -> Result<Offer, Body
 }
 
 /// The version of an offer; an empty text where there is none.
+#[tactic(auto, unfolding(wef_envelope::specs::Spaces::subscription))]
 fn version_in(element: &Element) -> Result<Text, AllocError>
     ensures { IfOk result (λ version. version ≡ version_in element.now) }
 {
-    match in_subscription("Version", element) {
+    match first_called(SUBSCRIPTION, "Version", element.children.as_slice()) {
         Some(version) => said_in(version),
         None => Ok(Text::new(element.name.alloc())),
     }
 }
 
 /// The wish that an offer holds, in an envelope.
+#[tactic(auto, unfolding(wef_envelope::specs::Spaces::soap))]
 fn offered_in(alloc: Global, element: &Element, now: Moment) -> Result<Subscribe, BodyFault>
     ensures { Reads result (offered_in now element.now) }
 {
-    let Some(nested) = in_soap("Envelope", element) else {
+    let Some(nested) = first_called(SOAP, "Envelope", element.children.as_slice()) else {
         return Err(BodyFault::BadBody(Part::Subscription));
     };
     match &from_node(nested) {

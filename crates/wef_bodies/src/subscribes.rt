@@ -75,43 +75,25 @@ fn subscribe_with(
 }
 
 /// The Delivery of a Subscribe, which must be in the mode of batches.
+#[tactic(auto, unfolding(crate::specs::Spaces::batches))]
 fn delivery_in(subscribe: &Element) -> Result<&Element, BodyFault>
     ensures { Reads (result_map_both (λ e. e.now) (λ fault. fault) result) (delivery_in subscribe.now) }
 {
-    let Some(delivery) = in_eventing("Delivery", subscribe) else {
-        return Err(BodyFault::BadMode);
-    };
-    if !is_in_mode(delivery) {
-        return Err(BodyFault::BadMode);
+    match in_eventing("Delivery", subscribe) {
+        Some(delivery) if has_attribute("Mode", EVENTS, delivery) => Ok(delivery),
+        _ => Err(BodyFault::BadMode),
     }
-    Ok(delivery)
-}
-
-#[tactic(auto, unfolding(crate::specs::Spaces::batches))]
-fn is_in_mode(delivery: &Element) -> bool
-    ensures { result ≡ has_attribute (codes "Mode") batches delivery.now }
-{
-    has_attribute("Mode", EVENTS, delivery)
 }
 
 /// The queries of the filter, which must be in their dialect.
+#[tactic(auto, unfolding(crate::specs::Spaces::event_query))]
 fn filter_in(subscribe: &Element) -> Result<QueryList, BodyFault>
     ensures { Reads result (filter_in subscribe.now) }
 {
-    let Some(filter) = in_management("Filter", subscribe) else {
-        return Err(BodyFault::BadFilter);
-    };
-    if !is_in_dialect(filter) {
-        return Err(BodyFault::BadFilter);
+    match in_management("Filter", subscribe) {
+        Some(filter) if has_attribute("Dialect", EVENT_QUERY, filter) => queries_in(filter),
+        _ => Err(BodyFault::BadFilter),
     }
-    queries_in(filter)
-}
-
-#[tactic(auto, unfolding(crate::specs::Spaces::event_query))]
-fn is_in_dialect(filter: &Element) -> bool
-    ensures { result ≡ has_attribute (codes "Dialect") event_query filter.now }
-{
-    has_attribute("Dialect", EVENT_QUERY, filter)
 }
 
 fn queries_in(filter: &Element) -> Result<QueryList, BodyFault>

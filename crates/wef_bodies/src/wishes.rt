@@ -10,12 +10,13 @@ ghost use Rattle.wef_bookmark.specs.Entries.{AreEntries};
 ghost use Rattle.wef_bookmark.specs.Nodes.{AreTexts};
 ghost use Rattle.wef_eventing.specs.Kept.{HasKeptName};
 
-use crate::spaces::{addressing, batches, event_query, eventing};
+use crate::spaces::{addressing, eventing};
 use std::alloc::{AllocError, Global};
 use std::collections::BTreeMap;
 use wef_base::{Attribute, ChannelName, Element, List, Namespace, Text};
 use wef_bookmark::Bookmark;
 use wef_elements::{digits, management, with_attributes, with_elements, with_text, with_value};
+use wef_envelope::actions::{EVENT_QUERY, EVENTS};
 use wef_eventing::{Offer, Subscribe};
 use wef_query::{QueryItem, QueryList, write_query};
 use wef_times::write_duration;
@@ -95,12 +96,13 @@ fn expires_element(alloc: Global, ms: u64) -> Result<Element, AllocError>
     with_text(eventing(alloc)?, "Expires", write_duration(alloc, ms)?)
 }
 
+#[tactic(auto, unfolding(crate::specs::Spaces::event_query))]
 fn filter_element(alloc: Global, query: &QueryList) -> Result<Element, AllocError>
     ensures { IfOk result (λ e. e ≡ filter_element query.now.items) }
 {
     let mut lists = List::new(alloc);
     lists.push(write_query(alloc, query)?)?;
-    let dialect = event_query(alloc)?;
+    let dialect = Text::from_str(alloc, EVENT_QUERY)?;
     marked_holder(
         alloc,
         management(alloc)?,
@@ -134,6 +136,7 @@ fn plain(alloc: Global, name: &str, value: Text) -> Result<Attribute, AllocError
     with_value(alloc, Namespace::new(Text::new(alloc))?, name, value)
 }
 
+#[tactic(auto, unfolding(crate::specs::Spaces::batches))]
 fn delivery_element(alloc: Global, wish: &Subscribe) -> Result<Element, AllocError>
     ensures { IfOk result (λ e. e ≡ delivery_element wish.now) }
 {
@@ -142,7 +145,7 @@ fn delivery_element(alloc: Global, wish: &Subscribe) -> Result<Element, AllocErr
     parts.push(notify_element(alloc, wish)?)?;
     parts.push(count_element(alloc, wish.max_items)?)?;
     parts.push(size_element(alloc, wish.max_bytes)?)?;
-    let mode = batches(alloc)?;
+    let mode = Text::from_str(alloc, EVENTS)?;
     marked_holder(alloc, eventing(alloc)?, "Delivery", "Mode", mode, parts)
 }
 
@@ -177,24 +180,13 @@ fn notify_element(alloc: Global, wish: &Subscribe) -> Result<Element, AllocError
 {
     let mut parts = List::new(alloc);
     parts.push(address_element(alloc, &wish.notify_to)?)?;
-    push_properties(alloc, &mut parts, wish.identifier.as_ref())?;
+    if let Some(identifier) = &wish.identifier {
+        parts.push(properties_element(alloc, identifier)?)?;
+    }
     with_elements(eventing(alloc)?, "NotifyTo", parts)
 }
 
-/// Appends what comes back with each delivery, if there is anything.
-fn push_properties(
-    alloc: Global,
-    parts: &mut List<Element>,
-    identifier: Option<&Text>,
-) -> Result<(), AllocError>
-    ensures { OnOk result (parts.new ≡ parts.old ++ option_to_list (option_map properties_element (option_copied identifier.entry))) }
-{
-    if let Some(identifier) = identifier {
-        parts.push(properties_element(alloc, identifier)?)?;
-    }
-    Ok(())
-}
-
+/// What comes back with each delivery.
 fn properties_element(alloc: Global, identifier: &Text) -> Result<Element, AllocError>
     ensures { IfOk result (λ e. e ≡ properties_element identifier.now) }
 {
@@ -224,14 +216,8 @@ fn queried_names_are_kept(items: &[QueryItem])
     ensures { AllByRecursion HasKeptName items.now }
 {
     for item in items {
-        name_is_kept(item);
+        let _name = item.channel.as_text().as_str();
     }
-}
-
-fn name_is_kept(item: &QueryItem)
-    ensures { HasKeptName item.now }
-{
-    let _name = item.channel.as_text().as_str();
 }
 
 /// Names in a bookmark read back as themselves and are UTF-8, since their type keeps it.

@@ -8,14 +8,16 @@ ghost use Rattle.wef_elements.specs.Good.{AreGoodElements};
 ghost use Rattle.wef_eventing.specs.Sending.{CanBeOffered, HasXmlTexts};
 
 use crate::bodies::Body;
-use crate::spaces::{anonymous, enumeration, event_log, most_elements, subscribe, subscription};
+use crate::spaces::enumeration;
 use crate::wishes::{names_are_kept, offered_names_are_kept, subscribe_element};
 use std::alloc::{AllocError, Global};
-use wef_base::{Element, List, Text};
+use wef_base::{Element, List, Namespace, Text};
 use wef_elements::{management, with_elements, with_text};
+use wef_envelope::actions::{ANONYMOUS, EVENT_LOG, SUBSCRIBE};
 use wef_envelope::{Envelope, to_node};
 use wef_eventing::{Offer, Subscribe};
 use wef_ids::{MessageId, read_id};
+use wef_xml::messages::SUBSCRIPTION;
 
 /// The elements that say a body. The envelopes in offers have an empty MessageID. Where its texts hold
 /// characters that XML allows, they are good trees with room for the envelope round them; the names in a
@@ -90,13 +92,15 @@ fn only(alloc: Global, element: Element) -> Result<List<Element>, AllocError>
     Ok(elements)
 }
 
-/// The element that asks for offers.
+/// The element that asks for offers, of which an answer may hold so many elements.
+#[tactic(auto, unfolding(crate::specs::Spaces::most_elements))]
 fn enumerate_element(alloc: Global) -> Result<Element, AllocError>
     ensures { IfOk result (λ e. e ≡ enumerate_element) }
 {
     let mut parts = List::new(alloc);
     parts.push(with_text(management(alloc)?, "OptimizeEnumeration", Text::new(alloc))?)?;
-    parts.push(with_text(management(alloc)?, "MaxElements", most_elements(alloc)?)?)?;
+    let most = Text::from_str(alloc, "32000")?;
+    parts.push(with_text(management(alloc)?, "MaxElements", most)?)?;
     with_elements(enumeration(alloc)?, "Enumerate", parts)
 }
 
@@ -131,26 +135,28 @@ fn offer_elements(
     Ok(elements)
 }
 
+#[tactic(auto, unfolding(wef_envelope::specs::Spaces::subscription))]
 fn offer_element(alloc: Global, offer: &Offer, id: &MessageId) -> Result<Element, AllocError>
     ensures { IfOk result (λ e. e ≡ offer_element id.now offer.now) }
 {
     let nested = to_node(&offer_envelope(alloc, &offer.subscribe, id)?)?;
     let mut parts = List::new(alloc);
-    parts.push(with_text(subscription(alloc)?, "Version", offer.version.clone()?)?)?;
+    let space = Namespace::new(Text::from_str(alloc, SUBSCRIPTION)?)?;
+    parts.push(with_text(space.clone()?, "Version", offer.version.clone()?)?)?;
     parts.push(nested)?;
-    with_elements(subscription(alloc)?, "Subscription", parts)
+    with_elements(space, "Subscription", parts)
 }
 
 /// The envelope that an offer holds.
-#[tactic(auto, unfolding(crate::specs::Written::offer_envelope))]
+#[tactic(auto, unfolding(crate::specs::Written::offer_envelope, crate::specs::Spaces::anonymous, crate::specs::Spaces::event_log, crate::specs::Spaces::subscribe))]
 fn offer_envelope(alloc: Global, wish: &Subscribe, id: &MessageId) -> Result<Envelope, AllocError>
     ensures { IfOk result (λ e. e ≡ offer_envelope id.now wish.now) }
 {
     Ok(Envelope {
-        to: Some(anonymous(alloc)?),
-        resource: Some(event_log(alloc)?),
-        reply_to: Some(anonymous(alloc)?),
-        action: subscribe(alloc)?,
+        to: Some(Text::from_str(alloc, ANONYMOUS)?),
+        resource: Some(Text::from_str(alloc, EVENT_LOG)?),
+        reply_to: Some(Text::from_str(alloc, ANONYMOUS)?),
+        action: Text::from_str(alloc, SUBSCRIBE)?,
         id: id.clone()?,
         relates: None,
         machine: None,
