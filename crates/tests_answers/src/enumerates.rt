@@ -4,9 +4,9 @@ use crate::answers::{asked, base_path, path_of, push_answered, push_bytes};
 use std::alloc::AllocError;
 use tests_collectors::collectors::{Kept, collector_of, push_left};
 use tests_collectors::requests::enumerate;
-use tests_collectors::utf16::{from_utf16, in_utf16};
 use tests_tasks::deliveries::edited;
 use tests_tasks::escapes::escaped;
+use tests_tasks::utf16::{from_utf16, in_utf16};
 use wef_base::{Charset, Text};
 use wef_front::Target;
 

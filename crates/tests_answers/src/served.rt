@@ -1,8 +1,8 @@
 //! Responses, as they are shown.
 
 use std::alloc::AllocError;
-use tests_collectors::utf16::from_utf16;
 use tests_tasks::escapes::escaped;
+use tests_tasks::utf16::from_utf16;
 use wef_base::Text;
 
 /// The responses in bytes, each on lines of its own: its head, and its body decoded.

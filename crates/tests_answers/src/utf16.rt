@@ -3,9 +3,9 @@
 use crate::answers::{asked, base_path, push_said};
 use std::alloc::{AllocError, Global};
 use tests_collectors::collectors::{Kept, collector_of, push_left};
-use tests_collectors::utf16::{Order, units};
 use tests_tasks::deliveries::edited;
 use tests_tasks::hexadecimal::push_hexadecimal;
+use tests_tasks::utf16::{Order, units};
 use wef_base::{Bytes, Charset, Text};
 use wef_collector::Collector;
 use wef_front::Answer;

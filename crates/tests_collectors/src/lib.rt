@@ -4,4 +4,3 @@
 pub mod collectors;
 pub mod requests;
 pub mod sources;
-pub mod utf16;

@@ -1,9 +1,9 @@
 //! Wishes for subscriptions, and the bytes of connections in which they and deliveries come.
 
-use crate::utf16::in_utf16;
 use std::alloc::{AllocError, Global};
 use tests_tasks::deliveries::{edited, edited_from};
 use tests_tasks::escapes::unescaped;
+use tests_tasks::utf16::in_utf16;
 use wef_base::{Bytes, Text};
 
 /// An Enumerate with the headers that a Windows source may send, its MessageID in capital letters.

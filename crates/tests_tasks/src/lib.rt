@@ -7,3 +7,4 @@ pub mod hexadecimal;
 pub mod rows;
 pub mod runs;
 pub mod spelt;
+pub mod utf16;
