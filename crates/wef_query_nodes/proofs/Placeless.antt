@@ -38,13 +38,13 @@ one_more f xs k d h all one =
     subst AllIgnore (sym (ap (map f) (take_more xs k d h) ∙ map-append f (take k xs) (get_or xs k d ∷ []))) (all_behind (map f (take k xs)) (f (get_or xs k d)) all one)
 
 -- all of those that ignore it, where so many as there are do
-pub all_ignore : {A : Type 0} {f : A → Test} {xs ys : List A} {k : ℕ} → length xs ≤ k → xs ≡ ys → AllIgnore (map f (take k xs)) → AllIgnore (map f ys)
-all_ignore {f = f} {xs = xs} {k = k} h e all = subst (λ zs. AllIgnore (map f zs)) (take_all k xs h ∙ e) all
+pub all_ignore : {A : Type 0} (f : A → Test) (xs ys : List A) (k : ℕ) → length xs ≤ k → xs ≡ ys → AllIgnore (map f (take k xs)) → AllIgnore (map f ys)
+all_ignore f xs ys k h e all = subst (λ zs. AllIgnore (map f zs)) (take_all k xs h ∙ e) all
 
 -- one more item of a loop, where its test says that it ignores it
-pub next_ignores : {A : Type 0} {f : A → Test} {xs : List A} {k : ℕ} {d : A} {test : Bool} → k < length xs → d ≡ get_or xs k d → test ≡ true
+pub next_ignores : {A : Type 0} (f : A → Test) (xs : List A) (k : ℕ) (d : A) (test : Bool) → k < length xs → d ≡ get_or xs k d → test ≡ true
     → (IsTrue test → Ignores (f d)) → AllIgnore (map f (take k xs)) → AllIgnore (map f (take (k + 1) xs))
-next_ignores {f = f} {xs = xs} {k = k} {d = d} h is passes says all = one_more f xs k d h all (subst (λ a. Ignores (f a)) is (says passes))
+next_ignores f xs k d test h is passes says all = one_more f xs k d h all (subst (λ a. Ignores (f a)) is (says passes))
 
 pub group_ignores : (u : Unit) (o inner : Or) → u ≡ Group o → inner ≡ o → Ignores (holds_or inner) → Ignores (holds_unit u)
 group_ignores u o inner is same ignores =

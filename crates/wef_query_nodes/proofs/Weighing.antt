@@ -1,7 +1,7 @@
 -- What a path and its parts weigh, by their own parts.
-use Rattle.std.proofs.Common.{◌≡◌, ℕ, ◌+◌, ◌*◌, ◌<◌, ◌≤◌, List, get_or, length, take, refl, sym, ◌∙◌, ap, subst, arith}
+use Rattle.std.proofs.Common.{◌≡◌, ℕ, ◌+◌, ◌<◌, ◌≤◌, List, get_or, length, take, refl, sym, ◌∙◌, ap, subst, arith}
 use Rattle.std.specs.List.{sum_by}
-use Rattle.std.proofs.lemmas.List.Sums.{get_or-le-sum_by, sum-map, sum_by_more_le, sum_by-take-le}
+use Rattle.std.proofs.lemmas.List.Sums.{sum-map, sum_by_more_le, sum_by-take-le}
 use Rattle.std.proofs.lemmas.List.{length-take-le, take-take}
 use Rattle.wef_query_tokens.specs.declared.operator.Operator.{Operator}
 use Rattle.wef_query_paths.specs.declared.path.And.{And, out-And}
@@ -30,15 +30,6 @@ path_weighs a = fold_out-Path ℕ ℕ ℕ ℕ ℕ ℕ ℕ predicate_above unit_a
 
 pub step_weighs : (a : Step) → step_weight a ≡ sum_by predicate_weight (out-Step a).predicates + 1
 step_weighs a = fold_out-Step ℕ ℕ ℕ ℕ ℕ ℕ ℕ predicate_above unit_above value_above and_above or_above path_above step_above a ∙ ap (λ k. k + 1) (sum-map predicate_weight (out-Step a).predicates)
-
--- an item of the others that a part has weighs less than it
-pub part_weighs : {A : Type 0} (weight : A → ℕ) (whole first i : ℕ) (items others : List A) (item : A) → whole ≡ first + sum_by weight others + 1 → items ≡ others → i < length items → item ≡ get_or items i item
-    → 10 * weight item < 10 * whole
-part_weighs weight whole first i items others item weighs same within is =
-    let part : weight (get_or items i item) ≤ sum_by weight items = get_or-le-sum_by weight items i item within in
-    let one : weight item ≡ weight (get_or items i item) = ap weight is in
-    let all : sum_by weight items ≡ sum_by weight others = ap (sum_by weight) same in
-    omega arith
 
 predicate_size : Predicate-F Predicate Unit Value And Or Path Step → ℕ
 predicate_size (layer.At place) = 1

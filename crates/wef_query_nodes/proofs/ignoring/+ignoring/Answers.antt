@@ -4,21 +4,27 @@ use Rattle.wef_query_nodes.proofs.ignoring.+ignoring.Goals as goal
 
 -- src/ignoring.rt:57:5
 pub and_ignores_place-loop-unit-preserved : goal.and_ignores_place-loop-unit-preserved
-and_ignores_place-loop-unit-preserved t c = next_ignores {f = holds_unit} c.loop-unit-test.true c.unit-item.is c.if-not-unit_ignores_place-2.false c.unit_ignores_place-in-loop-unit.ensures c.loop-unit.invariant
+and_ignores_place-loop-unit-preserved t c =
+    next_ignores holds_unit c.as_slice-unit-items.result.now c.loop-unit.unit-index c.unit-item.result c.unit_ignores_place-in-loop-unit.result
+    c.loop-unit-test.true c.unit-item.is c.if-not-unit_ignores_place-2.false c.unit_ignores_place-in-loop-unit.ensures c.loop-unit.invariant
 
 -- src/ignoring.rt:50:1
 pub and_ignores_place-returns : goal.and_ignores_place-returns
 and_ignores_place-returns t c = λ _.
-    and_ignores c.args.and.now (c.unit_ignores_place.ensures c.if-not-unit_ignores_place.false) (all_ignore {f = holds_unit} c.loop-unit-test.false c.as_slice-unit-items.ensures c.loop-unit.invariant)
+    and_ignores c.args.and.now (c.unit_ignores_place.ensures c.if-not-unit_ignores_place.false)
+    (all_ignore holds_unit _ _ c.loop-unit.unit-index c.loop-unit-test.false c.as_slice-unit-items.ensures c.loop-unit.invariant)
 
 -- src/ignoring.rt:42:5
 pub or_ignores_place-loop-and-preserved : goal.or_ignores_place-loop-and-preserved
-or_ignores_place-loop-and-preserved t c = next_ignores {f = holds_and} c.loop-and-test.true c.and-item.is c.if-not-and_ignores_place-2.false c.and_ignores_place-in-loop-and.ensures c.loop-and.invariant
+or_ignores_place-loop-and-preserved t c =
+    next_ignores holds_and c.as_slice-and-items.result.now c.loop-and.and-index c.and-item.result c.and_ignores_place-in-loop-and.result
+    c.loop-and-test.true c.and-item.is c.if-not-and_ignores_place-2.false c.and_ignores_place-in-loop-and.ensures c.loop-and.invariant
 
 -- src/ignoring.rt:35:1
 pub or_ignores_place-returns : goal.or_ignores_place-returns
 or_ignores_place-returns t c = λ _.
-    or_ignores c.args.or.now (c.and_ignores_place.ensures c.if-not-and_ignores_place.false) (all_ignore {f = holds_and} c.loop-and-test.false c.as_slice-and-items.ensures c.loop-and.invariant)
+    or_ignores c.args.or.now (c.and_ignores_place.ensures c.if-not-and_ignores_place.false)
+    (all_ignore holds_and _ _ c.loop-and.and-index c.loop-and-test.false c.as_slice-and-items.ensures c.loop-and.invariant)
 
 -- src/ignoring.rt:65:1
 pub unit_ignores_place-returns-in-Group : goal.unit_ignores_place-returns-in-Group

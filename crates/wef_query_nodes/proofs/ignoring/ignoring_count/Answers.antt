@@ -5,4 +5,5 @@ use Rattle.wef_query_nodes.proofs.ignoring.ignoring_count.Goals as goal
 -- src/ignoring.rt:15:5
 pub loop-index-preserved : goal.loop-index-preserved
 loop-index-preserved c =
-    next_ignores {f = holds} c.loop-index-test.true c.index-predicates-index.is c.if-not-ignores_place.false c.ignores_place.ensures c.loop-index.invariant
+    next_ignores holds c.args.predicates.now c.loop-index.index c.index-predicates-index.result c.ignores_place.result
+    c.loop-index-test.true c.index-predicates-index.is c.if-not-ignores_place.false c.ignores_place.ensures c.loop-index.invariant

@@ -1,5 +1,6 @@
 use Rattle.std.proofs.Common.{◌≡◌, ◌+◌, ◌≤◌, true, false, ◌&&◌, ◌||◌, length, map, take, sym, ◌∙◌, ap, subst, arith}
 use Rattle.std.specs.List.{list_all, list_any, sum_by}
+use Rattle.std.proofs.lemmas.List.Sums.{get_or-le-sum_by}
 use Rattle.wef_query_paths.specs.declared.path.And.{out-And}
 use Rattle.wef_query_paths.specs.declared.path.Or.{out-Or}
 use Rattle.wef_query_paths.specs.declared.path.Predicate.TheVariants.{At}
@@ -7,13 +8,13 @@ use Rattle.wef_query_values.specs.Places.{plain}
 use Rattle.wef_query_nodes.specs.Meaning.{alone, given, goes, holds, holds_and, holds_unit, nodes}
 use Rattle.wef_query_nodes.specs.Walk.{AllIgnore, ahead, leaves, tests}
 use Rattle.wef_query_nodes.specs.Wanted.{is_wanted}
-use Rattle.wef_query_nodes.specs.Weights.{and_weight, or_weight, predicate_weight, unit_weight}
+use Rattle.wef_query_nodes.specs.Weights.{and_weight, predicate_weight, unit_weight}
 use Rattle.wef_query_nodes.proofs.Ahead.{ahead_none, ahead_some}
 use Rattle.wef_query_nodes.proofs.Counting.{counted_gone, counted_here, counted_next, counted_start, left_at_most}
 use Rattle.wef_query_nodes.proofs.Layers.{given_nodes, holds_and_by, holds_or_by}
 use Rattle.wef_query_nodes.proofs.Leaving.{any_node, leaves_gone, tests_gone}
 use Rattle.wef_query_nodes.proofs.Turns.{left_goes, left_passes, left_skipped, left_start, left_stays, none_passes, none_reached, none_skipped, none_start, none_reached_at_all, none_stays, passed, passes_next, reached, stays_all, stays_next}
-use Rattle.wef_query_nodes.proofs.Weighing.{and_weighs, fewer_weigh, no_more_weigh, or_weighs, part_weighs}
+use Rattle.wef_query_nodes.proofs.Weighing.{and_weighs, fewer_weigh, no_more_weigh, or_weighs}
 use Rattle.wef_query_nodes.proofs.walk.+walk.Goals as goal
 
 pub is_and_held-loop-unit-init : goal.is_and_held-loop-unit-init
@@ -22,11 +23,12 @@ is_and_held-loop-unit-init t c =
     ∙ sym (holds_and_by c.args.and.now (plain c.args.node) c.args.place ∙ ap (λ b. b && list_all (λ u. holds_unit u (plain c.args.node) c.args.place) (out-And c.args.and.now).rest) (sym c.is_unit_held.ensures ∙ c.if-not-is_unit_held.false))
 
 pub is_and_held-is_unit_held-requires-in-loop-unit : goal.is_and_held-is_unit_held-requires-in-loop-unit
-is_and_held-is_unit_held-requires-in-loop-unit t c = (
-  part_weighs unit_weight (and_weight c.args.and.now) (unit_weight (out-And c.args.and.now).first) c.loop-unit.unit-index c.as_slice-unit-items.result.now (out-And c.args.and.now).rest c.unit-item.result
-      (and_weighs c.args.and.now) c.as_slice-unit-items.ensures c.loop-unit-test.true c.unit-item.is,
-  tt,
-)
+is_and_held-is_unit_held-requires-in-loop-unit t c =
+    let whole : _ = and_weighs c.args.and.now in
+    let part : _ = get_or-le-sum_by unit_weight c.as_slice-unit-items.result.now c.loop-unit.unit-index c.unit-item.result c.loop-unit-test.true in
+    let is : _ = ap unit_weight c.unit-item.is in
+    let rest : _ = ap (sum_by unit_weight) c.as_slice-unit-items.ensures in
+    (omega (arith, whole, part, is, rest), tt)
 
 pub is_or_held-loop-and-init : goal.is_or_held-loop-and-init
 is_or_held-loop-and-init t c =
@@ -34,11 +36,12 @@ is_or_held-loop-and-init t c =
     ∙ sym (holds_or_by c.args.or.now (plain c.args.node) c.args.place ∙ ap (λ b. b || list_any (λ a. holds_and a (plain c.args.node) c.args.place) (out-Or c.args.or.now).rest) (sym c.is_and_held.ensures ∙ c.if-is_and_held.false))
 
 pub is_or_held-is_and_held-requires-in-loop-and : goal.is_or_held-is_and_held-requires-in-loop-and
-is_or_held-is_and_held-requires-in-loop-and t c = (
-  part_weighs and_weight (or_weight c.args.or.now) (and_weight (out-Or c.args.or.now).first) c.loop-and.and-index c.as_slice-and-items.result.now (out-Or c.args.or.now).rest c.and-item.result
-      (or_weighs c.args.or.now) c.as_slice-and-items.ensures c.loop-and-test.true c.and-item.is,
-  tt,
-)
+is_or_held-is_and_held-requires-in-loop-and t c =
+    let whole : _ = or_weighs c.args.or.now in
+    let part : _ = get_or-le-sum_by and_weight c.as_slice-and-items.result.now c.loop-and.and-index c.and-item.result c.loop-and-test.true in
+    let is : _ = ap and_weight c.and-item.is in
+    let rest : _ = ap (sum_by and_weight) c.as_slice-and-items.ensures in
+    (omega (arith, whole, part, is, rest), tt)
 
 pub is_there-returns-in-Nodes : goal.is_there-returns-in-Nodes
 is_there-returns-in-Nodes t c = λ place. c.finds.ensures ∙ any_node (nodes c.in-Nodes.path (plain c.args.node)) ∙ ap (λ v. alone v (plain c.args.node) place) (sym (ap given c.in-Nodes.is ∙ given_nodes c.in-Nodes.path))
