@@ -11,8 +11,6 @@ use wef_base::{List, Text};
 use wef_keeper::{Changes, Form, Keeper, KeeperFault, Key, Row};
 use wef_sqlite::SqlKeeper;
 
-type FileKeeper = SqlKeeper<FileStore<File>>;
-
 /// How many rows a commit puts.
 const ITEMS: u64 = 20;
 
@@ -41,7 +39,7 @@ fn main(rt: HostRuntime) -> io::Result<()> {
         return println!(rt; "PATH fill|get|walk COUNT");
     };
     let count = count.as_str().parse::<u64>().unwrap_or(0);
-    measure(rt, path, task.as_str(), count)
+    measure_file(rt, path.clone()?, task.as_str(), count)
 }
 
 fn words_of(rt: &HostRuntime) -> io::Result<Vec<Text>> {
@@ -52,26 +50,29 @@ fn words_of(rt: &HostRuntime) -> io::Result<Vec<Text>> {
     Ok(words)
 }
 
-fn measure(rt: HostRuntime, path: &Text, task: &str, count: u64) -> io::Result<()> {
+/// Measures a task over the store in a file. This function alone owns the store: letting it go is long to
+/// prove, once for each way out.
+fn measure_file(rt: HostRuntime, path: Text, task: &str, count: u64) -> io::Result<()> {
+    match SqlKeeper::<FileStore<File>>::at(rt, path) {
+        Ok(mut keeper) => measure(&mut keeper, rt, task, count),
+        Err(fault) => println!(rt; "{fault}"),
+    }
+}
+
+/// Opens a store, does a task, and prints how long both took.
+fn measure<K: Keeper>(keeper: &mut K, rt: HostRuntime, task: &str, count: u64) -> io::Result<()> {
     let begun = Instant::now(&rt)?;
-    let mut keeper = match opened(rt, path) {
-        Ok(keeper) => keeper,
-        Err(fault) => return println!(rt; "{fault}"),
-    };
+    if let Err(fault) = keeper.reopen() {
+        return println!(rt; "{fault}");
+    }
     let opening = begun.elapsed(&rt)?;
     let begun = Instant::now(&rt)?;
-    let done = run(&mut keeper, rt.alloc(), task, count);
+    let done = run(keeper, rt.alloc(), task, count);
     let rest = begun.elapsed(&rt)?;
     match done {
         Ok(rows) => println!(rt; "{rows} {} {}", opening.as_micros(), rest.as_micros()),
         Err(fault) => println!(rt; "{fault}"),
     }
-}
-
-fn opened(rt: HostRuntime, path: &Text) -> Result<FileKeeper, KeeperFault> {
-    let mut keeper: FileKeeper = SqlKeeper::at(rt, path.clone()?)?;
-    keeper.reopen()?;
-    Ok(keeper)
 }
 
 /// Does a task. Answers how many rows it met.
