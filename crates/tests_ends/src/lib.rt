@@ -1,34 +1,21 @@
-//! Both ends and their commands, by example: a log, a source and a collector, commands over stores and
-//! streams in memory, pages of events, and an event at its greatest length.
+//! Both ends and their commands, by example: commands over stores and streams in memory, as many
+//! subscriptions as may be, pages of events, an event at its greatest length, a batch that is full, and
+//! the calls of a log and a source that no command makes.
 #![tactic(auto)]
 
 #[cfg(test)]
-mod checks;
+mod batches;
 #[cfg(test)]
-mod collectors;
+mod commands;
 #[cfg(test)]
 mod documents;
+#[cfg(test)]
+mod events;
 #[cfg(test)]
 mod limits;
 #[cfg(test)]
 mod logs;
 #[cfg(test)]
-mod rows;
-#[cfg(test)]
-mod showing;
-#[cfg(test)]
-mod shows;
-#[cfg(test)]
-mod signs;
-#[cfg(test)]
-mod sources;
-#[cfg(test)]
-mod steps;
-#[cfg(test)]
 mod subscriptions;
 #[cfg(test)]
 mod words;
-#[cfg(test)]
-mod writes;
-#[cfg(test)]
-mod writing;

@@ -1,207 +1,87 @@
-//! Logs by example: what is done with a log, in words, and what is answered.
+//! The window of a log, and how often a source was started.
 
-use crate::rows::{Kept, holding};
-use crate::steps::{Answer, Does, Refusal, channel, number, parted, push_refusal, push_steps};
-use crate::writing::{Writes, push_long, push_numbers, push_writes};
-use std::alloc::Global;
-use std::slice;
+use std::alloc::{AllocError, Global};
 use std::test::Fail;
-use wef_base::numbers::MAX;
-use wef_base::{List, Text};
-use wef_event::Event;
-use wef_keeper::{Keeper, MemKeeper};
-use wef_source_log::{Log, LogFault};
+use wef_base::{ChannelName, SourceName, Text};
+use wef_event::{Event, read_new_event};
+use wef_keeper::MemKeeper;
+use wef_source::SourceEnd;
+use wef_source_log::Log;
 
-/// What is done between two starts: how many records a channel the log keeps if it is the first, and
-/// the steps.
-type Start = (u64, &'static str);
+/// How many records a log keeps, how many are written, behind which number records are read and at most
+/// how many, and the ends of the window and the numbers of these records.
+type Window = (u64, u32, u64, u32, &'static str);
 
-/// Starts over one store, one after the other, and what all their steps answer.
-const RUNS: &[(&[Start], &str)] = &[
-    (
-        &[(4, "write a 9;ends a;page a 0 100;page a 7 1;page a 9 100")],
-        "1 2 3 4 5 6 7 8 9;6-9;6 7 8 9;8;;",
-    ),
-    (
-        &[(1, "write a 9;ends a;page a 0 100")],
-        "1 2 3 4 5 6 7 8 9;9-9;9;",
-    ),
-    (
-        &[(
-            2,
-            "write a 9;ends b;page b 0 100;write b 1;ends b;page b 0 100",
-        )],
-        "1 2 3 4 5 6 7 8 9;1-0;;1;1-1;1;",
-    ),
-    // What stands round the word has 228 bytes.
-    (
-        &[(4, "long application 1048349;long application 1048348")],
-        "TooLong;1;",
-    ),
-    (
-        &[(1, "boot;write a 1"), (4, "boot;write a 1;ends a")],
-        "1;1;2;2;2-2;",
-    ),
-    (
-        &[
-            (4, "boot"),
-            (4, "boot"),
-            (4, "boot"),
-            (4, "boot"),
-            (4, "boot"),
-        ],
-        "1;2;3;4;5;",
-    ),
-    (
-        &[(
-            4,
-            "write a 1;fail after;armed;write a 1;write a 1;fail before;armed;write a 1;write a 1;fail after;calm;armed;write a 1",
-        )],
-        "1;;true;Failed;3;;true;Failed;4;;;false;5;",
-    ),
+const WINDOWS: &[Window] = &[
+    (4, 9, 0, 100, "6-9 6 7 8 9"),
+    (4, 9, 7, 1, "6-9 8"),
+    (4, 9, 9, 100, "6-9"),
+    (1, 9, 0, 100, "9-9 9"),
+    (2, 0, 0, 100, "1-0"),
 ];
 
-/// A row, and what the steps behind it answer.
-const HELD: &[(Kept, &str, &str)] = &[
-    (
-        (12, "", "", "", 0, MAX - 1, ""),
-        "boot",
-        "9223372036854775807;",
-    ),
-    ((12, "", "", "", 0, MAX, ""), "boot", "Full"),
-    ((10, "", "", "a", 0, MAX, ""), "write a 1", "Full;"),
-    (
-        (10, "", "", "a", 0, MAX - 1, ""),
-        "write a 1",
-        "9223372036854775807;",
-    ),
-    ((10, "", "", "a", 0, 7, "spoilt"), "write a 1", "Failed;"),
-    (
-        (9, "", "", "a", 1, 0, "<Event></Event>"),
-        "page a 0 4;page a 1 4",
-        "Failed;;",
-    ),
-];
-
-impl<K: Keeper> Writes for Log<K> {
-    fn write_event(&mut self, event: &Event) -> Result<u64, Refusal> {
-        Ok(self.write(event)?)
-    }
+fn event(alloc: Global) -> Result<Event, Fail> {
+    let text = "<Event><System><Channel>a</Channel></System></Event>";
+    Ok(read_new_event(&Text::from_str(alloc, text)?)?)
 }
 
-fn push_page<K: Keeper>(text: &mut Text, log: &mut Log<K>, words: &str) -> Answer {
-    let (name, numbers) = parted(words);
-    let (after, max) = parted(numbers);
-    let page = page_of(log, text.alloc(), name, number(after), max)?;
-    push_numbers(text, page.as_slice())
-}
-
-fn page_of<K: Keeper>(
-    log: &mut Log<K>,
-    alloc: Global,
-    name: &str,
-    after: u64,
-    max: &str,
-) -> Result<List<Event>, Refusal> {
-    let max = max.parse::<u32>().unwrap_or(1).max(1);
-    let channel = channel(alloc, name)?;
-    Ok(log.page(&channel, after, max)?)
-}
-
-fn push_ends<K: Keeper>(text: &mut Text, log: &mut Log<K>, name: &str) -> Answer {
-    let (first, last) = ends_of(log, text.alloc(), name)?;
-    text.push_number(first)?;
+fn push_ends(text: &mut Text, log: &mut Log<MemKeeper>, channel: &ChannelName) -> Result<(), Fail> {
+    text.push_number(log.first(channel)?)?;
     text.push_str("-")?;
-    Ok(text.push_number(last)?)
+    Ok(text.push_number(log.last(channel)?)?)
 }
 
-fn ends_of<K: Keeper>(log: &mut Log<K>, alloc: Global, name: &str) -> Result<(u64, u64), Refusal> {
-    let channel = channel(alloc, name)?;
-    Ok((log.first(&channel)?, log.last(&channel)?))
-}
-
-/// Does a step, and appends its answer.
-fn push_done<K: Keeper>(text: &mut Text, log: &mut Log<K>, step: &str) -> Answer {
-    let (word, rest) = parted(step);
-    match word {
-        "write" => push_writes(text, log, rest),
-        "long" => push_long(text, log, rest),
-        "page" => push_page(text, log, rest),
-        "ends" => push_ends(text, log, rest),
-        "boot" => Ok(text.push_number(log.boot())?),
-        _ => Err(Refusal::Word("no step")),
+fn push_numbers(text: &mut Text, page: &[Event]) -> Result<(), AllocError> {
+    for event in page {
+        text.push_str(" ")?;
+        text.push_number(event.number)?;
     }
+    Ok(())
 }
 
-impl Does for Log<MemKeeper> {
-    fn push_answer(&mut self, text: &mut Text, step: &str) -> Answer {
-        match step {
-            "armed" => text.push_str(if self.is_armed() { "true" } else { "false" })?,
-            "fail before" => self.fail_next(false),
-            "fail after" => self.fail_next(true),
-            "calm" => self.calm(),
-            _ => push_done(text, self, step)?,
-        }
-        Ok(())
+/// Writes records, and appends what is told of the window.
+fn push_window(text: &mut Text, log: &mut Log<MemKeeper>, window: &Window) -> Result<(), Fail> {
+    let (_, writes, after, max, _) = *window;
+    let event = event(text.alloc())?;
+    for _ in 0..writes {
+        log.write(&event)?;
     }
+    push_ends(text, log, &event.channel)?;
+    let page = log.page(&event.channel, after, max.max(1))?;
+    Ok(push_numbers(text, page.as_slice())?)
 }
 
-fn start<K: Keeper>(alloc: Global, keeper: K, capacity: u64) -> Result<Log<K>, (K, LogFault)> {
-    Log::start(alloc, keeper, capacity.clamp(1, 1_000_000))
-}
-
-/// Starts a log over a store, does the steps, and gives the store back.
-fn push_started(
-    text: &mut Text,
-    keeper: MemKeeper,
-    capacity: u64,
-    steps: &str,
-) -> Result<MemKeeper, Refusal> {
-    match start(text.alloc(), keeper, capacity) {
-        Ok(log) => push_steps_of(text, log, steps),
-        Err((keeper, fault)) => {
-            push_refusal(text, Refusal::from(fault))?;
-            Ok(keeper)
-        }
-    }
-}
-
-fn push_steps_of(text: &mut Text, log: Log<MemKeeper>, steps: &str) -> Result<MemKeeper, Refusal> {
-    let mut log = log;
-    push_steps(text, &mut log, steps)?;
-    Ok(log.into_keeper())
-}
-
-/// What starts over one store answer.
-fn ran(alloc: Global, starts: &[Start]) -> Result<Text, Refusal> {
+fn told(alloc: Global, window: &Window) -> Result<Text, Fail> {
     let mut text = Text::new(alloc);
-    let mut keeper = MemKeeper::new(alloc);
-    for &(capacity, steps) in starts {
-        keeper = push_started(&mut text, keeper, capacity, steps)?;
+    match Log::start(alloc, MemKeeper::new(alloc), window.0.clamp(1, 1_000_000)) {
+        Ok(mut log) => push_window(&mut text, &mut log, window)?,
+        Err((_, fault)) => return Err(fault.into()),
     }
     Ok(text)
 }
 
 #[test]
 fn logs_keep_their_windows(rt: HostRuntime) -> Result<(), Fail> {
-    for &(starts, want) in RUNS {
-        assert_eq!(rt; ran(rt.alloc(), starts)?.as_str(), want);
+    for window in WINDOWS {
+        assert_eq!(&rt; told(rt.alloc(), window)?.as_str(), window.4);
     }
     Ok(())
 }
 
-/// What the steps of a log over a store with one row answer.
-fn ran_over(alloc: Global, held: &Kept, steps: &str) -> Result<Text, Fail> {
-    let mut text = Text::new(alloc);
-    let keeper = holding(alloc, slice::from_ref(held))?;
-    let _keeper = push_started(&mut text, keeper, 4, steps)?;
-    Ok(text)
+/// How often the source of a store was started, once it is started.
+fn starts(alloc: Global, keeper: MemKeeper) -> Result<(u64, MemKeeper), Fail> {
+    let name = SourceName::read(&Text::from_str(alloc, "pc1")?)?;
+    match SourceEnd::start(alloc, keeper, name, 4) {
+        Ok(source) => Ok((source.boot(), source.into_keeper())),
+        Err((_, fault)) => Err(fault.into()),
+    }
 }
 
 #[test]
-fn logs_go_on_from_what_is_held(rt: HostRuntime) -> Result<(), Fail> {
-    for (held, steps, want) in HELD {
-        assert_eq!(rt; ran_over(rt.alloc(), held, steps)?.as_str(), *want);
-    }
+fn a_source_counts_its_starts(rt: HostRuntime) -> Result<(), Fail> {
+    let (first, keeper) = starts(rt.alloc(), MemKeeper::new(rt.alloc()))?;
+    let (second, keeper) = starts(rt.alloc(), keeper)?;
+    drop(keeper);
+    assert_eq!(&rt; (first, second), (1, 2));
     Ok(())
 }

@@ -1,55 +1,45 @@
 //! As many subscriptions as may be.
 
+use crate::commands::{Run, goes, ran_on};
 use crate::documents::document;
 use std::alloc::{AllocError, Global};
 use std::test::Fail;
-use tests_runs::outcomes::{Outcome, ran, ran_once};
 use wef_base::Text;
 use wef_keeper::MemKeeper;
 
-/// Adds a subscription of a name.
-fn added(alloc: Global, keeper: MemKeeper, name: &str) -> Result<(MemKeeper, Outcome), AllocError> {
-    let document = document(alloc, name)?;
-    ran(alloc, "add", keeper, document.as_str().as_bytes())
+/// Runs over a store with as many as may be.
+const RUNS: &[Run] = &[
+    ("add", ":t", 8, "", "too many\n"),
+    ("add", ":s100", 8, "", "exists s100\n"),
+    ("remove none", "", 7, "", "unknown none\n"),
+];
+
+/// Adds the subscription of a number, and appends the line that shows it.
+fn add(lines: &mut Text, keeper: &mut MemKeeper, number: u64) -> Result<(), AllocError> {
+    let mut name = Text::from_str(lines.alloc(), "s")?;
+    name.push_number(number)?;
+    let text = document(lines.alloc(), name.as_str())?;
+    ran_on(lines.alloc(), keeper, "add", text.as_str().as_bytes())?;
+    lines.push_str(name.as_str())?;
+    lines.push_str(" live source\n")
 }
 
-/// `s` and a number of three digits.
-fn name_of(alloc: Global, number: u64) -> Result<Text, AllocError> {
-    let mut name = Text::from_str(alloc, "s")?;
-    if number < 100 {
-        name.push_str("0")?;
+/// Whether as many as may be are listed once they are added.
+fn are_listed(alloc: Global, keeper: &mut MemKeeper) -> Result<bool, AllocError> {
+    let mut lines = Text::new(alloc);
+    for number in 100..356 {
+        add(&mut lines, keeper, number)?;
     }
-    if number < 10 {
-        name.push_str("0")?;
-    }
-    name.push_number(number)?;
-    Ok(name)
+    let listed = ran_on(alloc, keeper, "list", b"".as_slice())?;
+    Ok(listed.status == 0 && listed.out.taken() == lines.as_str().as_bytes())
 }
 
 #[test]
 fn two_hundred_and_fifty_six_are_added(rt: HostRuntime) -> Result<(), Fail> {
-    let alloc = rt.alloc();
-    let mut keeper = MemKeeper::new(alloc);
-    let mut lines = Text::new(alloc);
-    for number in 0..256u64 {
-        let name = name_of(alloc, number)?;
-        let (after, added) = added(alloc, keeper, name.as_str())?;
-        assert_eq!(rt; added.status, 0);
-        keeper = after;
-        lines.push_str(name.as_str())?;
-        lines.push_str(" live source\n")?;
+    let mut keeper = MemKeeper::new(rt.alloc());
+    assert!(&rt; are_listed(rt.alloc(), &mut keeper)?);
+    for run in RUNS {
+        assert!(&rt; goes(rt.alloc(), &mut keeper, run)?, "{}", run.0);
     }
-    let (keeper, listed) = ran(alloc, "list", keeper, b"".as_slice())?;
-    assert_eq!(rt; listed.status, 0);
-    assert!(rt; listed.out.taken() == lines.as_str().as_bytes());
-    let (keeper, more) = added(alloc, keeper, "t")?;
-    assert_eq!(rt; more.status, 8);
-    assert_eq!(rt; more.err.taken(), b"too many\n".as_slice());
-    let (keeper, again) = added(alloc, keeper, "s000")?;
-    assert_eq!(rt; again.status, 8);
-    assert_eq!(rt; again.err.taken(), b"exists s000\n".as_slice());
-    let none = ran_once(alloc, "remove none", keeper, b"".as_slice())?;
-    assert_eq!(rt; none.status, 7);
-    assert_eq!(rt; none.err.taken(), b"unknown none\n".as_slice());
     Ok(())
 }

@@ -1,9 +1,7 @@
-//! Words that are no command line, and input that is no document.
+//! Words that are no command line.
 
-use crate::documents::document;
-use std::alloc::{AllocError, Global};
+use crate::commands::{Run, goes};
 use std::test::Fail;
-use tests_runs::outcomes::{ran, ran_once};
 use wef_keeper::MemKeeper;
 
 const NO_COMMANDS: &[&str] = &[
@@ -61,60 +59,12 @@ const NO_COMMANDS: &[&str] = &[
     "events base pc1 application x",
 ];
 
-/// Inputs of `add`, and what is told of them.
-const NO_DOCUMENTS: &[(&str, &str)] = &[
-    ("", "place 0: not understood\n"),
-    ("<a>", "place 3: not understood\n"),
-    ("<a/>", "element Subscription: not understood\n"),
-    (
-        "<Subscription xmlns=\"http://schemas.microsoft.com/2006/03/windows/events/subscription\"/>",
-        "element SubscriptionId: not understood\n",
-    ),
-];
-
-/// Whether a run ends with a status and a message, and prints nothing.
-fn tells(
-    alloc: Global,
-    line: &str,
-    input: &str,
-    status: u8,
-    message: &str,
-) -> Result<bool, AllocError> {
-    let ran = ran_once(alloc, line, MemKeeper::new(alloc), input.as_bytes())?;
-    Ok(ran.status == status && ran.err.taken() == message.as_bytes() && ran.out.taken().is_empty())
-}
-
 #[test]
 fn words_that_are_no_command(rt: HostRuntime) -> Result<(), Fail> {
-    for line in NO_COMMANDS {
-        assert!(&rt;
-            tells(rt.alloc(), line, "", 2, "usage: wef COMMAND\n")?,
-            "{line}"
-        );
+    let mut keeper = MemKeeper::new(rt.alloc());
+    for &line in NO_COMMANDS {
+        let run: Run = (line, "", 2, "", "usage: wef COMMAND\n");
+        assert!(&rt; goes(rt.alloc(), &mut keeper, &run)?, "{line}");
     }
-    Ok(())
-}
-
-#[test]
-fn input_that_is_no_document(rt: HostRuntime) -> Result<(), Fail> {
-    for (input, message) in NO_DOCUMENTS {
-        assert!(&rt; tells(rt.alloc(), "add", input, 3, message)?, "{input}");
-    }
-    Ok(())
-}
-
-#[test]
-fn names_are_shown_percent_encoded(rt: HostRuntime) -> Result<(), Fail> {
-    let alloc = rt.alloc();
-    let text = document(alloc, "a b:%")?;
-    let (keeper, added) = ran(
-        alloc,
-        "add",
-        MemKeeper::new(alloc),
-        text.as_str().as_bytes(),
-    )?;
-    assert_eq!(&rt; added.out.taken(), b"added a%20b%3A%25\n".as_slice());
-    let listed = ran_once(alloc, "list", keeper, b"".as_slice())?;
-    assert_eq!(&rt; listed.out.taken(), b"a%20b%3A%25 live source\n".as_slice());
     Ok(())
 }
