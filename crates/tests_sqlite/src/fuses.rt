@@ -1,105 +1,63 @@
-//! Stores over disks that stop: any failure of a commit leaves doubt, which only an opening ends.
+//! Stores over disks that stop: an opening finds whole commits.
 
-use crate::rows::{PUTS, WALK, keep, key, walk};
+use crate::rows::{PUTS, WALK, keep, walk};
 use sqlite::{Connection, Options};
 use sqlite_disk::{Files, Fuse, Memory};
 use std::alloc::Global;
 use std::test::Fail;
+use wef_base::Text;
 use wef_keeper::{Keeper, KeeperFault};
 use wef_sqlite::SqlKeeper;
 
-/// How two commits go over a disk that stops.
-#[derive(Clone, Copy, Debug, PartialEq, Eq)]
-enum Outcome {
-    /// No store was opened.
-    Unopened,
-
-    /// Both are done, and a walk finds the rows.
-    Kept,
-
-    /// One failed, and the store can't be opened again.
-    Shut,
-
-    /// One failed. An opening finds the rows before it or behind it.
-    Whole,
-
-    /// Anything else.
-    Wrong,
-}
-
-/// How they go over a store whose log stops after so many calls.
-fn over_stopping_log(alloc: Global, calls: u64) -> Result<Outcome, KeeperFault> {
+/// What is left of two commits over a store whose log stops after so many calls, in a word. This function
+/// alone owns the store.
+fn left_over(alloc: Global, calls: u64) -> &'static str {
     let files = Files {
         log: Fuse::new(Memory::new(alloc), calls),
         db: Fuse::new(Memory::new(alloc), u64::MAX),
     };
     match Connection::open_files(alloc, files, Options::new(0)) {
-        Ok(conn) => kept_over(&mut SqlKeeper::over(conn), alloc),
-        Err(_) => Ok(Outcome::Unopened),
+        Ok(conn) => {
+            let mut keeper = SqlKeeper::over(conn);
+            let left = left_in(&mut keeper, alloc).unwrap_or("shut");
+            drop(keeper.into_connection());
+            left
+        }
+        Err(_) => "unopened",
     }
 }
 
-fn kept_over<K: Keeper>(keeper: &mut K, alloc: Global) -> Result<Outcome, KeeperFault> {
-    if keep(keeper, alloc).is_ok() {
-        return kept(keeper, alloc);
-    }
-    if !is_refused(keeper, alloc)? {
-        return Ok(Outcome::Wrong);
-    }
-    if keeper.reopen().is_ok() {
-        return whole(keeper, alloc);
-    }
-    if is_refused(keeper, alloc)? {
-        Ok(Outcome::Shut)
+/// `kept` where both commits are done, and `whole` where an opening finds the rows before the one that
+/// failed or behind it.
+fn left_in<K: Keeper>(keeper: &mut K, alloc: Global) -> Result<&'static str, KeeperFault> {
+    let is_kept = keep(keeper, alloc).is_ok();
+    keeper.reopen()?;
+    let mut told = Text::new(alloc);
+    walk(&mut told, keeper, 3)?;
+    Ok(word_of(is_kept, told.as_str()))
+}
+
+fn word_of(is_kept: bool, told: &str) -> &'static str {
+    if is_kept && told == WALK {
+        "kept"
+    } else if !is_kept && (told == "" || told == PUTS || told == WALK) {
+        "whole"
     } else {
-        Ok(Outcome::Wrong)
-    }
-}
-
-/// Whether a read is refused for doubt.
-fn is_refused<K: Keeper>(keeper: &mut K, alloc: Global) -> Result<bool, KeeperFault> {
-    match keeper.get(&key(alloc, (4, "", "", "", 0))?) {
-        Err(fault) => Ok(fault == KeeperFault::InDoubt),
-        Ok(_) => Ok(false),
-    }
-}
-
-fn kept<K: Keeper>(keeper: &mut K, alloc: Global) -> Result<Outcome, KeeperFault> {
-    let told = walk(keeper, alloc, 2)?;
-    if told.as_str() == WALK {
-        Ok(Outcome::Kept)
-    } else {
-        Ok(Outcome::Wrong)
-    }
-}
-
-fn whole<K: Keeper>(keeper: &mut K, alloc: Global) -> Result<Outcome, KeeperFault> {
-    let told = walk(keeper, alloc, 3)?;
-    let told = told.as_str();
-    if told == "" || told == PUTS || told == WALK {
-        Ok(Outcome::Whole)
-    } else {
-        Ok(Outcome::Wrong)
+        "wrong"
     }
 }
 
 #[test]
-fn a_disk_that_stops_leaves_doubt_and_whole_commits(rt: HostRuntime) -> Result<(), Fail> {
+fn a_disk_that_stops_leaves_whole_commits(rt: HostRuntime) -> Result<(), Fail> {
     let mut wholes = 0u32;
     for calls in 0..64 {
-        let outcome = over_stopping_log(rt.alloc(), calls)?;
-        assert_ne!(&rt; outcome, Outcome::Wrong, "after {calls} calls");
-        if outcome == Outcome::Whole {
+        let left = left_over(rt.alloc(), calls);
+        assert_ne!(&rt; left, "wrong", "after {calls} calls");
+        if left == "whole" {
             wholes = wholes.saturating_add(1);
         }
     }
     assert!(&rt; wholes > 0);
-    Ok(())
-}
-
-#[test]
-fn a_disk_that_goes_on_keeps_the_rows(rt: HostRuntime) -> Result<(), Fail> {
-    let outcome = over_stopping_log(rt.alloc(), u64::MAX)?;
-    assert_eq!(&rt; outcome, Outcome::Kept);
+    assert_eq!(&rt; left_over(rt.alloc(), u64::MAX), "kept");
     Ok(())
 }

@@ -8,20 +8,24 @@ use wef_keeper::{Changes, Form, Keeper, KeeperFault, Key, Row};
 /// The parts of a key.
 type Parts = (u8, &'static str, &'static str, &'static str, u64);
 
-/// Rows of every section, out of order, with their values.
-const ROWS: &[(Parts, u64)] = &[
-    ((4, "", "", "", 0), 1),
-    ((3, "b", "s", "c", 10), 7),
-    ((3, "b", "s", "c", 9), 5),
-    ((3, "b", "s", "d", 1), 6),
-    ((3, "b", "t", "", 0), 8),
-    ((3, "ba", "", "", 2), 9),
-    ((3, "b", "s", "c", 9), 4),
-    ((1, "z", "z", "z", MAX), MAX),
+/// The rows of two commits: of every section, out of order, with their values, and then, without values,
+/// those that are taken away.
+const COMMITS: [&[(Parts, Option<u64>)]; 2] = [
+    &[
+        ((4, "", "", "", 0), Some(1)),
+        ((3, "b", "s", "c", 10), Some(7)),
+        ((3, "b", "s", "c", 9), Some(5)),
+        ((3, "b", "s", "d", 1), Some(6)),
+        ((3, "b", "t", "", 0), Some(8)),
+        ((3, "ba", "", "", 2), Some(9)),
+        ((3, "b", "s", "c", 9), Some(4)),
+        ((1, "z", "z", "z", MAX), Some(MAX)),
+    ],
+    &[
+        ((3, "b", "s", "d", 1), None),
+        ((3, "b", "s", "d", MAX + 1), None),
+    ],
 ];
-
-/// The rows that are put and then taken away.
-const GONE: &[Parts] = &[(3, "b", "s", "d", 1), (3, "b", "s", "d", MAX + 1)];
 
 /// What a walk finds behind the first commit.
 pub const PUTS: &str =
@@ -57,58 +61,53 @@ pub fn key(alloc: Global, parts: Parts) -> Result<Key, AllocError> {
     })
 }
 
-fn put(
-    alloc: Global,
+/// Puts a row, or takes one away that has no value. One whose number or value is too great isn't put.
+fn change(
     changes: &mut Changes<AnyForm>,
+    alloc: Global,
     parts: Parts,
-    value: u64,
+    value: Option<u64>,
 ) -> Result<(), AllocError> {
     let key = key(alloc, parts)?;
-    if key.number > MAX || value > MAX {
-        return Ok(());
+    match value {
+        Some(value) if key.number <= MAX && value <= MAX => changes.put(Row {
+            key,
+            value,
+            body: Text::from_str(alloc, "body")?,
+        }),
+        Some(_) => Ok(()),
+        None => changes.delete(key),
     }
-    changes.put(Row {
-        key,
-        value,
-        body: Text::from_str(alloc, "body")?,
-    })
 }
 
-fn puts(alloc: Global) -> Result<Changes<AnyForm>, AllocError> {
+fn changes(alloc: Global, rows: &[(Parts, Option<u64>)]) -> Result<Changes<AnyForm>, AllocError> {
     let mut changes = Changes::new(alloc);
-    for &(parts, value) in ROWS {
-        put(alloc, &mut changes, parts, value)?;
-    }
-    Ok(changes)
-}
-
-fn deletes(alloc: Global) -> Result<Changes<AnyForm>, AllocError> {
-    let mut changes = Changes::new(alloc);
-    for &parts in GONE {
-        changes.delete(key(alloc, parts)?)?;
+    for &(parts, value) in rows {
+        change(&mut changes, alloc, parts, value)?;
     }
     Ok(changes)
 }
 
 /// Puts the rows in one commit, and takes some away in another.
 pub fn keep<K: Keeper>(keeper: &mut K, alloc: Global) -> Result<(), KeeperFault> {
-    keeper.commit(puts(alloc)?.as_list())?;
-    keeper.commit(deletes(alloc)?.as_list())
+    for rows in COMMITS {
+        keeper.commit(changes(alloc, rows)?.as_list())?;
+    }
+    Ok(())
 }
 
-/// All rows of a store, by pages of this many.
-pub fn walk<K: Keeper>(keeper: &mut K, alloc: Global, most: u32) -> Result<Text, KeeperFault> {
-    let mut told = Text::new(alloc);
-    let mut after = key(alloc, (0, "", "", "", 0))?;
+/// Tells all rows of a store, by pages of this many.
+pub fn walk<K: Keeper>(told: &mut Text, keeper: &mut K, most: u32) -> Result<(), KeeperFault> {
+    let mut after = key(told.alloc(), (0, "", "", "", 0))?;
     for _ in 0..MANY {
         let page = keeper.page(&after, most.max(1))?;
-        tell(&mut told, &page)?;
         let Some(last) = page.as_slice().last() else {
             break;
         };
         after = last.key.clone()?;
+        tell(told, &page)?;
     }
-    Ok(told)
+    Ok(())
 }
 
 fn tell(told: &mut Text, page: &List<Row>) -> Result<(), AllocError> {
