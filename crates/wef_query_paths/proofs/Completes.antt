@@ -195,13 +195,13 @@ mirrored_end levels l operator v (_ ∷ ks) h = refl
 -- ---- operators and literals
 
 pub joined_or : (levels : List Level) (level : Level) (last : unit.Unit) (token : Token) → Joins token (codes "or") → behind_last levels level last token ≡ Some (with_or_behind level last ∷ levels, BeforeUnit)
-joined_or levels level last (Word name) e = ap (joined levels level last) e
-joined_or levels level last (Joint name) e = ap (joined levels level last) e
+joined_or levels level last (Word name) e = ap (joined levels (with_and_behind level last)) e
+joined_or levels level last (Joint name) e = ap (joined levels (with_and_behind level last)) e
 joined_or levels level last _ e = absurd e
 
 pub joined_and : (levels : List Level) (level : Level) (last : unit.Unit) (token : Token) → Joins token (codes "and") → behind_last levels level last token ≡ Some (with_and_behind level last ∷ levels, BeforeUnit)
-joined_and levels level last (Word name) e = ap (joined levels level last) e
-joined_and levels level last (Joint name) e = ap (joined levels level last) e
+joined_and levels level last (Word name) e = ap (joined levels (with_and_behind level last)) e
+joined_and levels level last (Joint name) e = ap (joined levels (with_and_behind level last)) e
 joined_and levels level last _ e = absurd e
 
 quoted_fits : (v : Value) (text : List ℕ) → may_compare v (Quoted text) ≡ true → is_position v ≡ false

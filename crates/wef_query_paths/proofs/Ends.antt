@@ -215,7 +215,7 @@ square_leads : (levels : List Level) (around : Around) (o : Or) → Leads CloseS
 square_leads levels Round o = tt
 square_leads levels (Square place so_far step) o = both refl refl
 
-joined_leads : (levels : List Level) (level : Level) (u : unit.Unit) (k : Token) (name : List ℕ) → Told BeforeUnit (k ∷ []) → Leads k (joined levels level u name)
+joined_leads : (levels : List Level) (level : Level) (u : unit.Unit) (k : Token) (name : List ℕ) → Told BeforeUnit (k ∷ []) → Leads k (joined levels (with_and_behind level u) name)
 joined_leads levels level u k name e =
     either_leads k (same name (codes "and")) (Some (with_and_behind level u ∷ levels, BeforeUnit)) (if same name (codes "or") then Some (with_or_behind level u ∷ levels, BeforeUnit) else None) e
     (either_leads k (same name (codes "or")) (Some (with_or_behind level u ∷ levels, BeforeUnit)) None e tt)

@@ -31,7 +31,7 @@ use Rattle.wef_query_paths.specs.declared.path.Value.TheVariants.{Nodes, Positio
 use Rattle.wef_query_paths.specs.declared.turns.Next.{Next}
 use Rattle.wef_query_paths.specs.declared.turns.Next.TheVariants.{BeforeStep, BeforeTest, BehindStep, BeforePredicate, BehindCount, BeforeUnit, BehindLiteral, BeforeValue, BehindPosition, InPosition, BehindBand, BeforeMask, BehindMask, BehindValue, BeforeLiteral, BehindUnit}
 use Rattle.wef_query_paths.specs.Grammar.{the_path, the_steps, the_step, the_test, the_predicates, the_predicate, the_or, the_ands, the_and, the_units, the_unit, the_value, the_literal, Begins, path_is, no_step, one_step, child_step, axis_step, any_name, one_name, no_predicate, one_predicate, at_place, whether, or_is, no_and, one_and, and_is, no_unit, one_unit, group, alone, compared, mirrored, number, quote, nodes, position, band, may_compare, Joins}
-use Rattle.wef_query_paths.specs.Levels.{alternatives_in, round, square, with_and, with_predicate, with_step, with_unit}
+use Rattle.wef_query_paths.specs.Levels.{alternatives_in, opened, square, with_and, with_predicate, with_step, with_unit}
 use Rattle.wef_query_paths.specs.Turns.{before_comma, before_literal, before_mask, before_predicate, before_step, before_test, before_unit, before_value, behind_band, behind_count, behind_left, behind_literal, behind_mask, behind_path, behind_position, behind_step, behind_unit, behind_value, closed_round, closed_square, finished, in_position, inside, is_position, turn, with_and_behind, with_or_behind}
 use Rattle.wef_query_paths.proofs.Runs.{may_stand, on, run}
 use Rattle.wef_query_paths.proofs.Trees.{and_parts, and_with, or_parts, or_with, path_parts, path_with, step_whole, step_with}
@@ -219,7 +219,7 @@ number_first K n ks (literal_goes {operator = operator} {ks = ls} g) = first_num
 quote_first : (K : unit.Unit → List Token → Type 0) (text : List ℕ) (ks : List Token) → LiteralGoes K (Quoted text) ks → UnitComes K (Quote text ∷ ks)
 quote_first K text ks (literal_goes (value_comes e d (is_mirrored k))) = unit_comes (mirrored e quote d) k
 
-group_comes : (p : Path) (levels : List Level) (ks : List Token) → UnitComes (UnitGoes p (round ∷ levels)) ks → UnitComes (UnitGoes p levels) (OpenRound ∷ ks)
+group_comes : (p : Path) (levels : List Level) (ks : List Token) → UnitComes (UnitGoes p (opened Round ∷ levels)) ks → UnitComes (UnitGoes p levels) (OpenRound ∷ ks)
 group_comes p levels ks (unit_comes d (level_goes us more (round_goes k))) = unit_comes (group (or_made (and_made d us) more)) k
 
 back_unit : (p : Path) (levels : List Level) (t : Token) (ks : List Token) → OnGoes p ks (before_unit levels t) → UnitComes (UnitGoes p levels) (t ∷ ks)

@@ -1,4 +1,5 @@
 -- What is read of a path whose brackets are still open.
+use Rattle.std.specs.Option.{option_map_or}
 use Rattle.std.specs.Prelude.{Bool, true, false, [], ◌∷◌, ◌++◌, Option, Some, None}
 use Rattle.wef_query_paths.specs.declared.path.Path.{Path, out-Path, roll-Path}
 use Rattle.wef_query_paths.specs.declared.path.Step.{Step}
@@ -9,7 +10,8 @@ use Rattle.wef_query_paths.specs.declared.path.Unit as unit
 use Rattle.wef_query_paths.specs.declared.conditions.Level.{Level}
 use Rattle.wef_query_paths.specs.declared.steps.Place.{Place}
 use Rattle.wef_query_paths.specs.declared.steps.Place.TheVariants.{Whole, InValue, InBand}
-use Rattle.wef_query_paths.specs.declared.conditions.Around.TheVariants.{Round, Square}
+use Rattle.wef_query_paths.specs.declared.conditions.Around.{Around}
+use Rattle.wef_query_paths.specs.declared.conditions.Around.TheVariants.{Square}
 
 -- whether a path is all of the text
 abbrev pub is_whole : Place → Bool
@@ -36,14 +38,26 @@ with_and (Some alternatives) units = roll-Or (record { first = (out-Or alternati
 abbrev pub with_predicate : Step → Predicate → Step
 with_predicate step predicate = record { axis = step.axis; test = step.test; predicates = step.predicates ++ predicate ∷ [] }
 
--- a round bracket in which nothing is read
-abbrev pub round : Level
-round = record { around = Round; alternatives = None; units = None }
+-- a bracket in which nothing is read
+abbrev pub opened : Around → Level
+opened around = record { around = around; alternatives = None; units = None }
 
 -- the bracket of a step's predicate, in which nothing is read
 abbrev pub square : Place → Option Path → Step → Level
-square place so_far step = record { around = Square place so_far step; alternatives = None; units = None }
+square place so_far step = opened (Square place so_far step)
 
 -- the whole condition of a bracket that ends behind a unit
 abbrev pub alternatives_in : Level → unit.Unit → Or
 alternatives_in level last = with_and level.alternatives (with_unit level.units last)
+
+-- one alternative more
+abbrev pub with_alternative : Level → And → Level
+with_alternative level units = record { around = level.around; alternatives = Some (with_and level.alternatives units); units = level.units }
+
+-- the bracket with no units behind its last alternative
+abbrev pub without_units : Level → Level
+without_units level = record { around = level.around; alternatives = level.alternatives; units = None }
+
+-- the units, if there are any, as one alternative more
+abbrev pub with_units_ended : Level → Level
+with_units_ended level = option_map_or (with_alternative (without_units level)) level.units level

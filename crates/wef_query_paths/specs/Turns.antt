@@ -1,6 +1,6 @@
 -- What may come next in a path, and what a token makes of it.
 use Rattle.std.specs.Prelude.{ℕ, Bool, true, false, List, [], ◌∷◌, codes, Option, Some, None, if◌then◌else◌}
-use Rattle.std.specs.Option.{option_map}
+use Rattle.std.specs.Option.{option_map, option_and_then}
 use Rattle.wef_base.specs.Names.{same}
 use Rattle.wef_query_tokens.specs.declared.axis.Axis.{Axis}
 use Rattle.wef_query_tokens.specs.declared.axis.Axis.TheVariants.{Child}
@@ -29,7 +29,7 @@ use Rattle.wef_query_paths.specs.declared.path.Value.{Value}
 use Rattle.wef_query_paths.specs.declared.path.Value.TheVariants.{Nodes, Position, Band}
 use Rattle.wef_query_paths.specs.declared.turns.Next.{Next}
 use Rattle.wef_query_paths.specs.declared.turns.Next.TheVariants.{BeforeStep, BeforeTest, BehindStep, BeforePredicate, BehindCount, BeforeUnit, BehindLiteral, BeforeValue, BehindPosition, InPosition, BehindBand, BeforeMask, BehindMask, BehindValue, BeforeLiteral, BehindUnit}
-use Rattle.wef_query_paths.specs.Levels.{alternatives_in, is_whole, round, square, with_predicate, with_step, with_unit}
+use Rattle.wef_query_paths.specs.Levels.{is_whole, opened, square, with_predicate, with_step, with_unit, with_units_ended}
 
 -- where the brackets that are open stay so
 abbrev pub inside : List Level → Option Next → Option (List Level × Next)
@@ -64,7 +64,7 @@ before_value side BandCall = Some (BehindBand side)
 before_value side token = before_step (InValue side) None token
 
 abbrev pub before_unit : List Level → Token → Option (List Level × Next)
-before_unit levels OpenRound = Some (round ∷ levels, BeforeUnit)
+before_unit levels OpenRound = Some (opened Round ∷ levels, BeforeUnit)
 before_unit levels (Figure n) = Some (levels, BehindLiteral (Number n))
 before_unit levels (Quote text) = Some (levels, BehindLiteral (Quoted text))
 before_unit levels token = inside levels (before_value Left token)
@@ -85,17 +85,24 @@ behind_literal literal _ = None
 
 -- ---- `position()` and `band(path, number)`
 
+-- what comes behind the `(` of a call
+abbrev pub in_call : Next → Token → Option Next
+in_call next OpenRound = Some next
+in_call next _ = None
+
+-- what comes behind the `)` of a call
+abbrev pub behind_call : Next → Token → Option Next
+behind_call next CloseRound = Some next
+behind_call next _ = None
+
 abbrev pub behind_position : Side → Token → Option Next
-behind_position side OpenRound = Some (InPosition side)
-behind_position side _ = None
+behind_position side token = in_call (InPosition side) token
 
 abbrev pub in_position : Side → Token → Option Next
-in_position side CloseRound = Some (BehindValue side Position)
-in_position side _ = None
+in_position side token = behind_call (BehindValue side Position) token
 
 abbrev pub behind_band : Side → Token → Option Next
-behind_band side OpenRound = Some (BeforeStep (InBand side) None)
-behind_band side _ = None
+behind_band side token = in_call (BeforeStep (InBand side) None) token
 
 abbrev pub before_comma : Side → Path → Token → Option Next
 before_comma side path Comma = Some (BeforeMask side path)
@@ -106,8 +113,7 @@ before_mask side path (Figure n) = Some (BehindMask side path n)
 before_mask side path _ = None
 
 abbrev pub behind_mask : Side → Path → ℕ → Token → Option Next
-behind_mask side path n CloseRound = Some (BehindValue side (Band path n))
-behind_mask side path n _ = None
+behind_mask side path n token = behind_call (BehindValue side (Band path n)) token
 
 -- ---- conditions that end
 
@@ -125,19 +131,27 @@ abbrev pub with_and_behind : Level → unit.Unit → Level
 with_and_behind level last = record { around = level.around; alternatives = level.alternatives; units = Some (with_unit level.units last) }
 
 abbrev pub with_or_behind : Level → unit.Unit → Level
-with_or_behind level last = record { around = level.around; alternatives = Some (alternatives_in level last); units = None }
+with_or_behind level last = with_units_ended (with_and_behind level last)
 
-abbrev pub joined : List Level → Level → unit.Unit → List ℕ → Option (List Level × Next)
-joined levels level last name =
-    if same name (codes "and") then Some (with_and_behind level last ∷ levels, BeforeUnit)
-    else (if same name (codes "or") then Some (with_or_behind level last ∷ levels, BeforeUnit) else None)
+abbrev pub joined : List Level → Level → List ℕ → Option (List Level × Next)
+joined levels level name =
+    if same name (codes "and") then Some (level ∷ levels, BeforeUnit)
+    else (if same name (codes "or") then Some (with_units_ended level ∷ levels, BeforeUnit) else None)
+
+-- the condition of a bracket that ends, for what stands around it
+abbrev pub ended_in : (Around → Or → Option Next) → Level → Option Next
+ended_in closed level = option_and_then (closed level.around) level.alternatives
+
+-- what stands behind the units of a condition
+abbrev pub behind_level : List Level → Level → Token → Option (List Level × Next)
+behind_level levels level (Word name) = joined levels level name
+behind_level levels level (Joint name) = joined levels level name
+behind_level levels level CloseRound = inside levels (ended_in closed_round (with_units_ended level))
+behind_level levels level CloseSquare = inside levels (ended_in closed_square (with_units_ended level))
+behind_level levels level _ = None
 
 abbrev pub behind_last : List Level → Level → unit.Unit → Token → Option (List Level × Next)
-behind_last levels level last (Word name) = joined levels level last name
-behind_last levels level last (Joint name) = joined levels level last name
-behind_last levels level last CloseRound = inside levels (closed_round level.around (alternatives_in level last))
-behind_last levels level last CloseSquare = inside levels (closed_square level.around (alternatives_in level last))
-behind_last levels level last _ = None
+behind_last levels level last token = behind_level levels (with_and_behind level last) token
 
 abbrev pub behind_unit : List Level → unit.Unit → Token → Option (List Level × Next)
 behind_unit [] last token = None

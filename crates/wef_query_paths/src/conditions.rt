@@ -1,11 +1,10 @@
 //! Conditions that are being read, and the brackets around them.
 
-ghost use Rattle.std.specs.Prelude.{◌≡◌, ◌==◌, [], ◌∷◌, length, MatchOption, Some, IfOk, OnOk, OnErr};
-ghost use Rattle.wef_query_paths.specs.Levels.{alternatives_in, round, square, with_and, with_unit};
+ghost use Rattle.std.specs.Option.{option_and_then};
+ghost use Rattle.std.specs.Prelude.{◌≡◌, ◌==◌, [], ◌∷◌, length, MatchOption, OnOk, OnErr};
+ghost use Rattle.wef_query_paths.specs.Levels.{opened, with_alternative, with_units_ended};
 ghost use Rattle.wef_query_paths.specs.Reads.{Turns};
-ghost use Rattle.wef_query_paths.specs.Turns.{before_unit, behind_last, behind_unit, closed_round, closed_square, joined, with_and_behind, with_or_behind};
-ghost use Rattle.wef_query_paths.specs.declared.path.Unit.TheVariants.{Group};
-ghost use Rattle.wef_query_paths.specs.declared.turns.Next.TheVariants.{BehindUnit};
+ghost use Rattle.wef_query_paths.specs.Turns.{before_unit, behind_level, behind_unit, closed_round, closed_square, joined, with_and_behind};
 ghost use Rattle.wef_query_tokens.specs.Reads.{Reads};
 
 use crate::path::{And, Literal, Or, Path, Predicate, Step, Unit};
@@ -15,6 +14,7 @@ use crate::turns::Next;
 use crate::values::{Side, before_value};
 use std::alloc::{AllocError, Global};
 use std::marker::Model;
+use std::mem;
 use wef_base::{List, Text};
 use wef_query_tokens::{Halt, Token};
 
@@ -36,33 +36,18 @@ impl Drop for Around {
 }
 
 impl Around {
-    /// What a condition in round brackets is.
-    fn closed_round(self, alloc: Global, or: Or) -> Result<Next, Halt>
-        ensures { Reads result (closed_round self or) }
-    {
-        match &self {
-            Around::Round => grouped(alloc, or),
-            Around::Square(_, _, _) => Err(Halt::Refused),
-        }
-    }
-
-    /// What a condition in square brackets is.
-    fn closed_square(self, or: Or) -> Result<Next, Halt>
-        ensures { Reads result (closed_square self or) }
+    /// What a condition in square brackets is, where it has an end.
+    fn closed_square(self, alternatives: Option<Or>) -> Result<Next, Halt>
+        ensures { Reads result (option_and_then (closed_square self) alternatives) }
     {
         match self {
             Around::Round => Err(Halt::Refused),
-            Around::Square(place, so_far, step) => {
-                behind_predicate(place, so_far, step, Predicate::Whether(or))
-            }
+            Around::Square(place, so_far, step) => match alternatives {
+                None => Err(Halt::Refused),
+                Some(or) => behind_predicate(place, so_far, step, Predicate::Whether(or)),
+            },
         }
     }
-}
-
-fn grouped(alloc: Global, or: Or) -> Result<Next, Halt>
-    ensures { Reads result (Some (BehindUnit (Group or))) }
-{
-    Ok(Next::BehindUnit(Unit::Group(Shared::new(alloc, or)?)))
 }
 
 /// A condition whose bracket is open.
@@ -86,58 +71,69 @@ impl Drop for Level {
 }
 
 impl Level {
-    /// A round bracket in which nothing is read.
-    pub(crate) fn round() -> Level
-        ensures { result ≡ round }
+    /// A bracket in which nothing is read.
+    pub(crate) fn new(around: Around) -> Level
+        ensures { result ≡ opened around }
     {
         Level {
-            around: Around::Round,
-            alternatives: None,
-            units: None,
-        }
-    }
-
-    /// The bracket of a step's predicate, in which nothing is read.
-    pub(crate) fn square(place: Place, so_far: Option<Path>, step: Step) -> Level
-        ensures { result ≡ square place so_far step }
-    {
-        Level {
-            around: Around::Square(place, so_far, step),
-            alternatives: None,
-            units: None,
-        }
-    }
-
-    /// Takes the last unit, behind which `and` stands. What is there after an error may be anything.
-    fn add_unit(&mut self, alloc: Global, last: Unit) -> Result<(), AllocError>
-        ensures { OnOk result (self.new ≡ with_and_behind self.old last) }
-    {
-        let units = with_unit(alloc, self.units.take(), last)?;
-        self.units = Some(units);
-        Ok(())
-    }
-
-    /// Takes the last unit, behind which `or` stands. What is there after an error may be anything.
-    fn add_alternative(&mut self, alloc: Global, last: Unit) -> Result<(), AllocError>
-        ensures { OnOk result (self.new ≡ with_or_behind self.old last) }
-    {
-        let units = with_unit(alloc, self.units.take(), last)?;
-        let alternatives = with_and(alloc, self.alternatives.take(), units)?;
-        self.alternatives = Some(alternatives);
-        Ok(())
-    }
-
-    /// The bracket, and the condition with its last unit.
-    fn close(self, alloc: Global, last: Unit) -> Result<(Around, Or), AllocError>
-        ensures { IfOk result (λ parts. parts ≡ (self.around, alternatives_in self last)) }
-    {
-        let Level {
             around,
-            alternatives,
-            units,
-        } = self;
-        let units = with_unit(alloc, units, last)?;
-        Ok((around, with_and(alloc, alternatives, units)?))
+            alternatives: None,
+            units: None,
+        }
+    }
+
+    /// Takes a unit. What is there after an error may be anything.
+    fn add_unit(&mut self, alloc: Global, unit: Unit) -> Result<(), AllocError>
+        ensures { OnOk result (self.new ≡ with_and_behind self.old unit) }
+    {
+        match &mut self.units {
+            Some(units) => units.rest.push(unit),
+            None => {
+                self.units = Some(And {
+                    first: unit,
+                    rest: List::new(alloc),
+                });
+                Ok(())
+            }
+        }
+    }
+
+    /// Makes the units one more alternative. What is there after an error may be anything.
+    fn end_units(&mut self, alloc: Global) -> Result<(), AllocError>
+        ensures { OnOk result (self.new ≡ with_units_ended self.old) }
+    {
+        match self.units.take() {
+            None => Ok(()),
+            Some(units) => self.add_alternative(alloc, units),
+        }
+    }
+
+    fn add_alternative(&mut self, alloc: Global, units: And) -> Result<(), AllocError>
+        ensures { OnOk result (self.new ≡ with_alternative self.old units) }
+    {
+        match &mut self.alternatives {
+            Some(alternatives) => alternatives.rest.push(units),
+            None => {
+                self.alternatives = Some(Or {
+                    first: units,
+                    rest: List::new(alloc),
+                });
+                Ok(())
+            }
+        }
+    }
+
+    /// What a condition in round brackets is, where it has an end.
+    fn closed_round(&mut self, alloc: Global) -> Result<Next, Halt>
+        ensures { Reads result (option_and_then (closed_round self.old.around) self.old.alternatives) }
+    {
+        match &self.around {
+            Around::Square(_, _, _) => Err(Halt::Refused),
+            Around::Round => match self.alternatives.take() {
+                None => Err(Halt::Refused),
+                Some(or) => Ok(Next::BehindUnit(Unit::Group(Shared::new(alloc, or)?))),
+            },
+        }
     }
 }
 
@@ -177,6 +173,11 @@ impl Levels {
         self.items.len() == 0
     }
 
+    /// The allocator that the brackets were made with.
+    pub(crate) fn alloc(&self) -> Global {
+        *self.items.allocator()
+    }
+
     /// Opens a bracket inside all others.
     pub(crate) fn push(&mut self, level: Level) -> Result<(), AllocError>
         ensures ok { OnOk result (self.new ≡ level ∷ self.old) }
@@ -195,111 +196,65 @@ impl Levels {
 }
 
 /// Where a unit of a condition begins: a bracket, a literal, or a value.
-pub(crate) fn before_unit(alloc: Global, levels: &mut Levels, token: Token) -> Result<Next, Halt>
+pub(crate) fn before_unit(levels: &mut Levels, token: Token) -> Result<Next, Halt>
     ensures { Turns result levels.new (before_unit levels.old token) }
 {
     match token {
         Token::OpenRound => {
-            levels.push(Level::round())?;
+            levels.push(Level::new(Around::Round))?;
             Ok(Next::BeforeUnit)
         }
         Token::Figure(number) => Ok(Next::BehindLiteral(Literal::Number(number))),
         Token::Quote(text) => Ok(Next::BehindLiteral(Literal::Quoted(text))),
-        token => before_value(alloc, Side::Left, token),
+        token => before_value(levels.alloc(), Side::Left, token),
     }
 }
 
 /// What follows a unit of the innermost condition: a joint, or the bracket that closes it.
-pub(crate) fn behind_unit(
-    alloc: Global,
-    levels: &mut Levels,
-    unit: Unit,
-    token: Token,
-) -> Result<Next, Halt>
+pub(crate) fn behind_unit(levels: &mut Levels, unit: Unit, token: Token) -> Result<Next, Halt>
     ensures { Turns result levels.new (behind_unit levels.old unit token) }
 {
     match levels.pop() {
         None => Err(Halt::Refused),
-        Some(level) => behind_last(alloc, levels, level, unit, token),
+        Some(mut level) => {
+            level.add_unit(levels.alloc(), unit)?;
+            behind_level(levels, level, token)
+        }
     }
 }
 
-/// What follows a unit of the innermost condition, which was taken out.
-fn behind_last(
-    alloc: Global,
-    levels: &mut Levels,
-    level: Level,
-    unit: Unit,
-    token: Token,
-) -> Result<Next, Halt>
-    ensures { Turns result levels.new (behind_last levels.old level unit token) }
+/// What follows the units of the innermost condition, which was taken out.
+fn behind_level(levels: &mut Levels, level: Level, token: Token) -> Result<Next, Halt>
+    ensures { Turns result levels.new (behind_level levels.old level token) }
 {
+    let mut level = level;
     match token {
-        Token::Word(name) | Token::Joint(name) => joined(alloc, levels, level, unit, &name),
+        Token::Word(name) | Token::Joint(name) => joined(levels, level, &name),
         Token::CloseRound => {
-            let (around, or) = level.close(alloc, unit)?;
-            around.closed_round(alloc, or)
+            level.end_units(levels.alloc())?;
+            level.closed_round(levels.alloc())
         }
         Token::CloseSquare => {
-            let (around, or) = level.close(alloc, unit)?;
-            around.closed_square(or)
+            level.end_units(levels.alloc())?;
+            mem::replace(&mut level.around, Around::Round).closed_square(level.alternatives.take())
         }
         _ => Err(Halt::Refused),
     }
 }
 
 /// A name behind a unit: an operator.
-fn joined(
-    alloc: Global,
-    levels: &mut Levels,
-    level: Level,
-    last: Unit,
-    name: &Text,
-) -> Result<Next, Halt>
-    ensures { Turns result levels.new (joined levels.old level last name.now) }
+fn joined(levels: &mut Levels, level: Level, name: &Text) -> Result<Next, Halt>
+    ensures { Turns result levels.new (joined levels.old level name.now) }
 {
     let mut level = level;
     if name.as_str() == "and" {
-        level.add_unit(alloc, last)?;
         levels.push(level)?;
         return Ok(Next::BeforeUnit);
     }
     if name.as_str() == "or" {
-        level.add_alternative(alloc, last)?;
+        level.end_units(levels.alloc())?;
         levels.push(level)?;
         return Ok(Next::BeforeUnit);
     }
     Err(Halt::Refused)
-}
-
-/// What has to hold all together, with one thing more.
-fn with_unit(alloc: Global, so_far: Option<And>, unit: Unit) -> Result<And, AllocError>
-    ensures { IfOk result (λ units. units ≡ with_unit so_far unit) }
-{
-    match so_far {
-        None => Ok(And {
-            first: unit,
-            rest: List::new(alloc),
-        }),
-        Some(mut units) => {
-            units.rest.push(unit)?;
-            Ok(units)
-        }
-    }
-}
-
-/// What has to hold in part, with one thing more.
-fn with_and(alloc: Global, so_far: Option<Or>, units: And) -> Result<Or, AllocError>
-    ensures { IfOk result (λ alternatives. alternatives ≡ with_and so_far units) }
-{
-    match so_far {
-        None => Ok(Or {
-            first: units,
-            rest: List::new(alloc),
-        }),
-        Some(mut alternatives) => {
-            alternatives.rest.push(units)?;
-            Ok(alternatives)
-        }
-    }
 }

@@ -14,7 +14,7 @@
 //! ```
 
 ghost use Rattle.std.specs.Prelude.{◌≡◌};
-ghost use Rattle.wef_query_paths.specs.Paths.{any_path, is_any_path, is_any_step, takes_any};
+ghost use Rattle.wef_query_paths.specs.Paths.{any_path, is_any_path, is_any_step};
 
 use crate::shared::Shared;
 use std::alloc::Global;
@@ -132,17 +132,8 @@ impl Step {
     fn is_any(&self) -> bool
         ensures { result ≡ is_any_step self.now }
     {
-        self.axis.goes_to_children() && self.test.takes_any() && self.predicates.is_empty()
-    }
-}
-
-impl NameTest {
-    fn takes_any(&self) -> bool
-        ensures { result ≡ takes_any self.now }
-    {
-        match self {
-            NameTest::Any => true,
-            NameTest::Named(_) => false,
-        }
+        self.axis.goes_to_children()
+            && matches!(self.test, NameTest::Any)
+            && self.predicates.is_empty()
     }
 }

@@ -54,7 +54,7 @@ impl Reader {
     }
 
     /// Takes the next token.
-    fn take(self, alloc: Global, token: Token) -> Result<Reader, Halt>
+    fn take(self, token: Token) -> Result<Reader, Halt>
         ensures { Reads result (taken self token) }
     {
         let Reader {
@@ -63,7 +63,7 @@ impl Reader {
             depth,
         } = self;
         let depth = depth_behind(depth, &token)?;
-        let next = next.turn(alloc, &mut levels, token)?;
+        let next = next.turn(&mut levels, token)?;
         Ok(Reader {
             levels,
             next,
@@ -72,7 +72,7 @@ impl Reader {
     }
 
     /// The path, where the text may end.
-    fn finish(self, alloc: Global) -> Result<Path, Halt>
+    fn finish(self) -> Result<Path, Halt>
         ensures { Reads result (finished self.levels self.next) }
     {
         let Reader {
@@ -83,7 +83,7 @@ impl Reader {
         if !levels.is_empty() {
             return Err(Halt::Refused);
         }
-        next.finish(alloc)
+        next.finish(levels.alloc())
     }
 }
 
@@ -141,9 +141,15 @@ fn read_characters(alloc: Global, text: &[char]) -> Result<Path, Failure>
         reader = longer;
         rest = behind;
     }
-    match reader.finish(alloc) {
+    match reader.finish() {
         Ok(path) => Ok(path),
-        Err(halt) => Err(failure_of(halt, Stop::new(FaultKind::Bad, 0))),
+        Err(halt) => Err(failure_of(
+            halt,
+            Stop {
+                kind: FaultKind::Bad,
+                left: 0,
+            },
+        )),
     }
 }
 
@@ -154,11 +160,17 @@ fn step(alloc: Global, reader: Reader, text: &[char]) -> Result<(Reader, &[char]
 {
     let (token, rest) = match token_at(alloc, text) {
         Ok(read) => read,
-        Err(halt) => return Err(failure_of(halt, Stop::new(kind_at(text), text.len()))),
+        Err(halt) => return Err(failure_of(
+            halt,
+            Stop {
+                kind: kind_at(text),
+                left: text.len(),
+            },
+        )),
     };
     let behind = behind_spaces(rest);
     let refusal = stop_at(&reader, &token, text.len(), behind.len());
-    match reader.take(alloc, token) {
+    match reader.take(token) {
         Ok(longer) => Ok((longer, behind)),
         Err(halt) => Err(failure_of(halt, refusal)),
     }

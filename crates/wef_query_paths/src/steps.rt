@@ -1,16 +1,16 @@
 //! Steps of a path that is being read, and the place where it stands.
 
 ghost use Rattle.std.specs.Prelude.{◌≡◌, Some, IfOk};
-ghost use Rattle.wef_query_paths.specs.Levels.{is_whole, with_predicate, with_step};
+ghost use Rattle.wef_query_paths.specs.Levels.{with_predicate, with_step};
 ghost use Rattle.wef_query_paths.specs.Reads.{Turns};
-ghost use Rattle.wef_query_paths.specs.Turns.{before_predicate, before_step, before_test, behind_count, behind_path, behind_slash, behind_step, name_test, whole_path};
+ghost use Rattle.wef_query_paths.specs.Turns.{before_predicate, before_step, before_test, behind_count, behind_path, behind_slash, behind_step, whole_path};
 ghost use Rattle.wef_query_paths.specs.declared.turns.Next.TheVariants.{BehindStep};
 ghost use Rattle.wef_query_tokens.specs.Reads.{Reads};
 
-use crate::conditions::{Level, Levels, before_unit};
+use crate::conditions::{Around, Level, Levels, before_unit};
 use crate::path::{Literal, NameTest, Path, Predicate, Step, Value};
 use crate::turns::Next;
-use crate::values::{Side, before_comma};
+use crate::values::Side;
 use std::alloc::{AllocError, Global};
 use wef_base::List;
 use wef_query_tokens::{Axis, Halt, Token};
@@ -37,30 +37,37 @@ impl Drop for Place {
 }
 
 impl Place {
-    /// Whether the path is all of the text.
-    pub(crate) fn is_whole(&self) -> bool
-        ensures { result ≡ is_whole self.now }
+    /// Takes what follows a step or a predicate of it: a predicate, a step more, or what ends the path.
+    pub(crate) fn behind_step(
+        self,
+        levels: &mut Levels,
+        so_far: Option<Path>,
+        step: Step,
+        token: Token,
+    ) -> Result<Next, Halt>
+        ensures { Turns result levels.new (behind_step levels.old self so_far step token) }
     {
-        match self {
-            Place::Whole => true,
-            Place::InValue(_) | Place::InBand(_) => false,
+        match token {
+            Token::OpenSquare => Ok(Next::BeforePredicate(self, so_far, step)),
+            Token::Slash => behind_slash(levels.alloc(), self, so_far, step),
+            token => {
+                let path = with_step(levels.alloc(), so_far, step)?;
+                self.behind_path(levels, path, token)
+            }
         }
     }
 
     /// Takes what follows a path.
-    fn behind_path(
-        self,
-        alloc: Global,
-        levels: &mut Levels,
-        path: Path,
-        token: Token,
-    ) -> Result<Next, Halt>
+    fn behind_path(self, levels: &mut Levels, path: Path, token: Token) -> Result<Next, Halt>
         ensures { Turns result levels.new (behind_path levels.old self path token) }
     {
         match self {
             Place::Whole => Err(Halt::Refused),
-            Place::InValue(side) => side.behind_value(alloc, levels, Value::Nodes(path), token),
-            Place::InBand(side) => before_comma(side, path, token),
+            Place::InValue(side) => side.behind_value(levels, Value::Nodes(path), token),
+            Place::InBand(side) => match token {
+                Token::Comma => Ok(Next::BeforeMask(side, path)),
+                _ => Err(Halt::Refused),
+            },
         }
     }
 }
@@ -90,44 +97,17 @@ pub(crate) fn before_test(
 ) -> Result<Next, Halt>
     ensures { Reads result (before_test place so_far axis token) }
 {
-    let test = name_test(token)?;
+    let test = match token {
+        Token::Star => NameTest::Any,
+        Token::Word(name) => NameTest::Named(name),
+        _ => return Err(Halt::Refused),
+    };
     let step = Step {
         axis,
         test,
         predicates: List::new(alloc),
     };
     Ok(Next::BehindStep(place, so_far, step))
-}
-
-fn name_test(token: Token) -> Result<NameTest, Halt>
-    ensures { Reads result (name_test token) }
-{
-    match token {
-        Token::Star => Ok(NameTest::Any),
-        Token::Word(name) => Ok(NameTest::Named(name)),
-        _ => Err(Halt::Refused),
-    }
-}
-
-/// What follows a step or a predicate of it: a predicate, a step more, or what ends the path.
-pub(crate) fn behind_step(
-    alloc: Global,
-    levels: &mut Levels,
-    place: Place,
-    so_far: Option<Path>,
-    step: Step,
-    token: Token,
-) -> Result<Next, Halt>
-    ensures { Turns result levels.new (behind_step levels.old place so_far step token) }
-{
-    match token {
-        Token::OpenSquare => Ok(Next::BeforePredicate(place, so_far, step)),
-        Token::Slash => behind_slash(alloc, place, so_far, step),
-        token => {
-            let path = with_step(alloc, so_far, step)?;
-            place.behind_path(alloc, levels, path, token)
-        }
-    }
 }
 
 /// An attribute step is the last of its path.
@@ -143,7 +123,6 @@ fn behind_slash(alloc: Global, place: Place, so_far: Option<Path>, step: Step) -
 
 /// What a predicate begins with: a number, or a condition.
 pub(crate) fn before_predicate(
-    alloc: Global,
     levels: &mut Levels,
     place: Place,
     so_far: Option<Path>,
@@ -155,8 +134,8 @@ pub(crate) fn before_predicate(
     match token {
         Token::Figure(number) => Ok(Next::BehindCount(place, so_far, step, number)),
         token => {
-            levels.push(Level::square(place, so_far, step))?;
-            before_unit(alloc, levels, token)
+            levels.push(Level::new(Around::Square(place, so_far, step)))?;
+            before_unit(levels, token)
         }
     }
 }
@@ -175,7 +154,7 @@ pub(crate) fn behind_count(
     match token {
         Token::CloseSquare => { behind_predicate(place, so_far, step, Predicate::At(number)) }
         Token::Compare(operator) => {
-            levels.push(Level::square(place, so_far, step))?;
+            levels.push(Level::new(Around::Square(place, so_far, step)))?;
             Ok(Next::BeforeValue(Literal::Number(number), operator))
         }
         _ => Err(Halt::Refused),
@@ -191,10 +170,10 @@ pub(crate) fn whole_path(
 ) -> Result<Path, Halt>
     ensures { Reads result (whole_path place.now so_far step) }
 {
-    if !place.is_whole() {
-        return Err(Halt::Refused);
+    match place {
+        Place::Whole => Ok(with_step(alloc, so_far, step)?),
+        Place::InValue(_) | Place::InBand(_) => Err(Halt::Refused),
     }
-    Ok(with_step(alloc, so_far, step)?)
 }
 
 /// A path with one more step.
@@ -222,15 +201,7 @@ pub(crate) fn behind_predicate(
 ) -> Result<Next, Halt>
     ensures { Reads result (Some (BehindStep place so_far (with_predicate step predicate))) }
 {
-    let step = with_predicate(step, predicate)?;
-    Ok(Next::BehindStep(place, so_far, step))
-}
-
-/// A step with one more predicate.
-fn with_predicate(step: Step, predicate: Predicate) -> Result<Step, AllocError>
-    ensures { IfOk result (λ longer. longer ≡ with_predicate step predicate) }
-{
     let mut step = step;
     step.predicates.push(predicate)?;
-    Ok(step)
+    Ok(Next::BehindStep(place, so_far, step))
 }

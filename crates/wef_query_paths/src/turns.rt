@@ -1,20 +1,15 @@
 //! What may come next in a path, and what a token makes of it.
 
-ghost use Rattle.std.specs.Prelude.{◌≡◌};
+ghost use Rattle.std.specs.Prelude.{◌≡◌, ◌||◌};
 ghost use Rattle.wef_query_paths.specs.Fronts.{begins_path, is_behind_attribute, is_named_call};
 ghost use Rattle.wef_query_paths.specs.Reads.{Turns};
-ghost use Rattle.wef_query_paths.specs.Turns.{ended, turn};
+ghost use Rattle.wef_query_paths.specs.Turns.{behind_call, ended, in_call, turn};
 ghost use Rattle.wef_query_tokens.specs.Reads.{Reads};
 
 use crate::conditions::{Levels, before_unit, behind_unit};
 use crate::path::{Literal, Path, Step, Unit, Value};
-use crate::steps::{
-    Place, before_predicate, before_step, before_test, behind_count, behind_step, whole_path,
-};
-use crate::values::{
-    Side, before_literal, before_mask, before_value, behind_band, behind_literal, behind_mask,
-    behind_position, in_position,
-};
+use crate::steps::{Place, before_predicate, before_step, before_test, behind_count, whole_path};
+use crate::values::{Side, before_literal, before_mask, before_value, behind_literal};
 use std::alloc::Global;
 use wef_query_tokens::{Axis, Halt, Operator, Token};
 
@@ -79,55 +74,54 @@ impl Drop for Next {
 
 impl Next {
     /// Takes a token.
-    pub(crate) fn turn(self, alloc: Global, levels: &mut Levels, token: Token) -> Result<Next, Halt>
+    pub(crate) fn turn(self, levels: &mut Levels, token: Token) -> Result<Next, Halt>
         ensures { Turns result levels.new (turn levels.old self token) }
     {
         match self {
-            Next::BeforeStep(place, so_far) => before_step(alloc, place, so_far, token),
-            Next::BeforeTest(place, so_far, axis) => before_test(alloc, place, so_far, axis, token),
-            Next::BehindStep(place, so_far, step) => behind_step(
-                alloc, levels, place, so_far, step, token,
+            Next::BeforeStep(place, so_far) => before_step(levels.alloc(), place, so_far, token),
+            Next::BeforeTest(place, so_far, axis) => before_test(
+                levels.alloc(),
+                place,
+                so_far,
+                axis,
+                token,
             ),
+            Next::BehindStep(place, so_far, step) => place.behind_step(levels, so_far, step, token),
             Next::BeforePredicate(place, so_far, step) => before_predicate(
-                alloc, levels, place, so_far, step, token,
+                levels, place, so_far, step, token,
             ),
             Next::BehindCount(place, so_far, step, number) => behind_count(
                 levels, place, so_far, step, number, token,
             ),
-            Next::BeforeUnit => before_unit(alloc, levels, token),
+            Next::BeforeUnit => before_unit(levels, token),
             Next::BehindLiteral(literal) => behind_literal(literal, token),
             Next::BeforeValue(literal, operator) => before_value(
-                alloc,
+                levels.alloc(),
                 Side::Right(literal, operator),
                 token,
             ),
-            Next::BehindPosition(side) => behind_position(side, token),
-            Next::InPosition(side) => in_position(side, token),
-            Next::BehindBand(side) => behind_band(side, token),
+            Next::BehindPosition(side) => in_call(Next::InPosition(side), token),
+            Next::InPosition(side) => behind_call(Next::BehindValue(side, Value::Position), token),
+            Next::BehindBand(side) => in_call(Next::BeforeStep(Place::InBand(side), None), token),
             Next::BeforeMask(side, path) => before_mask(side, path, token),
-            Next::BehindMask(side, path, mask) => behind_mask(side, path, mask, token),
-            Next::BehindValue(side, value) => side.behind_value(alloc, levels, value, token),
+            Next::BehindMask(side, path, mask) => behind_call(
+                Next::BehindValue(side, Value::Band(path, mask)),
+                token,
+            ),
+            Next::BehindValue(side, value) => side.behind_value(levels, value, token),
             Next::BeforeLiteral(value, operator) => before_literal(value, operator, token),
-            Next::BehindUnit(unit) => behind_unit(alloc, levels, unit, token),
+            Next::BehindUnit(unit) => behind_unit(levels, unit, token),
         }
     }
 
-    /// Whether a path may begin, none of whose steps stand before.
-    pub(crate) fn begins_path(&self) -> bool
-        ensures { result ≡ begins_path self.now }
+    /// Whether a `/` that can't come is one that XPath has: where a path may begin, none of whose steps
+    /// stand before, or behind a step to attributes.
+    pub(crate) fn has_foreign_slash(&self) -> bool
+        ensures { result ≡ (begins_path self.now || is_behind_attribute self.now) }
     {
         match self {
             Next::BeforeStep(_, None) => true,
             Next::BeforePredicate(_, _, _) | Next::BeforeUnit | Next::BeforeValue(_, _) => true,
-            _ => false,
-        }
-    }
-
-    /// Whether the last step goes to attributes, so that none may follow.
-    pub(crate) fn is_behind_attribute(&self) -> bool
-        ensures { result ≡ is_behind_attribute self.now }
-    {
-        match self {
             Next::BehindStep(_, _, step) => !step.axis.goes_to_children(),
             _ => false,
         }
@@ -152,5 +146,25 @@ impl Next {
             Next::BehindStep(place, so_far, step) => whole_path(alloc, &place, so_far, step),
             _ => Err(Halt::Refused),
         }
+    }
+}
+
+/// What comes behind the `(` of a call.
+fn in_call(next: Next, token: Token) -> Result<Next, Halt>
+    ensures { Reads result (in_call next token) }
+{
+    match token {
+        Token::OpenRound => Ok(next),
+        _ => Err(Halt::Refused),
+    }
+}
+
+/// What comes behind the `)` of a call.
+fn behind_call(next: Next, token: Token) -> Result<Next, Halt>
+    ensures { Reads result (behind_call next token) }
+{
+    match token {
+        Token::CloseRound => Ok(next),
+        _ => Err(Halt::Refused),
     }
 }

@@ -2,7 +2,7 @@
 
 ghost use Rattle.std.specs.Prelude.{◌≡◌};
 ghost use Rattle.wef_query_paths.specs.Reads.{Turns};
-ghost use Rattle.wef_query_paths.specs.Turns.{before_comma, before_literal, before_mask, before_value, behind_alone, behind_band, behind_left, behind_literal, behind_mask, behind_position, behind_value, in_position, is_position, may_be_position};
+ghost use Rattle.wef_query_paths.specs.Turns.{before_literal, before_mask, before_value, behind_left, behind_literal, behind_value, is_position, may_be_position};
 ghost use Rattle.wef_query_tokens.specs.Reads.{Reads};
 
 use crate::conditions::{Levels, behind_unit};
@@ -34,7 +34,6 @@ impl Side {
     /// Takes what follows a value.
     pub(crate) fn behind_value(
         self,
-        alloc: Global,
         levels: &mut Levels,
         value: Value,
         token: Token,
@@ -42,10 +41,10 @@ impl Side {
         ensures { Turns result levels.new (behind_value levels.old self value token) }
     {
         match self {
-            Side::Left => behind_left(alloc, levels, value, token),
+            Side::Left => behind_left(levels, value, token),
             Side::Right(literal, operator) => {
                 let unit = Unit::Mirrored(literal, operator, value);
-                behind_unit(alloc, levels, unit, token)
+                behind_unit(levels, unit, token)
             }
         }
     }
@@ -78,46 +77,6 @@ fn may_be_position(side: &Side) -> bool
     }
 }
 
-/// The bracket that opens behind `position`.
-pub(crate) fn behind_position(side: Side, token: Token) -> Result<Next, Halt>
-    ensures { Reads result (behind_position side token) }
-{
-    match token {
-        Token::OpenRound => Ok(Next::InPosition(side)),
-        _ => Err(Halt::Refused),
-    }
-}
-
-/// The bracket that closes `position(`.
-pub(crate) fn in_position(side: Side, token: Token) -> Result<Next, Halt>
-    ensures { Reads result (in_position side token) }
-{
-    match token {
-        Token::CloseRound => Ok(Next::BehindValue(side, Value::Position)),
-        _ => Err(Halt::Refused),
-    }
-}
-
-/// The bracket that opens behind `band`.
-pub(crate) fn behind_band(side: Side, token: Token) -> Result<Next, Halt>
-    ensures { Reads result (behind_band side token) }
-{
-    match token {
-        Token::OpenRound => Ok(Next::BeforeStep(Place::InBand(side), None)),
-        _ => Err(Halt::Refused),
-    }
-}
-
-/// The comma behind the path of a `band`.
-pub(crate) fn before_comma(side: Side, path: Path, token: Token) -> Result<Next, Halt>
-    ensures { Reads result (before_comma side path token) }
-{
-    match token {
-        Token::Comma => Ok(Next::BeforeMask(side, path)),
-        _ => Err(Halt::Refused),
-    }
-}
-
 /// The mask of a `band`, a number.
 pub(crate) fn before_mask(side: Side, path: Path, token: Token) -> Result<Next, Halt>
     ensures { Reads result (before_mask side path token) }
@@ -128,38 +87,19 @@ pub(crate) fn before_mask(side: Side, path: Path, token: Token) -> Result<Next, 
     }
 }
 
-/// The bracket that closes a `band`.
-pub(crate) fn behind_mask(side: Side, path: Path, mask: u64, token: Token) -> Result<Next, Halt>
-    ensures { Reads result (behind_mask side path mask token) }
-{
-    match token {
-        Token::CloseRound => Ok(Next::BehindValue(side, Value::Band(path, mask))),
-        _ => Err(Halt::Refused),
-    }
-}
-
-fn behind_left(alloc: Global, levels: &mut Levels, value: Value, token: Token) -> Result<Next, Halt>
+/// A value that comes first is compared, or a unit alone where it isn't `position()`.
+fn behind_left(levels: &mut Levels, value: Value, token: Token) -> Result<Next, Halt>
     ensures { Turns result levels.new (behind_left levels.old value token) }
 {
     match token {
         Token::Compare(operator) => Ok(Next::BeforeLiteral(value, operator)),
-        token => behind_alone(alloc, levels, value, token),
+        token => {
+            if is_position(&value) {
+                return Err(Halt::Refused);
+            }
+            behind_unit(levels, Unit::Alone(value), token)
+        }
     }
-}
-
-/// A value alone is a unit, where it isn't `position()`.
-fn behind_alone(
-    alloc: Global,
-    levels: &mut Levels,
-    value: Value,
-    token: Token,
-) -> Result<Next, Halt>
-    ensures { Turns result levels.new (behind_alone levels.old value token) }
-{
-    if is_position(&value) {
-        return Err(Halt::Refused);
-    }
-    behind_unit(alloc, levels, Unit::Alone(value), token)
 }
 
 fn is_position(value: &Value) -> bool
