@@ -1,150 +1,125 @@
 //! Runs of `collect`, and how they are shown.
 
+use crate::runs::{none, ran_on};
 use std::alloc::{AllocError, Global};
-use tests_collectors::collectors::{Kept, collector_of};
+use tests_collectors::collectors::{Kept, store_of};
 use tests_collectors::requests::bytes_of;
-use tests_runs::outcomes::{Outcome, ran_beside};
-use wef_base::{Bytes, List, MemSink, MemSource, Moment, Text};
-use wef_collector::Collector;
-use wef_connections::{MemConnection, MemFront, MemLink};
+use tests_exchanges::numbered::{list_of, push_numbered};
+use tests_runs::outcomes::Outcome;
+use wef_base::{List, Text};
+use wef_connections::{MemConnection, MemFront};
 use wef_keeper::MemKeeper;
 
-/// How a run ended and what it wrote, where its front listened, and what is kept.
-#[derive(Drop)]
-struct Run {
-    told: Outcome,
-    addresses: usize,
-    report: Text,
-}
-
-/// A run of a line over a store, where the call of a number of the front fails, and a write to the
-/// output.
-fn collected(
-    alloc: Global,
+/// How a run over a store with one subscription ends, what it writes, and what is kept behind it, where the
+/// call of a number of the front fails, and a write to the output.
+pub(crate) fn push_collected(
+    shown: &mut Text,
     line: &str,
-    keeper: MemKeeper,
     call: u64,
     write: u64,
-) -> Result<Run, AllocError> {
+) -> Result<(), AllocError> {
     let (count, connections) = line.split_once(": ").unwrap_or((line, ""));
-    let command = command_of(alloc, count)?;
-    let out = MemSink::of(alloc, numbers(alloc, write)?);
-    let mut front = front_of(alloc, connections, call)?;
-    let (keeper, told) = ran_beside(
-        alloc,
-        command.as_str(),
-        keeper,
-        &mut MemSource::of(Bytes::new(alloc), List::new(alloc)),
-        out,
-        &mut front,
-        &mut MemLink::of(alloc, List::new(alloc), List::new(alloc)),
-        Moment::of(1_000).unwrap_or(Moment::first()),
-    )?;
-    Ok(Run {
-        told,
-        addresses: front.addresses().len(),
-        report: report(alloc, keeper)?,
-    })
-}
-
-/// The command that serves so many connections.
-fn command_of(alloc: Global, count: &str) -> Result<Text, AllocError> {
-    let mut command = Text::from_str(alloc, "collect 127.0.0.1:5985 ")?;
-    command.push_str(count)?;
-    Ok(command)
-}
-
-fn numbers(alloc: Global, number: u64) -> Result<List<u64>, AllocError> {
-    let mut numbers = List::new(alloc);
-    numbers.push(number)?;
-    Ok(numbers)
-}
-
-/// A front to which these connections come, of which the call of a number fails.
-fn front_of(alloc: Global, connections: &str, call: u64) -> Result<MemFront, AllocError> {
-    let mut waiting = List::new(alloc);
-    if !connections.is_empty() {
-        for connection in connections.split(" next ") {
-            waiting.push(MemConnection {
-                bytes: bytes_of(alloc, connection)?,
-                cuts: List::new(alloc),
-            })?;
-        }
-    }
-    Ok(MemFront::of(alloc, waiting, numbers(alloc, call)?))
-}
-
-/// What a store keeps, as a collector tells it; nothing where it can't be started.
-fn report(alloc: Global, keeper: MemKeeper) -> Result<Text, AllocError> {
-    let mut collector = match Collector::start(alloc, keeper) {
-        Ok(collector) => collector,
-        Err(_) => return Text::from_str(alloc, "no report\n"),
-    };
-    match collector.report() {
-        Ok(report) => Ok(report),
-        Err(_) => Err(AllocError),
-    }
-}
-
-/// A store with one subscription.
-fn store(alloc: Global) -> Result<MemKeeper, AllocError> {
-    Ok(collector_of(alloc, Kept::Live)?.into_keeper())
-}
-
-/// How a run ends, what it writes, and what is kept behind it.
-pub(crate) fn push_collected(shown: &mut Text, line: &str) -> Result<(), AllocError> {
-    let alloc = shown.alloc();
-    let outcome = collected(alloc, line, store(alloc)?, 0, 0)?;
-    push_outcome(shown, &outcome)
+    let mut front = front_of(shown.alloc(), connections, call)?;
+    push_over(shown, count, &mut front, write)
 }
 
 /// The same where one call of the front fails, for the first calls of all.
 pub(crate) fn push_broken(shown: &mut Text, line: &str) -> Result<(), AllocError> {
-    let alloc = shown.alloc();
     for call in 1..14 {
-        let outcome = collected(alloc, line, store(alloc)?, call, 0)?;
-        push_numbered(shown, call, &outcome)?;
+        push_numbered(shown, call)?;
+        push_collected(shown, line, call, 0)?;
     }
     Ok(())
 }
 
 /// The same where one write to the output fails, for the first writes of all.
 pub(crate) fn push_untold(shown: &mut Text, line: &str) -> Result<(), AllocError> {
-    let alloc = shown.alloc();
     for write in 1..5 {
-        let outcome = collected(alloc, line, store(alloc)?, 0, write)?;
-        push_numbered(shown, write, &outcome)?;
+        push_numbered(shown, write)?;
+        push_collected(shown, line, 0, write)?;
     }
     Ok(())
 }
 
-/// An outcome behind a number, on a line of its own.
-fn push_numbered(shown: &mut Text, number: u64, outcome: &Run) -> Result<(), AllocError> {
-    if number > 1 {
-        shown.push_str("\n    ")?;
+/// A front to which these connections come, of which the call of a number fails.
+fn front_of(alloc: Global, connections: &str, call: u64) -> Result<MemFront, AllocError> {
+    let waiting = waiting_in(alloc, connections)?;
+    Ok(MemFront::of(alloc, waiting, list_of(alloc, call)?))
+}
+
+fn waiting_in(alloc: Global, connections: &str) -> Result<List<MemConnection>, AllocError> {
+    let mut waiting = List::new(alloc);
+    if connections.is_empty() {
+        return Ok(waiting);
     }
-    shown.push_number(number)?;
-    shown.push_str(": ")?;
-    push_outcome(shown, outcome)
+    for connection in connections.split(" next ") {
+        waiting.push(MemConnection {
+            bytes: bytes_of(alloc, connection)?,
+            cuts: List::new(alloc),
+        })?;
+    }
+    Ok(waiting)
 }
 
-fn push_outcome(shown: &mut Text, outcome: &Run) -> Result<(), AllocError> {
-    shown.push_number(u64::from(outcome.told.status))?;
-    push_written(shown, &outcome.told.err)?;
-    shown.push_str(", listened ")?;
-    shown.push_number(outcome.addresses as u64)?;
-    push_written(shown, &outcome.told.out)?;
+fn push_over(
+    shown: &mut Text,
+    count: &str,
+    front: &mut MemFront,
+    write: u64,
+) -> Result<(), AllocError> {
+    let mut keeper = store_of(shown.alloc(), Kept::Live)?;
+    push_run(shown, &mut keeper, count, front, write)
+}
+
+/// Serves so many connections, and says how that ends, and what the store keeps.
+fn push_run(
+    shown: &mut Text,
+    keeper: &mut MemKeeper,
+    count: &str,
+    front: &mut MemFront,
+    write: u64,
+) -> Result<(), AllocError> {
+    let alloc = shown.alloc();
+    let told = served(alloc, keeper, count, front, write)?;
+    push_told(shown, &told, front.addresses().len())?;
     shown.push_str(", kept")?;
-    push_lines(shown, outcome.report.as_str())
+    push_lines(shown, reported(alloc, keeper)?.out.taken())
 }
 
-fn push_written(shown: &mut Text, sink: &MemSink) -> Result<(), AllocError> {
-    let text = String::from_utf8_lossy(shown.alloc(), sink.taken())?;
-    push_lines(shown, text.as_str())
+fn served(
+    alloc: Global,
+    keeper: &mut MemKeeper,
+    count: &str,
+    front: &mut MemFront,
+    write: u64,
+) -> Result<Outcome, AllocError> {
+    let command = format!(in alloc; "collect 127.0.0.1:5985 {count}")?;
+    ran_on(
+        alloc,
+        keeper,
+        command.as_str(),
+        front,
+        &mut none(alloc),
+        write,
+    )
+}
+
+/// What `show` tells of a store.
+fn reported(alloc: Global, keeper: &mut MemKeeper) -> Result<Outcome, AllocError> {
+    ran_on(alloc, keeper, "show", &mut none(alloc), &mut none(alloc), 0)
+}
+
+fn push_told(shown: &mut Text, told: &Outcome, addresses: usize) -> Result<(), AllocError> {
+    shown.push_number(u64::from(told.status))?;
+    push_lines(shown, told.err.taken())?;
+    shown.push_str(", listened ")?;
+    shown.push_number(addresses as u64)?;
+    push_lines(shown, told.out.taken())
 }
 
 /// Lines in one, each behind a bar.
-fn push_lines(shown: &mut Text, text: &str) -> Result<(), AllocError> {
+fn push_lines(shown: &mut Text, bytes: &[u8]) -> Result<(), AllocError> {
+    let text = str::from_utf8(bytes).unwrap_or("no UTF-8");
     for line in text.split_terminator('\n') {
         shown.push_str(" | ")?;
         shown.push_str(line)?;

@@ -1,22 +1,25 @@
 //! What the program prints.
 
-use crate::responses::{response_of, text_of};
+use crate::runs::{none, ran_on};
 use std::alloc::{AllocError, Global};
 use tests_collectors::sources::written;
-use tests_runs::outcomes::ran_beside;
-use tests_tasks::escapes::escaped;
-use wef_base::{Bytes, List, MemSink, MemSource, Moment, Text};
-use wef_connections::{MemConnection, MemFront, MemLink};
+use tests_exchanges::replies::push_escaped;
+use tests_exchanges::responses::response_of;
+use tests_runs::outcomes::Outcome;
+use wef_base::{List, Text};
+use wef_connections::{MemConnection, MemLink};
 
 /// What a command prints over the store of the source, which has written an event, and over a link that
 /// brings the responses that stand behind the command, each behind ` then `.
 pub(crate) fn push_ran(shown: &mut Text, line: &str) -> Result<(), AllocError> {
-    let alloc = shown.alloc();
     let (command, responses) = line.split_once(" then ").unwrap_or((line, ""));
-    let mut link = MemLink::of(alloc, responses_of(alloc, responses)?, List::new(alloc));
-    push_run(shown, command, &mut link)?;
-    shown.push_str("; connections ")?;
-    shown.push_number(link.addresses().len() as u64)
+    let mut link = link_of(shown.alloc(), responses)?;
+    push_run(shown, command, &mut link)
+}
+
+fn link_of(alloc: Global, line: &str) -> Result<MemLink, AllocError> {
+    let responses = responses_of(alloc, line)?;
+    Ok(MemLink::of(alloc, responses, List::new(alloc)))
 }
 
 fn responses_of(alloc: Global, line: &str) -> Result<List<MemConnection>, AllocError> {
@@ -28,26 +31,21 @@ fn responses_of(alloc: Global, line: &str) -> Result<List<MemConnection>, AllocE
 }
 
 fn push_run(shown: &mut Text, command: &str, link: &mut MemLink) -> Result<(), AllocError> {
-    let alloc = shown.alloc();
-    let (keeper, told) = ran_beside(
-        alloc,
-        command,
-        written(alloc)?.into_keeper(),
-        &mut MemSource::of(Bytes::new(alloc), List::new(alloc)),
-        MemSink::of(alloc, List::new(alloc)),
-        &mut MemFront::of(alloc, List::new(alloc), List::new(alloc)),
-        link,
-        Moment::first(),
-    )?;
-    drop(keeper);
-    shown.push_number(u64::from(told.status))?;
-    push_text(shown, told.out.taken())?;
-    push_text(shown, told.err.taken())
+    let told = told(shown.alloc(), command, link)?;
+    push_told(shown, &told)?;
+    shown.push_str("; connections ")?;
+    shown.push_number(link.addresses().len() as u64)
 }
 
-fn push_text(shown: &mut Text, bytes: &[u8]) -> Result<(), AllocError> {
-    let bytes = Bytes::from_slice(shown.alloc(), bytes)?;
-    let text = text_of(shown.alloc(), &bytes)?;
+fn told(alloc: Global, command: &str, link: &mut MemLink) -> Result<Outcome, AllocError> {
+    let mut keeper = written(alloc)?.into_keeper();
+    ran_on(alloc, &mut keeper, command, &mut none(alloc), link, 0)
+}
+
+fn push_told(shown: &mut Text, told: &Outcome) -> Result<(), AllocError> {
+    shown.push_number(u64::from(told.status))?;
     shown.push_str(" ")?;
-    shown.push_str(escaped(&text)?.as_str())
+    push_escaped(shown, told.out.taken())?;
+    shown.push_str(" ")?;
+    push_escaped(shown, told.err.taken())
 }

@@ -26,13 +26,15 @@ pub enum Kept {
 /// A collector of boot 1 with subscriptions.
 pub fn collector_of(alloc: Global, kept: Kept) -> Result<Collector<MemKeeper>, AllocError> {
     let mut collector = started(alloc)?;
-    add(&mut collector, &subscription(alloc, "base")?)?;
-    match kept {
-        Kept::Live => {}
-        Kept::Ended => end(&mut collector, &base(alloc)?)?,
-        Kept::Two => add(&mut collector, &subscription(alloc, "Other/\u{E9} 1")?)?,
+    match subscribe(alloc, &mut collector, kept) {
+        Ok(()) => Ok(collector),
+        Err(fault) => Err(fault),
     }
-    Ok(collector)
+}
+
+/// The store of a new collector.
+pub fn store_of(alloc: Global, kept: Kept) -> Result<MemKeeper, AllocError> {
+    Ok(collector_of(alloc, kept)?.into_keeper())
 }
 
 /// The host that requests name.
@@ -49,6 +51,21 @@ fn started(alloc: Global) -> Result<Collector<MemKeeper>, AllocError> {
     }
 }
 
+/// Adds subscriptions.
+fn subscribe(
+    alloc: Global,
+    collector: &mut Collector<MemKeeper>,
+    kept: Kept,
+) -> Result<(), AllocError> {
+    add(alloc, collector, "base")?;
+    match kept {
+        Kept::Live => Ok(()),
+        Kept::Ended => end(alloc, collector),
+        Kept::Two => add(alloc, collector, "Other/\u{E9} 1"),
+    }
+}
+
+/// The name of the subscription that every collector has.
 pub fn base(alloc: Global) -> Result<SubId, AllocError> {
     named(alloc, "base")
 }
@@ -83,18 +100,17 @@ fn subscription(alloc: Global, name: &str) -> Result<Subscription, AllocError>
     Subscription::all_events(name, channels, 20, 512_000, 900_000)
 }
 
-fn add(collector: &mut Collector<MemKeeper>, subscription: &Subscription) -> Result<(), AllocError>
-    requires { IsAllEvents subscription.now }
-{
-    all_events_read_back(subscription);
-    match collector.add(subscription) {
+fn add(alloc: Global, collector: &mut Collector<MemKeeper>, name: &str) -> Result<(), AllocError> {
+    let subscription = subscription(alloc, name)?;
+    all_events_read_back(&subscription);
+    match collector.add(&subscription) {
         Ok(()) => Ok(()),
         Err(_) => Err(AllocError),
     }
 }
 
-fn end(collector: &mut Collector<MemKeeper>, sub: &SubId) -> Result<(), AllocError> {
-    match collector.end(sub) {
+fn end(alloc: Global, collector: &mut Collector<MemKeeper>) -> Result<(), AllocError> {
+    match collector.end(&base(alloc)?) {
         Ok(()) => Ok(()),
         Err(_) => Err(AllocError),
     }
@@ -107,29 +123,25 @@ pub fn push_left(
     collector: Collector<MemKeeper>,
     kept: Kept,
 ) -> Result<(), AllocError> {
-    let before = first_rows(shown.alloc(), kept)?;
-    push_changed(shown, before.as_slice(), collector)
-}
-
-/// The rows of a new collector.
-pub fn first_rows(alloc: Global, kept: Kept) -> Result<List<Row>, AllocError> {
-    rows_of(alloc, collector_of(alloc, kept)?)
-}
-
-/// What is kept, where the rows of a new collector are at hand.
-pub fn push_changed(
-    shown: &mut Text,
-    before: &[Row],
-    collector: Collector<MemKeeper>,
-) -> Result<(), AllocError> {
     let mut collector = collector;
-    let report = report(&mut collector)?;
-    let rows = rows_of(shown.alloc(), collector)?;
-    if is_same(before, rows.as_slice()) {
+    let report = report(&mut collector);
+    let rows = rows_of(shown.alloc(), collector.into_keeper());
+    push_changed(shown, kept, report?.as_str(), rows?.as_slice())
+}
+
+fn push_changed(
+    shown: &mut Text,
+    kept: Kept,
+    report: &str,
+    rows: &[Row],
+) -> Result<(), AllocError> {
+    let alloc = shown.alloc();
+    let before = rows_of(alloc, store_of(alloc, kept)?)?;
+    if is_same(before.as_slice(), rows) {
         return shown.push_str("; rows as before");
     }
-    push_lines(shown, report.as_str())?;
-    push_heard(shown, rows.as_slice())
+    push_lines(shown, report)?;
+    push_heard(shown, rows)
 }
 
 fn report(collector: &mut Collector<MemKeeper>) -> Result<Text, AllocError> {
@@ -139,8 +151,8 @@ fn report(collector: &mut Collector<MemKeeper>) -> Result<Text, AllocError> {
     }
 }
 
-fn rows_of(alloc: Global, collector: Collector<MemKeeper>) -> Result<List<Row>, AllocError> {
-    let mut keeper = collector.into_keeper();
+fn rows_of(alloc: Global, keeper: MemKeeper) -> Result<List<Row>, AllocError> {
+    let mut keeper = keeper;
     match keeper.page(&first_key(alloc), 1_000) {
         Ok(rows) => Ok(rows),
         Err(_) => Err(AllocError),

@@ -14,11 +14,18 @@ const EVENT: &str =
 /// The source `pc1` of boot 1, which has written an event.
 pub fn written(alloc: Global) -> Result<SourceEnd<MemKeeper>, AllocError> {
     let mut source = started(alloc)?;
+    match write(alloc, &mut source) {
+        Ok(()) => Ok(source),
+        Err(fault) => Err(fault),
+    }
+}
+
+fn write(alloc: Global, source: &mut SourceEnd<MemKeeper>) -> Result<(), AllocError> {
     let Ok(event) = read_new_event(&Text::from_str(alloc, EVENT)?) else {
         return Err(AllocError);
     };
     match source.write(&event) {
-        Ok(_) => Ok(source),
+        Ok(_) => Ok(()),
         Err(_) => Err(AllocError),
     }
 }

@@ -1,21 +1,36 @@
-//! Both ends and their commands, by example: commands over stores and streams in memory, as many
-//! subscriptions as may be, pages of events, an event at its greatest length, a batch that is full, and
-//! the calls of a log and a source that no command makes.
+//! Calls of both ends that no command makes or that come to limits: pages of held events, an event at its
+//! greatest length, the window of a log, and how often a source was started.
 #![tactic(auto)]
 
-#[cfg(test)]
-mod batches;
-#[cfg(test)]
-mod commands;
-#[cfg(test)]
-mod documents;
-#[cfg(test)]
 mod events;
-#[cfg(test)]
-mod limits;
-#[cfg(test)]
+mod lengths;
 mod logs;
-#[cfg(test)]
-mod subscriptions;
-#[cfg(test)]
-mod words;
+
+use events::push_events;
+use lengths::push_length;
+use logs::{push_starts, push_window};
+use std::alloc::AllocError;
+use wef_base::Text;
+
+/// Appends the answer to a line of a task, and tells whether the task is one of these.
+pub fn push_answer(shown: &mut Text, task: &str, line: &str) -> Result<bool, AllocError> {
+    let pushed = match task {
+        // What `events` prints of so many held events.
+        "events" => push_events(shown, number_of(line)),
+        // The length of an event's text, where what is read has pieces that are repeated.
+        "length" => push_length(shown, line),
+        // The ends of a log's window and the numbers of a page, by `CAPACITY WRITES AFTER MAX`: how many
+        // records it keeps, how many are written, behind which number the page begins, and at most how
+        // many it has.
+        "window" => push_window(shown, line),
+        // What a source counts that is started so often.
+        "starts" => push_starts(shown, number_of(line)),
+        _ => return Ok(false),
+    };
+    pushed?;
+    Ok(true)
+}
+
+fn number_of(word: &str) -> u64 {
+    word.parse().unwrap_or(0)
+}

@@ -1,87 +1,102 @@
 //! The window of a log, and how often a source was started.
 
 use std::alloc::{AllocError, Global};
-use std::test::Fail;
-use wef_base::{ChannelName, SourceName, Text};
+use std::mem;
+use wef_base::{List, SourceName, Text};
 use wef_event::{Event, read_new_event};
 use wef_keeper::MemKeeper;
 use wef_source::SourceEnd;
-use wef_source_log::Log;
+use wef_source_log::{Log, LogFault};
 
-/// How many records a log keeps, how many are written, behind which number records are read and at most
-/// how many, and the ends of the window and the numbers of these records.
-type Window = (u64, u32, u64, u32, &'static str);
-
-const WINDOWS: &[Window] = &[
-    (4, 9, 0, 100, "6-9 6 7 8 9"),
-    (4, 9, 7, 1, "6-9 8"),
-    (4, 9, 9, 100, "6-9"),
-    (1, 9, 0, 100, "9-9 9"),
-    (2, 0, 0, 100, "1-0"),
-];
-
-fn event(alloc: Global) -> Result<Event, Fail> {
-    let text = "<Event><System><Channel>a</Channel></System></Event>";
-    Ok(read_new_event(&Text::from_str(alloc, text)?)?)
-}
-
-fn push_ends(text: &mut Text, log: &mut Log<MemKeeper>, channel: &ChannelName) -> Result<(), Fail> {
-    text.push_number(log.first(channel)?)?;
-    text.push_str("-")?;
-    Ok(text.push_number(log.last(channel)?)?)
-}
-
-fn push_numbers(text: &mut Text, page: &[Event]) -> Result<(), AllocError> {
-    for event in page {
-        text.push_str(" ")?;
-        text.push_number(event.number)?;
+/// What is told of the window of a log, once records are written.
+pub(crate) fn push_window(shown: &mut Text, line: &str) -> Result<(), AllocError> {
+    let alloc = shown.alloc();
+    let (capacity, rest) = split_number(line);
+    match Log::start(alloc, MemKeeper::new(alloc), capacity.clamp(1, 1_000_000)) {
+        Ok(mut log) => push_told(shown, &mut log, rest),
+        Err(_) => Err(AllocError),
     }
-    Ok(())
 }
 
-/// Writes records, and appends what is told of the window.
-fn push_window(text: &mut Text, log: &mut Log<MemKeeper>, window: &Window) -> Result<(), Fail> {
-    let (_, writes, after, max, _) = *window;
-    let event = event(text.alloc())?;
+/// The number that begins a line, and what stands behind it.
+fn split_number(line: &str) -> (u64, &str) {
+    let (number, rest) = line.split_once(' ').unwrap_or((line, ""));
+    (number.parse().unwrap_or(0), rest)
+}
+
+fn push_told(shown: &mut Text, log: &mut Log<MemKeeper>, line: &str) -> Result<(), AllocError> {
+    let event = event(shown.alloc())?;
+    match told(log, &event, line) {
+        Ok((first, last, page)) => push_numbers(shown, first, last, page.as_slice()),
+        Err(_) => Err(AllocError),
+    }
+}
+
+/// Writes records, and gives the ends of the window and a page of it.
+fn told(
+    log: &mut Log<MemKeeper>,
+    event: &Event,
+    line: &str,
+) -> Result<(u64, u64, List<Event>), LogFault> {
+    let (writes, rest) = split_number(line);
     for _ in 0..writes {
-        log.write(&event)?;
+        log.write(event)?;
     }
-    push_ends(text, log, &event.channel)?;
-    let page = log.page(&event.channel, after, max.max(1))?;
-    Ok(push_numbers(text, page.as_slice())?)
+    let (after, rest) = split_number(rest);
+    let (max, _) = split_number(rest);
+    let first = log.first(&event.channel)?;
+    let last = log.last(&event.channel)?;
+    let page = log.page(&event.channel, after, max.clamp(1, 1_000) as u32)?;
+    Ok((first, last, page))
 }
 
-fn told(alloc: Global, window: &Window) -> Result<Text, Fail> {
-    let mut text = Text::new(alloc);
-    match Log::start(alloc, MemKeeper::new(alloc), window.0.clamp(1, 1_000_000)) {
-        Ok(mut log) => push_window(&mut text, &mut log, window)?,
-        Err((_, fault)) => return Err(fault.into()),
-    }
-    Ok(text)
-}
-
-#[test]
-fn logs_keep_their_windows(rt: HostRuntime) -> Result<(), Fail> {
-    for window in WINDOWS {
-        assert_eq!(&rt; told(rt.alloc(), window)?.as_str(), window.4);
+fn push_numbers(shown: &mut Text, first: u64, last: u64, page: &[Event]) -> Result<(), AllocError> {
+    shown.push_number(first)?;
+    shown.push_str("-")?;
+    shown.push_number(last)?;
+    for event in page {
+        shown.push_str(" ")?;
+        shown.push_number(event.number)?;
     }
     Ok(())
 }
 
-/// How often the source of a store was started, once it is started.
-fn starts(alloc: Global, keeper: MemKeeper) -> Result<(u64, MemKeeper), Fail> {
-    let name = SourceName::read(&Text::from_str(alloc, "pc1")?)?;
-    match SourceEnd::start(alloc, keeper, name, 4) {
-        Ok(source) => Ok((source.boot(), source.into_keeper())),
-        Err((_, fault)) => Err(fault.into()),
+fn event(alloc: Global) -> Result<Event, AllocError> {
+    let text = "<Event><System><Channel>a</Channel></System></Event>";
+    match read_new_event(&Text::from_str(alloc, text)?) {
+        Ok(event) => Ok(event),
+        Err(_) => Err(AllocError),
     }
 }
 
-#[test]
-fn a_source_counts_its_starts(rt: HostRuntime) -> Result<(), Fail> {
-    let (first, keeper) = starts(rt.alloc(), MemKeeper::new(rt.alloc()))?;
-    let (second, keeper) = starts(rt.alloc(), keeper)?;
-    drop(keeper);
-    assert_eq!(&rt; (first, second), (1, 2));
-    Ok(())
+/// The boot number of a source at each of its starts over one store.
+pub(crate) fn push_starts(shown: &mut Text, count: u64) -> Result<(), AllocError> {
+    let alloc = shown.alloc();
+    let mut keeper = MemKeeper::new(alloc);
+    for _ in 0..count {
+        shown.push_number(start(alloc, &mut keeper)?)?;
+        shown.push_str(" ")?;
+    }
+    shown.push_str("starts")
+}
+
+/// Starts the source of a store, and gives how often it was started.
+fn start(alloc: Global, keeper: &mut MemKeeper) -> Result<u64, AllocError> {
+    let name = source_name(alloc)?;
+    let before = mem::replace(keeper, MemKeeper::new(alloc));
+    match SourceEnd::start(alloc, before, name, 4) {
+        Ok(source) => {
+            let boot = source.boot();
+            *keeper = source.into_keeper();
+            Ok(boot)
+        }
+        Err(_) => Err(AllocError),
+    }
+}
+
+pub(crate) fn source_name(alloc: Global) -> Result<SourceName, AllocError> {
+    match SourceName::read(&Text::from_str(alloc, "pc1")?) {
+        Ok(name) => Ok(name),
+        Err(_) => Err(AllocError),
+    }
 }

@@ -1,10 +1,10 @@
-//! Walks through its scripts with itself as `wef`, each command a process of its own; and then has the lines
-//! of its input answered, and replays its schedules, and prints what comes of each.
+//! Has the lines of its input answered, replays its schedules, and runs its scripts with itself as `wef`, each
+//! command a process of its own; and prints what comes of each.
 //!
 //! With words behind its name it is `wef`.
 //!
-//! A line `=== CRATE TASK: TITLE` says which crate of tests answers each line behind it, and as what. A
-//! line `=== schedule: TITLE` begins a schedule of the lines behind it, and behind a line `=== each: TITLE`
+//! A line `=== CRATE TASK: TITLE` says which crate of tests answers each line behind it, and as what. Behind
+//! a line `=== script: TITLE` each is the name of a script. A line `=== schedule: TITLE` begins a schedule of the lines behind it, and behind a line `=== each: TITLE`
 //! every line is a schedule of its own: it stands last, without an end of its line, behind a line that adds
 //! the subscription `base`.
 #![tactic(auto)]
@@ -22,14 +22,11 @@ fn main(rt: HostRuntime) -> io::Result<ExitCode> {
     if env::args(&rt)?.count() > 1 {
         return Ok(wef_program::run(rt));
     }
-    if !scripts::walk(&rt)? {
-        return Ok(ExitCode::FAILURE);
-    }
     answer_lines(&rt)?;
     Ok(ExitCode::SUCCESS)
 }
 
-/// Answers the lines of the input, and replays its schedules.
+/// Answers the lines of the input, replays its schedules, and runs its scripts.
 fn answer_lines(rt: &HostRuntime) -> io::Result<()> {
     let alloc = rt.alloc();
     let mut name = Text::new(alloc);
@@ -44,6 +41,8 @@ fn answer_lines(rt: &HostRuntime) -> io::Result<()> {
         } else if name.as_str() == "schedule" {
             schedule.extend(line.as_bytes())?;
             schedule.push(b'\n')?;
+        } else if name.as_str() == "script" {
+            print_script(rt, line.as_str())?;
         } else {
             print_answer(rt, name.as_str(), line.as_str())?;
         }
@@ -64,6 +63,13 @@ fn print_schedule(rt: &HostRuntime, schedule: &[u8]) -> io::Result<()> {
     rt.stdout().write_all(shown.as_str().as_bytes())
 }
 
+/// Prints the name of a script, what it prints, and whether it went well.
+fn print_script(rt: &HostRuntime, name: &str) -> io::Result<()> {
+    println!(rt; "{name}")?;
+    let went_well = scripts::run(rt, name)?;
+    println!(rt; "    {}", if went_well { "went well" } else { "failed" })
+}
+
 /// Prints a line and its answer.
 fn print_answer(rt: &HostRuntime, name: &str, line: &str) -> io::Result<()> {
     println!(rt; "{line}")?;
@@ -82,7 +88,10 @@ fn push_answer(shown: &mut Text, name: &str, line: &str) -> Result<bool, AllocEr
         "values" => tests_values::push_answer(shown, task, line),
         "messages" => tests_messages::push_answer(shown, task, line),
         "http" => tests_http::push_answer(shown, task, line),
+        "stores" => tests_stores::push_answer(shown, task, line),
         "answers" => tests_answers::push_answer(shown, task, line),
+        "runs" => tests_runs::push_answer(shown, task, line),
+        "ends" => tests_ends::push_answer(shown, task, line),
         "each" => push_replayed_last(shown, line),
         _ => Ok(false),
     }

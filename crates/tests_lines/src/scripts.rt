@@ -4,14 +4,14 @@ use std::path::Path;
 use std::process::{Command, ExitStatus};
 use std::{env, io};
 
-/// Runs the scripts, and tells whether they went well.
-pub fn walk(rt: &HostRuntime) -> io::Result<bool> {
+/// Runs a script, and tells whether it went well.
+pub fn run(rt: &HostRuntime, name: &str) -> io::Result<bool> {
     let program = env::current_exe(rt)?;
-    Ok(status_of(rt, program.as_path())?.success())
+    Ok(status_of(rt, name, program.as_path())?.success())
 }
 
-fn status_of(rt: &HostRuntime, program: Path<'_>) -> io::Result<ExitStatus> {
+fn status_of(rt: &HostRuntime, name: &str, program: Path<'_>) -> io::Result<ExitStatus> {
     let mut shell = Command::new(rt.alloc(), "sh")?;
-    shell.arg("test.sh")?.arg(program)?;
+    shell.arg(name)?.arg(program)?;
     shell.status(rt)
 }

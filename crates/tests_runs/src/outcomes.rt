@@ -19,33 +19,15 @@ pub struct Outcome {
 
 /// Replays a schedule without faults.
 pub fn replayed(alloc: Global, schedule: &[u8]) -> Result<Outcome, AllocError> {
-    ran_once(alloc, "replay", MemKeeper::new(alloc), schedule)
-}
-
-/// Runs `wef` with words that stand in a line, and hands the store back.
-pub fn ran(
-    alloc: Global,
-    line: &str,
-    keeper: MemKeeper,
-    input: &[u8],
-) -> Result<(MemKeeper, Outcome), AllocError> {
-    let reads = List::new(alloc);
-    ran_over(alloc, line, keeper, input, reads, List::new(alloc))
-}
-
-/// The same, with the store let go.
-pub fn ran_once(
-    alloc: Global,
-    line: &str,
-    keeper: MemKeeper,
-    input: &[u8],
-) -> Result<Outcome, AllocError> {
-    let (keeper, outcome) = ran(alloc, line, keeper, input)?;
+    let keeper = MemKeeper::new(alloc);
+    let (reads, writes) = (List::new(alloc), List::new(alloc));
+    let (keeper, outcome) = ran_over(alloc, "replay", keeper, schedule, reads, writes)?;
     drop(keeper);
     Ok(outcome)
 }
 
-/// The same over streams that fail at the calls of these numbers.
+/// Runs `wef` with words that stand in a line, over streams that fail at the calls of these numbers, and hands
+/// the store back.
 pub fn ran_over(
     alloc: Global,
     line: &str,
