@@ -36,7 +36,7 @@ pub fn push_answer(shown: &mut Text, task: &str, line: &str) -> Result<bool, All
         // The event of `NUMBER TEXT`.
         "number" => push_of_text(shown, line, push_numbered),
         // Whether `CHANNEL NUMBER TEXT` is an event.
-        "parts" => push_of_text(shown, line, push_parts),
+        "parts" | "seen parts" => push_of_text(shown, line, push_parts),
         // Its bookmark.
         "bookmark" => push_of_text(shown, line, push_bookmark),
         // The batch of `HEADER|ELEMENT|ELEMENT`.
@@ -49,8 +49,6 @@ pub fn push_answer(shown: &mut Text, task: &str, line: &str) -> Result<bool, All
         "seen text" => push_of_text(shown, line, seen::push_all),
         // The same, of the text alone.
         "seen" => push_of_text(shown, line, seen::push_seen),
-        // Whether a channel, a number and a text are an event.
-        "seen parts" => push_of_text(shown, line, seen::push_parts),
         _ => return Ok(false),
     };
     pushed?;

@@ -3,7 +3,6 @@
 use crate::others::{Counts, count_others};
 use std::alloc::AllocError;
 use tests_tasks::escapes::escaped;
-use tests_tasks::rows::{parts_of, push_is_event};
 use wef_base::{ChannelName, Charset, Text, ValueFault};
 use wef_event::{Event, EventFault, Label, event_of_node, recognised};
 use wef_tree::read_told_tree;
@@ -81,16 +80,4 @@ fn event_read(text: &Text) -> Result<Option<Event>, AllocError> {
         Err(EventFault::NoMemory) => Err(AllocError),
         _ => Ok(None),
     }
-}
-
-/// Appends whether the `CHANNEL NUMBER TEXT` of a line are an event.
-pub(crate) fn push_parts(shown: &mut Text, line: &Text) -> Result<(), AllocError> {
-    push_is_event(shown, is_event(line))
-}
-
-fn is_event(line: &Text) -> Result<bool, ValueFault> {
-    let Some((channel, number, text)) = parts_of(line)? else {
-        return Ok(false);
-    };
-    Ok(Event::of_text(&channel, number, &text)?.is_some())
 }

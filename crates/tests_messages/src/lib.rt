@@ -20,6 +20,7 @@ use envelopes::{push_answered, push_document, push_headers, push_written};
 use faults::{push_fault, push_named};
 use ids::{push_id, push_value};
 use std::alloc::AllocError;
+use subscriptions::{BY_COLLECTOR, BY_SOURCE};
 use wef_base::Text;
 use wide::{push_big, push_little};
 
@@ -47,18 +48,22 @@ pub fn push_answer(shown: &mut Text, task: &str, line: &str) -> Result<bool, All
         // What the bytes of a document say.
         "subscription" => subscriptions::push_document(shown, line),
         // What a document of a subscription that sources begin says, with edits.
-        "source initiated" => subscriptions::push_edited(shown, line),
+        "source initiated" => subscriptions::push_edited(shown, BY_SOURCE, line),
         // The same of one that the collector begins.
-        "collector initiated" => subscriptions::push_named(shown, line),
+        "collector initiated" => subscriptions::push_edited(shown, BY_COLLECTOR, line),
         // What the first document says with edits, in UTF-16 behind a byte order mark.
         "little" => push_little(shown, line),
         // The same, with the high byte first.
         "big" => push_big(shown, line),
         // The document that is written for what the first document says with edits, and what that
         // says.
-        "subscription written" => subscriptions_written::push_written(shown, line),
+        "subscription written" => subscriptions_written::push_written(shown, BY_SOURCE, line),
         // The same of the second document.
-        "collector initiated written" => subscriptions_written::push_written_named(shown, line),
+        "collector initiated written" => subscriptions_written::push_written(
+            shown,
+            BY_COLLECTOR,
+            line,
+        ),
         _ => return Ok(false),
     };
     pushed?;

@@ -1,7 +1,8 @@
 //! Documents in UTF-16.
 
-use crate::subscriptions::{edited, push_bytes};
+use crate::subscriptions::{BY_SOURCE, push_bytes};
 use std::alloc::AllocError;
+use tests_tasks::deliveries::edited_from;
 use tests_tasks::utf16::{Order, units};
 use wef_base::Text;
 
@@ -18,7 +19,7 @@ pub(crate) fn push_big(shown: &mut Text, edits: &str) -> Result<(), AllocError> 
 /// What the document says in UTF-16, behind its byte order mark.
 fn push_marked(shown: &mut Text, order: Order, edits: &str) -> Result<(), AllocError> {
     let alloc = shown.alloc();
-    let document = edited(alloc, edits)?;
+    let document = edited_from(alloc, BY_SOURCE, edits)?;
     let text = str::from_utf8(document.as_slice()).unwrap_or("no UTF-8");
     let bytes = units(alloc, order, "\u{FEFF}", text)?;
     push_bytes(shown, bytes.as_slice())

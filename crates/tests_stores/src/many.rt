@@ -17,30 +17,31 @@ const TENS: u32 = 100;
 /// The key of a row, but for its number.
 const NAMES: &str = "3/base/pc1.example.org/Application";
 
-/// Has a store do a step over many rows, and appends what comes of it.
-pub(crate) fn push_many<K: Keeper>(
-    shown: &mut Text,
+/// How many rows a store meets in a step over many, if it is one.
+pub(crate) fn counted<K: Keeper>(
     keeper: &mut K,
+    alloc: Global,
     verb: &str,
-    rest: &str,
-) -> Result<(), KeeperFault> {
-    let alloc = shown.alloc();
+    digits: &str,
+) -> Result<Option<u64>, KeeperFault> {
     let count = match verb {
         // Rows with the numbers from 1 on are put, by commits.
-        "fill" => fill(keeper, alloc, number_in(rest))?,
+        "fill" => fill(keeper, alloc, number_in(digits))?,
         // As many are looked for as are there, here and there.
-        "gets" => gets(keeper, alloc, number_in(rest))?,
+        "gets" => gets(keeper, alloc, number_in(digits))?,
         // All rows are walked over by pages.
-        "walk" => walk(keeper, alloc, most_in(rest), None)?,
-        // And shown.
-        "rows" => return push_all(shown, keeper, most_in(rest)),
-        _ => return Ok(shown.push_str("no step")?),
+        "walk" => walk(keeper, alloc, most_in(digits), None)?,
+        _ => return Ok(None),
     };
-    Ok(shown.push_number(count)?)
+    Ok(Some(count))
 }
 
 /// Appends all rows, read by pages, where each can be read.
-fn push_all<K: Keeper>(shown: &mut Text, keeper: &mut K, most: u32) -> Result<(), KeeperFault>
+pub(crate) fn push_all<K: Keeper>(
+    shown: &mut Text,
+    keeper: &mut K,
+    most: u32,
+) -> Result<(), KeeperFault>
     requires { 1 ≤ most }
 {
     let alloc = shown.alloc();

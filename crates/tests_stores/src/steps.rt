@@ -5,7 +5,7 @@ ghost use Rattle.wef_keeper.specs.Forms.{AreWithin};
 ghost use Rattle.wef_keeper.specs.Keeping.{OfRows, raised};
 ghost use Rattle.wef_keeper.specs.Rows.{applied, rows_after};
 
-use crate::many::push_many;
+use crate::many::{counted, push_all};
 use crate::rows::{changes_in, key_in, push_rows};
 use std::alloc::AllocError;
 use wef_base::{List, Text};
@@ -72,7 +72,12 @@ fn push_done<K: Keeper>(
         }
         // Two changes, each in a commit of its own, and the rows behind them.
         "both" => push_both(shown, keeper, rest)?,
-        _ => push_many(shown, keeper, verb, rest)?,
+        // All rows, read by pages of so many.
+        "rows" => push_all(shown, keeper, most_in(rest))?,
+        _ => match counted(keeper, alloc, verb, rest)? {
+            Some(count) => shown.push_number(count)?,
+            None => shown.push_str("no step")?,
+        },
     }
     Ok(())
 }

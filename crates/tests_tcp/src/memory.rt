@@ -1,42 +1,14 @@
 //! A front and a link in memory.
 
-use crate::steps::{Step, first_wrong};
+use crate::steps::first_wrong;
 use std::alloc::{AllocError, Global};
 use std::test::Fail;
 use wef_base::{Bytes, List, Text};
 use wef_connections::{MemConnection, MemFront, MemLink};
 
-/// Each call with its answer. The second call of the front fails, and so does its seventh; of the
-/// link the fourth does.
-const STEPS: &[(Step, &str)] = &[
-    (Step::Bind, "done"),
-    (Step::Accept, "failed"),
-    (Step::FrontReads, ""),
-    (Step::FrontWrites("none"), "failed"),
-    (Step::Accept, "done"),
-    (Step::FrontReads, "one"),
-    (Step::FrontReads, "failed"),
-    (Step::FrontReads, "two"),
-    (Step::FrontReads, ""),
-    (Step::FrontWrites("red"), "3"),
-    (Step::FrontCloses, ""),
-    (Step::FrontWrites("der"), "3"),
-    (Step::Accept, "done"),
-    (Step::FrontReads, "onetwo"),
-    (Step::Bind, "done"),
-    (Step::FrontWrites("blue"), "4"),
-    (Step::Accept, "done"),
-    (Step::FrontReads, ""),
-    (Step::LinkWrites("none"), "failed"),
-    (Step::Connect, "done"),
-    (Step::LinkWrites("green"), "5"),
-    (Step::Connect, "failed"),
-    (Step::LinkReads, "one"),
-    (Step::LinkCloses, ""),
-    (Step::Connect, "done"),
-    (Step::LinkReads, "onetwo"),
-    (Step::LinkWrites("gray"), "4"),
-];
+/// Calls of which the second of the front fails, and so does its seventh; of the link the fourth does.
+const CALLS: &str =
+    "front binds = done; front accepts = failed; front reads = ; front writes none = failed; front accepts = done; front reads = one; front reads = failed; front reads = two; front reads = ; front writes red = 3; front closes = ; front writes der = 3; front accepts = done; front reads = onetwo; front binds = done; front writes blue = 4; front accepts = done; front reads = ; link writes none = failed; link connects = done; link writes green = 5; link connects = failed; link reads = one; link closes = ; link connects = done; link reads = onetwo; link writes gray = 4";
 
 /// Twice the same six bytes, at first in two pieces.
 fn connections(alloc: Global) -> Result<List<MemConnection>, AllocError> {
@@ -66,7 +38,7 @@ fn joined(alloc: Global, lists: &[Bytes]) -> Result<Bytes, AllocError> {
 
 /// Whether the steps answer what they should at this front and this link.
 fn meets(front: &mut MemFront, link: &mut MemLink, address: &Text) -> Result<bool, AllocError> {
-    let wrong = first_wrong(front, link, address, STEPS)?;
+    let wrong = first_wrong(front, link, address, CALLS)?;
     let by_front = joined(address.alloc(), front.sent())?;
     let by_link = joined(address.alloc(), link.sent())?;
     let sent = by_front.as_slice() == b" redder blue ".as_slice()

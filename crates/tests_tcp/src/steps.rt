@@ -6,32 +6,20 @@ use wef_base::{IoFailed, Text};
 use wef_connections::{Front, Link};
 use wef_ports::Port;
 
-/// A call.
-#[derive(Clone, Copy)]
-pub enum Step {
-    Bind,
-    Accept,
-    FrontReads,
-    FrontWrites(&'static str),
-    FrontCloses,
-    Connect,
-    LinkReads,
-    LinkWrites(&'static str),
-    LinkCloses,
-}
-
-/// The index of the first call that doesn't answer what stands beside it.
-pub fn first_wrong<F: Front, L: Link>(
+/// The first of the calls that doesn't answer as it should, if there is one. Each is `CALL = ANSWER`, with `; `
+/// between them; what is written stands behind `writes`.
+pub fn first_wrong<'a, F: Front, L: Link>(
     front: &mut F,
     link: &mut L,
     address: &Text,
-    rows: &[(Step, &str)],
-) -> Result<Option<usize>, AllocError> {
-    for (index, &(step, answer)) in rows.iter().enumerate() {
+    calls: &'a str,
+) -> Result<Option<&'a str>, AllocError> {
+    for call in calls.split("; ") {
+        let (words, answer) = call.split_once(" = ").unwrap_or((call, ""));
         let mut told = Text::new(address.alloc());
-        say(&mut told, front, link, address, step)?;
+        say(&mut told, front, link, address, words)?;
         if told.as_str() != answer {
-            return Ok(Some(index));
+            return Ok(Some(call));
         }
     }
     Ok(None)
@@ -42,18 +30,17 @@ fn say<F: Front, L: Link>(
     front: &mut F,
     link: &mut L,
     address: &Text,
-    step: Step,
+    words: &str,
 ) -> Result<(), AllocError> {
-    match step {
-        Step::Bind => say_opening(told, front.bind(address)),
-        Step::Accept => say_opening(told, front.accept()),
-        Step::FrontReads => say_reading(told, front),
-        Step::FrontWrites(text) => say_writing(told, front, text),
-        Step::FrontCloses => Ok(front.close()),
-        Step::Connect => say_opening(told, link.connect(address)),
-        Step::LinkReads => say_reading(told, link),
-        Step::LinkWrites(text) => say_writing(told, link, text),
-        Step::LinkCloses => Ok(link.close()),
+    let (who, call) = words.split_once(' ').unwrap_or((words, ""));
+    match (who, call) {
+        ("front", "binds") => say_opening(told, front.bind(address)),
+        ("front", "accepts") => say_opening(told, front.accept()),
+        ("front", "closes") => Ok(front.close()),
+        ("front", _) => say_exchange(told, front, call),
+        (_, "connects") => say_opening(told, link.connect(address)),
+        (_, "closes") => Ok(link.close()),
+        _ => say_exchange(told, link, call),
     }
 }
 
@@ -61,6 +48,13 @@ fn say_opening(told: &mut Text, answer: Result<(), IoFailed>) -> Result<(), Allo
     match answer {
         Ok(()) => told.push_str("done"),
         Err(_) => told.push_str("failed"),
+    }
+}
+
+fn say_exchange<P: Port>(told: &mut Text, port: &mut P, call: &str) -> Result<(), AllocError> {
+    match call.strip_prefix("writes ") {
+        Some(text) => say_writing(told, port, text),
+        None => say_reading(told, port),
     }
 }
 
