@@ -16,3 +16,5 @@ rm wef.db
 mkdir wef.db
 list
 rmdir wef.db
+mkdir gone && cd gone && rmdir ../gone || exit 2
+list
