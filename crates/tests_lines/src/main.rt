@@ -4,9 +4,9 @@
 //! With words behind its name it is `wef`.
 //!
 //! A line `=== CRATE TASK: TITLE` says which crate of tests answers each line behind it, and as what. Behind
-//! a line `=== script: TITLE` each is the name of a script. A line `=== schedule: TITLE` begins a schedule of the lines behind it, and behind a line `=== each: TITLE`
-//! every line is a schedule of its own: it stands last, without an end of its line, behind a line that adds
-//! the subscription `base`.
+//! a line `=== script: TITLE` each is the name of a script. A line `=== schedule: TITLE` begins a schedule of
+//! the lines behind it, and behind a line `=== each: TITLE` every line is a schedule of its own: it stands
+//! last, without an end of its line, behind a line that adds the subscription `base`.
 #![tactic(auto)]
 
 mod schedules;
