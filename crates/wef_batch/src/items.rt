@@ -37,10 +37,12 @@ pub struct Batch {
 /// One call for whoever lets a batch go, whatever it holds.
 impl Drop for Batch {
     fn drop(self) {
-        let Batch {
-            items: _,
-            to: _,
-            ack_wanted: _,
-        } = self;
+        match self {
+            Batch {
+                items: _,
+                to: _,
+                ack_wanted: _,
+            } => {}
+        }
     }
 }

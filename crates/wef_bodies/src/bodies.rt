@@ -20,9 +20,7 @@ pub enum Body {
 impl Drop for Body {
     fn drop(self) {
         match self {
-            Body::Offers(_) => {}
-            Body::Subscribe(_) => {}
-            Body::Enumerate => {}
+            Body::Offers(_) | Body::Subscribe(_) | Body::Enumerate => {}
         }
     }
 }

@@ -36,10 +36,11 @@ impl From<AllocError> for EnvelopeFault {
 impl Drop for EnvelopeFault {
     fn drop(self) {
         match self {
-            EnvelopeFault::MustUnderstand { name: _ } => {}
-            EnvelopeFault::HeaderRequired { name: _ } => {}
-            EnvelopeFault::RepeatedHeader { name: _ } => {}
-            EnvelopeFault::NoMemory | EnvelopeFault::NotSoap => {}
+            EnvelopeFault::MustUnderstand { name: _ }
+            | EnvelopeFault::HeaderRequired { name: _ }
+            | EnvelopeFault::RepeatedHeader { name: _ }
+            | EnvelopeFault::NoMemory
+            | EnvelopeFault::NotSoap => {}
         }
     }
 }
@@ -69,19 +70,21 @@ pub struct Envelope {
 /// One call for whoever lets an envelope go, whatever it holds.
 impl Drop for Envelope {
     fn drop(self) {
-        let Envelope {
-            to: _,
-            resource: _,
-            reply_to: _,
-            action: _,
-            id: _,
-            relates: _,
-            machine: _,
-            max_size: _,
-            identifier: _,
-            bookmark: _,
-            ack_wanted: _,
-            body: _,
-        } = self;
+        match self {
+            Envelope {
+                to: _,
+                resource: _,
+                reply_to: _,
+                action: _,
+                id: _,
+                relates: _,
+                machine: _,
+                max_size: _,
+                identifier: _,
+                bookmark: _,
+                ack_wanted: _,
+                body: _,
+            } => {}
+        }
     }
 }

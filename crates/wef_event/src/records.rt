@@ -49,11 +49,13 @@ pub struct Event {
 /// One call for whoever lets an event go, whatever it holds.
 impl Drop for Event {
     fn drop(self) {
-        let Event {
-            channel: _,
-            number: _,
-            text: _,
-        } = self;
+        match self {
+            Event {
+                channel: _,
+                number: _,
+                text: _,
+            } => {}
+        }
     }
 }
 

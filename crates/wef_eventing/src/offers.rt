@@ -24,17 +24,19 @@ pub struct Subscribe {
 /// One call for whoever lets a subscribe go, whatever it holds.
 impl Drop for Subscribe {
     fn drop(self) {
-        let Subscribe {
-            notify_to: _,
-            end_to: _,
-            identifier: _,
-            query: _,
-            max_items: _,
-            max_bytes: _,
-            heartbeat: _,
-            expires: _,
-            from: _,
-        } = self;
+        match self {
+            Subscribe {
+                notify_to: _,
+                end_to: _,
+                identifier: _,
+                query: _,
+                max_items: _,
+                max_bytes: _,
+                heartbeat: _,
+                expires: _,
+                from: _,
+            } => {}
+        }
     }
 }
 
@@ -48,9 +50,11 @@ pub struct Offer {
 /// One call for whoever lets an offer go, whatever it holds.
 impl Drop for Offer {
     fn drop(self) {
-        let Offer {
-            version: _,
-            subscribe: _,
-        } = self;
+        match self {
+            Offer {
+                version: _,
+                subscribe: _,
+            } => {}
+        }
     }
 }

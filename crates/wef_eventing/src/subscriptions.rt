@@ -58,17 +58,19 @@ pub struct Subscription {
 /// One call for whoever lets a subscription go, whatever it holds.
 impl Drop for Subscription {
     fn drop(self) {
-        let Subscription {
-            name: _,
-            kind: _,
-            query: _,
-            max_items: _,
-            max_bytes: _,
-            heartbeat: _,
-            expires: _,
-            sources: _,
-            version: _,
-        } = self;
+        match self {
+            Subscription {
+                name: _,
+                kind: _,
+                query: _,
+                max_items: _,
+                max_bytes: _,
+                heartbeat: _,
+                expires: _,
+                sources: _,
+                version: _,
+            } => {}
+        }
     }
 }
 

@@ -22,13 +22,15 @@ pub struct Key {
 /// One call for whoever lets a key go, whatever it holds.
 impl Drop for Key {
     fn drop(self) {
-        let Key {
-            kind: _,
-            sub: _,
-            source: _,
-            channel: _,
-            number: _,
-        } = self;
+        match self {
+            Key {
+                kind: _,
+                sub: _,
+                source: _,
+                channel: _,
+                number: _,
+            } => {}
+        }
     }
 }
 
@@ -96,8 +98,7 @@ pub enum Change {
 impl Drop for Change {
     fn drop(self) {
         match self {
-            Change::Put(_) => {}
-            Change::Delete(_) => {}
+            Change::Put(_) | Change::Delete(_) => {}
         }
     }
 }

@@ -42,13 +42,15 @@ pub struct QueryItem {
 /// One call for whoever lets an item go, whatever its path holds.
 impl Drop for QueryItem {
     fn drop(self) {
-        let QueryItem {
-            group: _,
-            suppress: _,
-            channel: _,
-            text: _,
-            path: _,
-        } = self;
+        match self {
+            QueryItem {
+                group: _,
+                suppress: _,
+                channel: _,
+                text: _,
+                path: _,
+            } => {}
+        }
     }
 }
 

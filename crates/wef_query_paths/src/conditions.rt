@@ -29,8 +29,7 @@ pub enum Around {
 impl Drop for Around {
     fn drop(self) {
         match self {
-            Around::Round => {}
-            Around::Square(_, _, _) => {}
+            Around::Round | Around::Square(_, _, _) => {}
         }
     }
 }
@@ -62,11 +61,13 @@ pub struct Level {
 /// One call for whoever lets it go, whatever it is.
 impl Drop for Level {
     fn drop(self) {
-        let Level {
-            around: _,
-            alternatives: _,
-            units: _,
-        } = self;
+        match self {
+            Level {
+                around: _,
+                alternatives: _,
+                units: _,
+            } => {}
+        }
     }
 }
 

@@ -33,11 +33,13 @@ pub struct Reader {
 /// One call for whoever lets it go.
 impl Drop for Reader {
     fn drop(self) {
-        let Reader {
-            levels: _,
-            next: _,
-            depth: _,
-        } = self;
+        match self {
+            Reader {
+                levels: _,
+                next: _,
+                depth: _,
+            } => {}
+        }
     }
 }
 

@@ -29,9 +29,7 @@ pub enum Place {
 impl Drop for Place {
     fn drop(self) {
         match self {
-            Place::Whole => {}
-            Place::InValue(_) => {}
-            Place::InBand(_) => {}
+            Place::Whole | Place::InValue(_) | Place::InBand(_) => {}
         }
     }
 }

@@ -52,22 +52,22 @@ pub enum Next {
 impl Drop for Next {
     fn drop(self) {
         match self {
-            Next::BeforeStep(_, _) => {}
-            Next::BeforeTest(_, _, _) => {}
-            Next::BehindStep(_, _, _) => {}
-            Next::BeforePredicate(_, _, _) => {}
-            Next::BehindCount(_, _, _, _) => {}
-            Next::BeforeUnit => {}
-            Next::BehindLiteral(_) => {}
-            Next::BeforeValue(_, _) => {}
-            Next::BehindPosition(_) => {}
-            Next::InPosition(_) => {}
-            Next::BehindBand(_) => {}
-            Next::BeforeMask(_, _) => {}
-            Next::BehindMask(_, _, _) => {}
-            Next::BehindValue(_, _) => {}
-            Next::BeforeLiteral(_, _) => {}
-            Next::BehindUnit(_) => {}
+            Next::BeforeStep(_, _)
+            | Next::BeforeTest(_, _, _)
+            | Next::BehindStep(_, _, _)
+            | Next::BeforePredicate(_, _, _)
+            | Next::BehindCount(_, _, _, _)
+            | Next::BeforeUnit
+            | Next::BehindLiteral(_)
+            | Next::BeforeValue(_, _)
+            | Next::BehindPosition(_)
+            | Next::InPosition(_)
+            | Next::BehindBand(_)
+            | Next::BeforeMask(_, _)
+            | Next::BehindMask(_, _, _)
+            | Next::BehindValue(_, _)
+            | Next::BeforeLiteral(_, _)
+            | Next::BehindUnit(_) => {}
         }
     }
 }

@@ -24,8 +24,7 @@ pub enum Side {
 impl Drop for Side {
     fn drop(self) {
         match self {
-            Side::Left => {}
-            Side::Right(_, _) => {}
+            Side::Left | Side::Right(_, _) => {}
         }
     }
 }

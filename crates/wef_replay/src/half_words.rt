@@ -18,8 +18,7 @@ pub(crate) enum HalfWord {
 impl Drop for HalfWord {
     fn drop(self) {
         match self {
-            HalfWord::Event(_) => {}
-            HalfWord::Other(_) => {}
+            HalfWord::Event(_) | HalfWord::Other(_) => {}
         }
     }
 }

@@ -17,12 +17,14 @@ pub struct Delivery {
 /// One call for whoever lets a delivery go, whatever it holds.
 impl Drop for Delivery {
     fn drop(self) {
-        let Delivery {
-            id: _,
-            notify_to: _,
-            identifier: _,
-            batch: _,
-        } = self;
+        match self {
+            Delivery {
+                id: _,
+                notify_to: _,
+                identifier: _,
+                batch: _,
+            } => {}
+        }
     }
 }
 
@@ -45,8 +47,7 @@ pub enum Reply {
 impl Drop for Reply {
     fn drop(self) {
         match self {
-            Reply::Fault(_) => {}
-            Reply::Ack => {}
+            Reply::Fault(_) | Reply::Ack => {}
         }
     }
 }

@@ -41,18 +41,20 @@ pub struct Session {
 /// One call for whoever lets a session go, whatever it holds.
 impl Drop for Session {
     fn drop(self) {
-        let Session {
-            name: _,
-            notify_to: _,
-            identifier: _,
-            query: _,
-            max_items: _,
-            max_bytes: _,
-            heartbeat: _,
-            positions: _,
-            outstanding: _,
-            last_sent: _,
-        } = self;
+        match self {
+            Session {
+                name: _,
+                notify_to: _,
+                identifier: _,
+                query: _,
+                max_items: _,
+                max_bytes: _,
+                heartbeat: _,
+                positions: _,
+                outstanding: _,
+                last_sent: _,
+            } => {}
+        }
     }
 }
 

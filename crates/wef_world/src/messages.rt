@@ -218,10 +218,7 @@ pub enum Content {
 impl Drop for Content {
     fn drop(self) {
         match self {
-            Content::Ask(_) => {}
-            Content::Offers(_) => {}
-            Content::Delivery(_) => {}
-            Content::Reply(_) => {}
+            Content::Ask(_) | Content::Offers(_) | Content::Delivery(_) | Content::Reply(_) => {}
         }
     }
 }
