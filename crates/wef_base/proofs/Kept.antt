@@ -88,12 +88,12 @@ trimmed_start (c ∷ cs) = by (is_space c) refl (trimmed_start cs)
     by true e rest = rest
     by false e rest = start_kept c (without_end cs) e
 
+alone_kept : (c : ℕ) (b : Bool) → is_space c ≡ b → without_end (cond b [] (c ∷ [])) ≡ cond b [] (c ∷ [])
+alone_kept c true e = refl
+alone_kept c false e = ap (λ (b : Bool). cond b [] (c ∷ [])) e
+
 end_kept : (c : ℕ) (cs : List ℕ) → without_end cs ≡ cs → without_end (unless_last_space c cs) ≡ unless_last_space c cs
-end_kept c [] rest = by (is_space c) refl
-  where
-    by : (b : Bool) → is_space c ≡ b → without_end (cond b [] (c ∷ [])) ≡ cond b [] (c ∷ [])
-    by true e = refl
-    by false e = ap (λ (b : Bool). cond b [] (c ∷ [])) e
+end_kept c [] rest = alone_kept c (is_space c) refl
 end_kept c (d ∷ ds) rest = ap (unless_last_space c) rest
 
 trimmed_end : (cs : List ℕ) → without_end (without_end cs) ≡ without_end cs

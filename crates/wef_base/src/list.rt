@@ -48,6 +48,14 @@ impl<T> List<T> {
         self.items.as_slice()
     }
 
+    /// The items, in a vector. It takes no memory.
+    pub fn into_vec(self) -> Vec<T>
+        ensures { result.items ≡ self }
+    {
+        let List { items } = self;
+        items
+    }
+
     /// How many items there are.
     pub fn len(&self) -> usize
         ensures { result ≡ length self.now }
@@ -59,15 +67,7 @@ impl<T> List<T> {
     pub fn is_empty(&self) -> bool
         ensures { result ≡ (length self.now == 0) }
     {
-        self.items.len() == 0
-    }
-
-    /// The items, in a vector. It takes no memory.
-    pub fn into_vec(self) -> Vec<T>
-        ensures { result.items ≡ self }
-    {
-        let List { items } = self;
-        items
+        self.items.is_empty()
     }
 
     /// Puts an item at the end.

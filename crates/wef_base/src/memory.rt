@@ -1,6 +1,6 @@
 //! A source and a sink in memory, which tell their bytes and fail where they are told to.
 
-ghost use Rattle.std.specs.Prelude.{◌≡◌, ℕ, ◌+◌, ◌-◌, ◌<◌, ◌≤◌, ◌↔◌, ◌==◌, List, [], take, drop, length, is_some, true, false, IsOk, IsErr, Contains, IfOk, refl, min};
+ghost use Rattle.std.specs.Prelude.{◌≡◌, ℕ, ◌+◌, ◌-◌, ◌<◌, ◌≤◌, ◌^◌, ◌++◌, ◌↔◌, ◌==◌, List, [], take, drop, length, is_some, true, false, IsOk, IsErr, Contains, IfOk, refl, min};
 ghost use Rattle.std.specs.declared.option.Option.TheVariants.{Some};
 ghost use Rattle.std.specs.Io.{ReadsAtMost, WritesAtMost};
 ghost use Rattle.std.specs.Io.KnownBytes.{ReadConsumes, WriteAppends};
@@ -60,17 +60,25 @@ impl Source for MemSource {
         ensures calls { self.new.calls ≡ min (self.old.calls + 1) u64.MAX }
         ensures list { self.new.failing ≡ self.old.failing }
     {
-        self.calls = self.calls.saturating_add(1);
-        if is_told(self.calls, self.failing.as_slice()) {
-            self.faults = self.faults.saturating_add(1);
-            return Err(IoFailed);
-        }
-        let rest = after(self.bytes.as_slice(), self.at);
-        let count = rest.len().min(buf.len());
-        buf[..count].copy_from_slice(&rest[..count]);
+        count_call(&mut self.calls, self.failing.as_slice(), &mut self.faults)?;
+        let count = give(self.bytes.as_slice(), self.at, usize::MAX, buf);
         self.at += count;
         Ok(count)
     }
+}
+
+/// Copies bytes from a place on to the front of a buffer, at most so many, and answers how many
+/// these are. None into a buffer that isn't empty is the end, where more than none may be copied.
+pub fn give(bytes: &[u8], at: usize, most: usize, buf: &mut [u8]) -> usize
+    ensures bound { result ≤ length buf.new }
+    ensures left { drop at bytes.now ≡ take result buf.new ++ drop (at + result) bytes.now }
+    ensures end { 0 < most → result ≡ 0 → 0 < length buf.new → drop (at + result) bytes.now ≡ [] }
+    ensures within { at + result < 2 ^ 64 }
+{
+    let rest = after(bytes, at);
+    let count = rest.len().min(most).min(buf.len());
+    buf[..count].copy_from_slice(&rest[..count]);
+    count
 }
 
 /// The bytes behind the first so many.
@@ -80,8 +88,24 @@ fn after(bytes: &[u8], at: usize) -> &[u8]
     if at < bytes.len() { &bytes[at..] } else { &[] }
 }
 
+/// Counts a call. One whose number, counted from 1, is told to fail is a fault, and is counted as one.
+pub fn count_call(calls: &mut u64, failing: &[u64], faults: &mut u64) -> Result<(), IoFailed>
+    ensures calls { calls.new ≡ min (calls.old + 1) u64.MAX }
+    ensures fails { is_told calls.new failing.now ≡ true → IsErr result }
+    ensures others { is_told calls.new failing.now ≡ false → IsOk result }
+    ensures cause { HasCause faults.old faults.new result }
+    ensures faults { CountsFaults faults.old faults.new result }
+{
+    *calls = calls.saturating_add(1);
+    if is_told(*calls, failing) {
+        *faults = faults.saturating_add(1);
+        return Err(IoFailed);
+    }
+    Ok(())
+}
+
 /// Whether the call of this number, counted from 1, is told to fail.
-fn is_told(call: u64, failing: &[u64]) -> bool
+pub fn is_told(call: u64, failing: &[u64]) -> bool
     ensures { result ≡ is_told call failing.now }
 {
     failing.iter().any(|&number| number == call)
@@ -153,11 +177,7 @@ impl Sink for MemSink {
         ensures calls { self.new.calls ≡ min (self.old.calls + 1) u64.MAX }
         ensures list { self.new.failing ≡ self.old.failing }
     {
-        self.calls = self.calls.saturating_add(1);
-        if is_told(self.calls, self.failing.as_slice()) {
-            self.faults = self.faults.saturating_add(1);
-            return Err(IoFailed);
-        }
+        count_call(&mut self.calls, self.failing.as_slice(), &mut self.faults)?;
         if self.taken.extend(piece).is_err() {
             self.faults = self.faults.saturating_add(1);
             self.refused = self.refused.saturating_add(1);

@@ -37,7 +37,8 @@ pub fn read_plain_number(word: &[u8], limit: u64) -> Option<u64>
     value_within(word, limit)
 }
 
-fn is_numeral_text(word: &[u8]) -> bool
+/// Whether a word is one digit or more, and nothing else.
+pub fn is_numeral_text(word: &[u8]) -> bool
     ensures { result ≡ is_numeral word.now }
 {
     word.len() > 0 && all_digits(word)
@@ -58,7 +59,8 @@ fn leads_with_zero(word: &[u8]) -> bool
     }
 }
 
-fn value_within(digits: &[u8], limit: u64) -> Option<u64>
+/// The number that digits write, at most a limit. None above it.
+pub fn value_within(digits: &[u8], limit: u64) -> Option<u64>
     requires digits { is_numeral digits.now ≡ true }
     requires small { limit ≤ MAX }
     ensures value { result ≡ number_within limit digits.now }

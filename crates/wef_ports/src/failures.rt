@@ -1,9 +1,10 @@
 //! Which calls of an object in memory fail.
 
-ghost use Rattle.std.specs.Prelude.{◌≡◌, ◌+◌, min};
-ghost use Rattle.wef_base.specs.Counts.{is_told};
+ghost use Rattle.std.specs.Prelude.{◌≡◌, ◌+◌, true, false, IsOk, IsErr, min};
+ghost use Rattle.wef_base.specs.Counts.{CountsFaults, HasCause, is_told};
 
-use wef_base::List;
+use wef_base::memory::{count_call, is_told};
+use wef_base::{IoFailed, List};
 
 /// The calls that fail, by their numbers, and how many calls there were.
 #[derive(Debug, Drop)]
@@ -30,11 +31,16 @@ impl Failures {
         self.calls = self.calls.saturating_add(1);
         is_told(self.calls, self.failing.as_slice())
     }
-}
 
-/// Whether the call of this number, counted from 1, is told to fail.
-fn is_told(call: u64, failing: &[u64]) -> bool
-    ensures { result ≡ is_told call failing.now }
-{
-    failing.iter().any(|&number| number == call)
+    /// Counts a call. One that is told to fail is a fault, and is counted as one.
+    pub fn pass(&mut self, faults: &mut u64) -> Result<(), IoFailed>
+        ensures fails { is_told self.new.calls self.old.failing ≡ true → IsErr result }
+        ensures others { is_told self.new.calls self.old.failing ≡ false → IsOk result }
+        ensures cause { HasCause faults.old faults.new result }
+        ensures faults { CountsFaults faults.old faults.new result }
+        ensures calls { self.new.calls ≡ min (self.old.calls + 1) u64.MAX }
+        ensures list { self.new.failing ≡ self.old.failing }
+    {
+        count_call(&mut self.calls, self.failing.as_slice(), faults)
+    }
 }

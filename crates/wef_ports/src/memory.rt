@@ -46,18 +46,18 @@ impl MemPort {
         }
     }
 
-    /// What was sent.
-    pub fn sent(&self) -> &[u8]
-        ensures { result.now ≡ self.now.sent }
-    {
-        self.sent.as_slice()
-    }
-
     /// How many writes found no memory. It stays at 2^64 - 1.
     pub fn refused(&self) -> u64
         ensures { result ≡ self.now.refused }
     {
         self.refused
+    }
+
+    /// What was sent.
+    pub fn sent(&self) -> &[u8]
+        ensures { result.now ≡ self.now.sent }
+    {
+        self.sent.as_slice()
     }
 }
 
@@ -82,10 +82,7 @@ impl Port for MemPort {
         ensures calls { self.new.failures.calls ≡ min (self.old.failures.calls + 1) u64.MAX }
         ensures list { self.new.failures.failing ≡ self.old.failures.failing }
     {
-        if self.failures.next() {
-            self.faults = self.faults.saturating_add(1);
-            return Err(IoFailed);
-        }
+        self.failures.pass(&mut self.faults)?;
         Ok(self.coming.give(buf))
     }
 
@@ -106,10 +103,7 @@ impl Port for MemPort {
         ensures calls { self.new.failures.calls ≡ min (self.old.failures.calls + 1) u64.MAX }
         ensures list { self.new.failures.failing ≡ self.old.failures.failing }
     {
-        if self.failures.next() {
-            self.faults = self.faults.saturating_add(1);
-            return Err(IoFailed);
-        }
+        self.failures.pass(&mut self.faults)?;
         if self.sent.extend(piece).is_err() {
             self.faults = self.faults.saturating_add(1);
             self.refused = self.refused.saturating_add(1);

@@ -3,6 +3,7 @@
 ghost use Rattle.std.specs.Prelude.{◌≡◌, ◌+◌, ◌<◌, ◌≤◌, ◌++◌, ◌^◌, [], take, drop, length};
 
 use std::alloc::Global;
+use wef_base::memory::give;
 use wef_base::{Bytes, List};
 
 /// Bytes that are given one after the other, some at a time.
@@ -47,10 +48,8 @@ impl Pieces {
         ensures within { self.new.at < 2 ^ 64 }
     {
         self.next = next_cut(self.cuts.as_slice(), self.next, self.at);
-        let rest = after(self.bytes.as_slice(), self.at);
         let piece = piece_to(self.cuts.as_slice(), self.next, self.at);
-        let count = rest.len().min(piece).min(buf.len());
-        buf[..count].copy_from_slice(&rest[..count]);
+        let count = give(self.bytes.as_slice(), self.at, piece, buf);
         self.at += count;
         count
     }
@@ -73,11 +72,4 @@ fn piece_to(cuts: &[usize], index: usize, place: usize) -> usize
         Some(&cut) if cut > place => cut - place,
         _ => usize::MAX,
     }
-}
-
-/// The bytes behind the first so many.
-fn after(bytes: &[u8], at: usize) -> &[u8]
-    ensures { result.now ≡ drop at bytes.now }
-{
-    if at < bytes.len() { &bytes[at..] } else { &[] }
 }
