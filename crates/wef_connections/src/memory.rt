@@ -1,10 +1,10 @@
 //! Connections in memory, which tell their bytes and fail where they are told to.
 
-ghost use Rattle.std.specs.Prelude.{◌≡◌, ◌+◌, ◌<◌, ◌++◌, drop, length, min, vec_len, vec_capacity, IfOk, OnOk, OnErr, refl};
+ghost use Rattle.std.specs.Prelude.{◌≡◌, ◌+◌, ◌<◌, ◌++◌, drop, false, length, min, vec_len, vec_capacity, IfOk, OnOk, OnErr, refl};
 ghost use Rattle.std.specs.Io.{ReadsAtMost, WritesAtMost};
 ghost use Rattle.std.specs.Io.KnownBytes.{ReadConsumes, WriteAppends};
 ghost use Rattle.std.specs.declared.option.Option.TheVariants.{Some};
-ghost use Rattle.wef_base.specs.Counts.{HasCause, Gives};
+ghost use Rattle.wef_base.specs.Counts.{HasCause, Gives, is_told};
 ghost use Rattle.wef_connections.specs.Memory.{before_last, bytes_of_each, last_of, told_of, unopened, FailsAsTold};
 ghost use Rattle.wef_connections.specs.Opening.{first_of, next_connection, sent_in_each, with_address, OnlyFails, Rises};
 ghost use Rattle.wef_ports.specs.Telling.{OnlyReads, OnlyWrites};
@@ -137,6 +137,22 @@ impl MemConnections {
         self.present = next_of(&mut self.waiting, self.alloc);
     }
 
+    /// Counts an opening, which fails where it is told to.
+    fn count_opening(&mut self) -> Result<(), IoFailed>
+        ensures stays { OnOk result (told_of self.new ≡ told_of self.old) }
+        ensures untold { OnOk result (is_told self.new.failures.calls self.old.failures.failing ≡ false) }
+        ensures rest { OnErr result (OnlyFails (told_of self.old) (told_of self.new)) }
+        ensures refusals { HasCause (told_of self.old).around.refusals (told_of self.new).around.refusals result }
+        ensures cause { HasCause (told_of self.old).faults (told_of self.new).faults result }
+        ensures memory { self.new.refused ≡ self.old.refused }
+        ensures fails { FailsAsTold self.old self.new result }
+    {
+        if self.failures.next() {
+            return Err(self.refuse());
+        }
+        Ok(())
+    }
+
     /// Counts an opening that fails.
     fn refuse(&mut self) -> IoFailed
         ensures rest { OnlyFails (told_of self.old) (told_of self.new) }
@@ -217,9 +233,7 @@ impl Front for MemConnections {
         ensures refusals { HasCause (told_of self.old).around.refusals (told_of self.new).around.refusals result }
         ensures fails { FailsAsTold self.old self.new result }
     {
-        if self.failures.next() {
-            return Err(self.refuse());
-        }
+        self.count_opening()?;
         if self.add_address(address).is_err() {
             return Err(self.want_memory());
         }
@@ -233,9 +247,7 @@ impl Front for MemConnections {
         ensures refusals { HasCause (told_of self.old).around.refusals (told_of self.new).around.refusals result }
         ensures fails { FailsAsTold self.old self.new result }
     {
-        if self.failures.next() {
-            return Err(self.refuse());
-        }
+        self.count_opening()?;
         if self.begin().is_err() {
             return Err(self.want_memory());
         }
@@ -253,13 +265,11 @@ impl Link for MemConnections {
         ensures refusals { HasCause (told_of self.old).around.refusals (told_of self.new).around.refusals result }
         ensures fails { FailsAsTold self.old self.new result }
     {
-        if self.failures.next() {
-            return Err(self.refuse());
+        self.count_opening()?;
+        match self.begin_at(address) {
+            Ok(()) => Ok(()),
+            Err(_) => Err(self.want_memory()),
         }
-        if self.begin_at(address).is_err() {
-            return Err(self.want_memory());
-        }
-        Ok(())
     }
 
     fn close(&mut self) {}
