@@ -3,16 +3,19 @@ use Rattle.std.proofs.Common.{◌≡◌, ℕ, List, [], ◌∷◌, ◌++◌, ◌
 use Rattle.std.specs.Prelude.{encode_utf8}
 use Rattle.std.specs.Str.{chars}
 use Rattle.std.proofs.StrCases.{chars_of_empty}
-use Rattle.std.proofs.lemmas.Str.{chars_past_char, encodes-chars}
+use Rattle.std.proofs.lemmas.Str.{IsUtf8-past_char, chars_past_char, encodes-chars}
 use Rattle.std.specs.List.{flat_map}
 use Rattle.wef_base.specs.declared.tree.Charset.TheVariants.{Utf8}
 use Rattle.wef_xml.specs.Canonical.{bytes_of}
 
 pub next_copied :
-    (out all text rest : List ℕ) (c : ℕ) → IsUtf8 text → text ≡ encode_utf8 c ++ rest →
-    out ++ chars text ≡ all → (out ++ c ∷ []) ++ chars rest ≡ all
-next_copied out all text rest c utf8 parts copied =
-    append_assoc out (c ∷ []) _ ∙ ap (λ (cs : List ℕ). out ++ cs) (sym (chars_past_char text rest c utf8 parts)) ∙ copied
+    (out all text rest : List ℕ) (c : ℕ) → text ≡ encode_utf8 c ++ rest →
+    record { utf8 : IsUtf8 text; copied : out ++ chars text ≡ all } →
+    record { utf8 : IsUtf8 rest; copied : (out ++ c ∷ []) ++ chars rest ≡ all }
+next_copied out all text rest c parts held = record {
+  utf8 = IsUtf8-past_char text rest c held.utf8 parts;
+  copied = append_assoc out (c ∷ []) _ ∙ ap (λ (cs : List ℕ). out ++ cs) (sym (chars_past_char text rest c held.utf8 parts)) ∙ held.copied;
+}
 
 pub all_copied : (out all text : List ℕ) → length text ≡ 0 → out ++ chars text ≡ all → out ≡ all
 all_copied out all text none copied = sym (append-nil out) ∙ sym (ap (λ (cs : List ℕ). out ++ cs) (chars_of_empty text none)) ∙ copied

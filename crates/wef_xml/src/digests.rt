@@ -31,13 +31,6 @@ impl Digested {
         Digested { space }
     }
 
-    /// The namespace alone. It takes no memory.
-    pub fn into_space(self) -> Namespace
-        ensures { result ≡ self }
-    {
-        self.space
-    }
-
     /// The same namespace again, which shares the text.
     pub fn clone(&self) -> Result<Digested, AllocError>
         ensures { IfOk result (λ copy. copy ≡ self.now) }
@@ -46,12 +39,19 @@ impl Digested {
             space: self.space.clone()?,
         })
     }
+
+    /// The namespace alone. It takes no memory.
+    pub fn into_space(self) -> Namespace
+        ensures { result ≡ self }
+    {
+        self.space
+    }
 }
 
 impl PartialEq for Digested {
-    ghost use Rattle.std.specs.Prelude.{nat_eq};
+    ghost use Rattle.std.specs.Cmp.Lexicographic.{nat_list_eq_equiv, pointwise};
     ghost use Rattle.std.specs.Cmp.{partial_equiv_from_equiv};
-    ghost use Rattle.std.specs.Cmp.Lexicographic.{pointwise, nat_list_eq_equiv};
+    ghost use Rattle.std.specs.Prelude.{nat_eq};
 
     ghost eq = { pointwise nat_eq };
 
