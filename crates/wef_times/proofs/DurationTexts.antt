@@ -95,9 +95,6 @@ written_plain ms small =
 written_ascii : (c : ℕ) → is_written c ≡ true → c < 128
 written_ascii c h = grind (arith, nat_tests)
 
-written_no_space : (c : ℕ) → is_written c ≡ true → is_space c ≡ false
-written_no_space c h = grind (arith, nat_tests)
-
 encoded : (cs : List ℕ) → list_all is_written cs ≡ true → encode_utf8_all cs ≡ cs
 encoded [] h = refl
 encoded (c ∷ cs) h =
@@ -109,6 +106,9 @@ ascii [] h = All-nil (λ b. b < 128)
 ascii (c ∷ cs) h =
     let both = and_parts (is_written c) (list_all is_written cs) h in
     All-cons (λ b. b < 128) c cs (written_ascii c both.0) (ascii cs both.1)
+
+written_no_space : (c : ℕ) → is_written c ≡ true → is_space c ≡ false
+written_no_space c h = grind (arith, nat_tests)
 
 no_end : (cs : List ℕ) → list_all is_written cs ≡ true → without_end cs ≡ cs
 no_end [] h = refl
