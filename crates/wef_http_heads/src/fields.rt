@@ -161,12 +161,6 @@ pub(crate) fn trim(bytes: &[u8]) -> &[u8]
     trim_end(trim_start(bytes))
 }
 
-fn is_white(byte: u8) -> bool
-    ensures { result ≡ is_ows byte }
-{
-    byte == b' ' || byte == b'\t'
-}
-
 fn trim_start(bytes: &[u8]) -> &[u8]
     ensures { result.now ≡ skip_ows bytes.now }
 {
@@ -180,12 +174,18 @@ fn trim_start(bytes: &[u8]) -> &[u8]
     rest
 }
 
+fn is_white(byte: u8) -> bool
+    ensures { result ≡ is_ows byte }
+{
+    byte == b' ' || byte == b'\t'
+}
+
 fn trim_end(bytes: &[u8]) -> &[u8]
     ensures { result.now ≡ without_space bytes.now }
 {
     let mut rest = bytes;
-    while let Some((&last, others)) = rest.split_last() {
-        if !is_white(last) {
+    while let [others @ .., last] = rest {
+        if !is_white(*last) {
             return rest;
         }
         rest = others;

@@ -1,8 +1,7 @@
 //! What a head says of where its body ends.
 
-ghost use Rattle.std.specs.List.{list_all};
 ghost use Rattle.std.specs.Prelude.{◌≡◌, true};
-ghost use Rattle.wef_base.specs.Numbers.{is_digit, is_numeral, number_within};
+ghost use Rattle.wef_base.specs.Numbers.{is_numeral, number_within};
 ghost use Rattle.wef_http_heads.specs.Framing.{coding_said, declared_by, declared_in, length_or_more, length_said};
 ghost use Rattle.wef_http_heads.specs.Steps.{Judges, needed};
 ghost use Rattle.wef_http_heads.specs.declared.ends.HttpEnd.TheVariants.{BadHead};
@@ -12,6 +11,7 @@ use crate::fields::{Fields, is_alike};
 use crate::heads::BODY_LIMIT;
 use std::alloc::Global;
 use wef_base::Bytes;
+use wef_base::numbers::{is_numeral_text, value_within};
 
 /// What a head says of its body.
 #[derive(Clone, Copy, Debug, PartialEq, Eq)]
@@ -49,7 +49,7 @@ fn declared_by(lengths: &[Bytes], codings: &[Bytes]) -> Result<Declared, HttpEnd
 fn length_said(value: &[u8]) -> Result<Declared, HttpEnd>
     ensures { Judges result (needed BadHead (length_said value.now)) }
 {
-    if !is_numeral(value) {
+    if !is_numeral_text(value) {
         return Err(HttpEnd::BadHead);
     }
     Ok(length_or_more(value))
@@ -59,8 +59,8 @@ fn length_or_more(digits: &[u8]) -> Declared
     requires { is_numeral digits.now ≡ true }
     ensures { result ≡ length_or_more (number_within BODY_LIMIT digits.now) }
 {
-    match length_within(digits) {
-        Some(length) => Declared::Length(length),
+    match value_within(digits, BODY_LIMIT as u64) {
+        Some(length) => Declared::Length(length as usize),
         None => Declared::TooLong,
     }
 }
@@ -72,31 +72,4 @@ fn coding_said(value: &[u8]) -> Result<Declared, HttpEnd>
         return Err(HttpEnd::BadHead);
     }
     Ok(Declared::Chunked)
-}
-
-fn is_numeral(value: &[u8]) -> bool
-    ensures { result ≡ is_numeral value.now }
-{
-    value.len() > 0 && all_digits(value)
-}
-
-fn all_digits(value: &[u8]) -> bool
-    ensures { result ≡ list_all is_digit value.now }
-{
-    value.iter().all(|&byte| byte >= 48 && byte <= 57)
-}
-
-/// The number of digits, where a body may have so many bytes.
-fn length_within(digits: &[u8]) -> Option<usize>
-    requires { is_numeral digits.now ≡ true }
-    ensures { result ≡ number_within BODY_LIMIT digits.now }
-{
-    let mut length = 0;
-    for &digit in digits {
-        length = length * 10 + usize::from(digit - 48);
-        if length > BODY_LIMIT {
-            return None;
-        }
-    }
-    Some(length)
 }

@@ -39,36 +39,15 @@ pub fn find_request_head(
 {
     let mut spans = [EMPTY_HEADER_SPAN; FIELD_LIMIT];
     match parse_request(bytes, &mut spans) {
-        Ok(Status::Complete(head)) => whole_request(alloc, side, bytes, &spans, head),
-        Ok(Status::Partial) => {
-            if bytes.len() >= HEAD_LIMIT {
-                return Err(HttpEnd::BadHead);
-            }
-            Ok(Found::Partial)
-        }
+        Ok(Status::Complete(head)) if head.len > HEAD_LIMIT => Err(HttpEnd::BadHead),
+        Ok(Status::Complete(head)) => match judge_request(alloc, side, bytes, &spans, head) {
+            Ok(plan) => Ok(Found::Whole(plan, head.len)),
+            Err(end) => Err(end),
+        },
+        Ok(Status::Partial) if bytes.len() < HEAD_LIMIT => Ok(Found::Partial),
+        Ok(Status::Partial) => Err(HttpEnd::BadHead),
         Err(_) => Err(HttpEnd::BadHead),
     }
-}
-
-fn whole_request(
-    alloc: Global,
-    side: Side,
-    bytes: &[u8],
-    spans: &[HeaderSpan],
-    head: RequestSpans,
-) -> Result<Found<RequestPlan>, HttpEnd>
-    requires within { IsRequestWithin bytes.now spans.now head }
-    requires reads { IsRequestOf bytes.now spans.now head }
-    requires room { length spans.now ≤ FIELD_LIMIT }
-    ensures found { IfOk result (FindsRequest side bytes.now) }
-    ensures refused { IfErr result (RefusesRequestHead side bytes.now) }
-    ensures kinds { IfErr result IsOfBytes }
-{
-    if head.len > HEAD_LIMIT {
-        return Err(HttpEnd::BadHead);
-    }
-    let plan = judge_request(alloc, side, bytes, spans, head)?;
-    Ok(Found::Whole(plan, head.len))
 }
 
 #[tactic(auto, using(crate::proofs::Wholes::headers_within))]
@@ -95,6 +74,7 @@ fn judge_request(
 
 /// The head of a response that bytes begin with, judged. `Partial` only where there is room for
 /// more bytes of a head.
+#[tactic(auto, using(crate::proofs::Parted::partial_response, crate::proofs::Wholes::headers_within))]
 pub fn find_response_head(alloc: Global, bytes: &[u8]) -> Result<Found<ResponsePlan>, HttpEnd>
     ensures found { IfOk result (FindsResponse bytes.now) }
     ensures refused { IfErr result (RefusesResponseHead bytes.now) }
@@ -102,47 +82,17 @@ pub fn find_response_head(alloc: Global, bytes: &[u8]) -> Result<Found<ResponseP
 {
     let mut spans = [EMPTY_HEADER_SPAN; FIELD_LIMIT];
     match parse_response(bytes, &mut spans) {
-        Ok(Status::Complete(head)) => whole_response(alloc, bytes, &spans, head),
-        Ok(Status::Partial) => {
-            if bytes.len() >= HEAD_LIMIT {
-                return Err(HttpEnd::BadHead);
-            }
-            Ok(Found::Partial)
-        }
+        Ok(Status::Complete(head)) if head.len > HEAD_LIMIT => Err(HttpEnd::BadHead),
+        Ok(Status::Complete(head)) => match response_of(
+            alloc,
+            head.code,
+            &Fields::new(bytes, &spans[..head.headers]),
+        ) {
+            Ok(plan) => Ok(Found::Whole(plan, head.len)),
+            Err(end) => Err(end),
+        },
+        Ok(Status::Partial) if bytes.len() < HEAD_LIMIT => Ok(Found::Partial),
+        Ok(Status::Partial) => Err(HttpEnd::BadHead),
         Err(_) => Err(HttpEnd::BadHead),
     }
-}
-
-fn whole_response(
-    alloc: Global,
-    bytes: &[u8],
-    spans: &[HeaderSpan],
-    head: ResponseSpans,
-) -> Result<Found<ResponsePlan>, HttpEnd>
-    requires within { IsResponseWithin bytes.now spans.now head }
-    requires reads { IsResponseOf bytes.now spans.now head }
-    requires room { length spans.now ≤ FIELD_LIMIT }
-    ensures found { IfOk result (FindsResponse bytes.now) }
-    ensures refused { IfErr result (RefusesResponseHead bytes.now) }
-    ensures kinds { IfErr result IsOfBytes }
-{
-    if head.len > HEAD_LIMIT {
-        return Err(HttpEnd::BadHead);
-    }
-    let plan = judge_response(alloc, bytes, spans, head)?;
-    Ok(Found::Whole(plan, head.len))
-}
-
-#[tactic(auto, using(crate::proofs::Wholes::headers_within))]
-fn judge_response(
-    alloc: Global,
-    bytes: &[u8],
-    spans: &[HeaderSpan],
-    head: ResponseSpans,
-) -> Result<ResponsePlan, HttpEnd>
-    requires { IsResponseWithin bytes.now spans.now head }
-    ensures { Judges result (response_of head.code (map (header_bytes bytes.now) (take head.headers spans.now))) }
-{
-    let fields = Fields::new(bytes, &spans[..head.headers]);
-    response_of(alloc, head.code, &fields)
 }

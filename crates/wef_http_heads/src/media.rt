@@ -25,6 +25,13 @@ pub enum Quoting {
 }
 
 impl Quoting {
+    /// Whether a byte separates two parts.
+    fn separates(self, byte: u8) -> bool
+        ensures { result ≡ separates self byte }
+    {
+        matches!(self, Quoting::Outside) && byte == b';'
+    }
+
     /// Where the next byte stands.
     fn behind(self, byte: u8) -> Quoting
         ensures { result ≡ quoting_behind self byte }
@@ -35,16 +42,6 @@ impl Quoting {
             Quoting::Inside if byte == b'"' => Quoting::Outside,
             Quoting::Inside if byte == b'\\' => Quoting::Escaped,
             Quoting::Inside | Quoting::Escaped => Quoting::Inside,
-        }
-    }
-
-    /// Whether a byte separates two parts.
-    fn separates(self, byte: u8) -> bool
-        ensures { result ≡ separates self byte }
-    {
-        match self {
-            Quoting::Outside => byte == b';',
-            Quoting::Inside | Quoting::Escaped => false,
         }
     }
 }
@@ -65,10 +62,11 @@ pub(crate) fn request_charset(alloc: Global, fields: &Fields) -> Result<Charset,
 pub(crate) fn response_charset(alloc: Global, fields: &Fields) -> Result<Charset, HttpEnd>
     ensures { Judges result (needed Media (response_charset fields.now)) }
 {
-    if !is_uncoded(alloc, fields)? {
-        return Err(HttpEnd::Media);
+    if is_uncoded(alloc, fields)? {
+        charset_or_utf8(alloc, fields.values(alloc, b"Content-Type")?.as_slice())
+    } else {
+        Err(HttpEnd::Media)
     }
-    charset_or_utf8(alloc, fields.values(alloc, b"Content-Type")?.as_slice())
 }
 
 fn charset_by(alloc: Global, values: &[Bytes]) -> Result<Charset, HttpEnd>

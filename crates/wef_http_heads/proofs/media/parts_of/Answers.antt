@@ -6,8 +6,8 @@ use Rattle.wef_http_heads.proofs.media.parts_of.Goals as goal
 
 pub loop-byte-preserved : goal.loop-byte-preserved
 loop-byte-preserved c =
-    let value = c.args.value.now in
     let at = c.loop-byte.byte-index in
+    let value = c.args.value.now in
     let inside : at < length value = omega arith in
     let first = drop-cons value at 0 inside in
     let byte = get_or value at 0 in
