@@ -31,14 +31,8 @@ pub fn serve_connection<F: Front, K: Keeper, C: Clock>(
     ensures fault { result ≡ PortFailed → Rose (F.told front.old).faults (F.told front.new).faults }
     ensures clock { C.told clock.new ≡ C.told clock.old }
 {
-    serve(
-        alloc,
-        Side::Collector,
-        front,
-        &CollectorAnswers,
-        collector,
-        clock,
-    )
+    let side = Side::Collector;
+    serve(alloc, side, front, &CollectorAnswers, collector, clock)
 }
 
 /// Takes the next connection of a front, serves it for a collector, and closes it. It is refused where
@@ -59,12 +53,6 @@ pub fn serve_next_connection<F: Front, K: Keeper, C: Clock>(
     ensures untouched { OnErr result (collector.new ≡ collector.old) }
     ensures clock { C.told clock.new ≡ C.told clock.old }
 {
-    serve_next(
-        alloc,
-        Side::Collector,
-        front,
-        &CollectorAnswers,
-        collector,
-        clock,
-    )
+    let side = Side::Collector;
+    serve_next(alloc, side, front, &CollectorAnswers, collector, clock)
 }

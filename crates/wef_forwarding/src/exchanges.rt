@@ -29,7 +29,6 @@ pub enum FrontFault {
 }
 
 impl From<AllocError> for FrontFault {
-    ghost use Rattle.std.specs.Prelude.{◌≡◌};
     ghost use Rattle.wef_forwarding.specs.declared.exchanges.FrontFault.TheVariants.{NoMemory};
 
     ghost from_gives = { λ _ e. e ≡ NoMemory };
@@ -40,7 +39,6 @@ impl From<AllocError> for FrontFault {
 }
 
 impl From<HttpEnd> for FrontFault {
-    ghost use Rattle.std.specs.Prelude.{◌≡◌};
     ghost use Rattle.wef_forwarding.specs.Exchanges.{fault_of};
 
     ghost from_gives = { λ end fault. fault ≡ fault_of end };

@@ -37,7 +37,6 @@ impl From<AllocError> for LineFault {
 }
 
 impl From<ValueFault> for LineFault {
-    ghost use Rattle.std.specs.Prelude.{◌≡◌};
     ghost use Rattle.wef_replay_values.specs.Reading.{line_fault};
 
     ghost from_gives = { λ fault e. e ≡ line_fault fault };
@@ -51,16 +50,15 @@ impl From<ValueFault> for LineFault {
 }
 
 impl From<EventFault> for LineFault {
-    ghost use Rattle.std.specs.Prelude.{◌≡◌};
     ghost use Rattle.wef_replay_values.specs.Reading.{event_line_fault};
 
     ghost from_gives = { λ fault e. e ≡ event_line_fault fault };
 
     fn from(fault: EventFault) -> LineFault {
-        match fault {
-            EventFault::NoMemory => LineFault::NoMemory,
-            _ => LineFault::NotUnderstood,
+        if let EventFault::NoMemory = fault {
+            return LineFault::NoMemory;
         }
+        LineFault::NotUnderstood
     }
 }
 

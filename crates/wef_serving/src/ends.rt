@@ -23,7 +23,6 @@ pub enum ConnectionEnd {
 }
 
 impl From<HttpEnd> for ConnectionEnd {
-    ghost use Rattle.std.specs.Prelude.{◌≡◌};
     ghost use Rattle.wef_serving.specs.Serving.{ending};
 
     ghost from_gives = { λ end over. over ≡ ending end };
@@ -50,7 +49,6 @@ fn unrefused(end: HttpEnd) -> ConnectionEnd
 }
 
 impl From<AllocError> for ConnectionEnd {
-    ghost use Rattle.std.specs.Prelude.{◌≡◌};
     ghost use Rattle.wef_serving.specs.declared.ends.ConnectionEnd.TheVariants.{NoMemory};
 
     ghost from_gives = { λ _ over. over ≡ NoMemory };

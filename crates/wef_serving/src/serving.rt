@@ -5,7 +5,6 @@ ghost use Rattle.wef_base.specs.Counts.{Rose};
 ghost use Rattle.wef_ports.specs.Telling.{Told};
 ghost use Rattle.wef_serving.specs.Serving.{AnswersAt, LeavesAt};
 ghost use Rattle.wef_serving.specs.Turns.{Ends};
-ghost use Rattle.wef_serving.specs.declared.ends.ConnectionEnd.TheVariants.{PortFailed};
 
 use crate::answering::Answering;
 use crate::ends::ConnectionEnd;
@@ -28,7 +27,7 @@ pub fn serve<P: Port, E, A: Answering<E>, C: Clock>(
     ensures served { Ends side (AnswersAt (C.told clock.old) A.answers) (LeavesAt (C.told clock.old) A.leaves) (P.told port.old).coming (P.told port.old) end.old (P.told port.new) end.new result }
     ensures around { (P.told port.new).around ≡ (P.told port.old).around }
     ensures later { (P.told port.old).faults ≤ (P.told port.new).faults }
-    ensures fault { result ≡ PortFailed → Rose (P.told port.old).faults (P.told port.new).faults }
+    ensures fault { result ≡ ConnectionEnd.PortFailed → Rose (P.told port.old).faults (P.told port.new).faults }
     ensures clock { C.told clock.new ≡ C.told clock.old }
 {
     let mut rest = Bytes::new(alloc);
