@@ -4,6 +4,7 @@ use Rattle.std.specs.Prelude.{Option, Some, None, nat_lt, encode_utf8, encode_ut
 use Rattle.std.specs.List.{list_all}
 use Rattle.std.specs.Option.{option_map, option_and_then}
 use Rattle.std.specs.FinMap as map
+use Rattle.std.proofs.lemmas.Bool.{and_from, and_parts}
 use Rattle.std.proofs.lemmas.Bool.Decides.{nat_tests}
 use Rattle.wef_base.specs.Characters.{is_xml_char}
 use Rattle.wef_base.specs.Names.{is_space}
@@ -59,38 +60,24 @@ text_join one more first second = record {
     encodes_append [] ds = refl
     encodes_append (c ∷ cs) ds = ap (λ t. encode_utf8 c ++ t) (encodes_append cs ds) ∙ sym (append_assoc (encode_utf8 c) (encode_utf8_all cs) (encode_utf8_all ds))
 
-    both : (b c : Bool) → b ≡ true → c ≡ true → (b && c) ≡ true
-    both true c e f = f
-    both false c e f = e
-
-    front : (b c : Bool) → (b && c) ≡ true → b ≡ true
-    front true c e = refl
-    front false c e = e
-
-    last : (b c : Bool) → (b && c) ≡ true → c ≡ true
-    last true c e = e
-    last false true e = refl
-    last false false e = e
-
     all_append : (cs ds : List ℕ) → list_all is_xml_char cs ≡ true → list_all is_xml_char ds ≡ true → list_all is_xml_char (cs ++ ds) ≡ true
     all_append [] ds e f = f
-    all_append (c ∷ cs) ds e f = both _ _ (front _ _ e) (all_append cs ds (last _ _ e) f)
+    all_append (c ∷ cs) ds e f = let parts = and_parts _ _ e in and_from _ _ parts.0 (all_append cs ds parts.1 f)
 
 -- one more child of the innermost element
 child_good : (n : Node) (o : Open) (os : List Open) (room : ℕ) → AreGoodOpens (o ∷ os) room → AreGoodChildren (o.children ++ n ∷ []) room → AreGoodOpens (with_child n (o ∷ os)) room
-child_good n o os room good children =
-    let is = good.0 in (
-      record {
-        named = is.named;
-        in_space = is.in_space;
-        attributed = is.attributed;
-        different = is.different;
-        spaces = is.spaces;
-        apart = children.apart;
-        children = children.good;
-      },
-      good.1,
-    )
+child_good n o os room good children = (
+  record {
+    named = good.0.named;
+    in_space = good.0.in_space;
+    attributed = good.0.attributed;
+    different = good.0.different;
+    spaces = good.0.spaces;
+    apart = children.apart;
+    children = children.good;
+  },
+  good.1,
+)
 
 children_of : (o : Open) (room : ℕ) → IsGoodOpen o room → AreGoodChildren o.children room
 children_of o room good = record { apart = good.apart; good = good.children }

@@ -24,7 +24,7 @@ use Rattle.wef_tree_reading.proofs.Readings.{end_is_stuck, goes_on_to_the_fault}
 use Rattle.wef_tree_pieces.proofs.Shorter.{piece_shorter}
 
 -- good pieces behind others
-leads_further :
+pub leads_further :
     (ps qs : List Piece) (b : Builder) (text : List ℕ) (c : Builder) (rest : List ℕ) (d : Builder) (behind : List ℕ) →
     Leads b ps text c rest → Leads c qs rest d behind → Leads b (ps ++ qs) text d behind
 leads_further [] qs b text c rest d behind leads more =

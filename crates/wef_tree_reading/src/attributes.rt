@@ -78,18 +78,6 @@ pub fn attributes_by(
     if given.len() > FEW {
         return many_attributes(alloc, own, around, given);
     }
-    few_attributes(alloc, own, around, given)
-}
-
-/// Compares each attribute with all before it.
-fn few_attributes(
-    alloc: Global,
-    own: &Declarations,
-    around: &Stack,
-    given: List<Given>,
-) -> Result<List<Attribute>, Halt>
-    ensures { Gives result (attributes_by own.now around.now [] given) }
-{
     let mut attributes = List::new(alloc);
     for one in given.into_vec() {
         take_one_of_few(own, around, &mut attributes, one)?;
@@ -97,7 +85,7 @@ fn few_attributes(
     Ok(without_digests(alloc, attributes)?)
 }
 
-/// Adds an attribute, unless it is a declaration.
+/// Adds an attribute, unless it is a declaration; compares it with all before it.
 fn take_one_of_few(
     own: &Declarations,
     around: &Stack,

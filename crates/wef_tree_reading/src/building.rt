@@ -86,8 +86,7 @@ impl Builder {
     {
         let element = self.opened(alloc, tag)?;
         self.flush(alloc)?;
-        self.around.push(element)?;
-        Ok(())
+        Ok(self.around.push(element)?)
     }
 
     #[tactic(auto, unfolding(crate::specs::Building::taken))]
@@ -96,8 +95,7 @@ impl Builder {
     {
         let element = self.opened(alloc, tag)?;
         self.flush(alloc)?;
-        self.place(element_of(element))?;
-        Ok(())
+        Ok(self.place(element_of(element))?)
     }
 
     #[tactic(auto, unfolding(crate::specs::Building::taken))]

@@ -150,16 +150,14 @@ fn letters_length(text: &[char]) -> usize
     ensures value { result ≡ prefix_len is_letter text.now }
     ensures within { result ≤ length text.now }
 {
-    let mut length = 0;
     let mut rest = text;
     while let [character, more @ ..] = rest {
         if !is_letter(*character) {
-            return length;
+            return text.len() - rest.len();
         }
-        length += 1;
         rest = more;
     }
-    length
+    text.len()
 }
 
 fn is_letter(character: char) -> bool

@@ -77,18 +77,18 @@ impl Stack {
         self.xml.clone()
     }
 
-    /// How many elements are open.
-    pub fn len(&self) -> usize
-        ensures { result ≡ length self.now }
-    {
-        self.items.len()
-    }
-
     /// Whether no element is open.
     pub fn is_empty(&self) -> bool
         ensures { result ≡ (length self.now == 0) }
     {
         self.items.len() == 0
+    }
+
+    /// How many elements are open.
+    pub fn len(&self) -> usize
+        ensures { result ≡ length self.now }
+    {
+        self.items.len()
     }
 
     /// Opens an element inside all others.

@@ -7,9 +7,9 @@ pub loop-one-preserved : goal.loop-one-preserved
 loop-one-preserved c =
     let before = c.loop-one.invariant in
     let index = c.loop-one.one-index in
+    let further : suc index ≡ index + 1 = omega arith in
     let given = c.args.given.now in
     let one = c.one-item.result in
-    let further : suc index ≡ index + 1 = omega arith in
     let is : _ = sym c.one-item.is in
     let next : drop index given ≡ one ∷ drop (index + 1) given =
     drop-cons given index one c.loop-one-test.true ∙ (λ i. is i ∷ drop (further i) given) in
