@@ -1,5 +1,5 @@
 -- How great a node is, so that what is in it is less.
-use Rattle.std.proofs.Common.{◌≡◌, ℕ, zero, suc, ◌+◌, ◌<◌, List, [], ◌∷◌, drop, refl, ap, sym, ◌∙◌, subst, arith}
+use Rattle.std.proofs.Common.{◌≡◌, ℕ, zero, suc, ◌+◌, ◌<◌, List, [], ◌∷◌, drop, drop-cons, get_or, length, refl, ap, sym, ◌∙◌, subst, arith}
 use Rattle.wef_base.specs.declared.tree.Element.{Element}
 use Rattle.wef_base.specs.declared.tree.Node.{Node, Chars, Element', Row_of-Node, end_of-Node, more_of-Node, items-the_row-Node, items_shown-the_row-Node-0, out-Node, Node-F}
 use Rattle.wef_base.specs.declared.tree.Node.TheVariants.{Element as Child, outs-Chars, outs-Element', outs-Element}
@@ -28,6 +28,10 @@ element_size (Element' space name attributes shape row) e same =
     let P : Element → Type 0 = λ x. row_size row + 1 ≡ nodes_size x.children + 1 in
     subst P (ap (λ x. elim x [ Node-F.Element z ↦ z | Node-F.Chars t ↦ e ]) opened)
     (ap (λ (k : ℕ). k + 1) (row_is row) ∙ ap (λ ns. nodes_size ns + 1) (sym (items_shown-the_row-Node-0 shape row)))
+
+-- what stands at an index and behind it
+pub item_at : (ns : List Node) (index : ℕ) (n : Node) → index < length ns → n ≡ get_or ns index n → drop index ns ≡ n ∷ drop (suc index) ns
+item_at ns index n inside is = drop-cons ns index n inside ∙ ap (λ x. x ∷ drop (suc index) ns) (sym is)
 
 some_size : (ns : List Node) → 0 < nodes_size ns
 some_size [] = omega arith

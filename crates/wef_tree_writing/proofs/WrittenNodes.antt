@@ -89,6 +89,19 @@ pub record Inside (w began through : Writer) (first : List Binding) (default inn
       ≡ began.bytes ++ flat_map (node_bytes began.charset (scope_of began inner)) items
   pub kept : through ≡ record began { bytes = through.bytes }
 
+-- the same, from what a loop over the children keeps
+pub inside_at :
+    {w began through : Writer} {first : List Binding} {default inner : List ℕ} {e : Element} {index : ℕ} {items : List Node} →
+    began ≡ record w { bytes = w.bytes ++ bytes_of w.charset (start_of first (scope_of w default) e.space e.name e.attributes); bound = new_bindings (all_of w.bound) e.attributes ∷ w.bound } →
+    inner ≡ (inside (scope_of began default) e.space []).default → items ≡ e.children →
+    record {
+      written :
+          through.bytes ++ flat_map (node_bytes began.charset (scope_of began inner)) (drop index items)
+          ≡ began.bytes ++ flat_map (node_bytes began.charset (scope_of began inner)) items;
+      kept : through ≡ record began { bytes = through.bytes };
+    } → Inside w began through first default inner e index items
+inside_at started inner_is all so_far = record { started = started; inner_is = inner_is; all = all; written = so_far.written; kept = so_far.kept }
+
 -- the same parts of a writer that is further on
 root_kept : (w began through : Writer) (first : List Binding) (default inner : List ℕ) (e : Element) (index : ℕ) (items : List Node) →
     Inside w began through first default inner e index items → through.root ≡ w.root

@@ -4,7 +4,7 @@ ghost use Rattle.std.specs.Prelude.{◌≡◌, ℕ, List, true, [], ◌∷◌, �
 ghost use Rattle.std.specs.BTreeSet.{contains};
 ghost use Rattle.std.specs.Cmp.Lexicographic.{slice_cmp};
 ghost use Rattle.std.specs.List.{list_any};
-ghost use Rattle.std.specs.Ordering.{eq_by_cmp, nat_cmp};
+ghost use Rattle.std.specs.Ordering.{nat_cmp};
 ghost use Rattle.wef_base.specs.Digests.{digest_of, is_long};
 ghost use Rattle.wef_base.specs.Names.{same};
 ghost use Rattle.wef_tree_writing.specs.Apart.{IsFoundBeside, IsToldBeside};
@@ -93,8 +93,8 @@ impl SpaceSet {
             mut texts,
             mut digests,
         } = self;
-        add_text(&mut texts, &space)?;
         add_digest(&mut digests, &space)?;
+        let _is_new = texts.insert(space.as_text().clone()?)?;
         spaces.push(space)?;
         Ok(SpaceSet {
             spaces,
@@ -102,14 +102,6 @@ impl SpaceSet {
             digests,
         })
     }
-}
-
-/// Adds the text of a namespace.
-fn add_text(texts: &mut BTreeSet<Text>, space: &Namespace) -> Result<(), AllocError>
-    ensures { OnOk result ((q : List ℕ) → contains (slice_cmp nat_cmp) texts.new q ≡ (if eq_by_cmp (slice_cmp nat_cmp) space.now q then true else contains (slice_cmp nat_cmp) texts.old q)) }
-{
-    let _is_new = texts.insert(space.as_text().clone()?)?;
-    Ok(())
 }
 
 /// Adds the digest of a namespace, where that is long.

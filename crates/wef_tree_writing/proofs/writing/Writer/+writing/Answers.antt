@@ -1,11 +1,10 @@
-use Rattle.std.proofs.Common.{rules, arith, ◌≡◌, Bool, ◌∷◌, ◌∙◌, OnOk, ap, drop, suc, subst, sym}
-use Rattle.std.proofs.Math.Seq.{drop-cons}
+use Rattle.std.proofs.Common.{rules, arith, ◌≡◌, Bool, ◌∙◌, OnOk, ap, drop, suc, subst, sym}
 use Rattle.wef_tree_writing.specs.Apart.{IsNodeTold}
 use Rattle.wef_tree_writing.specs.Markup.{scope_of}
 use Rattle.wef_tree_writing.specs.declared.writing.Writer.{Writer}
-use Rattle.wef_tree_writing.proofs.Sizes.{child_size, element_size, nodes_size}
+use Rattle.wef_tree_writing.proofs.Sizes.{child_size, element_size, item_at, nodes_size}
 use Rattle.wef_tree_writing.proofs.ToldNodes.{child_told, element_told}
-use Rattle.wef_tree_writing.proofs.WrittenNodes.{Inside, element_written, node_text, past_child, past_end_of, past_start}
+use Rattle.wef_tree_writing.proofs.WrittenNodes.{Inside, element_written, inside_at, node_text, past_child, past_end_of, past_start}
 use Rattle.wef_tree_writing.proofs.writing.Writer.+writing.Goals as goal
 
 pub write_node-returns-in-Element-clause-written : goal.write_node-returns-in-Element-clause-written
@@ -21,18 +20,11 @@ write_element-returns-in_err-write_start-clause-past t c =
 pub write_element-returns-in_err-write_node-clause-past : goal.write_element-returns-in_err-write_node-clause-past
 write_element-returns-in_err-write_node-clause-past t c =
     let is : Inside c.args.self.now c.write_start.new.self c.loop-child.self c.args.first.now c.args.default.now _ c.args.element.now c.loop-child.child-index _ =
-    record {
-      started = c.in_ok-write_start.ensures.written;
-      inner_is = c.inner_default-inner.ensures;
-      all = c.as_slice-child-items.ensures;
-      written = c.loop-child.invariant.written;
-      kept = c.loop-child.invariant.kept;
-    } in
+    inside_at c.in_ok-write_start.ensures.written c.inner_default-inner.ensures c.as_slice-child-items.ensures c.loop-child.invariant in
     let items = c.as_slice-child-items.result.now in
     let index = c.loop-child.child-index in
     let child = c.child-item.result in
-    let next : drop index items ≡ child ∷ drop (suc index) items =
-    drop-cons items index child c.loop-child-test.true ∙ ap (λ n. n ∷ drop (suc index) items) (sym c.child-item.is) in
+    let next = item_at items index child c.loop-child-test.true c.child-item.is in
     search (
       rules,
       past_child c.in_err-write_node.field-0.0 c.args.self.now c.write_start.new.self c.loop-child.self c.args.first.now c.args.default.now
@@ -43,13 +35,7 @@ pub write_element-returns-clause-written : goal.write_element-returns-clause-wri
 write_element-returns-clause-written t c =
     let P : Writer → Type 0 = λ w. OnOk c.write_end.result (c.write_end.new.self ≡ w) in
     let is : Inside c.args.self.now c.write_start.new.self c.loop-child.self c.args.first.now c.args.default.now _ c.args.element.now c.loop-child.child-index _ =
-    record {
-      started = c.in_ok-write_start.ensures.written;
-      inner_is = c.inner_default-inner.ensures;
-      all = c.as_slice-child-items.ensures;
-      written = c.loop-child.invariant.written;
-      kept = c.loop-child.invariant.kept;
-    } in
+    inside_at c.in_ok-write_start.ensures.written c.inner_default-inner.ensures c.as_slice-child-items.ensures c.loop-child.invariant in
     subst P
     (element_written c.args.self.now c.write_start.new.self c.loop-child.self c.args.first.now _ c.args.default.now _ c.args.element.now _ _
     is c.loop-child-test.false c.leave.ensures)
@@ -58,13 +44,7 @@ write_element-returns-clause-written t c =
 pub write_element-returns-clause-past : goal.write_element-returns-clause-past
 write_element-returns-clause-past t c =
     let is : Inside c.args.self.now c.write_start.new.self c.loop-child.self c.args.first.now c.args.default.now _ c.args.element.now c.loop-child.child-index _ =
-    record {
-      started = c.in_ok-write_start.ensures.written;
-      inner_is = c.inner_default-inner.ensures;
-      all = c.as_slice-child-items.ensures;
-      written = c.loop-child.invariant.written;
-      kept = c.loop-child.invariant.kept;
-    } in
+    inside_at c.in_ok-write_start.ensures.written c.inner_default-inner.ensures c.as_slice-child-items.ensures c.loop-child.invariant in
     past_end_of c.write_end.result c.args.self.now c.write_start.new.self c.loop-child.self c.args.first.now c.leave.new.self c.args.default.now _ c.args.element.now
     c.loop-child.child-index _ is c.loop-child-test.false c.write_end.ensures.past
 
@@ -78,8 +58,7 @@ write_element-write_node-requires t c =
     let items = c.as_slice-child-items.result.now in
     let index = c.loop-child.child-index in
     let child = c.child-item.result in
-    let next : drop index items ≡ child ∷ drop (suc index) items =
-    drop-cons items index child c.loop-child-test.true ∙ ap (λ n. n ∷ drop (suc index) items) (sym c.child-item.is) in
+    let next = item_at items index child c.loop-child-test.true c.child-item.is in
     let w = c.args.self.now in
     let began = c.write_start.new.self in
     let told_is : w.told ≡ c.loop-child.self.told =
