@@ -29,6 +29,7 @@ use Rattle.wef_tree_reading.specs.declared.stack.Open.{Open}
 use Rattle.wef_tree_pieces.proofs.GoodPieces.{no_text}
 use Rattle.wef_tree_writing.specs.Levels.{bound_to}
 use Rattle.wef_tree_reading.proofs.GoodTrees.{text_length}
+use Rattle.wef_tree_reading.proofs.Walks.{leads_further}
 use Rattle.wef_tree.proofs.GoodPrefixes.{bound_by_good, nine_are_good}
 use Rattle.wef_tree_pieces.proofs.Inversions.{none_some, some_is, unless_some}
 use Rattle.wef_tree.proofs.OpensAgain.{opened_again}
@@ -41,19 +42,9 @@ use Rattle.wef_tree.proofs.TextsAgain.{text_again}
 abbrev pub Goes : Builder → List ℕ → Builder → List ℕ → Type 0
 Goes b text c rest = (ps : List Piece) × Leads b ps text c rest
 
-leads_append :
-    (ps qs : List Piece) (b : Builder) (text : List ℕ) (c : Builder) (rest : List ℕ) (d : Builder) (left : List ℕ) →
-    Leads b ps text c rest → Leads c qs rest d left → Leads b (ps ++ qs) text d left
-leads_append [] qs b text c rest d left one other =
-    let P : Builder → Type 0 = λ x. Leads x qs text d left in
-    let Q : List ℕ → Type 0 = λ t. Leads c qs t d left in
-    subst P (sym one.0) (subst Q (sym one.1) other)
-leads_append (p ∷ ps) qs b text c rest d left one other =
-    (one.0, one.1, one.2, one.3, leads_append ps qs one.0 one.1 c rest d left one.4 other)
-
 goes_then :
     (b : Builder) (text : List ℕ) (c : Builder) (rest : List ℕ) (d : Builder) (left : List ℕ) → Goes b text c rest → Goes c rest d left → Goes b text d left
-goes_then b text c rest d left one other = (one.0 ++ other.0, leads_append one.0 other.0 b text c rest d left one.1 other.1)
+goes_then b text c rest d left one other = (one.0 ++ other.0, leads_further one.0 other.0 b text c rest d left one.1 other.1)
 
 pub goes_one : (b c : Builder) (text rest : List ℕ) (p : Piece) → piece_at text ≡ Some (p, rest) → taken b p ≡ Some c → Goes b text c rest
 goes_one b c text rest p e f = (p ∷ [], (c, rest, e, f, (refl, refl)))

@@ -14,6 +14,7 @@ pub fn written_is_read_again()
 
 /// A loose text of a good tree, in which elements without children may stand as one tag, is read as
 /// this tree too. The one text of the tree is among them.
+#[tactic(auto, using(crate::proofs::LooseTexts::canonical_is_loose, crate::proofs::LooseTexts::loose_spells))]
 pub fn loose_texts_are_read()
     ensures spells { ReadsLoose }
     ensures gives { GivesLoose }
