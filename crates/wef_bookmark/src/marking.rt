@@ -15,26 +15,6 @@ use thiserror::Error;
 use wef_base::ChannelName;
 use wef_base::numbers::MAX;
 
-/// Why a bookmark couldn't be changed or read.
-#[derive(Clone, Copy, Debug, PartialEq, Eq, Error)]
-pub enum BookmarkFault {
-    #[error("no memory")]
-    NoMemory,
-    #[error("no bookmark")]
-    BadBookmark,
-}
-
-impl From<AllocError> for BookmarkFault {
-    ghost use Rattle.std.specs.Prelude.{◌≡◌};
-    ghost use Rattle.wef_bookmark.specs.declared.marking.BookmarkFault.TheVariants.{NoMemory};
-
-    ghost from_gives = { λ _ e. e ≡ NoMemory };
-
-    fn from(_error: AllocError) -> BookmarkFault {
-        BookmarkFault::NoMemory
-    }
-}
-
 /// How far each channel was read: the number of the last record, for some channels. A number is at
 /// most `MAX`.
 #[derive(Debug, Drop)]
@@ -59,6 +39,26 @@ impl Model for Bookmark {
     ghost view = { λ b. map.from_entries b.numbers.entries };
 
     ghost invariant = { λ b. IsOrdered (slice_cmp nat_cmp) b.numbers × AreEntries (map.from_entries b.numbers.entries) };
+}
+
+/// Why a bookmark couldn't be changed or read.
+#[derive(Clone, Copy, Debug, PartialEq, Eq, Error)]
+pub enum BookmarkFault {
+    #[error("no memory")]
+    NoMemory,
+    #[error("no bookmark")]
+    BadBookmark,
+}
+
+impl From<AllocError> for BookmarkFault {
+    ghost use Rattle.std.specs.Prelude.{◌≡◌};
+    ghost use Rattle.wef_bookmark.specs.declared.marking.BookmarkFault.TheVariants.{NoMemory};
+
+    ghost from_gives = { λ _ e. e ≡ NoMemory };
+
+    fn from(_error: AllocError) -> BookmarkFault {
+        BookmarkFault::NoMemory
+    }
 }
 
 impl Bookmark {

@@ -9,11 +9,12 @@ ghost use Rattle.wef_bookmark.specs.Nodes.{Reads, Takes, WrittenIsGood, WrittenI
 use crate::marking::{Bookmark, BookmarkFault};
 use std::alloc::{AllocError, Global};
 use std::collections::BTreeMap;
-use wef_base::{Attribute, ChannelName, Element, List, Namespace, Node, Text};
+use wef_base::{Attribute, ChannelName, Element, List, Node, Text};
 use wef_elements::{
     channel_said, digits, element_of, has_words, is_management, management, number_said, said_in,
     value_of, with_attributes, with_elements, with_text, with_value,
 };
+use wef_xml::spaces::no_space;
 
 /// What a header says that has no list: nothing was read yet.
 pub const EARLIEST: &str = "http://schemas.dmtf.org/wbem/wsman/1/wsman/bookmark/earliest";
@@ -94,11 +95,10 @@ fn list_at(nodes: &[Node], place: usize) -> Option<&Element>
 {
     let mut left = place;
     for node in nodes {
-        if let Some(list) = as_list(node) {
-            if left == 0 {
-                return Some(list);
-            }
-            left -= 1;
+        match as_list(node) {
+            Some(list) if left == 0 => return Some(list),
+            Some(_) => left -= 1,
+            None => {}
         }
     }
     None
@@ -232,10 +232,4 @@ fn marked(alloc: Global, name: &str, value: Text) -> Result<Attribute, AllocErro
     ensures { IfOk result (λ a. a ≡ marked name.now value) }
 {
     with_value(alloc, no_space(alloc)?, name, value)
-}
-
-fn no_space(alloc: Global) -> Result<Namespace, AllocError>
-    ensures { IfOk result (λ space. space ≡ []) }
-{
-    Namespace::new(Text::new(alloc))
 }

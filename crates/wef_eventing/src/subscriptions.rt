@@ -28,10 +28,9 @@ impl SourceAt {
     pub fn clone(&self) -> Result<SourceAt, AllocError>
         ensures { IfOk result (λ copy. copy ≡ self.now) }
     {
-        Ok(SourceAt {
-            name: self.name.clone()?,
-            address: self.address.clone()?,
-        })
+        let name = self.name.clone()?;
+        let address = self.address.clone()?;
+        Ok(SourceAt { name, address })
     }
 }
 
@@ -132,7 +131,7 @@ impl Subscription {
 fn copied(alloc: Global, sources: &[SourceAt]) -> Result<List<SourceAt>, AllocError>
     ensures { IfOk result (λ copies. copies ≡ sources.now) }
 {
-    let mut copies = List::new(alloc);
+    let mut copies = List::with_room(alloc, sources.len())?;
     for source in sources {
         copies.push(source.clone()?)?;
     }
