@@ -21,7 +21,7 @@ use Rattle.wef_query_paths.specs.declared.path.Value.{Value}
 use Rattle.wef_query_paths.specs.declared.path.Value.TheVariants.{Nodes, Position, Band}
 use Rattle.wef_query_paths.specs.declared.turns.Next.{Next}
 use Rattle.wef_query_paths.specs.declared.turns.Next.TheVariants.{BeforeStep, BeforeTest, BehindStep, BeforePredicate, BehindCount, BeforeUnit, BeforeValue, BehindPosition, BehindBand, BehindValue, BehindUnit}
-use Rattle.wef_query_paths.specs.Allows.{Allows, AllowsPath, EndsInAttribute, Gives, IsPath, Part, stop, takes, opens, ends, again, goes_on, says_child_first, says_child, says_nodes, is_open_square, ends_in_path}
+use Rattle.wef_query_paths.specs.Allows.{Allows, AllowsPath, EndsInAttribute, Gives, IsPath, Part, stop, takes, opens, ends, again, goes_on, says_child_first, says_child, says_nodes, sign, ends_in_path}
 use Rattle.wef_query_paths.specs.Fronts.{begins_path, ends_in_call, is_behind_attribute, is_behind_call, is_named_call, opens_call, turned}
 use Rattle.wef_query_paths.specs.Levels.{with_step}
 use Rattle.wef_query_paths.specs.Paths.{any_path}
@@ -51,7 +51,7 @@ fresh_refused loose cut levels place _ ks e g = cc
 fresh_no_slash : (k : Token) → is_fresh k ≡ true → k ≡ Slash → ⊥
 fresh_no_slash k e f = let both : is_fresh Slash ≡ true = subst (λ (t : Token). is_fresh t ≡ true) f e in cc
 
-fresh_no_bracket : (k : Token) → is_fresh k ≡ true → is_open_square k ≡ true → ⊥
+fresh_no_bracket : (k : Token) → is_fresh k ≡ true → sign OpenSquare k ≡ true → ⊥
 fresh_no_bracket OpenSquare e f = cc
 fresh_no_bracket _ e f = cc
 

@@ -1,5 +1,5 @@
 -- What the parts that are still to come give, the machine takes, but for the names of functions as names, and for paths that go on behind steps to attributes.
-use Rattle.std.proofs.Common.{◌≡◌, ℕ, Bool, true, false, if◌then◌else◌, List, [], ◌∷◌, codes, Option, Some, None, refl, sym, ap, subst, ◌⊎◌, inl, inr}
+use Rattle.std.proofs.Common.{◌≡◌, ℕ, Bool, true, false, ◌||◌, if◌then◌else◌, List, [], ◌∷◌, codes, Option, Some, None, refl, sym, ap, subst, ◌⊎◌, inl, inr}
 use Rattle.wef_query_tokens.specs.declared.axis.Axis.{Axis}
 use Rattle.wef_query_tokens.specs.declared.axis.Axis.TheVariants.{Child, Attribute}
 use Rattle.wef_query_tokens.specs.declared.operator.Operator.{Operator}
@@ -25,7 +25,7 @@ use Rattle.wef_query_paths.specs.declared.path.Value.{Value}
 use Rattle.wef_query_paths.specs.declared.path.Value.TheVariants.{Nodes, Position, Band}
 use Rattle.wef_query_paths.specs.declared.turns.Next.{Next}
 use Rattle.wef_query_paths.specs.declared.turns.Next.TheVariants.{BeforeStep, BeforeTest, BehindStep, BeforePredicate, BehindCount, BeforeUnit, BehindLiteral, BeforeValue, BehindPosition, InPosition, BehindBand, BeforeMask, BehindMask, BehindValue, BeforeLiteral, BehindUnit}
-use Rattle.wef_query_paths.specs.Allows.{Part, one, the, many, maybe, a_path, a_child_step, an_attribute_step, a_predicate, an_or, an_and, a_unit, a_value, a_numeric_value, Gives, stop, takes, opens, ends, again, skips, goes_on, says_child_first, says_attribute_last, says_attribute_first, says_child, says_along_child, says_attribute, says_place, says_condition, says_or, says_and, says_group, says_value, says_position, says_behind_text, says_behind_number, says_nodes, says_band, says_numeric, says_numeric_position, says_literal, is_name_test, is_and, is_or, is_child, is_attribute, is_compare, is_figure, is_open_square, is_close_square, is_open_round, is_close_round, is_quote, is_slash}
+use Rattle.wef_query_paths.specs.Allows.{Part, one, the, many, maybe, a_path, a_child_step, an_attribute_step, a_predicate, an_or, an_and, a_unit, a_value, a_numeric_value, Gives, stop, takes, opens, ends, again, skips, goes_on, says_child_first, says_attribute_last, says_attribute_first, says_child, says_along_child, says_attribute, says_place, says_condition, says_or, says_and, says_group, says_value, says_position, says_behind_text, says_behind_number, says_nodes, says_band, says_numeric, says_numeric_position, says_literal, is_name_test, is_and, is_or, along, is_compare, is_figure, sign, is_quote}
 use Rattle.wef_query_paths.specs.Fronts.{is_behind_attribute, is_behind_call, is_named_call}
 use Rattle.wef_query_paths.specs.Grammar.{Joins}
 use Rattle.wef_query_paths.specs.Levels.{alternatives_in, square, with_step}
@@ -76,12 +76,12 @@ child_in loose cut levels place so_far PositionCall ks e g = path_names refl g
 child_in loose cut levels place so_far BandCall ks e g = path_names refl g
 child_in loose cut levels place so_far _ ks e g = cc
 
-along_child_in : (loose cut : Bool) (levels : List Level) (place : Place) (so_far : Option Path) (k : Token) (ks : List Token) → is_child k ≡ true → Comes loose cut levels (BeforeTest place so_far Child) ks → PathTaken loose cut levels place so_far k ks
+along_child_in : (loose cut : Bool) (levels : List Level) (place : Place) (so_far : Option Path) (k : Token) (ks : List Token) → along Child k ≡ true → Comes loose cut levels (BeforeTest place so_far Child) ks → PathTaken loose cut levels place so_far k ks
 along_child_in loose cut levels place so_far (Along Child) ks e g = path_turns g
 along_child_in loose cut levels place so_far (Along Attribute) ks e g = cc
 along_child_in loose cut levels place so_far _ ks e g = cc
 
-attribute_in : (loose cut : Bool) (levels : List Level) (place : Place) (so_far : Option Path) (k : Token) (ks : List Token) → is_attribute k ≡ true → Comes loose cut levels (BeforeTest place so_far Attribute) ks → PathTaken loose cut levels place so_far k ks
+attribute_in : (loose cut : Bool) (levels : List Level) (place : Place) (so_far : Option Path) (k : Token) (ks : List Token) → along Attribute k ≡ true → Comes loose cut levels (BeforeTest place so_far Attribute) ks → PathTaken loose cut levels place so_far k ks
 attribute_in loose cut levels place so_far (Along Attribute) ks e g = path_turns g
 attribute_in loose cut levels place so_far (Along Child) ks e g = cc
 attribute_in loose cut levels place so_far _ ks e g = cc
@@ -90,10 +90,10 @@ attribute_in loose cut levels place so_far _ ks e g = cc
 attribute_first_in : (loose cut : Bool) (levels : List Level) (place : Place) (so_far : Option Path) (b : Bool) (k : Token) (ks : List Token) → loose ≡ b
     → Gives loose cut (the an_attribute_step ∷ further_parts b Attribute (path_parts (unit_parts loose levels) (whole_parts levels) place)) (k ∷ ks) → PathTaken loose cut levels place so_far k ks
 attribute_first_in loose cut levels place so_far b k ks e (opens says_attribute (takes f g)) =
-    attribute_in loose cut levels place so_far k ks f (subst (λ (c : Bool). Gives loose cut (one is_name_test ∷ many is_open_square a_predicate ∷ further_parts c Attribute (path_parts (unit_parts loose levels) (whole_parts levels) place)) ks) (sym e) g)
+    attribute_in loose cut levels place so_far k ks f (subst (λ (c : Bool). Gives loose cut (one is_name_test ∷ many (sign OpenSquare) a_predicate ∷ further_parts c Attribute (path_parts (unit_parts loose levels) (whole_parts levels) place)) ks) (sym e) g)
 
 child_first_in : (loose cut : Bool) (levels : List Level) (place : Place) (so_far : Option Path) (k : Token) (ks : List Token)
-    → Gives loose cut (the a_child_step ∷ maybe is_slash a_path ∷ path_parts (unit_parts loose levels) (whole_parts levels) place) (k ∷ ks) → PathTaken loose cut levels place so_far k ks
+    → Gives loose cut (the a_child_step ∷ maybe (sign Slash) a_path ∷ path_parts (unit_parts loose levels) (whole_parts levels) place) (k ∷ ks) → PathTaken loose cut levels place so_far k ks
 child_first_in loose cut levels place so_far k ks (opens says_child (takes e g)) = child_in loose cut levels place so_far k ks e g
 child_first_in loose cut levels place so_far k ks (opens says_along_child (takes e g)) = along_child_in loose cut levels place so_far k ks e g
 
@@ -153,8 +153,8 @@ or_in : (loose cut : Bool) (parts : List Part) (ks : List Token) → Gives loose
 or_in loose cut parts [] (stop e) = stop e
 or_in loose cut parts ks (opens says_or g) = and_in loose cut (many is_or an_and ∷ parts) ks g
 
-group_in : (loose cut : Bool) (levels : List Level) (k : Token) (ks : List Token) → is_open_round k ≡ true → Gives loose cut (the an_or ∷ one is_close_round ∷ unit_parts loose levels) ks → OnComes loose cut ks (before_unit levels k)
-group_in loose cut levels OpenRound ks e g = or_in loose cut (one is_close_round ∷ unit_parts loose levels) ks g
+group_in : (loose cut : Bool) (levels : List Level) (k : Token) (ks : List Token) → sign OpenRound k ≡ true → Gives loose cut (the an_or ∷ one (sign CloseRound) ∷ unit_parts loose levels) ks → OnComes loose cut ks (before_unit levels k)
+group_in loose cut levels OpenRound ks e g = or_in loose cut (one (sign CloseRound) ∷ unit_parts loose levels) ks g
 group_in loose cut levels _ ks e g = cc
 
 left_position_in : (loose cut : Bool) (levels : List Level) (k : Token) (ks : List Token) → is_position_call k ≡ true → Comes loose cut levels (BehindPosition Left) ks → OnComes loose cut ks (before_unit levels k)
@@ -184,7 +184,7 @@ condition_in loose cut levels place so_far step k ks (inr n) = inr n
 condition_in loose cut levels place so_far step (Figure n) ks (inl h) = inl (inr h)
 condition_in loose cut levels place so_far step k ks (inl h) = inl h
 
-place_in : (loose cut : Bool) (levels : List Level) (place : Place) (so_far : Option Path) (step : Step) (k : Token) (ks : List Token) → is_figure k ≡ true → Gives loose cut (one is_close_square ∷ step_parts loose (unit_parts loose levels) (whole_parts levels) step.axis place) ks
+place_in : (loose cut : Bool) (levels : List Level) (place : Place) (so_far : Option Path) (step : Step) (k : Token) (ks : List Token) → is_figure k ≡ true → Gives loose cut (one (sign CloseSquare) ∷ step_parts loose (unit_parts loose levels) (whole_parts levels) step.axis place) ks
     → OnComes loose cut ks (before_predicate levels place so_far step k)
 place_in loose cut levels place so_far step (Figure n) ks e g = inl g
 place_in loose cut levels place so_far step _ ks e g = cc
@@ -193,9 +193,9 @@ predicate_in : (loose cut : Bool) (levels : List Level) (place : Place) (so_far 
     → OnComes loose cut ks (before_predicate levels place so_far step k) ⊎ Named loose cut k ks
 predicate_in loose cut levels place so_far step k ks (opens says_place (takes e g)) = inl (place_in loose cut levels place so_far step k ks e g)
 predicate_in loose cut levels place so_far step k ks (opens says_condition g) =
-    condition_in loose cut levels place so_far step k ks (unit_in loose cut (square place so_far step ∷ levels) k ks (or_in loose cut (one is_close_square ∷ step_parts loose (unit_parts loose levels) (whole_parts levels) step.axis place) (k ∷ ks) g))
+    condition_in loose cut levels place so_far step k ks (unit_in loose cut (square place so_far step ∷ levels) k ks (or_in loose cut (one (sign CloseSquare) ∷ step_parts loose (unit_parts loose levels) (whole_parts levels) step.axis place) (k ∷ ks) g))
 
-close_count_in : (loose cut : Bool) (levels : List Level) (place : Place) (so_far : Option Path) (step : Step) (n : ℕ) (k : Token) (ks : List Token) → is_close_square k ≡ true → Comes loose cut levels (BehindStep place so_far step) ks
+close_count_in : (loose cut : Bool) (levels : List Level) (place : Place) (so_far : Option Path) (step : Step) (n : ℕ) (k : Token) (ks : List Token) → sign CloseSquare k ≡ true → Comes loose cut levels (BehindStep place so_far step) ks
     → OnComes loose cut ks (behind_count levels place so_far step n k)
 close_count_in loose cut levels place so_far step n CloseSquare ks e g = g
 close_count_in loose cut levels place so_far step n _ ks e g = cc
@@ -296,10 +296,7 @@ behind_path_in loose cut levels (InBand side) path k ks g = comma_in loose cut l
 -- tokens that never stand behind a unit, nor behind a path but as parts of it
 abbrev pub is_inner : Token → Bool
 is_inner Star = true
-is_inner OpenSquare = true
-is_inner OpenRound = true
-is_inner Slash = true
-is_inner _ = false
+is_inner token = sign OpenSquare token || sign OpenRound token || sign Slash token
 
 pub unit_refuses : (loose cut : Bool) (levels : List Level) (u : unit.Unit) (k : Token) (ks : List Token) → is_inner k ≡ true → OnComes loose cut ks (behind_unit levels u k) → ⊥
 unit_refuses loose cut [] u k ks e h = h
@@ -329,7 +326,7 @@ pub data Further (loose cut : Bool) (axis : Axis) (parts : List Part) (k : Token
   goes_too_far : loose ≡ true → goes_to_children axis ≡ false → k ≡ Slash → Further loose cut axis parts k ks
   goes_behind : Gives loose cut parts (k ∷ ks) → Further loose cut axis parts k ks
 
-slash_is : (k : Token) → is_slash k ≡ true → k ≡ Slash
+slash_is : (k : Token) → sign Slash k ≡ true → k ≡ Slash
 slash_is Slash e = refl
 slash_is _ e = cc
 
@@ -340,7 +337,7 @@ further_in true cut Attribute parts k ks (skips g) = goes_behind g
 further_in true cut Attribute parts k ks (goes_on e g) = goes_too_far refl refl (slash_is k e)
 further_in false cut Attribute parts k ks g = goes_behind g
 
-open_square_in : (loose cut : Bool) (levels : List Level) (place : Place) (so_far : Option Path) (step : Step) (k : Token) (ks : List Token) → is_open_square k ≡ true → Comes loose cut levels (BeforePredicate place so_far step) ks → OnComes loose cut ks (behind_step levels place so_far step k)
+open_square_in : (loose cut : Bool) (levels : List Level) (place : Place) (so_far : Option Path) (step : Step) (k : Token) (ks : List Token) → sign OpenSquare k ≡ true → Comes loose cut levels (BeforePredicate place so_far step) ks → OnComes loose cut ks (behind_step levels place so_far step k)
 open_square_in loose cut levels place so_far step OpenSquare ks e g = g
 open_square_in loose cut levels place so_far step _ ks e g = cc
 

@@ -26,7 +26,7 @@ use Rattle.wef_query_paths.specs.declared.path.Value.{Value}
 use Rattle.wef_query_paths.specs.declared.path.Value.TheVariants.{Nodes, Position, Band}
 use Rattle.wef_query_paths.specs.declared.turns.Next.{Next}
 use Rattle.wef_query_paths.specs.declared.turns.Next.TheVariants.{BeforeStep, BeforeTest, BehindStep, BeforePredicate, BehindCount, BeforeUnit, BehindLiteral, BeforeValue, BehindPosition, InPosition, BehindBand, BeforeMask, BehindMask, BehindValue, BeforeLiteral, BehindUnit}
-use Rattle.wef_query_paths.specs.Allows.{Part, one, the, many, maybe, a_path, a_predicate, an_and, a_unit, a_value, a_numeric_value, a_literal, Gives, takes, opens, ends, again, skips, goes_on, says_child_first, says_attribute_last, says_attribute_first, says_child, says_along_child, says_attribute, says_place, says_condition, says_or, says_and, says_group, says_value, says_position, says_behind_text, says_behind_number, says_nodes, says_band, says_numeric, says_numeric_position, says_literal, is_name_test, is_and, is_or, is_compare, is_figure, is_open_square, is_close_square, is_open_round, is_close_round, is_slash, is_comma}
+use Rattle.wef_query_paths.specs.Allows.{Part, one, the, many, maybe, a_path, a_predicate, an_and, a_unit, a_value, a_numeric_value, a_literal, Gives, takes, opens, ends, again, skips, goes_on, says_child_first, says_attribute_last, says_attribute_first, says_child, says_along_child, says_attribute, says_place, says_condition, says_or, says_and, says_group, says_value, says_position, says_behind_text, says_behind_number, says_nodes, says_band, says_numeric, says_numeric_position, says_literal, is_name_test, is_and, is_or, is_compare, is_figure, sign}
 use Rattle.wef_query_paths.specs.Fronts.{turned}
 use Rattle.wef_query_paths.specs.Levels.{alternatives_in, square, with_step}
 use Rattle.wef_query_paths.specs.Turns.{before_comma, before_literal, before_mask, before_predicate, before_step, before_test, before_unit, before_value, behind_band, behind_count, behind_left, behind_literal, behind_mask, behind_path, behind_position, behind_step, behind_unit, behind_value, closed_round, closed_square, in_position, inside, turn, with_and_behind, with_or_behind}
@@ -56,22 +56,22 @@ value_parts K (Right literal operator) = K
 abbrev pub path_parts : List Part → List Part → Place → List Part
 path_parts K W Whole = W
 path_parts K W (InValue side) = value_parts K side
-path_parts K W (InBand side) = one is_comma ∷ one is_figure ∷ one is_close_round ∷ value_parts K side
+path_parts K W (InBand side) = one (sign Comma) ∷ one is_figure ∷ one (sign CloseRound) ∷ value_parts K side
 
 -- behind a step's predicates
 abbrev pub further_parts : Bool → Axis → List Part → List Part
-further_parts loose Child parts = maybe is_slash a_path ∷ parts
-further_parts true Attribute parts = maybe is_slash a_path ∷ parts
+further_parts loose Child parts = maybe (sign Slash) a_path ∷ parts
+further_parts true Attribute parts = maybe (sign Slash) a_path ∷ parts
 further_parts false Attribute parts = parts
 
 -- behind a step's name
 abbrev pub step_parts : Bool → List Part → List Part → Axis → Place → List Part
-step_parts loose K W axis place = many is_open_square a_predicate ∷ further_parts loose axis (path_parts K W place)
+step_parts loose K W axis place = many (sign OpenSquare) a_predicate ∷ further_parts loose axis (path_parts K W place)
 
 -- behind a condition in brackets
 abbrev pub bracket_parts : Bool → List Part → List Part → Around → List Part
-bracket_parts loose K W Round = one is_close_round ∷ K
-bracket_parts loose K W (Square place so_far step) = one is_close_square ∷ step_parts loose K W step.axis place
+bracket_parts loose K W Round = one (sign CloseRound) ∷ K
+bracket_parts loose K W (Square place so_far step) = one (sign CloseSquare) ∷ step_parts loose K W step.axis place
 
 -- behind a unit
 abbrev pub unit_parts : Bool → List Level → List Part
@@ -104,15 +104,15 @@ Comes loose cut levels (BeforeStep place so_far) ks = Gives loose cut (the a_pat
 Comes loose cut levels (BeforeTest place so_far axis) ks = Gives loose cut (one is_name_test ∷ step_parts loose (unit_parts loose levels) (whole_parts levels) axis place) ks
 Comes loose cut levels (BehindStep place so_far step) ks = Gives loose cut (step_parts loose (unit_parts loose levels) (whole_parts levels) step.axis place) ks
 Comes loose cut levels (BeforePredicate place so_far step) ks = Gives loose cut (the a_predicate ∷ step_parts loose (unit_parts loose levels) (whole_parts levels) step.axis place) ks
-Comes loose cut levels (BehindCount place so_far step n) ks = Gives loose cut (one is_close_square ∷ step_parts loose (unit_parts loose levels) (whole_parts levels) step.axis place) ks ⊎ Gives loose cut (one is_compare ∷ the a_numeric_value ∷ unit_parts loose (square place so_far step ∷ levels)) ks
+Comes loose cut levels (BehindCount place so_far step n) ks = Gives loose cut (one (sign CloseSquare) ∷ step_parts loose (unit_parts loose levels) (whole_parts levels) step.axis place) ks ⊎ Gives loose cut (one is_compare ∷ the a_numeric_value ∷ unit_parts loose (square place so_far step ∷ levels)) ks
 Comes loose cut levels BeforeUnit ks = Gives loose cut (start_parts (unit_parts loose levels) Left) ks
 Comes loose cut levels (BehindLiteral literal) ks = Gives loose cut (literal_parts (unit_parts loose levels) literal) ks
 Comes loose cut levels (BeforeValue literal operator) ks = Gives loose cut (start_parts (unit_parts loose levels) (Right literal operator)) ks
-Comes loose cut levels (BehindPosition side) ks = Gives loose cut (one is_open_round ∷ one is_close_round ∷ position_parts (unit_parts loose levels) side) ks
-Comes loose cut levels (InPosition side) ks = Gives loose cut (one is_close_round ∷ position_parts (unit_parts loose levels) side) ks
-Comes loose cut levels (BehindBand side) ks = Gives loose cut (one is_open_round ∷ the a_path ∷ path_parts (unit_parts loose levels) (whole_parts levels) (InBand side)) ks
-Comes loose cut levels (BeforeMask side path) ks = Gives loose cut (one is_figure ∷ one is_close_round ∷ value_parts (unit_parts loose levels) side) ks
-Comes loose cut levels (BehindMask side path n) ks = Gives loose cut (one is_close_round ∷ value_parts (unit_parts loose levels) side) ks
+Comes loose cut levels (BehindPosition side) ks = Gives loose cut (one (sign OpenRound) ∷ one (sign CloseRound) ∷ position_parts (unit_parts loose levels) side) ks
+Comes loose cut levels (InPosition side) ks = Gives loose cut (one (sign CloseRound) ∷ position_parts (unit_parts loose levels) side) ks
+Comes loose cut levels (BehindBand side) ks = Gives loose cut (one (sign OpenRound) ∷ the a_path ∷ path_parts (unit_parts loose levels) (whole_parts levels) (InBand side)) ks
+Comes loose cut levels (BeforeMask side path) ks = Gives loose cut (one is_figure ∷ one (sign CloseRound) ∷ value_parts (unit_parts loose levels) side) ks
+Comes loose cut levels (BehindMask side path n) ks = Gives loose cut (one (sign CloseRound) ∷ value_parts (unit_parts loose levels) side) ks
 Comes loose cut levels (BehindValue side value) ks = Gives loose cut (worth_parts (unit_parts loose levels) side value) ks
 Comes loose cut levels (BeforeLiteral value operator) ks = Gives loose cut (compared_parts (unit_parts loose levels) value) ks
 Comes loose cut levels (BehindUnit last) ks = Gives loose cut (unit_parts loose levels) ks
@@ -124,7 +124,7 @@ OnComes loose cut ks (Some t) = Comes loose cut t.0 t.1 ks
 
 -- ---- back over a token
 
-attribute_back : (loose cut : Bool) (parts : List Part) (ks : List Token) → Gives loose cut (one is_name_test ∷ many is_open_square a_predicate ∷ further_parts loose Attribute parts) ks → Gives loose cut (the a_path ∷ parts) (Along Attribute ∷ ks)
+attribute_back : (loose cut : Bool) (parts : List Part) (ks : List Token) → Gives loose cut (one is_name_test ∷ many (sign OpenSquare) a_predicate ∷ further_parts loose Attribute parts) ks → Gives loose cut (the a_path ∷ parts) (Along Attribute ∷ ks)
 attribute_back true cut parts ks g = opens (says_attribute_first refl) (opens says_attribute (takes refl g))
 attribute_back false cut parts ks g = opens (says_attribute_last refl) (opens says_attribute (takes refl g))
 

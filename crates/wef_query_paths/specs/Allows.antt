@@ -1,7 +1,8 @@
 -- Which tokens a path may begin with. It is the grammar once more, as lists of parts and without its trees, so that a rule may be cut:
 -- tokens allow a continuation where the rules give them with each rule that is still open at their end cut after some of its parts.
-use Rattle.std.specs.Prelude.{◌≡◌, ℕ, Bool, true, false, List, [], ◌∷◌, ◌++◌, codes}
+use Rattle.std.specs.Prelude.{◌≡◌, ℕ, Bool, true, false, ◌||◌, List, [], ◌∷◌, ◌++◌, codes}
 use Rattle.wef_base.specs.Names.{same}
+use Rattle.wef_query_tokens.specs.declared.axis.Axis.{Axis}
 use Rattle.wef_query_tokens.specs.declared.axis.Axis.TheVariants.{Child, Attribute}
 use Rattle.wef_query_tokens.specs.declared.tokens.Token.{Token}
 use Rattle.wef_query_tokens.specs.declared.tokens.Token.TheVariants.{Along, Star, Word, Joint, PositionCall, BandCall, Compare, Figure, Quote, OpenSquare, CloseSquare, OpenRound, CloseRound, Slash, Comma}
@@ -17,13 +18,11 @@ is_name_test PositionCall = true
 is_name_test BandCall = true
 is_name_test _ = false
 
-abbrev pub is_child : Token → Bool
-is_child (Along Child) = true
-is_child _ = false
-
-abbrev pub is_attribute : Token → Bool
-is_attribute (Along Attribute) = true
-is_attribute _ = false
+-- the axis of a step
+abbrev pub along : Axis → Token → Bool
+along Child (Along Child) = true
+along Attribute (Along Attribute) = true
+along _ _ = false
 
 -- the operators between conditions
 abbrev pub joins : List ℕ → Token → Bool
@@ -37,11 +36,6 @@ is_and token = joins (codes "and") token
 abbrev pub is_or : Token → Bool
 is_or token = joins (codes "or") token
 
--- an operator between a value and a literal
-abbrev pub is_compare : Token → Bool
-is_compare (Compare operator) = true
-is_compare _ = false
-
 -- the literals: a number, or a text in quotes
 abbrev pub is_figure : Token → Bool
 is_figure (Figure n) = true
@@ -52,34 +46,22 @@ is_quote (Quote text) = true
 is_quote _ = false
 
 abbrev pub is_literal : Token → Bool
-is_literal (Figure n) = true
-is_literal (Quote text) = true
-is_literal _ = false
+is_literal token = is_figure token || is_quote token
 
--- the signs
-abbrev pub is_open_square : Token → Bool
-is_open_square OpenSquare = true
-is_open_square _ = false
+-- an operator between a value and a literal
+abbrev pub is_compare : Token → Bool
+is_compare (Compare operator) = true
+is_compare _ = false
 
-abbrev pub is_close_square : Token → Bool
-is_close_square CloseSquare = true
-is_close_square _ = false
-
-abbrev pub is_open_round : Token → Bool
-is_open_round OpenRound = true
-is_open_round _ = false
-
-abbrev pub is_close_round : Token → Bool
-is_close_round CloseRound = true
-is_close_round _ = false
-
-abbrev pub is_slash : Token → Bool
-is_slash Slash = true
-is_slash _ = false
-
-abbrev pub is_comma : Token → Bool
-is_comma Comma = true
-is_comma _ = false
+-- such a sign
+abbrev pub sign : Token → Token → Bool
+sign OpenSquare OpenSquare = true
+sign CloseSquare CloseSquare = true
+sign OpenRound OpenRound = true
+sign CloseRound CloseRound = true
+sign Slash Slash = true
+sign Comma Comma = true
+sign _ _ = false
 
 -- ---- the rules
 
@@ -107,32 +89,32 @@ pub data Part : Type 0 where
 -- The alternatives of each rule. A step to attributes is the last of its path, but for where loose is true.
 pub data Says (loose : Bool) : Rule → List Part → Type 0 where
   -- path := child step [ "/" path ] | attribute step, or behind that too [ "/" path ] where loose is true
-  says_child_first : Says loose a_path (the a_child_step ∷ maybe is_slash a_path ∷ [])
+  says_child_first : Says loose a_path (the a_child_step ∷ maybe (sign Slash) a_path ∷ [])
   says_attribute_last : loose ≡ false → Says loose a_path (the an_attribute_step ∷ [])
-  says_attribute_first : loose ≡ true → Says loose a_path (the an_attribute_step ∷ maybe is_slash a_path ∷ [])
+  says_attribute_first : loose ≡ true → Says loose a_path (the an_attribute_step ∷ maybe (sign Slash) a_path ∷ [])
   -- child step := [ "child::" ] ( name | "*" ) { "[" predicate "]" }
-  says_child : Says loose a_child_step (one is_name_test ∷ many is_open_square a_predicate ∷ [])
-  says_along_child : Says loose a_child_step (one is_child ∷ one is_name_test ∷ many is_open_square a_predicate ∷ [])
+  says_child : Says loose a_child_step (one is_name_test ∷ many (sign OpenSquare) a_predicate ∷ [])
+  says_along_child : Says loose a_child_step (one (along Child) ∷ one is_name_test ∷ many (sign OpenSquare) a_predicate ∷ [])
   -- attribute step := ( "@" | "attribute::" ) ( name | "*" ) { "[" predicate "]" }
-  says_attribute : Says loose an_attribute_step (one is_attribute ∷ one is_name_test ∷ many is_open_square a_predicate ∷ [])
+  says_attribute : Says loose an_attribute_step (one (along Attribute) ∷ one is_name_test ∷ many (sign OpenSquare) a_predicate ∷ [])
   -- predicate := number | or
-  says_place : Says loose a_predicate (one is_figure ∷ one is_close_square ∷ [])
-  says_condition : Says loose a_predicate (the an_or ∷ one is_close_square ∷ [])
+  says_place : Says loose a_predicate (one is_figure ∷ one (sign CloseSquare) ∷ [])
+  says_condition : Says loose a_predicate (the an_or ∷ one (sign CloseSquare) ∷ [])
   -- or := and { "or" and }
   says_or : Says loose an_or (the an_and ∷ many is_or an_and ∷ [])
   -- and := unit { "and" unit }
   says_and : Says loose an_and (the a_unit ∷ many is_and a_unit ∷ [])
   -- unit := "(" or ")" | value [ operator literal ] | literal operator value, and `position()` only with an operator and a number
-  says_group : Says loose a_unit (one is_open_round ∷ the an_or ∷ one is_close_round ∷ [])
+  says_group : Says loose a_unit (one (sign OpenRound) ∷ the an_or ∷ one (sign CloseRound) ∷ [])
   says_value : Says loose a_unit (the a_value ∷ maybe is_compare a_literal ∷ [])
-  says_position : Says loose a_unit (one is_position_call ∷ one is_open_round ∷ one is_close_round ∷ one is_compare ∷ one is_figure ∷ [])
+  says_position : Says loose a_unit (one is_position_call ∷ one (sign OpenRound) ∷ one (sign CloseRound) ∷ one is_compare ∷ one is_figure ∷ [])
   says_behind_text : Says loose a_unit (one is_quote ∷ one is_compare ∷ the a_value ∷ [])
   says_behind_number : Says loose a_unit (one is_figure ∷ one is_compare ∷ the a_numeric_value ∷ [])
   -- value := path | "band" "(" path "," number ")"
   says_nodes : Says loose a_value (the a_path ∷ [])
-  says_band : Says loose a_value (one is_band_call ∷ one is_open_round ∷ the a_path ∷ one is_comma ∷ one is_figure ∷ one is_close_round ∷ [])
+  says_band : Says loose a_value (one is_band_call ∷ one (sign OpenRound) ∷ the a_path ∷ one (sign Comma) ∷ one is_figure ∷ one (sign CloseRound) ∷ [])
   says_numeric : Says loose a_numeric_value (the a_value ∷ [])
-  says_numeric_position : Says loose a_numeric_value (one is_position_call ∷ one is_open_round ∷ one is_close_round ∷ [])
+  says_numeric_position : Says loose a_numeric_value (one is_position_call ∷ one (sign OpenRound) ∷ one (sign CloseRound) ∷ [])
   says_literal : Says loose a_literal (one is_literal ∷ [])
 
 -- These parts give these tokens, all of them and no more. Where cut is true the tokens may end anywhere, and what would come is cut.

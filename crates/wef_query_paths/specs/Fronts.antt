@@ -2,13 +2,14 @@
 use Rattle.std.specs.Prelude.{Bool, true, false, if◌then◌else◌, List, [], ◌∷◌, Option, Some, None}
 use Rattle.std.specs.Option.{option_and_then}
 use Rattle.wef_query_tokens.specs.declared.tokens.Token.{Token}
+use Rattle.wef_query_tokens.specs.declared.tokens.Token.TheVariants.{OpenRound}
 use Rattle.wef_query_tokens.specs.Calls.{is_call, is_position_call}
 use Rattle.wef_query_tokens.specs.Steps.{goes_to_children}
 use Rattle.wef_query_paths.specs.declared.conditions.Level.{Level}
 use Rattle.wef_query_paths.specs.declared.path.Literal.TheVariants.{Quoted}
 use Rattle.wef_query_paths.specs.declared.turns.Next.{Next}
 use Rattle.wef_query_paths.specs.declared.turns.Next.TheVariants.{BeforeStep, BeforeTest, BehindStep, BeforePredicate, BeforeUnit, BeforeValue, BehindPosition, BehindBand}
-use Rattle.wef_query_paths.specs.Allows.{is_open_round}
+use Rattle.wef_query_paths.specs.Allows.{sign}
 use Rattle.wef_query_paths.specs.Turns.{turn}
 
 -- what tokens make, one after the other, of the open brackets and of what may come next, where each may
@@ -37,8 +38,8 @@ is_behind_call _ = false
 
 -- behind a function's name stands its `(`
 abbrev pub opens_call : Next → Token → Bool
-opens_call (BehindPosition side) token = is_open_round token
-opens_call (BehindBand side) token = is_open_round token
+opens_call (BehindPosition side) token = sign OpenRound token
+opens_call (BehindBand side) token = sign OpenRound token
 opens_call _ token = true
 
 -- whether a path may begin, none of whose steps stand before

@@ -87,16 +87,14 @@ impl Level {
     fn add_unit(&mut self, alloc: Global, unit: Unit) -> Result<(), AllocError>
         ensures { OnOk result (self.new ≡ with_and_behind self.old unit) }
     {
-        match &mut self.units {
-            Some(units) => units.rest.push(unit),
-            None => {
-                self.units = Some(And {
-                    first: unit,
-                    rest: List::new(alloc),
-                });
-                Ok(())
-            }
+        if let Some(units) = &mut self.units {
+            return units.rest.push(unit);
         }
+        self.units = Some(And {
+            first: unit,
+            rest: List::new(alloc),
+        });
+        Ok(())
     }
 
     /// Makes the units one more alternative. What is there after an error may be anything.

@@ -45,11 +45,12 @@ impl Place {
     ) -> Result<Next, Halt>
         ensures { Turns result levels.new (behind_step levels.old self so_far step token) }
     {
+        let alloc = levels.alloc();
         match token {
             Token::OpenSquare => Ok(Next::BeforePredicate(self, so_far, step)),
-            Token::Slash => behind_slash(levels.alloc(), self, so_far, step),
+            Token::Slash => behind_slash(alloc, self, so_far, step),
             token => {
-                let path = with_step(levels.alloc(), so_far, step)?;
+                let path = with_step(alloc, so_far, step)?;
                 self.behind_path(levels, path, token)
             }
         }

@@ -1,5 +1,5 @@
 -- Which tokens are names of functions.
-use Rattle.std.specs.Prelude.{Bool, true, false}
+use Rattle.std.specs.Prelude.{Bool, true, false, ◌||◌}
 use Rattle.wef_query_tokens.specs.declared.tokens.Token.{Token}
 use Rattle.wef_query_tokens.specs.declared.tokens.Token.TheVariants.{PositionCall, BandCall}
 
@@ -14,6 +14,4 @@ is_band_call _ = false
 
 -- a function's name before its `(`
 abbrev pub is_call : Token → Bool
-is_call PositionCall = true
-is_call BandCall = true
-is_call _ = false
+is_call token = is_position_call token || is_band_call token

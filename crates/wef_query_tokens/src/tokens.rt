@@ -69,10 +69,11 @@ pub fn behind_spaces(text: &[char]) -> &[char]
 {
     let mut rest = text;
     while let [character, more @ ..] = rest {
-        if !is_xml_space(*character) {
+        if is_xml_space(*character) {
+            rest = more;
+        } else {
             return rest;
         }
-        rest = more;
     }
     rest
 }
@@ -296,10 +297,10 @@ fn decimal_tail(begun: u64, text: &[char]) -> Result<(Token, &[char]), Halt>
     let mut number = begun;
     let mut rest = text;
     while let [character, more @ ..] = rest {
-        let Some(digit) = decimal_digit(*character) else {
-            return whole(number, rest);
-        };
-        number = one_more(10, number, digit)?;
+        match decimal_digit(*character) {
+            Some(digit) => number = one_more(10, number, digit)?,
+            None => return whole(number, rest),
+        }
         rest = more;
     }
     Ok((Token::Figure(number), rest))
