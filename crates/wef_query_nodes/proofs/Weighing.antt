@@ -1,7 +1,7 @@
 -- What a path and its parts weigh, by their own parts.
-use Rattle.std.proofs.Common.{◌≡◌, ℕ, ◌+◌, ◌<◌, ◌≤◌, List, get_or, length, take, refl, sym, ◌∙◌, ap, subst, arith}
+use Rattle.std.proofs.Common.{◌≡◌, ℕ, ◌+◌, ◌*◌, ◌<◌, ◌≤◌, List, get_or, length, take, refl, sym, ◌∙◌, ap, subst, arith}
 use Rattle.std.specs.List.{sum_by}
-use Rattle.std.proofs.lemmas.List.Sums.{sum-map, sum_by_more_le, sum_by-take-le}
+use Rattle.std.proofs.lemmas.List.Sums.{get_or-le-sum_by, sum-map, sum_by_more_le, sum_by-take-le}
 use Rattle.std.proofs.lemmas.List.{length-take-le, take-take}
 use Rattle.wef_query_tokens.specs.declared.operator.Operator.{Operator}
 use Rattle.wef_query_paths.specs.declared.path.And.{And, out-And}
@@ -43,14 +43,13 @@ predicate_mapped (layer.Whether o) = refl
 predicate_weighs : (x : Predicate) → predicate_weight x ≡ predicate_size (out-Predicate x)
 predicate_weighs x = fold_out-Predicate ℕ ℕ ℕ ℕ ℕ ℕ ℕ predicate_above unit_above value_above and_above or_above path_above step_above x ∙ predicate_mapped (out-Predicate x)
 
-unit_size : Unit-F Predicate Unit Value And Or Path Step → ℕ
+abbrev unit_size : Unit-F Predicate Unit Value And Or Path Step → ℕ
 unit_size (layer.Group o) = or_weight o + 1
 unit_size (layer.Alone v) = value_weight v + 1
 unit_size (layer.Compared v op literal) = value_weight v + 1
 unit_size (layer.Mirrored literal op v) = value_weight v + 1
 
 unit_mapped : (l : Unit-F Predicate Unit Value And Or Path Step) → unit_above (map-Unit Predicate Unit Value And Or Path Step ℕ ℕ ℕ ℕ ℕ ℕ ℕ predicate_weight unit_weight value_weight and_weight or_weight path_weight step_weight l) ≡ unit_size l
-unfolding unit_size
 unit_mapped (layer.Group o) = refl
 unit_mapped (layer.Alone v) = refl
 unit_mapped (layer.Compared v op literal) = refl
@@ -78,19 +77,15 @@ unfolding predicate_size
 in_whether x o is = predicate_weighs x ∙ ap (λ y. predicate_size (out-Predicate y)) is ∙ ap predicate_size (outs-Whether o)
 
 pub in_group : (x : Unit) (o : Or) → x ≡ Group o → unit_weight x ≡ or_weight o + 1
-unfolding unit_size
 in_group x o is = unit_weighs x ∙ ap (λ y. unit_size (out-Unit y)) is ∙ ap unit_size (outs-Group o)
 
 pub in_alone : (x : Unit) (v : Value) → x ≡ Alone v → unit_weight x ≡ value_weight v + 1
-unfolding unit_size
 in_alone x v is = unit_weighs x ∙ ap (λ y. unit_size (out-Unit y)) is ∙ ap unit_size (outs-Alone v)
 
 pub in_compared : (x : Unit) (v : Value) (op : Operator) (literal : Literal) → x ≡ Compared v op literal → unit_weight x ≡ value_weight v + 1
-unfolding unit_size
 in_compared x v op literal is = unit_weighs x ∙ ap (λ y. unit_size (out-Unit y)) is ∙ ap unit_size (outs-Compared v op literal)
 
 pub in_mirrored : (x : Unit) (literal : Literal) (op : Operator) (v : Value) → x ≡ Mirrored literal op v → unit_weight x ≡ value_weight v + 1
-unfolding unit_size
 in_mirrored x literal op v is = unit_weighs x ∙ ap (λ y. unit_size (out-Unit y)) is ∙ ap unit_size (outs-Mirrored literal op v)
 
 pub in_nodes : (x : Value) (p : Path) → x ≡ Nodes p → value_weight x ≡ path_weight p + 1
@@ -124,3 +119,12 @@ no_more_weigh ps k e within =
     let front : sum_by predicate_weight (take k (take e ps)) ≤ sum_by predicate_weight (take e ps) = sum_by-take-le predicate_weight (take e ps) k in
     let same : sum_by predicate_weight (take k (take e ps)) ≡ sum_by predicate_weight (take k ps) = ap (sum_by predicate_weight) (take-take k e ps within) in
     omega arith
+
+-- a part among others weighs less than the whole
+pub part_weighs : {A : Type 0} (weight : A → ℕ) (xs parts : List A) (k : ℕ) (d : A) (first whole : ℕ) → k < length xs → d ≡ get_or xs k d → xs ≡ parts → whole ≡ first + sum_by weight parts + 1 →
+    10 * weight d < 10 * whole
+part_weighs weight xs parts k d first whole h is same weighs =
+    let part = get_or-le-sum_by weight xs k d h in
+    let item = ap weight is in
+    let all = ap (sum_by weight) same in
+    omega (arith, part, item, all, weighs)

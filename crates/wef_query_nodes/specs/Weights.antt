@@ -1,5 +1,6 @@
 -- How much there is of a path and of its parts: a measure of the walk.
-use Rattle.std.specs.Prelude.{ℕ, ◌+◌, sum}
+use Rattle.std.specs.Prelude.{ℕ, ◌+◌, List, sum}
+use Rattle.std.specs.List.{sum_by}
 use Rattle.wef_query_paths.specs.declared.path.And.{And}
 use Rattle.wef_query_paths.specs.declared.path.Or.{Or}
 use Rattle.wef_query_paths.specs.declared.path.Path.{Path}
@@ -39,10 +40,21 @@ path_above p = p.first + sum p.rest + 1
 abbrev pub step_above : Step-F ℕ ℕ ℕ ℕ ℕ ℕ ℕ → ℕ
 step_above s = sum s.predicates + 1
 
--- ---- each part
+-- ---- the parts of which there may be many, and all of some
 
 abbrev pub predicate_weight : Predicate → ℕ
 predicate_weight = fold-Predicate ℕ ℕ ℕ ℕ ℕ ℕ ℕ predicate_above unit_above value_above and_above or_above path_above step_above
+
+abbrev pub step_weight : Step → ℕ
+step_weight = fold-Step ℕ ℕ ℕ ℕ ℕ ℕ ℕ predicate_above unit_above value_above and_above or_above path_above step_above
+
+abbrev pub predicates_weight : List Predicate → ℕ
+predicates_weight = sum_by predicate_weight
+
+abbrev pub steps_weight : List Step → ℕ
+steps_weight = sum_by step_weight
+
+-- ---- the other parts
 
 abbrev pub unit_weight : Unit → ℕ
 unit_weight = fold-Unit ℕ ℕ ℕ ℕ ℕ ℕ ℕ predicate_above unit_above value_above and_above or_above path_above step_above
@@ -58,6 +70,3 @@ or_weight = fold-Or ℕ ℕ ℕ ℕ ℕ ℕ ℕ predicate_above unit_above value
 
 abbrev pub path_weight : Path → ℕ
 path_weight = fold-Path ℕ ℕ ℕ ℕ ℕ ℕ ℕ predicate_above unit_above value_above and_above or_above path_above step_above
-
-abbrev pub step_weight : Step → ℕ
-step_weight = fold-Step ℕ ℕ ℕ ℕ ℕ ℕ ℕ predicate_above unit_above value_above and_above or_above path_above step_above

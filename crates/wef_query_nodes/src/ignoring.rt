@@ -34,15 +34,7 @@ pub fn ignores_place(predicate: &Predicate) -> bool
 fn or_ignores_place(or: &Or) -> bool
     ensures { IsTrue result → Ignores (holds_or or.now) }
 {
-    if !and_ignores_place(&or.first) {
-        return false;
-    }
-    for and in or.rest.as_slice() {
-        if !and_ignores_place(and) {
-            return false;
-        }
-    }
-    true
+    and_ignores_place(&or.first) && all_ignore_place(or.rest.as_slice())
 }
 
 #[cycle(ignoring)]
@@ -70,6 +62,18 @@ fn unit_ignores_place(unit: &Unit) -> bool
         Unit::Compared(value, _, _) => value_ignores_place(value),
         Unit::Mirrored(_, _, value) => value_ignores_place(value),
     }
+}
+
+#[cycle(ignoring)]
+fn all_ignore_place(ands: &[And]) -> bool
+    ensures { IsTrue result → AllIgnore (map holds_and ands.now) }
+{
+    for and in ands {
+        if !and_ignores_place(and) {
+            return false;
+        }
+    }
+    true
 }
 
 fn value_ignores_place(value: &Value) -> bool

@@ -6,5 +6,5 @@ use Rattle.wef_query_nodes.proofs.ignoring.+ignoring.Given as goal
 abbrev pub invariant-and_ignores_place-loop-unit : goal.invariant-and_ignores_place-loop-unit
 invariant-and_ignores_place-loop-unit l = AllIgnore (map holds_unit (take l.unit-index l.unit-items))
 
-abbrev pub invariant-or_ignores_place-loop-and : goal.invariant-or_ignores_place-loop-and
-invariant-or_ignores_place-loop-and l = AllIgnore (map holds_and (take l.and-index l.and-items))
+abbrev pub invariant-all_ignore_place-loop-and : goal.invariant-all_ignore_place-loop-and
+invariant-all_ignore_place-loop-and l = AllIgnore (map holds_and (take l.and-index l.ands))

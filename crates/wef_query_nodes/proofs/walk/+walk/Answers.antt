@@ -1,6 +1,5 @@
 use Rattle.std.proofs.Common.{◌≡◌, ◌+◌, ◌≤◌, true, false, ◌&&◌, ◌||◌, length, map, take, sym, ◌∙◌, ap, subst, arith}
 use Rattle.std.specs.List.{list_all, list_any, sum_by}
-use Rattle.std.proofs.lemmas.List.Sums.{get_or-le-sum_by}
 use Rattle.wef_query_paths.specs.declared.path.And.{out-And}
 use Rattle.wef_query_paths.specs.declared.path.Or.{out-Or}
 use Rattle.wef_query_paths.specs.declared.path.Predicate.TheVariants.{At}
@@ -14,7 +13,7 @@ use Rattle.wef_query_nodes.proofs.Counting.{counted_gone, counted_here, counted_
 use Rattle.wef_query_nodes.proofs.Layers.{given_nodes, holds_and_by, holds_or_by}
 use Rattle.wef_query_nodes.proofs.Leaving.{any_node, leaves_gone, tests_gone}
 use Rattle.wef_query_nodes.proofs.Turns.{left_goes, left_passes, left_skipped, left_start, left_stays, none_passes, none_reached, none_skipped, none_start, none_reached_at_all, none_stays, passed, passes_next, reached, stays_all, stays_next}
-use Rattle.wef_query_nodes.proofs.Weighing.{and_weighs, fewer_weigh, no_more_weigh, or_weighs}
+use Rattle.wef_query_nodes.proofs.Weighing.{and_weighs, fewer_weigh, no_more_weigh, or_weighs, part_weighs}
 use Rattle.wef_query_nodes.proofs.walk.+walk.Goals as goal
 
 pub is_and_held-loop-unit-init : goal.is_and_held-loop-unit-init
@@ -24,11 +23,7 @@ is_and_held-loop-unit-init t c =
 
 pub is_and_held-is_unit_held-requires-in-loop-unit : goal.is_and_held-is_unit_held-requires-in-loop-unit
 is_and_held-is_unit_held-requires-in-loop-unit t c =
-    let whole : _ = and_weighs c.args.and.now in
-    let part : _ = get_or-le-sum_by unit_weight c.as_slice-unit-items.result.now c.loop-unit.unit-index c.unit-item.result c.loop-unit-test.true in
-    let is : _ = ap unit_weight c.unit-item.is in
-    let rest : _ = ap (sum_by unit_weight) c.as_slice-unit-items.ensures in
-    (omega (arith, whole, part, is, rest), tt)
+    let lighter : _ = part_weighs unit_weight _ _ c.loop-unit.unit-index c.unit-item.result _ _ c.loop-unit-test.true c.unit-item.is c.as_slice-unit-items.ensures (and_weighs c.args.and.now) in (omega (arith, lighter), tt)
 
 pub is_or_held-loop-and-init : goal.is_or_held-loop-and-init
 is_or_held-loop-and-init t c =
@@ -37,11 +32,7 @@ is_or_held-loop-and-init t c =
 
 pub is_or_held-is_and_held-requires-in-loop-and : goal.is_or_held-is_and_held-requires-in-loop-and
 is_or_held-is_and_held-requires-in-loop-and t c =
-    let whole : _ = or_weighs c.args.or.now in
-    let part : _ = get_or-le-sum_by and_weight c.as_slice-and-items.result.now c.loop-and.and-index c.and-item.result c.loop-and-test.true in
-    let is : _ = ap and_weight c.and-item.is in
-    let rest : _ = ap (sum_by and_weight) c.as_slice-and-items.ensures in
-    (omega (arith, whole, part, is, rest), tt)
+    let lighter : _ = part_weighs and_weight _ _ c.loop-and.and-index c.and-item.result _ _ c.loop-and-test.true c.and-item.is c.as_slice-and-items.ensures (or_weighs c.args.or.now) in (omega (arith, lighter), tt)
 
 pub is_there-returns-in-Nodes : goal.is_there-returns-in-Nodes
 is_there-returns-in-Nodes t c = λ place. c.finds.ensures ∙ any_node (nodes c.in-Nodes.path (plain c.args.node)) ∙ ap (λ v. alone v (plain c.args.node) place) (sym (ap given c.in-Nodes.is ∙ given_nodes c.in-Nodes.path))

@@ -1,11 +1,11 @@
 use Rattle.std.proofs.Common.{◌≡◌, ◌+◌, ◌*◌, true, List, length, map, take, drop}
-use Rattle.std.specs.List.{list_all, list_any, sum_by}
+use Rattle.std.specs.List.{list_all, list_any}
 use Rattle.wef_query_paths.specs.declared.path.Step.{out-Step}
 use Rattle.wef_query_values.specs.Places.{Place, plain}
 use Rattle.wef_query_nodes.specs.Meaning.{goes, holds, holds_and, holds_or, holds_unit}
 use Rattle.wef_query_nodes.specs.Walk.{ahead, leaves}
 use Rattle.wef_query_nodes.specs.Wanted.{is_wanted}
-use Rattle.wef_query_nodes.specs.Weights.{and_weight, or_weight, path_weight, predicate_weight, step_weight, unit_weight, value_weight}
+use Rattle.wef_query_nodes.specs.Weights.{and_weight, or_weight, path_weight, predicate_weight, predicates_weight, step_weight, steps_weight, unit_weight, value_weight}
 use Rattle.wef_query_nodes.proofs.Counting.{IsCounted}
 use Rattle.wef_query_nodes.proofs.Turns.{LeftSoFar, NoneSoFar}
 use Rattle.wef_query_nodes.proofs.walk.+walk.Given as goal
@@ -14,25 +14,25 @@ abbrev pub decreases-finds : goal.decreases-finds
 decreases-finds l = 10 * path_weight l.path.now
 
 abbrev pub decreases-reaches : goal.decreases-reaches
-decreases-reaches l = 10 * (step_weight l.first.now + sum_by step_weight l.rest.now) + 9
+decreases-reaches l = 10 * (step_weight l.first.now + steps_weight l.rest.now) + 9
 
 abbrev pub decreases-goes_on : goal.decreases-goes_on
-decreases-goes_on l = 10 * sum_by step_weight l.steps.now + 10
+decreases-goes_on l = 10 * steps_weight l.steps.now + 10
 
 abbrev pub decreases-passes : goal.decreases-passes
-decreases-passes l = 10 * sum_by predicate_weight l.predicates.now + 1
-
-abbrev pub decreases-stays : goal.decreases-stays
-decreases-stays l = 10 * sum_by predicate_weight (take l.end (out-Step l.step.now).predicates) + 2
-
-abbrev pub decreases-left_before : goal.decreases-left_before
-decreases-left_before l = 10 * sum_by predicate_weight (take l.end (out-Step l.step.now).predicates) + 3
-
-abbrev pub decreases-next_place : goal.decreases-next_place
-decreases-next_place l = 10 * sum_by predicate_weight (take l.index (out-Step l.step.now).predicates) + 4
+decreases-passes l = 10 * predicates_weight l.predicates.now + 1
 
 abbrev pub decreases-is_held : goal.decreases-is_held
 decreases-is_held l = 10 * predicate_weight l.predicate.now
+
+abbrev pub decreases-stays : goal.decreases-stays
+decreases-stays l = 10 * predicates_weight (take l.end (out-Step l.step.now).predicates) + 2
+
+abbrev pub decreases-left_before : goal.decreases-left_before
+decreases-left_before l = 10 * predicates_weight (take l.end (out-Step l.step.now).predicates) + 3
+
+abbrev pub decreases-next_place : goal.decreases-next_place
+decreases-next_place l = 10 * predicates_weight (take l.index (out-Step l.step.now).predicates) + 4
 
 abbrev pub decreases-is_or_held : goal.decreases-is_or_held
 decreases-is_or_held l = 10 * or_weight l.or.now
