@@ -39,12 +39,12 @@ end_solid (c ∷ cs) solid = last_solid c (without_end cs) (negated (is_space c)
     negated true e = let bad : ⊥ = cc in absurd bad
     negated false e = refl
 
+last_kept : (c : ℕ) (b : Bool) → is_space c ≡ b → without_end (cond b [] (c ∷ [])) ≡ cond b [] (c ∷ [])
+last_kept c true e = refl
+last_kept c false e = ap (λ (b : Bool). cond b [] (c ∷ [])) e
+
 end_kept : (c : ℕ) (cs : List ℕ) → without_end cs ≡ cs → without_end (unless_last_space c cs) ≡ unless_last_space c cs
-end_kept c [] rest = by (is_space c) refl
-  where
-    by : (b : Bool) → is_space c ≡ b → without_end (cond b [] (c ∷ [])) ≡ cond b [] (c ∷ [])
-    by true e = refl
-    by false e = ap (λ (b : Bool). cond b [] (c ∷ [])) e
+end_kept c [] rest = last_kept c (is_space c) refl
 end_kept c (d ∷ ds) rest = ap (unless_last_space c) rest
 
 pub end_twice : (cs : List ℕ) → without_end (without_end cs) ≡ without_end cs

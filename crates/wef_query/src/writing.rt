@@ -7,8 +7,9 @@ ghost use Rattle.wef_query.specs.Writing.{group_element, groups_from, groups_of,
 use crate::{QueryItem, QueryList};
 use std::alloc::{AllocError, Global};
 use std::mem;
-use wef_base::{Attribute, Element, List, Namespace, Text};
+use wef_base::{Attribute, Element, List, Text};
 use wef_elements::{digits, with_attributes, with_elements, with_value};
+use wef_xml::spaces::no_space;
 
 /// The element QueryList that says a list of queries (Windows' query schema), in no namespace. Items
 /// that stand together and are of one group are in one Query.
@@ -100,10 +101,4 @@ fn plain(alloc: Global, name: &str, value: Text) -> Result<Attribute, AllocError
     ensures { IfOk result (λ a. a ≡ plain name.now value) }
 {
     with_value(alloc, no_space(alloc)?, name, value)
-}
-
-fn no_space(alloc: Global) -> Result<Namespace, AllocError>
-    ensures { IfOk result (λ space. space ≡ []) }
-{
-    Namespace::new(Text::new(alloc))
 }
