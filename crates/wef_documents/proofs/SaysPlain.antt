@@ -42,14 +42,15 @@ goes_on : {A B : Type 0} (P : A → Type 0) (Q : B → Type 0) (r : Result A Doc
 goes_on P Q (Ok a) more said step = step a said
 goes_on P Q (Err fault) more said step = tt
 
--- the same of a step of which nothing is asked
-passes : {A B : Type 0} (Q : B → Type 0) (r : Result A DocumentFault) (more : A → Result B DocumentFault) → ((a : A) → IfOk (more a) Q) → IfOk (and_then r more) Q
-passes Q (Ok a) more step = step a
-passes Q (Err fault) more step = tt
-
+-- what a part has that must be there
 needed_so : {A : Type 0} (P : A → Type 0) (fault : DocumentFault) (o : Option A) → IfSome o P → IfOk (needed fault o) P
 needed_so P fault (Some a) is = is
 needed_so P fault None is = tt
+
+-- what is read goes on behind a step of which nothing is asked
+passes : {A B : Type 0} (Q : B → Type 0) (r : Result A DocumentFault) (more : A → Result B DocumentFault) → ((a : A) → IfOk (more a) Q) → IfOk (and_then r more) Q
+passes Q (Ok a) more step = step a
+passes Q (Err fault) more step = tt
 
 -- ---- the name
 

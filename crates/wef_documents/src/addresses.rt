@@ -112,9 +112,9 @@ fn behind_last(characters: &[char]) -> &[char]
 {
     let mut found = characters;
     let mut rest = characters;
-    while let Some((&character, more)) = rest.split_first() {
+    while let [character, more @ ..] = rest {
         rest = more;
-        if is_colon(character) {
+        if is_colon(*character) {
             found = more;
         }
     }
