@@ -1,5 +1,6 @@
 -- Pages and sections of a list of entries in order.
 use Rattle.std.proofs.Common.{◌≡◌, ℕ, zero, suc, Bool, true, false, cond, ◌&&◌, T, refl, sym, ap, ◌∙◌, subst, Option, Some, None, List, [], ◌∷◌, ◌++◌, map, take, drop, nat_eq, All}
+use Rattle.std.proofs.lemmas.Bool.{and_from, and_parts}
 use Rattle.std.proofs.lemmas.List.Elements.{filter_agree, filter_passes, All-head, All-tail, All-map, All-take}
 use Rattle.std.specs.BTreeMap.Range.{entries_between}
 use Rattle.std.specs.Cmp.{IsTotalOrder, alike_right, tied_itself, Equal-is, unsigned_ties, nat_cmp_total, nat_eq_equiv}
@@ -55,23 +56,17 @@ tie_text : (x y : List ℕ) → slice_cmp nat_cmp x y ≡ Equal → pointwise na
 tie_text x y e = texts_ties x y ∙ ap is_eq e
 
 and_left : (a b : Bool) → (a && b) ≡ true → a ≡ true
-and_left true b e = refl
-and_left false b e = cc
+and_left a b e = (and_parts a b e).0
 
 and_right : (a b : Bool) → (a && b) ≡ true → b ≡ true
-and_right true b e = e
-and_right false b e = cc
-
-and_both : (a b : Bool) → a ≡ true → b ≡ true → (a && b) ≡ true
-and_both true b e f = f
-and_both false b e f = e
+and_right a b e = (and_parts a b e).1
 
 -- two keys in order before a key of a section that begins at or before them: the first is of the section too
 under_between_sub : (a x y : Key) → key_cmp a x ≡ Less → key_cmp x y ≡ Less → is_under Sub a y ≡ true → is_under Sub a x ≡ true
 under_between_sub a x y h k e =
     let kind = squeezed nat_cmp_total a.kind x.kind y.kind _ _ h k (number_tie a.kind y.kind (and_left (nat_eq a.kind y.kind) _ e)) in
     let sub = squeezed nat_list_cmp_total a.sub x.sub y.sub _ _ kind.1 kind.2 (text_tie a.sub y.sub (and_right (nat_eq a.kind y.kind) _ e)) in
-    and_both (nat_eq a.kind x.kind) _ (tie_number a.kind x.kind kind.0) (tie_text a.sub x.sub sub.0)
+    and_from (nat_eq a.kind x.kind) _ (tie_number a.kind x.kind kind.0) (tie_text a.sub x.sub sub.0)
 
 under_between_source : (a x y : Key) → key_cmp a x ≡ Less → key_cmp x y ≡ Less → is_under Source a y ≡ true → is_under Source a x ≡ true
 under_between_source a x y h k e =
@@ -79,7 +74,7 @@ under_between_source a x y h k e =
     let kind = squeezed nat_cmp_total a.kind x.kind y.kind _ _ h k (number_tie a.kind y.kind (and_left (nat_eq a.kind y.kind) _ first)) in
     let sub = squeezed nat_list_cmp_total a.sub x.sub y.sub _ _ kind.1 kind.2 (text_tie a.sub y.sub (and_right (nat_eq a.kind y.kind) _ first)) in
     let source = squeezed nat_list_cmp_total a.source x.source y.source _ _ sub.1 sub.2 (text_tie a.source y.source (and_right (nat_eq a.kind y.kind && pointwise nat_eq a.sub y.sub) _ e)) in
-    and_both (nat_eq a.kind x.kind && pointwise nat_eq a.sub x.sub) _ (under_between_sub a x y h k first) (tie_text a.source x.source source.0)
+    and_from (nat_eq a.kind x.kind && pointwise nat_eq a.sub x.sub) _ (under_between_sub a x y h k first) (tie_text a.source x.source source.0)
 
 pub under_between : (depth : Depth) (a x y : Key) → key_cmp a x ≡ Less → key_cmp x y ≡ Less → is_under depth a y ≡ true → is_under depth a x ≡ true
 under_between Kind a x y h k e =
@@ -94,7 +89,7 @@ under_between Channel a x y h k e =
     let sub = squeezed nat_list_cmp_total a.sub x.sub y.sub _ _ kind.1 kind.2 (text_tie a.sub y.sub (and_right (nat_eq a.kind y.kind) _ first)) in
     let source = squeezed nat_list_cmp_total a.source x.source y.source _ _ sub.1 sub.2 (text_tie a.source y.source (and_right (nat_eq a.kind y.kind && pointwise nat_eq a.sub y.sub) _ second)) in
     let channel = squeezed nat_list_cmp_total a.channel x.channel y.channel _ _ source.1 source.2 (text_tie a.channel y.channel (and_right (nat_eq a.kind y.kind && pointwise nat_eq a.sub y.sub && pointwise nat_eq a.source y.source) _ e)) in
-    and_both (nat_eq a.kind x.kind && pointwise nat_eq a.sub x.sub && pointwise nat_eq a.source x.source) _ (under_between_source a x y h k second) (tie_text a.channel x.channel channel.0)
+    and_from (nat_eq a.kind x.kind && pointwise nat_eq a.sub x.sub && pointwise nat_eq a.source x.source) _ (under_between_source a x y h k second) (tie_text a.channel x.channel channel.0)
 
 -- a key of a section has the same section
 under_same_sub : (a x q : Key) → is_under Sub a x ≡ true → is_under Sub x q ≡ is_under Sub a q

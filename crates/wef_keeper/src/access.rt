@@ -40,15 +40,14 @@ impl From<AllocError> for StoreFault {
 
 impl From<KeeperFault> for StoreFault {
     ghost use Rattle.std.specs.Prelude.{◌≡◌};
-    ghost use Rattle.wef_keeper.specs.Access.{store_fault};
+    ghost use Rattle.wef_keeper.specs.Access as access;
 
-    ghost from_gives = { λ fault e. e ≡ store_fault fault };
+    ghost from_gives = { λ fault e. e ≡ access.store_fault fault };
 
     fn from(fault: KeeperFault) -> StoreFault {
         match fault {
             KeeperFault::NoMemory => StoreFault::NoMemory,
-            KeeperFault::Failed => StoreFault::Failed,
-            KeeperFault::InDoubt => StoreFault::Failed,
+            KeeperFault::Failed | KeeperFault::InDoubt => StoreFault::Failed,
         }
     }
 }
@@ -85,8 +84,8 @@ pub fn section_page<K: Keeper>(
     depth: Depth,
     max: u32,
 ) -> Result<List<Row>, StoreFault>
-    requires max { 1 ≤ max }
     requires ready { access.IsReady (K.store keeper.old) }
+    requires max { 1 ≤ max }
     ensures page { IfSome (K.store keeper.new).rows (λ rows. IfOk result (λ page. page ≡ take max (rows_under depth after.now rows))) }
     ensures rest { IfSome (K.store keeper.new).rows (λ rows. IfOk result (λ page. rows_under depth after.now rows ≡ page ++ rows_under depth (last_key after.now page) rows)) }
     ensures behind { IfOk result (AllByRecursion (access.IsBehind depth after.now)) }

@@ -69,6 +69,20 @@ fn write_all(
     Ok(())
 }
 
+/// Writes a change at its key. Answers what stood there before.
+fn write(cells: &mut Cells, change: &Change) -> Result<Option<Cell>, AllocError>
+    ensures before { IfOk result (λ before. before ≡ found cells.old (key_of change.now)) }
+    ensures found { OnOk result ((q : RowKey) → found cells.new q ≡ cond (eq_by_cmp key_cmp (key_of change.now) q) (cell_of change.now) (found cells.old q)) }
+    ensures has { OnOk result ((q : RowKey) → has cells.new q ≡ (has cells.old q || puts change.now q)) }
+    ensures err_found { OnErr result ((q : RowKey) → found cells.new q ≡ found cells.old q) }
+    ensures err_has { OnErr result ((q : RowKey) → has cells.new q ≡ has cells.old q) }
+{
+    match change {
+        Change::Put(row) => put(cells, row),
+        Change::Delete(key) => Ok(write_at(cells, key, None)),
+    }
+}
+
 /// Writes a change at its key, and puts what stood there before behind what is kept already.
 fn write_kept(
     cells: &mut Cells,
@@ -87,20 +101,6 @@ fn write_kept(
     match before.push(cell) {
         Ok(()) => Ok(()),
         Err(_) => unreachable!(),
-    }
-}
-
-/// Writes a change at its key. Answers what stood there before.
-fn write(cells: &mut Cells, change: &Change) -> Result<Option<Cell>, AllocError>
-    ensures before { IfOk result (λ before. before ≡ found cells.old (key_of change.now)) }
-    ensures found { OnOk result ((q : RowKey) → found cells.new q ≡ cond (eq_by_cmp key_cmp (key_of change.now) q) (cell_of change.now) (found cells.old q)) }
-    ensures has { OnOk result ((q : RowKey) → has cells.new q ≡ (has cells.old q || puts change.now q)) }
-    ensures err_found { OnErr result ((q : RowKey) → found cells.new q ≡ found cells.old q) }
-    ensures err_has { OnErr result ((q : RowKey) → has cells.new q ≡ has cells.old q) }
-{
-    match change {
-        Change::Put(row) => put(cells, row),
-        Change::Delete(key) => Ok(write_at(cells, key, None)),
     }
 }
 

@@ -135,10 +135,10 @@ pub fn formed_page<F: Form, K: Keeper>(
 ) -> Result<List<Row>, StoreFault>
     requires max { 1 ≤ max }
     requires ready { access.IsReady (K.store keeper.old) }
+    ensures formed { IfOk result (λ page. list_all F.passes page ≡ true) }
     ensures page { IfSome (K.store keeper.new).rows (λ rows. IfOk result (λ page. page ≡ take max (rows_under depth after.now rows))) }
     ensures rest { IfSome (K.store keeper.new).rows (λ rows. IfOk result (λ page. rows_under depth after.now rows ≡ page ++ rows_under depth (last_key after.now page) rows)) }
     ensures behind { IfOk result (AllByRecursion (access.IsBehind depth after.now)) }
-    ensures formed { IfOk result (λ page. list_all F.passes page ≡ true) }
     ensures reads { access.Reads (ArePassed F.passes) (access.fails result) (K.store keeper.old) (K.store keeper.new) }
 {
     let page = section_page(keeper, after, depth, max)?;
@@ -156,8 +156,8 @@ pub fn formed_section<F: Form, K: Keeper>(
     depth: Depth,
 ) -> Result<List<Row>, StoreFault>
     requires { access.IsReady (K.store keeper.old) }
-    ensures section { IfSome (K.store keeper.new).rows (λ rows. IfOk result (λ section. section ≡ rows_under depth after.now rows)) }
     ensures formed { IfOk result (λ section. list_all F.passes section ≡ true) }
+    ensures section { IfSome (K.store keeper.new).rows (λ rows. IfOk result (λ section. section ≡ rows_under depth after.now rows)) }
     ensures reads { access.Reads (ArePassed F.passes) (access.fails result) (K.store keeper.old) (K.store keeper.new) }
 {
     let section = section(keeper, after, depth)?;

@@ -1,6 +1,6 @@
 //! The store contract: what the ends ask of whatever keeps their rows.
 
-ghost use Rattle.std.specs.Prelude.{◌≡◌, ℕ, ◌≤◌, ◌<◌, true, false, Bool, is_some, length, take, List, [], ◌∷◌, Option, IfOk, IfSome, OnOk, OnErr, OnSome, All};
+ghost use Rattle.std.specs.Prelude.{◌≡◌, if◌then◌else◌, ℕ, ◌≤◌, ◌<◌, true, false, Bool, is_some, length, take, List, [], ◌∷◌, Option, IfOk, IfSome, OnOk, OnErr, OnSome, All};
 ghost use Rattle.wef_keeper.specs.Forms.{AreWithin};
 ghost use Rattle.wef_keeper.specs.Keeping.{Store, WhereTold, OfRows, OfImages, StaysOpened, StaysUntold, KeepsRows, IsAsBefore, IsCalm, raised, is_in_doubt, OnFailed, OnRefused, HasFault, counted, row_at, leaves_doubt, tried, IsBeforeOrAfter, FollowsPlan, outcome, plan_after, stays_in_doubt, Reopens, IsOneOf};
 ghost use Rattle.wef_keeper.specs.Rows.{Rows, applied, is_after, rows_after};
@@ -68,12 +68,12 @@ pub trait Keeper {
     /// than `max` are all that follow.
     fn page(&mut self, after: &Key, max: u32) -> Result<List<Row>, KeeperFault>
         requires { 1 ≤ max }
+        ensures stays { IsAsBefore (store self.old) (store self.new) }
+        ensures refused { is_in_doubt result ≡ (store self.old).doubt }
         ensures page { OfRows (store self.old) (store self.new) (λ before now. IfOk result (λ page. page ≡ take max (rows_after after.now before))) }
         ensures last { OfRows (store self.old) (store self.new) (λ before now. IfOk result (λ page. length page < max → page ≡ rows_after after.now before)) }
         ensures size { IfOk result (λ page. length page ≤ max) }
         ensures behind { IfOk result (All (λ (row : the_row.Row). is_after after.now row.key ≡ true)) }
-        ensures stays { IsAsBefore (store self.old) (store self.new) }
-        ensures refused { is_in_doubt result ≡ (store self.old).doubt }
         ensures reads { (store self.new).reads ≡ raised (store self.old).reads }
         ensures fault { HasFault result (store self.old).faults (store self.new).faults }
         ensures calm { IsCalm result (store self.old) (store self.new) }
@@ -125,4 +125,16 @@ pub trait Keeper {
 
     // Without doubt the rows are the only image.
     ghost no_doubt: { (k : Self) → (store k).doubt ≡ false → IfSome (store k).images (λ left. WhereTold (store k).rows (λ stand. left ≡ stand ∷ [])) };
+}
+
+/// Counts a read, which is refused in doubt.
+pub fn begin_read(reads: &mut u64, in_doubt: bool) -> Result<(), KeeperFault>
+    ensures answer { result ≡ (if in_doubt then Err KeeperFault.InDoubt else Ok tt) }
+    ensures count { reads.new ≡ raised reads.old }
+{
+    *reads = reads.saturating_add(1);
+    if in_doubt {
+        return Err(KeeperFault::InDoubt);
+    }
+    Ok(())
 }

@@ -65,17 +65,6 @@ pub struct Row {
 }
 
 impl Row {
-    /// A copy of the row, which shares its texts.
-    pub fn clone(&self) -> Result<Row, AllocError>
-        ensures { IfOk result (λ copy. copy ≡ self.now) }
-    {
-        Ok(Row {
-            key: self.key.clone()?,
-            value: self.value,
-            body: self.body.clone()?,
-        })
-    }
-
     /// What stands at the row's key, which shares the row's text.
     pub(crate) fn to_cell(&self) -> Result<Cell, AllocError>
         ensures { IfOk result (λ cell. cell ≡ cell_of_row self.now) }
@@ -83,6 +72,19 @@ impl Row {
         Ok(Cell {
             value: self.value,
             body: self.body.clone()?,
+        })
+    }
+
+    /// A copy of the row, which shares its texts.
+    pub fn clone(&self) -> Result<Row, AllocError>
+        ensures { IfOk result (λ copy. copy ≡ self.now) }
+    {
+        let key = self.key.clone()?;
+        let body = self.body.clone()?;
+        Ok(Row {
+            key,
+            value: self.value,
+            body,
         })
     }
 }

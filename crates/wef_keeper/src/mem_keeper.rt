@@ -1,6 +1,6 @@
 //! A keeper in memory, which tells everything, and fails where it is told to.
 
-ghost use Rattle.std.specs.Prelude.{◌≡◌, if◌then◌else◌, ◌≤◌, true, false, ◌∷◌, [], refl, IfOk, OnOk, OnErr};
+ghost use Rattle.std.specs.Prelude.{◌≡◌, ◌≤◌, true, false, ◌∷◌, [], refl, IfOk, OnOk, OnErr};
 ghost use Rattle.std.specs.FinMap as finite;
 ghost use Rattle.std.specs.declared.option.Option.TheVariants.{Some};
 ghost use Rattle.std.proofs.Common.{rules};
@@ -8,7 +8,7 @@ ghost use Rattle.wef_keeper.specs.Keeping.{outcome, raised, row_at};
 ghost use Rattle.wef_keeper.specs.Keeping as keeping;
 ghost use Rattle.wef_keeper.specs.declared.keeping.Plan.TheVariants.{Done, Fails};
 
-use crate::keeping::{Keeper, KeeperFault, Plan};
+use crate::keeping::{Keeper, KeeperFault, Plan, begin_read};
 use crate::keys::{Change, Key, Row};
 use crate::paging::row_at;
 use crate::table::Rows;
@@ -83,18 +83,6 @@ impl MemKeeper {
         }
     }
 
-    /// Counts a read, which is refused in doubt.
-    fn begin_read(&mut self) -> Result<(), KeeperFault>
-        ensures answer { result ≡ (if self.old.in_doubt then Err KeeperFault.InDoubt else Ok tt) }
-        ensures count { self.new ≡ record self.old { reads = raised self.old.reads } }
-    {
-        self.reads = self.reads.saturating_add(1);
-        if self.in_doubt {
-            return Err(KeeperFault::InDoubt);
-        }
-        Ok(())
-    }
-
     /// Counts a commit that has begun.
     fn count_try(&mut self)
         ensures { self.new ≡ record self.old { tries = raised self.old.tries } }
@@ -124,13 +112,13 @@ impl Keeper for MemKeeper {
     ghost no_doubt = { λ k _. refl };
 
     fn get(&mut self, key: &Key) -> Result<Option<Row>, KeeperFault> {
-        self.begin_read()?;
+        begin_read(&mut self.reads, self.in_doubt)?;
         Ok(found_row(&self.rows, key)?)
     }
 
     #[tactic(auto, using(crate::proofs::Pages::page_behind))]
     fn page(&mut self, after: &Key, max: u32) -> Result<List<Row>, KeeperFault> {
-        self.begin_read()?;
+        begin_read(&mut self.reads, self.in_doubt)?;
         Ok(self.rows.page(after, max)?)
     }
 

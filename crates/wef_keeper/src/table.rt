@@ -44,10 +44,8 @@ impl Rows {
     pub fn new(alloc: Global) -> Rows
         ensures { result ≡ finite.empty }
     {
-        Rows {
-            alloc,
-            cells: BTreeMap::new(alloc),
-        }
+        let cells = BTreeMap::new(alloc);
+        Rows { alloc, cells }
     }
 
     /// What stands at a key.

@@ -14,6 +14,7 @@ use crate::place::Place;
 use crate::refusal::Refusal;
 use sqlite::Connection;
 use wef_base::{List, Text};
+use wef_keeper::keeping::begin_read;
 use wef_keeper::{Change, Keeper, KeeperFault, Key, Row};
 
 /// The rows in a database.
@@ -86,11 +87,7 @@ impl<S: Opens> SqlKeeper<S> {
         ensures answer { result ≡ (if self.old.in_doubt then Err KeeperFault.InDoubt else Ok tt) }
         ensures count { self.new ≡ record self.old { reads = raised self.old.reads } }
     {
-        self.reads = self.reads.saturating_add(1);
-        if self.in_doubt {
-            return Err(KeeperFault::InDoubt);
-        }
-        Ok(())
+        begin_read(&mut self.reads, self.in_doubt)
     }
 
     /// Opens the database where it isn't open.
