@@ -1,6 +1,6 @@
 //! The keys of the log's rows.
 
-ghost use Rattle.std.specs.Prelude.{◌≡◌, [], IfOk};
+ghost use Rattle.std.specs.Prelude.{◌≡◌, IfOk};
 ghost use Rattle.wef_source_log.specs.Keys as keys;
 
 use std::alloc::{AllocError, Global};
@@ -23,51 +23,40 @@ pub const BOOT: u8 = 12;
 pub fn record_key(channel: &ChannelName, number: u64) -> Result<Key, AllocError>
     ensures { IfOk result (λ key. key ≡ keys.record_key channel.now number) }
 {
-    channel_key(RECORD, channel, number)
+    Ok(key(RECORD, channel.as_text().clone()?, number))
 }
 
 /// The key of a channel's last number.
 pub fn last_key(channel: &ChannelName) -> Result<Key, AllocError>
     ensures { IfOk result (λ key. key ≡ keys.last_key channel.now) }
 {
-    channel_key(LAST, channel, 0)
-}
-
-fn channel_key(kind: u8, channel: &ChannelName, number: u64) -> Result<Key, AllocError>
-    ensures { IfOk result (λ key. key ≡ keys.key kind channel.now number) }
-{
-    let alloc = channel.as_text().alloc();
-    Ok(Key {
-        kind,
-        sub: Text::new(alloc),
-        source: Text::new(alloc),
-        channel: channel.as_text().clone()?,
-        number,
-    })
+    Ok(key(LAST, channel.as_text().clone()?, 0))
 }
 
 /// The key of the capacity. It takes no memory.
 pub fn capacity_key(alloc: Global) -> Key
     ensures { result ≡ keys.capacity_key }
 {
-    end_key(alloc, CAPACITY)
+    key(CAPACITY, Text::new(alloc), 0)
 }
 
 /// The key of the boot number. It takes no memory.
 pub fn boot_key(alloc: Global) -> Key
     ensures { result ≡ keys.boot_key }
 {
-    end_key(alloc, BOOT)
+    key(BOOT, Text::new(alloc), 0)
 }
 
-fn end_key(alloc: Global, kind: u8) -> Key
-    ensures { result ≡ keys.key kind [] 0 }
+/// A key of a channel, or of none.
+fn key(kind: u8, channel: Text, number: u64) -> Key
+    ensures { result ≡ keys.key kind channel number }
 {
+    let alloc = channel.alloc();
     Key {
         kind,
         sub: Text::new(alloc),
         source: Text::new(alloc),
-        channel: Text::new(alloc),
-        number: 0,
+        channel,
+        number,
     }
 }
