@@ -120,31 +120,19 @@ fn sources_of<K: Keeper>(keeper: &mut K, sub: &Text) -> Result<List<Text>, Store
     ensures judged { IfSome (K.store keeper.new).rows (λ rows. OnOk result (AreAllFormed (spec.served_rows rows sub.now) × AreAllFormed (spec.heard_rows rows sub.now))) }
     ensures reads { access.Reads AreFormed (access.fails result) (K.store keeper.old) (K.store keeper.new) }
 {
-    let served = served_rows(keeper, sub)?;
-    let heard = heard_rows(keeper, sub)?;
+    let served = rows_behind(keeper, &all_bookmarks_start(sub)?)?;
+    let heard = rows_behind(keeper, &all_heard_start(sub)?)?;
     Ok(sources_in(sub.alloc(), served.as_slice(), heard.as_slice())?)
 }
 
-/// The bookmark rows of a subscription.
-fn served_rows<K: Keeper>(keeper: &mut K, sub: &Text) -> Result<List<Row>, StoreFault>
+/// The rows of a subscription behind a key, of the key's kind.
+fn rows_behind<K: Keeper>(keeper: &mut K, start: &Key) -> Result<List<Row>, StoreFault>
     requires { access.IsReady (K.store keeper.old) }
-    ensures rows { IfSome (K.store keeper.new).rows (λ rows. IfOk result (λ served. served ≡ spec.served_rows rows sub.now)) }
-    ensures judged { IfSome (K.store keeper.new).rows (λ rows. OnOk result (AreAllFormed (spec.served_rows rows sub.now))) }
+    ensures rows { IfSome (K.store keeper.new).rows (λ rows. IfOk result (λ behind. behind ≡ rows_under Depth.Sub start.now rows)) }
+    ensures judged { IfSome (K.store keeper.new).rows (λ rows. OnOk result (AreAllFormed (rows_under Depth.Sub start.now rows))) }
     ensures reads { access.Reads AreFormed (access.fails result) (K.store keeper.old) (K.store keeper.new) }
 {
-    let start = all_bookmarks_start(sub)?;
-    formed_section::<CollectorForm, K>(keeper, &start, Depth::Sub)
-}
-
-/// The rows of a subscription that say when its sources were heard.
-fn heard_rows<K: Keeper>(keeper: &mut K, sub: &Text) -> Result<List<Row>, StoreFault>
-    requires { access.IsReady (K.store keeper.old) }
-    ensures rows { IfSome (K.store keeper.new).rows (λ rows. IfOk result (λ heard. heard ≡ spec.heard_rows rows sub.now)) }
-    ensures judged { IfSome (K.store keeper.new).rows (λ rows. OnOk result (AreAllFormed (spec.heard_rows rows sub.now))) }
-    ensures reads { access.Reads AreFormed (access.fails result) (K.store keeper.old) (K.store keeper.new) }
-{
-    let start = all_heard_start(sub)?;
-    formed_section::<CollectorForm, K>(keeper, &start, Depth::Sub)
+    formed_section::<CollectorForm, K>(keeper, start, Depth::Sub)
 }
 
 /// The sources of rows, each once, in order.
@@ -207,8 +195,7 @@ fn push_source_line(text: &mut Text, source: &Text) -> Result<(), AllocError>
 {
     text.push_str(" source ")?;
     text.push_printed(source)?;
-    text.push_str("\n")?;
-    Ok(())
+    text.push_str("\n")
 }
 
 fn push_channel<K: Keeper>(
@@ -227,7 +214,8 @@ fn push_channel<K: Keeper>(
     push_channel_line(text, channel, row.value)?;
     push_runs(text, keeper, sub, source, channel, Spans::Held)?;
     push_runs(text, keeper, sub, source, channel, Spans::Marks)?;
-    push_loose(text, keeper, sub, source, channel)
+    let loose = loose_rows(keeper, sub, source, channel)?;
+    Ok(push_loose_lines(text, loose.as_slice())?)
 }
 
 #[tactic(auto, unfolding(crate::specs::Report::channel_line))]
@@ -273,23 +261,6 @@ fn push_labelled(text: &mut Text, label: &str, runs: &Text) -> Result<(), AllocE
     text.push_str("\n")
 }
 
-fn push_loose<K: Keeper>(
-    text: &mut Text,
-    keeper: &mut K,
-    sub: &Text,
-    source: &Text,
-    channel: &Text,
-) -> Result<(), StoreFault>
-    requires { access.IsReady (K.store keeper.old) }
-    ensures text { IfSome (K.store keeper.new).rows (λ rows. OnOk result (text.new ≡ text.old ++ flat_map spec.loose_line (held.loose_rows rows sub.now source.now channel.now))) }
-    ensures judged { IfSome (K.store keeper.new).rows (λ rows. OnOk result (AreAllFormed (held.loose_rows rows sub.now source.now channel.now))) }
-    ensures reads { access.Reads AreFormed (access.fails result) (K.store keeper.old) (K.store keeper.new) }
-{
-    let loose = loose_rows(keeper, sub, source, channel)?;
-    push_loose_lines(text, loose.as_slice())?;
-    Ok(())
-}
-
 fn loose_rows<K: Keeper>(
     keeper: &mut K,
     sub: &Text,
@@ -318,14 +289,14 @@ fn push_loose_lines(text: &mut Text, rows: &[Row]) -> Result<(), AllocError>
 fn push_loose_line(text: &mut Text, row: &Row) -> Result<(), AllocError>
     ensures { OnOk result (text.new ≡ text.old ++ spec.loose_line row.now) }
 {
+    let count = row.body.as_str();
     text.push_str("   loose ")?;
     text.push_number(row.key.number)?;
     text.push_str("-")?;
     text.push_number(row.value)?;
     text.push_str(" ")?;
-    text.push_str(row.body.as_str())?;
-    text.push_str("\n")?;
-    Ok(())
+    text.push_str(count)?;
+    text.push_str("\n")
 }
 
 /// Which numbers a row stands for.
