@@ -39,15 +39,18 @@ use Rattle.wef_front.proofs.RepliesAreGood.{ack_reply_good, fault_reply_good}
 
 -- ---- envelopes
 
--- no space is trimmed off the actions
-action_trimmed : (standard : Option Standard) → IsTrimmed (action_by standard)
+-- no space is trimmed off the action of a fault, and none has that of an acknowledgement
+abbrev IsFaultAction : List ℕ → Type 0
+IsFaultAction action = IsTrimmed action × (same action ACK.now ≡ false)
+
+fault_action : (standard : Option Standard) → IsFaultAction (action_by standard)
 unfolding chars encode
-action_trimmed (Some the.Soap) = refl
-action_trimmed (Some the.Addressing) = refl
-action_trimmed (Some the.Eventing) = refl
-action_trimmed (Some the.Management) = refl
-action_trimmed (Some the.Enumeration) = refl
-action_trimmed None = refl
+fault_action (Some the.Soap) = (refl, refl)
+fault_action (Some the.Addressing) = (refl, refl)
+fault_action (Some the.Eventing) = (refl, refl)
+fault_action (Some the.Management) = (refl, refl)
+fault_action (Some the.Enumeration) = (refl, refl)
+fault_action None = (refl, refl)
 
 ack_trimmed : IsTrimmed ACK.now
 unfolding chars encode
@@ -59,18 +62,8 @@ anonymous_trimmed = refl
 
 -- an envelope that answers another is one that reads back
 pub reply_plain : (action : List ℕ) (body : List Element) (id relates : MessageId) → IsTrimmed action → IsSpelt id → IsSpelt relates → IsPlain (envelope_with action body id (Some relates))
-reply_plain action body id relates named spelt related = record {
-  to = anonymous_trimmed;
-  resource = tt;
-  reply_to = tt;
-  action = named;
-  id = spelt;
-  relates = related;
-  machine = tt;
-  max_size = tt;
-  identifier = tt;
-  bookmark = tt;
-}
+reply_plain action body id relates named spelt related =
+    record { to = anonymous_trimmed; resource = tt; reply_to = tt; action = named; id = spelt; relates = related; machine = tt; max_size = tt; identifier = tt; bookmark = tt }
 
 -- what is written for it says it, with the id of the text
 pub reply_said : (action : List ℕ) (body : List Element) (text : List ℕ) (relates : MessageId) → IsTrimmed action → IsTrimmed text → IsSpelt relates
@@ -100,23 +93,14 @@ ack_told id relates trimmed allowed spelt related =
     ∙ ap told_by (reply_said ACK.now [] id.text relates ack_trimmed trimmed spelt)
     ∙ ap (λ b. told_in (Some relates) (cond b (Some replies.Ack) None)) (same_self ACK.now)
 
--- no fault has the action of an acknowledgement
-no_ack : (standard : Option Standard) → same (action_by standard) ACK.now ≡ false
-no_ack (Some the.Soap) = refl
-no_ack (Some the.Addressing) = refl
-no_ack (Some the.Eventing) = refl
-no_ack (Some the.Management) = refl
-no_ack (Some the.Enumeration) = refl
-no_ack None = refl
-
 fault_told : (name : FaultName) (id relates : MessageId) → is_known name ≡ true → IsTrimmed id.text → IsXmlText id.text → IsSpelt relates → IsXmlText relates.text
     → told (encoded Utf8 (canonical (written (fault_envelope name id (Some relates))))) ≡ Some (relates, replies.Fault name)
 unfolding written
 fault_told name id relates known trimmed allowed spelt related =
     let body : List Element = fault_tree (fault_of name) ∷ [] in
     tree_told (written (fault_envelope name id (Some relates))) (fault_reply_good name id (Some relates) known allowed related)
-    ∙ ap told_by (reply_said (action_of name) body id.text relates (action_trimmed (standard_of name)) trimmed spelt)
-    ∙ ap (λ b. told_in (Some relates) (cond b (Some replies.Ack) (fault_among body))) (no_ack (standard_of name))
+    ∙ ap told_by (reply_said (action_of name) body id.text relates (fault_action (standard_of name)).0 trimmed spelt)
+    ∙ ap (λ b. told_in (Some relates) (cond b (Some replies.Ack) (fault_among body))) (fault_action (standard_of name)).1
     ∙ ap (λ (o : Option Fault). told_in (Some relates) (option_or (option_map (λ (f : Fault). replies.Fault f.name) o) None)) (faults_are_read name known)
 
 pub acks_are_heard : (ids : Ids) (relates : MessageId) → IsSpelt relates → IsXmlText relates.text
@@ -145,7 +129,7 @@ reply_id id relates replies.Ack own allowed spelt related known =
 reply_id id relates (replies.Fault name) own allowed spelt related known =
     tree_id (written (fault_envelope name id (Some relates))) (fault_reply_good name id (Some relates) known allowed related)
     ∙ written_id_is_found (fault_envelope name id (Some relates))
-    (reply_plain (action_of name) (fault_tree (fault_of name) ∷ []) id relates (action_trimmed (standard_of name)) own spelt)
+    (reply_plain (action_of name) (fault_tree (fault_of name) ∷ []) id relates (fault_action (standard_of name)).0 own spelt)
 
 pub replies_are_read : RepliesAreRead
 replies_are_read = record { told = reply_told; id = reply_id }

@@ -56,13 +56,7 @@ unread_of effect done result before now call refused answered is =
 
 fault_known : (fault : CollectorFault) → is_known (fault_for fault) ≡ true
 fault_known NoMemory = refl
-fault_known NoSubscription = refl
-fault_known Exists = refl
-fault_known Ended = refl
-fault_known NotWellFormed = refl
-fault_known TooMany = refl
-fault_known Failed = refl
-fault_known Full = refl
+fault_known _ = refl
 
 -- what is said of a batch has a name of the table, if it is a fault
 pub said_known : (ack : Bool) (done : Result (Unit {0}) CollectorFault) → IsKnownSaid (said_of ack done)
