@@ -88,6 +88,7 @@ fn asked(
     request: &Request,
     second: u64,
 ) -> Result<Answer, AllocError> {
+    let now = Moment::of(second.saturating_mul(1_000)).unwrap_or(Moment::first());
     collector_answer(
         alloc,
         collector,
@@ -95,7 +96,7 @@ fn asked(
         &host(alloc)?,
         request.charset,
         &request.body,
-        Moment::of(second.saturating_mul(1_000)).unwrap_or(Moment::first()),
+        now,
     )
 }
 

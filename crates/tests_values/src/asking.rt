@@ -1,9 +1,10 @@
 //! Queries that are asked of a document.
 
+use crate::query_lists::push_fault;
 use std::alloc::Global;
 use wef_base::{ChannelName, Charset, Element, List, Namespace, Text, ValueFault};
 use wef_elements::{with_attributes, with_elements, with_value};
-use wef_query::{QueryFault, QueryList, channels, read_query, selected};
+use wef_query::{QueryList, channels, read_query, selected};
 use wef_tree::{TreeFault, read_tree};
 
 /// The event of which most rows ask.
@@ -29,7 +30,7 @@ pub(crate) fn push_list(shown: &mut Text, document: &str) -> Result<(), ValueFau
     let root = root_of(alloc, EVENT)?;
     match read_query(&root_of(alloc, document)?) {
         Ok(list) => push_channels(shown, &list, &root),
-        Err(fault) => push_fault(shown, fault),
+        Err(fault) => Ok(push_fault(shown, fault)?),
     }
 }
 
@@ -50,7 +51,7 @@ fn push_asked(shown: &mut Text, text: &str, root: &Element) -> Result<(), ValueF
     let asking = asking(shown.alloc(), text)?;
     match read_query(&asking) {
         Ok(list) => push_answer(shown, &list, root),
-        Err(fault) => push_fault(shown, fault),
+        Err(fault) => Ok(push_fault(shown, fault)?),
     }
 }
 
@@ -61,27 +62,6 @@ fn push_answer(shown: &mut Text, list: &QueryList, root: &Element) -> Result<(),
     } else {
         "no"
     })?)
-}
-
-fn push_fault(shown: &mut Text, fault: QueryFault) -> Result<(), ValueFault> {
-    match fault {
-        QueryFault::NoMemory => Err(ValueFault::NoMemory),
-        QueryFault::BadQuery { item, at } => push_place(shown, "bad", item, at),
-        QueryFault::Unsupported { item, at } => push_place(shown, "unsupported", item, at),
-        QueryFault::TooDeepQuery { item, at } => push_place(shown, "too deep", item, at),
-    }
-}
-
-/// What is wrong at a byte of an item's text; which item it is, if it isn't the first.
-fn push_place(shown: &mut Text, kind: &str, item: usize, at: usize) -> Result<(), ValueFault> {
-    shown.push_str(kind)?;
-    shown.push_str(" at ")?;
-    shown.push_number(at as u64)?;
-    if item > 0 {
-        shown.push_str(" of item ")?;
-        shown.push_number(item as u64)?;
-    }
-    Ok(())
 }
 
 /// The QueryList of one Select of this text on the channel of the rows.

@@ -52,19 +52,24 @@ fn push_item(shown: &mut Text, item: &QueryItem) -> Result<(), AllocError> {
     shown.push_str(item.text.as_str())
 }
 
-fn push_fault(shown: &mut Text, fault: QueryFault) -> Result<(), AllocError> {
+/// What is wrong with a list of queries.
+pub(crate) fn push_fault(shown: &mut Text, fault: QueryFault) -> Result<(), AllocError> {
     match fault {
         QueryFault::NoMemory => Err(AllocError),
-        QueryFault::BadQuery { item, at } => push_place(shown, "BadQuery", item, at),
-        QueryFault::Unsupported { item, at } => push_place(shown, "Unsupported", item, at),
-        QueryFault::TooDeepQuery { item, at } => push_place(shown, "TooDeepQuery", item, at),
+        QueryFault::BadQuery { item, at } => push_place(shown, "bad", item, at),
+        QueryFault::Unsupported { item, at } => push_place(shown, "unsupported", item, at),
+        QueryFault::TooDeepQuery { item, at } => push_place(shown, "too deep", item, at),
     }
 }
 
-fn push_place(shown: &mut Text, name: &str, item: usize, at: usize) -> Result<(), AllocError> {
-    shown.push_str(name)?;
-    shown.push_str(" of item ")?;
-    shown.push_number(item as u64)?;
+/// What is wrong at a byte of an item's text; which item it is, if it isn't the first.
+fn push_place(shown: &mut Text, kind: &str, item: usize, at: usize) -> Result<(), AllocError> {
+    shown.push_str(kind)?;
     shown.push_str(" at ")?;
-    shown.push_number(at as u64)
+    shown.push_number(at as u64)?;
+    if item > 0 {
+        shown.push_str(" of item ")?;
+        shown.push_number(item as u64)?;
+    }
+    Ok(())
 }
