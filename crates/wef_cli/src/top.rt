@@ -4,7 +4,7 @@ ghost use Rattle.std.specs.Prelude.{◌≡◌, Some, IfOk, IfErr};
 ghost use Rattle.wef_cli.specs.Command.{HasHost, command_of};
 ghost use Rattle.wef_cli.specs.Replaying.{EndsReading, HasLines, ReplayEnds};
 ghost use Rattle.wef_cli.specs.Runs.{RunEnds};
-ghost use Rattle.wef_commands.specs.Endings.{IsToldAs, Told, WroteMessage, status_of};
+ghost use Rattle.wef_commands.specs.Endings.{IsToldAs, Told, WroteMessage, status_of, told_of};
 ghost use Rattle.wef_commands.specs.declared.ending.Ending as the_ending;
 ghost use Rattle.wef_replay.specs.Good.{AreGood, no_names};
 
@@ -51,10 +51,10 @@ pub fn run<I: Source, O: Sink, E: Sink, K: Keeper, F: Front, L: Link, C: Clock>(
 ) -> (K, u8)
     ensures ends { (ending : the_ending.Ending) × (told : the_ending.Ending) × IsToldAs ending told × (result.1 ≡ status_of told)
         × WroteMessage told
-        (record { before = E.taken err.old; after = E.taken err.new; faults_before = E.faults err.old; faults_after = E.faults err.new })
+        (told_of E.taken E.faults err.old err.new)
         × RunEnds (command_of words.now) ending
-        (record { before = I.left input.old; after = I.left input.new; faults_before = I.faults input.old; faults_after = I.faults input.new })
-        (record { before = O.taken out.old; after = O.taken out.new; faults_before = O.faults out.old; faults_after = O.faults out.new })
+        (told_of I.left I.faults input.old input.new)
+        (told_of O.taken O.faults out.old out.new)
         (record { front_before = F.told front.old; front_after = F.told front.new; link_before = L.told link.old; link_after = L.told link.new; moment = C.told clock.old })
         (K.store keeper) (K.store result.0) }
     ensures clock { C.told clock.new ≡ C.told clock.old }
@@ -76,8 +76,8 @@ fn ending_of<I: Source, O: Sink, K: Keeper, F: Front, L: Link, C: Clock>(
     clock: &mut C,
 ) -> (K, Ending)
     ensures ends { RunEnds (command_of words.now) result.1
-        (record { before = I.left input.old; after = I.left input.new; faults_before = I.faults input.old; faults_after = I.faults input.new })
-        (record { before = O.taken out.old; after = O.taken out.new; faults_before = O.faults out.old; faults_after = O.faults out.new })
+        (told_of I.left I.faults input.old input.new)
+        (told_of O.taken O.faults out.old out.new)
         (record { front_before = F.told front.old; front_after = F.told front.new; link_before = L.told link.old; link_after = L.told link.new; moment = C.told clock.old })
         (K.store keeper) (K.store result.0) }
     ensures clock { C.told clock.new ≡ C.told clock.old }
@@ -101,8 +101,8 @@ fn act<I: Source, O: Sink, K: Keeper, F: Front, L: Link, C: Clock>(
 ) -> (K, Ending)
     requires { HasHost command }
     ensures ends { RunEnds (Some command) result.1
-        (record { before = I.left input.old; after = I.left input.new; faults_before = I.faults input.old; faults_after = I.faults input.new })
-        (record { before = O.taken out.old; after = O.taken out.new; faults_before = O.faults out.old; faults_after = O.faults out.new })
+        (told_of I.left I.faults input.old input.new)
+        (told_of O.taken O.faults out.old out.new)
         (record { front_before = F.told front.old; front_after = F.told front.new; link_before = L.told link.old; link_after = L.told link.new; moment = C.told clock.old })
         (K.store keeper) (K.store result.0) }
     ensures clock { C.told clock.new ≡ C.told clock.old }
@@ -136,8 +136,8 @@ fn act<I: Source, O: Sink, K: Keeper, F: Front, L: Link, C: Clock>(
 
 fn replay<I: Source, O: Sink>(alloc: Global, input: &mut I, out: &mut O) -> Ending
     ensures { ReplayEnds result
-        (record { before = I.left input.old; after = I.left input.new; faults_before = I.faults input.old; faults_after = I.faults input.new })
-        (record { before = O.taken out.old; after = O.taken out.new; faults_before = O.faults out.old; faults_after = O.faults out.new }) }
+        (told_of I.left I.faults input.old input.new)
+        (told_of O.taken O.faults out.old out.new) }
 {
     let lines = match read_lines(alloc, input) {
         Ok(lines) => lines,
@@ -153,10 +153,10 @@ fn replay<I: Source, O: Sink>(alloc: Global, input: &mut I, out: &mut O) -> Endi
 /// The lines of a schedule that was read to its end and checked whole, or how the run ends.
 fn read_lines<I: Source>(alloc: Global, input: &mut I) -> Result<List<Line>, Ending>
     ensures ok { IfOk result (λ lines. HasLines lines
-        (record { before = I.left input.old; after = I.left input.new; faults_before = I.faults input.old; faults_after = I.faults input.new })) }
+        (told_of I.left I.faults input.old input.new)) }
     ensures good { IfOk result (λ lines. AreGood no_names lines) }
     ensures err { IfErr result (λ ending. EndsReading ending
-        (record { before = I.left input.old; after = I.left input.new; faults_before = I.faults input.old; faults_after = I.faults input.new })) }
+        (told_of I.left I.faults input.old input.new)) }
 {
     let bytes = match read_whole(alloc, input, INPUT_LIMIT) {
         Ok(bytes) => bytes,

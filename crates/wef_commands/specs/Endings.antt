@@ -87,6 +87,10 @@ pub record Told : Type 0 where
   pub faults_before : ℕ
   pub faults_after : ℕ
 
+-- that of an object, by what is told of its bytes and its faults, and how it was and is
+abbrev pub told_of : {S : Type 0} → (S → Option (List ℕ)) → (S → ℕ) → S → S → Told
+told_of bytes faults old new = record { before = bytes old; after = bytes new; faults_before = faults old; faults_after = faults new }
+
 -- The object's count of faults rose.
 abbrev pub HasFailed : Told → Type 0
 HasFailed told = Rose told.faults_before told.faults_after

@@ -3,6 +3,7 @@
 ghost use Rattle.std.specs.Prelude.{◌≡◌, Some, IfOk, IfErr};
 ghost use Rattle.wef_commands.specs.Adding as spec;
 ghost use Rattle.wef_commands.specs.Calling.{CallEnds, WroteOut, named_ending};
+ghost use Rattle.wef_commands.specs.Endings.{told_of};
 ghost use Rattle.wef_documents.specs.Bytes.{document_in};
 ghost use Rattle.wef_documents.specs.Kept.{read_kept};
 ghost use Rattle.wef_documents.specs.Written.{document_text};
@@ -27,8 +28,8 @@ pub fn add<K: Keeper, I: Source, O: Sink>(
     out: &mut O,
 ) -> (K, Ending)
     ensures { spec.AddEnds result.1
-        (record { before = I.left input.old; after = I.left input.new; faults_before = I.faults input.old; faults_after = I.faults input.new })
-        (record { before = O.taken out.old; after = O.taken out.new; faults_before = O.faults out.old; faults_after = O.faults out.new })
+        (told_of I.left I.faults input.old input.new)
+        (told_of O.taken O.faults out.old out.new)
         (K.store keeper) (K.store result.0) }
 {
     let subscription = match read_subscription(alloc, input) {
@@ -52,7 +53,7 @@ fn add_read<K: Keeper, O: Sink>(
 ) -> (K, Ending)
     requires kept { read_kept subscription.now.name (document_text subscription.now) ≡ Some subscription.now }
     ensures { CallEnds (spec.Adds subscription.now) (named_ending name) (λ _. WroteOut text.now) result.1
-        (record { before = O.taken out.old; after = O.taken out.new; faults_before = O.faults out.old; faults_after = O.faults out.new })
+        (told_of O.taken O.faults out.old out.new)
         (K.store keeper) (K.store result.0) }
 {
     let mut collector = match Collector::start(alloc, keeper) {
@@ -77,10 +78,10 @@ fn telling(name: &SubId) -> Result<(SubId, Text), AllocError>
 /// The subscription of the document that an input is, read to its end; or how the run ends.
 fn read_subscription<I: Source>(alloc: Global, input: &mut I) -> Result<Subscription, Ending>
     ensures ok { IfOk result (λ subscription. spec.HasDocument subscription
-        (record { before = I.left input.old; after = I.left input.new; faults_before = I.faults input.old; faults_after = I.faults input.new })) }
+        (told_of I.left I.faults input.old input.new)) }
     ensures kept { IfOk result (λ subscription. read_kept subscription.name (document_text subscription) ≡ Some subscription) }
     ensures err { IfErr result (λ ending. spec.DocumentEnds ending
-        (record { before = I.left input.old; after = I.left input.new; faults_before = I.faults input.old; faults_after = I.faults input.new })) }
+        (told_of I.left I.faults input.old input.new)) }
 {
     let bytes = match read_whole(alloc, input, INPUT_LIMIT) {
         Ok(bytes) => bytes,

@@ -2,6 +2,7 @@
 
 ghost use Rattle.std.specs.Prelude.{◌≡◌};
 ghost use Rattle.wef_commands.specs.Calling as spec;
+ghost use Rattle.wef_commands.specs.Endings.{told_of};
 
 use crate::ending::Ending;
 use crate::streams::write_whole;
@@ -11,7 +12,7 @@ use wef_collector::CollectorFault;
 /// Writes the text of what is done.
 pub fn write_done<O: Sink>(text: &Text, out: &mut O) -> Ending
     ensures { spec.WroteOut text.now result
-        (record { before = O.taken out.old; after = O.taken out.new; faults_before = O.faults out.old; faults_after = O.faults out.new }) }
+        (told_of O.taken O.faults out.old out.new) }
 {
     match write_whole(out, text.as_str().as_bytes()) {
         Ok(()) => Ending::Done,

@@ -3,6 +3,7 @@
 ghost use Rattle.std.specs.Prelude.{◌≡◌, ◌<◌, [], ◌∷◌, length, IfOk, IfErr};
 ghost use Rattle.wef_commands.specs.Checking as spec;
 ghost use Rattle.wef_commands.specs.Checking.{lines_of};
+ghost use Rattle.wef_commands.specs.Endings.{told_of};
 ghost use Rattle.wef_xml.specs.Good.{IsGoodTree};
 
 use crate::calling::write_done;
@@ -20,8 +21,8 @@ use wef_xml::ToldTree;
 /// may be as long as there is memory for.
 pub fn check<I: Source, O: Sink>(alloc: Global, input: &mut I, out: &mut O) -> Ending
     ensures { spec.CheckEnds result
-        (record { before = I.left input.old; after = I.left input.new; faults_before = I.faults input.old; faults_after = I.faults input.new })
-        (record { before = O.taken out.old; after = O.taken out.new; faults_before = O.faults out.old; faults_after = O.faults out.new }) }
+        (told_of I.left I.faults input.old input.new)
+        (told_of O.taken O.faults out.old out.new) }
 {
     match read_answers(alloc, input) {
         Ok(text) => write_done(&text, out),
@@ -32,9 +33,9 @@ pub fn check<I: Source, O: Sink>(alloc: Global, input: &mut I, out: &mut O) -> E
 /// What is printed for an input, read to its end; or how the run ends.
 fn read_answers<I: Source>(alloc: Global, input: &mut I) -> Result<Text, Ending>
     ensures ok { IfOk result (λ text. spec.HasAnswers text
-        (record { before = I.left input.old; after = I.left input.new; faults_before = I.faults input.old; faults_after = I.faults input.new })) }
+        (told_of I.left I.faults input.old input.new)) }
     ensures err { IfErr result (λ ending. spec.EndsUnanswered ending
-        (record { before = I.left input.old; after = I.left input.new; faults_before = I.faults input.old; faults_after = I.faults input.new })) }
+        (told_of I.left I.faults input.old input.new)) }
 {
     let bytes = match read_whole(alloc, input, usize::MAX) {
         Ok(bytes) => bytes,

@@ -81,7 +81,7 @@ impl Ending {
     pub fn tell<E: Sink>(self, alloc: Global, err: &mut E) -> Ending
         ensures told { spec.IsToldAs self result }
         ensures message { spec.WroteMessage result
-            (record { before = E.taken err.old; after = E.taken err.new; faults_before = E.faults err.old; faults_after = E.faults err.new }) }
+            (spec.told_of E.taken E.faults err.old err.new) }
     {
         if !self.is_made() {
             tell_text(self.fixed_message(), err);
@@ -155,7 +155,7 @@ impl Ending {
 /// Writes a text, or as much of it as the stream takes.
 fn tell_text<E: Sink>(text: &str, err: &mut E)
     ensures { spec.WroteText
-        (record { before = E.taken err.old; after = E.taken err.new; faults_before = E.faults err.old; faults_after = E.faults err.new })
+        (spec.told_of E.taken E.faults err.old err.new)
         text.now }
 {
     let _ = write_whole(err, text.as_bytes());

@@ -4,6 +4,7 @@ ghost use Rattle.std.specs.List.{flat_map};
 ghost use Rattle.std.specs.Prelude.{◌≡◌, ◌++◌, IfOk, IfSome, OnOk};
 ghost use Rattle.wef_collector_reports.specs.Report.{last_row_number};
 ghost use Rattle.wef_collector_rows.specs.Forms.{AreFormed};
+ghost use Rattle.wef_commands.specs.Endings.{told_of};
 ghost use Rattle.wef_commands.specs.Pages as pages;
 ghost use Rattle.wef_commands.specs.Showing as spec;
 ghost use Rattle.wef_keeper.specs.Access as access;
@@ -36,7 +37,7 @@ pub fn events<K: Keeper, O: Sink>(
     out: &mut O,
 ) -> (K, Ending)
     ensures { spec.EventsEnds name source.now channel.now result.1
-        (record { before = O.taken out.old; after = O.taken out.new; faults_before = O.faults out.old; faults_after = O.faults out.new })
+        (told_of O.taken O.faults out.old out.new)
         (K.store keeper) (K.store result.0) }
 {
     let mut keeper = match Collector::start(alloc, keeper) {
@@ -58,7 +59,7 @@ fn write_held<K: Keeper, O: Sink>(
 ) -> Ending
     requires { access.IsReady (K.store keeper.old) }
     ensures { spec.WritesHeld name source.now channel.now result
-        (record { before = O.taken out.old; after = O.taken out.new; faults_before = O.faults out.old; faults_after = O.faults out.new })
+        (told_of O.taken O.faults out.old out.new)
         (K.store keeper.old) (K.store keeper.new) }
 {
     match known_in(keeper, &name) {
@@ -79,9 +80,9 @@ fn write_known<K: Keeper, O: Sink>(
     requires { access.IsReady (K.store keeper.old) }
     ensures reads { access.Reads AreFormed (spec.is_store_failed result) (K.store keeper.old) (K.store keeper.new) }
     ensures wrote { IfSome (K.store keeper.new).rows (λ rows. spec.WroteUpTo (spec.held_text rows name.now source.now channel.now) result
-        (record { before = O.taken out.old; after = O.taken out.new; faults_before = O.faults out.old; faults_after = O.faults out.new })) }
+        (told_of O.taken O.faults out.old out.new)) }
     ensures cause { spec.EndsWriting result
-        (record { before = O.taken out.old; after = O.taken out.new; faults_before = O.faults out.old; faults_after = O.faults out.new }) }
+        (told_of O.taken O.faults out.old out.new) }
 {
     match held_key(name.as_text(), source.as_text(), channel.as_text(), 0) {
         Ok(mut after) => write_behind(alloc, keeper, &mut after, out),
@@ -100,9 +101,9 @@ fn write_behind<K: Keeper, O: Sink>(
     requires { access.IsReady (K.store keeper.old) }
     ensures reads { access.Reads AreFormed (spec.is_store_failed result) (K.store keeper.old) (K.store keeper.new) }
     ensures wrote { IfSome (K.store keeper.new).rows (λ rows. spec.WroteUpTo (pages.rows_text (rows_under Channel after.old rows)) result
-        (record { before = O.taken out.old; after = O.taken out.new; faults_before = O.faults out.old; faults_after = O.faults out.new })) }
+        (told_of O.taken O.faults out.old out.new)) }
     ensures cause { spec.EndsWriting result
-        (record { before = O.taken out.old; after = O.taken out.new; faults_before = O.faults out.old; faults_after = O.faults out.new }) }
+        (told_of O.taken O.faults out.old out.new) }
 {
     loop {
         let page = match formed_page::<CollectorForm, K>(keeper, after, Depth::Channel, PAGE) {
@@ -129,7 +130,7 @@ fn write_behind<K: Keeper, O: Sink>(
 /// Writes the lines of the last page, and `end`.
 fn write_last<O: Sink>(text: Text, out: &mut O) -> Ending
     ensures { pages.WroteLast (text ++ pages.end_line) result
-        (record { before = O.taken out.old; after = O.taken out.new; faults_before = O.faults out.old; faults_after = O.faults out.new }) }
+        (told_of O.taken O.faults out.old out.new) }
 {
     let mut text = text;
     match text.push_str("end\n") {

@@ -1,6 +1,7 @@
 //! `list`: which subscriptions there are.
 
 ghost use Rattle.std.specs.Prelude.{◌≡◌, ◌++◌, IfOk, OnOk};
+ghost use Rattle.wef_commands.specs.Endings.{told_of};
 ghost use Rattle.wef_commands.specs.Listing as spec;
 
 use crate::calling::{store_ending, write_done};
@@ -14,7 +15,7 @@ use wef_keeper::Keeper;
 /// Writes a line for each subscription, live or ended, in the order of their names.
 pub fn list<K: Keeper, O: Sink>(alloc: Global, keeper: K, out: &mut O) -> (K, Ending)
     ensures { spec.ListEnds result.1
-        (record { before = O.taken out.old; after = O.taken out.new; faults_before = O.faults out.old; faults_after = O.faults out.new })
+        (told_of O.taken O.faults out.old out.new)
         (K.store keeper) (K.store result.0) }
 {
     let mut collector = match Collector::start(alloc, keeper) {
@@ -33,7 +34,7 @@ pub fn list<K: Keeper, O: Sink>(alloc: Global, keeper: K, out: &mut O) -> (K, En
 /// Writes the lines of subscriptions, all of them at once.
 fn write_list<O: Sink>(alloc: Global, list: &[Listed], out: &mut O) -> Ending
     ensures { spec.WroteList list.now result
-        (record { before = O.taken out.old; after = O.taken out.new; faults_before = O.faults out.old; faults_after = O.faults out.new }) }
+        (told_of O.taken O.faults out.old out.new) }
 {
     match list_text(alloc, list) {
         Ok(text) => write_done(&text, out),

@@ -1,6 +1,7 @@
 //! `remove`: a subscription is ended.
 
 ghost use Rattle.wef_commands.specs.Calling.{CallEnds, WroteOut, named_ending};
+ghost use Rattle.wef_commands.specs.Endings.{told_of};
 ghost use Rattle.wef_commands.specs.Removing as spec;
 
 use crate::calling::{named_ending, store_ending, write_done};
@@ -14,7 +15,7 @@ use wef_keeper::Keeper;
 /// of memory for it.
 pub fn remove<K: Keeper, O: Sink>(alloc: Global, keeper: K, name: SubId, out: &mut O) -> (K, Ending)
     ensures { spec.RemoveEnds name result.1
-        (record { before = O.taken out.old; after = O.taken out.new; faults_before = O.faults out.old; faults_after = O.faults out.new })
+        (told_of O.taken O.faults out.old out.new)
         (K.store keeper) (K.store result.0) }
 {
     match name_line("ended", &name) {
@@ -32,7 +33,7 @@ fn end<K: Keeper, O: Sink>(
     out: &mut O,
 ) -> (K, Ending)
     ensures { CallEnds (spec.Ends name) (named_ending name) (λ _. WroteOut text.now) result.1
-        (record { before = O.taken out.old; after = O.taken out.new; faults_before = O.faults out.old; faults_after = O.faults out.new })
+        (told_of O.taken O.faults out.old out.new)
         (K.store keeper) (K.store result.0) }
 {
     let mut collector = match Collector::start(alloc, keeper) {

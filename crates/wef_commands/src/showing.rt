@@ -1,5 +1,6 @@
 //! `show`: the report of all that the collector keeps.
 
+ghost use Rattle.wef_commands.specs.Endings.{told_of};
 ghost use Rattle.wef_commands.specs.Showing as spec;
 
 use crate::calling::{store_ending, write_done};
@@ -12,7 +13,7 @@ use wef_keeper::Keeper;
 /// Writes the report, all of it at once.
 pub fn show<K: Keeper, O: Sink>(alloc: Global, keeper: K, out: &mut O) -> (K, Ending)
     ensures { spec.ShowEnds result.1
-        (record { before = O.taken out.old; after = O.taken out.new; faults_before = O.faults out.old; faults_after = O.faults out.new })
+        (told_of O.taken O.faults out.old out.new)
         (K.store keeper) (K.store result.0) }
 {
     let mut collector = match Collector::start(alloc, keeper) {

@@ -2,6 +2,7 @@
 
 ghost use Rattle.std.specs.Prelude.{◌≡◌, ◌≤◌, true, false, None, is_some, IfOk, IfErr, IfSome, OnOk};
 ghost use Rattle.wef_commands.specs.Checking.{lines_of};
+ghost use Rattle.wef_commands.specs.Endings.{told_of};
 ghost use Rattle.wef_commands.specs.Writing as spec;
 ghost use Rattle.wef_replay.specs.Documents.{new_event_in};
 
@@ -28,8 +29,8 @@ pub fn write<K: Keeper, I: Source, O: Sink>(
     out: &mut O,
 ) -> (K, Ending)
     ensures { spec.WriteEnds result.1
-        (record { before = I.left input.old; after = I.left input.new; faults_before = I.faults input.old; faults_after = I.faults input.new })
-        (record { before = O.taken out.old; after = O.taken out.new; faults_before = O.faults out.old; faults_after = O.faults out.new })
+        (told_of I.left I.faults input.old input.new)
+        (told_of O.taken O.faults out.old out.new)
         (K.store keeper) (K.store result.0) }
 {
     match read_events(alloc, input) {
@@ -41,10 +42,10 @@ pub fn write<K: Keeper, I: Source, O: Sink>(
 /// The bytes of an input, read to its end, each line of which says an event; or how the run ends.
 fn read_events<I: Source>(alloc: Global, input: &mut I) -> Result<Bytes, Ending>
     ensures ok { IfOk result (λ bytes. spec.HasEvents (spec.events_of (lines_of bytes))
-        (record { before = I.left input.old; after = I.left input.new; faults_before = I.faults input.old; faults_after = I.faults input.new })) }
+        (told_of I.left I.faults input.old input.new)) }
     ensures good { IfOk result (λ bytes. spec.bad_line bytes ≡ None) }
     ensures err { IfErr result (λ ending. spec.EndsJudging ending
-        (record { before = I.left input.old; after = I.left input.new; faults_before = I.faults input.old; faults_after = I.faults input.new })) }
+        (told_of I.left I.faults input.old input.new)) }
 {
     let bytes = match read_whole(alloc, input, usize::MAX) {
         Ok(bytes) => bytes,
@@ -114,7 +115,7 @@ fn unless_wanting(fault: EventFault) -> Result<(), AllocError>
 fn write_all<K: Keeper, O: Sink>(alloc: Global, keeper: K, text: &[u8], out: &mut O) -> (K, Ending)
     requires { spec.bad_line text.now ≡ None }
     ensures { spec.WritesAll (spec.events_of (lines_of text.now)) result.1
-        (record { before = O.taken out.old; after = O.taken out.new; faults_before = O.faults out.old; faults_after = O.faults out.new })
+        (told_of O.taken O.faults out.old out.new)
         (K.store keeper) (K.store result.0) }
 {
     let mut log = match Log::start(alloc, keeper, LOG_CAPACITY) {
@@ -134,7 +135,7 @@ fn write_lines<K: Keeper, O: Sink>(
 ) -> Ending
     requires { spec.bad_line text.now ≡ None }
     ensures { spec.WroteEvents (spec.events_of (lines_of text.now)) result
-        (record { before = O.taken out.old; after = O.taken out.new; faults_before = O.faults out.old; faults_after = O.faults out.new })
+        (told_of O.taken O.faults out.old out.new)
         (K.store log.old.keeper) (K.store log.new.keeper) }
 {
     let mut rest = text;
@@ -162,7 +163,7 @@ fn write_line<K: Keeper, O: Sink>(
 ) -> Result<(), Ending>
     requires { is_some (new_event_in line.now) ≡ true }
     ensures turn { IfSome (new_event_in line.now) (λ event. spec.TurnsLine number event result
-        (record { before = O.taken out.old; after = O.taken out.new; faults_before = O.faults out.old; faults_after = O.faults out.new })
+        (told_of O.taken O.faults out.old out.new)
         (K.store log.old.keeper) (K.store log.new.keeper)) }
     ensures later { O.faults out.old ≤ O.faults out.new }
 {
@@ -182,7 +183,7 @@ fn write_event<K: Keeper, O: Sink>(
     out: &mut O,
 ) -> Result<(), Ending>
     ensures turn { spec.TurnsLine number event.now result
-        (record { before = O.taken out.old; after = O.taken out.new; faults_before = O.faults out.old; faults_after = O.faults out.new })
+        (told_of O.taken O.faults out.old out.new)
         (K.store log.old.keeper) (K.store log.new.keeper) }
     ensures later { O.faults out.old ≤ O.faults out.new }
 {
@@ -195,7 +196,7 @@ fn write_event<K: Keeper, O: Sink>(
 /// Tells the number of an event that is written; or how the run ends.
 fn tell<O: Sink>(channel: &ChannelName, number: u64, out: &mut O) -> Result<(), Ending>
     ensures told { spec.TellsLine result
-        (record { before = O.taken out.old; after = O.taken out.new; faults_before = O.faults out.old; faults_after = O.faults out.new })
+        (told_of O.taken O.faults out.old out.new)
         (spec.written_line channel.now number) }
     ensures later { O.faults out.old ≤ O.faults out.new }
 {

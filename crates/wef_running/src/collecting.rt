@@ -2,6 +2,7 @@
 
 ghost use Rattle.std.specs.Prelude.{◌≡◌, ◌≤◌, [], ◌++◌, IfOk, OnOk};
 ghost use Rattle.wef_collector_serving.specs.Answers.{known_of};
+ghost use Rattle.wef_commands.specs.Endings.{told_of};
 ghost use Rattle.wef_connections.specs.Opening.{with_address};
 ghost use Rattle.wef_running.specs.Collecting as spec;
 ghost use Rattle.wef_serving.specs.declared.ends.ConnectionEnd.TheVariants as over;
@@ -28,7 +29,7 @@ pub fn collect<K: Keeper, O: Sink, F: Front, C: Clock>(
     clock: &mut C,
 ) -> (K, Ending)
     ensures ends { spec.CollectEnds address.now count result.1
-        (record { before = O.taken out.old; after = O.taken out.new; faults_before = O.faults out.old; faults_after = O.faults out.new })
+        (told_of O.taken O.faults out.old out.new)
         (C.told clock.old) (F.told front.old) (F.told front.new) (K.store keeper) (K.store result.0) }
     ensures clock { C.told clock.new ≡ C.told clock.old }
 {
@@ -66,7 +67,7 @@ fn listen<K: Keeper, O: Sink, F: Front, C: Clock>(
 ) -> Ending
     requires { text.now ≡ spec.listening_line address.now }
     ensures ends { spec.ListeningEnds (C.told clock.old) address.now count result
-        (record { before = O.taken out.old; after = O.taken out.new; faults_before = O.faults out.old; faults_after = O.faults out.new })
+        (told_of O.taken O.faults out.old out.new)
         (F.told front.old) (known_of K.store collector.old) (F.told front.new) (known_of K.store collector.new) }
     ensures clock { C.told clock.new ≡ C.told clock.old }
 {
@@ -87,7 +88,7 @@ fn tell_and_serve<K: Keeper, O: Sink, F: Front, C: Clock>(
     clock: &mut C,
 ) -> Ending
     ensures ends { spec.TellingEnds (C.told clock.old) text.now count result
-        (record { before = O.taken out.old; after = O.taken out.new; faults_before = O.faults out.old; faults_after = O.faults out.new })
+        (told_of O.taken O.faults out.old out.new)
         (F.told front.old) (known_of K.store collector.old) (F.told front.new) (known_of K.store collector.new) }
     ensures clock { C.told clock.new ≡ C.told clock.old }
 {
@@ -107,7 +108,7 @@ fn serve_all<K: Keeper, O: Sink, F: Front, C: Clock>(
     clock: &mut C,
 ) -> Ending
     ensures ends { spec.ServingEnds (C.told clock.old) [] count result
-        (record { before = O.taken out.old; after = O.taken out.new; faults_before = O.faults out.old; faults_after = O.faults out.new })
+        (told_of O.taken O.faults out.old out.new)
         (F.told front.old) (known_of K.store collector.old) (F.told front.new) (known_of K.store collector.new) }
     ensures clock { C.told clock.new ≡ C.told clock.old }
 {
@@ -131,7 +132,7 @@ fn serve_one<K: Keeper, O: Sink, F: Front, C: Clock>(
     clock: &mut C,
 ) -> Result<(), Ending>
     ensures turn { spec.TurnEnds (C.told clock.old) number result
-        (record { before = O.taken out.old; after = O.taken out.new; faults_before = O.faults out.old; faults_after = O.faults out.new })
+        (told_of O.taken O.faults out.old out.new)
         (F.told front.old) (known_of K.store collector.old) (F.told front.new) (known_of K.store collector.new) }
     ensures later { O.faults out.old ≤ O.faults out.new }
     ensures clock { C.told clock.new ≡ C.told clock.old }
@@ -145,7 +146,7 @@ fn serve_one<K: Keeper, O: Sink, F: Front, C: Clock>(
 /// Writes the line of a connection that is over, unless that wanted memory.
 fn tell<O: Sink>(alloc: Global, number: u64, over: ConnectionEnd, out: &mut O) -> Result<(), Ending>
     ensures line { spec.TellsEnd number over result
-        (record { before = O.taken out.old; after = O.taken out.new; faults_before = O.faults out.old; faults_after = O.faults out.new }) }
+        (told_of O.taken O.faults out.old out.new) }
     ensures later { O.faults out.old ≤ O.faults out.new }
 {
     if over == ConnectionEnd::NoMemory {
@@ -159,7 +160,7 @@ fn tell<O: Sink>(alloc: Global, number: u64, over: ConnectionEnd, out: &mut O) -
 
 fn write_line<O: Sink>(line: &Text, out: &mut O) -> Result<(), Ending>
     ensures line { spec.WritesLine line.now result
-        (record { before = O.taken out.old; after = O.taken out.new; faults_before = O.faults out.old; faults_after = O.faults out.new }) }
+        (told_of O.taken O.faults out.old out.new) }
     ensures later { O.faults out.old ≤ O.faults out.new }
 {
     match write_whole(out, line.as_str().as_bytes()) {

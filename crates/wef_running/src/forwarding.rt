@@ -2,6 +2,7 @@
 
 ghost use Rattle.std.specs.Fmt.{decimal};
 ghost use Rattle.std.specs.Prelude.{◌≡◌, ◌≤◌, [], ◌++◌, codes, drop, option_copied, IfOk, OnOk};
+ghost use Rattle.wef_commands.specs.Endings.{told_of};
 ghost use Rattle.wef_commands.specs.Writing.{TellsLine};
 ghost use Rattle.wef_eventing.specs.Addresses.{IsHost};
 ghost use Rattle.wef_running.specs.Forwarding as spec;
@@ -31,7 +32,7 @@ pub fn forward<K: Keeper, O: Sink, L: Link, C: Clock>(
 ) -> (K, Ending)
     requires { IsHost address.now }
     ensures ends { spec.ForwardEnds address.now source deliveries result.1
-        (record { before = O.taken out.old; after = O.taken out.new; faults_before = O.faults out.old; faults_after = O.faults out.new })
+        (told_of O.taken O.faults out.old out.new)
         (C.told clock.old) (L.told link.old) (L.told link.new) (K.store keeper) (K.store result.0) }
     ensures clock { C.told clock.new ≡ C.told clock.old }
 {
@@ -55,7 +56,7 @@ fn ask_and_send<K: Keeper, O: Sink, L: Link, C: Clock>(
 ) -> Ending
     requires { IsHost address.now }
     ensures ends { spec.AsksAndSends (C.told clock.old) address.now source.old.name deliveries result
-        (record { before = O.taken out.old; after = O.taken out.new; faults_before = O.faults out.old; faults_after = O.faults out.new })
+        (told_of O.taken O.faults out.old out.new)
         (record { memory = source.old.memory; store = K.store source.old.keeper; link = L.told link.old })
         (record { memory = source.new.memory; store = K.store source.new.keeper; link = L.told link.new }) }
     ensures clock { C.told clock.new ≡ C.told clock.old }
@@ -77,7 +78,7 @@ fn announce_and_send<K: Keeper, O: Sink, L: Link, C: Clock>(
     clock: &mut C,
 ) -> Ending
     ensures ends { spec.SendsFrom (C.told clock.old) deliveries result
-        (record { before = O.taken out.old; after = O.taken out.new; faults_before = O.faults out.old; faults_after = O.faults out.new })
+        (told_of O.taken O.faults out.old out.new)
         (record { memory = source.old.memory; store = K.store source.old.keeper; link = L.told link.old })
         (record { memory = source.new.memory; store = K.store source.new.keeper; link = L.told link.new }) }
     ensures clock { C.told clock.new ≡ C.told clock.old }
@@ -110,7 +111,7 @@ fn send_all<K: Keeper, O: Sink, L: Link, C: Clock>(
     clock: &mut C,
 ) -> Ending
     ensures ends { spec.SendsAll (C.told clock.old) (record { names = names.now; left = deliveries }) [] result
-        (record { before = O.taken out.old; after = O.taken out.new; faults_before = O.faults out.old; faults_after = O.faults out.new })
+        (told_of O.taken O.faults out.old out.new)
         (record { memory = source.old.memory; store = K.store source.old.keeper; link = L.told link.old })
         (record { memory = source.new.memory; store = K.store source.new.keeper; link = L.told link.new }) }
     ensures clock { C.told clock.new ≡ C.told clock.old }
@@ -171,7 +172,7 @@ fn send_next<K: Keeper, O: Sink, L: Link, C: Clock>(
     clock: &mut C,
 ) -> Result<Exchange, Ending>
     ensures turn { spec.TurnsSession (C.told clock.old) sub.now result
-        (record { before = O.taken out.old; after = O.taken out.new; faults_before = O.faults out.old; faults_after = O.faults out.new })
+        (told_of O.taken O.faults out.old out.new)
         (record { memory = source.old.memory; store = K.store source.old.keeper; link = L.told link.old })
         (record { memory = source.new.memory; store = K.store source.new.keeper; link = L.told link.new }) }
     ensures later { O.faults out.old ≤ O.faults out.new }
@@ -202,7 +203,7 @@ fn unless_gone(answer: Result<Exchange, FrontFault>) -> Result<Exchange, FrontFa
 /// Tells how many sessions there are.
 fn tell_sessions<O: Sink>(alloc: Global, count: u64, out: &mut O) -> Result<(), Ending>
     ensures told { TellsLine result
-        (record { before = O.taken out.old; after = O.taken out.new; faults_before = O.faults out.old; faults_after = O.faults out.new })
+        (told_of O.taken O.faults out.old out.new)
         (spec.subscriptions_line count) }
     ensures later { O.faults out.old ≤ O.faults out.new }
 {
@@ -215,7 +216,7 @@ fn tell_sessions<O: Sink>(alloc: Global, count: u64, out: &mut O) -> Result<(), 
 /// Tells what became of a batch, where there was one.
 fn tell_exchange<O: Sink>(sub: &SubId, exchange: Exchange, out: &mut O) -> Result<(), Ending>
     ensures told { TellsLine result
-        (record { before = O.taken out.old; after = O.taken out.new; faults_before = O.faults out.old; faults_after = O.faults out.new })
+        (told_of O.taken O.faults out.old out.new)
         (spec.line_of (sub.now, exchange)) }
     ensures later { O.faults out.old ≤ O.faults out.new }
 {
@@ -228,7 +229,7 @@ fn tell_exchange<O: Sink>(sub: &SubId, exchange: Exchange, out: &mut O) -> Resul
 /// Writes a line; or says how the run ends.
 fn write_line<O: Sink>(line: &str, out: &mut O) -> Result<(), Ending>
     ensures told { TellsLine result
-        (record { before = O.taken out.old; after = O.taken out.new; faults_before = O.faults out.old; faults_after = O.faults out.new })
+        (told_of O.taken O.faults out.old out.new)
         line.now }
     ensures later { O.faults out.old ≤ O.faults out.new }
 {
