@@ -4,5 +4,6 @@ pub mod FailuresCaused
 pub mod ForwardsCaused
 mod Hosts
 pub mod LinesDone
+mod Named
 pub mod TooLong
 mod Wanting
