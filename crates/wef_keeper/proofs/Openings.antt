@@ -2,7 +2,7 @@
 use Rattle.std.proofs.Common.{◌≡◌, Bool, true, is_some, refl, subst, inl, inr, Option, Some, None, List, [], ◌∷◌, IfSome, OnSome}
 use Rattle.std.specs.List.{AllByRecursion}
 use Rattle.wef_keeper.specs.Access.{Narrows}
-use Rattle.wef_keeper.specs.Keeping.{Store, Stays, KeepsRows, IsOneOf}
+use Rattle.wef_keeper.specs.Keeping.{Store, Stays, KeepsRows, IsLawful, IsOneOf}
 use Rattle.wef_keeper.specs.Rows.{Rows}
 
 -- the first of a list is one of it, and so is one of the rest
@@ -36,5 +36,5 @@ opened_narrow opened None (Some old) now both tells stays = cc
 opened_narrow opened (Some told) (Some old) now both tells stays = stays_narrow (Some old) now (stays tells)
 
 -- a store that isn't opened tells nothing, and an opened one keeps its images
-pub narrows_kept : (before now : Store) → is_some before.images ≡ is_some before.rows → OnSome before.rows (before.opened ≡ true) → KeepsRows before now → Narrows before now
-narrows_kept before now both tells keeps = opened_narrow before.opened before.rows before.images now.images both tells (λ h. (keeps h).1)
+pub narrows_kept : (before now : Store) → IsLawful before → KeepsRows before now → Narrows before now
+narrows_kept before now lawful keeps = opened_narrow before.opened before.rows before.images now.images lawful.both lawful.tells (λ h. (keeps h).1)

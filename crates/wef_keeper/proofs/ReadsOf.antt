@@ -1,7 +1,7 @@
 -- Reads one after the other, and reads of rows that aren't of their form.
 use Rattle.std.proofs.Common.{◌≡◌, ℕ, ◌≤◌, Bool, true, false, refl, ◌∙◌, subst, arith}
 use Rattle.std.specs.List.{AllByRecursion}
-use Rattle.std.specs.Prelude.{Option, Some, None, IfSome, List}
+use Rattle.std.specs.Prelude.{Option, Some, None, IfSome, List, is_some}
 use Rattle.wef_base.specs.Counts.{Rose}
 use Rattle.wef_keeper.specs.Access.{AnyRows, HasOpened, HasRead, OpensAndReads, Reads}
 use Rattle.wef_keeper.specs.Keeping.{IsOneOf, Stays, Store}
@@ -47,6 +47,12 @@ counts_none (Some planned) x y z p q = q ∙ p
 rose_since : (before mid now : ℕ) → before ≤ mid → Rose mid now → Rose before now
 rose_since before mid now below rose = omega arith
 
+-- what isn't told isn't told after reads
+pub untold_still : {X : Type 0} (mid now : Option X) → Stays mid now → is_some mid ≡ false → is_some now ≡ false
+untold_still mid None stays untold = refl
+untold_still None (Some x) stays untold = cc
+untold_still (Some told) (Some x) stays untold = cc
+
 pub opens_reads : (AreFormed : Rows → Type 0) (failed : Bool) (before mid now : Store) → HasOpened before mid → Reads AreFormed failed mid now → OpensAndReads AreFormed failed before now
 opens_reads AreFormed failed before mid now opened reads =
     let read = reads.0 in
@@ -56,7 +62,7 @@ opens_reads AreFormed failed before mid now opened reads =
     let tries = read.3 ∙ opened.1 in
     let plan = read.4 ∙ opened.2 in
     let none = counts_none before.plan before.faults mid.faults now.faults opened.4 (same_plan before.plan mid.plan (now.faults ≡ mid.faults) opened.2 read.6) in (
-      (narrows_still before.images mid.images now.images opened.0 read.2, tries, plan, below, none, (λ _. read.0.0), (λ _. read.0.1)),
+      (narrows_still before.images mid.images now.images opened.0 read.2, tries, plan, below, none, (λ _. read.0.0), (λ _. read.0.1), (λ was untold. untold_still mid.rows now.rows read.1 (opened.7 was untold))),
       (λ fails. told_map now.rows (λ rows. AreFormed rows → Rose mid.faults now.faults) (λ rows. AreFormed rows → Rose before.faults now.faults)
           (λ rows rose formed. rose_since before.faults mid.faults now.faults low (rose formed)) (reads.1 fails)),
       same_plan before.plan mid.plan (IfSome now.rows (λ rows. AreFormed rows → failed ≡ false)) opened.2 reads.2,

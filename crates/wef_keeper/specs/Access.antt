@@ -1,8 +1,8 @@
 -- How an end uses its store: it opens the store, reads, and makes at most one commit.
-use Rattle.std.specs.Prelude.{◌≡◌, ℕ, ◌≤◌, Bool, true, false, ◌⊎◌, not, List, [], ◌∷◌, Some, Result, Ok, Err, IfSome, if◌then◌else◌}
+use Rattle.std.specs.Prelude.{◌≡◌, ℕ, ◌≤◌, Bool, true, false, ◌⊎◌, not, List, [], ◌∷◌, Option, Some, None, Result, Ok, Err, IfSome, if◌then◌else◌}
 use Rattle.std.specs.List.{AllByRecursion}
 use Rattle.wef_base.specs.Counts.{Rose}
-use Rattle.wef_keeper.specs.Keeping.{Store, IsBeforeOrAfter, IsOneOf, Follows, Stays, is_armed, outcome, raised}
+use Rattle.wef_keeper.specs.Keeping.{Store, IsBeforeOrAfter, IsOneOf, Follows, Stays, StaysUntold, is_armed, outcome, raised}
 use Rattle.wef_keeper.specs.Rows.{Rows, applied, is_after}
 use Rattle.wef_keeper.specs.Sections.{is_under}
 use Rattle.wef_keeper.specs.declared.access.StoreFault.{StoreFault}
@@ -70,17 +70,17 @@ Finds before now = IfSome before.images (λ old. IfSome now.rows (IsOneOf old))
 abbrev pub HasOpened : Store → Store → Type 0
 HasOpened before now =
     Narrows before now × (now.tries ≡ before.tries) × (now.plan ≡ before.plan) × (before.faults ≤ now.faults) × CountsNone before now
-    × (before.opened ≡ true → now.opened ≡ true) × (before.doubt ≡ false → now.doubt ≡ false)
+    × (before.opened ≡ true → now.opened ≡ true) × (before.doubt ≡ false → now.doubt ≡ false) × StaysUntold before now
 
 -- a call that opens the store, and then only reads
 abbrev pub OpensAndReads : (Rows → Type 0) → Bool → Store → Store → Type 0
 OpensAndReads AreFormed failed before now = HasOpened before now × HasCause AreFormed failed before now × IsSure AreFormed failed before now
 
--- an opening wants memory only where there is no doubt
-abbrev pub IsRefused : {T : Type 0} → Result T StoreFault → Bool → Type 0
-IsRefused (Ok answer) doubt = Unit {0}
-IsRefused (Err NoMemory) doubt = doubt ≡ false
-IsRefused (Err Failed) doubt = Unit {0}
+-- an opening wants memory only where there is no doubt, and one that fails opens nothing
+abbrev pub IsRefused : {T : Type 0} → Result T StoreFault → Store → Store → Type 0
+IsRefused (Ok answer) before now = Unit {0}
+IsRefused (Err NoMemory) before now = before.doubt ≡ false
+IsRefused (Err Failed) before now = now.opened ≡ before.opened
 
 -- a fact of one of the row maps of a list
 abbrev pub AnyOf : List Rows → (Rows → Type 0) → Type 0
@@ -88,9 +88,14 @@ AnyOf [] Holds = ⊥
 AnyOf (image ∷ []) Holds = Holds image
 AnyOf (image ∷ images) Holds = Holds image ⊎ AnyOf images Holds
 
--- a fact of the rows that a call found and those that it left
+-- a fact of the rows that an opening found: of one of the images, where these were told, and of some rows where they weren't
+abbrev pub AnyFound : Option (List Rows) → (Rows → Type 0) → Type 0
+AnyFound None Holds = (found : Rows) × Holds found
+AnyFound (Some old) Holds = AnyOf old Holds
+
+-- a fact of the rows that a call found and those that it left, where these are told
 abbrev pub From : Store → Store → (Rows → Rows → Type 0) → Type 0
-From before now Holds = IfSome before.images (λ old. IfSome now.rows (λ after. AnyOf old (λ found. Holds found after)))
+From before now Holds = IfSome now.rows (λ after. AnyFound before.images (λ found. Holds found after))
 
 -- whether a list changes nothing
 abbrev pub is_idle : List Change → Bool

@@ -4,7 +4,7 @@ use Rattle.std.specs.Prelude.{◌≡◌, ℕ, ◌≤◌, Bool, true, false, ◌�
 use Rattle.std.specs.List.{AllByRecursion}
 use Rattle.wef_keeper.specs.Access.{AnyOf, Finds, From, HasCause, IsReady, OpensAndReads, is_planned, plan_with, tries_with}
 use Rattle.wef_keeper.specs.Forms.{StayFormed}
-use Rattle.wef_keeper.specs.Keeping.{Store, outcome, raised}
+use Rattle.wef_keeper.specs.Keeping.{Store, StaysUntold, outcome, raised}
 use Rattle.wef_keeper.specs.Rows.{Rows, applied}
 use Rattle.wef_keeper.specs.declared.access.StoreFault.{StoreFault}
 use Rattle.wef_keeper.specs.declared.access.StoreFault.TheVariants.{NoMemory, Failed}
@@ -57,9 +57,15 @@ Answers of_store (Err fault) value effect found after = AnswersFault (of_store f
 abbrev pub MayLeave : {F : Type 0} → (Rows → Effect F) → Rows → Rows → Type 0
 MayLeave effect image found = (image ≡ found) ⊎ Makes (effect found) found image
 
+-- Each image is one that a failed call may leave of rows that it found: of one of the images before it, where these were told, and
+-- else all of them of the same rows.
+abbrev pub AllLeft : {F : Type 0} → Option (List Rows) → (Rows → Effect F) → List Rows → Type 0
+AllLeft None effect images = (found : Rows) × AllByRecursion (λ image. MayLeave effect image found) images
+AllLeft (Some old) effect images = AllByRecursion (λ image. AnyOf old (MayLeave effect image)) images
+
 abbrev pub OnFaultImages : {F : Type 0} → Option StoreFault → (Rows → Effect F) → Store → Store → Type 0
 OnFaultImages (Some NoMemory) effect before now = Unit {0}
-OnFaultImages (Some Failed) effect before now = IfSome before.images (λ old. IfSome now.images (AllByRecursion (λ image. AnyOf old (MayLeave effect image))))
+OnFaultImages (Some Failed) effect before now = IfSome now.images (AllLeft before.images effect)
 OnFaultImages None effect before now = Unit {0}
 
 -- after a failed call each image is one that it may leave
@@ -115,6 +121,8 @@ pub record Did {T F : Type 0} (of_store : OfStore F) (AreFormed : Rows → Type 
   pub planned : IfSome before.plan (λ planned. ByPlan of_store AreFormed planned result (effect found) found after now)
   -- how many commits began
   pub tries : ByTries of_store result (effect found) before.tries now.tries
+  -- but for a failure of the store, rows of their form stay so
+  pub formed : fails of_store result ≡ false → AreFormed found → AreFormed after
 
 -- A call that opens its store and then makes at most one commit. What it does and what it answers is said by the rows
 -- that its opening finds.
@@ -133,6 +141,8 @@ pub record IsCall {T F : Type 0} (of_store : OfStore F) (AreFormed : Rows → Ty
   pub ready : Readied of_store result now
   -- whatever it answers, rows of their form stay so
   pub formed : StayFormed AreFormed before now
+  -- an opened store that tells nothing doesn't begin to
+  pub untold : StaysUntold before now
 
 -- A call that opens its store and then only reads.
 pub record Looks {T F : Type 0} (of_store : OfStore F) (AreFormed : Rows → Type 0) (result : Result T F) (before now : Store) : Type 0 where

@@ -1,5 +1,5 @@
 -- The words of the store contract: what a call of a keeper answers, and what is known of the store before and after it.
-use Rattle.std.specs.Prelude.{◌≡◌, ℕ, ◌+◌, ◌≤◌, Bool, true, false, cond, ◌⊎◌, min, is_some, List, [], ◌∷◌, Option, Some, None, Result, Ok, Err, IfSome}
+use Rattle.std.specs.Prelude.{◌≡◌, ℕ, ◌+◌, ◌≤◌, Bool, true, false, cond, ◌⊎◌, min, is_some, List, [], ◌∷◌, length, Option, Some, None, Result, Ok, Err, IfSome, OnSome}
 use Rattle.std.specs.FinMap as finite
 use Rattle.std.specs.Option.{option_map}
 use Rattle.wef_base.specs.Counts.{Rose}
@@ -166,12 +166,28 @@ abbrev pub stays_in_doubt : {T : Type 0} → Result T KeeperFault → Bool → B
 stays_in_doubt (Ok answer) doubt = false
 stays_in_doubt (Err fault) doubt = doubt
 
+-- whether a store is opened after an opening with this answer
+abbrev pub opened_after : {T : Type 0} → Result T KeeperFault → Bool → Bool
+opened_after (Ok answer) opened = true
+opened_after (Err fault) opened = opened
+
 -- what an opening may answer: out of doubt it is done or fails, and it is never refused for doubt
 abbrev pub Reopens : {T : Type 0} → Result T KeeperFault → Bool → Type 0
 Reopens (Ok answer) doubt = Unit {0}
 Reopens (Err NoMemory) doubt = doubt ≡ false
 Reopens (Err Failed) doubt = Unit {0}
 Reopens (Err InDoubt) doubt = ⊥
+
+-- What holds of every store that a keeper has, by the laws of its trait.
+pub record IsLawful (store : Store) : Type 0 where
+  -- it tells its images where it tells its rows
+  pub both : is_some store.images ≡ is_some store.rows
+  -- it tells only once it is opened
+  pub tells : OnSome store.rows (store.opened ≡ true)
+  -- an opening finds one of at most two images
+  pub few : IfSome store.images (λ left. (1 ≤ length left) × (length left ≤ 2))
+  -- without doubt the rows are the only image
+  pub only : store.doubt ≡ false → IfSome store.images (λ left. WhereTold store.rows (λ stand. left ≡ stand ∷ []))
 
 -- one of the row maps of a list
 abbrev pub IsOneOf : List Rows → Rows → Type 0

@@ -60,7 +60,7 @@ pub fn open<K: Keeper>(keeper: &mut K) -> Result<(), StoreFault>
     ensures found { access.fails result ≡ false → access.Finds (K.store keeper.old) (K.store keeper.new) }
     ensures opened { access.OpensAndReads access.AnyRows (access.fails result) (K.store keeper.old) (K.store keeper.new) }
     ensures fault { access.fails result ≡ true → Rose (K.store keeper.old).faults (K.store keeper.new).faults }
-    ensures refused { access.IsRefused result (K.store keeper.old).doubt }
+    ensures refused { access.IsRefused result (K.store keeper.old) (K.store keeper.new) }
 {
     keeper.reopen()?;
     Ok(())

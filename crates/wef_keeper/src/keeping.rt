@@ -1,8 +1,8 @@
 //! The store contract: what the ends ask of whatever keeps their rows.
 
-ghost use Rattle.std.specs.Prelude.{◌≡◌, if◌then◌else◌, ℕ, ◌≤◌, ◌<◌, true, false, Bool, is_some, length, take, List, [], ◌∷◌, Option, IfOk, IfSome, OnOk, OnErr, OnSome, All};
+ghost use Rattle.std.specs.Prelude.{◌≡◌, if◌then◌else◌, ℕ, ◌≤◌, ◌<◌, true, Bool, length, take, ◌∷◌, [], Option, IfOk, IfSome, OnOk, OnErr, All};
 ghost use Rattle.wef_keeper.specs.Forms.{AreWithin};
-ghost use Rattle.wef_keeper.specs.Keeping.{Store, WhereTold, OfRows, OfImages, StaysOpened, StaysUntold, KeepsRows, IsAsBefore, IsCalm, raised, is_in_doubt, OnFailed, OnRefused, HasFault, counted, row_at, leaves_doubt, tried, IsBeforeOrAfter, FollowsPlan, outcome, plan_after, stays_in_doubt, Reopens, IsOneOf};
+ghost use Rattle.wef_keeper.specs.Keeping.{Store, OfRows, OfImages, StaysOpened, StaysUntold, KeepsRows, IsAsBefore, IsCalm, IsLawful, raised, is_in_doubt, OnFailed, OnRefused, HasFault, counted, row_at, leaves_doubt, tried, IsBeforeOrAfter, FollowsPlan, outcome, plan_after, opened_after, stays_in_doubt, Reopens, IsOneOf};
 ghost use Rattle.wef_keeper.specs.Rows.{Rows, applied, is_after, rows_after};
 ghost use Rattle.wef_keeper.specs.declared.keys.Row as the_row;
 
@@ -105,26 +105,16 @@ pub trait Keeper {
         ensures images { OnErr result (KeepsRows (store self.old) (store self.new)) }
         ensures untold { StaysUntold (store self.old) (store self.new) }
         ensures answers { Reopens result (store self.old).doubt }
-        ensures ready { OnOk result ((store self.new).opened ≡ true) }
         ensures doubt { (store self.new).doubt ≡ stays_in_doubt result (store self.old).doubt }
         ensures tries { (store self.new).tries ≡ (store self.old).tries }
         ensures reads { (store self.new).reads ≡ (store self.old).reads }
         ensures fault { HasFault result (store self.old).faults (store self.new).faults }
         ensures calm { IsCalm result (store self.old) (store self.new) }
         ensures plan { (store self.new).plan ≡ (store self.old).plan }
-        ensures opened { StaysOpened (store self.old) (store self.new) };
+        ensures opened { (store self.new).opened ≡ opened_after result (store self.old).opened };
 
-    // It tells its images where it tells its rows.
-    ghost tells_both: { (k : Self) → is_some (store k).images ≡ is_some (store k).rows };
-
-    // It tells only once it is opened.
-    ghost tells_opened: { (k : Self) → OnSome (store k).rows ((store k).opened ≡ true) };
-
-    // An opening finds one of at most two images.
-    ghost few_images: { (k : Self) → IfSome (store k).images (λ left. (1 ≤ length left) × (length left ≤ 2)) };
-
-    // Without doubt the rows are the only image.
-    ghost no_doubt: { (k : Self) → (store k).doubt ≡ false → IfSome (store k).images (λ left. WhereTold (store k).rows (λ stand. left ≡ stand ∷ [])) };
+    /// What holds of the store at any moment.
+    ghost lawful: { (k : Self) → IsLawful (store k) };
 }
 
 /// Counts a read, which is refused in doubt.

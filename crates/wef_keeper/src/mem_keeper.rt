@@ -103,13 +103,7 @@ impl Keeper for MemKeeper {
       plan = Some k.plan;
     } };
 
-    ghost tells_both = { λ k. refl };
-
-    ghost tells_opened = { λ k. refl };
-
-    ghost few_images = { λ k. Prim.search rules };
-
-    ghost no_doubt = { λ k _. refl };
+    ghost lawful = { λ k. record { both = refl; tells = refl; few = Prim.search rules; only = λ _. refl } };
 
     fn get(&mut self, key: &Key) -> Result<Option<Row>, KeeperFault> {
         begin_read(&mut self.reads, self.in_doubt)?;
