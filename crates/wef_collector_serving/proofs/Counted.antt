@@ -65,16 +65,16 @@ unsure Raised (Some rows) cause never = λ formed. never (cause formed)
 -- ---- connections
 
 answer_counts : (moment : ℕ) (s : KnownCollector) (request : HttpRequest) (answer : Answer) (t : KnownCollector) → Answers moment s request answer t → s.store.faults ≤ t.store.faults
-answer_counts moment s request answer t (heard, hears, is) = steps_count request.host heard.asked moment is.said s.store t.store is.stepped
+answer_counts moment s request answer t ((heard, hears, is), lawful) = steps_count request.host heard.asked moment is.said s.store t.store is.stepped
 
 leaving_counts : (moment : ℕ) (s : KnownCollector) (request : HttpRequest) (t : KnownCollector) → Leaves moment s request t → s.store.faults ≤ t.store.faults
-leaving_counts moment s request t (inl is) = let e : s.store.faults ≡ t.store.faults = ap (λ (c : KnownCollector). c.store.faults) (sym is) in omega arith
-leaving_counts moment s request t (inr (heard, hears, is)) = unanswered_counts request.host heard moment s.ids t.ids s.store t.store is
+leaving_counts moment s request t (inl is, lawful) = let e : s.store.faults ≡ t.store.faults = ap (λ (c : KnownCollector). c.store.faults) (sym is) in omega arith
+leaving_counts moment s request t (inr (heard, hears, is), lawful) = unanswered_counts request.host heard moment s.ids t.ids s.store t.store is
 
 calm : (moment : ℕ) (s : KnownCollector) (request : HttpRequest) (answer : Answer) (t : KnownCollector)
     → Answers moment s request answer t → (Rose s.store.faults t.store.faults → ⊥) → AnswersCalmly moment s request answer t
-calm moment s request answer t (heard, hears, is) never =
-    (heard, hears, (is, λ internal. unsure (Rose s.store.faults t.store.faults) t.store.rows (internal_errors_have_a_cause request.host request.target request.charset request.charset request.body heard moment answer s.ids t.ids s.store t.store hears is internal refl) never))
+calm moment s request answer t ((heard, hears, is), lawful) never =
+    ((heard, hears, (is, λ internal. unsure (Rose s.store.faults t.store.faults) t.store.rows (internal_errors_have_a_cause request.host request.target request.charset request.charset request.body heard moment answer s.ids t.ids s.store t.store hears is internal refl) never)), lawful)
 
 module _ (side : Side) (clock : Option ℕ) where
   answered_counts : (s : KnownCollector) (request : HttpRequest) (answer : Answer) (t : KnownCollector) → AnswersAt clock Answers s request answer t → s.store.faults ≤ t.store.faults

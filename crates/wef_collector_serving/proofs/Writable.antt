@@ -11,7 +11,7 @@ use Rattle.wef_http.specs.declared.messages.HttpRequest.{HttpRequest}
 use Rattle.wef_http_heads.specs.declared.answers.Answer.{Answer}
 use Rattle.wef_ids.specs.declared.MessageId.{MessageId}
 use Rattle.wef_ids.specs.declared.ids.Ids.{Ids}
-use Rattle.wef_keeper.specs.Keeping.{Store}
+use Rattle.wef_keeper.specs.Keeping.{IsLawful, Store}
 use Rattle.wef_serving.specs.Serving.{CanBeWritten}
 use Rattle.wef_collector_serving.specs.Answers.{Answers, KnownCollector, known_of}
 
@@ -24,13 +24,13 @@ said_so ids charset relates (Fault name) = (refl, λ none. cc)
 pub can_be_written :
     {E : Type 0} (moment : ℕ) (s t : KnownCollector) (request : HttpRequest) (result : Result Answer E) →
     IfOk result (λ answer. Answers moment s request answer t) → IfOk result CanBeWritten
-can_be_written moment s t request (Ok answer) (heard, hears, is) = subst CanBeWritten (sym is.written) (said_so s.ids request.charset heard.relates is.said)
+can_be_written moment s t request (Ok answer) ((heard, hears, is), lawful) = subst CanBeWritten (sym is.written) (said_so s.ids request.charset heard.relates is.said)
 can_be_written moment s t request (Err wanting) answered = tt
 
 -- a collector that is as it was is known as it was
 pub left_known :
-    {K T E : Type 0} (store : K → Store) (s t : CollectorState K) (Stepped : Type 0) (result : Result T E) →
-    IfErr result (λ _. (t ≡ s) ⊎ Stepped) → IfErr result (λ _. (known_of store t ≡ known_of store s) ⊎ Stepped)
-left_known store s t Stepped (Ok answer) left = tt
-left_known store s t Stepped (Err wanting) (inl same) = inl (ap (known_of store) same)
-left_known store s t Stepped (Err wanting) (inr stepped) = inr stepped
+    {K T E : Type 0} (store : K → Store) (s t : CollectorState K) (Stepped : Type 0) (result : Result T E) → IsLawful (store t.keeper) →
+    IfErr result (λ _. (t ≡ s) ⊎ Stepped) → IfErr result (λ _. ((known_of store t ≡ known_of store s) ⊎ Stepped) × IsLawful (store t.keeper))
+left_known store s t Stepped (Ok answer) lawful left = tt
+left_known store s t Stepped (Err wanting) lawful (inl same) = (inl (ap (known_of store) same), lawful)
+left_known store s t Stepped (Err wanting) lawful (inr stepped) = (inr stepped, lawful)

@@ -8,9 +8,9 @@ use Rattle.wef_http.specs.declared.messages.HttpRequest.{HttpRequest}
 use Rattle.wef_http_heads.specs.declared.answers.Answer.{Answer}
 use Rattle.wef_http_heads.specs.declared.targets.Side.TheVariants.{Collector}
 use Rattle.wef_ids.specs.declared.ids.Ids.{Ids}
-use Rattle.wef_keeper.specs.Keeping.{Store}
+use Rattle.wef_keeper.specs.Keeping.{IsLawful, Store}
 use Rattle.wef_ports.specs.Telling.{Told}
-use Rattle.wef_serving.specs.Serving.{AnswersAt, LeavesAt}
+use Rattle.wef_serving.specs.Serving.{AnswersAt, LeavesAt, RespondsInTurn}
 use Rattle.wef_serving.specs.Turns.{Ends}
 use Rattle.wef_serving.specs.declared.ends.ConnectionEnd.{ConnectionEnd}
 
@@ -31,15 +31,20 @@ abbrev pub AnswersHeard : ℕ → KnownCollector → HttpRequest → Answer → 
 AnswersHeard moment before request answer now heard =
     IsAnswer request.host heard request.charset moment answer before.ids now.ids before.store now.store
 
--- at a moment a collector answers a request so, and this is the collector then
+-- At a moment a collector answers a request so, and this is the collector then. Its store has the laws of every keeper's.
 abbrev pub Answers : ℕ → KnownCollector → HttpRequest → Answer → KnownCollector → Type 0
-Answers moment before request answer now = Hearing request (AnswersHeard moment before request answer now)
+Answers moment before request answer now = Hearing request (AnswersHeard moment before request answer now) × IsLawful now.store
 
 -- the same where there was no memory for the answer: nothing was done, or what is asked was, without its answer
 abbrev pub Leaves : ℕ → KnownCollector → HttpRequest → KnownCollector → Type 0
 Leaves moment before request now =
-    (now ≡ before) ⊎ Hearing request (λ heard. IsUnanswered request.host heard moment before.ids now.ids before.store now.store)
+    ((now ≡ before) ⊎ Hearing request (λ heard. IsUnanswered request.host heard moment before.ids now.ids before.store now.store)) × IsLawful now.store
 
 -- The present connection of a port was served for a collector, at the moments that a clock tells, and ended so.
 abbrev pub EndsConnection : Option ℕ → Told → KnownCollector → Told → KnownCollector → ConnectionEnd → Type 0
 EndsConnection clock before s now t over = Ends Collector (AnswersAt clock Answers) (LeavesAt clock Leaves) before.coming before s now t over
+
+-- The requests of a connection were answered for a collector, one after the other, at the moments that a clock tells. This holds of
+-- any connection, also where its bytes aren't told.
+abbrev pub AnswersInTurn : Option ℕ → KnownCollector → KnownCollector → Type 0
+AnswersInTurn clock s t = RespondsInTurn (AnswersAt clock Answers) (LeavesAt clock Leaves) s t

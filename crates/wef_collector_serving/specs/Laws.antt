@@ -8,7 +8,7 @@ use Rattle.wef_http.specs.declared.messages.HttpRequest.{HttpRequest}
 use Rattle.wef_http_heads.specs.declared.answers.Answer.{Answer}
 use Rattle.wef_http_heads.specs.declared.targets.Side.{Side}
 use Rattle.wef_ids.specs.declared.FaultName.TheVariants.{InternalError}
-use Rattle.wef_keeper.specs.Keeping.{Store}
+use Rattle.wef_keeper.specs.Keeping.{IsLawful, Store}
 use Rattle.wef_serving.specs.Serving.{AnswersAt, LeavesAt, Serves}
 use Rattle.wef_serving.specs.declared.ends.ConnectionEnd.{ConnectionEnd}
 
@@ -19,7 +19,7 @@ AreUnsure now = IfSome now.rows (λ rows. AreFormed rows → ⊥)
 -- an answer that says that the store failed only where rows aren't told, or aren't of their form
 abbrev pub AnswersCalmly : ℕ → KnownCollector → HttpRequest → Answer → KnownCollector → Type 0
 AnswersCalmly moment before request answer now =
-    Hearing request (λ heard. (is : AnswersHeard moment before request answer now heard) × (is.said ≡ Fault InternalError → AreUnsure now.store))
+    Hearing request (λ heard. (is : AnswersHeard moment before request answer now heard) × (is.said ≡ Fault InternalError → AreUnsure now.store)) × IsLawful now.store
 
 -- a connection that was served with such answers, at the moments that a clock tells
 abbrev pub ServesBy : (ℕ → KnownCollector → HttpRequest → Answer → KnownCollector → Type 0)

@@ -2,7 +2,7 @@
 
 ghost use Rattle.std.specs.Prelude.{◌≡◌, ◌≤◌, IfOk, OnErr, OnOk};
 ghost use Rattle.wef_base.specs.Counts.{Rose};
-ghost use Rattle.wef_collector_serving.specs.Answers.{EndsConnection, known_of};
+ghost use Rattle.wef_collector_serving.specs.Answers.{AnswersInTurn, EndsConnection, known_of};
 ghost use Rattle.wef_connections.specs.Opening.{OnlyFails, Rises, next_connection};
 ghost use Rattle.wef_serving.specs.declared.ends.ConnectionEnd.TheVariants.{PortFailed};
 
@@ -26,6 +26,7 @@ pub fn serve_connection<F: Front, K: Keeper, C: Clock>(
     clock: &mut C,
 ) -> ConnectionEnd
     ensures served { EndsConnection (C.told clock.old) (F.told front.old) (known_of K.store collector.old) (F.told front.new) (known_of K.store collector.new) result }
+    ensures answered { AnswersInTurn (C.told clock.old) (known_of K.store collector.old) (known_of K.store collector.new) }
     ensures around { (F.told front.new).around ≡ (F.told front.old).around }
     ensures later { (F.told front.old).faults ≤ (F.told front.new).faults }
     ensures fault { result ≡ PortFailed → Rose (F.told front.old).faults (F.told front.new).faults }
@@ -44,6 +45,7 @@ pub fn serve_next_connection<F: Front, K: Keeper, C: Clock>(
     clock: &mut C,
 ) -> Result<ConnectionEnd, IoFailed>
     ensures served { IfOk result (EndsConnection (C.told clock.old) (next_connection (F.told front.old)) (known_of K.store collector.old) (F.told front.new) (known_of K.store collector.new)) }
+    ensures answered { OnOk result (AnswersInTurn (C.told clock.old) (known_of K.store collector.old) (known_of K.store collector.new)) }
     ensures around { OnOk result ((F.told front.new).around ≡ (next_connection (F.told front.old)).around) }
     ensures later { (F.told front.old).faults ≤ (F.told front.new).faults }
     ensures fault { IfOk result (λ over. over ≡ PortFailed → Rose (F.told front.old).faults (F.told front.new).faults) }

@@ -1,3 +1,4 @@
+pub mod ByRows
 pub mod CallsMade
 pub mod Checked
 pub mod EventLines

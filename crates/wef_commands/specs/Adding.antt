@@ -1,5 +1,5 @@
 -- How `add` ends.
-use Rattle.std.specs.Prelude.{◌≡◌, ℕ, ◌<◌, List, length, ◌⊎◌, Some, IfSome, IfErr, Result, codes}
+use Rattle.std.specs.Prelude.{◌≡◌, ℕ, List, ◌⊎◌, Some, IfSome, IfErr, Result, codes}
 use Rattle.std.specs.declared.result.Result.TheVariants.{Err}
 use Rattle.std.specs.Io.KnownBytes.{IsAtEnd}
 use Rattle.wef_collector.specs.Calls.{OfAdd, add_effect}
@@ -7,6 +7,8 @@ use Rattle.wef_collector_rows.specs.Faults.{collector_store}
 use Rattle.wef_collector_rows.specs.Forms.{AreFormed}
 use Rattle.wef_collector_rows.specs.declared.faults.CollectorFault.{CollectorFault}
 use Rattle.wef_documents.specs.Bytes.{ReadsDocument, document_in}
+use Rattle.wef_documents.specs.Kept.{read_kept}
+use Rattle.wef_documents.specs.Written.{document_text}
 use Rattle.wef_documents.specs.declared.faults.DocumentFault.TheVariants.{BadDocument, Tree}
 use Rattle.wef_eventing.specs.declared.subscriptions.Subscription.{Subscription}
 use Rattle.wef_keeper.specs.Calls.{IsCall}
@@ -16,7 +18,6 @@ use Rattle.wef_xml.specs.declared.faults.TreeFault.{TreeFault}
 use Rattle.wef_xml.specs.declared.faults.TreeFault.TheVariants as tree
 use Rattle.wef_commands.specs.Calling.{CallEnds, WroteOut, named_ending}
 use Rattle.wef_commands.specs.Endings.{HasFailed, IsUnwritten, Told}
-use Rattle.wef_commands.specs.Streams.{input_limit}
 use Rattle.wef_commands.specs.declared.ending.Ending.{Ending}
 use Rattle.wef_commands.specs.declared.ending.Ending.TheVariants as ends
 
@@ -51,24 +52,28 @@ IsRefused _ bytes = ⊥
 abbrev pub IsReadAs : (List ℕ → Type 0) → Told → Type 0
 IsReadAs Holds input = IsAtEnd input.after × IfSome input.before Holds
 
--- The input is more than is read at most, which is told as the place where that ends.
-abbrev pub IsPastLimit : ℕ → Told → Type 0
-IsPastLimit k input = (k ≡ input_limit) × IfSome input.before (λ bytes. input_limit < length bytes)
+-- The same, where also an input whose bytes aren't told had some of which this holds.
+abbrev pub IsReadAsSome : (List ℕ → Type 0) → Told → Type 0
+IsReadAsSome Holds input = IsReadAs Holds input × ((bytes : List ℕ) × Holds bytes)
 
 -- The input is at its end, and what was read is the document of a subscription.
 abbrev pub HasDocument : Subscription → Told → Type 0
-HasDocument s input = IsReadAs (λ bytes. document_in bytes ≡ Some s) input
+HasDocument s input = IsReadAsSome (λ bytes. document_in bytes ≡ Some s) input
 
 -- Why it ends before the collector is started.
 abbrev pub DocumentEnds : Ending → Told → Type 0
-DocumentEnds (ends.BadPlace k) input = IsReadAs (IsRefused (ends.BadPlace k)) input ⊎ IsPastLimit k input
+DocumentEnds (ends.BadPlace k) input = IsReadAs (IsRefused (ends.BadPlace k)) input
 DocumentEnds (ends.BadElement part) input = IsReadAs (IsRefused (ends.BadElement part)) input
 DocumentEnds ends.InputFailed input = HasFailed input
 DocumentEnds ends.NoMemory input = Unit {0}
 DocumentEnds _ input = ⊥
 
+-- a subscription that is read again from the document that is kept of it
+abbrev pub IsReadAgain : Subscription → Type 0
+IsReadAgain s = read_kept s.name (document_text s) ≡ Some s
+
 -- The document is judged first; only the subscription of a good one is added, and told when it is.
 abbrev pub AddEnds : Ending → Told → Told → Store → Store → Type 0
 AddEnds ending input out before now =
     (DocumentEnds ending input × IsUnwritten out × (now ≡ before))
-    ⊎ ((s : Subscription) × HasDocument s input × CallEnds (Adds s) (named_ending s.name) (λ _. WroteOut (added_text s.name)) ending out before now)
+    ⊎ ((s : Subscription) × HasDocument s input × IsReadAgain s × CallEnds (Adds s) (named_ending s.name) (λ _. WroteOut (added_text s.name)) ending out before now)

@@ -9,15 +9,15 @@ use Rattle.wef_collector_rows.specs.declared.faults.CollectorFault.{CollectorFau
 use Rattle.wef_collector_rows.specs.declared.faults.CollectorFault.TheVariants as faults
 use Rattle.wef_ids.specs.declared.ids.Ids.{Ids}
 use Rattle.wef_keeper.specs.Calls.{IsCall}
-use Rattle.wef_keeper.specs.Keeping.{Store}
+use Rattle.wef_keeper.specs.Keeping.{IsLawful, Store}
 use Rattle.wef_commands.specs.Endings.{HasFailed, IsUnwritten, Told}
 use Rattle.wef_commands.specs.Streams.{WritesPart}
 use Rattle.wef_commands.specs.declared.ending.Ending.{Ending}
 use Rattle.wef_commands.specs.declared.ending.Ending.TheVariants as ends
 
--- what starting the collector does to its store: its boot number rises
+-- what starting the collector does to its store: its boot number rises; and the store has the laws of every keeper's
 abbrev pub Starts : Result Ids CollectorFault → Store → Store → Type 0
-Starts done before now = IsCall collector_store AreFormed boot_effect ids_begun done before now × IfErr done OfStart
+Starts done before now = IsCall collector_store AreFormed boot_effect ids_begun done before now × IfErr done OfStart × IsLawful now
 
 -- A call of a collector that was started just before.
 pub record Started (Call : Store → Store → Type 0) (before now : Store) : Type 0 where

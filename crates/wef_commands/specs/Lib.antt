@@ -2,6 +2,7 @@ pub mod Adding
 pub mod Calling
 pub mod Checking
 pub mod Endings
+pub mod Laws
 pub mod Listing
 pub mod Pages
 pub mod Removing

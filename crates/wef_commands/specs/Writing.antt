@@ -10,14 +10,14 @@ use Rattle.wef_event.specs.declared.records.EventFault.{EventFault}
 use Rattle.wef_event.specs.declared.records.EventFault.TheVariants as events
 use Rattle.wef_keeper.specs.Access.{From}
 use Rattle.wef_keeper.specs.Calls.{IsCall}
-use Rattle.wef_keeper.specs.Keeping.{Store}
+use Rattle.wef_keeper.specs.Keeping.{IsLawful, Store}
 use Rattle.wef_replay.specs.Documents.{new_event_in}
 use Rattle.wef_source_log.specs.Answers.{ExtendsHistory, RefusesStart, next_boot, next_number, start_effect, write_effect}
 use Rattle.wef_source_log.specs.Faults.{log_store}
 use Rattle.wef_source_log.specs.Forms.{AreFormed}
 use Rattle.wef_source_log.specs.declared.faults.LogFault.{LogFault}
 use Rattle.wef_source_log.specs.declared.faults.LogFault.TheVariants as faults
-use Rattle.wef_commands.specs.Adding.{IsReadAs}
+use Rattle.wef_commands.specs.Adding.{IsReadAs, IsReadAsSome}
 use Rattle.wef_commands.specs.Checking.{lines_of}
 use Rattle.wef_commands.specs.Endings.{HasFailed, IsUnwritten, Told}
 use Rattle.wef_commands.specs.declared.ending.Ending.{Ending}
@@ -41,15 +41,17 @@ events_of lines = filter_map new_event_in lines
 
 -- ---- what is done to the log
 
--- starting the log, whose first start keeps the capacity
+-- starting the log, whose first start keeps the capacity; and its store has the laws of every keeper's
 abbrev pub StartsLog : Result ℕ LogFault → Store → Store → Type 0
-StartsLog done before now = IsCall log_store AreFormed (λ found. start_effect found LOG_CAPACITY) next_boot done before now × IfErr done RefusesStart
+StartsLog done before now = IsCall log_store AreFormed (λ found. start_effect found LOG_CAPACITY) next_boot done before now × IfErr done RefusesStart × IsLawful now
 
--- writing an event as the next record of its channel; where the rows are the window of histories, they are that of the longer ones
+-- writing an event as the next record of its channel; where the rows are the window of histories, they are that of the longer ones;
+-- and the store has the laws of every keeper's
 abbrev pub WritesEvent : Event → Result ℕ LogFault → Store → Store → Type 0
 WritesEvent event done before now =
     IsCall log_store AreFormed (λ found. write_effect found event) (λ found. next_number found event) done before now
     × From before now (λ found after. IfOk done (ExtendsHistory found after event))
+    × IsLawful now
 
 -- These events were written, one after the other, and these are their numbers.
 abbrev pub Wrote : List Event → List ℕ → Store → Store → Type 0
@@ -85,7 +87,7 @@ EndsJudging _ input = ⊥
 
 -- The input is at its end, and each of its lines says an event; these are the events.
 abbrev pub HasEvents : List Event → Told → Type 0
-HasEvents events input = IsReadAs (λ bytes. (bad_line bytes ≡ None) × (events_of (lines_of bytes) ≡ events)) input
+HasEvents events input = IsReadAsSome (λ bytes. (bad_line bytes ≡ None) × (events_of (lines_of bytes) ≡ events)) input
 
 -- the ending that tells why the log isn't started
 abbrev pub log_ending : LogFault → Ending

@@ -10,7 +10,7 @@ ghost use Rattle.wef_documents.specs.Written.{document_text};
 
 use crate::calling::{named_ending, store_ending, write_done};
 use crate::ending::{Ending, name_line};
-use crate::streams::{INPUT_LIMIT, InputFault, read_whole};
+use crate::streams::{InputFault, read_whole};
 use std::alloc::{AllocError, Global};
 use wef_base::{Sink, Source, SubId, Text};
 use wef_collector::Collector;
@@ -20,7 +20,7 @@ use wef_keeper::Keeper;
 use wef_xml::TreeFault;
 
 /// Adds the subscription of a document, and tells so. The document is read and judged before the
-/// collector is started.
+/// collector is started, and may be as long as there is memory for it.
 pub fn add<K: Keeper, I: Source, O: Sink>(
     alloc: Global,
     keeper: K,
@@ -83,11 +83,10 @@ fn read_subscription<I: Source>(alloc: Global, input: &mut I) -> Result<Subscrip
     ensures err { IfErr result (λ ending. spec.DocumentEnds ending
         (told_of I.left I.faults input.old input.new)) }
 {
-    let bytes = match read_whole(alloc, input, INPUT_LIMIT) {
+    let bytes = match read_whole(alloc, input, usize::MAX) {
         Ok(bytes) => bytes,
-        Err(InputFault::NoMemory) => return Err(Ending::NoMemory),
+        Err(InputFault::NoMemory | InputFault::TooLong) => return Err(Ending::NoMemory),
         Err(InputFault::Failed) => return Err(Ending::InputFailed),
-        Err(InputFault::TooLong) => return Err(Ending::BadPlace(INPUT_LIMIT)),
     };
     subscription_in(alloc, bytes.as_slice())
 }

@@ -22,7 +22,7 @@ pub enum Ending {
     /// The schedule, or what is checked, has more than 16 MiB.
     TooLong,
     /// The bytes are no document of XML, by what stands at this place, counted in bytes from the start
-    /// of the input; or they are more than 16 MiB, and this is where those end.
+    /// of the input.
     BadPlace(usize),
     /// The document is none of a subscription: this element isn't there, or isn't good.
     BadElement(Part),

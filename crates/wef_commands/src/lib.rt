@@ -7,6 +7,7 @@ mod calling;
 mod checking;
 mod ending;
 pub mod events;
+pub mod laws;
 mod listing;
 mod removing;
 mod showing;

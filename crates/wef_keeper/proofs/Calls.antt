@@ -104,6 +104,7 @@ left_images {F = F} effect changes images (Some found) (Some all) finds follows 
   where
     may_leave : (image : Rows) → (image ≡ found) ⊎ (image ≡ applied changes found) → MayLeave effect image found
     may_leave image either = elim either [ inl is ↦ inl is | inr is ↦ inr (subst (λ (e : Effect F). Makes e found image) (sym made) is) ]
+
     by : (images : Option (List Rows)) → IfSome images (λ old. IsOneOf old found) → AllLeft images effect all
     by None one = (found, all_weaker (IsBeforeOrAfter changes found) (λ image. MayLeave effect image found) may_leave all follows)
     by (Some old) one = all_weaker (IsBeforeOrAfter changes found) (λ image. AnyOf old (MayLeave effect image)) (λ image either. any_of (MayLeave effect image) old found one (may_leave image either)) all follows

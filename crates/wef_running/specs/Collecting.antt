@@ -6,7 +6,7 @@ use Rattle.std.specs.List.{AllByRecursion}
 use Rattle.std.specs.Io.KnownBytes.{Appends}
 use Rattle.wef_base.specs.Counts.{Rose}
 use Rattle.wef_collector_rows.specs.declared.faults.CollectorFault.{CollectorFault}
-use Rattle.wef_collector_serving.specs.Answers.{EndsConnection, KnownCollector}
+use Rattle.wef_collector_serving.specs.Answers.{AnswersInTurn, EndsConnection, KnownCollector}
 use Rattle.wef_connections.specs.Opening.{OnlyFails, Rises, next_connection, with_address}
 use Rattle.wef_ids.specs.declared.ids.Ids.{Ids}
 use Rattle.wef_keeper.specs.Keeping.{Store}
@@ -48,6 +48,8 @@ lines_from number (e ∷ es) = connection_line number e ++ lines_from (suc numbe
 -- The next connection of a front was served for a collector, and ended so: the front and the collector before it and behind it.
 pub record IsServed (clock : Option ℕ) (f : ports.Told) (s : KnownCollector) (g : ports.Told) (t : KnownCollector) (e : ConnectionEnd) : Type 0 where
   pub ends : EndsConnection clock (next_connection f) s g t e
+  -- whatever came, its requests were answered one after the other
+  pub answered : AnswersInTurn clock s t
   pub around : g.around ≡ (next_connection f).around
   -- the front's count of faults doesn't fall, and where the connection failed it rose
   pub later : f.faults ≤ g.faults

@@ -12,7 +12,7 @@ use Rattle.wef_forwarding.specs.declared.forwarding.Exchange.{Exchange}
 use Rattle.wef_forwarding.specs.declared.forwarding.Exchange.TheVariants.{Nothing, Acked, Refused, Lost}
 use Rattle.wef_keeper.specs.Access.{OpensAndReads}
 use Rattle.wef_keeper.specs.Calls.{IsCall, fails}
-use Rattle.wef_keeper.specs.Keeping.{Store}
+use Rattle.wef_keeper.specs.Keeping.{IsLawful, Store}
 use Rattle.wef_ports.specs.Telling as ports
 use Rattle.wef_source.specs.Answers.{RefusesStart}
 use Rattle.wef_source.specs.Calls.{start_effect}
@@ -102,6 +102,8 @@ pub record IsSent (clock : Option ℕ) (u : List ℕ) (result : Result Exchange 
   pub forwards : Forwards now.store.rows before.memory now.memory u moment before.link now.link answer
   pub reads : OpensAndReads AreFormed (fails source_store (refusal_of answer)) before.store now.store
   pub result_is : result ≡ unless_gone answer
+  -- the store has the laws of every keeper's
+  pub lawful : IsLawful now.store
 
 -- These were sent, one after the other, each by the session that was next.
 abbrev pub AreSent : Option ℕ → Plan → List (List ℕ × Exchange) → Running → Running → Type 0
@@ -173,9 +175,9 @@ AsksAndSends clock address s deliveries ending out before now =
     ((fault : FrontFault) × IsAsked clock address s (Err fault) before now × (ending ≡ front_ending fault) × IsUnwritten out)
     ⊎ ((count : Option ℕ) × (mid : Running) × IsAsked clock address s (Ok count) before mid × SendsFrom clock deliveries ending out mid now)
 
--- starting a source, whose first start keeps the capacity
+-- starting a source, whose first start keeps the capacity; and its store has the laws of every keeper's
 abbrev pub StartsSource : Result ℕ SourceFault → Store → Store → Type 0
-StartsSource done before now = IsCall source_store AreFormed (λ found. start_effect found LOG_CAPACITY) next_boot done before now
+StartsSource done before now = IsCall source_store AreFormed (λ found. start_effect found LOG_CAPACITY) next_boot done before now × IsLawful now
 
 -- The source can't be started, and the link is as it was.
 abbrev pub IsNotStarted : Ending → Told → ports.Told → ports.Told → Store → Store → Type 0

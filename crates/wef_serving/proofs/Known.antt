@@ -5,7 +5,7 @@ use Rattle.wef_http.specs.declared.messages.HttpRequest.{HttpRequest}
 use Rattle.wef_http_heads.specs.declared.answers.Answer.{Answer}
 use Rattle.wef_http_heads.specs.declared.targets.Side.{Side}
 use Rattle.wef_ports.specs.Telling.{Told}
-use Rattle.wef_serving.specs.Serving.{Serves}
+use Rattle.wef_serving.specs.Serving.{Responds, RespondsInTurn, Serves, to_none, to_one_more}
 use Rattle.wef_serving.specs.Serving.{finishes, cuts, refuses, closes, goes_on, breaks, refuses_part, answers_part, leaves}
 use Rattle.wef_serving.specs.Turns.{Ends}
 use Rattle.wef_serving.specs.declared.ends.ConnectionEnd.{ConnectionEnd}
@@ -33,6 +33,14 @@ module _ {S K : Type 0} (known : S → K) (side : Side) (Answers : K → HttpReq
   serves_known (refuses_part bytes s e status n is told) = refuses_part bytes (known s) e status n is told
   serves_known (answers_part bytes rest s t request answer n is answers) = answers_part bytes rest (known s) (known t) request answer n is answers
   serves_known (leaves bytes rest s t request is leaving) = leaves bytes rest (known s) (known t) request is (left s request t leaving)
+
+  responds_known : (s t : S) → Responds AnswersOf LeavesOf s t → Responds Answers Leaves (known s) (known t)
+  responds_known s t (request, responds) = (request, left s request t responds)
+
+  -- and what became of it is so of what is known of it
+  pub in_turn_known : {s t : S} → RespondsInTurn AnswersOf LeavesOf s t → RespondsInTurn Answers Leaves (known s) (known t)
+  in_turn_known (to_none s) = to_none (known s)
+  in_turn_known (to_one_more s t u before here) = to_one_more (known s) (known t) (known u) (in_turn_known before) (responds_known t u here)
 
   pub ends_known : (ahead : Option (List ℕ)) (before : Told) (s : S) (now : Told) (t : S) (e : ConnectionEnd)
       → Ends side AnswersOf LeavesOf ahead before s now t e → Ends side Answers Leaves ahead before (known s) now (known t) e

@@ -1,5 +1,5 @@
 -- Turns of a connection, put one behind the other.
-use Rattle.std.proofs.Common.{◌≡◌, inl, inr, ℕ, Bool, true, false, refl, List, [], ◌++◌, take, sym, subst, append_assoc, arith, Option, Some, None, Result}
+use Rattle.std.proofs.Common.{◌≡◌, ◌⊎◌, inl, inr, ℕ, Bool, true, false, refl, List, [], ◌++◌, take, sym, subst, append_assoc, arith, Option, Some, None, Result}
 use Rattle.std.proofs.KnownBytes.{Appends-nil, Appends-trans}
 use Rattle.std.specs.Prelude.{IfSome}
 use Rattle.std.specs.declared.result.Result.TheVariants.{Ok, Err}
@@ -15,7 +15,7 @@ use Rattle.wef_http_heads.specs.declared.ends.HttpEnd.TheVariants as http
 use Rattle.wef_http_heads.specs.declared.targets.Side.{Side}
 use Rattle.wef_http_writing.specs.Sending.{Sends}
 use Rattle.wef_ports.specs.Telling.{Told}
-use Rattle.wef_serving.specs.Serving.{Serves, refusal_with, response_to}
+use Rattle.wef_serving.specs.Serving.{Responds, RespondsInTurn, Serves, refusal_with, response_to, to_one_more}
 use Rattle.wef_serving.specs.Serving.{finishes, cuts, refuses, closes, goes_on, breaks, refuses_part, answers_part, leaves}
 use Rattle.wef_serving.specs.Turns.{Continues, Ends, HasAnswered, HasRefused, Turns}
 use Rattle.wef_serving.specs.declared.ends.ConnectionEnd.{ConnectionEnd}
@@ -46,6 +46,25 @@ by_bytes http.TooLarge status told = blames_bytes http.TooLarge refl
 by_bytes http.Media status told = blames_bytes http.Media refl
 by_bytes http.Cut status told = blames_bytes http.Cut refl
 by_bytes http.ReadFault status told = absurd (grind (arith, told))
+
+-- ---- what becomes of the end
+
+module _ {S : Type 0} (Answers : S → HttpRequest → Answer → S → Type 0) (Leaves : S → HttpRequest → S → Type 0) where
+  pub responds : (request : HttpRequest) (y z : Told) (s t : S) (r : Result Unit ConnectionEnd) → HasAnswered Answers Leaves request y s z t r → (t ≡ s) ⊎ Responds Answers Leaves s t
+  responds request y z s t (Ok done) has = inr (request, inr (has.1, has.2))
+  responds request y z s t (Err over.Closed) has = inr (request, inr (has.1, has.2))
+  responds request y z s t (Err over.PortFailed) has = inr (request, inr (has.0, has.1))
+  responds request y z s t (Err over.NoMemory) has = inr (request, has.1)
+  responds request y z s t (Err over.End) has = absurd has
+  responds request y z s t (Err over.Cut) has = absurd has
+  responds request y z s t (Err (over.Refused status)) has = absurd has
+
+  -- a turn behind those before it
+  pub in_turn : (s t u : S) → RespondsInTurn Answers Leaves s t → (u ≡ t) ⊎ Responds Answers Leaves t u → RespondsInTurn Answers Leaves s u
+  in_turn s t u before (inl same) = subst (RespondsInTurn Answers Leaves s) (sym same) before
+  in_turn s t u before (inr here) = to_one_more s t u before here
+
+-- ---- turns
 
 module _ {S : Type 0} (side : Side) (Answers : S → HttpRequest → Answer → S → Type 0) (Leaves : S → HttpRequest → S → Type 0) where
   pub begin : (coming : Option (List ℕ)) (now : Told) (s : S) → Continues side Answers Leaves coming now s (prepend_known [] coming) now s

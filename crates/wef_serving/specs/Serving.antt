@@ -71,6 +71,15 @@ pub data Serves {S : Type 0} (side : Side) (Answers : S → HttpRequest → Answ
   leaves : (bytes rest : List ℕ) (s t : S) (request : HttpRequest) → IsRequest side bytes request rest → Leaves s request t ⊎ ((answer : Answer) × Answers s request answer t)
       → Serves side Answers Leaves bytes s [] t over.NoMemory
 
+-- What becomes of an end by one request, whatever the bytes that it came in: it is answered, or there is no memory for its answer.
+abbrev pub Responds : {S : Type 0} → (S → HttpRequest → Answer → S → Type 0) → (S → HttpRequest → S → Type 0) → S → S → Type 0
+Responds Answers Leaves s t = (request : HttpRequest) × (Leaves s request t ⊎ ((answer : Answer) × Answers s request answer t))
+
+-- What becomes of it by any number of them, one after the other.
+pub data RespondsInTurn {S : Type 0} (Answers : S → HttpRequest → Answer → S → Type 0) (Leaves : S → HttpRequest → S → Type 0) : S → S → Type 0 where
+  to_none : (s : S) → RespondsInTurn Answers Leaves s s
+  to_one_more : (s t u : S) → RespondsInTurn Answers Leaves s t → Responds Answers Leaves t u → RespondsInTurn Answers Leaves s u
+
 -- how a connection ends where no request is read, for this
 abbrev pub ending_of : Option ℕ → HttpEnd → ConnectionEnd
 ending_of (Some status) e = over.Refused status

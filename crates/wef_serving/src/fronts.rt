@@ -3,7 +3,7 @@
 ghost use Rattle.std.specs.Prelude.{◌≡◌, ◌≤◌, IfOk, OnErr, OnOk};
 ghost use Rattle.wef_base.specs.Counts.{Rose};
 ghost use Rattle.wef_connections.specs.Opening.{OnlyFails, Rises, next_connection};
-ghost use Rattle.wef_serving.specs.Serving.{AnswersAt, LeavesAt};
+ghost use Rattle.wef_serving.specs.Serving.{AnswersAt, LeavesAt, RespondsInTurn};
 ghost use Rattle.wef_serving.specs.Turns.{Ends};
 ghost use Rattle.wef_serving.specs.declared.ends.ConnectionEnd.TheVariants.{PortFailed};
 
@@ -27,6 +27,7 @@ pub fn serve_next<F: Front, E, A: Answering<E>, C: Clock>(
     clock: &mut C,
 ) -> Result<ConnectionEnd, IoFailed>
     ensures served { IfOk result (Ends side (AnswersAt (C.told clock.old) A.answers) (LeavesAt (C.told clock.old) A.leaves) (next_connection (F.told front.old)).coming (next_connection (F.told front.old)) end.old (F.told front.new) end.new) }
+    ensures responded { OnOk result (RespondsInTurn (AnswersAt (C.told clock.old) A.answers) (LeavesAt (C.told clock.old) A.leaves) end.old end.new) }
     ensures around { OnOk result ((F.told front.new).around ≡ (next_connection (F.told front.old)).around) }
     ensures later { (F.told front.old).faults ≤ (F.told front.new).faults }
     ensures fault { IfOk result (λ over. over ≡ PortFailed → Rose (F.told front.old).faults (F.told front.new).faults) }

@@ -7,7 +7,7 @@ ghost use Rattle.wef_http_heads.specs.Fields.{is_host};
 ghost use Rattle.wef_http_heads.specs.declared.ends.HttpEnd.TheVariants.{ReadFault};
 ghost use Rattle.wef_http_writing.specs.Messages.{is_refusal};
 ghost use Rattle.wef_ports.specs.Telling.{OnlyWrites};
-ghost use Rattle.wef_serving.specs.Serving.{AnswersAt, LeavesAt};
+ghost use Rattle.wef_serving.specs.Serving.{AnswersAt, LeavesAt, Responds};
 ghost use Rattle.wef_serving.specs.Turns.{HasAnswered, HasRefused, SendsRefusal, Turns};
 ghost use Rattle.wef_serving.specs.declared.ends.ConnectionEnd.TheVariants.{PortFailed};
 
@@ -31,6 +31,7 @@ pub fn serve_one<P: Port, E, A: Answering<E>, C: Clock>(
     clock: &mut C,
 ) -> Result<(), ConnectionEnd>
     ensures turn { Turns side (AnswersAt (C.told clock.old) A.answers) (LeavesAt (C.told clock.old) A.leaves) (ahead rest.old (P.told port.old)) (P.told port.old) end.old (ahead rest.new (P.told port.new)) (P.told port.new) end.new result }
+    ensures responded { (end.new ≡ end.old) ⊎ Responds (AnswersAt (C.told clock.old) A.answers) (LeavesAt (C.told clock.old) A.leaves) end.old end.new }
     ensures reach { IfOk result (λ _. reach rest.new (P.told port.new) < reach rest.old (P.told port.old)) }
     ensures around { (P.told port.new).around ≡ (P.told port.old).around }
     ensures later { (P.told port.old).faults ≤ (P.told port.new).faults }

@@ -3,8 +3,8 @@ use Rattle.std.proofs.Common.{◌≡◌, true, false, refl, ap, subst, inl, inr}
 use Rattle.std.specs.List.{AllByRecursion}
 use Rattle.std.specs.Prelude.{Option, Some, None, Result, Ok, Err, IfOk, IfSome, OnOk, List, [], ◌∷◌}
 use Rattle.wef_base.specs.Counts.{Rose}
-use Rattle.wef_keeper.specs.Access.{AnyOf, OpensAndReads, is_planned, plan_with, tries_with}
-use Rattle.wef_keeper.specs.Calls.{AnswersFault, Did, Effect, FaultByPlan, FaultByTries, FaultReadied, IsCall, Looks, Makes, MayLeave, OnFaultImages, WhereMade, is_failure}
+use Rattle.wef_keeper.specs.Access.{AnyOf, From, OpensAndReads, is_planned, plan_with, tries_with}
+use Rattle.wef_keeper.specs.Calls.{AllLeft, AnswersFault, Did, Effect, FaultByPlan, FaultByTries, FaultReadied, IsCall, Looks, Makes, MayLeave, OnFaultImages, WhereMade, is_failure}
 use Rattle.wef_keeper.specs.Keeping.{IsOneOf, Store, outcome}
 use Rattle.wef_keeper.specs.Rows.{Rows}
 use Rattle.wef_keeper.specs.declared.access.StoreFault.{StoreFault}
@@ -63,12 +63,19 @@ leave_all : (effect : Rows → Effect LogFault) (old left : List Rows) → AllBy
 leave_all effect old [] all = tt
 leave_all effect old (image ∷ left) all = (leave_any effect image old all.0, leave_all effect old left all.1)
 
+all_leave : (effect : Rows → Effect LogFault) (found : Rows) (left : List Rows) → AllByRecursion (λ image. MayLeave effect image found) left
+    → AllByRecursion (λ image. MayLeave (λ rows. source_answer (effect rows)) image found) left
+all_leave effect found [] all = tt
+all_leave effect found (image ∷ left) all = (leave effect image found all.0, all_leave effect found left all.1)
+
+left_of : (effect : Rows → Effect LogFault) (images : Option (List Rows)) (left : List Rows) → AllLeft images effect left → AllLeft images (λ rows. source_answer (effect rows)) left
+left_of effect None left all = (all.0, all_leave effect all.0 left all.1)
+left_of effect (Some old) left all = leave_all effect old left all
+
 images : (kind : Option StoreFault) (effect : Rows → Effect LogFault) (before now : Store) → OnFaultImages kind effect before now → OnFaultImages kind (λ rows. source_answer (effect rows)) before now
 images (Some store.NoMemory) effect before now holds = tt
 images (Some store.Failed) effect before now holds =
-    told_map before.images (λ old. IfSome now.images (AllByRecursion (λ image. AnyOf old (MayLeave effect image))))
-    (λ old. IfSome now.images (AllByRecursion (λ image. AnyOf old (MayLeave (λ rows. source_answer (effect rows)) image))))
-    (λ old. told_map now.images (AllByRecursion (λ image. AnyOf old (MayLeave effect image))) (AllByRecursion (λ image. AnyOf old (MayLeave (λ rows. source_answer (effect rows)) image))) (leave_all effect old)) holds
+    told_map now.images (AllLeft before.images effect) (AllLeft before.images (λ rows. source_answer (effect rows))) (left_of effect before.images) holds
 images None effect before now holds = tt
 
 -- ---- a call
@@ -82,6 +89,7 @@ did effect value (Ok answer) before now found after done = record {
       (λ planned. WhereMade (source_answer (effect found)) (λ changes. (is_planned changes planned ≡ true) × (now.plan ≡ Some (plan_with changes planned))))
       (λ planned. made (effect found) (λ changes. (is_planned changes planned ≡ true) × (now.plan ≡ Some (plan_with changes planned)))) done.planned;
   tries = made (effect found) (λ changes. now.tries ≡ tries_with changes before.tries) done.tries;
+  formed = done.formed;
 }
 did effect value (Err fault) before now found after done =
     let given = source_answer (effect found) in
@@ -91,10 +99,11 @@ did effect value (Err fault) before now found after done =
           (told_map before.plan (λ planned. FaultByPlan (log_store fault) AreFormed planned (effect found) found after now) (λ planned. FaultByPlan (log_store fault) AreFormed planned given found after now)
           (λ planned. by_plan (log_store fault) planned (effect found) found after now) done.planned);
       tries = subst (λ (kind : Option StoreFault). FaultByTries kind before.tries now.tries) (one_store fault) done.tries;
+      formed = subst (λ (kind : Option StoreFault). is_failure kind ≡ false → AreFormed found → AreFormed after) (one_store fault) done.formed;
     }
 
 did_from : {T : Type 0} (effect : Rows → Effect LogFault) (value : Rows → T) (answer : Result T LogFault) (before now : Store) → IsCall log_store AreFormed effect value answer before now
-    → IfSome before.images (λ old. IfSome now.rows (λ after. AnyOf old (λ found. Did source_store AreFormed (λ rows. source_answer (effect rows)) value (source_answer answer) before now found after)))
+    → From before now (Did source_store AreFormed (λ rows. source_answer (effect rows)) value (source_answer answer) before now)
 did_from effect value answer before now call =
     from_weaker (Did log_store AreFormed effect value answer before now) (Did source_store AreFormed (λ rows. source_answer (effect rows)) value (source_answer answer) before now) before now
     (did effect value answer before now) call.did
@@ -109,6 +118,7 @@ handed effect value (Ok answer) before now call = record {
   faults = call.faults;
   ready = call.ready;
   formed = call.formed;
+  untold = call.untold;
 }
 handed effect value (Err fault) before now call = record {
   did = did_from effect value (Err fault) before now call;
@@ -118,6 +128,7 @@ handed effect value (Err fault) before now call = record {
   faults = call.faults;
   ready = subst (λ (kind : Option StoreFault). FaultReadied kind now) (one_store fault) call.ready;
   formed = call.formed;
+  untold = call.untold;
 }
 
 -- ---- a call that only reads, and is refused as its log's opening is

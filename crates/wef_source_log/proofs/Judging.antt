@@ -1,13 +1,13 @@
 -- A call that commits, by where it ends, and what it has read of the rows that it found.
 use Rattle.std.proofs.Common.{◌≡◌, ◌≤◌, ℕ, false}
-use Rattle.std.specs.Prelude.{Option, Ok, Err, IfSome, List, [], ◌∷◌, is_some}
+use Rattle.std.specs.Prelude.{Option, Ok, Err, IfSome, List}
 use Rattle.wef_keeper.specs.Access.{AnyRows, Finds, From, HasRead, IsRefused, Leaves, LeavesPlanned, OpensAndReads, Reads, fails}
 use Rattle.wef_keeper.specs.Forms.{ArePut}
-use Rattle.wef_keeper.specs.Keeping.{Follows, Store, WhereTold}
+use Rattle.wef_keeper.specs.Keeping.{Follows, IsLawful, Store}
 use Rattle.wef_keeper.specs.Rows.{Rows, applied}
 use Rattle.wef_keeper.specs.declared.keys.Change.{Change}
 use Rattle.wef_keeper.specs.declared.access.StoreFault.{StoreFault}
-use Rattle.wef_keeper.proofs.Calls.{HasImages, committed, finds_still, from_found, not_committed, not_opened}
+use Rattle.wef_keeper.proofs.Calls.{committed, finds_still, from_found, not_committed, not_opened}
 use Rattle.wef_keeper.proofs.StayFormed.{applied_formed}
 use Rattle.wef_keeper.proofs.Told.{follows_with, told_map}
 use Rattle.wef_keeper.specs.Calls.{Effect, IsCall}
@@ -34,24 +34,24 @@ numbered : (effect : Rows → Effect LogFault) (value : Rows → ℕ) (prepared 
 numbered effect value prepared told prepares = told_map told (λ rows. Prepares (effect rows) (value rows) (Ok prepared)) (λ rows. prepared.number ≡ value rows) (λ rows is. is.1) prepares
 
 -- a call that isn't opened
-pub unopened : (effect : Rows → Effect LogFault) (value : Rows → ℕ) (kind : StoreFault) (before now : Store) → HasImages before → (fails {T = Unit {0}} (Err kind) ≡ false → Finds before now)
-    → OpensAndReads AnyRows (fails {T = Unit {0}} (Err kind)) before now → IsRefused {T = Unit {0}} (Err kind) before.doubt → IsCall log_store AreFormed effect value (Err (log_fault kind)) before now
-unopened effect value kind before now few finds opens calm = not_opened log_store AreFormed effect value kind (log_fault kind) before now (of_log_fault kind) few finds opens calm
+pub unopened : (effect : Rows → Effect LogFault) (value : Rows → ℕ) (kind : StoreFault) (before now : Store) → IsLawful before → IsLawful now → (fails {T = Unit {0}} (Err kind) ≡ false → Finds before now)
+    → OpensAndReads AnyRows (fails {T = Unit {0}} (Err kind)) before now → IsRefused {T = Unit {0}} (Err kind) before now → IsCall log_store AreFormed effect value (Err (log_fault kind)) before now
+unopened effect value kind before now lawful lawful' finds opens calm = not_opened log_store AreFormed effect value kind (log_fault kind) before now (of_log_fault kind) lawful lawful' finds opens calm
 
 -- one whose changes are prepared, and not committed
 pub uncommitted : (effect : Rows → Effect LogFault) (value : Rows → ℕ) (kind : StoreFault) (prepared : Prepared) (before opened mid now : Store)
-    → ArePut is_formed prepared.changes → is_some now.images ≡ is_some now.rows → Finds before opened → OpensAndReads AnyRows false before opened → Reads AreFormed false opened mid
+    → ArePut is_formed prepared.changes → IsLawful now → Finds before opened → OpensAndReads AnyRows false before opened → Reads AreFormed false opened mid
     → IfSome mid.rows (λ rows. Prepares (effect rows) (value rows) (Ok prepared)) → Leaves prepared.changes (Err kind) mid now → IfSome mid.plan (λ planned. LeavesPlanned prepared.changes planned (Err kind) mid now)
     → mid.faults ≤ now.faults → IsCall log_store AreFormed effect value (Err (log_fault kind)) before now
-uncommitted effect value kind prepared before opened mid now put both finds opens reads prepares leaves planned higher =
-    not_committed log_store AreFormed effect value kind (log_fault kind) prepared.changes before opened mid now (applied_formed is_formed prepared.changes put) (of_log_fault kind) both
+uncommitted effect value kind prepared before opened mid now put lawful finds opens reads prepares leaves planned higher =
+    not_committed log_store AreFormed effect value kind (log_fault kind) prepared.changes before opened mid now (applied_formed is_formed prepared.changes put) (of_log_fault kind) lawful
     finds opens reads (made effect value prepared mid.rows prepares) leaves planned higher
 
 -- and one that is done
 pub done : (effect : Rows → Effect LogFault) (value : Rows → ℕ) (prepared : Prepared) (before opened mid now : Store)
-    → ArePut is_formed prepared.changes → IfSome now.images (λ all. WhereTold now.rows (λ stand. all ≡ stand ∷ [])) → Finds before opened → OpensAndReads AnyRows false before opened → Reads AreFormed false opened mid
+    → ArePut is_formed prepared.changes → IsLawful now → Finds before opened → OpensAndReads AnyRows false before opened → Reads AreFormed false opened mid
     → IfSome mid.rows (λ rows. Prepares (effect rows) (value rows) (Ok prepared)) → Leaves prepared.changes (Ok tt) mid now → IfSome mid.plan (λ planned. LeavesPlanned prepared.changes planned (Ok tt) mid now)
     → mid.faults ≤ now.faults → IsCall log_store AreFormed effect value (Ok prepared.number) before now
-done effect value prepared before opened mid now put only finds opens reads prepares leaves planned higher =
-    committed log_store AreFormed effect value prepared.changes prepared.number before opened mid now (applied_formed is_formed prepared.changes put) only
+done effect value prepared before opened mid now put lawful finds opens reads prepares leaves planned higher =
+    committed log_store AreFormed effect value prepared.changes prepared.number before opened mid now (applied_formed is_formed prepared.changes put) lawful
     finds opens reads (made effect value prepared mid.rows prepares) (numbered effect value prepared mid.rows prepares) leaves planned higher

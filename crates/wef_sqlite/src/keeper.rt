@@ -177,13 +177,7 @@ impl<S: Opens> SqlKeeper<S> {
 impl<S: Opens> Keeper for SqlKeeper<S> {
     ghost store = { λ k. untold k.in_doubt k.tries k.reads k.faults k.opened };
 
-    ghost tells_both = { λ k. refl };
-
-    ghost tells_opened = { λ k. tt };
-
-    ghost few_images = { λ k. tt };
-
-    ghost no_doubt = { λ k _. tt };
+    ghost lawful = { λ k. record { both = refl; tells = tt; few = tt; only = λ _. tt } };
 
     fn get(&mut self, key: &Key) -> Result<Option<Row>, KeeperFault> {
         self.begin_read()?;

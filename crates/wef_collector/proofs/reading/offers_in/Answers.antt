@@ -15,16 +15,16 @@ returns-in_err-open-clause-call g c =
     let opened = c.in_err-open.ensures in
     let p = err_from_is_err_and c.from_residual.result c.from_residual.ensures.1 in
     rw (p.1, p.2) (not_opened collector_store AreFormed no_effect (λ rows. offers rows c.args.source.now c.args.host.now) fault (collector_fault fault)
-    (g.K.Keeper.store c.args.keeper.now) (g.K.Keeper.store c.open.new.keeper) (of_collector_fault fault) (g.met.K.Keeper.few_images c.args.keeper.now) opened.found opened.opened opened.refused)
+    (g.K.Keeper.store c.args.keeper.now) (g.K.Keeper.store c.open.new.keeper) (of_collector_fault fault) (g.met.K.Keeper.lawful c.args.keeper.now) (g.met.K.Keeper.lawful c.open.new.keeper) opened.found opened.opened opened.refused)
 
 pub returns-in_err-offers_to-clause-call : goal.returns-in_err-offers_to-clause-call
 returns-in_err-offers_to-clause-call g c =
     let p = err_from_is_err_and c.from_residual-in_err-offers_to.result c.from_residual-in_err-offers_to.ensures.1 in
     rw (p.1, p.2) (not_shown (λ rows. offers rows c.args.source.now c.args.host.now) c.in_err-offers_to.field-0.0
-    (g.K.Keeper.store c.args.keeper.now) (g.K.Keeper.store c.open.new.keeper) (g.K.Keeper.store c.offers_to.new.keeper) (c.in_ok-open.ensures.found refl) c.in_ok-open.ensures.opened c.in_err-offers_to.ensures.reads)
+    (g.K.Keeper.store c.args.keeper.now) (g.K.Keeper.store c.open.new.keeper) (g.K.Keeper.store c.offers_to.new.keeper) (g.met.K.Keeper.lawful c.offers_to.new.keeper) (c.in_ok-open.ensures.found refl) c.in_ok-open.ensures.opened c.in_err-offers_to.ensures.reads)
 
 pub returns-clause-call : goal.returns-clause-call
 returns-clause-call g c =
     let now = g.K.Keeper.store c.offers_to.new.keeper in
     shown (λ rows. offers rows c.args.source.now c.args.host.now) c.in_ok-offers_to.field-0 (g.K.Keeper.store c.args.keeper.now) (g.K.Keeper.store c.open.new.keeper) now
-    (g.met.K.Keeper.no_doubt c.offers_to.new.keeper c.in_ok-offers_to.ensures.reads.0.0.1) (c.in_ok-open.ensures.found refl) c.in_ok-open.ensures.opened c.in_ok-offers_to.ensures.reads c.in_ok-offers_to.ensures.offers
+    (g.met.K.Keeper.lawful c.offers_to.new.keeper) (c.in_ok-open.ensures.found refl) c.in_ok-open.ensures.opened c.in_ok-offers_to.ensures.reads c.in_ok-offers_to.ensures.offers

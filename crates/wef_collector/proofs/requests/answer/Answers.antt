@@ -16,7 +16,7 @@ returns-in_err-open-clause-call g c =
     let opened = c.in_err-open.ensures in
     let p = err_from_is_err_and c.from_residual.result c.from_residual.ensures.1 in
     rw (p.1, p.2) (not_opened collector_store AreFormed (effect_of c.args.request.now) (λ _. tt) fault (collector_fault fault) (g.K.Keeper.store c.args.keeper.now) (g.K.Keeper.store c.open.new.keeper)
-    (of_collector_fault fault) (g.met.K.Keeper.few_images c.args.keeper.now) opened.found opened.opened opened.refused)
+    (of_collector_fault fault) (g.met.K.Keeper.lawful c.args.keeper.now) (g.met.K.Keeper.lawful c.open.new.keeper) opened.found opened.opened opened.refused)
 
 pub returns-in_err-open-clause-judged : goal.returns-in_err-open-clause-judged
 returns-in_err-open-clause-judged g c =
@@ -27,7 +27,7 @@ pub returns-in_err-changes-clause-call : goal.returns-in_err-changes-clause-call
 returns-in_err-changes-clause-call g c =
     let p = err_from_is_err_and c.from_residual-in_err-changes.result c.from_residual-in_err-changes.ensures.1 in
     rw (p.1, p.2) (refused collector_store AreFormed (effect_of c.args.request.now) (λ _. tt) c.in_err-changes.field-0.0 (g.K.Keeper.store c.args.keeper.now) (g.K.Keeper.store c.open.new.keeper) (g.K.Keeper.store c.changes_of.new.keeper)
-    (c.in_ok-open.ensures.found refl) c.in_ok-open.ensures.opened c.in_err-changes.ensures.reads c.in_err-changes.ensures.effect)
+    (g.met.K.Keeper.lawful c.changes_of.new.keeper) (c.in_ok-open.ensures.found refl) c.in_ok-open.ensures.opened c.in_err-changes.ensures.reads c.in_err-changes.ensures.effect)
 
 pub returns-in_err-changes-clause-judged : goal.returns-in_err-changes-clause-judged
 returns-in_err-changes-clause-judged g c =
@@ -40,7 +40,7 @@ returns-in_err-commit-clause-call g c =
     let p = err_from_is_err_and c.from_residual-in_err-commit.result c.from_residual-in_err-commit.ensures.1 in
     rw (p.1, p.2) (not_committed collector_store AreFormed (effect_of c.args.request.now) (λ _. tt) c.in_err-commit.field-0.0 (collector_fault c.in_err-commit.field-0.0) c.in_ok-changes.changes
     (g.K.Keeper.store c.args.keeper.now) (g.K.Keeper.store c.open.new.keeper) (g.K.Keeper.store c.changes_of.new.keeper) (g.K.Keeper.store c.commit.new.keeper)
-    (applied_formed is_formed c.in_ok-changes.changes commit.put) (of_collector_fault c.in_err-commit.field-0.0) (g.met.K.Keeper.tells_both c.commit.new.keeper) (c.in_ok-open.ensures.found refl) c.in_ok-open.ensures.opened
+    (applied_formed is_formed c.in_ok-changes.changes commit.put) (of_collector_fault c.in_err-commit.field-0.0) (g.met.K.Keeper.lawful c.commit.new.keeper) (c.in_ok-open.ensures.found refl) c.in_ok-open.ensures.opened
     c.in_ok-changes.ensures.reads c.in_ok-changes.ensures.effect commit.leaves commit.planned commit.faults)
 
 pub returns-in_err-commit-clause-judged : goal.returns-in_err-commit-clause-judged
@@ -55,7 +55,7 @@ returns-clause-call g c =
     let mid = g.K.Keeper.store c.changes_of.new.keeper in
     committed collector_store AreFormed (effect_of c.args.request.now) (λ _. tt) c.in_ok-changes.changes tt
     (g.K.Keeper.store c.args.keeper.now) (g.K.Keeper.store c.open.new.keeper) mid (g.K.Keeper.store c.commit.new.keeper)
-    (applied_formed is_formed c.in_ok-changes.changes commit.put) (g.met.K.Keeper.no_doubt c.commit.new.keeper commit.leaves.0.1) (c.in_ok-open.ensures.found refl) c.in_ok-open.ensures.opened
+    (applied_formed is_formed c.in_ok-changes.changes commit.put) (g.met.K.Keeper.lawful c.commit.new.keeper) (c.in_ok-open.ensures.found refl) c.in_ok-open.ensures.opened
     made.reads made.effect (told_any mid.rows (λ rows. tt ≡ tt) (λ rows. refl)) commit.leaves commit.planned commit.faults
 
 pub returns-clause-judged : goal.returns-clause-judged

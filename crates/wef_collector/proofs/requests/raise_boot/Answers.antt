@@ -18,7 +18,7 @@ returns-in_err-open-clause-call g c =
     let opened = c.in_err-open.ensures in
     let p = err_from_is_err_and c.from_residual.result c.from_residual.ensures.1 in
     rw (p.1, p.2) (not_opened collector_store AreFormed boot_effect ids_begun fault (collector_fault fault) (g.K.Keeper.store c.args.keeper.now) (g.K.Keeper.store c.open.new.keeper)
-    (of_collector_fault fault) (g.met.K.Keeper.few_images c.args.keeper.now) opened.found opened.opened opened.refused)
+    (of_collector_fault fault) (g.met.K.Keeper.lawful c.args.keeper.now) (g.met.K.Keeper.lawful c.open.new.keeper) opened.found opened.opened opened.refused)
 
 pub returns-in_err-open-clause-judged : goal.returns-in_err-open-clause-judged
 returns-in_err-open-clause-judged g c =
@@ -29,7 +29,7 @@ pub returns-in_err-starting-clause-call : goal.returns-in_err-starting-clause-ca
 returns-in_err-starting-clause-call g c =
     let p = err_from_is_err_and c.from_residual-in_err-starting.result c.from_residual-in_err-starting.ensures.1 in
     rw (p.1, p.2) (refused collector_store AreFormed boot_effect ids_begun c.in_err-starting.field-0.0 (g.K.Keeper.store c.args.keeper.now) (g.K.Keeper.store c.open.new.keeper) (g.K.Keeper.store c.boot_changes.new.keeper)
-    (c.in_ok-open.ensures.found refl) c.in_ok-open.ensures.opened c.in_err-starting.ensures.reads c.in_err-starting.ensures.refusal)
+    (g.met.K.Keeper.lawful c.boot_changes.new.keeper) (c.in_ok-open.ensures.found refl) c.in_ok-open.ensures.opened c.in_err-starting.ensures.reads c.in_err-starting.ensures.refusal)
 
 pub returns-in_err-starting-clause-judged : goal.returns-in_err-starting-clause-judged
 returns-in_err-starting-clause-judged g c =
@@ -44,7 +44,7 @@ returns-in_err-commit-clause-call g c =
     let p = err_from_is_err_and c.from_residual-in_err-commit.result c.from_residual-in_err-commit.ensures.1 in
     rw (p.1, p.2) (not_committed collector_store AreFormed boot_effect ids_begun fault (collector_fault fault) c.in_ok-starting.starting.changes
     (g.K.Keeper.store c.args.keeper.now) (g.K.Keeper.store c.open.new.keeper) (g.K.Keeper.store c.boot_changes.new.keeper) (g.K.Keeper.store c.commit.new.keeper)
-    (applied_formed is_formed c.in_ok-starting.starting.changes commit.put) (of_collector_fault fault) (g.met.K.Keeper.tells_both c.commit.new.keeper) (c.in_ok-open.ensures.found refl) c.in_ok-open.ensures.opened
+    (applied_formed is_formed c.in_ok-starting.starting.changes commit.put) (of_collector_fault fault) (g.met.K.Keeper.lawful c.commit.new.keeper) (c.in_ok-open.ensures.found refl) c.in_ok-open.ensures.opened
     made.reads made.effect commit.leaves commit.planned commit.faults)
 
 pub returns-in_err-commit-clause-judged : goal.returns-in_err-commit-clause-judged
@@ -59,7 +59,7 @@ returns-clause-call g c =
     let mid = g.K.Keeper.store c.boot_changes.new.keeper in
     committed collector_store AreFormed boot_effect ids_begun c.in_ok-starting.starting.changes c.in_ok-starting.starting.ids
     (g.K.Keeper.store c.args.keeper.now) (g.K.Keeper.store c.open.new.keeper) mid (g.K.Keeper.store c.commit.new.keeper)
-    (applied_formed is_formed c.in_ok-starting.starting.changes commit.put) (g.met.K.Keeper.no_doubt c.commit.new.keeper commit.leaves.0.1) (c.in_ok-open.ensures.found refl) c.in_ok-open.ensures.opened
+    (applied_formed is_formed c.in_ok-starting.starting.changes commit.put) (g.met.K.Keeper.lawful c.commit.new.keeper) (c.in_ok-open.ensures.found refl) c.in_ok-open.ensures.opened
     made.reads made.effect made.ids commit.leaves commit.planned commit.faults
 
 pub returns-clause-judged : goal.returns-clause-judged

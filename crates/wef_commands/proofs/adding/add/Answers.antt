@@ -8,6 +8,7 @@ returns-in-Ok-telling g c =
     inr (
       s,
       c.in-Ok.ensures.ok,
+      c.in-Ok.ensures.kept,
       told_by_name s c.in-Ok-telling.name c.in-Ok-telling.text c.add_read.result.1
           (record { before = g.O.Sink.taken c.args.out.now; after = g.O.Sink.taken c.add_read.new.out; faults_before = g.O.Sink.faults c.args.out.now; faults_after = g.O.Sink.faults c.add_read.new.out })
           (g.K.Keeper.store c.args.keeper) (g.K.Keeper.store c.add_read.result.0)

@@ -9,4 +9,4 @@ returns-in-Err-end g c = rw c.into_keeper-in-Err-end.ensures
     (call_refused (Ends c.args.name) (named_ending c.args.name) (λ _. WroteOut c.args.text.now) c.named_ending.result
     (record { before = g.O.Sink.taken c.args.out.now; after = g.O.Sink.taken c.args.out.now; faults_before = g.O.Sink.faults c.args.out.now; faults_after = g.O.Sink.faults c.args.out.now })
     (g.K.Keeper.store c.args.keeper) (g.K.Keeper.store c.in-Ok.collector.keeper) (g.K.Keeper.store c.end.new.self.keeper) c.in-Ok.collector.ids c.in-Err-end.fault
-    (c.in-Ok.ensures.ok, tt) (c.in-Err-end.ensures.call, c.in-Err-end.ensures.listed) c.named_ending.ensures (Keeps-refl (g.O.Sink.taken c.args.out.now)))
+    (c.in-Ok.ensures.ok, tt, g.met.K.Keeper.lawful c.in-Ok.collector.keeper) (c.in-Err-end.ensures.call, c.in-Err-end.ensures.listed) c.named_ending.ensures (Keeps-refl (g.O.Sink.taken c.args.out.now)))

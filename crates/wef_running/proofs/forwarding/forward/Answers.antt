@@ -23,4 +23,4 @@ returns-clause-ends g c =
     let begun =
     subst (λ (e : End). AsksAndSends clock c.args.address.now c.args.source c.args.deliveries ending out (record { memory = e; store = store; link = link }) now) c.in-Ok.ensures.memory named in
     rw c.into_keeper.ensures
-    (inr (c.in-Ok.end.memory.boot, store, c.in-Ok.ensures.call, (memory, begun)))
+    (inr (c.in-Ok.end.memory.boot, store, (c.in-Ok.ensures.call, g.met.K.Keeper.lawful c.in-Ok.end.keeper), (memory, begun)))

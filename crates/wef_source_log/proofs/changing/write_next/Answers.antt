@@ -12,13 +12,13 @@ pub returns-in_err-open-clause-call : goal.returns-in_err-open-clause-call
 returns-in_err-open-clause-call g c =
     let p = err_from_is_err_and c.from_residual.result c.from_residual.ensures.1 in
     rw (p.1, p.2) (unopened (λ rows. write_effect rows c.args.event.now) (λ rows. next_number rows c.args.event.now) c.in_err-open.field-0.0
-    (g.K.Keeper.store c.args.keeper.now) (g.K.Keeper.store c.open.new.keeper) (g.met.K.Keeper.few_images c.args.keeper.now) c.in_err-open.ensures.found c.in_err-open.ensures.opened c.in_err-open.ensures.refused)
+    (g.K.Keeper.store c.args.keeper.now) (g.K.Keeper.store c.open.new.keeper) (g.met.K.Keeper.lawful c.args.keeper.now) (g.met.K.Keeper.lawful c.open.new.keeper) c.in_err-open.ensures.found c.in_err-open.ensures.opened c.in_err-open.ensures.refused)
 
 pub returns-in_err-prepared-clause-call : goal.returns-in_err-prepared-clause-call
 returns-in_err-prepared-clause-call g c =
     let p = err_from_is_err_and c.from_residual-in_err-prepared.result c.from_residual-in_err-prepared.ensures.1 in
     rw (p.1, p.2) (refused log_store AreFormed (λ rows. write_effect rows c.args.event.now) (λ rows. next_number rows c.args.event.now) c.in_err-prepared.field-0.0
-    (g.K.Keeper.store c.args.keeper.now) (g.K.Keeper.store c.open.new.keeper) (g.K.Keeper.store c.prepared_write.new.keeper) (c.in_ok-open.ensures.found refl) c.in_ok-open.ensures.opened
+    (g.K.Keeper.store c.args.keeper.now) (g.K.Keeper.store c.open.new.keeper) (g.K.Keeper.store c.prepared_write.new.keeper) (g.met.K.Keeper.lawful c.prepared_write.new.keeper) (c.in_ok-open.ensures.found refl) c.in_ok-open.ensures.opened
     c.in_err-prepared.ensures.reads c.in_err-prepared.ensures.prepared)
 
 pub returns-in_err-commit-clause-call : goal.returns-in_err-commit-clause-call
@@ -26,14 +26,14 @@ returns-in_err-commit-clause-call g c =
     let p = err_from_is_err_and c.from_residual-in_err-commit.result c.from_residual-in_err-commit.ensures.1 in
     rw (p.1, p.2) (uncommitted (λ rows. write_effect rows c.args.event.now) (λ rows. next_number rows c.args.event.now) c.in_err-commit.field-0.0 c.in_ok-prepared.prepared
     (g.K.Keeper.store c.args.keeper.now) (g.K.Keeper.store c.open.new.keeper) (g.K.Keeper.store c.prepared_write.new.keeper) (g.K.Keeper.store c.commit.new.keeper)
-    c.in_err-commit.ensures.put (g.met.K.Keeper.tells_both c.commit.new.keeper) (c.in_ok-open.ensures.found refl) c.in_ok-open.ensures.opened c.in_ok-prepared.ensures.reads c.in_ok-prepared.ensures.prepared
+    c.in_err-commit.ensures.put (g.met.K.Keeper.lawful c.commit.new.keeper) (c.in_ok-open.ensures.found refl) c.in_ok-open.ensures.opened c.in_ok-prepared.ensures.reads c.in_ok-prepared.ensures.prepared
     c.in_err-commit.ensures.leaves c.in_err-commit.ensures.planned c.in_err-commit.ensures.faults)
 
 pub returns-clause-call : goal.returns-clause-call
 returns-clause-call g c =
     done (λ rows. write_effect rows c.args.event.now) (λ rows. next_number rows c.args.event.now) c.in_ok-prepared.prepared
     (g.K.Keeper.store c.args.keeper.now) (g.K.Keeper.store c.open.new.keeper) (g.K.Keeper.store c.prepared_write.new.keeper) (g.K.Keeper.store c.commit.new.keeper)
-    c.in_ok-commit.ensures.put (g.met.K.Keeper.no_doubt c.commit.new.keeper c.in_ok-commit.ensures.leaves.0.1) (c.in_ok-open.ensures.found refl) c.in_ok-open.ensures.opened c.in_ok-prepared.ensures.reads c.in_ok-prepared.ensures.prepared
+    c.in_ok-commit.ensures.put (g.met.K.Keeper.lawful c.commit.new.keeper) (c.in_ok-open.ensures.found refl) c.in_ok-open.ensures.opened c.in_ok-prepared.ensures.reads c.in_ok-prepared.ensures.prepared
     c.in_ok-commit.ensures.leaves c.in_ok-commit.ensures.planned c.in_ok-commit.ensures.faults
 
 pub returns-clause-judged : goal.returns-clause-judged

@@ -1,0 +1,20 @@
+//! What the collector's commands do by the rows that stood before them, as contracts.
+
+ghost use Rattle.wef_commands.specs.Laws.{AddsByRows, EventsByRows, ListsByRows, RemovesByRows, ShowsByRows};
+
+/// Where the rows before and behind a run are told: `exists` and `too many` are told exactly by the
+/// rows, and once `add` is done the subscription of the document stands live. `unknown` and `already`
+/// are told exactly by the rows, and once `remove` is done the subscription has ended. All other rows
+/// are as they were, but for the boot number.
+pub fn changes_are_by_rows()
+    ensures add { AddsByRows }
+    ensures remove { RemovesByRows }
+{}
+
+/// What `list`, `show` and `events` write is the text of the rows, and these stay but for the boot
+/// number.
+pub fn texts_are_of_rows()
+    ensures list { ListsByRows }
+    ensures show { ShowsByRows }
+    ensures events { EventsByRows }
+{}
