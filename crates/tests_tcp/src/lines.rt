@@ -51,7 +51,7 @@ fn filled<P: Port>(port: &mut P, count: u64) -> Result<(), IoFailed> {
 
 /// Appends the first line of what comes, or what is there of it.
 fn push_read<P: Port>(shown: &mut Text, port: &mut P) -> Result<(), AllocError> {
-    let mut buf = [0; 32];
+    let mut buf = [0; 64];
     match port.read(&mut buf) {
         Ok(count) => shown.push_str(first_line(&buf[..count])),
         Err(_) => shown.push_str("failed"),
