@@ -4,9 +4,11 @@
 //! With words behind its name it is `wef`.
 //!
 //! A line `=== CRATE TASK: TITLE` says which crate of tests answers each line behind it, and as what. Behind
-//! a line `=== script: TITLE` each is the name of a script. A line `=== schedule: TITLE` begins a schedule of
-//! the lines behind it, and behind a line `=== each: TITLE` every line is a schedule of its own: it stands
-//! last, without an end of its line, behind a line that adds the subscription `base`.
+//! a line `=== script: TITLE` each is the name of a script. Behind `=== link: TITLE` each says what a link over
+//! TCP is to do, one link for all: so a script that runs this program without words has a client. A line
+//! `=== schedule: TITLE` begins a schedule of the lines behind it, and behind a line `=== each: TITLE` every
+//! line is a schedule of its own: it stands last, without an end of its line, behind a line that adds the
+//! subscription `base`.
 #![tactic(auto)]
 
 mod schedules;
@@ -17,6 +19,7 @@ use std::alloc::AllocError;
 use std::process::ExitCode;
 use std::{env, io};
 use wef_base::{Bytes, Text};
+use wef_tcp::TcpLink;
 
 fn main(rt: HostRuntime) -> io::Result<ExitCode> {
     if env::args(&rt)?.count() > 1 {
@@ -31,6 +34,7 @@ fn answer_lines(rt: &HostRuntime) -> io::Result<()> {
     let alloc = rt.alloc();
     let mut name = Text::new(alloc);
     let mut schedule = Bytes::new(alloc);
+    let mut link = TcpLink::new(*rt);
     for line in rt.lines(alloc) {
         let line = line?;
         if let Some(heading) = line.strip_prefix("=== ") {
@@ -43,6 +47,8 @@ fn answer_lines(rt: &HostRuntime) -> io::Result<()> {
             schedule.push(b'\n')?;
         } else if name.as_str() == "script" {
             print_script(rt, line.as_str())?;
+        } else if name.as_str() == "link" {
+            print_call(rt, &mut link, line.as_str())?;
         } else {
             print_answer(rt, name.as_str(), line.as_str())?;
         }
@@ -68,6 +74,13 @@ fn print_script(rt: &HostRuntime, name: &str) -> io::Result<()> {
     println!(rt; "{name}")?;
     let went_well = scripts::run(rt, name)?;
     println!(rt; "    {}", if went_well { "went well" } else { "failed" })
+}
+
+/// Prints what comes of what a link is to do.
+fn print_call(rt: &HostRuntime, link: &mut TcpLink, line: &str) -> io::Result<()> {
+    let mut shown = Text::new(rt.alloc());
+    tests_tcp::lines::push_answer(&mut shown, link, line)?;
+    println!(rt; "{}", shown.as_str())
 }
 
 /// Prints a line and its answer.

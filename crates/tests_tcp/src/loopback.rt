@@ -10,9 +10,9 @@ use wef_tcp::{TcpFront, TcpLink};
 const CLOSED: &str =
     "front reads = failed; front writes none = failed; link writes none = failed; front accepts = failed";
 
-/// Two connections, one after the other.
+/// Two connections, one after the other. Of what comes in the first a byte is left unread.
 const MEETING: &str =
-    "front binds = done; front binds = failed; link connects = done; link writes question = 8; front accepts = done; front reads = question; front writes answer = 6; link reads = answer; front closes = ; front reads = failed; front writes none = failed; link reads = ; link connects = done; front accepts = done; link writes again = 5; link closes = ; link reads = failed; front reads = again; front reads = ";
+    "front binds = done; front binds = failed; link connects = done; link writes questions = 9; front accepts = done; front reads = question; front writes answer = 6; link reads = answer; front closes = ; front reads = failed; front writes none = failed; link reads = ; link connects = done; front accepts = done; link writes again = 5; link closes = ; link reads = failed; front reads = again; front reads = ";
 
 /// Addresses that lack a host or a port.
 const PARTS: &[&str] = &[

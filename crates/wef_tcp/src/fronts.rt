@@ -3,11 +3,12 @@
 ghost use Rattle.std.specs.Prelude.{◌≡◌, refl};
 ghost use Rattle.wef_tcp.specs.Streams.{told_of, unopened};
 
-use crate::links::{TcpLink, limited};
+use crate::links::TcpLink;
+use crate::streams::limited;
 use std::io;
 use std::net::{TcpListener, TcpStream};
 use wef_base::{IoFailed, Text};
-use wef_connections::{Front, Link};
+use wef_connections::Front;
 use wef_ports::Port;
 
 /// A front that listens at one address of the system at a time.
@@ -71,8 +72,10 @@ impl Front for TcpFront {
         }
     }
 
+    /// What was sent arrives also where bytes were left unread, as behind a refusal: the sending half is
+    /// closed first, and what still comes is let go for at most a second and 256 KiB.
     fn close(&mut self) {
-        self.present.close();
+        self.present.end();
     }
 }
 

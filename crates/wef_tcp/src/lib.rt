@@ -3,6 +3,7 @@
 
 pub mod fronts;
 pub mod links;
+mod streams;
 
 pub use fronts::TcpFront;
 pub use links::TcpLink;

@@ -4,16 +4,12 @@ ghost use Rattle.std.specs.Prelude.{◌≡◌, refl};
 ghost use Rattle.wef_connections.specs.Opening.{next_connection, OnlyFails, Rises};
 ghost use Rattle.wef_tcp.specs.Streams.{told_of, unopened};
 
-use std::io::{self, Read, Write};
+use crate::streams::{let_go, limited, read_from, write_to};
+use std::io;
 use std::net::TcpStream;
-use std::time::Duration;
 use wef_base::{IoFailed, Text};
 use wef_connections::Link;
 use wef_ports::Port;
-
-/// How many seconds a read or a write of a connection waits for the peer. One that waits longer
-/// fails.
-const TIME_LIMIT: u64 = 30;
 
 /// A link to addresses of the system.
 #[derive(Drop)]
@@ -52,6 +48,17 @@ impl TcpLink {
         self.given = 0;
     }
 
+    /// Ends the present connection so that what was sent in it arrives: see `let_go`.
+    pub(crate) fn end(&mut self)
+        ensures { told_of self.new ≡ told_of self.old }
+    {
+        if let Some(stream) = &mut self.stream {
+            // Whatever fails, the connection is closed.
+            let _ = let_go(&self.rt, stream);
+        }
+        self.stream = None;
+    }
+
     /// Counts an opening that failed.
     pub(crate) fn refuse(&mut self) -> IoFailed
         ensures rest { OnlyFails (told_of self.old) (told_of self.new) }
@@ -74,7 +81,7 @@ impl Port for TcpLink {
     /// A read fails where there is no connection, or none that isn't closed.
     fn read(&mut self, buf: &mut [u8]) -> Result<usize, IoFailed> {
         if let Some(stream) = &mut self.stream {
-            if let Ok(count) = stream.read(buf) {
+            if let Ok(count) = read_from(stream, buf) {
                 if let Some(given) = self.given.checked_add(count as u64) {
                     self.given = given;
                     return Ok(count);
@@ -88,7 +95,7 @@ impl Port for TcpLink {
     /// A write fails where there is no connection, or none that isn't closed.
     fn write(&mut self, piece: &[u8]) -> Result<usize, IoFailed> {
         if let Some(stream) = &mut self.stream {
-            if let Ok(count) = stream.write(piece) {
+            if let Ok(count) = write_to(stream, piece) {
                 if count > 0 || piece.is_empty() {
                     return Ok(count);
                 }
@@ -112,6 +119,7 @@ impl Link for TcpLink {
         }
     }
 
+    /// It is closed at once: whoever asked has the answer.
     fn close(&mut self) {
         self.stream = None;
     }
@@ -120,12 +128,4 @@ impl Link for TcpLink {
 /// A new connection to an address.
 fn connected(rt: &HostRuntime, address: &str) -> io::Result<TcpStream> {
     limited(TcpStream::connect(rt, address)?)
-}
-
-/// Sets the time limit of a stream's reads and writes.
-pub(crate) fn limited(stream: TcpStream) -> io::Result<TcpStream> {
-    let limit = Some(Duration::from_secs(TIME_LIMIT));
-    stream.set_read_timeout(limit)?;
-    stream.set_write_timeout(limit)?;
-    Ok(stream)
 }
