@@ -52,14 +52,14 @@ image_of : (store : Store) (found : Rows) → Stand store found → store.images
 image_of store found stand = one_image store.images store.rows found stand.lawful.both (stand.lawful.only stand.calm) stand.told
 
 -- what a call did with rows that were told
-from_one : (before now : Store) (found after : Rows) (Holds : Rows → Rows → Type 0) → Stand before found → now.rows ≡ Some after → From before now Holds → Holds found after
+pub from_one : (before now : Store) (found after : Rows) (Holds : Rows → Rows → Type 0) → Stand before found → now.rows ≡ Some after → From before now Holds → Holds found after
 from_one before now found after Holds stand told from =
     let P : Option Rows → Type 0 = λ o. IfSome o (λ after. AnyFound before.images (λ found. Holds found after)) in
     let Q : Option (List Rows) → Type 0 = λ o. AnyFound o (λ found. Holds found after) in
     subst Q (image_of before found stand) (subst P told from)
 
 -- a store that tells its rows behind a call told them before it
-mid_stands : (mid now : Store) (after : Rows) → IsLawful mid → IsReady mid → StaysUntold mid now → now.rows ≡ Some after → (rows : Rows) × Stand mid rows
+pub mid_stands : (mid now : Store) (after : Rows) → IsLawful mid → IsReady mid → StaysUntold mid now → now.rows ≡ Some after → (rows : Rows) × Stand mid rows
 mid_stands mid now after lawful ready untold told = by mid.rows refl
   where
     by : (o : Option Rows) → mid.rows ≡ o → (rows : Rows) × Stand mid rows

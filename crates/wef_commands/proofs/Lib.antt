@@ -4,5 +4,6 @@ pub mod Checked
 pub mod EventLines
 pub mod HeldWritten
 pub mod LinesWritten
+pub mod LogByRows
 pub mod PagesWritten
 pub mod Written

@@ -1,4 +1,4 @@
--- What the collector's commands do, by the rows that stood before them, where these and the rows behind them are told.
+-- What commands do, by the rows that stood before them, where these and the rows behind them are told.
 use Rattle.std.specs.Prelude.{◌≡◌, ℕ, ◌+◌, true, false, nat_lt, List, [], ◌∷◌, Some}
 use Rattle.std.specs.Io.KnownBytes.{Appends}
 use Rattle.wef_base.specs.declared.numbers.TheConstants.{MAX}
@@ -11,16 +11,22 @@ use Rattle.wef_collector_rows.specs.Keys.{boot_key}
 use Rattle.wef_collector_rows.specs.Standing.{is_full, standing}
 use Rattle.wef_collector_rows.specs.declared.standings.Standing.{Standing}
 use Rattle.wef_collector_rows.specs.declared.standings.Standing.TheVariants.{Unknown, Live}
+use Rattle.wef_event.specs.Events.{Event}
 use Rattle.wef_eventing.specs.declared.subscriptions.Subscription.{Subscription}
 use Rattle.wef_keeper.specs.Keeping.{IsLawful, Store}
 use Rattle.wef_keeper.specs.Rows.{Rows, applied}
+use Rattle.wef_source_log.specs.Answers.{next_number, next_text}
+use Rattle.wef_source_log.specs.Windows as log
+use Rattle.wef_source_log.specs.Windows.{capacity_of, write_changes}
 use Rattle.wef_commands.specs.Adding.{AddEnds, HasDocument}
 use Rattle.wef_commands.specs.Endings.{Told}
 use Rattle.wef_commands.specs.Listing.{ListEnds, list_text}
 use Rattle.wef_commands.specs.Removing.{RemoveEnds}
 use Rattle.wef_commands.specs.Showing.{EventsEnds, ShowEnds, held_text}
+use Rattle.wef_commands.specs.Writing.{HasEvents, WriteEnds, written_text}
 use Rattle.wef_commands.specs.declared.ending.Ending.{Ending}
 use Rattle.wef_commands.specs.declared.ending.Ending.TheVariants as ends
+use Rattle.wef_commands.specs.declared.writing.TheConstants.{LOG_CAPACITY}
 
 -- ---- rows before and behind
 
@@ -106,3 +112,31 @@ EventsSay u s c _ out found after = Unit {0}
 
 abbrev pub EventsByRows : Type 0
 EventsByRows = (u s c : List ℕ) (ending : Ending) (out : Told) (before now : Store) → EventsEnds u s c ending out before now → OverRows (EventsSay u s c ending out) before now
+
+-- ---- `write`
+
+-- rows of a log once an event is the next record of its channel: it stands under the next number, which is the channel's last one
+-- then, and the record that leaves the window is gone
+abbrev pub with_event : Rows → Event → Rows
+with_event rows event = applied (write_changes (capacity_of rows) event.channel (next_number rows event) (next_text rows event)) rows
+
+-- and once all of these are, one after the other
+abbrev pub with_events : Rows → List Event → Rows
+with_events rows [] = rows
+with_events rows (event ∷ events) = with_events (with_event rows event) events
+
+-- their numbers: that of each is one more than its channel's last one, as the events before it leave that
+abbrev pub numbers_of : Rows → List Event → List ℕ
+numbers_of rows [] = []
+numbers_of rows (event ∷ events) = next_number rows event ∷ numbers_of (with_event rows event) events
+
+-- where it is done, each line of the input says an event, all of them were written over the log as its start left it, and their
+-- numbers were printed
+abbrev pub WriteSays : Ending → Told → Told → Rows → Rows → Type 0
+WriteSays ends.Done input out found after =
+    (events : List Event) × HasEvents events input × Appends out.before out.after (written_text events (numbers_of (log.started found LOG_CAPACITY) events))
+    × (after ≡ with_events (log.started found LOG_CAPACITY) events)
+WriteSays _ input out found after = Unit {0}
+
+abbrev pub WritesByRows : Type 0
+WritesByRows = (ending : Ending) (input out : Told) (before now : Store) → WriteEnds ending input out before now → OverRows (WriteSays ending input out) before now

@@ -1,6 +1,6 @@
-//! What the collector's commands do by the rows that stood before them, as contracts.
+//! What commands do by the rows that stood before them, as contracts.
 
-ghost use Rattle.wef_commands.specs.Laws.{AddsByRows, EventsByRows, ListsByRows, RemovesByRows, ShowsByRows};
+ghost use Rattle.wef_commands.specs.Laws.{AddsByRows, EventsByRows, ListsByRows, RemovesByRows, ShowsByRows, WritesByRows};
 
 /// Where the rows before and behind a run are told: `exists` and `too many` are told exactly by the
 /// rows, and once `add` is done the subscription of the document stands live. `unknown` and `already`
@@ -17,4 +17,10 @@ pub fn texts_are_of_rows()
     ensures list { ListsByRows }
     ensures show { ShowsByRows }
     ensures events { EventsByRows }
+{}
+
+/// Where `write` is done, each line of its input is the next record of its channel, over the log as its
+/// start left it, and the number that is printed of it is its channel's last one plus one.
+pub fn numbers_follow_the_rows()
+    ensures { WritesByRows }
 {}
