@@ -73,5 +73,5 @@ pub bad_lines_told : BadLinesAreTold
 bad_lines_told ending told input out peers before now bytes k (inl (judged, unwritten, stays), unused) same input_told reads bad =
     (told_so ending told (ends.BadLine k) same (judges_so ending input bytes k judged input_told reads bad), unwritten, stays)
 bad_lines_told ending told input out peers before now bytes k (inr (events, has, ended), unused) same input_told reads bad =
-    let good = told_at input.before bytes (λ b. (bad_line b ≡ None) × (events_of (lines_of b) ≡ events)) input_told has.1 in
+    let good = told_at input.before bytes (λ b. (bad_line b ≡ None) × (events_of (lines_of b) ≡ events)) input_told has.0.1 in
     absurd (none-some k (sym good.0 ∙ bad))

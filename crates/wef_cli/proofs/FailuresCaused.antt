@@ -147,7 +147,7 @@ fails_with_cause (Some (the.Events u s c)) input out peers before now (kept, inr
 fails_with_cause (Some (the.Events u s c)) input out peers before now (kept, inr (inr started), unused) =
     later_caused AreFormed before started.mid now started.start.0.faults started.call.reads.1
 fails_with_cause (Some the.Add) input out peers before now (inl (read, unwritten, same), unused) = absurd read
-fails_with_cause (Some the.Add) input out peers before now (inr (s, has, ended), unused) =
+fails_with_cause (Some the.Add) input out peers before now (inr (s, has, again, ended), unused) =
     call_caused (Adds s) (named_ending s.name) (λ _. WroteOut (added_text s.name)) out before now (λ mid fault. add_caused s mid now fault) (λ given h. h) ended
 fails_with_cause (Some (the.Remove u)) input out peers before now (kept, inl (is, unwritten, same), unused) = absurd (not_failed ends.NoMemory refl is)
 fails_with_cause (Some (the.Remove u)) input out peers before now (kept, inr ended, unused) =

@@ -115,7 +115,7 @@ asks_caused clock address s deliveries out before now (inr (count, mid, asked, s
 -- ---- the start
 
 start_caused : (before now : Store) (fault : SourceFault) → StartsSource (Err fault) before now → RefusesStart fault → ends.StoreFailed ≡ source_ending fault → Caused before now
-start_caused before now faults.Failed start refuses is = start.cause
+start_caused before now faults.Failed start refuses is = start.0.cause
 start_caused before now faults.NoMemory start refuses is = absurd (not_failed ends.NoMemory refl is)
 start_caused before now faults.Full start refuses is = absurd (not_failed ends.Full refl is)
 start_caused before now faults.TooLong start refuses is = absurd refuses
@@ -127,4 +127,4 @@ pub forwarding_caused : (address s : List ℕ) (deliveries : ℕ) (out : Told) (
     → ForwardEnds address s deliveries ends.StoreFailed out clock link link' before now → HasCause AreFormed true before now
 forwarding_caused address s deliveries out clock link link' before now (inl (fault, start, refuses, is, unwritten, same)) = start_caused before now fault start refuses is
 forwarding_caused address s deliveries out clock link link' before now (inr (boot, mid, start, (end, asks))) =
-    later_caused AreFormed before mid now start.faults (asks_caused clock address s deliveries out _ _ asks)
+    later_caused AreFormed before mid now start.0.faults (asks_caused clock address s deliveries out _ _ asks)

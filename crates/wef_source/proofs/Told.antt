@@ -1,11 +1,11 @@
 -- Rows that are told, and stores that are read one call after the other.
-use Rattle.std.proofs.Common.{◌≡◌, ℕ, ◌-◌, ◌<◌, ◌≤◌, ◌==◌, Bool, false, refl, subst, ◌∙◌, arith, length, Option, Some, None, List, [], ◌∷◌, IfSome}
+use Rattle.std.proofs.Common.{◌≡◌, ℕ, ◌-◌, ◌<◌, ◌≤◌, ◌==◌, Bool, false, refl, sym, subst, ◌∙◌, arith, length, Option, Some, None, List, [], ◌∷◌, IfSome}
 use Rattle.std.specs.List.{AllByRecursion}
 use Rattle.wef_base.specs.Counts.{Rose}
 use Rattle.wef_event.specs.Events.{Event}
 use Rattle.wef_keeper.proofs.Openings.{all_one}
 use Rattle.wef_keeper.specs.Access.{HasRead, IsReady, OpensAndReads, Reads}
-use Rattle.wef_keeper.specs.Keeping.{IsOneOf, Stays, Store}
+use Rattle.wef_keeper.specs.Keeping.{IsLawful, IsOneOf, Stays, Store}
 use Rattle.wef_keeper.specs.Rows.{Rows}
 use Rattle.wef_keeper.specs.declared.keeping.Plan.{Plan}
 use Rattle.wef_source_log.specs.Forms.{AreFormed}
@@ -85,9 +85,9 @@ read_itself store ready = (ready, stays_itself store.rows, stays_itself store.im
     same : (n : ℕ) → n ≤ n
     same n = omega arith
 
-pub opens_itself : (AreFormed : Rows → Type 0) (store : Store) → OpensAndReads AreFormed false store store
-opens_itself AreFormed store =
-    ((narrow store.images, refl, refl, same store.faults, counted store.plan, λ e. e, λ e. e), λ e. let bad : ⊥ = cc in absurd bad, sure store.plan store.rows)
+pub opens_itself : (AreFormed : Rows → Type 0) (store : Store) → IsLawful store → OpensAndReads AreFormed false store store
+opens_itself AreFormed store lawful =
+    ((narrow store.images, refl, refl, same store.faults, counted store.plan, λ e. e, λ e. e, λ opened untold. sym lawful.both ∙ untold), λ e. let bad : ⊥ = cc in absurd bad, sure store.plan store.rows)
   where
     narrow : (images : Option (List Rows)) → IfSome images (λ old. IfSome images (AllByRecursion (IsOneOf old)))
     narrow None = tt

@@ -37,7 +37,7 @@ returns-in_default-clause-listed g c =
     ap (λ (e : End). session_of e.sessions u) (sym c.self.view_is) ∙ first_nowhere (is_named u) c.self.inside.sessions.items none
 
 pub returns-in_default-clause-reads : goal.returns-in_default-clause-reads
-returns-in_default-clause-reads g c = opens_itself AreFormed (g.K.Keeper.store c.args.log.now.keeper)
+returns-in_default-clause-reads g c = opens_itself AreFormed (g.K.Keeper.store c.args.log.now.keeper) (g.met.K.Keeper.lawful c.args.log.now.keeper)
 
 pub prepared-requires : goal.prepared-requires
 prepared-requires g c =

@@ -9,7 +9,7 @@ use Rattle.wef_source.proofs.Told.{opens_itself}
 use Rattle.wef_source.proofs.memories.Memory.prepared.Goals as goal
 
 pub returns-then-is_some-clause-reads : goal.returns-then-is_some-clause-reads
-returns-then-is_some-clause-reads g c = opens_itself AreFormed (g.K.Keeper.store c.args.log.now.keeper)
+returns-then-is_some-clause-reads g c = opens_itself AreFormed (g.K.Keeper.store c.args.log.now.keeper) (g.met.K.Keeper.lawful c.args.log.now.keeper)
 
 pub returns-in_err-open-clause-looks : goal.returns-in_err-open-clause-looks
 returns-in_err-open-clause-looks g c =
