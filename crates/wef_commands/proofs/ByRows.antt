@@ -65,9 +65,9 @@ mid_stands mid now after lawful ready untold told = by mid.rows refl
     by : (o : Option Rows) → mid.rows ≡ o → (rows : Rows) × Stand mid rows
     by (Some rows) is = (rows, record { lawful = lawful; calm = ready.1; told = is })
     by None is =
-        let none : is_some mid.images ≡ false = lawful.both ∙ ap (λ (o : Option Rows). is_some o) is in
-        let not : is_some now.rows ≡ false = untold ready.0 none in
-        let bad : true ≡ false = sym (ap (λ (o : Option Rows). is_some o) told) ∙ not in cc
+        let imageless : is_some mid.images ≡ false = lawful.both ∙ ap (λ (o : Option Rows). is_some o) is in
+        let rowless : is_some now.rows ≡ false = untold ready.0 imageless in
+        let bad : true ≡ false = sym (ap (λ (o : Option Rows). is_some o) told) ∙ rowless in cc
 
 -- ---- starts
 
@@ -164,10 +164,10 @@ module _ (s : Subscription) (input : Told) (document : HasDocument s input) (aga
   refused_so faults.Failed mid now call found rows after stand told is = tt
   refused_so faults.Exists mid now call found rows after stand told is =
       let did = from_one mid now rows after (Did collector_store AreFormed (λ rows. add_effect rows s) (λ _. tt) (Err faults.Exists) mid now) stand told call.0.did in
-      record { subscription = s; document = document; why = (refl, subst (λ (r : Rows). is_there r s.name ≡ true) is (add_exists rows s did.answer.0)); rows = did.answer.1 ∙ is }
+      record { subscription = s; document = document; cause = (refl, subst (λ (r : Rows). is_there r s.name ≡ true) is (add_exists rows s did.answer.0)); rows = did.answer.1 ∙ is }
   refused_so faults.TooMany mid now call found rows after stand told is =
       let did = from_one mid now rows after (Did collector_store AreFormed (λ rows. add_effect rows s) (λ _. tt) (Err faults.TooMany) mid now) stand told call.0.did in
-      record { subscription = s; document = document; why = subst (λ (r : Rows). (is_there r s.name ≡ false) × (is_full r ≡ true)) is (add_too_many rows s did.answer.0); rows = did.answer.1 ∙ is }
+      record { subscription = s; document = document; cause = subst (λ (r : Rows). (is_there r s.name ≡ false) × (is_full r ≡ true)) is (add_too_many rows s did.answer.0); rows = did.answer.1 ∙ is }
   refused_so _ mid now call found rows after stand told is = absurd call.1
 
   told_so : (ending : Ending) (out : Told) → WroteOut (added_text s.name) ending out → (found after : Rows) → IsAdded input found after → AddSays ending input found after
@@ -229,17 +229,15 @@ module _ (u : List ℕ) where
       (refl, subst (λ (r : Rows). IsEnded (standing r u)) is (end_already rows did.answer.0), did.answer.1 ∙ is)
   not_ended _ mid now call found rows after stand told is = absurd call.1
 
-  HasEnded : Rows → Rows → Type 0
+  abbrev HasEnded : Rows → Rows → Type 0
   HasEnded found after = ((s : Subscription) × (standing (started found) u ≡ Live s)) × (after ≡ ended_rows (started found) u)
 
   ended_told : (ending : Ending) (out : Told) → WroteOut (ended_text u) ending out → (found after : Rows) → HasEnded found after → RemoveSays u ending found after
-  unfolding HasEnded
   ended_told ends.Done out wrote found after is = is
   ended_told ends.OutputFailed out wrote found after is = is
   ended_told _ out wrote found after is = absurd wrote
 
   end_call : (ending : Ending) (out : Told) (before now : Store) → CallEnds (Ends u) (named_ending u) (λ _. WroteOut (ended_text u)) ending out before now → OverRows (RemoveSays u ending) before now
-  unfolding HasEnded
   end_call ending out before now (inl (fault, start, is, unwritten)) =
       start_by_rows (RemoveSays u) (λ found after. tt) (λ found after. tt) (λ found after full same. (full, same)) ending before now fault start is
   end_call ending out before now (inr (inl (fault, begun, is, unwritten))) =

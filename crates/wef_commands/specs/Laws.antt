@@ -59,7 +59,7 @@ pub record IsAdded (input : Told) (found after : Rows) : Type 0 where
 pub record IsNotAdded (Why : Subscription → Type 0) (input : Told) (found after : Rows) : Type 0 where
   pub subscription : Subscription
   pub document : HasDocument subscription input
-  pub why : Why subscription
+  pub cause : Why subscription
   pub rows : after ≡ started found
 
 -- By its endings: `exists` and `too many` are told exactly by the rows, and it is done only where neither holds. `full` tells that
