@@ -1,10 +1,11 @@
 -- What is read at once is what is read character by character.
-use Rattle.std.proofs.Common.{◌≡◌, ℕ, suc, ◌+◌, ◌<◌, ◌==◌, Bool, true, false, cond, List, [], ◌∷◌, ◌++◌, length, take, drop, encode_utf8, encode_utf8_all, refl, sym, ap, ◌∙◌, append_assoc, append-nil, length-drop, subst, arith}
-use Rattle.std.specs.Prelude.{Option, Some, None, ◌&&◌, ◌||◌, not, is_some, map}
+use Rattle.std.proofs.Common.{◌≡◌, ℕ, suc, ◌+◌, ◌<◌, ◌≤◌, ◌==◌, Bool, true, false, cond, List, [], ◌∷◌, ◌++◌, length, take, drop, encode_utf8, encode_utf8_all, refl, sym, ap, ◌∙◌, append_assoc, append-nil, length-drop, subst, arith, eq-eqb}
+use Rattle.std.specs.Prelude.{Option, Some, None, ◌&&◌, ◌||◌, not, is_some, map, if◌then◌else◌}
 use Rattle.std.proofs.lemmas.Bool.Decides.{nat_tests}
 use Rattle.std.specs.List.{prefix_len}
 use Rattle.std.specs.Option.{option_map}
 use Rattle.wef_base.specs.Characters.{is_xml_char}
+use Rattle.wef_base.specs.Names.{is_space, without_start}
 use Rattle.wef_xml.specs.Fronts.{strip}
 use Rattle.wef_tree_pieces.specs.Pieces.{markup_at, piece_at}
 use Rattle.wef_tree_pieces.specs.References.{reference_at}
@@ -92,3 +93,51 @@ letters_walk (c ∷ cs) behind letters n before after is some inside front back 
         let shorter : length behind < length (c ∷ cs) = let l = length-drop k cs in let same = ap length back_is in omega arith in
         (map Letter (c ∷ take k cs), subst R (sym back_is) (subst Q (sym now_is) leads), shorter)
     by false e = absurd (some (is ∙ (λ i. cond (e i) (1 + prefix_len is_letter cs) 0)))
+
+space_is_letter : (c : ℕ) → is_space c ≡ true → is_letter c ≡ true
+space_is_letter c h = grind (arith, nat_tests, h)
+
+space_taken : (b : Builder) (c : ℕ) → is_outside b ≡ true → is_space c ≡ true → taken b (Letter c) ≡ Some (record b { begun = true })
+unfolding taken
+space_taken b c outside h = rw outside (rw h refl)
+
+-- the spaces that a text begins with, as pieces
+abbrev spaces : List ℕ → List Piece
+spaces [] = []
+spaces (c ∷ cs) = if is_space c then Letter c ∷ spaces cs else []
+
+-- spaces outside of the root change nothing, once a piece has come
+spaces_lead : (cs : List ℕ) (b : Builder) → is_outside b ≡ true → Leads (record b { begun = true }) (spaces cs) cs (record b { begun = true }) (without_start cs)
+spaces_lead [] b outside = (refl, refl)
+spaces_lead (c ∷ cs) b outside = by (is_space c) refl (spaces_lead cs b outside)
+  where
+    by : (is : Bool) → is_space c ≡ is → Leads (record b { begun = true }) (spaces cs) cs (record b { begun = true }) (without_start cs) →
+        Leads (record b { begun = true }) (cond is (Letter c ∷ spaces cs) []) (c ∷ cs) (record b { begun = true }) (cond is (without_start cs) (c ∷ cs))
+    by true e more = (record b { begun = true }, cs, letter_piece c cs (space_is_letter c e), space_taken (record b { begun = true }) c outside e, more)
+    by false e more = (refl, refl)
+
+start_no_longer : (cs : List ℕ) → length (without_start cs) ≤ length cs
+start_no_longer [] = omega arith
+start_no_longer (c ∷ cs) = by (is_space c) (start_no_longer cs)
+  where
+    by : (is : Bool) → length (without_start cs) ≤ length cs → length (cond is (without_start cs) (c ∷ cs)) ≤ suc (length cs)
+    by true h = omega arith
+    by false h = omega arith
+
+-- Spaces outside of the root were taken at once.
+pub spaces_walk : (text behind : List ℕ) (before after : Builder) → behind ≡ without_start text → ¬ (length behind ≡ length text) → length before.around ≡ 0 →
+    after ≡ record before { begun = true } → (ps : List Piece) × (Leads before ps text after behind) × (length behind < length text)
+spaces_walk [] behind before after back some outside now = absurd (some (ap length back))
+spaces_walk (c ∷ cs) behind before after back some outside now = by (is_space c) refl
+  where
+    by : (here : Bool) → is_space c ≡ here → (ps : List Piece) × (Leads before ps (c ∷ cs) after behind) × (length behind < length (c ∷ cs))
+    by true e =
+        let is_out : is_outside before ≡ true = eq-eqb (length before.around) 0 outside in
+        let back_is : behind ≡ without_start cs = back ∙ (λ i. cond (e i) (without_start cs) (c ∷ cs)) in
+        let leads : Leads before (Letter c ∷ spaces cs) (c ∷ cs) (record before { begun = true }) (without_start cs) =
+        (record before { begun = true }, cs, letter_piece c cs (space_is_letter c e), space_taken before c is_out e, spaces_lead cs before is_out) in
+        let Q : Builder → Type 0 = λ b. Leads before (Letter c ∷ spaces cs) (c ∷ cs) b (without_start cs) in
+        let R : List ℕ → Type 0 = λ rest. Leads before (Letter c ∷ spaces cs) (c ∷ cs) after rest in
+        let shorter : length behind < length (c ∷ cs) = let l = start_no_longer cs in let same = ap length back_is in omega arith in
+        (Letter c ∷ spaces cs, subst R (sym back_is) (subst Q (sym now) leads), shorter)
+    by false e = absurd (some (ap length (back ∙ (λ i. cond (e i) (without_start cs) (c ∷ cs)))))

@@ -1,7 +1,7 @@
 //! Reading a document: piece by piece, until the text ends or no piece is good.
 
 ghost use Rattle.std.specs.List.{list_any, prefix_len};
-ghost use Rattle.std.specs.Prelude.{◌≡◌, ◌==◌, ◌≤◌, false, length, IfOk, OnOk};
+ghost use Rattle.std.specs.Prelude.{◌≡◌, ◌==◌, ◌≢◌, ◌≤◌, false, length, IfOk, OnOk};
 ghost use Rattle.std.specs.declared.result.Result.TheVariants.{Ok};
 ghost use Rattle.wef_tree_reading.specs.Building.{taken};
 ghost use Rattle.wef_tree_reading.specs.Documents.{GivesTree, tree_of};
@@ -16,6 +16,7 @@ use crate::building::{Builder, GREATEST_DEPTH};
 use crate::faults::{FaultKind, Stop};
 use crate::known::Known;
 use std::alloc::Global;
+use wef_base::names::trim_start;
 use wef_base::{Charset, Element, is_xml_char};
 use wef_tree_pieces::{Halt, Piece, piece_at};
 use wef_xml::decoding::decode;
@@ -122,8 +123,9 @@ fn read_text(alloc: Global, text: &[char]) -> Result<ToldTree, Stop>
     }
 }
 
-/// Takes the first piece of a text, or all letters that it begins with, and gives what is behind.
-#[tactic(auto, using(crate::proofs::Walks::one_step))]
+/// Takes the first piece of a text, or all letters or spaces that it begins with, and gives what is
+/// behind. It looks no further than a few characters behind what it takes, so that a text is gone
+/// through once.
 fn walk<'a>(
     alloc: Global,
     builder: &mut Builder,
@@ -134,8 +136,27 @@ fn walk<'a>(
     ensures walks { Walks builder.old builder.new text.now result }
     ensures knows { OnOk result (KnowsBuilder known.new builder.new) }
 {
+    if builder.depth() == 0 {
+        return walk_outside(alloc, builder, known, text);
+    }
+    walk_inside(alloc, builder, known, text)
+}
+
+/// Walks where an element is open: letters are text of it.
+#[tactic(auto, using(crate::proofs::Walks::one_step))]
+fn walk_inside<'a>(
+    alloc: Global,
+    builder: &mut Builder,
+    known: &mut Known,
+    text: &'a [char],
+) -> Result<&'a [char], Stop>
+    requires inside { length builder.old.around ≢ 0 }
+    requires known { KnowsBuilder known.old builder.old }
+    ensures walks { Walks builder.old builder.new text.now result }
+    ensures knows { OnOk result (KnowsBuilder known.new builder.new) }
+{
     let length = letters_length(text);
-    if length == 0 || builder.depth() == 0 {
+    if length == 0 {
         return step(alloc, builder, known, text);
     }
     let (letters, behind) = text.split_at(length);
@@ -143,6 +164,27 @@ fn walk<'a>(
         Ok(()) => Ok(behind),
         Err(_) => Err(Stop::NoMemory),
     }
+}
+
+/// Walks where no element is open: of the letters only spaces may stand there.
+#[tactic(auto, using(crate::proofs::Walks::one_step))]
+fn walk_outside<'a>(
+    alloc: Global,
+    builder: &mut Builder,
+    known: &mut Known,
+    text: &'a [char],
+) -> Result<&'a [char], Stop>
+    requires outside { length builder.old.around ≡ 0 }
+    requires known { KnowsBuilder known.old builder.old }
+    ensures walks { Walks builder.old builder.new text.now result }
+    ensures knows { OnOk result (KnowsBuilder known.new builder.new) }
+{
+    let behind = trim_start(text);
+    if behind.len() == text.len() {
+        return step(alloc, builder, known, text);
+    }
+    builder.begun = true;
+    Ok(behind)
 }
 
 /// How many characters a text begins with that are pieces by themselves, whatever follows.
