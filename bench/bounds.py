@@ -1,24 +1,34 @@
 #!/usr/bin/env python3
-"""Runs documents and schedules of strangers' shapes, each at two sizes a factor 2 apart.
+"""Runs documents, schedules, requests and replies of strangers' shapes, each at two sizes a factor 2 apart.
 
-    bench/bounds.py [FOLDER]       FOLDER has the built programs; crates where it isn't given
+    bench/bounds.py [FOLDER [WORD]]       FOLDER has the built programs; crates where it isn't given. WORD: only shapes of bench/shapes.py
+                                          whose titles have it
 
 Prints for each the seconds of processor time (the best of three runs), the peak memory, and the factors from the smaller
-to the greater. It fails where twice as much takes more than 2.6 times as long or as much memory. Two documents of 16 MiB are
-taken once: it fails where four million elements take more than 2 GiB, or children whose namespace is too long for an event
-more than two seconds until they are refused.
+to the greater. It fails where twice as much takes more than 2.6 times as long or as much memory, and where 1 MiB of a shape of
+bench/shapes.py takes more than 1.5 seconds; of these it prints those that miss a bound, and the slowest of each command. Some
+documents of 16 MiB are taken once: it fails where four million elements take more than 2 GiB, children whose namespace is too
+long for an event more than two seconds until they are refused, or spaces outside the root more than 1.5 times as long as
+letters of a text.
 """
+import itertools
 import os
+import re
+import socket
 import subprocess
 import sys
 import tempfile
+import threading
 
 import collect
+import shapes
 
 HERE = os.path.dirname(os.path.abspath(__file__))
 MOST_FACTOR = 2.6
 TURNS = 3
 MEBIBYTE = 1 << 20
+MOST_SECONDS = 1.5
+MOST_SPACES = 1.5
 # Times and peaks below these say more of the program's start than of its input.
 LEAST_SECONDS, LEAST_BYTES = 0.02, 16 * MEBIBYTE
 
@@ -145,6 +155,182 @@ def deliver(words, event):
     return seconds, peak * MEBIBYTE
 
 
+def used(process):
+    """The seconds of processor time of a process once it has ended, and its peak memory in bytes."""
+    _, status, usage = os.wait4(process.pid, 0)
+    process.returncode = os.waitstatus_to_exitcode(status)
+    if process.returncode < 0:
+        sys.exit(f"a run ended with signal {-process.returncode}")
+    return usage.ru_utime + usage.ru_stime, usage.ru_maxrss * 1024
+
+
+def judge(words, text):
+    """The same of a command that may refuse what it reads."""
+    with tempfile.TemporaryDirectory() as folder, tempfile.TemporaryFile() as stdin:
+        stdin.write(text.encode())
+        stdin.seek(0)
+        return used(subprocess.Popen(words, stdin=stdin, stdout=subprocess.DEVNULL, stderr=subprocess.DEVNULL, cwd=folder))
+
+
+def send(link, text):
+    """Sends bytes, as far as the other end takes them."""
+    try:
+        link.sendall(text)
+        link.shutdown(socket.SHUT_WR)
+    except OSError:
+        pass
+
+
+def hear(link):
+    """Reads what comes, up to its end."""
+    try:
+        while link.recv(1 << 16):
+            pass
+    except OSError:
+        pass
+
+
+def serve(words, text):
+    """The same of `collect`, to which a connection brings these bytes."""
+    with tempfile.TemporaryDirectory() as folder:
+        subprocess.run([words[0], "add"], cwd=folder, input=collect.SUBSCRIPTION, text=True, stdout=subprocess.DEVNULL, check=True)
+        collector = collect.Collector(words[0], folder)
+        with collector.connect() as link:
+            sender = threading.Thread(target=send, args=(link, text.encode()))
+            sender.start()
+            hear(link)
+            sender.join()
+        collector.process.stdout.read()
+        return used(collector.process)
+
+
+def request(words, body):
+    """The same of a request with this body."""
+    return serve(words, shapes.HEAD + f"Content-Length: {len(body.encode())}\r\n\r\n" + body)
+
+
+class Replies(threading.Thread):
+    """A collector that gives these replies, one a connection, and reads each request before. It closes what comes behind them."""
+
+    def __init__(self, replies):
+        super().__init__(daemon=True)
+        self.replies = replies
+        self.listener = socket.create_server(("127.0.0.1", 0))
+        self.address = f"127.0.0.1:{self.listener.getsockname()[1]}"
+
+    def run(self):
+        for reply in itertools.chain(self.replies, itertools.repeat(None)):
+            try:
+                link, _ = self.listener.accept()
+            except OSError:
+                return
+            with link, link.makefile("rb") as stream:
+                if reply is not None:
+                    send(link, reply(read_request(stream)).encode())
+                    hear(link)
+
+    def end(self):
+        self.listener.shutdown(socket.SHUT_RDWR)
+        self.join()
+        self.listener.close()
+
+
+def read_request(stream):
+    """The body of the next request."""
+    length = 0
+    while (line := stream.readline()) not in (b"\r\n", b""):
+        name, _, value = line.partition(b":")
+        if name.lower() == b"content-length":
+            length = int(value)
+    return stream.read(length).decode()
+
+
+def reply_of(body):
+    """A reply with this body, to whatever was sent."""
+
+    def reply(sent):
+        found = re.search("MessageID>([^<]*)<", sent)
+        answer = body.replace("MESSAGE", found[1] if found else "")
+        return shapes.RESPONSE_HEAD + f"Content-Length: {len(answer.encode())}\r\n\r\n" + answer
+
+    return reply
+
+
+def forward(words, replies):
+    """The same of `forward`, whose log has an event, and which hears these replies."""
+    with tempfile.TemporaryDirectory() as folder:
+        subprocess.run([words[0], "write"], cwd=folder, input=shapes.EVENT + "\n", text=True, stdout=subprocess.DEVNULL, check=True)
+        collector = Replies(replies)
+        collector.start()
+        process = subprocess.Popen([words[0], "forward", collector.address, "pc1", "1"], cwd=folder, stdout=subprocess.DEVNULL, stderr=subprocess.DEVNULL)
+        taken = used(process)
+        collector.end()
+        return taken
+
+
+def hear_offers(words, body):
+    """The same where a body answers what is asked."""
+    return forward(words, [reply_of(body)])
+
+
+def hear_acknowledgement(words, body):
+    """The same where a body answers a batch."""
+    return forward(words, [reply_of(shapes.OFFERS), reply_of(body)])
+
+
+def hear_response(words, text):
+    """The same where these bytes answer what is asked."""
+    return forward(words, [lambda sent: text])
+
+
+# How each command of bench/shapes.py is run.
+RUNNERS = {
+    "add": judge,
+    "check": judge,
+    "write": judge,
+    "replay": judge,
+    "collect": request,
+    "head": serve,
+    "forward": hear_offers,
+    "acknowledged": hear_acknowledgement,
+    "response": hear_response,
+}
+
+
+def stranger(program, command, text, pieces):
+    """Measures what stands in a text at two sizes, again where a bound is missed. Answers the greater's time and peak, the factors of both,
+    and whether all are within their bounds."""
+    best = None
+    for _ in range(TURNS):
+        small, great = (RUNNERS[command]([program, command], shapes.filled(text, pieces, size)) for size in (MEBIBYTE // 2, MEBIBYTE))
+        slower, larger = factor(small[0], great[0], LEAST_SECONDS), factor(small[1], great[1], LEAST_BYTES)
+        is_good = great[0] <= MOST_SECONDS and slower <= MOST_FACTOR and larger <= MOST_FACTOR
+        if best is None or is_good or great[0] < best[0]:
+            best = (*great, slower, larger, is_good)
+        if is_good:
+            break
+    return best
+
+
+def strangers(program, word):
+    """Measures each shape of bench/shapes.py whose title has a word. Answers whether all are within their bounds."""
+    good, slowest, counts = True, {}, {}
+    for command, text, pieces in shapes.table():
+        name = shapes.title(command, text, pieces)
+        if word not in name:
+            continue
+        took, peak, slower, larger, is_good = stranger(program, command, text, pieces)
+        line = f"{name:<90} {took:>6.2f} s {peak / MEBIBYTE:>5,.0f} MiB, {slower:.1f} times as long and {larger:.1f} times as much as half of it"
+        counts[command] = counts.get(command, 0) + 1
+        slowest[command] = max(slowest.get(command, (0, "")), (took, line))
+        if not is_good:
+            print(f"misses a bound: {line}", flush=True)
+            good = False
+    for command, (_, line) in slowest.items():
+        print(f"the slowest of {counts[command]}: {line}", flush=True)
+    return good
+
+
 def measured(runner, words, text):
     runs = [runner(words, text) for _ in range(TURNS)]
     return min(seconds for seconds, _ in runs), max(peak for _, peak in runs)
@@ -182,11 +368,24 @@ def stays(words, title, text, most_seconds, most_bytes):
     return seconds <= most_seconds and peak <= most_bytes
 
 
+def keeps_pace(words, size):
+    """Reads letters of one text, and as many spaces in front of a root and behind it. Answers whether the spaces keep the pace."""
+    letters, _ = measured(run, words, "<a>" + "x" * size + "</a>")
+    good = True
+    for title, text in (("in front of the root", " " * size + "<a/>"), ("behind the root", "<a/>" + " " * size)):
+        took, _ = measured(run, words, text)
+        print(f"{size:,} spaces {title}: {took:.2f} s, {took / letters:.2f} times as long as letters of a text", flush=True)
+        good &= took <= MOST_SPACES * letters
+    return good
+
+
 def main():
     crates = os.path.abspath(sys.argv[1] if len(sys.argv) > 1 else os.path.join(HERE, "..", "crates"))
     layers = os.path.join(crates, "bench_layers", "out", "bench_layers")
     program = os.path.join(crates, "wef", "out", "wef")
-    good = []
+    if len(sys.argv) > 2:
+        sys.exit(0 if strangers(program, sys.argv[2]) else "a bound isn't met")
+    good = [strangers(program, "")]
     for word in ("read", "write"):
         for shape in DOCUMENTS:
             good.append(meets([layers, "trees", word], f"{word} {shape.__name__}", shape, MEBIBYTE))
@@ -194,6 +393,7 @@ def main():
         good.append(meets([program, word], f"{word} {shape.__name__}", shape, MEBIBYTE // 2, runner))
     for shape, size in SCHEDULES:
         good.append(meets([program, "replay"], shape.__name__, shape, size))
+    good.append(keeps_pace([layers, "trees", "read"], 16 * MEBIBYTE))
     # last, since the peak of a run counts what this one had before it
     greatest = 16 * MEBIBYTE
     good.append(stays([layers, "trees", "read"], "read empty_elements", empty_elements(greatest), 10, 2048 * MEBIBYTE))
@@ -203,4 +403,5 @@ def main():
         sys.exit("a bound isn't met")
 
 
-main()
+if __name__ == "__main__":
+    main()

@@ -4,8 +4,9 @@
 //! With words behind its name it is `wef`.
 //!
 //! A line `=== CRATE TASK: TITLE` says which crate of tests answers each line behind it, and as what. Behind
-//! a line `=== script: TITLE` each is the name of a script. Behind `=== link: TITLE` each says what a link over
-//! TCP is to do, one link for all: so a script that runs this program without words has a client. A line
+//! a line `=== many CRATE TASK: TITLE` they stand for longer ones, in which `~PIECE~COUNT~` is so many of a piece.
+//! Behind a line `=== script: TITLE` each is the name of a script. Behind `=== link: TITLE` each says what a link
+//! over TCP is to do, one link for all: so a script that runs this program without words has a client. A line
 //! `=== schedule: TITLE` begins a schedule of the lines behind it, and behind a line `=== each: TITLE` every
 //! line is a schedule of its own: it stands last, without an end of its line, behind a line that adds the
 //! subscription `base`.
@@ -18,6 +19,7 @@ use schedules::{push_replayed, push_replayed_last};
 use std::alloc::AllocError;
 use std::process::ExitCode;
 use std::{env, io};
+use tests_runs::repeats::repeated;
 use wef_base::{Bytes, Text};
 use wef_tcp::TcpLink;
 
@@ -87,10 +89,18 @@ fn print_call(rt: &HostRuntime, link: &mut TcpLink, line: &str) -> io::Result<()
 fn print_answer(rt: &HostRuntime, name: &str, line: &str) -> io::Result<()> {
     println!(rt; "{line}")?;
     let mut shown = Text::new(rt.alloc());
-    if !push_answer(&mut shown, name, line)? {
+    if !push_answer_of_many(&mut shown, name, line)? {
         return Err(io::ErrorKind::InvalidData.into());
     }
     println!(rt; "    {}", shown.as_str())
+}
+
+/// Appends the answer to a line, in which pieces are repeated where `many` stands before its name.
+fn push_answer_of_many(shown: &mut Text, name: &str, line: &str) -> Result<bool, AllocError> {
+    match name.strip_prefix("many ") {
+        Some(name) => push_answer(shown, name, repeated(shown.alloc(), line, '~')?.as_str()),
+        None => push_answer(shown, name, line),
+    }
 }
 
 /// Appends the answer to a line by the name before a heading's colon, and tells whether there is one.
