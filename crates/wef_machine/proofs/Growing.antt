@@ -1,5 +1,5 @@
 -- What is true of offers, sessions and messages stays so while rows, sources and messages grow.
-use Rattle.std.proofs.Common.{◌≡◌, ℕ, ◌≤◌, List, [], ◌++◌, refl, sym, ◌∙◌, subst, arith, length-append, append-nil}
+use Rattle.std.proofs.Common.{◌≡◌, ℕ, ◌<◌, ◌≤◌, Bool, cond, not, ◌&&◌, List, [], ◌++◌, nat_le, refl, ap, sym, ◌∙◌, subst, arith, length-append, append-nil}
 use Rattle.std.specs.Prelude.{Option, Some, None}
 use Rattle.std.specs.FinMap as finite
 use Rattle.wef_batch.specs.Reach.{reach}
@@ -16,14 +16,17 @@ use Rattle.wef_query.specs.declared.QueryList.{QueryList}
 use Rattle.wef_source_log.specs.Histories.{Histories, History, history}
 use Rattle.wef_source.specs.Fits.{Fits, FitsChannel, ranges_in}
 use Rattle.wef_source.specs.Machine.{End}
+use Rattle.wef_source.specs.Wanted.{Range, in_ranges, selected_at, wanted}
 use Rattle.wef_source.specs.declared.messages.Delivery.{Delivery}
 use Rattle.wef_source.specs.declared.sessions.Outstanding.{Outstanding}
 use Rattle.wef_source.specs.declared.sessions.Session.{Session}
 use Rattle.wef_machine.specs.Kept.{AreTerms, IsAckKept, IsBehind, IsDelivery, IsMessageKept, IsOffered, IsRunningKept, IsServed, IsSourceKept, WaitsFor, WasDrawn, WhereDeclared, last_id}
+use Rattle.wef_machine.specs.Laws.{FittingRises}
 use Rattle.wef_machine.specs.Safe.{IsReached, WasSent, subscription_at}
 use Rattle.wef_machine.specs.States.{Slot, Slots}
 use Rattle.wef_machine.specs.declared.messages.Message.{Message}
 use Rattle.wef_machine.specs.declared.messages.Message.TheVariants.{Ask, Offers, Events, Ack, Fault}
+use Rattle.wef_machine.proofs.Numbered.{lt_tested}
 use Rattle.wef_machine.proofs.Sent.{all_map}
 use Rattle.wef_machine.proofs.Takes.{lost_longer}
 use Rattle.wef_machine.proofs.WantedEvents.{wanted_longer}
@@ -87,6 +90,30 @@ fits_longer query max_bytes all all' capacity b batch grows fits = record {
   channels = λ c listed.
       subst (λ (records : History). FitsChannel query max_bytes c records capacity (number_at b c) batch.items (reach c batch)) (sym ((grows.channels c).1))
       (channel_longer query max_bytes c (history all c) ((grows.channels c).0) capacity (number_at b c) batch.items (reach c batch) (fits.channels c listed));
+}
+
+-- ---- bookmarks that rise
+
+wanted_above : (query : QueryList) (c : List ℕ) (records : History) (b more t : ℕ) (ranges : List Range) (n : ℕ) → b ≤ more → more < n →
+    wanted query c records b t ranges n ≡ wanted query c records more t ranges n
+wanted_above query c records b more t ranges n less above =
+    ap (λ (x : Bool). cond (x && nat_le n t && not (in_ranges ranges n)) (selected_at query c records n) None) (lt_tested b n (omega arith) ∙ sym (lt_tested more n above))
+
+channel_above : (query : QueryList) (max_bytes : ℕ) (c : List ℕ) (records : History) (capacity b more : ℕ) (items : List Item) (t : Option ℕ) → b ≤ more →
+    FitsChannel query max_bytes c records capacity b items t → FitsChannel query max_bytes c records capacity more items t
+channel_above query max_bytes c records capacity b more items None less fits = tt
+channel_above query max_bytes c records capacity b more items (Some t) less fits = record {
+  within = fits.within;
+  exact = λ n above. fits.exact n (omega arith) ∙ wanted_above query c records b more t (ranges_in c items) n less above;
+  lost = fits.lost;
+}
+
+pub fitting_rises : FittingRises
+fitting_rises query max_bytes all capacity b more batch less fits = record {
+  well_formed = fits.well_formed;
+  no_loose = fits.no_loose;
+  others = fits.others;
+  channels = λ c listed. channel_above query max_bytes c (history all c) capacity (number_at b c) (number_at more c) batch.items (reach c batch) (less c) (fits.channels c listed);
 }
 
 -- ---- facts that stay

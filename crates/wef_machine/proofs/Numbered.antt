@@ -13,7 +13,7 @@ use Rattle.std.specs.Prelude.{T}
 use Rattle.std.specs.declared.cmp.Ordering.TheVariants.{Less, Equal, Greater}
 use Rattle.std.proofs.lemmas.Bool.{and_parts, eqb-true}
 use Rattle.wef_collector_rows.specs.Keys.{key}
-use Rattle.wef_keeper.specs.Rows.{Rows, is_after, key_cmp, key_cmp_exact, row_of}
+use Rattle.wef_keeper.specs.Rows.{Rows, is_after, key_cmp, key_cmp_exact, key_cmp_total, row_of}
 use Rattle.wef_keeper.specs.Sections.{is_under, rows_under}
 use Rattle.wef_keeper.specs.declared.keys.Cell.{Cell}
 use Rattle.wef_keeper.specs.declared.keys.Depth.{Depth}
@@ -160,7 +160,7 @@ above_zero b n e = grind (arith, nat_tests)
 equal_is : (m n : ℕ) → m == n ≡ true → m ≡ n
 equal_is m n e = grind (arith, nat_tests)
 
-lt_tested : (m n : ℕ) → m < n → nat_lt m n ≡ true
+pub lt_tested : (m n : ℕ) → m < n → nat_lt m n ≡ true
 lt_tested m n e = grind (arith, nat_tests)
 
 differs : (m n : ℕ) → m < n → m == n ≡ false
@@ -211,6 +211,34 @@ same_section k u s c m after before same =
     let lists = same_numbers (numbered k u s c m after) (numbered k u s c m before) (numbered_sorted k u s c m after) (numbered_sorted k u s c m before)
     (λ n. find_numbered k u s c m after n ∙ ap (λ (cell : Option Cell). cond (nat_lt m n) cell None) (same n) ∙ sym (find_numbered k u s c m before n)) in
     rows_numbered k u s c m after ∙ ap (map (own_row k u s c)) lists ∙ sym (rows_numbered k u s c m before)
+
+-- ---- sections of any depth
+
+-- what stands at a key of a section
+find_under : (depth : Depth) (a : Key) (rows : Rows) (q : Key) →
+    find key_cmp q (where_key key_cmp (is_under depth a) (where_key key_cmp (is_after a) (finite.entries rows))) ≡ cond (is_under depth a q) (cond (is_after a q) (finite.get rows q) None) None
+find_under depth a rows q =
+    find-where_key key_cmp (is_under depth a) q (alike (is_under depth a) q) (where_key key_cmp (is_after a) (finite.entries rows))
+    ∙ ap (λ (o : Option Cell). cond (is_under depth a q) o None)
+    (find-where_key key_cmp (is_after a) q (alike (is_after a) q) (finite.entries rows) ∙ ap (λ (o : Option Cell). cond (is_after a q) o None) (sym (finite.get-entries rows q)))
+
+-- rows that answer alike in a section have the same section
+pub same_under : (depth : Depth) (a : Key) (after before : Rows) → ((q : Key) → is_under depth a q ≡ true → finite.get after q ≡ finite.get before q) →
+    rows_under depth a after ≡ rows_under depth a before
+same_under depth a after before same =
+    rows_kept (is_under depth a) (where_key key_cmp (is_after a) (finite.entries after))
+    ∙ ap (map row_of) (same_entries key_cmp key_cmp_total key_cmp_exact _ _ (sorted after) (sorted before)
+    (λ q. find_under depth a after q ∙ by_test q (is_under depth a q) refl ∙ sym (find_under depth a before q)))
+    ∙ sym (rows_kept (is_under depth a) (where_key key_cmp (is_after a) (finite.entries before)))
+  where
+    sorted : (rows : Rows) → T (is_sorted key_cmp (where_key key_cmp (is_under depth a) (where_key key_cmp (is_after a) (finite.entries rows))))
+    sorted rows =
+        is_sorted-where_key key_cmp (is_under depth a) (where_key key_cmp (is_after a) (finite.entries rows))
+        (is_sorted-where_key key_cmp (is_after a) (finite.entries rows) (finite.entries_sorted rows))
+
+    by_test : (q : Key) (t : Bool) → is_under depth a q ≡ t → cond t (cond (is_after a q) (finite.get after q) None) None ≡ cond t (cond (is_after a q) (finite.get before q) None) None
+    by_test q true is = ap (λ (o : Option Cell). cond (is_after a q) o None) (same q is)
+    by_test q false is = refl
 
 -- ---- no rows
 

@@ -16,6 +16,12 @@ pub sent_last : (messages : List Message) (n : Message) → WasSent (messages ++
 sent_last [] n = inl refl
 sent_last (x ∷ messages) n = inr (sent_last messages n)
 
+-- what is among messages and more is among the first or the others
+pub sent_either : (messages more : List Message) (m : Message) → WasSent (messages ++ more) m → WasSent messages m ⊎ WasSent more m
+sent_either [] more m was = inr was
+sent_either (x ∷ messages) more m (inl e) = inl (inl e)
+sent_either (x ∷ messages) more m (inr was) = elim (sent_either messages more m was) [ inl before ↦ inl (inr before) | inr last ↦ inr last ]
+
 -- what was sent once a message is sent was sent before, or is that message
 pub sent_split : (messages : List Message) (n m : Message) → WasSent (messages ++ n ∷ []) m → WasSent messages m ⊎ (n ≡ m)
 sent_split [] n m (inl e) = inr e

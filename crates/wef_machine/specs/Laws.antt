@@ -5,7 +5,7 @@ use Rattle.std.specs.Prelude.{◌≡◌, ◌≤◌, List, ℕ, true, None, Some,
 use Rattle.wef_batch.specs.declared.items.Batch.{Batch}
 use Rattle.wef_batch.specs.Reach.{reach}
 use Rattle.wef_batch.specs.WellFormed.{is_in, is_well_formed}
-use Rattle.wef_bookmark.specs.Order.{Marks, number_at}
+use Rattle.wef_bookmark.specs.Order.{IsAtMost, Marks, number_at}
 use Rattle.wef_collector_rows.specs.Answers.{channels_read}
 use Rattle.wef_collector_rows.specs.Bookmarks.{bookmark_at}
 use Rattle.wef_collector.specs.Laws.{moved}
@@ -16,6 +16,7 @@ use Rattle.wef_ids.specs.declared.MessageId.{MessageId}
 use Rattle.wef_eventing.specs.Addresses.{source_in, subscription_in}
 use Rattle.wef_eventing.specs.declared.subscriptions.Subscription.{Subscription}
 use Rattle.wef_keeper.specs.Rows.{Rows}
+use Rattle.wef_query.specs.declared.QueryList.{QueryList}
 use Rattle.wef_source.specs.Fits.{Fits}
 use Rattle.wef_source.specs.declared.messages.Delivery.{Delivery}
 use Rattle.wef_source_log.specs.Histories.{Histories, history}
@@ -58,6 +59,11 @@ FittingBatchesAreSafe = (rows : Rows) (u s c : List ℕ) (start : ℕ) (about : 
     Fits about.query about.max_bytes all capacity b batch → number_at b c ≤ bookmark_at rows u s c →
     IsPairSafe (taken rows u s (channels_read about) batch now) u s c start (settings_of about) (history all c) capacity
     × (bookmark_at (taken rows u s (channels_read about) batch now) u s c ≡ moved (bookmark_at rows u s c) (reach c batch))
+
+-- A batch that fits what a source wrote above a bookmark fits above each one that is in no channel lower.
+abbrev pub FittingRises : Type 0
+FittingRises = (query : QueryList) (max_bytes : ℕ) (all : Histories) (capacity : ℕ) (b more : Marks) (batch : Batch) →
+    IsAtMost b more → Fits query max_bytes all capacity b batch → Fits query max_bytes all capacity more batch
 
 -- In a world in which nothing has happened all is kept.
 abbrev pub StartIsKept : Type 0

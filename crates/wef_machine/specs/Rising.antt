@@ -1,97 +1,145 @@
--- Where sessions stand: each begins at a bookmark that was committed when it was offered, rises by acknowledged batches
--- alone, and sends batches that lie above where it stands.
-use Rattle.std.specs.Prelude.{◌≡◌, ℕ, ◌<◌, max, true, List, [], ◌∷◌, Option, Some, None, ◌⊎◌}
-use Rattle.std.specs.FinMap as finite
+-- Where sessions stand: each begins at the bookmark that was kept when its offer was sent, rises by acknowledged batches
+-- alone, and sends batches that lie above where it stands. It is said of the lines that were done, the last first, from
+-- a world in which nothing has happened.
+use Rattle.std.specs.Prelude.{◌≡◌, ℕ, ◌<◌, true, List, [], ◌∷◌, ◌++◌, Option, Some, None, ◌⊎◌, Contains}
 use Rattle.std.specs.List.{AllByRecursion}
 use Rattle.wef_batch.specs.declared.items.Batch.{Batch}
-use Rattle.wef_bookmark.specs.Order.{Marks, number_at}
+use Rattle.wef_bookmark.specs.Order.{Marks, joined, number_at}
 use Rattle.wef_collector_rows.specs.Bookmarks.{bookmark_of}
 use Rattle.wef_ids.specs.declared.MessageId.{MessageId}
 use Rattle.wef_eventing.specs.Addresses.{subscription_in}
 use Rattle.wef_eventing.specs.declared.offers.Offer.{Offer}
 use Rattle.wef_replay.specs.declared.lines.Line.{Line}
+use Rattle.wef_replay.specs.declared.lines.Line.TheVariants.{Deliver, Back}
 use Rattle.wef_source.specs.Fits.{event_at, ranges_in}
 use Rattle.wef_source.specs.Machine.{End}
 use Rattle.wef_source.specs.Wanted.{in_ranges}
 use Rattle.wef_source.specs.declared.messages.Delivery.{Delivery}
 use Rattle.wef_source.specs.declared.sessions.Session.{Session}
+use Rattle.wef_machine.specs.Deliveries.{message_at, number_back}
 use Rattle.wef_machine.specs.Safe.{WasSent}
-use Rattle.wef_machine.specs.States.{Slot, Slots, State, start}
+use Rattle.wef_machine.specs.States.{Slot, State, slot_of, start}
 use Rattle.wef_machine.specs.Steps.{AreAdmitted, step}
 use Rattle.wef_machine.specs.declared.messages.Message.{Message}
 use Rattle.wef_machine.specs.declared.messages.Message.TheVariants.{Ask, Offers, Events, Ack, Fault}
 
--- a bookmark of a subscription and a source is the one that the collector's rows had in one of some states
-abbrev pub WasCommitted : List State → List ℕ → List ℕ → Marks → Type 0
-WasCommitted [] u s b = ⊥
-WasCommitted (state ∷ states) u s b = (b ≡ bookmark_of state.collector.rows u s) ⊎ WasCommitted states u s b
+-- the state that lines leave
+abbrev pub state_after : List Line → State
+state_after [] = start
+state_after (line ∷ past) = step line (state_after past)
 
--- A batch of a source for a subscription was sent, and acknowledged.
-pub record WasAcknowledged (messages : List Message) (u s : List ℕ) (delivery : Delivery) : Type 0 where
-  pub was_sent : WasSent messages (Events s delivery)
+-- the message that a line delivers
+abbrev pub delivered : Line → State → Option Message
+delivered (Deliver k seen) state = message_at state k
+delivered (Back n) state = message_at state (number_back state n)
+delivered _ state = None
+
+-- A line sends a message in a state: it is one of those that there are then behind those that were sent before.
+pub record Sends (line : Line) (state : State) (m : Message) : Type 0 where
+  -- what the line sends
+  pub more : List Message
+  pub are : (step line state).messages ≡ state.messages ++ more
+  pub is_one : WasSent more m
+
+-- A message was sent by one of the lines done, in the state that the earlier of them had left.
+pub record WasSentAt (past : List Line) (m : Message) (earlier : List Line) : Type 0 where
+  pub line : Line
+  pub later : List Line
+  pub are : past ≡ later ++ line ∷ earlier
+  pub sends : Sends line (state_after earlier) m
+
+-- In a state the source runs, and has a session of the subscription's name that stands at these positions.
+pub record StandsAt (state : State) (u s : List ℕ) (positions : Marks) : Type 0 where
+  pub slot : Slot
+  pub declared : slot_of state s ≡ Some slot
+  pub end : End
+  pub runs : slot.place.memory ≡ Some end
+  pub session : Session
+  pub is_one : Contains end.sessions session
+  pub name : session.name ≡ u
+  pub is_there : session.positions ≡ positions
+
+-- an offer to a source begins at the bookmark that the collector's rows have in a state
+abbrev pub BeginsAt : State → List ℕ → Offer → Type 0
+BeginsAt state s offer = (u : List ℕ) → subscription_in offer.subscribe.notify_to ≡ Some u → offer.subscribe.from ≡ bookmark_of state.collector.rows u s
+
+-- A line began a session at these positions: it delivered offers, and they are where the subscription's own begins.
+pub record HasBegun (past : List Line) (line : Line) (u s : List ℕ) (positions : Marks) : Type 0 where
+  -- the message that was delivered
+  pub id : MessageId
+  pub relates : MessageId
+  pub offers : List Offer
+  pub delivers : delivered line (state_after past) ≡ Some (Offers s id relates offers)
+  -- its offer of the subscription
+  pub offer : Offer
+  pub is_one : Contains offers offer
+  pub to_subscription : subscription_in offer.subscribe.notify_to ≡ Some u
+  -- it begins at the bookmark of the very state in which the message was sent
+  pub earlier : List Line
+  pub was_sent : WasSentAt past (Offers s id relates offers) earlier
+  pub from : offer.subscribe.from ≡ bookmark_of (state_after earlier).collector.rows u s
+  -- there the session stands
+  pub is_there : (c : List ℕ) → number_at positions c ≡ number_at offer.subscribe.from c
+
+-- A line raised a session from some positions to others: it delivered the acknowledgement of a batch that the session had
+-- sent, and each channel's position is the greater of its own and that of the batch's bookmark.
+pub record WasRaised (line : Line) (state : State) (u s : List ℕ) (before positions : Marks) : Type 0 where
+  pub delivery : Delivery
+  pub was_sent : WasSent state.messages (Events s delivery)
   pub to_subscription : subscription_in delivery.notify_to ≡ Some u
   pub reply : MessageId
-  pub acknowledged : WasSent messages (Ack s reply delivery.id)
+  pub delivers : delivered line state ≡ Some (Ack s reply delivery.id)
+  pub is_there : positions ≡ joined before delivery.batch.to
 
--- how far a channel is read from a number on once batches were acknowledged
-abbrev pub risen : ℕ → List Delivery → List ℕ → ℕ
-risen n [] c = n
-risen n (delivery ∷ deliveries) c = max (risen n deliveries c) (number_at delivery.batch.to c)
-
--- Positions began at a bookmark that was committed in one of some states, and rose by batches that were acknowledged.
-pub record HaveRisen (past : List State) (messages : List Message) (u s : List ℕ) (positions : Marks) : Type 0 where
-  pub from : Marks
-  pub committed : WasCommitted past u s from
-  pub deliveries : List Delivery
-  pub acknowledged : AllByRecursion (WasAcknowledged messages u s) deliveries
-  pub reached : (c : List ℕ) → number_at positions c ≡ risen (number_at from c) deliveries c
+-- How a session came to stand at positions: the last of the lines done began it there; or it was there before that line,
+-- had come so to where it stood, and was left there or raised to here by an acknowledged batch.
+abbrev pub HasRisen : List Line → List ℕ → List ℕ → Marks → Type 0
+HasRisen [] u s positions = ⊥
+HasRisen (line ∷ past) u s positions =
+    HasBegun past line u s positions
+    ⊎ ((before : Marks) × StandsAt (state_after past) u s before × HasRisen past u s before
+    × ((before ≡ positions) ⊎ WasRaised line (state_after past) u s before positions))
 
 -- What a batch says of a channel lies above a number.
 pub record IsAbove (b : ℕ) (c : List ℕ) (batch : Batch) : Type 0 where
   pub events : (n : ℕ) (text : List ℕ) → event_at c n batch.items ≡ Some text → b < n
   pub ranges : (n : ℕ) → in_ranges (ranges_in c batch.items) n ≡ true → b < n
 
--- A delivery of a source lies above positions that have risen so.
-pub record StandsAbove (past : List State) (messages : List Message) (s : List ℕ) (delivery : Delivery) : Type 0 where
+-- A delivery of a source lies above where the session of its subscription stood as it was sent, which had risen so.
+pub record StandsAbove (earlier : List Line) (s : List ℕ) (delivery : Delivery) : Type 0 where
   pub u : List ℕ
   pub to_subscription : subscription_in delivery.notify_to ≡ Some u
   pub positions : Marks
-  pub risen : HaveRisen past messages u s positions
+  pub stood : StandsAt (state_after earlier) u s positions
+  pub risen : HasRisen earlier u s positions
   pub above : (c : List ℕ) → IsAbove (number_at positions c) c delivery.batch
 
--- an offer to a source begins at a bookmark that was committed
-abbrev pub BeginsCommitted : List State → List ℕ → Offer → Type 0
-BeginsCommitted past s offer = (u : List ℕ) → subscription_in offer.subscribe.notify_to ≡ Some u → WasCommitted past u s offer.subscribe.from
+-- what is true of a message, by the lines that were done before it was sent
+abbrev pub IsSentRisen : List Line → Message → Type 0
+IsSentRisen earlier (Ask s id) = Unit {0}
+IsSentRisen earlier (Offers s id relates offers) = AllByRecursion (BeginsAt (state_after earlier) s) offers
+IsSentRisen earlier (Events s delivery) = StandsAbove earlier s delivery
+IsSentRisen earlier (Ack s id relates) = Unit {0}
+IsSentRisen earlier (Fault s id relates fault) = Unit {0}
 
--- what is true of a message
-abbrev pub IsMessageRisen : List State → List Message → Message → Type 0
-IsMessageRisen past messages (Ask s id) = Unit {0}
-IsMessageRisen past messages (Offers s id relates offers) = AllByRecursion (BeginsCommitted past s) offers
-IsMessageRisen past messages (Events s delivery) = StandsAbove past messages s delivery
-IsMessageRisen past messages (Ack s id relates) = Unit {0}
-IsMessageRisen past messages (Fault s id relates fault) = Unit {0}
+-- A message was sent by one of the lines done, and is so by the state in which it was sent.
+pub record IsMessageRisen (past : List Line) (m : Message) : Type 0 where
+  pub earlier : List Line
+  pub was_sent : WasSentAt past m earlier
+  pub is : IsSentRisen earlier m
 
--- the positions of each session that a source remembers have risen so
-abbrev pub AreSessionsRisen : List State → List Message → List ℕ → Option End → Type 0
-AreSessionsRisen past messages s None = Unit {0}
-AreSessionsRisen past messages s (Some end) = AllByRecursion (λ (session : Session). HaveRisen past messages session.name s session.positions) end.sessions
+-- It is so of all sessions and all messages that there are once lines are done.
+pub record AreAllRisen (past : List Line) : Type 0 where
+  pub sessions : (u s : List ℕ) (positions : Marks) → StandsAt (state_after past) u s positions → HasRisen past u s positions
+  pub sent : (m : Message) → WasSent (state_after past).messages m → IsMessageRisen past m
 
--- It is so of all sessions and all messages, by the states that were.
-pub record AreAllRisen (past : List State) (slots : Slots) (messages : List Message) : Type 0 where
-  pub sessions : (s : List ℕ) (slot : Slot) → finite.get slots s ≡ Some slot → AreSessionsRisen past messages s slot.place.memory
-  pub sent : (m : Message) → WasSent messages m → IsMessageRisen past messages m
+-- the lines done before each line, and all of them, the last first
+abbrev pub pasts_from : List Line → List Line → List (List Line)
+pasts_from past [] = past ∷ []
+pasts_from past (line ∷ lines) = past ∷ pasts_from (line ∷ past) lines
 
--- it is so of the last of some states, by it and those before it
-abbrev pub IsLastRisen : List State → Type 0
-IsLastRisen [] = Unit {0}
-IsLastRisen (state ∷ earlier) = AreAllRisen (state ∷ earlier) state.sources state.messages
-
--- for each state of a run, that state and those before it, the last first
-abbrev pub pasts_from : List State → State → List Line → List (List State)
-pasts_from earlier state [] = (state ∷ earlier) ∷ []
-pasts_from earlier state (line ∷ lines) = (state ∷ earlier) ∷ pasts_from (state ∷ earlier) (step line state) lines
-
--- In every state of a good schedule each session stands where a committed bookmark was moved to by acknowledged batches,
--- and each batch that was sent lies above where its session stood so.
+-- In every state of a good schedule each session stands where a line began it, at the bookmark that was kept when its
+-- offer was sent, or where acknowledged batches have raised it since; and each batch that was sent lies above where its
+-- session stood as it was sent.
 abbrev pub SessionsRise : Type 0
-SessionsRise = (lines : List Line) → AreAdmitted start lines → AllByRecursion IsLastRisen (pasts_from [] start lines)
+SessionsRise = (lines : List Line) → AreAdmitted start lines → AllByRecursion AreAllRisen (pasts_from [] lines)

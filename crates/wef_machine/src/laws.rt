@@ -2,7 +2,7 @@
 
 ghost use Rattle.wef_machine.specs.Admitting.{GoodLinesAreAdmitted};
 ghost use Rattle.wef_machine.specs.Drawing.{ReplyIdsRise, RequestIdsRise};
-ghost use Rattle.wef_machine.specs.Laws.{AcknowledgementIsGiven, BookmarksNeverFall, DeliveriesAreAcknowledged, FittingBatchesAreSafe, KeptIsSafe, SchedulesAreKept, SchedulesAreSafe, StartIsKept, StepsKeep, SubscriptionsStay};
+ghost use Rattle.wef_machine.specs.Laws.{AcknowledgementIsGiven, BookmarksNeverFall, DeliveriesAreAcknowledged, FittingBatchesAreSafe, FittingRises, KeptIsSafe, SchedulesAreKept, SchedulesAreSafe, StartIsKept, StepsKeep, SubscriptionsStay};
 ghost use Rattle.wef_machine.specs.Rising.{SessionsRise};
 
 /// A well-formed batch for a live subscription that asks for an acknowledgement gets it, unless its
@@ -15,6 +15,11 @@ pub fn acknowledgement()
 /// A batch that fits what a source wrote keeps safe what is kept of it.
 pub fn fitting_batches()
     ensures { FittingBatchesAreSafe }
+{}
+
+/// A batch that fits what a source wrote above a bookmark fits above each greater one.
+pub fn fitting_rises()
+    ensures { FittingRises }
 {}
 
 /// What a world keeps from its start on, step by step, whatever it is delivered and in which order.
@@ -41,8 +46,9 @@ pub fn no_id_is_drawn_twice()
     ensures replies { ReplyIdsRise }
 {}
 
-/// Where each session stands began at a bookmark that was committed, and rose by acknowledged batches
-/// alone; and each batch that was sent lies above where its session stood.
+/// Each session begins where its offer says, which is the bookmark that was kept when that offer was sent,
+/// and rises by acknowledged batches alone; and each batch that was sent lies above where its session
+/// stood then.
 pub fn sessions_rise()
     ensures { SessionsRise }
 {}
