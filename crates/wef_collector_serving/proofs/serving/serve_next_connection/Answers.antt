@@ -18,4 +18,4 @@ returns-clause-served g c =
 pub returns-clause-answered : goal.returns-clause-answered
 returns-clause-answered g c =
     let clock = g.C.Clock.told c.args.clock.now in
-    on_ok_weaker c.serve_next.result _ _ (λ responded. in_turn_known (known_of g.K.Keeper.store) Collector (AnswersAt clock Answers) (LeavesAt clock Leaves) responded) c.serve_next.ensures.responded
+    on_ok_weaker c.serve_next.result (λ responded. in_turn_known (known_of g.K.Keeper.store) Collector (AnswersAt clock Answers) (LeavesAt clock Leaves) responded) c.serve_next.ensures.responded
