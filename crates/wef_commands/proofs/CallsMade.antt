@@ -17,6 +17,13 @@ pub call_refused : {T : Type 0} (Call : Result T CollectorFault → Store → St
 call_refused Call refusal Tells ending out before mid now ids fault start call is unwritten =
     inr (inl (fault, record { mid = mid; ids = ids; start = start; call = call }, is, unwritten))
 
+-- a call that is done
+pub call_done : {T : Type 0} (Call : Result T CollectorFault → Store → Store → Type 0) (refusal : CollectorFault → Ending) (Tells : T → Ending → Told → Type 0)
+    (ending : Ending) (out : Told) (before mid now : Store) (ids : Ids) (given : T)
+    → Starts (Ok ids) before mid → Call (Ok given) mid now → Tells given ending out → CallEnds Call refusal Tells ending out before now
+call_done Call refusal Tells ending out before mid now ids given start call tells =
+    inr (inr (given, record { mid = mid; ids = ids; start = start; call = call }, tells))
+
 -- a subscription that is told by a copy of its name
 pub told_by_name : (s : Subscription) (name text : List ℕ) (ending : Ending) (out : Told) (before now : Store) → name ≡ s.name → text ≡ added_text s.name
     → CallEnds (Adds s) (named_ending name) (λ _. WroteOut text) ending out before now

@@ -4,5 +4,6 @@ pub mod Heard
 pub mod Lent
 pub mod Opened
 pub mod Settled
+pub mod Restarted
 pub mod Windowed
 pub mod Written
