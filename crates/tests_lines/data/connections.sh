@@ -45,9 +45,9 @@ link() {
     { echo "=== link: a client" && cat; } | "$wef" | tail -n +2
 }
 
-# The head of a request to a path, as Go's client writes it, whose body has so many bytes.
+# The head of a request to a path, as Go's client writes it where it keeps no connection, whose body has so many bytes.
 head_of() {
-    printf 'writes POST %s HTTP/1.1%s\n' "$1" "\\r\\nHost: $address\\r\\nUser-Agent: Go-http-client/1.1\\r\\nContent-Length: $2\\r\\nContent-Type: application/soap+xml;charset=UTF-8\\r\\nAccept-Encoding: gzip\\r\\n\\r\\n"
+    printf 'writes POST %s HTTP/1.1%s\n' "$1" "\\r\\nHost: $address\\r\\nUser-Agent: Go-http-client/1.1\\r\\nConnection: close\\r\\nContent-Length: $2\\r\\nContent-Type: application/soap+xml;charset=UTF-8\\r\\nAccept-Encoding: gzip\\r\\n\\r\\n"
 }
 
 # Shows each of several lines once, behind how often it is there.
