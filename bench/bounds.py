@@ -176,9 +176,22 @@ def send(link, text):
     """Sends bytes, as far as the other end takes them."""
     try:
         link.sendall(text)
+    except OSError:
+        pass
+
+
+def end(link):
+    """Says that nothing more comes."""
+    try:
         link.shutdown(socket.SHUT_WR)
     except OSError:
         pass
+
+
+def send_all(link, text):
+    """Sends bytes, and says that nothing more comes."""
+    send(link, text)
+    end(link)
 
 
 def hear(link):
@@ -196,7 +209,7 @@ def serve(words, text):
         subprocess.run([words[0], "add"], cwd=folder, input=collect.SUBSCRIPTION, text=True, stdout=subprocess.DEVNULL, check=True)
         collector = collect.Collector(words[0], folder)
         with collector.connect() as link:
-            sender = threading.Thread(target=send, args=(link, text.encode()))
+            sender = threading.Thread(target=send_all, args=(link, text.encode()))
             sender.start()
             hear(link)
             sender.join()
@@ -210,7 +223,7 @@ def request(words, body):
 
 
 class Replies(threading.Thread):
-    """A collector that gives these replies, one a connection, and reads each request before. It closes what comes behind them."""
+    """A collector that gives these replies, and reads a request before each. It closes what comes behind them."""
 
     def __init__(self, replies):
         super().__init__(daemon=True)
@@ -219,15 +232,16 @@ class Replies(threading.Thread):
         self.address = f"127.0.0.1:{self.listener.getsockname()[1]}"
 
     def run(self):
-        for reply in itertools.chain(self.replies, itertools.repeat(None)):
+        while True:
             try:
                 link, _ = self.listener.accept()
             except OSError:
                 return
             with link, link.makefile("rb") as stream:
-                if reply is not None:
-                    send(link, reply(read_request(stream)).encode())
-                    hear(link)
+                while self.replies and (sent := read_request(stream)):
+                    send(link, self.replies.pop(0)(sent).encode())
+                end(link)
+                hear(link)
 
     def end(self):
         self.listener.shutdown(socket.SHUT_RDWR)
@@ -236,21 +250,25 @@ class Replies(threading.Thread):
 
 
 def read_request(stream):
-    """The body of the next request."""
+    """The body of the next request, or nothing where there is none."""
     length = 0
-    while (line := stream.readline()) not in (b"\r\n", b""):
-        name, _, value = line.partition(b":")
-        if name.lower() == b"content-length":
-            length = int(value)
-    return stream.read(length).decode()
+    try:
+        while (line := stream.readline()) not in (b"\r\n", b""):
+            name, _, value = line.partition(b":")
+            if name.lower() == b"content-length":
+                length = int(value)
+        return stream.read(length).decode()
+    except OSError:
+        return ""
 
 
 def reply_of(body):
-    """A reply with this body, to whatever was sent."""
+    """A reply with this body, to whatever was sent. Batches are to go where that was sent, too."""
 
     def reply(sent):
-        found = re.search("MessageID>([^<]*)<", sent)
-        answer = body.replace("MESSAGE", found[1] if found else "")
+        message, place = re.search("MessageID>([^<]*)<", sent), re.search("http://([^/<]*)/wsman/", sent)
+        answer = body.replace("MESSAGE", message[1] if message else "")
+        answer = answer.replace("http://collector:5985/", f"http://{place[1]}/" if place else "")
         return shapes.RESPONSE_HEAD + f"Content-Length: {len(answer.encode())}\r\n\r\n" + answer
 
     return reply
