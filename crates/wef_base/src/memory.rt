@@ -67,11 +67,14 @@ impl Source for MemSource {
     }
 }
 
-/// Copies bytes from a place on to the front of a buffer, at most so many, and answers how many
-/// these are. None into a buffer that isn't empty is the end, where more than none may be copied.
+/// Copies bytes from a place on to the front of a buffer, as many as there are, as may be copied and
+/// as there is room for, and answers how many these are. None into a buffer that isn't empty is the
+/// end, where more than none may be copied.
 pub fn give(bytes: &[u8], at: usize, most: usize, buf: &mut [u8]) -> usize
+    ensures count { result ≡ min (min (length (drop at bytes.now)) most) (length buf.old) }
     ensures bound { result ≤ length buf.new }
     ensures left { drop at bytes.now ≡ take result buf.new ++ drop (at + result) bytes.now }
+    ensures rest { drop result buf.new ≡ drop result buf.old }
     ensures end { 0 < most → result ≡ 0 → 0 < length buf.new → drop (at + result) bytes.now ≡ [] }
     ensures within { at + result < 2 ^ 64 }
 {
