@@ -165,6 +165,7 @@ refused_call of_store AreFormed effect value fault before now finds opens ready 
       ready = ready;
       formed = narrowed_formed AreFormed before.images now.images opened.0;
       untold = opened.7;
+      opened = opened.5;
     }
 
 -- a call that wants memory
@@ -213,6 +214,7 @@ unfound_call {T = T} of_store AreFormed effect value fault before now is lawful 
       ready = subst (λ (kind : Option StoreFault). FaultReadied kind now) (sym is) tt;
       formed = narrowed_formed AreFormed before.images now.images opened.0;
       untold = opened.7;
+      opened = opened.5;
     }
 
 -- ---- a call that commits
@@ -256,6 +258,7 @@ done_call {T = T} {F = F} of_store AreFormed effect value changes answer before 
       ready = leaves.0;
       formed = done_formed AreFormed changes keeps before.images mid.rows now.rows now.images finds leaves.1 only;
       untold = λ was untold. untold_after mid.rows now.rows (λ found after. after ≡ applied changes found) leaves.1 (opened.7 was untold);
+      opened = λ _. leaves.0.0;
     }
 
 -- rows are told where images are, and those follow from what was told before
@@ -300,6 +303,7 @@ failed_call {T = T} {F = F} of_store AreFormed effect value fault changes before
       ready = subst (λ (kind : Option StoreFault). FaultReadied kind now) (sym is) tt;
       formed = left_formed AreFormed changes keeps before.images mid.rows now.images finds leaves.1;
       untold = λ was untold. sym both ∙ untold_after mid.rows now.images (λ found all. AllByRecursion (IsBeforeOrAfter changes found) all) leaves.1 (opened.7 was untold);
+      opened = λ _. leaves.0;
     }
 
 -- ---- the whole call, by where it ends

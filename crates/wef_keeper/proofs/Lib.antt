@@ -1,6 +1,7 @@
 pub mod ByPages
 pub mod Calls
 pub mod Forming
+pub mod Going
 mod Live
 pub mod Openings
 mod Pages

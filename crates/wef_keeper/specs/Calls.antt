@@ -4,7 +4,7 @@ use Rattle.std.specs.Prelude.{◌≡◌, ℕ, ◌≤◌, Bool, true, false, ◌�
 use Rattle.std.specs.List.{AllByRecursion}
 use Rattle.wef_keeper.specs.Access.{AnyOf, Finds, From, HasCause, IsReady, OpensAndReads, is_planned, plan_with, tries_with}
 use Rattle.wef_keeper.specs.Forms.{StayFormed}
-use Rattle.wef_keeper.specs.Keeping.{Store, StaysUntold, outcome, raised}
+use Rattle.wef_keeper.specs.Keeping.{Store, StaysOpened, StaysUntold, outcome, raised}
 use Rattle.wef_keeper.specs.Rows.{Rows, applied}
 use Rattle.wef_keeper.specs.declared.access.StoreFault.{StoreFault}
 use Rattle.wef_keeper.specs.declared.access.StoreFault.TheVariants.{NoMemory, Failed}
@@ -143,6 +143,8 @@ pub record IsCall {T F : Type 0} (of_store : OfStore F) (AreFormed : Rows → Ty
   pub formed : StayFormed AreFormed before now
   -- an opened store that tells nothing doesn't begin to
   pub untold : StaysUntold before now
+  -- and stays opened
+  pub opened : StaysOpened before now
 
 -- A call that opens its store and then only reads.
 pub record Looks {T F : Type 0} (of_store : OfStore F) (AreFormed : Rows → Type 0) (result : Result T F) (before now : Store) : Type 0 where
@@ -162,3 +164,16 @@ TellsFault None fault effect = effect ≡ Err fault
 abbrev pub Tells : {F : Type 0} → OfStore F → Result (List Change) F → Effect F → Type 0
 Tells of_store (Ok changes) effect = effect ≡ Ok changes
 Tells of_store (Err fault) effect = TellsFault (of_store fault) fault effect
+
+-- ---- a call over rows, whatever its store tells of them
+
+-- what a call that isn't done may make of rows: it leaves them, or after a failure these with its changes
+abbrev pub FaultGoes : {F : Type 0} → Option StoreFault → F → (Rows → Effect F) → Rows → Rows → Type 0
+FaultGoes (Some NoMemory) fault effect found left = left ≡ found
+FaultGoes (Some Failed) fault effect found left = MayLeave effect left found
+FaultGoes None fault effect found left = (effect found ≡ Err fault) × (left ≡ found)
+
+-- What a call may make of rows: it found those, and the next opening finds these.
+abbrev pub GoesOver : {T F : Type 0} → OfStore F → (Rows → Effect F) → (Rows → T) → Result T F → Rows → Rows → Type 0
+GoesOver of_store effect value (Ok answer) found left = Makes (effect found) found left × (answer ≡ value found)
+GoesOver of_store effect value (Err fault) found left = FaultGoes (of_store fault) fault effect found left

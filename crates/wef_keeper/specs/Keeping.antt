@@ -178,6 +178,12 @@ Reopens (Err NoMemory) doubt = doubt ≡ false
 Reopens (Err Failed) doubt = Unit {0}
 Reopens (Err InDoubt) doubt = ⊥
 
+-- one of the row maps of a list
+abbrev pub IsOneOf : List Rows → Rows → Type 0
+IsOneOf [] rows = ⊥
+IsOneOf (image ∷ []) rows = rows ≡ image
+IsOneOf (image ∷ images) rows = (rows ≡ image) ⊎ IsOneOf images rows
+
 -- What holds of every store that a keeper has, by the laws of its trait.
 pub record IsLawful (store : Store) : Type 0 where
   -- it tells its images where it tells its rows
@@ -188,9 +194,5 @@ pub record IsLawful (store : Store) : Type 0 where
   pub few : IfSome store.images (λ left. (1 ≤ length left) × (length left ≤ 2))
   -- without doubt the rows are the only image
   pub only : store.doubt ≡ false → IfSome store.images (λ left. WhereTold store.rows (λ stand. left ≡ stand ∷ []))
-
--- one of the row maps of a list
-abbrev pub IsOneOf : List Rows → Rows → Type 0
-IsOneOf [] rows = ⊥
-IsOneOf (image ∷ []) rows = rows ≡ image
-IsOneOf (image ∷ images) rows = (rows ≡ image) ⊎ IsOneOf images rows
+  -- whatever the doubt, the rows are one of the images
+  pub among : IfSome store.images (λ left. WhereTold store.rows (IsOneOf left))

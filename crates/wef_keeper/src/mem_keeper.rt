@@ -103,7 +103,7 @@ impl Keeper for MemKeeper {
       plan = Some k.plan;
     } };
 
-    ghost lawful = { λ k. record { both = refl; tells = refl; few = Prim.search rules; only = λ _. refl } };
+    ghost lawful = { λ k. record { both = refl; tells = refl; few = Prim.search rules; only = λ _. refl; among = refl } };
 
     fn get(&mut self, key: &Key) -> Result<Option<Row>, KeeperFault> {
         begin_read(&mut self.reads, self.in_doubt)?;

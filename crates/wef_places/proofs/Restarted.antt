@@ -19,6 +19,7 @@ module _ {T U F : Type 0} (of_store : OfStore F) (AreFormed : Rows → Type 0) (
     ready = call.ready;
     formed = call.formed;
     untold = call.untold;
+    opened = call.opened;
   }
 
   -- and one that is refused gives nothing
@@ -33,6 +34,7 @@ module _ {T U F : Type 0} (of_store : OfStore F) (AreFormed : Rows → Type 0) (
     ready = call.ready;
     formed = call.formed;
     untold = call.untold;
+    opened = call.opened;
   }
 
   pub started_given : {E K : Type 0} (store : K → Store) (keeper : E → K) (answer : E → T) (memory : E → U) (result : Result E (K × F)) (before : Store)

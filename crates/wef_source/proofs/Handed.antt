@@ -119,6 +119,7 @@ handed effect value (Ok answer) before now call = record {
   ready = call.ready;
   formed = call.formed;
   untold = call.untold;
+  opened = call.opened;
 }
 handed effect value (Err fault) before now call = record {
   did = did_from effect value (Err fault) before now call;
@@ -129,6 +130,7 @@ handed effect value (Err fault) before now call = record {
   ready = subst (λ (kind : Option StoreFault). FaultReadied kind now) (one_store fault) call.ready;
   formed = call.formed;
   untold = call.untold;
+  opened = call.opened;
 }
 
 -- ---- a call that only reads, and is refused as its log's opening is

@@ -177,7 +177,7 @@ impl<S: Opens> SqlKeeper<S> {
 impl<S: Opens> Keeper for SqlKeeper<S> {
     ghost store = { λ k. untold k.in_doubt k.tries k.reads k.faults k.opened };
 
-    ghost lawful = { λ k. record { both = refl; tells = tt; few = tt; only = λ _. tt } };
+    ghost lawful = { λ k. record { both = refl; tells = tt; few = tt; only = λ _. tt; among = tt } };
 
     fn get(&mut self, key: &Key) -> Result<Option<Row>, KeeperFault> {
         self.begin_read()?;
