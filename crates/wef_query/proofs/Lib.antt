@@ -1,5 +1,6 @@
 pub mod AllSelected
 pub mod Groups
+pub mod Runs
 pub mod SaidPaths
 pub mod Sorting
 pub mod Trimmed

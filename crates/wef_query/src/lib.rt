@@ -2,23 +2,23 @@
 //! channel or takes them out again, by a path to nodes of the event's tree.
 #![tactic(auto)]
 
-ghost use Rattle.std.specs.List.{list_any};
 ghost use Rattle.std.specs.Prelude.{◌≡◌, ◌==◌, ◌+◌, IfOk};
 ghost use Rattle.wef_query.specs.Items.{says_path};
 ghost use Rattle.wef_query.specs.Laws.{AllAreSelected, are_grouped, groups_rise};
 ghost use Rattle.wef_query.specs.Order.{HasSameNames, IsInOrder};
 ghost use Rattle.wef_query.specs.Queries.{all_events_of, is_unconditional};
-ghost use Rattle.wef_query.specs.Selected.{channels_of, is_asking_for_all, is_select_of, is_selected, is_selecting, is_suppressed, is_suppress_at, is_suppress_of, item_gives, selects, selects_all};
+ghost use Rattle.wef_query.specs.Selected.{channels_of, is_selected, selects, selects_all};
 
 pub mod reading;
+mod selecting;
 pub mod writing;
 
 pub use reading::{QueryFault, read_query};
+use selecting::{has_item_asking_for_all, has_item_in_force};
 use std::alloc::{AllocError, Global};
 use std::collections::BTreeSet;
 use std::marker::Model;
 use wef_base::{ChannelName, Element, List, Text};
-use wef_query_nodes::gives_node;
 pub use wef_query_paths::{
     And, Axis, Literal, NameTest, Operator, Or, Path, Predicate, Shared, Step, Unit, Value,
 };
@@ -195,7 +195,7 @@ fn distinct_selects(alloc: Global, list: &QueryList) -> Result<List<ChannelName>
 pub fn selected(list: &QueryList, channel: &ChannelName, node: &Element) -> bool
     ensures { result ≡ is_selected list.now.items channel.now node.now }
 {
-    has_item_in_force(list, channel, node)
+    has_item_in_force(list.items.as_slice(), channel, node)
 }
 
 /// Whether the list selects all events of a channel, whatever these hold: a Select of it says `*`, in a
@@ -204,82 +204,5 @@ pub fn selects_all(list: &QueryList, channel: &ChannelName) -> bool
     ensures value { result ≡ selects_all list.now.items channel.now }
     ensures each { AllAreSelected list.now.items channel.now }
 {
-    has_asking_for_all(list, channel)
-}
-
-#[tactic(auto, unfolding(crate::specs::Selected::selects_all))]
-fn has_asking_for_all(list: &QueryList, channel: &ChannelName) -> bool
-    ensures { result ≡ selects_all list.now.items channel.now }
-{
-    list.items
-        .as_slice()
-        .iter()
-        .any(|item| is_asking_for_all(list, item, channel))
-}
-
-fn is_asking_for_all(list: &QueryList, item: &QueryItem, channel: &ChannelName) -> bool
-    ensures { result ≡ is_asking_for_all list.now.items channel.now item.now }
-{
-    !item.suppress
-        && item.channel == *channel
-        && item.is_unconditional()
-        && !has_suppress(list, item.group, channel)
-}
-
-fn has_suppress(list: &QueryList, group: u64, channel: &ChannelName) -> bool
-    ensures { result ≡ list_any (is_suppress_at group channel.now) list.now.items }
-{
-    list.items
-        .as_slice()
-        .iter()
-        .any(|item| is_suppress_at(item, group, channel))
-}
-
-fn is_suppress_at(item: &QueryItem, group: u64, channel: &ChannelName) -> bool
-    ensures { result ≡ is_suppress_at group channel.now item.now }
-{
-    item.group == group && item.suppress && item.channel == *channel
-}
-
-fn has_item_in_force(list: &QueryList, channel: &ChannelName, node: &Element) -> bool
-    ensures { result ≡ list_any (is_selecting list.now.items channel.now node.now) list.now.items }
-{
-    list.items
-        .as_slice()
-        .iter()
-        .any(|item| is_in_force(list, item, channel, node))
-}
-
-fn is_in_force(list: &QueryList, item: &QueryItem, channel: &ChannelName, node: &Element) -> bool
-    ensures { result ≡ is_selecting list.now.items channel.now node.now item.now }
-{
-    asks_for(item, channel, node) && !suppresses(list, item.group, channel, node)
-}
-
-fn asks_for(item: &QueryItem, channel: &ChannelName, node: &Element) -> bool
-    ensures { result ≡ is_select_of item.now.group channel.now node.now item.now }
-{
-    !item.suppress && item.channel == *channel && item_gives(item, node)
-}
-
-fn suppresses(list: &QueryList, group: u64, channel: &ChannelName, node: &Element) -> bool
-    ensures { result ≡ is_suppressed list.now.items group channel.now node.now }
-{
-    list.items
-        .as_slice()
-        .iter()
-        .any(|item| takes_out(item, group, channel, node))
-}
-
-fn takes_out(item: &QueryItem, group: u64, channel: &ChannelName, node: &Element) -> bool
-    ensures { result ≡ is_suppress_of group channel.now node.now item.now }
-{
-    is_suppress_at(item, group, channel) && item_gives(item, node)
-}
-
-/// Whether an item's path gives a node of an event.
-fn item_gives(item: &QueryItem, node: &Element) -> bool
-    ensures { result ≡ item_gives item.now node.now }
-{
-    gives_node(item.path.get(), node)
+    has_item_asking_for_all(list.items.as_slice(), channel)
 }
