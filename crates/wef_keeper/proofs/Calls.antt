@@ -4,7 +4,7 @@ use Rattle.std.specs.List.{AllByRecursion}
 use Rattle.std.specs.Prelude.{Option, Some, None, Result, Ok, Err, IfSome, OnSome, List, [], ◌∷◌, length, is_some, ◌⊎◌}
 use Rattle.wef_base.specs.Counts.{Rose}
 use Rattle.wef_keeper.specs.Access.{AnyFound, AnyOf, AnyRows, Finds, From, HasRead, IsReady, IsRefused, Leaves, LeavesPlanned, OpensAndReads, Reads, fails as store_fails, is_idle, is_planned, plan_with, tries_with}
-use Rattle.wef_keeper.specs.Calls.{AllLeft, AnswersFault, ByPlan, Did, Effect, FaultByPlan, FaultByTries, FaultReadied, IsCall, Looks, Makes, MayLeave, OfStore, OnFaultImages, Readied, TellsFault, WhereMade, fails, is_failure}
+use Rattle.wef_keeper.specs.Calls.{AllLeft, AnswersFault, ByPlan, Did, DidWith, DoesWith, Effect, FaultByPlan, FaultByTries, FaultReadied, IsCall, Looks, Makes, MayLeave, OfStore, OnFaultImages, Readied, TellsFault, UnlessOfStore, UnlessStores, WhereMade, fails, is_failure}
 use Rattle.wef_keeper.specs.Keeping.{Follows, IsBeforeOrAfter, IsLawful, IsOneOf, Stays, Store, WhereTold, outcome, raised}
 use Rattle.wef_keeper.specs.Rows.{Rows, applied}
 use Rattle.wef_keeper.specs.declared.access.StoreFault.{StoreFault}
@@ -140,26 +140,34 @@ refused_ready (Some NoMemory) now ready = ready.1
 refused_ready (Some Failed) now ready = tt
 refused_ready None now ready = ready
 
+-- what it did: nothing, with the rows that are there now
+refused_did : {T F : Type 0} (of_store : OfStore F) (AreFormed : Rows → Type 0) (effect : Rows → Effect F) (value : Rows → T) (fault : F) (before now : Store)
+    → OpensAndReads AreFormed (is_failure (of_store fault)) before now → IfSome now.rows (λ rows. TellsFault (of_store fault) fault (effect rows))
+    → Follows now.rows now.rows (λ found after. Did of_store AreFormed effect value (Err fault) before now found after)
+refused_did of_store AreFormed effect value fault before now opens tells =
+    let opened = opens.0 in
+    let kind = of_store fault in
+    let sure = told_swap before.plan now.rows (λ planned rows. AreFormed rows → is_failure kind ≡ false) opens.2 in
+    let did = λ (found after : Rows). Did of_store AreFormed effect value (Err fault) before now found after in
+    follows_self now.rows did
+    (told_both now.rows (λ rows. TellsFault kind fault (effect rows)) (λ rows. IfSome before.plan (λ planned. AreFormed rows → is_failure kind ≡ false)) (λ rows. did rows rows) tells sure
+    (λ rows tells sure. record {
+      answer = refused_answer kind fault (effect rows) rows tells;
+      planned = refused_plan kind AreFormed before.plan (effect rows) rows now opened.2 sure;
+      tries = refused_tries kind before.tries now.tries opened.1;
+      formed = λ _ formed. formed;
+    }))
+
 -- no commit began, and the rows are those that the opening found
 refused_call : {T F : Type 0} (of_store : OfStore F) (AreFormed : Rows → Type 0) (effect : Rows → Effect F) (value : Rows → T) (fault : F) (before now : Store) → Finds before now
     → OpensAndReads AreFormed (is_failure (of_store fault)) before now → FaultReadied (of_store fault) now → OnFaultImages (of_store fault) effect before now
     → IfSome now.rows (λ rows. TellsFault (of_store fault) fault (effect rows)) → IsCall of_store AreFormed effect value (Err fault) before now
 refused_call of_store AreFormed effect value fault before now finds opens ready images tells =
     let opened = opens.0 in
-    let kind = of_store fault in
-    let sure = told_swap before.plan now.rows (λ planned rows. AreFormed rows → is_failure kind ≡ false) opens.2 in
-    let did = λ (found after : Rows). Did of_store AreFormed effect value (Err fault) before now found after in
     record {
-      did = from_found before now now did finds (follows_self now.rows did
-          (told_both now.rows (λ rows. TellsFault kind fault (effect rows)) (λ rows. IfSome before.plan (λ planned. AreFormed rows → is_failure kind ≡ false)) (λ rows. did rows rows) tells sure
-          (λ rows tells sure. record {
-            answer = refused_answer kind fault (effect rows) rows tells;
-            planned = refused_plan kind AreFormed before.plan (effect rows) rows now opened.2 sure;
-            tries = refused_tries kind before.tries now.tries opened.1;
-            formed = λ _ formed. formed;
-          })));
+      did = from_found before now now (λ found after. Did of_store AreFormed effect value (Err fault) before now found after) finds (refused_did of_store AreFormed effect value fault before now opens tells);
       images = images;
-      once = refused_tries kind before.tries now.tries opened.1;
+      once = refused_tries (of_store fault) before.tries now.tries opened.1;
       cause = opens.1;
       faults = opened.3;
       ready = ready;
@@ -229,28 +237,38 @@ untold_after mid None Holds follows untold = refl
 untold_after None (Some y) Holds follows untold = absurd follows
 untold_after (Some x) (Some y) Holds follows untold = cc
 
+-- what it did with the rows that were read, once its changes are committed
+done_did : {T F : Type 0} (of_store : OfStore F) (AreFormed : Rows → Type 0) (effect : Rows → Effect F) (value : Rows → T) (changes : List Change) (answer : T) (before mid now : Store) → ((rows : Rows) → AreFormed rows → AreFormed (applied changes rows))
+    → OpensAndReads AreFormed false before mid → IfSome mid.rows (λ rows. effect rows ≡ Ok changes) → IfSome mid.rows (λ rows. answer ≡ value rows)
+    → Leaves changes (Ok tt) mid now → IfSome mid.plan (λ planned. LeavesPlanned changes planned (Ok tt) mid now)
+    → Follows mid.rows now.rows (λ found after. Did of_store AreFormed effect value (Ok answer) before now found after)
+done_did {T = T} {F = F} of_store AreFormed effect value changes answer before mid now keeps opens made answers leaves planned =
+    let opened = opens.0 in
+    let count : now.tries ≡ tries_with changes before.tries = leaves.2 ∙ ap (tries_with changes) opened.1 in
+    let goes : IfSome before.plan (λ planned. LeavesPlanned changes planned (Ok tt) mid now) = subst (λ (o : Option Plan). IfSome o (λ planned. LeavesPlanned changes planned (Ok tt) mid now)) opened.2 planned in
+    let told = told_both mid.rows (λ rows. effect rows ≡ Ok changes) (λ rows. answer ≡ value rows) (λ rows. (effect rows ≡ Ok changes) × (answer ≡ value rows)) made answers (λ rows made is. (made, is)) in
+    follows_with mid.rows now.rows (λ found after. after ≡ applied changes found) (λ found after. Did of_store AreFormed effect value (Ok answer) before now found after)
+    (λ rows. (effect rows ≡ Ok changes) × (answer ≡ value rows)) leaves.1 told
+    (λ found after is told. record {
+      answer = (subst (λ (e : Effect F). Makes e found after) (sym told.0) is, told.1);
+      planned = told_map before.plan (λ planned. LeavesPlanned changes planned (Ok tt) mid now) (λ planned. ByPlan of_store AreFormed planned (Ok answer) (effect found) found after now)
+          (λ planned goes. subst (λ (e : Effect F). WhereMade e (λ made. (is_planned made planned ≡ true) × (now.plan ≡ Some (plan_with made planned)))) (sym told.0) (goes.0, goes.1)) goes;
+      tries = subst (λ (e : Effect F). WhereMade e (λ made. now.tries ≡ tries_with made before.tries)) (sym told.0) count;
+      formed = λ _ formed. subst AreFormed (sym is) (keeps found formed);
+    })
+
 done_call : {T F : Type 0} (of_store : OfStore F) (AreFormed : Rows → Type 0) (effect : Rows → Effect F) (value : Rows → T) (changes : List Change) (answer : T) (before mid now : Store) → ((rows : Rows) → AreFormed rows → AreFormed (applied changes rows))
     → IsLawful now → Finds before mid
     → OpensAndReads AreFormed false before mid → IfSome mid.rows (λ rows. effect rows ≡ Ok changes) → IfSome mid.rows (λ rows. answer ≡ value rows)
     → Leaves changes (Ok tt) mid now → IfSome mid.plan (λ planned. LeavesPlanned changes planned (Ok tt) mid now) → mid.faults ≤ now.faults → IsCall of_store AreFormed effect value (Ok answer) before now
-done_call {T = T} {F = F} of_store AreFormed effect value changes answer before mid now keeps lawful finds opens made answers leaves planned higher =
+done_call of_store AreFormed effect value changes answer before mid now keeps lawful finds opens made answers leaves planned higher =
     let opened = opens.0 in
     let only = lawful.only leaves.0.1 in
     let low : before.faults ≤ mid.faults = opened.3 in
     let count : now.tries ≡ tries_with changes before.tries = leaves.2 ∙ ap (tries_with changes) opened.1 in
-    let goes : IfSome before.plan (λ planned. LeavesPlanned changes planned (Ok tt) mid now) = subst (λ (o : Option Plan). IfSome o (λ planned. LeavesPlanned changes planned (Ok tt) mid now)) opened.2 planned in
-    let told = told_both mid.rows (λ rows. effect rows ≡ Ok changes) (λ rows. answer ≡ value rows) (λ rows. (effect rows ≡ Ok changes) × (answer ≡ value rows)) made answers (λ rows made is. (made, is)) in
-    let did = λ (found after : Rows). Did of_store AreFormed effect value (Ok answer) before now found after in
     record {
-      did = from_found before mid now did finds
-          (follows_with mid.rows now.rows (λ found after. after ≡ applied changes found) did (λ rows. (effect rows ≡ Ok changes) × (answer ≡ value rows)) leaves.1 told
-          (λ found after is told. record {
-            answer = (subst (λ (e : Effect F). Makes e found after) (sym told.0) is, told.1);
-            planned = told_map before.plan (λ planned. LeavesPlanned changes planned (Ok tt) mid now) (λ planned. ByPlan of_store AreFormed planned (Ok answer) (effect found) found after now)
-                (λ planned goes. subst (λ (e : Effect F). WhereMade e (λ made. (is_planned made planned ≡ true) × (now.plan ≡ Some (plan_with made planned)))) (sym told.0) (goes.0, goes.1)) goes;
-            tries = subst (λ (e : Effect F). WhereMade e (λ made. now.tries ≡ tries_with made before.tries)) (sym told.0) count;
-            formed = λ _ formed. subst AreFormed (sym is) (keeps found formed);
-          }));
+      did = from_found before mid now (λ found after. Did of_store AreFormed effect value (Ok answer) before now found after) finds
+          (done_did of_store AreFormed effect value changes answer before mid now keeps opens made answers leaves planned);
       images = tt;
       once = subst (λ (n : ℕ). (n ≡ before.tries) ⊎ (n ≡ raised before.tries)) (sym count) (once_idle (is_idle changes) before.tries);
       cause = λ no. cc;
@@ -347,6 +365,53 @@ pub committed : {T F : Type 0} (of_store : OfStore F) (AreFormed : Rows → Type
     → Leaves changes (Ok tt) mid now → IfSome mid.plan (λ planned. LeavesPlanned changes planned (Ok tt) mid now) → mid.faults ≤ now.faults → IsCall of_store AreFormed effect value (Ok answer) before now
 committed of_store AreFormed effect value changes answer before opened mid now keeps lawful finds opens reads made answers leaves planned higher =
     done_call of_store AreFormed effect value changes answer before mid now keeps lawful (finds_still before opened mid finds reads.0) (opens_reads AreFormed false before opened mid opens.0 reads) made answers leaves planned higher
+
+-- ---- the whole call, with a fact of the rows that its opening found
+
+unless_stores : (kind : Option StoreFault) (Fact : Type 0) → Fact → UnlessStores kind Fact
+unless_stores (Some kind) Fact holds = tt
+unless_stores None Fact holds = holds
+
+-- a fact holds, also unless the store refuses the call
+pub unless_any : {T F : Type 0} (of_store : OfStore F) (result : Result T F) (Fact : Type 0) → Fact → UnlessOfStore of_store result Fact
+unless_any of_store (Ok answer) Fact holds = holds
+unless_any of_store (Err fault) Fact holds = unless_stores (of_store fault) Fact holds
+
+-- a fact of the rows that were read, which gives one by what the call did with them
+with_fact : {T F : Type 0} (of_store : OfStore F) (AreFormed : Rows → Type 0) (effect : Rows → Effect F) (value : Rows → T) (Fact : Result T F → Rows → Rows → Type 0) (result : Result T F) (Read : Rows → Type 0) (before mid now : Store) → Finds before mid
+    → Follows mid.rows now.rows (λ found after. Did of_store AreFormed effect value result before now found after) → IfSome mid.rows Read
+    → ((found after : Rows) → Did of_store AreFormed effect value result before now found after → Read found → Fact result found after) → DoesWith of_store AreFormed effect value Fact result before now
+with_fact of_store AreFormed effect value Fact result Read before mid now finds follows read gives =
+    let did = λ (found after : Rows). Did of_store AreFormed effect value result before now found after in
+    let with = λ (found after : Rows). DidWith of_store AreFormed effect value Fact result before now found after in
+    from_found before mid now with finds (follows_with mid.rows now.rows did with Read follows read (λ found after did read. record { did = did; fact = gives found after did read }))
+
+-- the fact is one of all rows
+pub any_with : {T F : Type 0} (of_store : OfStore F) (AreFormed : Rows → Type 0) (effect : Rows → Effect F) (value : Rows → T) (Fact : Result T F → Rows → Rows → Type 0) (result : Result T F) (before now : Store)
+    → IsCall of_store AreFormed effect value result before now → ((found after : Rows) → Fact result found after) → DoesWith of_store AreFormed effect value Fact result before now
+any_with of_store AreFormed effect value Fact result before now call gives =
+    from_weaker (λ found after. Did of_store AreFormed effect value result before now found after) (λ found after. DidWith of_store AreFormed effect value Fact result before now found after) before now
+    (λ found after did. record { did = did; fact = gives found after }) call.did
+
+-- it is refused as it reads
+pub refused_with : {T F : Type 0} (of_store : OfStore F) (AreFormed : Rows → Type 0) (effect : Rows → Effect F) (value : Rows → T) (Fact : Result T F → Rows → Rows → Type 0) (fault : F) (before opened now : Store) → Finds before opened
+    → OpensAndReads AnyRows false before opened → Reads AreFormed (is_failure (of_store fault)) opened now → IfSome now.rows (λ rows. TellsFault (of_store fault) fault (effect rows)) → IfSome now.rows (λ rows. Fact (Err fault) rows rows)
+    → DoesWith of_store AreFormed effect value Fact (Err fault) before now
+refused_with of_store AreFormed effect value Fact fault before opened now finds opens reads tells read =
+    let did = λ (found after : Rows). Did of_store AreFormed effect value (Err fault) before now found after in
+    let with = λ (found after : Rows). DidWith of_store AreFormed effect value Fact (Err fault) before now found after in
+    let follows = refused_did of_store AreFormed effect value fault before now (opens_reads AreFormed (is_failure (of_store fault)) before opened now opens.0 reads) tells in
+    from_found before now now with (finds_still before opened now finds reads.0)
+    (follows_both now.rows now.rows did (Fact (Err fault)) with follows (follows_self now.rows (Fact (Err fault)) read) (λ found after did fact. record { did = did; fact = fact }))
+
+-- its changes are committed
+pub committed_with : {T F : Type 0} (of_store : OfStore F) (AreFormed : Rows → Type 0) (effect : Rows → Effect F) (value : Rows → T) (Fact : Result T F → Rows → Rows → Type 0) (Read : Rows → Type 0) (changes : List Change) (answer : T) (before opened mid now : Store)
+    → ((rows : Rows) → AreFormed rows → AreFormed (applied changes rows)) → Finds before opened → OpensAndReads AnyRows false before opened → Reads AreFormed false opened mid → IfSome mid.rows (λ rows. effect rows ≡ Ok changes) → IfSome mid.rows (λ rows. answer ≡ value rows)
+    → Leaves changes (Ok tt) mid now → IfSome mid.plan (λ planned. LeavesPlanned changes planned (Ok tt) mid now) → IfSome mid.rows Read
+    → ((found after : Rows) → Did of_store AreFormed effect value (Ok answer) before now found after → Read found → Fact (Ok answer) found after) → DoesWith of_store AreFormed effect value Fact (Ok answer) before now
+committed_with of_store AreFormed effect value Fact Read changes answer before opened mid now keeps finds opens reads made answers leaves planned read gives =
+    with_fact of_store AreFormed effect value Fact (Ok answer) Read before mid now (finds_still before opened mid finds reads.0)
+    (done_did of_store AreFormed effect value changes answer before mid now keeps (opens_reads AreFormed false before opened mid opens.0 reads) made answers leaves planned) read gives
 
 -- ---- a call that only reads
 

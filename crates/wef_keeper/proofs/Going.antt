@@ -1,10 +1,10 @@
 -- A call over rows: from any of those that an opening may find behind it, back to those that its own opening found.
-use Rattle.std.proofs.Common.{◌≡◌, true, false, ap, sym, subst, refl, inl, inr}
+use Rattle.std.proofs.Common.{◌≡◌, true, false, ap, sym, subst, refl, ◌∙◌, inl, inr}
 use Rattle.std.specs.List.{AllByRecursion}
 use Rattle.std.specs.Prelude.{Option, Some, None, Result, Ok, Err, IfSome, List, [], ◌∷◌, is_some}
 use Rattle.wef_keeper.specs.Access.{AnyFound, AnyOf}
 use Rattle.wef_keeper.specs.Calls.{AllLeft, AnswersFault, Did, Effect, FaultGoes, FaultReadied, GoesOver, IsCall, MayLeave, OfStore, OnFaultImages}
-use Rattle.wef_keeper.specs.Keeping.{IsLawful, IsOneOf, Store, WhereTold}
+use Rattle.wef_keeper.specs.Keeping.{IsLawful, IsOneOf, MayFind, StaysUntold, Store, WhereTold}
 use Rattle.wef_keeper.specs.Rows.{Rows}
 use Rattle.wef_keeper.specs.declared.access.StoreFault.{StoreFault}
 use Rattle.wef_keeper.specs.declared.access.StoreFault.TheVariants.{NoMemory, Failed}
@@ -69,3 +69,27 @@ module _ {T F : Type 0} (of_store : OfStore F) (AreFormed : Rows → Type 0) (ef
       by None is =
           calm_goes (Err fault) (λ found after. FaultGoes None fault effect found after) call lawful one (subst (λ (kind : Option StoreFault). FaultReadied kind now) is call.ready).1
           (λ found after did. subst (λ (kind : Option StoreFault). AnswersFault kind fault (effect found) found after) is did.answer)
+
+-- ---- what follows of it
+
+-- whatever it answers, the rows are as they were or with what it changes
+pub may_leave : {T F : Type 0} (of_store : OfStore F) (effect : Rows → Effect F) (value : Rows → T) (result : Result T F) (found left : Rows) → GoesOver of_store effect value result found left → MayLeave effect left found
+may_leave of_store effect value (Ok answer) found left goes = inr goes.0
+may_leave of_store effect value (Err fault) found left goes = by (of_store fault) goes
+  where
+    by : (kind : Option StoreFault) → FaultGoes kind fault effect found left → MayLeave effect left found
+    by (Some NoMemory) same = inl same
+    by (Some Failed) may = may
+    by None own = inl own.1
+
+-- a store that was opened, and tells behind a call, told before it
+pub told_before : (before now : Store) (first last : Rows) → IsLawful now → before.opened ≡ true → StaysUntold before now → MayFind now last → IfSome before.images (λ old. IsOneOf old first) → MayFind before first
+told_before before now first last lawful opened untold found one = by before.images refl one
+  where
+    tells : (images : Option (List Rows)) → WhereTold images (λ all. IsOneOf all last) → is_some images ≡ true
+    tells None found = absurd found
+    tells (Some all) found = refl
+
+    by : (images : Option (List Rows)) → before.images ≡ images → IfSome images (λ old. IsOneOf old first) → WhereTold images (λ old. IsOneOf old first)
+    by (Some old) is one = one
+    by None is one = let no : true ≡ false = sym (tells now.images found) ∙ lawful.both ∙ untold opened (ap (λ (o : Option (List Rows)). is_some o) is) in cc

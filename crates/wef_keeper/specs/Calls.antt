@@ -124,6 +124,26 @@ pub record Did {T F : Type 0} (of_store : OfStore F) (AreFormed : Rows → Type 
   -- but for a failure of the store, rows of their form stay so
   pub formed : fails of_store result ≡ false → AreFormed found → AreFormed after
 
+-- What a call did with the rows that its opening found, and a fact of these and of those that it left, by its answer.
+pub record DidWith {T F : Type 0} (of_store : OfStore F) (AreFormed : Rows → Type 0) (effect : Rows → Effect F) (value : Rows → T) (Fact : Result T F → Rows → Rows → Type 0) (result : Result T F) (before now : Store) (found after : Rows) : Type 0 where
+  pub did : Did of_store AreFormed effect value result before now found after
+  pub fact : Fact result found after
+
+-- A call did what it does with rows that its opening found, and the fact is one of the very same rows.
+abbrev pub DoesWith : {T F : Type 0} → OfStore F → (Rows → Type 0) → (Rows → Effect F) → (Rows → T) → (Result T F → Rows → Rows → Type 0) → Result T F → Store → Store → Type 0
+DoesWith of_store AreFormed effect value Fact result before now =
+    From before now (λ found after. DidWith of_store AreFormed effect value Fact result before now found after)
+
+-- a fact of a refusal that isn't the store's
+abbrev pub UnlessStores : Option StoreFault → Type 0 → Type 0
+UnlessStores (Some kind) Fact = Unit {0}
+UnlessStores None Fact = Fact
+
+-- a fact of a call that its store doesn't refuse: it is done, or the end refuses it
+abbrev pub UnlessOfStore : {T F : Type 0} → OfStore F → Result T F → Type 0 → Type 0
+UnlessOfStore of_store (Ok answer) Fact = Fact
+UnlessOfStore of_store (Err fault) Fact = UnlessStores (of_store fault) Fact
+
 -- A call that opens its store and then makes at most one commit. What it does and what it answers is said by the rows
 -- that its opening finds.
 pub record IsCall {T F : Type 0} (of_store : OfStore F) (AreFormed : Rows → Type 0) (effect : Rows → Effect F) (value : Rows → T) (result : Result T F) (before now : Store) : Type 0 where

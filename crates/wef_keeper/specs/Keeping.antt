@@ -184,6 +184,10 @@ IsOneOf [] rows = ⊥
 IsOneOf (image ∷ []) rows = rows ≡ image
 IsOneOf (image ∷ images) rows = (rows ≡ image) ⊎ IsOneOf images rows
 
+-- the rows are of those that an opening of the store may find, which it tells
+abbrev pub MayFind : Store → Rows → Type 0
+MayFind store rows = WhereTold store.images (λ images. IsOneOf images rows)
+
 -- What holds of every store that a keeper has, by the laws of its trait.
 pub record IsLawful (store : Store) : Type 0 where
   -- it tells its images where it tells its rows
