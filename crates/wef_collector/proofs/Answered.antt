@@ -1,34 +1,68 @@
 -- A call of the collector, by where it ends: it opens the store, reads, and commits what it changes.
-use Rattle.std.proofs.Common.{◌≡◌, List}
+use Rattle.std.proofs.Common.{◌≡◌, ℕ, List, subst, sym}
 use Rattle.std.specs.Prelude.{Option, Some, None, Result, Ok, Err, IfSome, OnOk}
-use Rattle.wef_keeper.specs.Access.{Finds, From, HasRead}
-use Rattle.wef_keeper.specs.Calls.{IsCall}
-use Rattle.wef_keeper.specs.Keeping.{Follows, Store}
+use Rattle.wef_batch.specs.declared.items.Batch.{Batch}
+use Rattle.wef_eventing.specs.declared.subscriptions.Subscription.{Subscription}
+use Rattle.wef_ids.specs.declared.ids.Ids.{Ids}
+use Rattle.wef_keeper.specs.Keeping.{Follows}
 use Rattle.wef_keeper.specs.Rows.{Rows, applied}
+use Rattle.wef_keeper.specs.declared.access.StoreFault.{StoreFault}
+use Rattle.wef_keeper.specs.declared.access.StoreFault.TheVariants.{NoMemory, Failed}
 use Rattle.wef_keeper.specs.declared.keys.Change.{Change}
-use Rattle.wef_keeper.proofs.Calls.{finds_still, from_found, from_weaker}
-use Rattle.wef_keeper.proofs.Told.{follows_with}
-use Rattle.wef_collector_rows.specs.Faults.{collector_store}
-use Rattle.wef_collector_rows.specs.Forms.{AreFormed}
+use Rattle.wef_keeper.proofs.Calls.{unless_any}
+use Rattle.wef_collector_rows.specs.Answers.{channels_read}
+use Rattle.wef_collector_rows.specs.Faults.{collector_fault, collector_store}
+use Rattle.wef_collector_rows.specs.Judged.{IsFormedAt}
+use Rattle.wef_collector_rows.specs.Keys.{heard_key, subscription_key}
+use Rattle.wef_collector_rows.specs.Standing.{standing}
 use Rattle.wef_collector_rows.specs.declared.faults.CollectorFault.{CollectorFault}
-use Rattle.wef_collector.specs.Calls.{Effect}
-use Rattle.wef_collector.specs.Requests.{IsAllowed, Stands, effect_of}
+use Rattle.wef_collector_rows.specs.declared.standings.Standing.{Standing}
+use Rattle.wef_collector_rows.specs.declared.standings.Standing.TheVariants.{Live}
+use Rattle.wef_collector.specs.Judged.{AreReachedBy, AreReachedFormed, JudgesStart, JudgesTake}
+use Rattle.wef_collector.specs.Requests.{IsAllowed, Judges, Stands, effect_of}
 use Rattle.wef_collector.specs.declared.requests.Request.{Request}
 use Rattle.wef_collector.specs.declared.requests.Request.TheVariants.{Add, End, Take, TakeUnread}
 use Rattle.wef_collector.proofs.Live.{added_lives}
 
--- of a call that is refused no row is said to be judged
-pub none_judged : {T : Type 0} (effect : Rows → Effect) (value : Rows → T) (result : Result T CollectorFault) (fault : CollectorFault) (P : Rows → Type 0) (before now : Store) → result ≡ Err fault
-    → IsCall collector_store AreFormed effect value result before now → From before now (λ found after. OnOk result (P found))
-none_judged effect value (Ok answer) fault P before now e call = let bad : ⊥ = cc in absurd bad
-none_judged effect value (Err other) fault P before now e call = from_weaker _ (λ found after. Unit {0}) before now (λ found after did. tt) call.did
+-- nothing is said of the rows that a start has read, where its store refuses it
+pub no_start : (kind : StoreFault) (rows : Rows) → JudgesStart {T = Ids} (Err (collector_fault kind)) rows
+no_start NoMemory rows = tt
+no_start Failed rows = tt
 
--- of one that is done, those that it read
-pub all_judged : (P : Rows → Type 0) (changes : List Change) (before opened mid now : Store) → Finds before opened → HasRead opened mid → IfSome mid.rows P
-    → Follows mid.rows now.rows (λ found after. after ≡ applied changes found) → From before now (λ found after. P found)
-all_judged P changes before opened mid now finds read judged follows =
-    from_found before mid now (λ found after. P found) (finds_still before opened mid finds read)
-    (follows_with mid.rows now.rows (λ found after. after ≡ applied changes found) (λ found after. P found) P follows judged (λ found after _ holds. holds))
+-- and nothing of those that a request has read
+pub none_judged : (request : Request) (kind : StoreFault) (rows : Rows) → Judges {T = Unit {0}} request (Err (collector_fault kind)) rows
+none_judged (Add subscription) NoMemory rows = (tt, tt)
+none_judged (Add subscription) Failed rows = (tt, tt)
+none_judged (End sub) NoMemory rows = tt
+none_judged (End sub) Failed rows = tt
+none_judged (Take sub source batch now) NoMemory rows = (tt, tt)
+none_judged (Take sub source batch now) Failed rows = (tt, tt)
+none_judged (TakeUnread sub) NoMemory rows = tt
+none_judged (TakeUnread sub) Failed rows = tt
+
+-- of one that is refused, the same rows whatever it would have answered
+pub refused_judged : (S T : Type 0) (request : Request) (fault : CollectorFault) (told : Option Rows) → IfSome told (λ rows. Judges {T = S} request (Err fault) rows) → IfSome told (λ rows. Judges {T = T} request (Err fault) rows)
+refused_judged S T request fault None judged = tt
+refused_judged S T (Add subscription) fault (Some rows) judged = judged
+refused_judged S T (End sub) fault (Some rows) judged = judged
+refused_judged S T (Take sub source batch now) fault (Some rows) judged = judged
+refused_judged S T (TakeUnread sub) fault (Some rows) judged = judged
+
+-- and of one that is done
+pub done_judged : {S T : Type 0} (request : Request) (made : S) (answer : T) (rows : Rows) → Judges request (Ok made) rows → Judges request (Ok answer) rows
+done_judged (Add subscription) made answer rows judged = judged
+done_judged (End sub) made answer rows judged = judged
+done_judged (Take sub source batch now) made answer rows judged = judged
+done_judged (TakeUnread sub) made answer rows judged = judged
+
+-- what a batch for a live subscription has read
+pub take_judged : {T : Type 0} (told : Option Rows) (answer : Result T CollectorFault) (u source : List ℕ) (s : Subscription) (batch : Batch) → IfSome told (λ rows. standing rows u ≡ Live s) → IfSome told (IsFormedAt (subscription_key u))
+    → IfSome told (λ rows. OnOk answer (AreReachedFormed rows u source batch (channels_read s) × IsFormedAt (heard_key u source) rows)) → IfSome told (λ rows. JudgesTake answer rows u source batch)
+take_judged None answer u source s batch live formed read = tt
+take_judged (Some rows) answer u source s batch live formed read = (
+  unless_any collector_store answer (IsFormedAt (subscription_key u) rows) formed,
+  subst (λ (found : Standing). OnOk answer (AreReachedBy found rows u source batch × IsFormedAt (heard_key u source) rows)) (sym live) read,
+)
 
 any_stands : {X : Type 0} (told : Option X) → IfSome told (λ x. Unit {0})
 any_stands None = tt

@@ -1,28 +1,46 @@
--- Which rows a call of the collector reads. Where it isn't refused, they are of their form.
-use Rattle.std.specs.Prelude.{◌≡◌, ℕ, Bool, true, List, take, Option, Some, None, if◌then◌else◌}
+-- Which rows a call of the collector reads. Unless its store refuses the call, those that it has read are of their form.
+use Rattle.std.specs.Prelude.{◌≡◌, ℕ, Bool, true, List, take, Option, Some, None, Result, Ok, Err, OnOk, if◌then◌else◌}
 use Rattle.std.specs.List.{AllByRecursion, list_all}
 use Rattle.wef_batch.specs.Reach.{reach}
 use Rattle.wef_batch.specs.declared.items.Batch.{Batch}
+use Rattle.wef_keeper.specs.Calls.{UnlessOfStore}
 use Rattle.wef_keeper.specs.Rows.{Rows}
 use Rattle.wef_collector_rows.specs.Answers.{channels_read}
 use Rattle.wef_collector_rows.specs.Bookmarks.{bookmark_rows}
+use Rattle.wef_collector_rows.specs.Faults.{collector_store}
 use Rattle.wef_collector_rows.specs.Forms.{is_formed}
-use Rattle.wef_collector_rows.specs.Judged.{AreAllFormed, IsFormedAt}
-use Rattle.wef_collector_rows.specs.Keys.{bookmark_key, heard_key, subscription_key}
+use Rattle.wef_collector_rows.specs.Judged.{AreAllFormed, IsFormedAt, JudgesName}
+use Rattle.wef_collector_rows.specs.Keys.{bookmark_key, boot_key, heard_key}
 use Rattle.wef_collector_rows.specs.Standing.{standing, subscription_rows}
+use Rattle.wef_collector_rows.specs.declared.faults.CollectorFault.{CollectorFault}
+use Rattle.wef_collector_rows.specs.declared.faults.CollectorFault.TheVariants.{TooMany}
 use Rattle.wef_collector_rows.specs.declared.standings.Standing as state
 use Rattle.wef_collector_rows.specs.declared.standings.Standing.TheVariants as is
 use Rattle.wef_collector_reports.specs.Listing.{listed}
 use Rattle.wef_collector_reports.specs.declared.listing.Listed.{Listed}
 use Rattle.wef_collector.specs.Offers.{is_offered}
 
--- one is added: the row of its name, and as many subscriptions as there may be
-abbrev pub IsAddJudged : Rows → List ℕ → Type 0
-IsAddJudged rows u = IsFormedAt (subscription_key u) rows × AreAllFormed (take 256 (subscription_rows rows))
+-- a start: the boot number
+abbrev pub JudgesStart : {T : Type 0} → Result T CollectorFault → Rows → Type 0
+JudgesStart answer rows = UnlessOfStore collector_store answer (IsFormedAt boot_key rows)
 
--- one ends: the row of its name
-abbrev pub IsEndJudged : Rows → List ℕ → Type 0
-IsEndJudged rows u = IsFormedAt (subscription_key u) rows
+-- the subscriptions that are counted, to see whether there is room
+abbrev pub AreCountedFormed : Rows → Type 0
+AreCountedFormed rows = AreAllFormed (take 256 (subscription_rows rows))
+
+-- where an addition is refused: they were counted if there are too many
+abbrev pub JudgesFull : CollectorFault → Rows → Type 0
+JudgesFull TooMany rows = AreCountedFormed rows
+JudgesFull _ rows = Unit {0}
+
+-- where there is room, and where it is refused
+abbrev pub JudgesRoom : {T : Type 0} → Result T CollectorFault → Rows → Type 0
+JudgesRoom (Ok answer) rows = AreCountedFormed rows
+JudgesRoom (Err fault) rows = JudgesFull fault rows
+
+-- one is added: the row of its name, and then as many subscriptions as there may be
+abbrev pub JudgesAdd : {T : Type 0} → Result T CollectorFault → Rows → List ℕ → Type 0
+JudgesAdd answer rows u = JudgesName answer rows u × JudgesRoom answer rows
 
 -- the bookmark of a channel, where the batch reaches it
 abbrev pub IsMovedFormed : Rows → List ℕ → List ℕ → List ℕ → Option ℕ → Type 0
@@ -41,10 +59,10 @@ AreReachedBy is.Unknown rows u s batch = Unit {0}
 AreReachedBy (is.Ended subscription) rows u s batch = Unit {0}
 AreReachedBy (is.Live subscription) rows u s batch = AreReachedFormed rows u s batch (channels_read subscription)
 
--- a batch is taken: the row of the subscription, the bookmark of each of its channels that the batch reaches, and when
--- the source was heard
-abbrev pub IsTakeJudged : Rows → List ℕ → List ℕ → Batch → Type 0
-IsTakeJudged rows u s batch = IsFormedAt (subscription_key u) rows × AreReachedBy (standing rows u) rows u s batch × IsFormedAt (heard_key u s) rows
+-- a batch is taken: the row of the subscription, and then the bookmark of each of its channels that the batch reaches, and
+-- when the source was heard
+abbrev pub JudgesTake : {T : Type 0} → Result T CollectorFault → Rows → List ℕ → List ℕ → Batch → Type 0
+JudgesTake answer rows u s batch = JudgesName answer rows u × OnOk answer (AreReachedBy (standing rows u) rows u s batch × IsFormedAt (heard_key u s) rows)
 
 -- the bookmarks that an offer goes on from
 abbrev pub is_offer_formed : Rows → List ℕ → Listed → Bool

@@ -1,5 +1,5 @@
 -- What taking batches does, in the words of events and bookmarks.
-use Rattle.std.specs.Prelude.{◌≡◌, ℕ, ◌≤◌, ◌==◌, nat_lt, max, Bool, false, ◌&&◌, List, [], ◌∷◌, Option, Some, None, if◌then◌else◌, IsTrue}
+use Rattle.std.specs.Prelude.{◌≡◌, ℕ, ◌≤◌, ◌==◌, nat_lt, max, Bool, true, false, ◌&&◌, List, [], ◌∷◌, Option, Some, None, if◌then◌else◌, IsTrue}
 use Rattle.std.specs.FinMap as map
 use Rattle.wef_base.specs.Names.{same}
 use Rattle.wef_batch.specs.declared.items.Batch.{Batch}
@@ -7,9 +7,11 @@ use Rattle.wef_batch.specs.declared.items.Item.{Item}
 use Rattle.wef_batch.specs.declared.items.Item.TheVariants.{Event, Dropped, Loose}
 use Rattle.wef_batch.specs.Reach.{reach}
 use Rattle.wef_batch.specs.WellFormed.{is_in}
+use Rattle.wef_eventing.specs.declared.subscriptions.Subscription.{Subscription}
 use Rattle.wef_keeper.specs.declared.keys.Cell.{Cell}
 use Rattle.wef_keeper.specs.declared.keys.Key.{Key}
 use Rattle.wef_keeper.specs.Rows.{Rows}
+use Rattle.wef_collector_rows.specs.Answers.{channels_read}
 use Rattle.wef_collector_rows.specs.Bookmarks.{bookmark_at}
 use Rattle.wef_collector_rows.specs.Keys.{held_key}
 use Rattle.wef_collector.specs.Taken.{taken}
@@ -76,3 +78,11 @@ is_of_pair u s key = same u key.sub && same s key.source
 abbrev pub OthersStay : Type 0
 OthersStay = (rows : Rows) (u s : List ℕ) (channels : List (List ℕ)) (batches : List (Batch × ℕ)) (key : Key) →
     is_of_pair u s key ≡ false → map.get (taken_all rows u s channels batches) key ≡ map.get rows key
+
+-- each channel that a subscription reads is kept of a source at least as far as a batch reads it
+abbrev pub IsReached : Rows → List ℕ → List ℕ → Subscription → Batch → Type 0
+IsReached rows u s about batch = (c : List ℕ) (t : ℕ) → is_in (channels_read about) c ≡ true → reach c batch ≡ Some t → t ≤ bookmark_at rows u s c
+
+-- no bookmark is lower in the later rows
+abbrev pub BookmarksRise : Rows → Rows → Type 0
+BookmarksRise rows later = (u s c : List ℕ) → bookmark_at rows u s c ≤ bookmark_at later u s c

@@ -1,14 +1,15 @@
 -- What the collector is asked to change.
-use Rattle.std.specs.Prelude.{◌≡◌, Some}
+use Rattle.std.specs.Prelude.{◌≡◌, Some, Result}
 use Rattle.wef_batch.specs.Numbers.{AreNumbered}
 use Rattle.wef_documents.specs.Kept.{read_kept}
 use Rattle.wef_documents.specs.Written.{document_text}
 use Rattle.wef_keeper.specs.Rows.{Rows}
+use Rattle.wef_collector_rows.specs.Judged.{JudgesName}
 use Rattle.wef_collector_rows.specs.Standing.{standing}
 use Rattle.wef_collector_rows.specs.declared.faults.CollectorFault.{CollectorFault}
 use Rattle.wef_collector_rows.specs.declared.standings.Standing.TheVariants.{Live}
 use Rattle.wef_collector.specs.Calls.{Effect, OfAdd, OfEnd, OfTake, add_effect, end_effect, take_effect, unread_effect}
-use Rattle.wef_collector.specs.Judged.{IsAddJudged, IsEndJudged, IsTakeJudged}
+use Rattle.wef_collector.specs.Judged.{JudgesAdd, JudgesTake}
 use Rattle.wef_collector.specs.declared.requests.Request.{Request}
 use Rattle.wef_collector.specs.declared.requests.Request.TheVariants.{Add, End, Take, TakeUnread}
 
@@ -26,12 +27,12 @@ IsAllowed (End sub) = Unit {0}
 IsAllowed (Take sub source batch now) = AreNumbered batch.now.items
 IsAllowed (TakeUnread sub) = Unit {0}
 
--- the rows that are read are of their form
-abbrev pub IsJudged : Request → Rows → Type 0
-IsJudged (Add subscription) rows = IsAddJudged rows subscription.now.name
-IsJudged (End sub) rows = IsEndJudged rows sub.now
-IsJudged (Take sub source batch now) rows = IsTakeJudged rows sub.now source.now batch.now
-IsJudged (TakeUnread sub) rows = Unit {0}
+-- the rows that it has read are of their form, unless its store refuses it
+abbrev pub Judges : {T : Type 0} → Request → Result T CollectorFault → Rows → Type 0
+Judges (Add subscription) answer rows = JudgesAdd answer rows subscription.now.name
+Judges (End sub) answer rows = JudgesName answer rows sub.now
+Judges (Take sub source batch now) answer rows = JudgesTake answer rows sub.now source.now batch.now
+Judges (TakeUnread sub) answer rows = JudgesName answer rows sub.now
 
 -- what may be done at all: a batch that couldn't be read isn't taken
 abbrev pub MayBeDone : Request → Type 0

@@ -1,6 +1,6 @@
 //! The collector.
 
-ghost use Rattle.std.specs.Prelude.{◌≡◌, ◌≤◌, ◌++◌, true, take, Some, Ok, Err, IfOk, IfErr, IsErr, IfSome, OnOk};
+ghost use Rattle.std.specs.Prelude.{◌≡◌, ◌≤◌, ◌++◌, true, take, Some, Ok, Err, IfOk, IfErr, IsErr, IfSome, OnOk, MatchResult};
 ghost use Rattle.wef_batch.specs.Numbers.{AreNumbered};
 ghost use Rattle.wef_collector.specs.Boots.{ids_begun};
 ghost use Rattle.wef_collector.specs.Calls as calls;
@@ -14,8 +14,7 @@ ghost use Rattle.wef_collector_rows.specs.Bookmarks.{bookmark_of, bookmark_rows}
 ghost use Rattle.wef_collector_rows.specs.Faults.{collector_store};
 ghost use Rattle.wef_collector_rows.specs.Forms.{AreFormed};
 ghost use Rattle.wef_collector_rows.specs.Held as held;
-ghost use Rattle.wef_collector_rows.specs.Judged.{AreAllFormed, IsFormedAt};
-ghost use Rattle.wef_collector_rows.specs.Keys.{boot_key, subscription_key};
+ghost use Rattle.wef_collector_rows.specs.Judged.{AreAllFormed, JudgesName};
 ghost use Rattle.wef_collector_rows.specs.Standing as standings;
 ghost use Rattle.wef_collector_rows.specs.declared.faults.CollectorFault.TheVariants.{NoMemory};
 ghost use Rattle.wef_collector_rows.specs.declared.standings.Standing.TheVariants.{Live};
@@ -24,8 +23,7 @@ ghost use Rattle.wef_documents.specs.Written.{document_text};
 ghost use Rattle.wef_eventing.specs.Addresses.{IsHost};
 ghost use Rattle.wef_ids.specs.IdTexts.{id_of_value};
 ghost use Rattle.wef_ids.specs.Ids.{next_id, with_drawn};
-ghost use Rattle.wef_keeper.specs.Access.{From};
-ghost use Rattle.wef_keeper.specs.Calls.{IsCall, Looks};
+ghost use Rattle.wef_keeper.specs.Calls.{DoesWith, IsCall, Looks};
 ghost use Rattle.wef_keeper.specs.Keeping.{is_armed};
 ghost use Rattle.wef_keeper.specs.declared.keeping.Plan.TheVariants.{Done, Fails};
 
@@ -77,7 +75,9 @@ impl<K: Keeper> Collector<K> {
     pub fn start(alloc: Global, keeper: K) -> Result<Collector<K>, (K, CollectorFault)>
         ensures ok { IfOk result (λ c. IsCall collector_store AreFormed calls.boot_effect ids_begun (Ok c.ids) (K.store keeper) (K.store c.keeper)) }
         ensures refusal { IfErr result (λ refused. IsCall collector_store AreFormed calls.boot_effect ids_begun (Err refused.1) (K.store keeper) (K.store refused.0)) }
-        ensures judged { IfOk result (λ c. From (K.store keeper) (K.store c.keeper) (λ found after. IsFormedAt boot_key found)) }
+        ensures judged { MatchResult result
+            (λ c. DoesWith collector_store AreFormed calls.boot_effect ids_begun (λ answer found after. judged.JudgesStart answer found) (Ok c.ids) (K.store keeper) (K.store c.keeper))
+            (λ refused. DoesWith collector_store AreFormed calls.boot_effect ids_begun (λ answer found after. judged.JudgesStart answer found) (Err refused.1) (K.store keeper) (K.store refused.0)) }
         ensures listed { IfErr result (λ refused. calls.OfStart refused.1) }
     {
         let mut keeper = keeper;
@@ -117,7 +117,7 @@ impl<K: Keeper> Collector<K> {
     pub fn add(&mut self, subscription: &Subscription) -> Result<(), CollectorFault>
         requires kept { read_kept subscription.now.name (document_text subscription.now) ≡ Some subscription.now }
         ensures call { IsCall collector_store AreFormed (λ rows. calls.add_effect rows subscription.now) (λ _. tt) result (K.store self.old.keeper) (K.store self.new.keeper) }
-        ensures judged { From (K.store self.old.keeper) (K.store self.new.keeper) (λ found after. OnOk result (judged.IsAddJudged found subscription.now.name)) }
+        ensures judged { DoesWith collector_store AreFormed (λ rows. calls.add_effect rows subscription.now) (λ _. tt) (λ answer found after. judged.JudgesAdd answer found subscription.now.name) result (K.store self.old.keeper) (K.store self.new.keeper) }
         ensures listed { IfErr result calls.OfAdd }
         ensures ids { self.new.ids ≡ self.old.ids }
         ensures live { OnOk result (IfSome (K.store self.new.keeper).rows (λ rows. standings.standing rows subscription.now.name ≡ Live subscription.now)) }
@@ -128,7 +128,7 @@ impl<K: Keeper> Collector<K> {
     /// Ends a subscription. What was kept for it stays.
     pub fn end(&mut self, sub: &SubId) -> Result<(), CollectorFault>
         ensures call { IsCall collector_store AreFormed (λ rows. calls.end_effect rows sub.now) (λ _. tt) result (K.store self.old.keeper) (K.store self.new.keeper) }
-        ensures judged { From (K.store self.old.keeper) (K.store self.new.keeper) (λ found after. OnOk result (judged.IsEndJudged found sub.now)) }
+        ensures judged { DoesWith collector_store AreFormed (λ rows. calls.end_effect rows sub.now) (λ _. tt) (λ answer found after. JudgesName answer found sub.now) result (K.store self.old.keeper) (K.store self.new.keeper) }
         ensures listed { IfErr result calls.OfEnd }
         ensures ids { self.new.ids ≡ self.old.ids }
     {
@@ -147,7 +147,7 @@ impl<K: Keeper> Collector<K> {
     ) -> Result<(), CollectorFault>
         requires numbered { AreNumbered batch.now.items }
         ensures call { IsCall collector_store AreFormed (λ rows. calls.take_effect rows sub.now source.now batch.now now) (λ _. tt) result (K.store self.old.keeper) (K.store self.new.keeper) }
-        ensures judged { From (K.store self.old.keeper) (K.store self.new.keeper) (λ found after. OnOk result (judged.IsTakeJudged found sub.now source.now batch.now)) }
+        ensures judged { DoesWith collector_store AreFormed (λ rows. calls.take_effect rows sub.now source.now batch.now now) (λ _. tt) (λ answer found after. judged.JudgesTake answer found sub.now source.now batch.now) result (K.store self.old.keeper) (K.store self.new.keeper) }
         ensures listed { IfErr result calls.OfTake }
         ensures ids { self.new.ids ≡ self.old.ids }
     {
@@ -165,6 +165,7 @@ impl<K: Keeper> Collector<K> {
     pub fn take_unread(&mut self, sub: &SubId) -> Result<(), CollectorFault>
         ensures refused { IsErr result }
         ensures call { IsCall collector_store AreFormed (λ rows. calls.unread_effect rows sub.now) (λ _. tt) result (K.store self.old.keeper) (K.store self.new.keeper) }
+        ensures judged { DoesWith collector_store AreFormed (λ rows. calls.unread_effect rows sub.now) (λ _. tt) (λ answer found after. JudgesName answer found sub.now) result (K.store self.old.keeper) (K.store self.new.keeper) }
         ensures listed { IfErr result calls.OfTake }
         ensures ids { self.new.ids ≡ self.old.ids }
     {
@@ -174,7 +175,7 @@ impl<K: Keeper> Collector<K> {
     /// A live subscription.
     pub fn state(&mut self, sub: &SubId) -> Result<Subscription, CollectorFault>
         ensures ok { IfSome (K.store self.new.keeper).rows (λ rows. IfOk result (λ subscription. standings.standing rows sub.now ≡ Live subscription)) }
-        ensures judged { IfSome (K.store self.new.keeper).rows (λ rows. OnOk result (IsFormedAt (subscription_key sub.now) rows)) }
+        ensures judged { IfSome (K.store self.new.keeper).rows (λ rows. JudgesName result rows sub.now) }
         ensures refusal { IfErr result (λ fault. answers.RefusesName fault (K.store self.new.keeper).rows sub.now) }
         ensures looks { Looks collector_store AreFormed result (K.store self.old.keeper) (K.store self.new.keeper) }
         ensures ids { self.new.ids ≡ self.old.ids }
@@ -197,7 +198,7 @@ impl<K: Keeper> Collector<K> {
         ensures page { IfSome (K.store self.new.keeper).rows (λ rows. IfOk result (λ page. page ≡ take max (held.held_after rows sub.now source.now channel.now after))) }
         ensures rest { IfSome (K.store self.new.keeper).rows (λ rows. IfOk result (λ page. held.held_after rows sub.now source.now channel.now after
             ≡ page ++ held.held_after rows sub.now source.now channel.now (held.last_number after page))) }
-        ensures judged { IfSome (K.store self.new.keeper).rows (λ rows. OnOk result (IsFormedAt (subscription_key sub.now) rows × AreAllFormed (take max (held.held_rows rows sub.now source.now channel.now after)))) }
+        ensures judged { IfSome (K.store self.new.keeper).rows (λ rows. JudgesName result rows sub.now × OnOk result (AreAllFormed (take max (held.held_rows rows sub.now source.now channel.now after)))) }
         ensures refusal { IfErr result (λ fault. answers.RefusesUnknown fault (K.store self.new.keeper).rows sub.now) }
         ensures looks { Looks collector_store AreFormed result (K.store self.old.keeper) (K.store self.new.keeper) }
         ensures ids { self.new.ids ≡ self.old.ids }
@@ -239,7 +240,7 @@ impl<K: Keeper> Collector<K> {
     pub fn bookmark(&mut self, sub: &SubId, source: &SourceName) -> Result<Bookmark, CollectorFault>
         ensures known { IfSome (K.store self.new.keeper).rows (λ rows. OnOk result (answers.is_known (standings.standing rows sub.now) ≡ true)) }
         ensures ok { IfSome (K.store self.new.keeper).rows (λ rows. IfOk result (λ bookmark. bookmark ≡ bookmark_of rows sub.now source.now)) }
-        ensures judged { IfSome (K.store self.new.keeper).rows (λ rows. OnOk result (IsFormedAt (subscription_key sub.now) rows × AreAllFormed (bookmark_rows rows sub.now source.now))) }
+        ensures judged { IfSome (K.store self.new.keeper).rows (λ rows. JudgesName result rows sub.now × OnOk result (AreAllFormed (bookmark_rows rows sub.now source.now))) }
         ensures refusal { IfErr result (λ fault. answers.RefusesUnknown fault (K.store self.new.keeper).rows sub.now) }
         ensures looks { Looks collector_store AreFormed result (K.store self.old.keeper) (K.store self.new.keeper) }
         ensures ids { self.new.ids ≡ self.old.ids }

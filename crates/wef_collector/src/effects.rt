@@ -1,7 +1,7 @@
 //! What the collector's calls change, or why they are refused.
 
 ghost use Rattle.std.specs.FinMap as map;
-ghost use Rattle.std.specs.Prelude.{◌≡◌, ◌≤◌, true, false, [], ◌∷◌, take, is_some, Some, Ok, IsErr, IfErr, IfOk, IfSome, OnOk};
+ghost use Rattle.std.specs.Prelude.{◌≡◌, ◌≤◌, true, false, [], ◌∷◌, is_some, Some, Ok, IsErr, IfErr, IfOk, IfSome, OnOk};
 ghost use Rattle.wef_batch.specs.Numbers.{AreNumbered};
 ghost use Rattle.wef_collector.specs.Boots.{boot_of, ids_begun};
 ghost use Rattle.wef_collector.specs.Calls as calls;
@@ -10,7 +10,7 @@ ghost use Rattle.wef_collector.specs.Taken as taken;
 ghost use Rattle.wef_collector_rows.specs.Answers as answers;
 ghost use Rattle.wef_collector_rows.specs.Faults.{collector_store};
 ghost use Rattle.wef_collector_rows.specs.Forms.{AreFormed, is_formed};
-ghost use Rattle.wef_collector_rows.specs.Judged.{AreAllFormed, IsFormedAt};
+ghost use Rattle.wef_collector_rows.specs.Judged.{IsFormedAt, JudgesName};
 ghost use Rattle.wef_collector_rows.specs.Keys as keys;
 ghost use Rattle.wef_collector_rows.specs.Standing as standings;
 ghost use Rattle.wef_collector_rows.specs.declared.standings.Standing.TheVariants.{Live};
@@ -50,7 +50,7 @@ pub fn add_changes<K: Keeper>(
     requires kept { read_kept subscription.now.name (document_text subscription.now) ≡ Some subscription.now }
     requires ready { access.IsReady (K.store keeper.old) }
     ensures effect { IfSome (K.store keeper.new).rows (λ rows. Tells collector_store result (calls.add_effect rows subscription.now)) }
-    ensures judged { IfSome (K.store keeper.new).rows (λ rows. OnOk result (judged.IsAddJudged rows subscription.now.name)) }
+    ensures judged { IfSome (K.store keeper.new).rows (λ rows. judged.JudgesAdd result rows subscription.now.name) }
     ensures listed { IfErr result calls.OfAdd }
     ensures reads { access.Reads AreFormed (fails collector_store result) (K.store keeper.old) (K.store keeper.new) }
 {
@@ -106,7 +106,7 @@ fn put_subscription(
 fn is_full<K: Keeper>(keeper: &mut K, alloc: Global) -> Result<bool, StoreFault>
     requires { access.IsReady (K.store keeper.old) }
     ensures full { IfSome (K.store keeper.new).rows (λ rows. IfOk result (λ full. full ≡ standings.is_full rows)) }
-    ensures judged { IfSome (K.store keeper.new).rows (λ rows. OnOk result (AreAllFormed (take 256 (standings.subscription_rows rows)))) }
+    ensures judged { IfSome (K.store keeper.new).rows (λ rows. OnOk result (judged.AreCountedFormed rows)) }
     ensures reads { access.Reads AreFormed (access.fails result) (K.store keeper.old) (K.store keeper.new) }
 {
     let start = subscriptions_start(alloc);
@@ -122,7 +122,7 @@ pub fn end_changes<K: Keeper>(
 ) -> Result<Changes<CollectorForm>, CollectorFault>
     requires { access.IsReady (K.store keeper.old) }
     ensures effect { IfSome (K.store keeper.new).rows (λ rows. Tells collector_store result (calls.end_effect rows sub.now)) }
-    ensures judged { IfSome (K.store keeper.new).rows (λ rows. OnOk result (judged.IsEndJudged rows sub.now)) }
+    ensures judged { IfSome (K.store keeper.new).rows (λ rows. JudgesName result rows sub.now) }
     ensures listed { IfErr result calls.OfEnd }
     ensures reads { access.Reads AreFormed (fails collector_store result) (K.store keeper.old) (K.store keeper.new) }
 {
@@ -164,7 +164,7 @@ pub fn take_changes<K: Keeper>(
     requires numbered { AreNumbered batch.now.items }
     requires ready { access.IsReady (K.store keeper.old) }
     ensures effect { IfSome (K.store keeper.new).rows (λ rows. Tells collector_store result (calls.take_effect rows sub.now source.now batch.now now)) }
-    ensures judged { IfSome (K.store keeper.new).rows (λ rows. OnOk result (judged.IsTakeJudged rows sub.now source.now batch.now)) }
+    ensures judged { IfSome (K.store keeper.new).rows (λ rows. judged.JudgesTake result rows sub.now source.now batch.now) }
     ensures listed { IfErr result calls.OfTake }
     ensures reads { access.Reads AreFormed (fails collector_store result) (K.store keeper.old) (K.store keeper.new) }
 {
@@ -180,6 +180,7 @@ pub fn unread_changes<K: Keeper>(
     requires { access.IsReady (K.store keeper.old) }
     ensures refused { IsErr result }
     ensures effect { IfSome (K.store keeper.new).rows (λ rows. Tells collector_store result (calls.unread_effect rows sub.now)) }
+    ensures judged { IfSome (K.store keeper.new).rows (λ rows. JudgesName result rows sub.now) }
     ensures listed { IfErr result calls.OfTake }
     ensures reads { access.Reads AreFormed (fails collector_store result) (K.store keeper.old) (K.store keeper.new) }
 {
@@ -224,7 +225,7 @@ pub fn boot_changes<K: Keeper>(keeper: &mut K, alloc: Global) -> Result<Starting
     ensures effect { IfSome (K.store keeper.new).rows (λ rows. IfOk result (λ starting. calls.boot_effect rows ≡ Ok starting.changes)) }
     ensures ids { IfSome (K.store keeper.new).rows (λ rows. IfOk result (λ starting. starting.ids ≡ ids_begun rows)) }
     ensures refusal { IfSome (K.store keeper.new).rows (λ rows. IfErr result (λ fault. TellsFault (collector_store fault) fault (calls.boot_effect rows))) }
-    ensures judged { IfSome (K.store keeper.new).rows (λ rows. OnOk result (IsFormedAt keys.boot_key rows)) }
+    ensures judged { IfSome (K.store keeper.new).rows (λ rows. judged.JudgesStart result rows) }
     ensures listed { IfErr result calls.OfStart }
     ensures reads { access.Reads AreFormed (fails collector_store result) (K.store keeper.old) (K.store keeper.new) }
 {

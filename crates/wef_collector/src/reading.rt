@@ -12,8 +12,7 @@ ghost use Rattle.wef_collector_rows.specs.Bookmarks.{bookmark_of, bookmark_rows}
 ghost use Rattle.wef_collector_rows.specs.Faults.{collector_store};
 ghost use Rattle.wef_collector_rows.specs.Forms.{AreFormed};
 ghost use Rattle.wef_collector_rows.specs.Held as held;
-ghost use Rattle.wef_collector_rows.specs.Judged.{AreAllFormed, IsFormedAt};
-ghost use Rattle.wef_collector_rows.specs.Keys.{subscription_key};
+ghost use Rattle.wef_collector_rows.specs.Judged.{AreAllFormed, JudgesName};
 ghost use Rattle.wef_collector_rows.specs.Standing as standings;
 ghost use Rattle.wef_collector_rows.specs.declared.standings.Standing.TheVariants.{Live};
 ghost use Rattle.wef_eventing.specs.Addresses.{IsHost};
@@ -38,7 +37,7 @@ use wef_keeper::access::open;
 #[tactic(auto, using(wef_keeper::proofs::Calls::looks_by))]
 pub fn state_in<K: Keeper>(keeper: &mut K, sub: &SubId) -> Result<Subscription, CollectorFault>
     ensures ok { IfSome (K.store keeper.new).rows (λ rows. IfOk result (λ subscription. standings.standing rows sub.now ≡ Live subscription)) }
-    ensures judged { IfSome (K.store keeper.new).rows (λ rows. OnOk result (IsFormedAt (subscription_key sub.now) rows)) }
+    ensures judged { IfSome (K.store keeper.new).rows (λ rows. JudgesName result rows sub.now) }
     ensures refusal { IfErr result (λ fault. answers.RefusesName fault (K.store keeper.new).rows sub.now) }
     ensures looks { Looks collector_store AreFormed result (K.store keeper.old) (K.store keeper.new) }
 {
@@ -62,7 +61,7 @@ pub fn held_in<K: Keeper>(
     ensures page { IfSome (K.store keeper.new).rows (λ rows. IfOk result (λ page. page ≡ take max (held.held_after rows sub.now source.now channel.now after))) }
     ensures rest { IfSome (K.store keeper.new).rows (λ rows. IfOk result (λ page. held.held_after rows sub.now source.now channel.now after
         ≡ page ++ held.held_after rows sub.now source.now channel.now (held.last_number after page))) }
-    ensures judged { IfSome (K.store keeper.new).rows (λ rows. OnOk result (IsFormedAt (subscription_key sub.now) rows × AreAllFormed (take max (held.held_rows rows sub.now source.now channel.now after)))) }
+    ensures judged { IfSome (K.store keeper.new).rows (λ rows. JudgesName result rows sub.now × OnOk result (AreAllFormed (take max (held.held_rows rows sub.now source.now channel.now after)))) }
     ensures refusal { IfErr result (λ fault. answers.RefusesUnknown fault (K.store keeper.new).rows sub.now) }
     ensures looks { Looks collector_store AreFormed result (K.store keeper.old) (K.store keeper.new) }
 {
@@ -113,7 +112,7 @@ pub fn bookmark_in<K: Keeper>(
 ) -> Result<Bookmark, CollectorFault>
     ensures known { IfSome (K.store keeper.new).rows (λ rows. OnOk result (answers.is_known (standings.standing rows sub.now) ≡ true)) }
     ensures ok { IfSome (K.store keeper.new).rows (λ rows. IfOk result (λ bookmark. bookmark ≡ bookmark_of rows sub.now source.now)) }
-    ensures judged { IfSome (K.store keeper.new).rows (λ rows. OnOk result (IsFormedAt (subscription_key sub.now) rows × AreAllFormed (bookmark_rows rows sub.now source.now))) }
+    ensures judged { IfSome (K.store keeper.new).rows (λ rows. JudgesName result rows sub.now × OnOk result (AreAllFormed (bookmark_rows rows sub.now source.now))) }
     ensures refusal { IfErr result (λ fault. answers.RefusesUnknown fault (K.store keeper.new).rows sub.now) }
     ensures looks { Looks collector_store AreFormed result (K.store keeper.old) (K.store keeper.new) }
 {

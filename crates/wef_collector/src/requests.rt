@@ -3,13 +3,12 @@
 ghost use Rattle.std.specs.Prelude.{IfErr, IfOk, IfSome, OnOk, Ok, Err};
 ghost use Rattle.wef_collector.specs.Boots.{ids_begun};
 ghost use Rattle.wef_collector.specs.Calls as calls;
+ghost use Rattle.wef_collector.specs.Judged as judged;
 ghost use Rattle.wef_collector.specs.Requests as spec;
 ghost use Rattle.wef_collector_rows.specs.Faults.{collector_store};
 ghost use Rattle.wef_collector_rows.specs.Forms.{AreFormed};
-ghost use Rattle.wef_collector_rows.specs.Judged.{IsFormedAt};
-ghost use Rattle.wef_collector_rows.specs.Keys.{boot_key};
 ghost use Rattle.wef_keeper.specs.Access as access;
-ghost use Rattle.wef_keeper.specs.Calls.{IsCall, Tells, fails};
+ghost use Rattle.wef_keeper.specs.Calls.{DoesWith, IsCall, Tells, fails};
 
 use crate::effects::{add_changes, boot_changes, end_changes, take_changes, unread_changes};
 use std::alloc::Global;
@@ -49,7 +48,7 @@ pub fn answer<K: Keeper>(
 ) -> Result<(), CollectorFault>
     requires { spec.IsAllowed request.now }
     ensures call { IsCall collector_store AreFormed (spec.effect_of request.now) (λ _. tt) result (K.store keeper.old) (K.store keeper.new) }
-    ensures judged { access.From (K.store keeper.old) (K.store keeper.new) (λ found after. OnOk result (spec.IsJudged request.now found)) }
+    ensures judged { DoesWith collector_store AreFormed (spec.effect_of request.now) (λ _. tt) (λ answer found after. spec.Judges request.now answer found) result (K.store keeper.old) (K.store keeper.new) }
     ensures stands { IfSome (K.store keeper.new).rows (λ rows. OnOk result (spec.Stands request.now rows)) }
     ensures done { OnOk result (spec.MayBeDone request.now) }
     ensures listed { IfErr result (spec.IsRefusal request.now) }
@@ -69,7 +68,7 @@ fn changes_of<K: Keeper>(
     requires allowed { spec.IsAllowed request.now }
     requires ready { access.IsReady (K.store keeper.old) }
     ensures effect { IfSome (K.store keeper.new).rows (λ rows. Tells collector_store result (spec.effect_of request.now rows)) }
-    ensures judged { IfSome (K.store keeper.new).rows (λ rows. OnOk result (spec.IsJudged request.now rows)) }
+    ensures judged { IfSome (K.store keeper.new).rows (λ rows. spec.Judges request.now result rows) }
     ensures done { OnOk result (spec.MayBeDone request.now) }
     ensures listed { IfErr result (spec.IsRefusal request.now) }
     ensures reads { access.Reads AreFormed (fails collector_store result) (K.store keeper.old) (K.store keeper.new) }
@@ -90,7 +89,7 @@ fn changes_of<K: Keeper>(
 /// Raises the boot number by one, and answers the ids that begin with it.
 pub fn raise_boot<K: Keeper>(keeper: &mut K, alloc: Global) -> Result<Ids, CollectorFault>
     ensures call { IsCall collector_store AreFormed calls.boot_effect ids_begun result (K.store keeper.old) (K.store keeper.new) }
-    ensures judged { access.From (K.store keeper.old) (K.store keeper.new) (λ found after. OnOk result (IsFormedAt boot_key found)) }
+    ensures judged { DoesWith collector_store AreFormed calls.boot_effect ids_begun (λ answer found after. judged.JudgesStart answer found) result (K.store keeper.old) (K.store keeper.new) }
     ensures listed { IfErr result calls.OfStart }
 {
     open(keeper)?;

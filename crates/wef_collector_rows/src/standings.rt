@@ -5,7 +5,7 @@ ghost use Rattle.std.specs.Prelude.{◌≡◌, true, false, IfErr, IfOk, IfSome,
 ghost use Rattle.wef_collector_rows.specs.Answers as answers;
 ghost use Rattle.wef_collector_rows.specs.Faults.{collector_store};
 ghost use Rattle.wef_collector_rows.specs.Forms.{AreFormed, is_subscription_row};
-ghost use Rattle.wef_collector_rows.specs.Judged.{IsFormedAt};
+ghost use Rattle.wef_collector_rows.specs.Judged.{IsFormedAt, JudgesName};
 ghost use Rattle.wef_collector_rows.specs.Keys.{subscription_key};
 ghost use Rattle.wef_collector_rows.specs.Standing as spec;
 ghost use Rattle.wef_documents.specs.Kept.{read_kept};
@@ -35,7 +35,7 @@ pub enum Standing {
 pub fn live_in<K: Keeper>(keeper: &mut K, sub: &SubId) -> Result<Subscription, CollectorFault>
     requires { access.IsReady (K.store keeper.old) }
     ensures ok { IfSome (K.store keeper.new).rows (λ rows. IfOk result (λ subscription. spec.standing rows sub.now ≡ Standing.Live subscription)) }
-    ensures judged { IfSome (K.store keeper.new).rows (λ rows. OnOk result (IsFormedAt (subscription_key sub.now) rows)) }
+    ensures judged { IfSome (K.store keeper.new).rows (λ rows. JudgesName result rows sub.now) }
     ensures refusal { IfErr result (λ fault. answers.RefusesName fault (K.store keeper.new).rows sub.now) }
     ensures reads { access.Reads AreFormed (fails collector_store result) (K.store keeper.old) (K.store keeper.new) }
 {
@@ -50,7 +50,7 @@ pub fn live_in<K: Keeper>(keeper: &mut K, sub: &SubId) -> Result<Subscription, C
 pub fn known_in<K: Keeper>(keeper: &mut K, sub: &SubId) -> Result<(), CollectorFault>
     requires { access.IsReady (K.store keeper.old) }
     ensures ok { IfSome (K.store keeper.new).rows (λ rows. OnOk result (answers.is_known (spec.standing rows sub.now) ≡ true)) }
-    ensures judged { IfSome (K.store keeper.new).rows (λ rows. OnOk result (IsFormedAt (subscription_key sub.now) rows)) }
+    ensures judged { IfSome (K.store keeper.new).rows (λ rows. JudgesName result rows sub.now) }
     ensures refusal { IfErr result (λ fault. answers.RefusesUnknown fault (K.store keeper.new).rows sub.now) }
     ensures reads { access.Reads AreFormed (fails collector_store result) (K.store keeper.old) (K.store keeper.new) }
 {

@@ -1,20 +1,31 @@
--- Which rows the calls of the log read: where a call is done, none of them was spoilt.
-use Rattle.std.specs.Prelude.{◌≡◌, ℕ, true, List, take}
+-- Which rows the calls of the log read: unless its store refuses a call, none of those that it has read was spoilt.
+use Rattle.std.specs.Prelude.{◌≡◌, ℕ, true, List, take, Result, Ok, Err, OnOk}
 use Rattle.std.specs.List.{list_all}
+use Rattle.wef_keeper.specs.Calls.{UnlessOfStore}
 use Rattle.wef_keeper.specs.Forms.{IsPassedAt}
 use Rattle.wef_keeper.specs.Rows.{Rows}
 use Rattle.wef_keeper.specs.Sections.{rows_under}
 use Rattle.wef_keeper.specs.declared.keys.Depth.TheVariants.{Channel}
+use Rattle.wef_source_log.specs.Faults.{log_store}
 use Rattle.wef_source_log.specs.Forms.{is_formed}
 use Rattle.wef_source_log.specs.Keys.{boot_key, capacity_key, last_key, record_key}
+use Rattle.wef_source_log.specs.declared.faults.LogFault.{LogFault}
+use Rattle.wef_source_log.specs.declared.faults.LogFault.TheVariants.{Full, TooLong}
 
--- a start reads the boot number and the capacity
-abbrev pub JudgesStart : Rows → Type 0
-JudgesStart rows = IsPassedAt is_formed boot_key rows × IsPassedAt is_formed capacity_key rows
+-- a start reads the boot number, and where that can rise the capacity
+abbrev pub JudgesStart : {T : Type 0} → Result T LogFault → Rows → Type 0
+JudgesStart answer rows = UnlessOfStore log_store answer (IsPassedAt is_formed boot_key rows) × OnOk answer (IsPassedAt is_formed capacity_key rows)
 
--- a write reads the last number of its channel and the capacity
-abbrev pub JudgesWrite : List ℕ → Rows → Type 0
-JudgesWrite c rows = IsPassedAt is_formed (last_key c) rows × IsPassedAt is_formed capacity_key rows
+-- what a write has read that is refused: with `Full` the last number of its channel alone
+abbrev pub JudgesRefused : LogFault → List ℕ → Rows → Type 0
+JudgesRefused Full c rows = IsPassedAt is_formed (last_key c) rows
+JudgesRefused TooLong c rows = IsPassedAt is_formed (last_key c) rows × IsPassedAt is_formed capacity_key rows
+JudgesRefused _ c rows = Unit {0}
+
+-- a write reads the last number of its channel, and where a number is left the capacity
+abbrev pub JudgesWrite : {T : Type 0} → Result T LogFault → List ℕ → Rows → Type 0
+JudgesWrite (Ok answer) c rows = IsPassedAt is_formed (last_key c) rows × IsPassedAt is_formed capacity_key rows
+JudgesWrite (Err fault) c rows = JudgesRefused fault c rows
 
 -- the first number of a channel's window rests on the capacity and the last number
 abbrev pub JudgesFirst : List ℕ → Rows → Type 0

@@ -3,7 +3,7 @@
 ghost use Rattle.std.specs.Prelude.{◌≡◌, ◌≤◌, ◌++◌, [], ◌∷◌, true, false, is_some, Some, None, Option, IfOk, IfErr, IfSome, OnOk};
 ghost use Rattle.wef_event.specs.Numbering as numbering;
 ghost use Rattle.wef_keeper.specs.Access as access;
-ghost use Rattle.wef_keeper.specs.Calls.{IsCall, fails};
+ghost use Rattle.wef_keeper.specs.Calls.{DoesWith, IsCall, fails};
 ghost use Rattle.wef_keeper.specs.declared.keys.Cell as the_cell;
 ghost use Rattle.wef_keeper.specs.declared.keys.Change.TheVariants.{Put};
 ghost use Rattle.wef_source_log.specs.Answers as answers;
@@ -37,7 +37,7 @@ pub fn start_in<K: Keeper>(alloc: Global, keeper: &mut K, capacity: u64) -> Resu
     requires least { 1 ≤ capacity }
     requires greatest { capacity ≤ 1000000 }
     ensures call { IsCall log_store AreFormed (λ found. answers.start_effect found capacity) answers.next_boot result (K.store keeper.old) (K.store keeper.new) }
-    ensures judged { OnOk result (access.From (K.store keeper.old) (K.store keeper.new) (λ found after. judged.JudgesStart found)) }
+    ensures judged { DoesWith log_store AreFormed (λ found. answers.start_effect found capacity) answers.next_boot (λ answer found after. judged.JudgesStart answer found) result (K.store keeper.old) (K.store keeper.new) }
     ensures listed { IfErr result answers.RefusesStart }
 {
     access::open(keeper)?;
@@ -55,7 +55,7 @@ fn prepared_start<K: Keeper>(
     requires greatest { capacity ≤ 1000000 }
     requires ready { access.IsReady (K.store keeper.old) }
     ensures prepared { IfSome (K.store keeper.new).rows (λ found. Prepares (answers.start_effect found capacity) (answers.next_boot found) result) }
-    ensures judged { IfSome (K.store keeper.new).rows (λ found. OnOk result (judged.JudgesStart found)) }
+    ensures judged { IfSome (K.store keeper.new).rows (λ found. judged.JudgesStart result found) }
     ensures listed { IfErr result answers.RefusesStart }
     ensures reads { access.Reads AreFormed (fails log_store result) (K.store keeper.old) (K.store keeper.new) }
 {
@@ -96,8 +96,8 @@ fn start_changes(
 /// window of histories, they are that of the longer ones.
 pub fn write_in<K: Keeper>(keeper: &mut K, event: &Event) -> Result<u64, LogFault>
     ensures call { IsCall log_store AreFormed (λ found. answers.write_effect found event.now) (λ found. answers.next_number found event.now) result (K.store keeper.old) (K.store keeper.new) }
-    ensures window { access.From (K.store keeper.old) (K.store keeper.new) (λ found after. IfOk result (answers.ExtendsHistory found after event.now)) }
-    ensures judged { OnOk result (access.From (K.store keeper.old) (K.store keeper.new) (λ found after. judged.JudgesWrite event.now.channel found)) }
+    ensures judged { DoesWith log_store AreFormed (λ found. answers.write_effect found event.now) (λ found. answers.next_number found event.now)
+        (λ answer found after. judged.JudgesWrite answer event.now.channel found × IfOk answer (answers.ExtendsHistory found after event.now)) result (K.store keeper.old) (K.store keeper.new) }
 {
     write_next(keeper, event)
 }
@@ -105,7 +105,8 @@ pub fn write_in<K: Keeper>(keeper: &mut K, event: &Event) -> Result<u64, LogFaul
 /// As `write_in`, by the rows alone.
 fn write_next<K: Keeper>(keeper: &mut K, event: &Event) -> Result<u64, LogFault>
     ensures call { IsCall log_store AreFormed (λ found. answers.write_effect found event.now) (λ found. answers.next_number found event.now) result (K.store keeper.old) (K.store keeper.new) }
-    ensures judged { OnOk result (access.From (K.store keeper.old) (K.store keeper.new) (λ found after. judged.JudgesWrite event.now.channel found)) }
+    ensures judged { DoesWith log_store AreFormed (λ found. answers.write_effect found event.now) (λ found. answers.next_number found event.now)
+        (λ answer found after. judged.JudgesWrite answer event.now.channel found) result (K.store keeper.old) (K.store keeper.new) }
 {
     access::open(keeper)?;
     let prepared = prepared_write(keeper, event)?;
@@ -116,7 +117,7 @@ fn write_next<K: Keeper>(keeper: &mut K, event: &Event) -> Result<u64, LogFault>
 fn prepared_write<K: Keeper>(keeper: &mut K, event: &Event) -> Result<Prepared, LogFault>
     requires { access.IsReady (K.store keeper.old) }
     ensures prepared { IfSome (K.store keeper.new).rows (λ found. Prepares (answers.write_effect found event.now) (answers.next_number found event.now) result) }
-    ensures judged { IfSome (K.store keeper.new).rows (λ found. OnOk result (judged.JudgesWrite event.now.channel found)) }
+    ensures judged { IfSome (K.store keeper.new).rows (λ found. judged.JudgesWrite result event.now.channel found) }
     ensures reads { access.Reads AreFormed (fails log_store result) (K.store keeper.old) (K.store keeper.new) }
 {
     let last = last_of(keeper, &event.channel)?;

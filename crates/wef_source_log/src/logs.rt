@@ -4,7 +4,7 @@ ghost use Rattle.std.specs.List.{AllByRecursion};
 ghost use Rattle.std.specs.Prelude.{◌≡◌, ◌+◌, ◌<◌, ◌≤◌, ◌++◌, take, IfOk, IfErr, IfSome, OnOk, MatchResult};
 ghost use Rattle.wef_event.specs.Events as the_event;
 ghost use Rattle.wef_keeper.specs.Access as access;
-ghost use Rattle.wef_keeper.specs.Calls.{IsCall, Looks, fails};
+ghost use Rattle.wef_keeper.specs.Calls.{DoesWith, IsCall, Looks, fails};
 ghost use Rattle.wef_keeper.specs.Keeping as keeping;
 ghost use Rattle.wef_keeper.specs.declared.keeping.Plan.TheVariants.{Done, Fails};
 ghost use Rattle.wef_source_log.specs.Answers as answers;
@@ -52,7 +52,9 @@ impl<K: Keeper> Log<K> {
         ensures call { MatchResult result
             (λ log. IsCall log_store AreFormed (λ found. answers.start_effect found capacity) answers.next_boot (Ok log.boot) (K.store keeper) (K.store log.keeper))
             (λ refused. IsCall log_store AreFormed (λ found. answers.start_effect found capacity) answers.next_boot (Err refused.1) (K.store keeper) (K.store refused.0)) }
-        ensures judged { IfOk result (λ log. access.From (K.store keeper) (K.store log.keeper) (λ found after. judged.JudgesStart found)) }
+        ensures judged { MatchResult result
+            (λ log. DoesWith log_store AreFormed (λ found. answers.start_effect found capacity) answers.next_boot (λ answer found after. judged.JudgesStart answer found) (Ok log.boot) (K.store keeper) (K.store log.keeper))
+            (λ refused. DoesWith log_store AreFormed (λ found. answers.start_effect found capacity) answers.next_boot (λ answer found after. judged.JudgesStart answer found) (Err refused.1) (K.store keeper) (K.store refused.0)) }
         ensures listed { IfErr result (λ refused. answers.RefusesStart refused.1) }
     {
         let mut keeper = keeper;
@@ -73,8 +75,8 @@ impl<K: Keeper> Log<K> {
     /// is full, its first record leaves it. All of it stands in one commit.
     pub fn write(&mut self, event: &Event) -> Result<u64, LogFault>
         ensures call { IsCall log_store AreFormed (λ found. answers.write_effect found event.now) (λ found. answers.next_number found event.now) result (K.store self.old.keeper) (K.store self.new.keeper) }
-        ensures window { access.From (K.store self.old.keeper) (K.store self.new.keeper) (λ found after. IfOk result (answers.ExtendsHistory found after event.now)) }
-        ensures judged { OnOk result (access.From (K.store self.old.keeper) (K.store self.new.keeper) (λ found after. judged.JudgesWrite event.now.channel found)) }
+        ensures judged { DoesWith log_store AreFormed (λ found. answers.write_effect found event.now) (λ found. answers.next_number found event.now)
+            (λ answer found after. judged.JudgesWrite answer event.now.channel found × IfOk answer (answers.ExtendsHistory found after event.now)) result (K.store self.old.keeper) (K.store self.new.keeper) }
         ensures boot { self.new.boot ≡ self.old.boot }
     {
         write_in(&mut self.keeper, event)

@@ -1,12 +1,12 @@
 use Rattle.std.proofs.Common.{refl}
+use Rattle.std.specs.Prelude.{Ok}
 use Rattle.std.proofs.lemmas.Result.{err_from_is_err_and}
-use Rattle.wef_keeper.proofs.Calls.{committed, not_committed, not_opened, refused}
+use Rattle.wef_keeper.proofs.Calls.{any_with, committed, committed_with, not_committed, not_opened, refused, refused_with}
 use Rattle.wef_keeper.proofs.StayFormed.{applied_formed}
-use Rattle.wef_collector_rows.specs.Judged.{IsFormedAt}
-use Rattle.wef_collector_rows.specs.Keys.{boot_key}
 use Rattle.wef_collector.specs.Boots.{ids_begun}
 use Rattle.wef_collector.specs.Calls.{boot_effect}
-use Rattle.wef_collector.proofs.Answered.{all_judged, none_judged}
+use Rattle.wef_collector.specs.Judged.{JudgesStart}
+use Rattle.wef_collector.proofs.Answered.{no_start}
 use Rattle.wef_collector_rows.specs.Faults.{collector_fault, collector_store}
 use Rattle.wef_collector_rows.specs.Forms.{AreFormed, is_formed}
 use Rattle.wef_collector.proofs.OfStore.{of_collector_fault}
@@ -23,7 +23,8 @@ returns-in_err-open-clause-call g c =
 pub returns-in_err-open-clause-judged : goal.returns-in_err-open-clause-judged
 returns-in_err-open-clause-judged g c =
     let p = err_from_is_err_and c.from_residual.result c.from_residual.ensures.1 in
-    none_judged boot_effect ids_begun c.from_residual.result p.0 (IsFormedAt boot_key) (g.K.Keeper.store c.args.keeper.now) (g.K.Keeper.store c.open.new.keeper) p.1 (returns-in_err-open-clause-call g c)
+    any_with collector_store AreFormed boot_effect ids_begun (λ answer found after. JudgesStart answer found) c.from_residual.result (g.K.Keeper.store c.args.keeper.now) (g.K.Keeper.store c.open.new.keeper) (returns-in_err-open-clause-call g c)
+    (λ found after. rw (p.1, p.2) (no_start c.in_err-open.field-0.0 found))
 
 pub returns-in_err-starting-clause-call : goal.returns-in_err-starting-clause-call
 returns-in_err-starting-clause-call g c =
@@ -33,8 +34,11 @@ returns-in_err-starting-clause-call g c =
 
 pub returns-in_err-starting-clause-judged : goal.returns-in_err-starting-clause-judged
 returns-in_err-starting-clause-judged g c =
+    let fault = c.in_err-starting.field-0.0 in
+    let now = g.K.Keeper.store c.boot_changes.new.keeper in
     let p = err_from_is_err_and c.from_residual-in_err-starting.result c.from_residual-in_err-starting.ensures.1 in
-    none_judged boot_effect ids_begun c.from_residual-in_err-starting.result p.0 (IsFormedAt boot_key) (g.K.Keeper.store c.args.keeper.now) (g.K.Keeper.store c.boot_changes.new.keeper) p.1 (returns-in_err-starting-clause-call g c)
+    rw (p.1, p.2) (refused_with collector_store AreFormed boot_effect ids_begun (λ answer found after. JudgesStart answer found) fault (g.K.Keeper.store c.args.keeper.now) (g.K.Keeper.store c.open.new.keeper) now
+    (c.in_ok-open.ensures.found refl) c.in_ok-open.ensures.opened c.in_err-starting.ensures.reads c.in_err-starting.ensures.refusal c.in_err-starting.ensures.judged)
 
 pub returns-in_err-commit-clause-call : goal.returns-in_err-commit-clause-call
 returns-in_err-commit-clause-call g c =
@@ -50,7 +54,8 @@ returns-in_err-commit-clause-call g c =
 pub returns-in_err-commit-clause-judged : goal.returns-in_err-commit-clause-judged
 returns-in_err-commit-clause-judged g c =
     let p = err_from_is_err_and c.from_residual-in_err-commit.result c.from_residual-in_err-commit.ensures.1 in
-    none_judged boot_effect ids_begun c.from_residual-in_err-commit.result p.0 (IsFormedAt boot_key) (g.K.Keeper.store c.args.keeper.now) (g.K.Keeper.store c.commit.new.keeper) p.1 (returns-in_err-commit-clause-call g c)
+    any_with collector_store AreFormed boot_effect ids_begun (λ answer found after. JudgesStart answer found) c.from_residual-in_err-commit.result (g.K.Keeper.store c.args.keeper.now) (g.K.Keeper.store c.commit.new.keeper) (returns-in_err-commit-clause-call g c)
+    (λ found after. rw (p.1, p.2) (no_start c.in_err-commit.field-0.0 found))
 
 pub returns-clause-call : goal.returns-clause-call
 returns-clause-call g c =
@@ -64,5 +69,10 @@ returns-clause-call g c =
 
 pub returns-clause-judged : goal.returns-clause-judged
 returns-clause-judged g c =
-    all_judged (IsFormedAt boot_key) c.in_ok-starting.starting.changes (g.K.Keeper.store c.args.keeper.now) (g.K.Keeper.store c.open.new.keeper) (g.K.Keeper.store c.boot_changes.new.keeper) (g.K.Keeper.store c.commit.new.keeper)
-    (c.in_ok-open.ensures.found refl) c.in_ok-starting.ensures.reads.0 c.in_ok-starting.ensures.judged c.in_ok-commit.ensures.leaves.1
+    let made = c.in_ok-starting.ensures in
+    let commit = c.in_ok-commit.ensures in
+    let mid = g.K.Keeper.store c.boot_changes.new.keeper in
+    committed_with collector_store AreFormed boot_effect ids_begun (λ answer found after. JudgesStart answer found) (λ rows. JudgesStart (Ok c.in_ok-starting.starting) rows) c.in_ok-starting.starting.changes c.in_ok-starting.starting.ids
+    (g.K.Keeper.store c.args.keeper.now) (g.K.Keeper.store c.open.new.keeper) mid (g.K.Keeper.store c.commit.new.keeper)
+    (applied_formed is_formed c.in_ok-starting.starting.changes commit.put) (c.in_ok-open.ensures.found refl) c.in_ok-open.ensures.opened
+    made.reads made.effect made.ids commit.leaves commit.planned made.judged (λ found after did read. read)

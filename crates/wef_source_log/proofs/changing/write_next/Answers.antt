@@ -1,11 +1,12 @@
 use Rattle.std.proofs.Common.{refl}
+use Rattle.std.specs.Prelude.{Ok}
 use Rattle.std.proofs.lemmas.Result.{err_from_is_err_and}
-use Rattle.wef_keeper.proofs.Calls.{refused}
+use Rattle.wef_keeper.proofs.Calls.{any_with, refused, refused_with}
 use Rattle.wef_source_log.specs.Answers.{next_number, write_effect}
 use Rattle.wef_source_log.specs.Faults.{log_store}
 use Rattle.wef_source_log.specs.Forms.{AreFormed}
 use Rattle.wef_source_log.specs.Judged.{JudgesWrite}
-use Rattle.wef_source_log.proofs.Judging.{done, found_judged, uncommitted, unopened}
+use Rattle.wef_source_log.proofs.Judging.{done, done_with, no_write, uncommitted, unopened}
 use Rattle.wef_source_log.proofs.changing.write_next.Goals as goal
 
 pub returns-in_err-open-clause-call : goal.returns-in_err-open-clause-call
@@ -14,12 +15,25 @@ returns-in_err-open-clause-call g c =
     rw (p.1, p.2) (unopened (λ rows. write_effect rows c.args.event.now) (λ rows. next_number rows c.args.event.now) c.in_err-open.field-0.0
     (g.K.Keeper.store c.args.keeper.now) (g.K.Keeper.store c.open.new.keeper) (g.met.K.Keeper.lawful c.args.keeper.now) (g.met.K.Keeper.lawful c.open.new.keeper) c.in_err-open.ensures.found c.in_err-open.ensures.opened c.in_err-open.ensures.refused)
 
+pub returns-in_err-open-clause-judged : goal.returns-in_err-open-clause-judged
+returns-in_err-open-clause-judged g c =
+    let p = err_from_is_err_and c.from_residual.result c.from_residual.ensures.1 in
+    any_with log_store AreFormed (λ rows. write_effect rows c.args.event.now) (λ rows. next_number rows c.args.event.now) (λ answer found after. JudgesWrite answer c.args.event.now.channel found) c.from_residual.result
+    (g.K.Keeper.store c.args.keeper.now) (g.K.Keeper.store c.open.new.keeper) (returns-in_err-open-clause-call g c) (λ found after. rw (p.1, p.2) (no_write c.args.event.now.channel c.in_err-open.field-0.0 found))
+
 pub returns-in_err-prepared-clause-call : goal.returns-in_err-prepared-clause-call
 returns-in_err-prepared-clause-call g c =
     let p = err_from_is_err_and c.from_residual-in_err-prepared.result c.from_residual-in_err-prepared.ensures.1 in
     rw (p.1, p.2) (refused log_store AreFormed (λ rows. write_effect rows c.args.event.now) (λ rows. next_number rows c.args.event.now) c.in_err-prepared.field-0.0
     (g.K.Keeper.store c.args.keeper.now) (g.K.Keeper.store c.open.new.keeper) (g.K.Keeper.store c.prepared_write.new.keeper) (g.met.K.Keeper.lawful c.prepared_write.new.keeper) (c.in_ok-open.ensures.found refl) c.in_ok-open.ensures.opened
     c.in_err-prepared.ensures.reads c.in_err-prepared.ensures.prepared)
+
+pub returns-in_err-prepared-clause-judged : goal.returns-in_err-prepared-clause-judged
+returns-in_err-prepared-clause-judged g c =
+    let p = err_from_is_err_and c.from_residual-in_err-prepared.result c.from_residual-in_err-prepared.ensures.1 in
+    rw (p.1, p.2) (refused_with log_store AreFormed (λ rows. write_effect rows c.args.event.now) (λ rows. next_number rows c.args.event.now) (λ answer found after. JudgesWrite answer c.args.event.now.channel found) c.in_err-prepared.field-0.0
+    (g.K.Keeper.store c.args.keeper.now) (g.K.Keeper.store c.open.new.keeper) (g.K.Keeper.store c.prepared_write.new.keeper) (c.in_ok-open.ensures.found refl) c.in_ok-open.ensures.opened
+    c.in_err-prepared.ensures.reads c.in_err-prepared.ensures.prepared c.in_err-prepared.ensures.judged)
 
 pub returns-in_err-commit-clause-call : goal.returns-in_err-commit-clause-call
 returns-in_err-commit-clause-call g c =
@@ -28,6 +42,12 @@ returns-in_err-commit-clause-call g c =
     (g.K.Keeper.store c.args.keeper.now) (g.K.Keeper.store c.open.new.keeper) (g.K.Keeper.store c.prepared_write.new.keeper) (g.K.Keeper.store c.commit.new.keeper)
     c.in_err-commit.ensures.put (g.met.K.Keeper.lawful c.commit.new.keeper) (c.in_ok-open.ensures.found refl) c.in_ok-open.ensures.opened c.in_ok-prepared.ensures.reads c.in_ok-prepared.ensures.prepared
     c.in_err-commit.ensures.leaves c.in_err-commit.ensures.planned c.in_err-commit.ensures.faults)
+
+pub returns-in_err-commit-clause-judged : goal.returns-in_err-commit-clause-judged
+returns-in_err-commit-clause-judged g c =
+    let p = err_from_is_err_and c.from_residual-in_err-commit.result c.from_residual-in_err-commit.ensures.1 in
+    any_with log_store AreFormed (λ rows. write_effect rows c.args.event.now) (λ rows. next_number rows c.args.event.now) (λ answer found after. JudgesWrite answer c.args.event.now.channel found) c.from_residual-in_err-commit.result
+    (g.K.Keeper.store c.args.keeper.now) (g.K.Keeper.store c.commit.new.keeper) (returns-in_err-commit-clause-call g c) (λ found after. rw (p.1, p.2) (no_write c.args.event.now.channel c.in_err-commit.field-0.0 found))
 
 pub returns-clause-call : goal.returns-clause-call
 returns-clause-call g c =
@@ -38,5 +58,7 @@ returns-clause-call g c =
 
 pub returns-clause-judged : goal.returns-clause-judged
 returns-clause-judged g c =
-    found_judged (JudgesWrite c.args.event.now.channel) c.in_ok-prepared.prepared.changes (g.K.Keeper.store c.args.keeper.now) (g.K.Keeper.store c.open.new.keeper) (g.K.Keeper.store c.prepared_write.new.keeper) (g.K.Keeper.store c.commit.new.keeper)
-    (c.in_ok-open.ensures.found refl) c.in_ok-prepared.ensures.reads.0 c.in_ok-prepared.ensures.judged c.in_ok-commit.ensures.leaves.1
+    done_with (λ rows. write_effect rows c.args.event.now) (λ rows. next_number rows c.args.event.now) (λ answer found after. JudgesWrite answer c.args.event.now.channel found) (λ rows. JudgesWrite (Ok c.in_ok-prepared.prepared) c.args.event.now.channel rows) c.in_ok-prepared.prepared
+    (g.K.Keeper.store c.args.keeper.now) (g.K.Keeper.store c.open.new.keeper) (g.K.Keeper.store c.prepared_write.new.keeper) (g.K.Keeper.store c.commit.new.keeper)
+    c.in_ok-commit.ensures.put (c.in_ok-open.ensures.found refl) c.in_ok-open.ensures.opened c.in_ok-prepared.ensures.reads c.in_ok-prepared.ensures.prepared
+    c.in_ok-commit.ensures.leaves c.in_ok-commit.ensures.planned c.in_ok-prepared.ensures.judged (λ found after read. read)
