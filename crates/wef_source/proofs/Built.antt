@@ -16,7 +16,7 @@ use Rattle.wef_source_log.specs.Laws.{ReadsWindow, WindowsRead}
 use Rattle.wef_source_log.specs.Windows.{last_of}
 use Rattle.wef_source.specs.Building.{built, built_items, built_to, channel_candidates, candidates, item_of, left_items, room_of, session_channels}
 use Rattle.wef_source.specs.Fits.{FitsChannel, FitsUpTo, event_at, ranges_in}
-use Rattle.wef_source.specs.Laws.{AreWithin, BuiltBatchesFit}
+use Rattle.wef_source.specs.Laws.{AreWithin, BuiltBatchesFit, BuiltBookmarksReach}
 use Rattle.wef_source.specs.Wanted.{in_ranges, wanted}
 use Rattle.wef_source.specs.declared.sessions.Session.{Session}
 use Rattle.wef_source.proofs.Candidates.{channel_says, skipped}
@@ -153,6 +153,16 @@ built_fit read rows all capacity boot session b some begun window within up =
           channel_fits session.query session.max_bytes c (history all c) capacity (number_at session.positions c) (number_at b c) (built_items rows session) (own c (left_items rows session)) (map.get (built_to rows session) c)
           (own_say rows all capacity session c of here) (up c) (own_stops rows all capacity session c of here);
     }
+
+-- and its bookmark has how far it reads
+pub built_reach : WindowsRead → BuiltBookmarksReach
+unfolding built
+built_reach read rows all capacity boot session c some begun window within here =
+    by (map.get (built_to rows session) c) (own_stops rows all capacity session c (building rows all capacity boot session (read rows all capacity boot begun window) within) here)
+  where
+    by : (to : Option ℕ) → Stops c (length (history all c)) (own c (built_items rows session)) (own c (left_items rows session)) to → to ≡ reach_of to (last_in c (built_items rows session))
+    by None h = sym (sym (own-last c None (built_items rows session)) ∙ ap (last_after c None) h)
+    by (Some t) h = refl
 
 -- What is built for a session says nothing of a channel at or below where the session stands in it.
 pub record SaysAbove (b : ℕ) (c : List ℕ) (items : List Item) : Type 0 where

@@ -1,10 +1,10 @@
 -- A source hands on what its log did: what is said of the log's call is true of the source's.
 use Rattle.std.proofs.Common.{◌≡◌, true, false, refl, ap, subst, inl, inr}
 use Rattle.std.specs.List.{AllByRecursion}
-use Rattle.std.specs.Prelude.{Option, Some, None, Result, Ok, Err, IfOk, IfSome, OnOk, List, [], ◌∷◌}
+use Rattle.std.specs.Prelude.{ℕ, Option, Some, None, Result, Ok, Err, IfOk, IfSome, List, [], ◌∷◌}
 use Rattle.wef_base.specs.Counts.{Rose}
 use Rattle.wef_keeper.specs.Access.{AnyOf, From, OpensAndReads, is_planned, plan_with, tries_with}
-use Rattle.wef_keeper.specs.Calls.{AllLeft, AnswersFault, Did, Effect, FaultByPlan, FaultByTries, FaultReadied, IsCall, Looks, Makes, MayLeave, OnFaultImages, WhereMade, is_failure}
+use Rattle.wef_keeper.specs.Calls.{AllLeft, AnswersFault, Did, DidWith, DoesWith, Effect, FaultByPlan, FaultByTries, FaultReadied, IsCall, Looks, Makes, MayLeave, OnFaultImages, WhereMade, is_failure}
 use Rattle.wef_keeper.specs.Keeping.{IsOneOf, Store, outcome}
 use Rattle.wef_keeper.specs.Rows.{Rows}
 use Rattle.wef_keeper.specs.declared.access.StoreFault.{StoreFault}
@@ -16,9 +16,12 @@ use Rattle.wef_keeper.proofs.Calls.{from_weaker}
 use Rattle.wef_keeper.proofs.Told.{told_map}
 use Rattle.wef_source_log.specs.Faults.{log_store}
 use Rattle.wef_source_log.specs.Forms.{AreFormed}
+use Rattle.wef_source_log.specs.Judged as judged
 use Rattle.wef_source_log.specs.declared.faults.LogFault.{LogFault}
 use Rattle.wef_source_log.specs.declared.faults.LogFault.TheVariants.{NoMemory, Failed, Full, TooLong}
+use Rattle.wef_source.specs.Calls.{JudgesStart, JudgesWrite}
 use Rattle.wef_source.specs.Faults.{source_answer, source_fault, source_store}
+use Rattle.wef_source.specs.declared.faults.SourceFault.{SourceFault}
 
 -- a fault of the store stays the same one
 pub one_store : (fault : LogFault) → log_store fault ≡ source_store (source_fault fault)
@@ -133,6 +136,30 @@ handed effect value (Err fault) before now call = record {
   opened = call.opened;
 }
 
+-- a fact of the rows that the log's call found is told as one of the source's
+pub handed_with : {T : Type 0} (effect : Rows → Effect LogFault) (value : Rows → T) (Given : Result T LogFault → Rows → Rows → Type 0) (Fact : Result T SourceFault → Rows → Rows → Type 0) (answer : Result T LogFault) (before now : Store)
+    → ((found after : Rows) → Given answer found after → Fact (source_answer answer) found after) → DoesWith log_store AreFormed effect value Given answer before now
+    → DoesWith source_store AreFormed (λ rows. source_answer (effect rows)) value Fact (source_answer answer) before now
+handed_with effect value Given Fact answer before now gives does =
+    from_weaker (DidWith log_store AreFormed effect value Given answer before now) (DidWith source_store AreFormed (λ rows. source_answer (effect rows)) value Fact (source_answer answer) before now) before now
+    (λ found after with. record { did = did effect value answer before now found after with.did; fact = gives found after with.fact }) does
+
+-- what a start of the log has read, the source's has
+pub start_judged : {T : Type 0} (answer : Result T LogFault) (rows : Rows) → judged.JudgesStart answer rows → JudgesStart (source_answer answer) rows
+start_judged (Ok answer) rows read = read
+start_judged (Err NoMemory) rows read = read
+start_judged (Err Failed) rows read = read
+start_judged (Err Full) rows read = read
+start_judged (Err TooLong) rows read = read
+
+-- and what a write has
+pub write_judged : {T : Type 0} (answer : Result T LogFault) (c : List ℕ) (rows : Rows) → judged.JudgesWrite answer c rows → JudgesWrite (source_answer answer) c rows
+write_judged (Ok answer) c rows read = read
+write_judged (Err NoMemory) c rows read = read
+write_judged (Err Failed) c rows read = read
+write_judged (Err Full) c rows read = read
+write_judged (Err TooLong) c rows read = read
+
 -- ---- a call that only reads, and is refused as its log's opening is
 
 pub looks_refused : {S T : Type 0} (Formed : Rows → Type 0) (fault : LogFault) (before now : Store) → Looks {T = S} log_store Formed (Err fault) before now → Looks {T = T} source_store Formed (Err (source_fault fault)) before now
@@ -141,11 +168,6 @@ looks_refused Formed fault before now looks = record {
   found = subst (λ (kind : Option StoreFault). is_failure kind ≡ false → IfSome before.images (λ old. IfSome now.rows (IsOneOf old))) (one_store fault) looks.found;
   ready = subst (λ (kind : Option StoreFault). FaultReadied kind now) (one_store fault) looks.ready;
 }
-
--- what is said where the log's call is done is said where the source's is
-pub on_handed : {T : Type 0} (answer : Result T LogFault) (P : Type 0) → OnOk answer P → OnOk (source_answer answer) P
-on_handed (Ok answer) P holds = holds
-on_handed (Err fault) P holds = tt
 
 -- what is said of an answer is said of the one that is handed on
 pub if_handed : {T : Type 0} (answer : Result T LogFault) (P : T → Type 0) → IfOk answer P → IfOk (source_answer answer) P

@@ -16,7 +16,9 @@ pub mod Numbered
 pub mod Places
 pub mod Polling
 pub mod Reaches
+pub mod Remembered
 pub mod Rooms
+pub mod Searching
 pub mod Sendable
 pub mod Served
 pub mod Told

@@ -1,6 +1,6 @@
 -- Putting a session at its place is what the definition says, and keeps the sessions in order.
 use Rattle.std.proofs.Common.{◌≡◌, ℕ, ◌<◌, ◌≤◌, List, [], ◌∷◌, length, set, add-one, refl, ap, sym, subst, ◌∙◌, arith}
-use Rattle.std.specs.Prelude.{Result}
+use Rattle.std.specs.Prelude.{Option, Some, None, Result}
 use Rattle.std.specs.List.{All, AllByRecursion, insert}
 use Rattle.std.specs.List.Sorted.{IsStrictlySortedBy}
 use Rattle.std.proofs.lemmas.List.Elements.{All-cons, All-head, All-tail}
@@ -10,10 +10,12 @@ use Rattle.std.specs.FinMap.{slice_cmp-IsAntisymmetric, nat_cmp-IsAntisymmetric}
 use Rattle.std.specs.Ordering.{nat_cmp, ordering_reverse}
 use Rattle.std.specs.declared.cmp.Ordering.TheVariants.{Less, Equal, Greater}
 use Rattle.std.specs.declared.result.Result.TheVariants.{Ok, Err}
+use Rattle.wef_eventing.specs.Addresses.{subscription_in}
+use Rattle.wef_eventing.specs.declared.offers.Offer.{Offer}
 use Rattle.wef_query.specs.Order.{IsInOrder}
 use Rattle.wef_source.specs.Placing.{one_further, place_by, place_in}
 use Rattle.wef_source.specs.Serving.{AreKept, CanBeServed}
-use Rattle.wef_source.specs.Sessions.{names_of, placed, with_session}
+use Rattle.wef_source.specs.Sessions.{names_of, placed, session_from, with_offered, with_offers, with_session}
 use Rattle.wef_source.specs.declared.sessions.Session.{Session}
 
 -- the sessions with one more are those with it at this place
@@ -57,7 +59,7 @@ with_session_above x (s ∷ ss) new above e =
       | Greater ↦ (above.0, with_session_above x ss new above.1 e)
     ]
 
-with_session_in_order : (ss : List Session) (new : Session) → IsInOrder (names_of ss) → IsInOrder (names_of (with_session ss new))
+pub with_session_in_order : (ss : List Session) (new : Session) → IsInOrder (names_of ss) → IsInOrder (names_of (with_session ss new))
 unfolding IsStrictlySortedBy
 with_session_in_order [] new sorted = (tt, tt)
 with_session_in_order (s ∷ ss) new sorted =
@@ -84,3 +86,13 @@ with_session_kept ss new kept here = record {
   served = with_session_served ss new kept.served here;
   in_order = with_session_in_order ss new kept.in_order;
 }
+
+-- so do those of offers
+pub with_offers_in_order : (now : ℕ) (ss : List Session) (offers : List Offer) → IsInOrder (names_of ss) → IsInOrder (names_of (with_offers now ss offers))
+with_offers_in_order now ss [] sorted = sorted
+with_offers_in_order now ss (offer ∷ offers) sorted =
+    with_offers_in_order now (with_offered now ss offer.subscribe (subscription_in offer.subscribe.notify_to)) offers (by (subscription_in offer.subscribe.notify_to))
+  where
+    by : (o : Option (List ℕ)) → IsInOrder (names_of (with_offered now ss offer.subscribe o))
+    by None = sorted
+    by (Some u) = with_session_in_order ss (session_from now offer.subscribe u) sorted

@@ -1,20 +1,20 @@
 -- A poll of the session of a name.
-use Rattle.std.proofs.Common.{◌≡◌, ℕ, zero, suc, drop, ◌+◌, ◌<◌, cond, true, false, List, [], ◌∷◌, get_or, length, set, refl, ap, sym, subst, ◌∙◌, Some, None}
-use Rattle.std.specs.Prelude.{Option, Ok, Err, IfSome, is_none, is_some, nat_lt}
+use Rattle.std.proofs.Common.{◌≡◌, ℕ, zero, suc, drop, ◌+◌, ◌<◌, true, false, List, [], ◌∷◌, get_or, length, set, refl, ap, sym, subst, ◌∙◌, Some, None}
+use Rattle.std.specs.Prelude.{Option, Ok, Err, IfSome, is_none, is_some}
 use Rattle.std.specs.FinMap as map
 use Rattle.std.proofs.lemmas.List.Elements.{All-set}
-use Rattle.wef_bookmark.specs.Order.{Marks, number_at, raised}
+use Rattle.wef_bookmark.specs.Order.{Marks}
 use Rattle.wef_keeper.specs.Calls.{Looks}
 use Rattle.wef_keeper.specs.Keeping.{Store}
 use Rattle.wef_keeper.specs.Rows.{Rows}
 use Rattle.wef_source_log.specs.Forms.{AreFormed}
-use Rattle.wef_source.specs.Answers.{IsAddressed, MayRefusePoll, Polls, PollsIn, RefusesPoll, Sends, SendsAddressed, SendsFrom, WhereThere, may_send}
-use Rattle.wef_source.specs.Building.{with_reach}
+use Rattle.wef_source.specs.Answers.{IsAddressed, IsReachOf, MayRefusePoll, Polls, PollsIn, RefusesPoll, Remembers, Sends, SendsAddressed, SendsFrom, SendsRemembered, WhereThere, may_send}
+use Rattle.wef_source.specs.Building.{session_channels}
 use Rattle.wef_source.specs.Faults.{source_store}
 use Rattle.wef_source.specs.Judged.{JudgesBatch, JudgesPoll}
 use Rattle.wef_source.specs.Machine.{End, is_idle, sent}
 use Rattle.wef_source.specs.Prepared.{Draws, MayRefuseToPrepare, Prepares, RefusesToPrepare}
-use Rattle.wef_source.specs.Serving.{AreKept, HasAll, CanBeServed}
+use Rattle.wef_source.specs.Serving.{AreKept, CanBeServed, ReadsAbove}
 use Rattle.wef_source.specs.Sessions.{is_named, sending, session_of, with_changed}
 use Rattle.wef_source.specs.declared.faults.SourceFault.{SourceFault}
 use Rattle.wef_source.specs.declared.faults.SourceFault.TheVariants.{NoMemory, Failed, Full, TooLong, NotAsked, UnknownSubscription, Spent}
@@ -25,7 +25,9 @@ use Rattle.wef_source.specs.declared.sessions.Session.{Session}
 use Rattle.wef_batch.specs.WellFormed.{is_in}
 use Rattle.wef_base.specs.Names.{same}
 use Rattle.std.specs.Cmp.Lexicographic.{nat_list_eq_equiv}
-use Rattle.wef_source.proofs.Served.{either, either_true, raised_only, read_served, sending_served}
+use Rattle.wef_source.proofs.Served.{either, either_true, read_served, sending_served}
+use Rattle.wef_source.proofs.Remembered.{are_reaches, first_changed}
+use Rattle.wef_query.specs.Selected.{channels_of}
 use Rattle.wef_source.proofs.InOrder.{changed_in_order, sending_name}
 use Rattle.wef_source.proofs.Told.{if_told}
 
@@ -76,6 +78,20 @@ sends_addressed end u s delivery outstanding there found is addressed =
     subst (λ (o : Option Session). WhereThere o (λ session. IsAddressed session delivery)) (sym there)
     (subst (λ (o : Option (Delivery × Outstanding)). IfSome o (λ (prepared : Delivery × Outstanding). IsAddressed s prepared.0)) is addressed)
 
+-- what is remembered of it is how far it reads
+pub sends_remembered : (before end : End) (u : List ℕ) (now : ℕ) (s : Session) (delivery : Delivery) (outstanding : Outstanding) (ss : List Session) → before ≡ end → session_of end.sessions u ≡ Some s
+    → Draws end s delivery outstanding → ss ≡ with_changed (is_named u) (sending outstanding now) before.sessions → SendsRemembered end (record before { drawn = before.drawn + 1; sessions = ss }) u (Send delivery)
+sends_remembered before end u now s delivery outstanding ss same found draws changed =
+    let made : session_of ss u ≡ Some (sending outstanding now s) =
+    ap (λ (xs : List Session). session_of xs u) (changed ∙ ap (λ (e : End). with_changed (is_named u) (sending outstanding now) e.sessions) same)
+    ∙ first_changed (is_named u) (sending outstanding now) (λ x. refl) end.sessions s found
+    in
+    let to : outstanding.to ≡ delivery.batch.to = λ i. (draws.3 i).to in
+    let reaches = are_reaches s delivery.batch (subst (ReadsAbove s.positions (session_channels s)) to draws.4) in
+    subst (λ (o : Option Session). WhereThere o (λ (x : Session). WhereThere (session_of ss u) (λ (after : Session). Remembers x delivery.batch after.outstanding))) (sym found)
+    (subst (λ (o : Option Session). WhereThere o (λ (after : Session). Remembers s delivery.batch after.outstanding)) (sym made)
+    (to, subst (λ (b : Marks). (c : List ℕ) → IfSome (map.get b c) (IsReachOf s delivery.batch c)) (sym to) reaches))
+
 -- a poll that sends nothing
 pub sends_nothing : (end : End) (u : List ℕ) (now : ℕ) (s : Session) → session_of end.sessions u ≡ Some s → Sends end end u now Nothing
 sends_nothing end u now s found = subst (λ o. WhereThere o (λ session. SendsFrom end end session u now Nothing)) (sym found) refl
@@ -106,15 +122,6 @@ may_send_there end u s found idle = ap may_send found ∙ none_free s.outstandin
 pub never_sends : (A : Type 0) (end : End) (u : List ℕ) → session_of end.sessions u ≡ None → may_send (session_of end.sessions u) ≡ true → A
 never_sends A end u none may = let bad : false ≡ true = sym (ap may_send none) ∙ may in cc
 
--- ---- what a batch reads is of channels that the positions have
-
-pub reach_there : (positions p to : Marks) (r : List ℕ × ℕ) → is_some (map.get p r.0) ≡ true → HasAll p to → HasAll p (with_reach positions to r)
-reach_there positions p to r there has =
-    elim (nat_lt (number_at positions r.0) r.1) as (λ t. HasAll p (cond t (raised to r.0 r.1) to)) [
-      | true ↦ raised_only p to r.0 r.1 there has
-      | false ↦ has
-    ]
-
 -- a channel of a list is in it
 pub item_in : (channels rest : List (List ℕ)) (index : ℕ) (c : List ℕ) → drop index channels ≡ c ∷ rest → is_in channels c ≡ true
 item_in [] rest zero c e = cc
@@ -124,12 +131,12 @@ item_in (d ∷ channels) rest (suc index) c e = either_true (same d c) (is_in ch
 
 -- sessions of which one sent its delivery
 pub sent_kept : (u : List ℕ) (now : ℕ) (ss : List Session) (k : ℕ) (s t : Session) (outstanding : Outstanding)
-    → AreKept ss → k < length ss → s ≡ get_or ss k s → HasAll s.positions outstanding.to → t ≡ sending outstanding now s
+    → AreKept ss → k < length ss → s ≡ get_or ss k s → ReadsAbove s.positions (channels_of s.query.items) outstanding.to → t ≡ sending outstanding now s
     → set ss k t ≡ with_changed (is_named u) (sending outstanding now) ss → AreKept (set ss k t)
-sent_kept u now ss k s t outstanding kept within read has made changed =
+sent_kept u now ss k s t outstanding kept within read reads made changed =
     let here = read_served ss k s kept.served within read in
     record {
-      served = All-set CanBeServed ss k t (subst CanBeServed (sym made) (sending_served s outstanding now has here)) kept.served;
+      served = All-set CanBeServed ss k t (subst CanBeServed (sym made) (sending_served s outstanding now reads here)) kept.served;
       in_order = rw changed (changed_in_order (is_named u) (sending outstanding now) (sending_name outstanding now) ss kept.in_order);
     }
 

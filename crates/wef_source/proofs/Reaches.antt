@@ -172,7 +172,8 @@ abbrev pub reach_above : ℕ → Option ℕ → Option ℕ
 reach_above p None = None
 reach_above p (Some t) = cond (nat_lt p t) (Some t) None
 
-get-raised_one : (b : Marks) (c : List ℕ) (to : ℕ) (q : List ℕ) → map.get (raised b c to) q ≡ cond (same q c) (Some (max (number_at b c) to)) (map.get b q)
+-- what a raised bookmark has
+pub get-raised_one : (b : Marks) (c : List ℕ) (to : ℕ) (q : List ℕ) → map.get (raised b c to) q ≡ cond (same q c) (Some (max (number_at b c) to)) (map.get b q)
 get-raised_one b c to q = get-raised b c to q ∙ ap (λ t. cond t (Some (max (number_at b c) to)) (map.get b q)) (sym (texts_ties q c))
 
 turned : (a b : List ℕ) → same a b ≡ false → same b a ≡ false

@@ -7,11 +7,11 @@ use Rattle.std.specs.List.{All, AllByRecursion, remove}
 use Rattle.std.proofs.lemmas.List.Elements.{All-get_or, All-set}
 use Rattle.std.proofs.lemmas.List.Edits.{get_or-remove_above, get_or-remove_below, length-remove}
 use Rattle.std.proofs.lemmas.Bool.{cases_lt}
-use Rattle.std.specs.Ordering.{nat_cmp, eq_by_cmp, is_eq, is_lt, ordering_reverse}
+use Rattle.std.specs.Ordering.{eq_by_cmp, is_eq, is_lt, ordering_reverse}
 use Rattle.std.specs.declared.cmp.Ordering.{Ordering}
 use Rattle.std.specs.declared.cmp.Ordering.TheVariants.{Less, Equal, Greater}
 use Rattle.std.specs.Cmp.{tied_itself}
-use Rattle.std.specs.Cmp.Lexicographic.{slice_cmp, nat_list_cmp_total, same_text}
+use Rattle.std.specs.Cmp.Lexicographic.{nat_list_cmp_total, same_text}
 use Rattle.wef_base.specs.Names.{same}
 use Rattle.wef_batch.specs.WellFormed.{is_in}
 use Rattle.wef_base.specs.declared.numbers.TheConstants.{MAX}
@@ -21,19 +21,14 @@ use Rattle.wef_bookmark.proofs.Joining.{both, joined_has, order, raised_has}
 use Rattle.wef_eventing.specs.Sending.{IsServable}
 use Rattle.wef_eventing.specs.declared.offers.Subscribe.{Subscribe}
 use Rattle.wef_query.specs.Selected.{channels_of}
-use Rattle.wef_source.specs.Serving.{AreKept, HasAll, HasEach, CanBeServed}
+use Rattle.wef_source.specs.Serving.{AreKept, HasAll, HasEach, CanBeServed, ReadsAbove}
 use Rattle.wef_source.proofs.InOrder.{none_in_order}
+use Rattle.wef_source.proofs.Remembered.{reads_nothing}
 use Rattle.wef_source.specs.Sessions.{acknowledged, answered, moved_by, sending, session_from, settled, with_channels}
 use Rattle.wef_source.specs.declared.serving.Answer.{Answer}
 use Rattle.wef_source.specs.declared.serving.Answer.TheVariants.{Taken, Refused}
 use Rattle.wef_source.specs.declared.sessions.Outstanding.{Outstanding}
 use Rattle.wef_source.specs.declared.sessions.Session.{Session}
-
-nothing_there : (c : List ℕ) → is_some (map.get {K = List ℕ} {X = ℕ} {R = slice_cmp nat_cmp} map.empty c) ≡ false
-nothing_there c = ap is_some (map.get-empty (slice_cmp nat_cmp) c)
-
-pub has_nothing : (p : Marks) → HasAll p map.empty
-has_nothing p c there = let e = nothing_there c in cc
 
 pub either_true : (a b : Bool) → b ≡ true → (a || b) ≡ true
 either_true true b e = refl
@@ -50,19 +45,11 @@ joined_has_all p q to has c there = joined_has p to c ∙ either _ _ (has c ther
 pub raised_has_all : (p q : Marks) (c : List ℕ) (n : ℕ) → HasAll p q → HasAll (raised p c n) q
 raised_has_all p q c n has d there = raised_has p c n d ∙ either_true _ _ (has d there)
 
--- a bookmark that has what another one has, and one more channel, has all when the other is raised there
-pub raised_only : (p to : Marks) (c : List ℕ) (n : ℕ) → is_some (map.get p c) ≡ true → HasAll p to → HasAll p (raised to c n)
-raised_only p to c n there has d found = by (same d c) refl (sym (raised_has to c n d) ∙ found)
-  where
-    by : (t : Bool) → same d c ≡ t → (t || is_some (map.get to d)) ≡ true → is_some (map.get p d) ≡ true
-    by true is h = subst (λ x. is_some (map.get p x) ≡ true) (sym (same_text d c (sym is))) there
-    by false is h = has d h
-
 pub settled_served : (s : Session) → CanBeServed s → CanBeServed (settled s)
-settled_served s h = record { queried = h.queried; awaited = has_nothing s.positions; notify_to = h.notify_to; identifier = h.identifier }
+settled_served s h = record { queried = h.queried; awaited = reads_nothing s.positions (channels_of s.query.items); notify_to = h.notify_to; identifier = h.identifier }
 
-pub sending_served : (s : Session) (outstanding : Outstanding) (now : ℕ) → HasAll s.positions outstanding.to → CanBeServed s → CanBeServed (sending outstanding now s)
-sending_served s outstanding now has h = record { queried = h.queried; awaited = has; notify_to = h.notify_to; identifier = h.identifier }
+pub sending_served : (s : Session) (outstanding : Outstanding) (now : ℕ) → ReadsAbove s.positions (channels_of s.query.items) outstanding.to → CanBeServed s → CanBeServed (sending outstanding now s)
+sending_served s outstanding now reads h = record { queried = h.queried; awaited = reads; notify_to = h.notify_to; identifier = h.identifier }
 
 pub acknowledged_served : (s : Session) → CanBeServed s → CanBeServed (acknowledged s)
 acknowledged_served s h = by s.outstanding
@@ -71,7 +58,7 @@ acknowledged_served s h = by s.outstanding
     by None = settled_served s h
     by (Some outstanding) = record {
       queried = λ c in_query. joined_has s.positions outstanding.to c ∙ either _ _ (h.queried c in_query);
-      awaited = has_nothing (joined s.positions outstanding.to);
+      awaited = reads_nothing (joined s.positions outstanding.to) (channels_of s.query.items);
       notify_to = h.notify_to;
       identifier = h.identifier;
     }
@@ -179,7 +166,7 @@ begun_served now subscribe u servable =
     let positions = with_channels subscribe.from (channels_of subscribe.query.items) in
     record {
       queried = channels_added subscribe.from (channels_of subscribe.query.items);
-      awaited = has_nothing positions;
+      awaited = reads_nothing positions (channels_of subscribe.query.items);
       notify_to = servable.notify_to;
       identifier = servable.identifier;
     }

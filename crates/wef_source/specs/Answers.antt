@@ -1,12 +1,17 @@
 -- What the calls of a source answer, by what it holds as the call begins.
-use Rattle.std.specs.Prelude.{◌≡◌, ℕ, ◌+◌, Bool, true, false, List, length, is_none, is_some, Option, Some, None}
+use Rattle.std.specs.Prelude.{◌≡◌, ℕ, ◌+◌, ◌<◌, Bool, true, false, List, length, is_none, is_some, Option, Some, None, IfSome}
+use Rattle.std.specs.FinMap as map
 use Rattle.wef_batch.specs.Numbers.{AreNumbered}
-use Rattle.wef_bookmark.specs.Order.{Marks}
+use Rattle.wef_batch.specs.Reach.{reach}
+use Rattle.wef_batch.specs.WellFormed.{is_in}
+use Rattle.wef_batch.specs.declared.items.Batch.{Batch}
+use Rattle.wef_bookmark.specs.Order.{Marks, number_at}
 use Rattle.wef_ids.specs.IdTexts.{id_of_value}
 use Rattle.wef_ids.specs.Ids.{ids_agree}
 use Rattle.wef_ids.specs.declared.MessageId.{MessageId}
 use Rattle.wef_eventing.specs.declared.offers.Offer.{Offer}
 use Rattle.wef_keeper.specs.Rows.{Rows}
+use Rattle.wef_source.specs.Building.{session_channels}
 use Rattle.wef_source.specs.Machine.{End, acknowledged_in, adopted, asked, delivery_of, is_idle, is_spent, lost_in, next_id, refused_in, sent}
 use Rattle.wef_source.specs.Sessions.{is_named, sending, session_of, waiting, with_changed}
 use Rattle.wef_source.specs.declared.faults.SourceFault.{SourceFault}
@@ -18,6 +23,7 @@ use Rattle.wef_source.specs.declared.messages.Poll as poll
 use Rattle.wef_source.specs.declared.messages.Poll.TheVariants as polls
 use Rattle.wef_source.specs.declared.messages.Reply as reply
 use Rattle.wef_source.specs.declared.messages.Reply.TheVariants as replies
+use Rattle.wef_source.specs.declared.sessions.Outstanding.{Outstanding}
 use Rattle.wef_source.specs.declared.sessions.Session.{Session}
 
 -- a call that only reads the log is refused for want of memory, or where the store failed
@@ -127,6 +133,24 @@ IsAddressed session delivery = (delivery.notify_to ≡ session.notify_to) × (de
 abbrev pub SendsAddressed : End → List ℕ → poll.Poll → Type 0
 SendsAddressed end u polls.Nothing = Unit {0}
 SendsAddressed end u (polls.Send delivery) = WhereThere (session_of end.sessions u) (λ session. IsAddressed session delivery)
+
+-- A number that is remembered of a batch that a session sends: how far the batch reads a channel of the session's query, above
+-- where the session stands there.
+pub record IsReachOf (session : Session) (batch : Batch) (c : List ℕ) (n : ℕ) : Type 0 where
+  pub queried : is_in (session_channels session) c ≡ true
+  pub reached : reach c batch ≡ Some n
+  pub above : number_at session.positions c < n
+
+-- What a session awaits that sent a batch: the batch's bookmark is remembered, and all that it has are such numbers.
+abbrev pub Remembers : Session → Batch → Option Outstanding → Type 0
+Remembers session batch None = ⊥
+Remembers session batch (Some outstanding) = (outstanding.to ≡ batch.to) × ((c : List ℕ) → IfSome (map.get outstanding.to c) (IsReachOf session batch c))
+
+-- so does the session of the name whose poll sends one, also where the rows aren't told
+abbrev pub SendsRemembered : End → End → List ℕ → poll.Poll → Type 0
+SendsRemembered end end' u polls.Nothing = Unit {0}
+SendsRemembered end end' u (polls.Send delivery) =
+    WhereThere (session_of end.sessions u) (λ before. WhereThere (session_of end'.sessions u) (λ after. Remembers before delivery.batch after.outstanding))
 
 -- a poll's refusals, also where the rows aren't told: each but for an unknown name comes where no answer is outstanding
 abbrev pub MayRefusePoll : SourceFault → End → List ℕ → Type 0

@@ -1,7 +1,9 @@
 -- What is true of the batches that sources build.
 use Rattle.std.specs.Prelude.{◌≡◌, ℕ, ◌+◌, ◌<◌, ◌≤◌, true, List, [], ◌∷◌, ◌++◌, length, sum_by}
+use Rattle.std.specs.FinMap as map
 use Rattle.wef_batch.specs.Cost.{cost, most as greatest}
 use Rattle.wef_batch.specs.Envelopes.{size_of}
+use Rattle.wef_batch.specs.Reach.{reach}
 use Rattle.wef_batch.specs.WellFormed.{is_in}
 use Rattle.wef_batch.specs.declared.items.Item.{Item}
 use Rattle.wef_bookmark.specs.Order.{IsAtMost, Marks, number_at}
@@ -22,6 +24,13 @@ abbrev pub BuiltBatchesFit : Type 0
 BuiltBatchesFit = (rows : Rows) (all : Histories) (capacity boot : ℕ) (session : Session) (b : Marks) →
     0 < capacity → 0 < boot → IsWindow rows all capacity boot → AreWithin session.positions all → IsAtMost session.positions b →
     Fits session.query session.max_bytes all capacity b (built rows session)
+
+-- A batch that is built from a window says in its bookmark how far it reads each channel of the session's query, so that is
+-- what the session remembers of it.
+abbrev pub BuiltBookmarksReach : Type 0
+BuiltBookmarksReach = (rows : Rows) (all : Histories) (capacity boot : ℕ) (session : Session) (c : List ℕ) →
+    0 < capacity → 0 < boot → IsWindow rows all capacity boot → AreWithin session.positions all → is_in (session_channels session) c ≡ true →
+    map.get (built rows session).to c ≡ reach c (built rows session)
 
 -- A batch has the candidates from the first on, at most as many as the session allows, and they cost at most the room.
 abbrev pub BuiltItemsAreInFront : Type 0

@@ -22,8 +22,3 @@ place_by Greater behind = one_further behind
 abbrev pub place_in : List Session → List ℕ → Result ℕ ℕ
 place_in [] u = Err 0
 place_in (s ∷ ss) u = place_by (slice_cmp nat_cmp u s.name) (place_in ss u)
-
--- a place so much further
-abbrev pub further : ℕ → Result ℕ ℕ → Result ℕ ℕ
-further k (Ok n) = Ok (k + n)
-further k (Err n) = Err (k + n)

@@ -2,9 +2,9 @@
 use Rattle.std.specs.Prelude.{◌≡◌, true, false, is_some, Option, Some, None}
 use Rattle.wef_ids.specs.IdTexts.{id_of_value}
 use Rattle.wef_keeper.specs.Rows.{Rows}
-use Rattle.wef_source.specs.Building.{built}
+use Rattle.wef_source.specs.Building.{built, session_channels}
 use Rattle.wef_source.specs.Machine.{End, delivery_of, is_idle, is_spent, next_id}
-use Rattle.wef_source.specs.Serving.{HasAll}
+use Rattle.wef_source.specs.Serving.{ReadsAbove}
 use Rattle.wef_source.specs.declared.faults.SourceFault.{SourceFault}
 use Rattle.wef_source.specs.declared.faults.SourceFault.TheVariants.{NoMemory, Failed, Spent}
 use Rattle.wef_source.specs.declared.messages.Delivery.{Delivery}
@@ -25,7 +25,7 @@ Prepares rows end session (Some prepared) =
 abbrev pub Draws : End → Session → Delivery → Outstanding → Type 0
 Draws end session delivery outstanding =
     (is_some session.outstanding ≡ false) × (is_spent end ≡ false) × (delivery.id ≡ id_of_value (next_id end))
-    × (outstanding ≡ record { id = next_id end; to = delivery.batch.to }) × HasAll session.positions outstanding.to
+    × (outstanding ≡ record { id = next_id end; to = delivery.batch.to }) × ReadsAbove session.positions (session_channels session) outstanding.to
 
 -- what is prepared draws the next id, also where the rows aren't told
 abbrev pub MayDraw : End → Session → Option (Delivery × Outstanding) → Type 0

@@ -3,7 +3,7 @@ use Rattle.std.specs.Prelude.{◌≡◌, ℕ, ◌<◌, true, List, is_some, Opti
 use Rattle.std.specs.FinMap as map
 use Rattle.std.specs.List.{All, AllByRecursion}
 use Rattle.wef_batch.specs.WellFormed.{is_in}
-use Rattle.wef_bookmark.specs.Order.{Marks}
+use Rattle.wef_bookmark.specs.Order.{Marks, number_at}
 use Rattle.wef_eventing.specs.Addresses.{is_address}
 use Rattle.wef_query.specs.Order.{IsInOrder}
 use Rattle.wef_query.specs.Selected.{channels_of}
@@ -17,6 +17,14 @@ use Rattle.wef_source.specs.declared.sessions.Session.{Session}
 abbrev pub HasAll : Marks → Marks → Type 0
 HasAll positions to = (c : List ℕ) → is_some (map.get to c) ≡ true → is_some (map.get positions c) ≡ true
 
+-- a number of one of these channels that is above its position
+abbrev pub IsReadAbove : Marks → List (List ℕ) → List ℕ → ℕ → Type 0
+IsReadAbove positions channels c n = (is_in channels c ≡ true) × (number_at positions c < n)
+
+-- a bookmark has such numbers, and no others
+abbrev pub ReadsAbove : Marks → List (List ℕ) → Marks → Type 0
+ReadsAbove positions channels to = (c : List ℕ) → IfSome (map.get to c) (IsReadAbove positions channels c)
+
 -- a bookmark has each of these channels
 abbrev pub HasEach : Marks → List (List ℕ) → Type 0
 HasEach positions channels = (c : List ℕ) → is_in channels c ≡ true → is_some (map.get positions c) ≡ true
@@ -26,11 +34,11 @@ abbrev pub awaited_to : Option Outstanding → Marks
 awaited_to None = map.empty
 awaited_to (Some outstanding) = outstanding.to
 
--- A session that can be served: its positions have the channels of its query, and those that the delivery moves whose answer is
--- awaited; its batches go to an address of HTTP, and its identifier holds characters that XML allows.
+-- A session that can be served: its positions have the channels of its query, and the delivery whose answer is awaited reads
+-- some of these above them; its batches go to an address of HTTP, and its identifier holds characters that XML allows.
 pub record CanBeServed (s : Session) : Type 0 where
   pub queried : HasEach s.positions (channels_of s.query.items)
-  pub awaited : HasAll s.positions (awaited_to s.outstanding)
+  pub awaited : ReadsAbove s.positions (channels_of s.query.items) (awaited_to s.outstanding)
   pub notify_to : is_address s.notify_to ≡ true
   pub identifier : IfSome s.identifier IsXmlText
 

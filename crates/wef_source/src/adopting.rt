@@ -3,6 +3,7 @@
 ghost use Rattle.std.specs.Prelude.{◌≡◌, [], IfOk, IfErr, OnOk};
 ghost use Rattle.wef_eventing.specs.Addresses.{subscription_in};
 ghost use Rattle.wef_eventing.specs.Sending.{AreServable, IsServable};
+ghost use Rattle.wef_query.specs.Order.{IsInOrder};
 ghost use Rattle.wef_query.specs.Selected.{channels_of};
 ghost use Rattle.wef_source.specs.Answers.{WantsMemory};
 ghost use Rattle.wef_source.specs.Placing as placing;
@@ -12,7 +13,6 @@ ghost use Rattle.wef_source.specs.Sessions as spec;
 use crate::faults::SourceFault;
 use crate::sessions::{Session, copied_address};
 use std::alloc::{AllocError, Global};
-use std::cmp::Ordering;
 use wef_base::moments::Moment;
 use wef_base::{ChannelName, List, SubId};
 use wef_bookmark::Bookmark;
@@ -136,14 +136,8 @@ fn put_session(sessions: &mut Vec<Session>, session: Session) -> Result<(), Allo
 
 /// The place of the session of a name, or where such a session goes.
 fn place_in(sessions: &[Session], name: &SubId) -> Result<usize, usize>
+    requires { IsInOrder (spec.names_of sessions.now) }
     ensures { result ≡ placing.place_in sessions.now name.now }
 {
-    for (index, session) in sessions.iter().enumerate() {
-        match name.cmp(&session.name) {
-            Ordering::Less => return Err(index),
-            Ordering::Equal => return Ok(index),
-            Ordering::Greater => {}
-        }
-    }
-    Err(sessions.len())
+    sessions.binary_search_by(|session| session.name.cmp(name))
 }

@@ -11,7 +11,7 @@ ghost use Rattle.wef_source.specs.Building as spec;
 ghost use Rattle.wef_source.specs.Drafting as drafting;
 ghost use Rattle.wef_source.specs.Faults.{source_store};
 ghost use Rattle.wef_source.specs.Judged.{JudgesBatch, JudgesChannels};
-ghost use Rattle.wef_source.specs.Serving.{HasAll, HasEach, CanBeServed};
+ghost use Rattle.wef_source.specs.Serving.{ReadsAbove};
 ghost use Rattle.wef_source_log.specs.Forms.{AreFormed};
 
 use crate::drafting::{Draft, room_of};
@@ -33,12 +33,11 @@ pub fn built<K: Keeper>(
     log: &mut Log<K>,
     session: &Session,
 ) -> Result<Batch, SourceFault>
-    requires served { CanBeServed session.now }
     requires ready { access.IsReady (K.store log.old.keeper) }
     ensures ok { IfSome (K.store log.new.keeper).rows (λ rows. IfOk result (λ batch. batch ≡ spec.built rows session.now)) }
     ensures numbered { IfOk result (λ batch. AreNumbered batch.items) }
     ensures judged { IfSome (K.store log.new.keeper).rows (λ rows. OnOk result (JudgesBatch rows session.now)) }
-    ensures served { IfOk result (λ batch. HasAll session.now.positions batch.to) }
+    ensures above { IfOk result (λ batch. ReadsAbove session.now.positions (spec.session_channels session.now) batch.to) }
     ensures refusal { IfErr result RefusesRead }
     ensures reads { access.Reads AreFormed (fails source_store result) (K.store log.old.keeper) (K.store log.new.keeper) }
 {
@@ -54,12 +53,11 @@ fn built_from<K: Keeper>(
     channels: &[ChannelName],
 ) -> Result<Batch, SourceFault>
     requires channels { channels.now ≡ spec.session_channels session.now }
-    requires served { CanBeServed session.now }
     requires ready { access.IsReady (K.store log.old.keeper) }
     ensures ok { IfSome (K.store log.new.keeper).rows (λ rows. IfOk result (λ batch. batch ≡ spec.built rows session.now)) }
     ensures numbered { IfOk result (λ batch. AreNumbered batch.items) }
     ensures judged { IfSome (K.store log.new.keeper).rows (λ rows. OnOk result (JudgesBatch rows session.now)) }
-    ensures served { IfOk result (λ batch. HasAll session.now.positions batch.to) }
+    ensures above { IfOk result (λ batch. ReadsAbove session.now.positions (spec.session_channels session.now) batch.to) }
     ensures refusal { IfErr result RefusesRead }
     ensures reads { access.Reads AreFormed (fails source_store result) (K.store log.old.keeper) (K.store log.new.keeper) }
 {
@@ -86,7 +84,6 @@ fn filled<K: Keeper>(
     channels: &[ChannelName],
     draft: &mut Draft,
 ) -> Result<Bookmark, SourceFault>
-    requires served { HasEach session.now.positions channels.now }
     requires draft { drafting.IsNumberedDraft draft.old }
     requires ready { access.IsReady (K.store log.old.keeper) }
     ensures draft { IfSome (K.store log.new.keeper).rows (λ rows. OnOk result (draft.new ≡ drafting.with_items draft.old (spec.candidates_in rows session.now channels.now))) }
@@ -94,7 +91,7 @@ fn filled<K: Keeper>(
     ensures judged { IfSome (K.store log.new.keeper).rows (λ rows. OnOk result (JudgesChannels rows session.now.positions channels.now draft.old.left draft.new.left)) }
     ensures to { IfSome (K.store log.new.keeper).rows (λ rows. IfOk result (λ to. to
         ≡ spec.with_reaches session.now.positions map.empty (spec.reaches rows channels.now (option_to_list draft.new.left)))) }
-    ensures served { IfOk result (HasAll session.now.positions) }
+    ensures above { IfOk result (ReadsAbove session.now.positions channels.now) }
     ensures refusal { IfErr result RefusesRead }
     ensures reads { access.Reads AreFormed (fails source_store result) (K.store log.old.keeper) (K.store log.new.keeper) }
 {
@@ -110,11 +107,10 @@ fn reached<K: Keeper>(
     channels: &[ChannelName],
     left: &Option<Item>,
 ) -> Result<Bookmark, SourceFault>
-    requires served { HasEach session.now.positions channels.now }
     requires left { IfSome left.now IsNumbered }
     requires ready { access.IsReady (K.store log.old.keeper) }
     ensures ok { IfSome (K.store log.new.keeper).rows (λ rows. IfOk result (λ to. to ≡ spec.with_reaches session.now.positions map.empty (spec.reaches rows channels.now (option_to_list left.now)))) }
-    ensures served { IfOk result (HasAll session.now.positions) }
+    ensures above { IfOk result (ReadsAbove session.now.positions channels.now) }
     ensures refusal { IfErr result RefusesRead }
     ensures reads { access.Reads AreFormed (fails source_store result) (K.store log.old.keeper) (K.store log.new.keeper) }
 {

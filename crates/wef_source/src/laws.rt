@@ -1,10 +1,15 @@
 //! What is true of the batches that sources build, as contracts.
 
-ghost use Rattle.wef_source.specs.Laws.{BuiltBatchesFit, BuiltItemsAreInFront, BuiltItemsAreMost, BuiltItemsFillTheirRoom, BuiltItemsKeepTheirRoom, EmptyMeansNothingToSend};
+ghost use Rattle.wef_source.specs.Laws.{BuiltBatchesFit, BuiltBookmarksReach, BuiltItemsAreInFront, BuiltItemsAreMost, BuiltItemsFillTheirRoom, BuiltItemsKeepTheirRoom, EmptyMeansNothingToSend};
 
 /// A batch that is built above a session's positions fits above every bookmark that is at least there.
 pub fn built_batches_fit()
     ensures { BuiltBatchesFit }
+{}
+
+/// A batch that is built from a window says in its bookmark how far it reads each channel.
+pub fn built_bookmarks_reach()
+    ensures { BuiltBookmarksReach }
 {}
 
 /// A batch has as many candidates, from the first on, as its limits allow.

@@ -13,7 +13,7 @@ ghost use Rattle.wef_source.specs.Faults.{source_store};
 ghost use Rattle.wef_source.specs.Judged.{JudgesBatch, JudgesPoll};
 ghost use Rattle.wef_source.specs.Machine as machine;
 ghost use Rattle.wef_source.specs.Prepared.{MayDraw, MayRefuseToPrepare, Prepares, RefusesToPrepare};
-ghost use Rattle.wef_source.specs.Serving.{CanBeServed, HasKeptSessions};
+ghost use Rattle.wef_source.specs.Serving.{HasKeptSessions};
 ghost use Rattle.wef_source.specs.Sessions as the_sessions;
 ghost use Rattle.wef_source_log.specs.Forms.{AreFormed};
 
@@ -155,6 +155,7 @@ impl Memory {
         ensures refusal { IfSome (K.store log.new.keeper).rows (λ rows. IfErr result (λ fault. answers.RefusesPoll fault rows self.old sub.now)) }
         ensures sends { IfOk result (answers.Sends self.old self.new sub.now now) }
         ensures numbered { IfOk result answers.SendsNumbered }
+        ensures remembered { IfOk result (answers.SendsRemembered self.old self.new sub.now) }
         ensures addressed { IfOk result (answers.SendsAddressed self.old sub.now) }
         ensures judged { IfSome (K.store log.new.keeper).rows (λ rows. OnOk result (JudgesPoll rows self.old sub.now)) }
         ensures listed { IfErr result (λ fault. answers.MayRefusePoll fault self.old sub.now) }
@@ -232,7 +233,6 @@ impl Memory {
         log: &mut Log<K>,
         session: &Session,
     ) -> Result<Option<(Delivery, Outstanding)>, SourceFault>
-        requires { CanBeServed session.now }
         ensures ok { IfSome (K.store log.new.keeper).rows (λ rows. IfOk result (Prepares rows self.now session.now)) }
         ensures refusal { IfSome (K.store log.new.keeper).rows (λ rows. IfErr result (RefusesToPrepare rows self.now session.now)) }
         ensures draws { IfOk result (MayDraw self.now session.now) }
@@ -258,7 +258,6 @@ impl Memory {
         log: &mut Log<K>,
         session: &Session,
     ) -> Result<Option<(Delivery, Outstanding)>, SourceFault>
-        requires served { CanBeServed session.now }
         requires idle { is_some session.now.outstanding ≡ false }
         requires ready { access.IsReady (K.store log.old.keeper) }
         ensures ok { IfSome (K.store log.new.keeper).rows (λ rows. IfOk result (Prepares rows self.now session.now)) }

@@ -133,6 +133,7 @@ fn take_answer(session: &mut Session, answer: Answer)
 }
 
 /// Moves a session behind its delivery. It takes no memory.
+#[tactic(auto, using(crate::proofs::Remembered::has_read))]
 fn acknowledge(session: &mut Session)
     requires { CanBeServed session.old }
     ensures { session.new ≡ spec.acknowledged session.old }

@@ -3,12 +3,12 @@
 ghost use Rattle.std.specs.Prelude.{◌≡◌, ◌≤◌, true, false, IfOk, IfErr, IfSome, OnOk, OnErr, MatchResult};
 ghost use Rattle.wef_eventing.specs.Sending.{AreServable};
 ghost use Rattle.wef_keeper.specs.Access as access;
-ghost use Rattle.wef_keeper.specs.Calls.{IsCall, Looks, fails};
+ghost use Rattle.wef_keeper.specs.Calls.{DoesWith, IsCall, Looks, fails};
 ghost use Rattle.wef_keeper.specs.Keeping as keeping;
 ghost use Rattle.wef_keeper.specs.declared.keeping.Plan.TheVariants.{Done, Fails};
 ghost use Rattle.wef_query.specs.Order.{IsInOrder};
 ghost use Rattle.wef_source.specs.Answers as answers;
-ghost use Rattle.wef_source.specs.Calls.{start_effect, write_effect};
+ghost use Rattle.wef_source.specs.Calls.{JudgesStart, JudgesWrite, start_effect, write_effect};
 ghost use Rattle.wef_source.specs.Faults.{source_answer, source_store};
 ghost use Rattle.wef_source.specs.Judged.{JudgesPoll};
 ghost use Rattle.wef_source.specs.Machine as machine;
@@ -16,7 +16,6 @@ ghost use Rattle.wef_source.specs.Serving.{HasKeptSessions};
 ghost use Rattle.wef_source.specs.Sessions as the_sessions;
 ghost use Rattle.wef_source_log.specs.Answers.{ExtendsHistory, next_boot, next_number};
 ghost use Rattle.wef_source_log.specs.Forms.{AreFormed};
-ghost use Rattle.wef_source_log.specs.Judged as log_judged;
 
 use crate::faults::SourceFault;
 use crate::memories::Memory;
@@ -71,7 +70,9 @@ impl<K: Keeper> SourceEnd<K> {
             (λ refused. IsCall source_store AreFormed (λ found. start_effect found capacity) next_boot (Err refused.1) (K.store keeper) (K.store refused.0)) }
         ensures memory { IfOk result (λ end. end.memory ≡ machine.start_of end.memory.boot) }
         ensures name { IfOk result (λ end. end.name ≡ name) }
-        ensures judged { IfOk result (λ end. access.From (K.store keeper) (K.store end.keeper) (λ found after. log_judged.JudgesStart found)) }
+        ensures judged { MatchResult result
+            (λ end. DoesWith source_store AreFormed (λ found. start_effect found capacity) next_boot (λ answer found after. JudgesStart answer found) (Ok end.memory.boot) (K.store keeper) (K.store end.keeper))
+            (λ refused. DoesWith source_store AreFormed (λ found. start_effect found capacity) next_boot (λ answer found after. JudgesStart answer found) (Err refused.1) (K.store keeper) (K.store refused.0)) }
         ensures listed { IfErr result (λ refused. answers.RefusesStart refused.1) }
     {
         match Log::start(alloc, keeper, capacity) {
@@ -100,8 +101,8 @@ impl<K: Keeper> SourceEnd<K> {
     /// Writes an event as the next record of its channel, and answers its number.
     pub fn write(&mut self, event: &Event) -> Result<u64, SourceFault>
         ensures call { IsCall source_store AreFormed (λ found. write_effect found event.now) (λ found. next_number found event.now) result (K.store self.old.keeper) (K.store self.new.keeper) }
-        ensures window { access.From (K.store self.old.keeper) (K.store self.new.keeper) (λ found after. IfOk result (ExtendsHistory found after event.now)) }
-        ensures judged { OnOk result (access.From (K.store self.old.keeper) (K.store self.new.keeper) (λ found after. log_judged.JudgesWrite event.now.channel found)) }
+        ensures judged { DoesWith source_store AreFormed (λ found. write_effect found event.now) (λ found. next_number found event.now)
+            (λ answer found after. JudgesWrite answer event.now.channel found × IfOk answer (ExtendsHistory found after event.now)) result (K.store self.old.keeper) (K.store self.new.keeper) }
         ensures listed { IfErr result answers.RefusesLog }
         ensures memory { self.new.memory ≡ self.old.memory }
         ensures name { self.new.name ≡ self.old.name }
@@ -164,6 +165,7 @@ impl<K: Keeper> SourceEnd<K> {
         ensures refusal { IfSome (K.store self.new.keeper).rows (λ rows. IfErr result (λ fault. answers.RefusesPoll fault rows self.old.memory sub.now)) }
         ensures sends { IfOk result (answers.Sends self.old.memory self.new.memory sub.now now) }
         ensures numbered { IfOk result answers.SendsNumbered }
+        ensures remembered { IfOk result (answers.SendsRemembered self.old.memory self.new.memory sub.now) }
         ensures addressed { IfOk result (answers.SendsAddressed self.old.memory sub.now) }
         ensures judged { IfSome (K.store self.new.keeper).rows (λ rows. OnOk result (JudgesPoll rows self.old.memory sub.now)) }
         ensures listed { IfErr result (λ fault. answers.MayRefusePoll fault self.old.memory sub.now) }

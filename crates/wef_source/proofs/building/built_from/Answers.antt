@@ -2,19 +2,20 @@ use Rattle.std.proofs.Common.{◌≡◌, ◌∙◌, ap, subst, sym, None}
 use Rattle.std.specs.FinMap as map
 use Rattle.std.specs.Option.{option_to_list}
 use Rattle.wef_keeper.specs.Rows.{Rows}
-use Rattle.wef_source.specs.Building.{built, candidates_in, reaches, room_of, with_reaches}
+use Rattle.wef_source.specs.Building.{built, candidates_in, reaches, room_of, session_channels, with_reaches}
 use Rattle.wef_source.specs.Drafting.{empty_draft, with_items}
 use Rattle.wef_source.specs.Judged.{JudgesBatch, JudgesChannels}
-use Rattle.wef_source.specs.Serving.{HasEach}
+use Rattle.wef_source.specs.Serving.{ReadsAbove}
 use Rattle.wef_source.specs.declared.drafting.Draft.{Draft}
 use Rattle.wef_source.proofs.Drafts.{built_by}
 use Rattle.wef_source.proofs.Judging.{batch_judged}
 use Rattle.wef_source.proofs.Told.{both_told}
 use Rattle.wef_source.proofs.building.built_from.Goals as goal
 
-pub filled-requires-clause-served : goal.filled-requires-clause-served
-filled-requires-clause-served g c =
-    subst (HasEach c.args.session.now.positions) (sym c.requires.channels) c.requires.served.queried
+pub returns-clause-above : goal.returns-clause-above
+returns-clause-above g c =
+    let positions = c.args.session.now.positions in
+    subst (ReadsAbove positions (session_channels c.args.session.now)) (λ i. (sym c.batch_of.ensures i).to) (subst (λ cs. ReadsAbove positions cs c.in_ok-to.to) c.requires.channels c.in_ok-to.ensures.above)
 
 pub returns-clause-ok : goal.returns-clause-ok
 returns-clause-ok g c =

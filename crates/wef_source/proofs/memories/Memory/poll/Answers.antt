@@ -5,20 +5,20 @@ use Rattle.std.specs.Cmp.Lexicographic.{same_text}
 use Rattle.std.proofs.lemmas.Result.{err_from_is_err_and}
 use Rattle.wef_keeper.specs.Calls.{Looks}
 use Rattle.wef_keeper.specs.Rows.{Rows}
+use Rattle.wef_query.specs.Selected.{channels_of}
 use Rattle.wef_source_log.specs.Forms.{AreFormed}
 use Rattle.wef_source.specs.Answers.{Polls, RefusesPoll}
 use Rattle.wef_source.specs.Faults.{source_store}
 use Rattle.wef_source.specs.Machine.{End, is_spent, most_drawn, next_id}
 use Rattle.wef_source.specs.Prepared.{MayDraw, Prepares, RefusesToPrepare}
-use Rattle.wef_source.specs.Serving.{AwaitBelow, HasAll}
+use Rattle.wef_source.specs.Serving.{AwaitBelow, ReadsAbove}
 use Rattle.wef_source.specs.Sessions.{is_named, sending, session_of}
 use Rattle.wef_source.specs.declared.faults.SourceFault.TheVariants.{UnknownSubscription}
 use Rattle.wef_source.specs.declared.messages.Poll.TheVariants.{Nothing, Send}
 use Rattle.wef_source.specs.declared.sessions.Session.{Session}
 use Rattle.wef_source.proofs.Cases.{le_fails}
-use Rattle.wef_source.proofs.Served.{read_served}
 use Rattle.wef_source.proofs.Places.{changed_at, first_at, first_nowhere, passes_at, same_session, within_at}
-use Rattle.wef_source.proofs.Polling.{awaits, awaits_nothing, looks_done, looks_refused, may_refuse, may_send_there, never_sends, polls_judged, polls_nothing, polls_send, refuses_poll, sends_addressed, sends_next, sends_nothing, sent_kept}
+use Rattle.wef_source.proofs.Polling.{awaits, awaits_nothing, looks_done, looks_refused, may_refuse, may_send_there, never_sends, polls_judged, polls_nothing, polls_send, refuses_poll, sends_addressed, sends_next, sends_nothing, sends_remembered, sent_kept}
 use Rattle.wef_source.proofs.Told.{any_told, if_told, opens_itself}
 use Rattle.wef_source.proofs.DrawnIds.{sent_below}
 use Rattle.wef_source.proofs.memories.Memory.poll.Goals as goal
@@ -38,11 +38,6 @@ returns-in_default-clause-listed g c =
 
 pub returns-in_default-clause-reads : goal.returns-in_default-clause-reads
 returns-in_default-clause-reads g c = opens_itself AreFormed (g.K.Keeper.store c.args.log.now.keeper) (g.met.K.Keeper.lawful c.args.log.now.keeper)
-
-pub prepared-requires : goal.prepared-requires
-prepared-requires g c =
-    let at : position (is_named c.args.sub.now) c.self.inside.sessions.items ≡ Some c.in-Some.place = cc in
-    read_served c.self.inside.sessions.items c.in-Some.place c.index.result.now c.self.invariant.sessions.served (within_at (is_named c.args.sub.now) c.self.inside.sessions.items c.in-Some.place at) c.index.ensures
 
 pub returns-in_err-delivery-clause-refusal : goal.returns-in_err-delivery-clause-refusal
 returns-in_err-delivery-clause-refusal g c =
@@ -82,7 +77,7 @@ invariant_of-self g c =
     record {
       sessions = sent_kept c.args.sub.now c.args.now c.self.inside.sessions.items c.in-Some.place c.index_mut.result.now c.send.new.session c.in-Some-2.outstanding
           c.self.invariant.sessions (within_at (is_named c.args.sub.now) c.self.inside.sessions.items c.in-Some.place at) c.index_mut.ensures.value
-          (subst (λ (s : Session). HasAll s.positions c.in-Some-2.outstanding.to) one draws.4) c.send.ensures changed;
+          (subst (λ (s : Session). ReadsAbove s.positions (channels_of s.query.items) c.in-Some-2.outstanding.to) one draws.4) c.send.ensures changed;
       drawn = subst (AwaitBelow further) (sym changed)
           (sent_below next further (is_named c.args.sub.now) c.in-Some-2.outstanding c.args.now (omega arith) (subst (λ (n : ℕ). n < further) (sym id) (omega arith)) c.self.inside.sessions.items c.self.invariant.drawn);
     }
@@ -102,6 +97,16 @@ returns-clause-sends g c =
     let draws = subst (MayDraw c.args.self.now c.index.result.now) c.in-Some-2.is c.in_ok-delivery.ensures.draws in
     let changed = changed_at (is_named u) (sending c.in-Some-2.outstanding c.args.now) c.self.inside.sessions.items c.in-Some.place c.index_mut.result.now c.send.new.session at c.index_mut.ensures.value c.send.ensures in
     sends_next before c.args.self.now u c.args.now c.index.result.now c.in-Some-2.delivery c.in-Some-2.outstanding (set c.self.inside.sessions.items c.in-Some.place c.send.new.session) c.self.view_is found draws changed
+
+pub returns-clause-remembered : goal.returns-clause-remembered
+returns-clause-remembered g c =
+    let u = c.args.sub.now in
+    let at : position (is_named u) c.self.inside.sessions.items ≡ Some c.in-Some.place = cc in
+    let found = ap (λ (e : End). session_of e.sessions u) (sym c.self.view_is) ∙ first_at (is_named u) c.self.inside.sessions.items c.in-Some.place c.index.result.now at c.index.ensures in
+    let before : End = record { boot = c.self.inside.boot; drawn = c.self.inside.drawn; ask = c.self.inside.ask; sessions = c.self.inside.sessions.items } in
+    let draws = subst (MayDraw c.args.self.now c.index.result.now) c.in-Some-2.is c.in_ok-delivery.ensures.draws in
+    let changed = changed_at (is_named u) (sending c.in-Some-2.outstanding c.args.now) c.self.inside.sessions.items c.in-Some.place c.index_mut.result.now c.send.new.session at c.index_mut.ensures.value c.send.ensures in
+    sends_remembered before c.args.self.now u c.args.now c.index.result.now c.in-Some-2.delivery c.in-Some-2.outstanding (set c.self.inside.sessions.items c.in-Some.place c.send.new.session) c.self.view_is found draws changed
 
 pub returns-clause-ok : goal.returns-clause-ok
 returns-clause-ok g c =

@@ -1,16 +1,16 @@
-use Rattle.std.proofs.Common.{subst}
-use Rattle.std.specs.Prelude.{IfOk, OnOk}
-use Rattle.wef_keeper.specs.Access.{From}
-use Rattle.wef_keeper.specs.Calls.{IsCall}
+use Rattle.std.proofs.Common.{ℕ, subst}
+use Rattle.std.specs.Prelude.{Result, IfOk}
+use Rattle.wef_keeper.specs.Calls.{DoesWith, IsCall}
 use Rattle.wef_keeper.specs.Rows.{Rows}
-use Rattle.wef_keeper.proofs.Calls.{from_weaker}
 use Rattle.wef_source_log.specs.Answers as log
 use Rattle.wef_source_log.specs.Answers.{ExtendsHistory}
 use Rattle.wef_source_log.specs.Forms.{AreFormed}
-use Rattle.wef_source_log.specs.Judged.{JudgesWrite}
-use Rattle.wef_source.specs.Calls.{write_effect}
+use Rattle.wef_source_log.specs.Judged as log_judged
+use Rattle.wef_source_log.specs.declared.faults.LogFault.{LogFault}
+use Rattle.wef_source.specs.Calls.{JudgesWrite, write_effect}
 use Rattle.wef_source.specs.Faults.{source_answer, source_store}
-use Rattle.wef_source.proofs.Handed.{handed, if_handed, on_handed}
+use Rattle.wef_source.specs.declared.faults.SourceFault.{SourceFault}
+use Rattle.wef_source.proofs.Handed.{handed, handed_with, if_handed, write_judged}
 use Rattle.wef_source.proofs.source.SourceEnd.write.Goals as goal
 
 pub returns-clause-call : goal.returns-clause-call
@@ -21,20 +21,13 @@ returns-clause-call g c =
     (subst (λ keeper. IsCall source_store AreFormed (λ rows. write_effect rows event) (λ rows. log.next_number rows event) (source_answer c.write.result) (g.K.Keeper.store keeper) now) (λ i. (c.self.view_is i).keeper)
     (handed (λ rows. log.write_effect rows event) (λ rows. log.next_number rows event) c.write.result (g.K.Keeper.store c.self.inside.log.keeper) now c.write.ensures.call))
 
-pub returns-clause-window : goal.returns-clause-window
-returns-clause-window g c =
-    let event = c.args.event.now in
-    let before = g.K.Keeper.store c.self.inside.log.keeper in
-    let now = g.K.Keeper.store c.write.new.self.keeper in
-    rw c.handed.ensures.answer
-    (subst (λ keeper. From (g.K.Keeper.store keeper) now (λ found after. IfOk (source_answer c.write.result) (ExtendsHistory found after event))) (λ i. (c.self.view_is i).keeper)
-    (from_weaker (λ found after. IfOk c.write.result (ExtendsHistory found after event)) (λ found after. IfOk (source_answer c.write.result) (ExtendsHistory found after event)) before now
-    (λ found after extends. if_handed c.write.result (ExtendsHistory found after event) extends) c.write.ensures.window))
-
 pub returns-clause-judged : goal.returns-clause-judged
 returns-clause-judged g c =
-    let judges : Rows → Rows → Type 0 = λ found after. JudgesWrite c.args.event.now.channel found in
+    let event = c.args.event.now in
     let now = g.K.Keeper.store c.write.new.self.keeper in
+    let given : Result ℕ LogFault → Rows → Rows → Type 0 = λ answer found after. log_judged.JudgesWrite answer event.channel found × IfOk answer (ExtendsHistory found after event) in
+    let fact : Result ℕ SourceFault → Rows → Rows → Type 0 = λ answer found after. JudgesWrite answer event.channel found × IfOk answer (ExtendsHistory found after event) in
     rw c.handed.ensures.answer
-    (subst (λ keeper. OnOk (source_answer c.write.result) (From (g.K.Keeper.store keeper) now judges)) (λ i. (c.self.view_is i).keeper)
-    (on_handed c.write.result (From (g.K.Keeper.store c.self.inside.log.keeper) now judges) c.write.ensures.judged))
+    (subst (λ keeper. DoesWith source_store AreFormed (λ rows. write_effect rows event) (λ rows. log.next_number rows event) fact (source_answer c.write.result) (g.K.Keeper.store keeper) now) (λ i. (c.self.view_is i).keeper)
+    (handed_with (λ rows. log.write_effect rows event) (λ rows. log.next_number rows event) given fact c.write.result (g.K.Keeper.store c.self.inside.log.keeper) now
+    (λ found after holds. (write_judged c.write.result event.channel found holds.0, if_handed c.write.result (ExtendsHistory found after event) holds.1)) c.write.ensures.judged))
