@@ -24,7 +24,8 @@ use Rattle.wef_collector_rows.specs.declared.faults.CollectorFault.TheVariants.{
 use Rattle.wef_collector.specs.Calls.{Effect}
 use Rattle.wef_front.specs.Laws.{GoesByPlan, GoesByRows, HasFailed, IsReply, said_planned, tries_by}
 use Rattle.wef_front.specs.Replies.{IsAnswer, answer_of, ids_behind, rows_by}
-use Rattle.wef_front.specs.Steps.{CallsFor, SaysFor, batch_said, effect_in, fault_for, said_by, said_where}
+use Rattle.wef_front.proofs.SaidOfCalls.{offers_answered}
+use Rattle.wef_front.specs.Steps.{CallsFor, IsAnswered, SaysFor, batch_said, effect_in, fault_for, said_by, said_where}
 use Rattle.wef_http_heads.specs.declared.answers.Answer.{Answer}
 use Rattle.wef_front.specs.declared.hearing.Asked.{Asked}
 use Rattle.wef_front.specs.declared.hearing.Asked.TheVariants.{Refused, Enumerate, Unread, Take}
@@ -67,7 +68,7 @@ module _ {T : Type 0} (tell : T → Said) (gives : Rows → T) (effect : Rows �
       let goes = refused_goes tell (gives found) (effect found) fault found after before.tries now.tries answer.0 answer.1 (subst (λ (kind : Option StoreFault). FaultByTries kind before.tries now.tries) own did.tries) in
       inl (is ∙ goes.0, goes.1, goes.2)) call.did
 
-  said_goes : SaysFor tell gives effect said before now → From before now GoesOrFails
+  said_goes : SaysFor IsAnswered tell gives effect said before now → From before now GoesOrFails
   said_goes (Ok done, call, answered, is) =
       from_weaker _ GoesOrFails before now
       (λ found after did. let goes = done_goes tell (gives found) done (effect found) found after before.tries now.tries did.answer.0 did.answer.1 did.tries in inl (is ∙ goes.0, goes.1, goes.2)) call.did
@@ -87,7 +88,7 @@ reply_goes :
     {T : Type 0} (tell : T → Said) (gives : Rows → T) (host : List ℕ) (relates : Option MessageId) (asked : Asked) (charset : Charset) (moment : ℕ) (answer : Answer) (ids ids_now : Ids) (before now : Store) →
     ((found : Rows) (e : Effect) → said_where tell (gives found) e ≡ said_by host asked found e) →
     (is : IsAnswer host (record { relates = relates; asked = asked }) charset moment answer ids ids_now before now) →
-    SaysFor tell gives (effect_in asked moment) is.said before now →
+    SaysFor IsAnswered tell gives (effect_in asked moment) is.said before now →
     From before now (λ found after.
     IsReply host (record { relates = relates; asked = asked }) charset moment answer ids ids_now before now found after
     ⊎ HasFailed (record { relates = relates; asked = asked }) charset moment answer ids ids_now before now)
@@ -119,7 +120,7 @@ replies_by host relates (Refused name) charset moment answer ids ids_now before 
     let stepped = is.stepped in
     (is.written ∙ ap (answer_of ids charset relates) stepped.0, is.drawn ∙ ap (ids_behind ids) stepped.0, stepped.1)
 replies_by host relates (Enumerate s) charset moment answer ids ids_now before now is =
-    reply_goes Offers (λ rows. offers rows s host) host relates (Enumerate s) charset moment answer ids ids_now before now (λ found e. refl) is is.stepped
+    reply_goes Offers (λ rows. offers rows s host) host relates (Enumerate s) charset moment answer ids ids_now before now (λ found e. refl) is (offers_answered host s is.said before now is.stepped)
 replies_by host relates (Unread u) charset moment answer ids ids_now before now is =
     reply_goes (batch_said false) (λ rows. tt) host relates (Unread u) charset moment answer ids ids_now before now (λ found e. refl) is is.stepped.0
 replies_by host relates (Take u s batch) charset moment answer ids ids_now before now is =
@@ -162,7 +163,7 @@ module _ {T : Type 0} (tell : T → Said) (gives : Rows → T) (host : List ℕ)
       let answer = subst (λ (kind : Option StoreFault). AnswersFault kind fault (effect_in asked moment found) found after) own did.answer in
       told_any before.plan _ (λ planned formed. is ∙ refused_planned planned found (effect_in asked moment found) fault answer.0)) call.did
 
-  said_by_plan : (said : Said) (before now : Store) → SaysFor tell gives (effect_in asked moment) said before now → From before now (λ found after. Planned host asked moment said before found)
+  said_by_plan : (said : Said) (before now : Store) → SaysFor IsAnswered tell gives (effect_in asked moment) said before now → From before now (λ found after. Planned host asked moment said before found)
   said_by_plan said before now (Ok done, call, answered, is) =
       from_weaker _ (λ found after. Planned host asked moment said before found) before now
       (λ found after did. told_map before.plan _ _
@@ -197,7 +198,7 @@ plans_by :
 plans_by host relates (Refused name) charset moment answer ids ids_now before now is = tt
 plans_by host relates (Enumerate s) charset moment answer ids ids_now before now is =
     answer_by_plan host relates (Enumerate s) charset moment answer ids ids_now before now is
-    (said_by_plan Offers (λ rows. offers rows s host) host (Enumerate s) moment (λ found e. refl) is.said before now is.stepped)
+    (said_by_plan Offers (λ rows. offers rows s host) host (Enumerate s) moment (λ found e. refl) is.said before now (offers_answered host s is.said before now is.stepped))
 plans_by host relates (Unread u) charset moment answer ids ids_now before now is =
     answer_by_plan host relates (Unread u) charset moment answer ids ids_now before now is
     (said_by_plan (batch_said false) (λ rows. tt) host (Unread u) moment (λ found e. refl) is.said before now is.stepped.0)

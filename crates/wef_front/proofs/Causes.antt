@@ -28,7 +28,8 @@ use Rattle.wef_bodies.specs.Reading.{has_enumerate}
 use Rattle.std.specs.Option.{option_and_then}
 use Rattle.wef_front.specs.Heard.{Hears, HearsRead, asked_at, asked_by, asked_of, batch_in, enumerate_asked, events_asked, is_elsewhere, is_nameless, manager_asked, named_asked}
 use Rattle.wef_front.specs.Replies.{IsAnswer}
-use Rattle.wef_front.specs.Steps.{SaysFor, Steps, batch_said, done_said, effect_in}
+use Rattle.wef_front.proofs.SaidOfCalls.{offers_answered}
+use Rattle.wef_front.specs.Steps.{IsAnswered, SaysFor, Steps, batch_said, done_said, effect_in}
 use Rattle.wef_front.specs.declared.hearing.Asked.{Asked}
 use Rattle.wef_front.specs.declared.hearing.Asked.TheVariants.{Refused, Enumerate, Unread, Take}
 use Rattle.wef_http_heads.specs.declared.answers.Answer.{Answer}
@@ -120,7 +121,7 @@ no_ack false is = cc
 no_offers : (list : List Offer) → Offers list ≡ Fault the.InternalError → ⊥
 no_offers list is = cc
 
-says_cause : {T : Type 0} (tell : T → Said) (gives : Rows → T) (effect : Rows → Effect) (said : Said) (before now : Store) → IsNoFault tell → SaysFor tell gives effect said before now
+says_cause : {T : Type 0} (tell : T → Said) (gives : Rows → T) (effect : Rows → Effect) (said : Said) (before now : Store) → IsNoFault tell → SaysFor IsAnswered tell gives effect said before now
     → said ≡ Fault the.InternalError → HasCause AreFormed true before now
 says_cause tell gives effect said before now other (Ok done, call, answered, is) internal = absurd (other done (sym is ∙ internal))
 says_cause tell gives effect said before now other (Err NoSubscription, call, answered, is) internal = let bad : ⊥ = cc in absurd bad
@@ -152,7 +153,7 @@ steps_cause : (host : List ℕ) (asked : Asked) (moment : ℕ) (said : Said) (be
     → HasCause AreFormed true before now
 steps_cause host (Refused name) moment said before now other stepped internal = absurd (name_internal name other (sym stepped.0 ∙ internal))
 steps_cause host (Enumerate s) moment said before now other stepped internal =
-    says_cause Offers (λ rows. offers rows s host) no_effect said before now no_offers stepped internal
+    says_cause Offers (λ rows. offers rows s host) no_effect said before now no_offers (offers_answered host s said before now stepped) internal
 steps_cause host (Unread u) moment said before now other stepped internal =
     says_cause (batch_said false) (λ rows. tt) (effect_in (Unread u) moment) said before now (λ done. no_ack false) stepped.0 internal
 steps_cause host (Take u s batch) moment said before now other stepped internal =

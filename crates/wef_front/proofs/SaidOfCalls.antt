@@ -9,31 +9,31 @@ use Rattle.wef_collector_rows.specs.declared.faults.CollectorFault.TheVariants.{
 use Rattle.wef_collector.specs.Calls.{Effect, OfTake, no_effect}
 use Rattle.wef_collector_rows.specs.Answers.{IsOfStore}
 use Rattle.wef_envelope.specs.Faults.{is_known}
-use Rattle.wef_front.specs.Steps.{Calls, CallsFor, IsAnswered, IsFault, IsKnownSaid, Says, SaysFor, SaysOffers, batch_said, fault_for, said_of, said_with}
+use Rattle.wef_front.specs.Steps.{Calls, CallsFor, IsAnswered, IsFailure, IsFault, IsKnownSaid, Says, SaysFor, SaysOffers, batch_said, fault_for, said_of, said_with}
 use Rattle.wef_front.specs.declared.saying.Said.TheVariants.{Offers}
 use Rattle.wef_collector.specs.Offers.{CanAllBeOffered, offers}
 use Rattle.wef_eventing.specs.declared.offers.Offer.{Offer}
 use Rattle.wef_front.specs.declared.saying.Said.{Said}
 
 says_for :
-    {T E : Type 0} (tell : T → Said) (gives : Rows → T) (effect : Rows → Effect) (done : Result T CollectorFault) (result : Result Said E) (before now : Store) →
-    CallsFor gives effect done before now → IfOk result (λ said. IfErr done IsAnswered) → IfOk result (λ said. said ≡ said_with tell done) →
-    IfOk result (λ said. SaysFor tell gives effect said before now)
-says_for tell gives effect done (Ok said) before now call answered is = (done, call, answered, is)
-says_for tell gives effect done (Err fault) before now call answered is = tt
+    {T E : Type 0} (Refuses : CollectorFault → Type 0) (tell : T → Said) (gives : Rows → T) (effect : Rows → Effect) (done : Result T CollectorFault) (result : Result Said E) (before now : Store) →
+    CallsFor gives effect done before now → IfOk result (λ said. IfErr done Refuses) → IfOk result (λ said. said ≡ said_with tell done) →
+    IfOk result (λ said. SaysFor Refuses tell gives effect said before now)
+says_for Refuses tell gives effect done (Ok said) before now call answered is = (done, call, answered, is)
+says_for Refuses tell gives effect done (Err fault) before now call answered is = tt
 
 -- of a batch
 pub says_of :
     {E : Type 0} (ack : Bool) (effect : Rows → Effect) (done : Result (Unit {0}) CollectorFault) (result : Result Said E) (before now : Store) →
     Calls effect done before now → IfOk result (λ said. IfErr done IsAnswered) → IfOk result (λ said. said ≡ said_of ack done) → IfOk result (λ said. Says ack effect said before now)
-says_of ack effect done result before now call answered is = says_for (batch_said ack) (λ rows. tt) effect done result before now call answered is
+says_of ack effect done result before now call answered is = says_for IsAnswered (batch_said ack) (λ rows. tt) effect done result before now call answered is
 
 -- of the offers to a source
 pub offers_of :
     {E : Type 0} (host s : List ℕ) (done : Result (List Offer) CollectorFault) (result : Result Said E) (before now : Store) →
-    CallsFor (λ rows. offers rows s host) no_effect done before now → IfOk result (λ said. IfErr done IsAnswered) → IfOk result (λ said. said ≡ said_with Offers done) →
+    CallsFor (λ rows. offers rows s host) no_effect done before now → IfOk result (λ said. IfErr done IsFailure) → IfOk result (λ said. said ≡ said_with Offers done) →
     IfOk result (λ said. SaysOffers host s said before now)
-offers_of host s done result before now call answered is = says_for Offers (λ rows. offers rows s host) no_effect done result before now call answered is
+offers_of host s done result before now call answered is = says_for IsFailure Offers (λ rows. offers rows s host) no_effect done result before now call answered is
 
 -- what is refused is said to be a fault
 refused_said : {E : Type 0} (done : Result (Unit {0}) CollectorFault) (result : Result Said E) → IsErr done → IfOk result (λ said. said ≡ said_of false done) → IfOk result IsFault
@@ -73,6 +73,30 @@ offers_known (Ok list) can = can
 offers_known (Err fault) can = fault_known fault
 
 -- ---- refusals
+
+-- what is said of offers is said as of any call
+pub offers_answered : (host s : List ℕ) (said : Said) (before now : Store) → SaysOffers host s said before now → SaysFor IsAnswered Offers (λ rows. offers rows s host) no_effect said before now
+offers_answered host s said before now (Ok list, call, answered, is) = (Ok list, call, tt, is)
+offers_answered host s said before now (Err Failed, call, answered, is) = (Err Failed, call, tt, is)
+offers_answered host s said before now (Err NoMemory, call, answered, is) = absurd answered
+offers_answered host s said before now (Err NoSubscription, call, answered, is) = absurd answered
+offers_answered host s said before now (Err Exists, call, answered, is) = absurd answered
+offers_answered host s said before now (Err Ended, call, answered, is) = absurd answered
+offers_answered host s said before now (Err NotWellFormed, call, answered, is) = absurd answered
+offers_answered host s said before now (Err TooMany, call, answered, is) = absurd answered
+offers_answered host s said before now (Err Full, call, answered, is) = absurd answered
+
+-- a refusal of the store that is answered says that the store failed
+pub store_failed : {E : Type 0} (fault : CollectorFault) (result : Result Said E) → IsOfStore fault → IfOk result (λ said. IsAnswered fault) → IfOk result (λ said. IsFailure fault)
+store_failed fault (Err wanting) of answered = tt
+store_failed Failed (Ok said) of answered = tt
+store_failed NoMemory (Ok said) of answered = absurd answered
+store_failed NoSubscription (Ok said) of answered = absurd of
+store_failed Exists (Ok said) of answered = absurd of
+store_failed Ended (Ok said) of answered = absurd of
+store_failed NotWellFormed (Ok said) of answered = absurd of
+store_failed TooMany (Ok said) of answered = absurd of
+store_failed Full (Ok said) of answered = absurd of
 
 -- a call that only reads is refused by its store alone, as one that takes a batch may be
 pub store_taken : (fault : CollectorFault) → IsOfStore fault → OfTake fault

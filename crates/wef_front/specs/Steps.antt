@@ -6,6 +6,7 @@ use Rattle.wef_ids.specs.declared.FaultName.TheVariants as the
 use Rattle.wef_keeper.specs.Calls.{IsCall}
 use Rattle.wef_keeper.specs.Keeping.{Store}
 use Rattle.wef_keeper.specs.Rows.{Rows}
+use Rattle.wef_collector_rows.specs.Answers.{IsOfStore}
 use Rattle.wef_collector_rows.specs.Faults.{collector_store}
 use Rattle.wef_collector_rows.specs.Forms.{AreFormed}
 use Rattle.wef_collector_rows.specs.declared.faults.CollectorFault.{CollectorFault}
@@ -85,18 +86,23 @@ IsAnswered NotWellFormed = Unit {0}
 IsAnswered Failed = Unit {0}
 IsAnswered _ = ⊥
 
--- a call of the collector, and what is said of how it went
-abbrev pub SaysFor : {T : Type 0} → (T → Said) → (Rows → T) → (Rows → Effect) → Said → Store → Store → Type 0
-SaysFor {T = T} tell gives effect said before now =
-    (done : Result T CollectorFault) × CallsFor gives effect done before now × IfErr done IsAnswered × (said ≡ said_with tell done)
+-- that of offers: the store failed
+abbrev pub IsFailure : CollectorFault → Type 0
+IsFailure Failed = Unit {0}
+IsFailure _ = ⊥
+
+-- a call of the collector whose refusals are such, and what is said of how it went
+abbrev pub SaysFor : {T : Type 0} → (CollectorFault → Type 0) → (T → Said) → (Rows → T) → (Rows → Effect) → Said → Store → Store → Type 0
+SaysFor {T = T} Refuses tell gives effect said before now =
+    (done : Result T CollectorFault) × CallsFor gives effect done before now × IfErr done Refuses × (said ≡ said_with tell done)
 
 -- of a batch
 abbrev pub Says : Bool → (Rows → Effect) → Said → Store → Store → Type 0
-Says ack effect said before now = SaysFor (batch_said ack) (λ _. tt) effect said before now
+Says ack effect said before now = SaysFor IsAnswered (batch_said ack) (λ _. tt) effect said before now
 
 -- of the offers to a source
 abbrev pub SaysOffers : List ℕ → List ℕ → Said → Store → Store → Type 0
-SaysOffers host s said before now = SaysFor Offers (λ rows. offers rows s host) no_effect said before now
+SaysOffers host s said before now = SaysFor IsFailure Offers (λ rows. offers rows s host) no_effect said before now
 
 -- a fault is said
 abbrev pub IsFault : Said → Type 0
@@ -113,7 +119,8 @@ Steps host (Take u s batch) moment said before now = Says batch.ack_wanted (effe
 -- What it has done where there was no memory for the answer: its step whole, or nothing.
 abbrev pub HasStepped : List ℕ → Asked → ℕ → Store → Store → Type 0
 HasStepped host (Refused name) moment before now = now ≡ before
-HasStepped host (Enumerate s) moment before now = (done : Result (List Offer) CollectorFault) × CallsFor (λ rows. offers rows s host) no_effect done before now
+HasStepped host (Enumerate s) moment before now =
+    (done : Result (List Offer) CollectorFault) × CallsFor (λ rows. offers rows s host) no_effect done before now × IfErr done IsOfStore
 HasStepped host (Unread u) moment before now = (done : Result (Unit {0}) CollectorFault) × Calls (effect_in (Unread u) moment) done before now
 HasStepped host (Take u s batch) moment before now = (done : Result (Unit {0}) CollectorFault) × Calls (effect_in (Take u s batch) moment) done before now
 

@@ -9,7 +9,7 @@ ghost use Rattle.wef_collector_rows.specs.declared.faults.CollectorFault as faul
 ghost use Rattle.wef_eventing.specs.Addresses.{IsHost};
 ghost use Rattle.wef_eventing.specs.declared.offers.Offer.{Offer as TheOffer};
 ghost use Rattle.wef_front.specs.Heard.{IsSoundAsk};
-ghost use Rattle.wef_front.specs.Steps.{Calls, CallsFor, HasStepped, IsAnswered, IsFault, IsKnownSaid, Says, SaysOffers, Steps, fault_for, said_of, said_with};
+ghost use Rattle.wef_front.specs.Steps.{Calls, CallsFor, HasStepped, IsAnswered, IsFailure, IsFault, IsKnownSaid, Says, SaysOffers, Steps, fault_for, said_of, said_with};
 ghost use Rattle.wef_front.specs.declared.saying.Said.TheVariants.{Fault, Offers};
 
 use crate::hearing::Asked;
@@ -65,7 +65,7 @@ fn offer<K: Keeper>(
 ) -> Result<Said, AllocError>
     requires { IsHost host.now }
     ensures said { IfOk result (λ said. SaysOffers host.now source.now said (K.store collector.old.keeper) (K.store collector.new.keeper)) }
-    ensures wants_memory { IfErr result (λ _. (done : Result (List TheOffer) fault.CollectorFault) × CallsFor (λ rows. offers rows source.now host.now) no_effect done (K.store collector.old.keeper) (K.store collector.new.keeper)) }
+    ensures wants_memory { IfErr result (λ _. (done : Result (List TheOffer) fault.CollectorFault) × CallsFor (λ rows. offers rows source.now host.now) no_effect done (K.store collector.old.keeper) (K.store collector.new.keeper) × IfErr done IsOfStore) }
     ensures known { IfOk result IsKnownSaid }
     ensures ids { collector.new.ids ≡ collector.old.ids }
 {
@@ -73,11 +73,11 @@ fn offer<K: Keeper>(
 }
 
 /// What is said of offers that were asked for. Want of memory isn't answered.
-#[tactic(auto, using(crate::proofs::SaidOfCalls::offers_known, crate::proofs::SaidOfCalls::store_taken))]
+#[tactic(auto, using(crate::proofs::SaidOfCalls::offers_known, crate::proofs::SaidOfCalls::store_failed, crate::proofs::SaidOfCalls::store_taken))]
 fn said_of_offers(done: Result<List<Offer>, CollectorFault>) -> Result<Said, AllocError>
     requires refusal { IfErr done IsOfStore }
     requires texts { IfOk done CanAllBeOffered }
-    ensures answered { IfOk result (λ said. IfErr done IsAnswered) }
+    ensures answered { IfOk result (λ said. IfErr done IsFailure) }
     ensures said { IfOk result (λ said. said ≡ said_with Offers done) }
     ensures known { IfOk result IsKnownSaid }
 {

@@ -1,5 +1,5 @@
 -- What the collector answers to the bytes of an ask is what the machine says of the ask.
-use Rattle.std.proofs.Common.{◌≡◌, ℕ, zero, suc, ◌+◌, true, false, List, [], length, refl, ap, sym, ◌∙◌, subst, arith}
+use Rattle.std.proofs.Common.{◌≡◌, ℕ, zero, suc, ◌+◌, true, false, List, length, refl, ap, sym, ◌∙◌, subst, arith}
 use Rattle.std.specs.List.{AllByRecursion}
 use Rattle.std.specs.Prelude.{Some, Result, Ok, Err, IfErr, codes, min}
 use Rattle.wef_base.specs.declared.tree.Charset.TheVariants.{Utf8}
@@ -17,7 +17,7 @@ use Rattle.wef_front.proofs.OneIsHeard.{one_is_heard}
 use Rattle.wef_front.specs.Heard.{Hears}
 use Rattle.wef_front.specs.Replies.{CanBeAnswered, IsAnswer, IsSpeltFor, answer_of, ids_after, ids_behind, offers_bytes}
 use Rattle.wef_front.specs.Sending.{CanBeAsked, Wish, enumerate_bytes}
-use Rattle.wef_front.specs.Steps.{CallsFor, IsAnswered, said_with}
+use Rattle.wef_front.specs.Steps.{CallsFor, IsFailure, said_with}
 use Rattle.wef_http_heads.specs.declared.answers.Answer.{Answer}
 use Rattle.wef_front.specs.declared.hearing.Asked.TheVariants.{Enumerate}
 use Rattle.wef_front.specs.declared.hearing.Heard.{Heard}
@@ -28,7 +28,6 @@ use Rattle.wef_ids.specs.Ids.{next_id, with_drawn}
 use Rattle.wef_ids.specs.declared.MessageId.{MessageId}
 use Rattle.wef_ids.specs.declared.ids.Ids.{Ids}
 use Rattle.wef_keeper.specs.Rows.{Rows}
-use Rattle.wef_keeper.specs.declared.keys.Change.{Change}
 use Rattle.wef_keeper.specs.declared.mem_keeper.MemKeeper.{MemKeeper}
 use Rattle.wef_machine.specs.Collecting.{collector_opened, reply_id}
 use Rattle.wef_machine.specs.States as machine
@@ -84,13 +83,9 @@ pub record Offered (wish : Wish) (ids ids_now : Ids) (rows rows_now : Rows) (ans
   pub ids_are : ids_now ≡ with_drawn (length (offers rows wish.source host) + 1) ids
   pub gave : HasOffered wish ids (offers rows wish.source host) answer
 
--- offering is never refused
-not_refused : (fault : the_fault.CollectorFault) → ◌≡◌ {A = Result (List Change) the_fault.CollectorFault} (Ok []) (Err fault) → ⊥
-not_refused fault e = cc
-
 module _ (wish : Wish) (end end' : Collector MemKeeper) (now : ℕ) (answer : Answer) (can : CanBeAsked wish) (formed : AreFormed end.keeper.rows)
     (is : IsAnswer host (wish_heard wish) Utf8 now answer end.ids end'.ids (told_by end.keeper) (told_by end'.keeper)) where
-  by_done : (done : Result (List Offer) the_fault.CollectorFault) → CallsFor (λ rows. offers rows wish.source host) no_effect done (told_by end.keeper) (told_by end'.keeper) → IfErr done IsAnswered
+  by_done : (done : Result (List Offer) the_fault.CollectorFault) → CallsFor (λ rows. offers rows wish.source host) no_effect done (told_by end.keeper) (told_by end'.keeper) → IfErr done IsFailure
       → is.said ≡ said_with says.Offers done → Offered wish end.ids end'.ids end.keeper.rows end'.keeper.rows answer
   by_done (Ok list) call answered said =
       let list_is : list ≡ offers end.keeper.rows wish.source host = call.did.answer.1 in
@@ -112,9 +107,9 @@ module _ (wish : Wish) (end end' : Collector MemKeeper) (now : ℕ) (answer : An
   by_done (Err faults.Exists) call answered said = absurd answered
   by_done (Err faults.TooMany) call answered said = absurd answered
   by_done (Err faults.Full) call answered said = absurd answered
-  by_done (Err faults.NoSubscription) call answered said = absurd (not_refused faults.NoSubscription call.did.answer.0)
-  by_done (Err faults.Ended) call answered said = absurd (not_refused faults.Ended call.did.answer.0)
-  by_done (Err faults.NotWellFormed) call answered said = absurd (not_refused faults.NotWellFormed call.did.answer.0)
+  by_done (Err faults.NoSubscription) call answered said = absurd answered
+  by_done (Err faults.Ended) call answered said = absurd answered
+  by_done (Err faults.NotWellFormed) call answered said = absurd answered
 
   pub ask_answered : Offered wish end.ids end'.ids end.keeper.rows end'.keeper.rows answer
   ask_answered = by_done is.stepped.0 is.stepped.1 is.stepped.2 is.stepped.3
