@@ -22,7 +22,8 @@ use Rattle.wef_source.specs.declared.sessions.Outstanding.{Outstanding}
 use Rattle.wef_source.specs.declared.sessions.Session.{Session}
 use Rattle.wef_machine.specs.Kept.{AreTerms, IsAckKept, IsBehind, IsDelivery, IsMessageKept, IsOffered, IsRunningKept, IsServed, IsSourceKept, WaitsFor, WasDrawn, WhereDeclared, last_id}
 use Rattle.wef_machine.specs.Laws.{FittingRises}
-use Rattle.wef_machine.specs.Safe.{IsReached, WasSent, subscription_at}
+use Rattle.wef_collector.specs.Laws.{IsReached}
+use Rattle.wef_machine.specs.Safe.{WasSent, subscription_at}
 use Rattle.wef_machine.specs.States.{Slot, Slots}
 use Rattle.wef_machine.specs.declared.messages.Message.{Message}
 use Rattle.wef_machine.specs.declared.messages.Message.TheVariants.{Ask, Offers, Events, Ack, Fault}
@@ -166,6 +167,7 @@ running_grows rows rows' messages messages' s slot (Some end) grows more kept = 
   record {
     boot = kept.0.boot;
     drawn = kept.0.drawn;
+    in_order = kept.0.in_order;
     sessions = all_map (IsServed rows messages s) (IsServed rows' messages' s) (λ session. served_grows rows rows' messages messages' s session grows more) end.sessions kept.0.sessions;
   },
   kept.1,

@@ -29,6 +29,7 @@ use Rattle.wef_replay_values.specs.declared.end_name.EndName.TheVariants as ends
 use Rattle.wef_replay.specs.declared.lines.Line.{Line}
 use Rattle.wef_replay.specs.declared.lines.Line.TheVariants.{Subscribe, End, Batch, Source, Write, WriteXml, Ask, Poll, Deliver, Back, Lost, Crash, Fail, Stop, Calm, Show, Print}
 use Rattle.wef_source.proofs.Built.{SaysAbove, built_above}
+use Rattle.wef_source.proofs.InOrder.{alone_of_name}
 use Rattle.wef_source.specs.Answers.{waiting_for}
 use Rattle.wef_source.specs.Building.{built}
 use Rattle.wef_source.specs.Machine.{End as Memory}
@@ -47,7 +48,7 @@ use Rattle.wef_machine.specs.Collecting.{at_collector, draws, reply_id, with_rep
 use Rattle.wef_machine.specs.Deliveries.{BatchEffect, acknowledged_by, after_ack, after_fault, after_offers, answer_by, deliver_message, deliver_step, delivery_effect, end_at, events_at, events_by, message_at, number_back, offers_at, refused_by, taken_by, with_answer}
 use Rattle.wef_machine.specs.Kept.{IsAckKept, IsKept, IsServed, WaitsFor, WasDrawn}
 use Rattle.wef_machine.specs.Places.{Place, armed_with, commits, crashed, opened_by, starts}
-use Rattle.wef_machine.specs.Rising.{AreAllRisen, BeginsAt, HasBegun, HasRisen, IsAbove, IsMessageRisen, IsSentRisen, SessionsRise, StandsAt, delivered, pasts_from, state_after}
+use Rattle.wef_machine.specs.Rising.{AreAllRisen, BeginsAt, HasBegun, HasRisen, IsAbove, IsAlone, IsMessageRisen, IsSentRisen, SessionsRise, StandsAt, delivered, pasts_from, state_after}
 use Rattle.wef_machine.specs.Safe.{WasSent}
 use Rattle.wef_machine.specs.Sources.{ask_at, ask_step, at_declared, at_source, declared_slot, lost_at, lost_step, poll_at, poll_in, poll_step, slot_opened, slot_written, with_opened, write_at, write_by, write_step}
 use Rattle.wef_machine.specs.States.{Slot, Slots, State, calmed_slot, host, slot_of, slot_with, with_collector, with_end, with_foreign, with_message, with_slot}
@@ -262,6 +263,7 @@ sent_stands lower past line now s u slot end session all kept still stands there
       to_subscription = served.terms.to_subscription;
       positions = session.positions;
       stood = stood;
+      alone = all.alone session.name s session.positions stood;
       risen = all.sessions session.name s session.positions stood;
       above = λ c. above_is (number_at session.positions c) c (built slot.place.rows session)
           (built_above slot.place.rows slot.histories slot.capacity (boot_of slot.place.rows) session reads (session_within now s slot session kept there served) c);
@@ -550,11 +552,17 @@ sent_now past line more longer m among is = record {
   is = is;
 }
 
-line_rises : Lower → (past : List Line) (line : Line) → IsKept (state_after past) → AreAllRisen past → AreAllRisen (line ∷ past)
-line_rises lower past line kept all =
+-- a source has one session of a name
+alone_there : (state : State) (u s : List ℕ) (positions : Marks) → IsKept state → (at : StandsAt state u s positions) → IsAlone at
+alone_there state u s positions kept at =
+    alone_of_name at.end.sessions at.is_one.0 at.session (running_is state s at.slot at.end (kept.sources s at.slot at.declared) at.runs).0.in_order at.is_one.1 at.is_one.2
+
+line_rises : Lower → (past : List Line) (line : Line) → IsKept (state_after past) → IsKept (state_after (line ∷ past)) → AreAllRisen past → AreAllRisen (line ∷ past)
+line_rises lower past line kept kept_now all =
     let old = state_after past in
     let now = step_stands lower past line line kept all (still_stands past line old all (still_there old)) refl in
     record {
+      alone = λ u s positions at. alone_there (state_after (line ∷ past)) u s positions kept_now at;
       sessions = λ u s positions at.
           let P = λ (x : Session). HasRisen (line ∷ past) x.name s x.positions in
           let each = subst (OfMemory (HasRisen (line ∷ past)) s) at.runs (now.sessions s at.slot at.declared) in
@@ -567,13 +575,13 @@ line_rises lower past line kept all =
 
 all_rise : Lower → (past lines : List Line) → IsKept (state_after past) → AreAllRisen past → AreAdmitted (state_after past) lines → AllByRecursion AreAllRisen (pasts_from past lines)
 all_rise lower past [] kept all admitted = (all, tt)
-all_rise lower past (line ∷ lines) kept all admitted = (
-  all,
-  all_rise lower (line ∷ past) lines (steps_keep lower (state_after past) line kept admitted.0) (line_rises lower past line kept all) admitted.1,
-)
+all_rise lower past (line ∷ lines) kept all admitted =
+    let kept_now = steps_keep lower (state_after past) line kept admitted.0 in
+    (all, all_rise lower (line ∷ past) lines kept_now (line_rises lower past line kept kept_now all) admitted.1)
 
 start_rises : AreAllRisen []
 start_rises = record {
+  alone = λ u s positions at. absurd (none-some at.slot (sym (finite.get-empty (slice_cmp nat_cmp) s) ∙ at.declared));
   sessions = λ u s positions at. absurd (none-some at.slot (sym (finite.get-empty (slice_cmp nat_cmp) s) ∙ at.declared));
   sent = λ m was. absurd was;
 }

@@ -22,6 +22,7 @@ use Rattle.wef_eventing.specs.declared.subscriptions.Subscription.{Subscription}
 use Rattle.wef_keeper.specs.Calls.{Effect}
 use Rattle.wef_keeper.specs.Rows.{Rows}
 use Rattle.wef_keeper.specs.declared.keys.Change.{Change}
+use Rattle.wef_query.specs.Order.{IsInOrder}
 use Rattle.wef_query.specs.declared.QueryList.{QueryList}
 use Rattle.wef_replay.specs.Good.{is_among}
 use Rattle.wef_source_log.specs.Answers.{is_boot_full, is_full, next_text, start_effect}
@@ -35,7 +36,10 @@ use Rattle.wef_source.specs.Building.{built}
 use Rattle.wef_source.specs.Fits.{Fits}
 use Rattle.wef_source.specs.Laws.{AreWithin}
 use Rattle.wef_source.specs.Machine.{End, acknowledged_in, adopted, asked, delivery_of, is_idle, is_spent, is_unreachable, lost_in, most_drawn, next_id, refused_in, sent, start_of}
-use Rattle.wef_source.specs.Sessions.{acknowledged, is_named, sending, session_of, settled, waits_for, with_changed, without}
+use Rattle.wef_source.proofs.InOrder.{acknowledged_name, changed_in_order, none_in_order, sending_name, settled_name, without_in_order}
+use Rattle.wef_source.proofs.Placements.{with_offers_in_order}
+use Rattle.wef_source.specs.Sessions.{acknowledged, is_named, names_of, sending, session_of, settled, waits_for, with_changed, without}
+use Rattle.wef_source.specs.declared.sessions.Outstanding.{Outstanding}
 use Rattle.wef_source.specs.declared.sessions.Session.{Session}
 use Rattle.wef_machine.specs.Arming.{armed_after, committed, fate, fate_of, is_done, is_stopped}
 use Rattle.wef_machine.specs.Deliveries.{acknowledged_by, after_ack, after_fault, after_offers, end_at, refused_by}
@@ -164,7 +168,7 @@ started_kept lower state s slot kept closed room = by_fate (fate slot.place.arme
     by_fate : (how : Fate) → fate slot.place.armed (start_changes slot.place.rows slot.capacity) ≡ how → IsKeptSlot state s (slot_started slot how) × SlotGrows slot (slot_started slot how)
     by_fate Done e =
         let boot = done_boot lower state s slot kept e in (
-          with_store state s slot (slot_started slot Done).place kept store (record { boot = sym boot; drawn = omega arith; sessions = tt }, omega arith),
+          with_store state s slot (slot_started slot Done).place kept store (record { boot = sym boot; drawn = omega arith; in_order = none_in_order; sessions = tt }, omega arith),
           record {
             capacity = refl;
             histories = same_histories slot.histories;
@@ -231,21 +235,21 @@ pub running_is : (state : State) (s : List ℕ) (slot : Slot) (end : End) → Is
 running_is state s slot end kept runs = subst (λ (o : Option End). IsRunningKept state.collector.rows state.messages s slot o) runs kept.running
 
 source_with_end : (rows : Rows) (messages messages' : List Message) (s : List ℕ) (slot : Slot) (end : End) → IsSourceKept rows messages s slot → end.boot ≡ boot_of slot.place.rows →
-    0 < end.boot → end.drawn ≤ most_drawn → AllByRecursion (IsServed rows messages' s) end.sessions → IsSourceKept rows messages' s (running_with slot end)
-source_with_end rows messages messages' s slot end kept boot some drawn sessions = record {
+    0 < end.boot → end.drawn ≤ most_drawn → IsInOrder (names_of end.sessions) → AllByRecursion (IsServed rows messages' s) end.sessions → IsSourceKept rows messages' s (running_with slot end)
+source_with_end rows messages messages' s slot end kept boot some drawn in_order sessions = record {
   name = kept.name;
   capacity = kept.capacity;
   greatest = kept.greatest;
   window = kept.window;
   formed = kept.formed;
   events = kept.events;
-  running = (record { boot = boot; drawn = drawn; sessions = sessions }, some);
+  running = (record { boot = boot; drawn = drawn; in_order = in_order; sessions = sessions }, some);
 }
 
 -- an end of the same start, which drew no more
 kept_end : (state : State) (s : List ℕ) (slot : Slot) (end new : End) → IsKept state → slot_of state s ≡ Some slot → slot.place.memory ≡ Some end → new.boot ≡ end.boot →
-    new.drawn ≡ end.drawn → AllByRecursion (IsServed state.collector.rows state.messages s) new.sessions → IsKept (with_end state s slot new)
-kept_end state s slot end new kept there runs same_boot same_drawn sessions =
+    new.drawn ≡ end.drawn → IsInOrder (names_of new.sessions) → AllByRecursion (IsServed state.collector.rows state.messages s) new.sessions → IsKept (with_end state s slot new)
+kept_end state s slot end new kept there runs same_boot same_drawn in_order sessions =
     let source = kept.sources s slot there in
     let is = running_is state s slot end source runs in
     let bound = is.0.drawn in
@@ -256,7 +260,7 @@ kept_end state s slot end new kept there runs same_boot same_drawn sessions =
       histories = same_histories slot.histories;
       drawn = subst (λ (o : Option End). last_id slot o ≤ new.boot * 18446744073709551616 + new.drawn) (sym runs) (omega (arith, same_boot, same_drawn));
     })
-    (source_with_end state.collector.rows state.messages state.messages s slot new source (same_boot ∙ is.0.boot) (omega (arith, same_boot)) (omega (arith, same_drawn)) sessions)
+    (source_with_end state.collector.rows state.messages state.messages s slot new source (same_boot ∙ is.0.boot) (omega (arith, same_boot)) (omega (arith, same_drawn)) in_order sessions)
 
 -- ---- writing
 
@@ -323,7 +327,7 @@ written_slot state s slot end all rows stopped armed kept there runs left = by_s
           formed = left.formed;
           events = left.events;
           running = subst (IsRunningKept state.collector.rows state.messages s new) (sym runs)
-              (record { boot = is.0.boot ∙ sym left.boot; drawn = is.0.drawn; sessions = is.0.sessions }, is.1);
+              (record { boot = is.0.boot ∙ sym left.boot; drawn = is.0.drawn; in_order = is.0.in_order; sessions = is.0.sessions }, is.1);
         })
     by_stop true =
         let is = running_is state s slot end source runs in
@@ -409,7 +413,7 @@ asked_kept state s slot end kept there runs left =
     let new : Slot = running_with slot (asked end) in
     let m : Message = Ask s (id_of_value (next_id end)) in
     kept_draw state s slot new m (next_id end) kept there (draws slot end (asked end) runs refl refl)
-    (source_with_end state.collector.rows state.messages (state.messages ++ m ∷ []) s slot (asked end) source is.0.boot is.1 (below_most end.drawn left)
+    (source_with_end state.collector.rows state.messages (state.messages ++ m ∷ []) s slot (asked end) source is.0.boot is.1 (below_most end.drawn left) is.0.in_order
     (all_later state s m end.sessions is.0.sessions))
     (declared_is (finite.get (finite.insert state.sources s new) s) new (λ (o : Slot). WasDrawn o (Some (next_id end))) (slot_put state.sources s new) (omega arith))
     refl refl (fresh_id slot end runs)
@@ -482,13 +486,15 @@ sent_kept lower state s slot end session kept there runs left found =
     let delivery = delivery_of slot.place.rows end session in
     let m : Message = Events s delivery in
     let messages : List Message = state.messages ++ m ∷ [] in
+    let awaited : Outstanding = record { id = next_id end; to = (built slot.place.rows session).to } in
     let later = served_grows state.collector.rows state.collector.rows state.messages messages s session (same_rows state.collector.rows) (sent_before state.messages m) served in
-    let waits : IsServed state.collector.rows messages s (sending (record { id = next_id end; to = (built slot.place.rows session).to }) state.moment session) =
+    let waits : IsServed state.collector.rows messages s (sending awaited state.moment session) =
     record { terms = later.terms; positions = later.positions; outstanding = (delivery, sent_last state.messages m, refl, refl, refl) } in
     kept_draw state s slot new m (next_id end) kept there (draws slot end after runs refl refl)
     (source_with_end state.collector.rows state.messages messages s slot after source is.0.boot is.1 (below_most end.drawn left)
+    (changed_in_order (is_named session.name) (sending awaited state.moment) (sending_name awaited state.moment) end.sessions is.0.in_order)
     (all_first_changed (IsServed state.collector.rows state.messages s) (IsServed state.collector.rows messages s) (is_named session.name)
-    (sending (record { id = next_id end; to = (built slot.place.rows session).to }) state.moment) end.sessions session found
+    (sending awaited state.moment) end.sessions session found
     (λ x. served_grows state.collector.rows state.collector.rows state.messages messages s x (same_rows state.collector.rows) (sent_before state.messages m)) waits is.0.sessions))
     (declared_is (finite.get (finite.insert state.sources s new) s) new (λ (o : Slot). IsDelivery state.collector.rows s o delivery) (slot_put state.sources s new)
     (delivery_kept lower state s slot new end session kept there runs served refl refl (omega arith)))
@@ -514,6 +520,10 @@ poll_keeps lower state s u kept = at_source_keeps lower state s (poll_at s u) ke
 
 -- ---- what ends a session's waiting
 
+-- what a source remembers is in order
+end_in_order : (state : State) (s : List ℕ) (slot : Slot) (end : End) → IsKept state → slot_of state s ≡ Some slot → slot.place.memory ≡ Some end → IsInOrder (names_of end.sessions)
+end_in_order state s slot end kept there runs = (running_is state s slot end (kept.sources s slot there) runs).0.in_order
+
 settled_kept : (state : State) (s : List ℕ) (slot : Slot) (end : End) (test : Session → Bool) → IsKept state → slot_of state s ≡ Some slot → slot.place.memory ≡ Some end →
     AllByRecursion (IsServed state.collector.rows state.messages s) (with_changed test settled end.sessions)
 settled_kept state s slot end test kept there runs =
@@ -521,16 +531,22 @@ settled_kept state s slot end test kept there runs =
     (running_is state s slot end (kept.sources s slot there) runs).0.sessions
 
 same_end : (state : State) (s : List ℕ) (slot : Slot) (end : End) → IsKept state → slot_of state s ≡ Some slot → slot.place.memory ≡ Some end → IsKept (with_end state s slot end)
-same_end state s slot end kept there runs = kept_end state s slot end end kept there runs refl refl (running_is state s slot end (kept.sources s slot there) runs).0.sessions
+same_end state s slot end kept there runs =
+    let is = running_is state s slot end (kept.sources s slot there) runs in
+    kept_end state s slot end end kept there runs refl refl is.0.in_order is.0.sessions
 
 pub lost_keeps : Lower → (state : State) (s u : List ℕ) → IsKept state → IsKept (lost_step state s u)
 lost_keeps lower state s u kept = at_source_keeps lower state s (lost_at s u) kept (λ now slot end kept_now opened there runs.
-    kept_end now s slot end (lost_in end u) kept_now there runs refl refl (settled_kept now s slot end (is_named u) kept_now there runs))
+    kept_end now s slot end (lost_in end u) kept_now there runs refl refl
+    (changed_in_order (is_named u) settled settled_name end.sessions (end_in_order now s slot end kept_now there runs)) (settled_kept now s slot end (is_named u) kept_now there runs))
 
 refused_kept : (state : State) (s : List ℕ) (slot : Slot) (end : End) (id : ℕ) (fault : FaultName) → IsKept state → slot_of state s ≡ Some slot → slot.place.memory ≡ Some end →
     IsKept (with_end state s slot (refused_in end id fault))
 refused_kept state s slot end id fault kept there runs =
     kept_end state s slot end (refused_in end id fault) kept there runs refl refl
+    (cond_both (is_unreachable fault) (without (waits_for id) end.sessions) (with_changed (waits_for id) settled end.sessions) (λ (ss : List Session). IsInOrder (names_of ss))
+    (λ gone. without_in_order (waits_for id) end.sessions (end_in_order state s slot end kept there runs))
+    (λ stays. changed_in_order (waits_for id) settled settled_name end.sessions (end_in_order state s slot end kept there runs)))
     (cond_both (is_unreachable fault) (without (waits_for id) end.sessions) (with_changed (waits_for id) settled end.sessions) (AllByRecursion (IsServed state.collector.rows state.messages s))
     (λ gone. all_without (IsServed state.collector.rows state.messages s) (waits_for id) end.sessions (running_is state s slot end (kept.sources s slot there) runs).0.sessions)
     (λ stays. settled_kept state s slot end (waits_for id) kept there runs))
@@ -559,6 +575,7 @@ ack_keeps lower state s relates kept is = at_source_keeps lower state s (end_at 
     by_id now slot end kept_now is_now there runs None at = same_end now s slot end kept_now there runs
     by_id now slot end kept_now is_now there runs (Some id) at =
         kept_end now s slot end (acknowledged_in end id) kept_now there runs refl refl
+        (changed_in_order (waits_for id) acknowledged acknowledged_name end.sessions (end_in_order now s slot end kept_now there runs))
         (all_changed (IsServed now.collector.rows now.messages s) (waits_for id) acknowledged
         (λ session waits. acknowledged_served now.collector.rows now.messages s relates id session (are_one now.messages kept_now.requests) is_now at waits) end.sessions
         (running_is now s slot end (kept_now.sources s slot there) runs).0.sessions)
@@ -568,7 +585,7 @@ pub offers_keep : Lower → (state : State) (s : List ℕ) (relates : MessageId)
 offers_keep lower state s relates given kept are = at_source_keeps lower state s (end_at s (λ end. after_offers end relates given state.moment)) kept (λ now slot end kept_now opened there runs.
     let are_now = subst (λ (rows : Rows). AllByRecursion (λ (offer : Offer). IsOffered rows s offer.subscribe) given) (sym opened.rows) are in
     cond_both (ids_agree end.ask relates.value) (adopted end given state.moment) end (λ (after : End). IsKept (with_end now s slot after))
-    (λ asked_for. kept_end now s slot end (adopted end given state.moment) kept_now there runs refl refl (all_offered now.collector.rows now.messages s state.moment [] given are_now tt))
+    (λ asked_for. kept_end now s slot end (adopted end given state.moment) kept_now there runs refl refl (with_offers_in_order state.moment [] given none_in_order) (all_offered now.collector.rows now.messages s state.moment [] given are_now tt))
     (λ other. same_end now s slot end kept_now there runs))
 
 -- ---- a crash, and what is armed
@@ -609,7 +626,7 @@ armed_kept state s slot armed kept =
   where
     by_memory : (memory : Option End) → IsRunningKept state.collector.rows state.messages s slot memory → IsRunningKept state.collector.rows state.messages s (slot_armed slot armed) memory
     by_memory None runs = tt
-    by_memory (Some end) runs = (record { boot = runs.0.boot; drawn = runs.0.drawn; sessions = runs.0.sessions }, runs.1)
+    by_memory (Some end) runs = (record { boot = runs.0.boot; drawn = runs.0.drawn; in_order = runs.0.in_order; sessions = runs.0.sessions }, runs.1)
 
 pub arm_keeps : (state : State) (s : List ℕ) (armed : Armed) → IsKept state → IsKept (at_declared state s (λ place. armed_with place armed) (slot_of state s))
 arm_keeps state s armed kept = by_slot (slot_of state s) refl

@@ -18,6 +18,7 @@ use Rattle.wef_eventing.specs.declared.subscriptions.Subscription.{Subscription}
 use Rattle.wef_keeper.specs.Rows.{Rows}
 use Rattle.wef_keeper.specs.declared.keys.Cell.{Cell}
 use Rattle.wef_keeper.specs.declared.keys.Key.{Key}
+use Rattle.wef_query.specs.Order.{IsInOrder}
 use Rattle.wef_query.specs.declared.QueryList.{QueryList}
 use Rattle.wef_replay.specs.Good.{is_among, is_source, is_subscription}
 use Rattle.wef_source_log.specs.Histories.{AreEvents, history}
@@ -25,6 +26,7 @@ use Rattle.wef_source_log.specs.Forms as log
 use Rattle.wef_source_log.specs.Windows.{IsWindow, boot_of}
 use Rattle.wef_source.specs.Machine.{End, most_drawn}
 use Rattle.wef_source.specs.Fits.{Fits}
+use Rattle.wef_source.specs.Sessions.{names_of}
 use Rattle.wef_source.specs.declared.messages.Delivery.{Delivery}
 use Rattle.wef_source.specs.declared.sessions.Outstanding.{Outstanding}
 use Rattle.wef_source.specs.declared.sessions.Session.{Session}
@@ -78,10 +80,12 @@ pub record IsServed (rows : Rows) (messages : List Message) (s : List ℕ) (sess
   pub positions : IsBehind rows session.name s session.positions
   pub outstanding : WaitsFor messages s session.notify_to session.outstanding
 
--- What a source remembers while it runs: its boot number is the kept one, and it serves subscriptions.
+-- What a source remembers while it runs: its boot number is the kept one, and it serves subscriptions, in the order of their
+-- names, each once.
 pub record IsEndKept (rows : Rows) (messages : List Message) (s : List ℕ) (slot : Slot) (end : End) : Type 0 where
   pub boot : end.boot ≡ boot_of slot.place.rows
   pub drawn : end.drawn ≤ most_drawn
+  pub in_order : IsInOrder (names_of end.sessions)
   pub sessions : AllByRecursion (IsServed rows messages s) end.sessions
 
 abbrev pub IsRunningKept : Rows → List Message → List ℕ → Slot → Option End → Type 0

@@ -2,7 +2,7 @@
 -- alone, and sends batches that lie above where it stands. It is said of the lines that were done, the last first, from
 -- a world in which nothing has happened.
 use Rattle.std.specs.Prelude.{◌≡◌, ℕ, ◌<◌, true, List, [], ◌∷◌, ◌++◌, Option, Some, None, ◌⊎◌, Contains}
-use Rattle.std.specs.List.{AllByRecursion}
+use Rattle.std.specs.List.{AllByRecursion, filter}
 use Rattle.wef_batch.specs.declared.items.Batch.{Batch}
 use Rattle.wef_bookmark.specs.Order.{Marks, joined, number_at}
 use Rattle.wef_collector_rows.specs.Bookmarks.{bookmark_of}
@@ -13,6 +13,7 @@ use Rattle.wef_replay.specs.declared.lines.Line.{Line}
 use Rattle.wef_replay.specs.declared.lines.Line.TheVariants.{Deliver, Back}
 use Rattle.wef_source.specs.Fits.{event_at, ranges_in}
 use Rattle.wef_source.specs.Machine.{End}
+use Rattle.wef_source.specs.Sessions.{is_named}
 use Rattle.wef_source.specs.Wanted.{in_ranges}
 use Rattle.wef_source.specs.declared.messages.Delivery.{Delivery}
 use Rattle.wef_source.specs.declared.sessions.Session.{Session}
@@ -58,6 +59,10 @@ pub record StandsAt (state : State) (u s : List ℕ) (positions : Marks) : Type 
   pub is_one : Contains end.sessions session
   pub name : session.name ≡ u
   pub is_there : session.positions ≡ positions
+
+-- no other session of the source has its name
+abbrev pub IsAlone : {state : State} {u s : List ℕ} {positions : Marks} → StandsAt state u s positions → Type 0
+IsAlone at = filter (is_named at.session.name) at.end.sessions ≡ at.session ∷ []
 
 -- an offer to a source begins at the bookmark that the collector's rows have in a state
 abbrev pub BeginsAt : State → List ℕ → Offer → Type 0
@@ -105,12 +110,13 @@ pub record IsAbove (b : ℕ) (c : List ℕ) (batch : Batch) : Type 0 where
   pub events : (n : ℕ) (text : List ℕ) → event_at c n batch.items ≡ Some text → b < n
   pub ranges : (n : ℕ) → in_ranges (ranges_in c batch.items) n ≡ true → b < n
 
--- A delivery of a source lies above where the session of its subscription stood as it was sent, which had risen so.
+-- A delivery of a source lies above where the one session of its subscription stood as it was sent, which had risen so.
 pub record StandsAbove (earlier : List Line) (s : List ℕ) (delivery : Delivery) : Type 0 where
   pub u : List ℕ
   pub to_subscription : subscription_in delivery.notify_to ≡ Some u
   pub positions : Marks
   pub stood : StandsAt (state_after earlier) u s positions
+  pub alone : IsAlone stood
   pub risen : HasRisen earlier u s positions
   pub above : (c : List ℕ) → IsAbove (number_at positions c) c delivery.batch
 
@@ -128,8 +134,9 @@ pub record IsMessageRisen (past : List Line) (m : Message) : Type 0 where
   pub was_sent : WasSentAt past m earlier
   pub is : IsSentRisen earlier m
 
--- It is so of all sessions and all messages that there are once lines are done.
+-- It is so of all sessions and all messages that there are once lines are done, and no source has two sessions of one name.
 pub record AreAllRisen (past : List Line) : Type 0 where
+  pub alone : (u s : List ℕ) (positions : Marks) (at : StandsAt (state_after past) u s positions) → IsAlone at
   pub sessions : (u s : List ℕ) (positions : Marks) → StandsAt (state_after past) u s positions → HasRisen past u s positions
   pub sent : (m : Message) → WasSent (state_after past).messages m → IsMessageRisen past m
 
@@ -138,8 +145,8 @@ abbrev pub pasts_from : List Line → List Line → List (List Line)
 pasts_from past [] = past ∷ []
 pasts_from past (line ∷ lines) = past ∷ pasts_from (line ∷ past) lines
 
--- In every state of a good schedule each session stands where a line began it, at the bookmark that was kept when its
--- offer was sent, or where acknowledged batches have raised it since; and each batch that was sent lies above where its
--- session stood as it was sent.
+-- In every state of a good schedule a source has one session of a name at most, and each session stands where a line began
+-- it, at the bookmark that was kept when its offer was sent, or where acknowledged batches have raised it since; and each
+-- batch that was sent lies above where its session stood as it was sent.
 abbrev pub SessionsRise : Type 0
 SessionsRise = (lines : List Line) → AreAdmitted start lines → AllByRecursion AreAllRisen (pasts_from [] lines)

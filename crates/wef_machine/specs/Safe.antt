@@ -5,6 +5,7 @@ use Rattle.std.specs.Prelude.{◌≡◌, ℕ, ◌+◌, ◌≤◌, true, false, L
 use Rattle.std.specs.FinMap as finite
 use Rattle.std.specs.List.{filter_map}
 use Rattle.std.specs.Option.{option_map}
+use Rattle.wef_collector.specs.Laws.{IsReached}
 use Rattle.wef_batch.specs.Reach.{reach}
 use Rattle.wef_batch.specs.WellFormed.{is_in}
 use Rattle.wef_batch.specs.declared.items.Batch.{Batch}
@@ -97,10 +98,6 @@ IsUntouched rows u s c = (key : Key) → IsPairKey u s c key → finite.get rows
 abbrev pub WasSent : List Message → Message → Type 0
 WasSent [] m = ⊥
 WasSent (sent ∷ messages) m = (sent ≡ m) ⊎ WasSent messages m
-
--- each channel that a subscription reads is kept of a source at least as far as a batch reads it
-abbrev pub IsReached : Rows → List ℕ → List ℕ → Subscription → Batch → Type 0
-IsReached rows u s about batch = (c : List ℕ) (t : ℕ) → is_in (channels_read about) c ≡ true → reach c batch ≡ Some t → t ≤ bookmark_at rows u s c
 
 -- An acknowledgement of an id is for a delivery that its source sent, to a subscription that is there, live or ended, and
 -- all that the batch reads of the subscription's channels is kept.
