@@ -53,7 +53,7 @@ module _ (u : List ℕ) (moment : ℕ) (fault : FrontFault) (before now : Runnin
   batch_by (Ok e) same forwards reads = absurd (unlike e fault same)
   batch_by (Err fronts.NoMemory) same forwards reads = absurd (told_so fronts.NoMemory refl same)
   batch_by (Err fronts.LinkFailed) same forwards reads = absurd (told_so fronts.LinkFailed refl same)
-  batch_by (Err (fronts.Source faults.NoMemory)) same forwards reads = absurd (told_so (fronts.Source faults.NoMemory) refl same)
+  batch_by (Err (fronts.Source faults.NoMemory)) same forwards reads = absurd forwards
   batch_by (Err (fronts.Source faults.Failed)) same forwards reads = reads.1
   batch_by (Err (fronts.Source faults.Full)) same forwards reads = absurd forwards.0
   batch_by (Err (fronts.Source faults.TooLong)) same forwards reads = absurd forwards.0
@@ -100,7 +100,13 @@ never_asked faults.Spent end refuses is = not_failed ends.Spent refl is
 ask_stored : (clock : Option ℕ) (address s : List ℕ) (fault : FrontFault) (before now : Running) → IsAsked clock address s (Err fault) before now → ends.StoreFailed ≡ front_ending fault → ⊥
 ask_stored clock address s fronts.NoMemory before now asked is = not_failed ends.NoMemory refl is
 ask_stored clock address s fronts.LinkFailed before now asked is = not_failed ends.LinkFailed refl is
-ask_stored clock address s (fronts.Source fault) before now asked is = never_asked fault before.memory asked.asked.0 is
+ask_stored clock address s (fronts.Source faults.NoMemory) before now asked is = asked.asked
+ask_stored clock address s (fronts.Source faults.Failed) before now asked is = never_asked faults.Failed before.memory asked.asked.0 is
+ask_stored clock address s (fronts.Source faults.Full) before now asked is = never_asked faults.Full before.memory asked.asked.0 is
+ask_stored clock address s (fronts.Source faults.TooLong) before now asked is = never_asked faults.TooLong before.memory asked.asked.0 is
+ask_stored clock address s (fronts.Source faults.NotAsked) before now asked is = never_asked faults.NotAsked before.memory asked.asked.0 is
+ask_stored clock address s (fronts.Source faults.UnknownSubscription) before now asked is = never_asked faults.UnknownSubscription before.memory asked.asked.0 is
+ask_stored clock address s (fronts.Source faults.Spent) before now asked is = never_asked faults.Spent before.memory asked.asked.0 is
 
 from_caused : (clock : Option ℕ) (deliveries : ℕ) (out : Told) (before now : Running) → SendsFrom clock deliveries ends.StoreFailed out before now → Caused before.store now.store
 from_caused clock deliveries out before now (inl (untold, same)) = absurd untold

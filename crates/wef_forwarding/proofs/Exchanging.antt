@@ -1,5 +1,5 @@
 -- One exchange, step by step: no connection, a part of the request, or the request and what came back.
-use Rattle.std.proofs.Common.{◌≡◌, ℕ, List, length, refl, sym, subst, ◌∙◌, inl, inr}
+use Rattle.std.proofs.Common.{◌≡◌, ◌≤◌, ℕ, List, length, refl, sym, subst, ◌∙◌, inl, inr, arith}
 use Rattle.std.proofs.Math.Seq.{take-length}
 use Rattle.std.specs.Prelude.{Option, Some, None, Result, Ok, Err, IfErr, IfOk, IfSome, OnOk}
 use Rattle.wef_base.specs.Counts.{Rose}
@@ -11,7 +11,7 @@ use Rattle.wef_http_heads.specs.declared.ends.HttpEnd.TheVariants as end
 use Rattle.wef_http_writing.specs.Sending.{IsNotSent, Sends, SendsPart}
 use Rattle.wef_ports.specs.Telling.{Told}
 use Rattle.wef_source.specs.declared.messages.Delivery.{Delivery}
-use Rattle.wef_forwarding.specs.Exchanges.{Brings, BrokeOff, Exchanged, IsCause, Replied, WasMade, brought_without, connected, fault_of, request_bytes}
+use Rattle.wef_forwarding.specs.Exchanges.{Brings, BrokeOff, Exchanged, IsCause, Replied, WasMade, brought_without, connected, fault_of, request_bytes, request_of}
 use Rattle.wef_forwarding.specs.declared.exchanges.FrontFault.{FrontFault}
 use Rattle.wef_forwarding.specs.declared.exchanges.FrontFault.TheVariants.{NoMemory, LinkFailed, Source}
 use Rattle.wef_forwarding.specs.declared.exchanges.Request.{Request}
@@ -91,14 +91,21 @@ unsent_cause end.Cut before now cause = absurd cause
 -- ---- the link
 
 -- for want of memory the link isn't used
+pub unbegun : (r : Request) (now : Told) → BrokeOff r NoMemory now now
+unbegun r now = record { broken = inl (refl, refl, refl, refl, refl, refl, refl); cause = tt; later = omega arith }
+
 pub not_begun : (d : Delivery) (now : Told) → Replied d (Err NoMemory) now now
-not_begun d now = (inl (refl, refl, refl, refl, refl, refl, refl), tt)
+not_begun d now = unbegun (request_of d) now
 
 -- there is no connection
-pub not_connected : (r : Request) (before now : Told) → OnlyFails before now → Rose before.faults now.faults → Exchanged r (Err LinkFailed) before now
-not_connected r before now same rose = (inl same, rose)
+pub not_connected : (r : Request) (before now : Told) → OnlyFails before now → Rose before.faults now.faults → before.faults ≤ now.faults → Exchanged r (Err LinkFailed) before now
+not_connected r before now same rose later = record { broken = inl same; cause = rose; later = later }
 
-module _ (r : Request) (before opened now : Told) (opened_is : opened ≡ connected r before) (around : now.around ≡ opened.around) where
+module _ (r : Request) (before opened now : Told) (opened_is : opened ≡ connected r before) (around : now.around ≡ opened.around) (later : opened.faults ≤ now.faults) where
+  -- connecting counts no fault
+  since : before.faults ≤ now.faults
+  since = subst (λ (m : Told). m.faults ≤ now.faults) opened_is later
+
   cause_is : (fault : FrontFault) → IsCause fault opened now → IsCause fault before now
   cause_is NoMemory cause = tt
   cause_is LinkFailed cause = subst (λ (m : Told). Rose m.faults now.faults) opened_is cause
@@ -106,10 +113,11 @@ module _ (r : Request) (before opened now : Told) (opened_is : opened ≡ connec
 
   -- it was broken off
   broken_off : (fault : FrontFault) → SendsPart opened now (request_bytes r) → IsCause fault opened now → BrokeOff r fault before now
-  broken_off fault part cause = (
-    inr (subst (λ (m : Told). SendsPart m now (request_bytes r)) opened_is part, around ∙ (λ i. (opened_is i).around)),
-    cause_is fault cause,
-  )
+  broken_off fault part cause = record {
+    broken = inr (subst (λ (m : Told). SendsPart m now (request_bytes r)) opened_is part, around ∙ (λ i. (opened_is i).around));
+    cause = cause_is fault cause;
+    later = since;
+  }
 
   -- it was made
   was_made : (envelope : Option (List ℕ)) → Sends opened now (request_bytes r) → IfSome opened.coming (λ bytes. Brings bytes envelope) → WasMade r envelope before now
@@ -117,6 +125,7 @@ module _ (r : Request) (before opened now : Told) (opened_is : opened ≡ connec
     sent = subst (λ (m : Told). Sends m now (request_bytes r)) opened_is sent;
     around = around ∙ (λ i. (opened_is i).around);
     brought = subst (λ (m : Told). IfSome m.coming (λ bytes. Brings bytes envelope)) opened_is brought;
+    later = since;
   }
 
   pub ended : (result : Result (Option (List ℕ)) FrontFault) → OnOk result (Sends opened now (request_bytes r)) → SendsPart opened now (request_bytes r)
@@ -126,4 +135,8 @@ module _ (r : Request) (before opened now : Told) (opened_is : opened ≡ connec
 
 -- of what was exchanged nothing is known for want of memory
 pub unheard : (r : Request) (envelope : Option (List ℕ)) (before now : Told) → WasMade r envelope before now → BrokeOff r NoMemory before now
-unheard r envelope before now made = (inr ((length (request_bytes r), subst (Sends (connected r before) now) (sym (take-length (request_bytes r))) made.sent), made.around), tt)
+unheard r envelope before now made = record {
+  broken = inr ((length (request_bytes r), subst (Sends (connected r before) now) (sym (take-length (request_bytes r))) made.sent), made.around);
+  cause = tt;
+  later = made.later;
+}

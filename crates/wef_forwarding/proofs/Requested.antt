@@ -1,18 +1,20 @@
 -- What was exchanged for a request, which a delivery or an ask makes.
-use Rattle.std.proofs.Common.{◌≡◌, ℕ, List, refl, subst, inl}
+use Rattle.std.proofs.Common.{◌≡◌, ℕ, List, refl, subst, inl, inr}
 use Rattle.std.specs.Prelude.{Option, Result, Ok, Err}
 use Rattle.wef_ids.specs.declared.MessageId.{MessageId}
 use Rattle.wef_ports.specs.Telling.{Told}
-use Rattle.wef_source.specs.Answers.{Asks}
+use Rattle.wef_source.specs.Answers.{Asks, RefusesAsk}
 use Rattle.wef_source.specs.Machine.{End}
+use Rattle.wef_source.specs.declared.faults.SourceFault.{SourceFault}
+use Rattle.wef_source.specs.declared.faults.SourceFault.TheVariants as faults
 use Rattle.wef_source.specs.declared.messages.Delivery.{Delivery}
 use Rattle.wef_source.specs.declared.messages.Reply.{Reply}
 use Rattle.wef_forwarding.specs.Asking.{EndsAsk, Enumerates, HearsEnvelope, enumerate_request}
-use Rattle.wef_forwarding.specs.Exchanges.{BrokeOff, Replied, WasMade, reply_by, request_of}
+use Rattle.wef_forwarding.specs.Exchanges.{BrokeOff, Replied, WasMade, refused_by, reply_by, request_of}
 use Rattle.wef_forwarding.specs.declared.exchanges.FrontFault.{FrontFault}
 use Rattle.wef_forwarding.specs.declared.exchanges.FrontFault.TheVariants.{NoMemory, LinkFailed, Source}
 use Rattle.wef_forwarding.specs.declared.exchanges.Request.{Request}
-use Rattle.wef_forwarding.proofs.Exchanging.{unheard}
+use Rattle.wef_forwarding.proofs.Exchanging.{unbegun, unheard}
 
 -- ---- a delivery
 
@@ -30,7 +32,7 @@ module _ (d : Delivery) (r : Request) (before after : Told) (is : r ≡ request_
 
 -- for want of memory the link isn't used
 pub not_sent : (r : Request) (now : ℕ) (end : End) (link : Told) → EndsAsk r now end end link link (Err NoMemory)
-not_sent r now end link = ((inl (refl, refl, refl, refl, refl, refl, refl), tt), refl)
+not_sent r now end link = (unbegun r link, refl)
 
 module _ (r r' : Request) (now : ℕ) (end end' : End) (before after : Told) (is : r ≡ r') where
   pub heard : (envelope : Option (List ℕ)) (count : Option ℕ) → WasMade r envelope before after → HearsEnvelope envelope now end end' count → EndsAsk r' now end end' before after (Ok count)
@@ -49,6 +51,17 @@ asked host s s' end mid end' now before after id result same asks ends = by resu
   where
     by : (r : Result (Option ℕ) FrontFault) → EndsAsk (enumerate_request host s id) now mid end' before after r → Enumerates host s end end' now before after r
     by (Ok count) ends = record { id = id; asking = mid; asks = asks; ends = ends }
-    by (Err NoMemory) ends = record { id = id; asking = mid; asks = asks; ends = ends }
+    by (Err NoMemory) ends = inr (record { id = id; asking = mid; asks = asks; ends = ends })
     by (Err LinkFailed) ends = record { id = id; asking = mid; asks = asks; ends = ends }
-    by (Err (Source fault)) ends = absurd ends.0.1
+    by (Err (Source refusal)) ends = absurd ends.0.cause
+
+-- a source that refused to ask, as asking answers it
+pub not_asked : (host s : List ℕ) (end end' : End) (now : ℕ) (before after : Told) (refusal : SourceFault) → RefusesAsk refusal end → end' ≡ end → after ≡ before
+    → Enumerates host s end end' now before after (Err (refused_by refusal))
+not_asked host s end end' now before after faults.NoMemory refuses same idle = inl (refuses, same, idle)
+not_asked host s end end' now before after faults.Failed refuses same idle = (refuses, same, idle)
+not_asked host s end end' now before after faults.Full refuses same idle = (refuses, same, idle)
+not_asked host s end end' now before after faults.TooLong refuses same idle = (refuses, same, idle)
+not_asked host s end end' now before after faults.NotAsked refuses same idle = (refuses, same, idle)
+not_asked host s end end' now before after faults.UnknownSubscription refuses same idle = (refuses, same, idle)
+not_asked host s end end' now before after faults.Spent refuses same idle = (refuses, same, idle)

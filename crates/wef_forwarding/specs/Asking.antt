@@ -1,8 +1,8 @@
 -- What asking a collector for subscriptions does: the ask, the exchange, and what the source hears in what comes back.
-use Rattle.std.specs.Prelude.{◌≡◌, ℕ, List, codes, Option, Some, None, Result, Ok, Err}
+use Rattle.std.specs.Prelude.{◌≡◌, ◌⊎◌, ℕ, List, codes, Option, Some, None, Result, Ok, Err}
 use Rattle.wef_forwarding.specs.Exchanges.{BrokeOff, WasMade}
 use Rattle.wef_forwarding.specs.declared.exchanges.FrontFault.{FrontFault}
-use Rattle.wef_forwarding.specs.declared.exchanges.FrontFault.TheVariants.{Source}
+use Rattle.wef_forwarding.specs.declared.exchanges.FrontFault.TheVariants.{NoMemory, Source}
 use Rattle.wef_forwarding.specs.declared.exchanges.Request.{Request}
 use Rattle.wef_front.specs.HeardReplies.{HearsTold, offers_told, told}
 use Rattle.wef_front.specs.Sending.{enumerate_bytes}
@@ -13,6 +13,7 @@ use Rattle.wef_ports.specs.Telling.{Told}
 use Rattle.wef_source.specs.Answers.{Asks, RefusesAsk}
 use Rattle.wef_source.specs.Machine.{End}
 use Rattle.wef_source.specs.declared.faults.SourceFault.{SourceFault}
+use Rattle.wef_source.specs.declared.faults.SourceFault.TheVariants as faults
 
 -- the path at which a collector offers subscriptions
 unfoldable pub manager_path : List ℕ
@@ -52,7 +53,10 @@ pub record AsksOnce (host s : List ℕ) (end end' : End) (now : ℕ) (before aft
 abbrev pub RefusesToAsk : SourceFault → End → End → Told → Told → Type 0
 RefusesToAsk fault end end' before after = RefusesAsk fault end × (end' ≡ end) × (after ≡ before)
 
--- What asking the collector at a host does to a source of a name and a link, by its answer.
+-- What asking the collector at a host does to a source of a name and a link, by its answer. Where memory was wanting, the source
+-- refused to ask, or it has asked.
 abbrev pub Enumerates : List ℕ → List ℕ → End → End → ℕ → Told → Told → Result (Option ℕ) FrontFault → Type 0
-Enumerates host s end end' now before after (Err (Source fault)) = RefusesToAsk fault end end' before after
+Enumerates host s end end' now before after (Err (Source faults.NoMemory)) = ⊥
+Enumerates host s end end' now before after (Err (Source refusal)) = RefusesToAsk refusal end end' before after
+Enumerates host s end end' now before after (Err NoMemory) = RefusesToAsk faults.NoMemory end end' before after ⊎ AsksOnce host s end end' now before after (Err NoMemory)
 Enumerates host s end end' now before after result = AsksOnce host s end end' now before after result

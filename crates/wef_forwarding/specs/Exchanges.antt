@@ -1,5 +1,5 @@
 -- One exchange over a link: a request is sent in a connection of its own, and an envelope may come back in it.
-use Rattle.std.specs.Prelude.{◌≡◌, ℕ, ◌==◌, Bool, ◌||◌, ◌⊎◌, List, Option, Some, None, Result, Ok, Err, IfSome, if◌then◌else◌}
+use Rattle.std.specs.Prelude.{◌≡◌, ℕ, ◌≤◌, ◌==◌, Bool, ◌||◌, ◌⊎◌, List, Option, Some, None, Result, Ok, Err, IfSome, if◌then◌else◌}
 use Rattle.wef_base.specs.Counts.{Rose}
 use Rattle.wef_connections.specs.Opening.{OnlyFails, next_connection, with_address}
 use Rattle.wef_forwarding.specs.Addresses.{authority_of, path_of}
@@ -19,6 +19,8 @@ use Rattle.wef_http_writing.specs.Sending.{Sends, SendsPart}
 use Rattle.wef_ids.specs.Ids.{ids_agree}
 use Rattle.wef_ids.specs.declared.MessageId.{MessageId}
 use Rattle.wef_ports.specs.Telling.{Told}
+use Rattle.wef_source.specs.declared.faults.SourceFault.{SourceFault}
+use Rattle.wef_source.specs.declared.faults.SourceFault.TheVariants as faults
 use Rattle.wef_source.specs.declared.messages.Delivery.{Delivery}
 use Rattle.wef_source.specs.declared.messages.Reply.{Reply}
 
@@ -44,6 +46,11 @@ brought_without end.NoMemory = Err NoMemory
 brought_without end.ReadFault = Err LinkFailed
 brought_without _ = Ok None
 
+-- why a source that refuses has nothing to exchange: want of memory is the exchange's too
+abbrev pub refused_by : SourceFault → FrontFault
+refused_by faults.NoMemory = NoMemory
+refused_by refusal = Source refusal
+
 -- why a request isn't sent
 abbrev pub fault_of : HttpEnd → FrontFault
 fault_of end.NoMemory = NoMemory
@@ -65,6 +72,8 @@ pub record WasMade (r : Request) (envelope : Option (List ℕ)) (before now : To
   pub sent : Sends (connected r before) now (request_bytes r)
   pub around : now.around ≡ (connected r before).around
   pub brought : IfSome (connected r before).coming (λ bytes. Brings bytes envelope)
+  -- the count of faults doesn't fall
+  pub later : before.faults ≤ now.faults
 
 -- There was no connection, or no more than a part of the request was sent in one, or all of it without a whole response.
 abbrev pub WasBroken : Request → Told → Told → Type 0
@@ -77,8 +86,11 @@ IsCause LinkFailed before now = Rose before.faults now.faults
 IsCause (Source fault) before now = ⊥
 
 -- An exchange was broken off, for this reason.
-abbrev pub BrokeOff : Request → FrontFault → Told → Told → Type 0
-BrokeOff r fault before now = WasBroken r before now × IsCause fault before now
+pub record BrokeOff (r : Request) (fault : FrontFault) (before now : Told) : Type 0 where
+  pub broken : WasBroken r before now
+  pub cause : IsCause fault before now
+  -- the count of faults doesn't fall
+  pub later : before.faults ≤ now.faults
 
 -- An exchange was made, or was broken off.
 abbrev pub Exchanged : Request → Result (Option (List ℕ)) FrontFault → Told → Told → Type 0

@@ -1,5 +1,5 @@
 -- What forwarding a batch does: the poll, the exchange, and what the source makes of the reply.
-use Rattle.std.specs.Prelude.{◌≡◌, ℕ, true, List, length, min, is_some, Option, Some, None, Result, Ok, Err, IfSome}
+use Rattle.std.specs.Prelude.{◌≡◌, ◌⊎◌, ℕ, true, List, length, min, is_some, Option, Some, None, Result, Ok, Err, IfSome}
 use Rattle.wef_forwarding.specs.Exchanges.{Replied}
 use Rattle.wef_forwarding.specs.declared.exchanges.FrontFault.{FrontFault}
 use Rattle.wef_forwarding.specs.declared.exchanges.FrontFault.TheVariants.{NoMemory, LinkFailed, Source}
@@ -12,6 +12,7 @@ use Rattle.wef_source.specs.Answers.{MayRefusePoll, Polls, RefusesPoll, Sends, w
 use Rattle.wef_source.specs.Machine.{End, acknowledged_in, lost_in, refused_in}
 use Rattle.wef_source.specs.Sessions.{session_of}
 use Rattle.wef_source.specs.declared.faults.SourceFault.{SourceFault}
+use Rattle.wef_source.specs.declared.faults.SourceFault.TheVariants as faults
 use Rattle.wef_source.specs.declared.messages.Delivery.{Delivery}
 use Rattle.wef_source.specs.declared.messages.Poll.{Poll}
 use Rattle.wef_source.specs.declared.messages.Poll.TheVariants as polls
@@ -77,10 +78,14 @@ abbrev pub RefusesToForward : SourceFault → Option Rows → End → End → Li
 RefusesToForward fault rows end end' u before after =
     MayRefusePoll fault end u × IfSome rows (λ rows. RefusesPoll fault rows end u) × (end' ≡ end) × (after ≡ before)
 
--- What forwarding does to a source and a link, by its answer.
+-- What forwarding does to a source and a link, by its answer. Where memory was wanting, the poll was refused, or its delivery was
+-- exchanged.
 abbrev pub Forwards : Option Rows → End → End → List ℕ → ℕ → Told → Told → Result Exchange FrontFault → Type 0
 Forwards rows end end' u now before after (Ok Nothing) = Idles rows end end' u now before after
-Forwards rows end end' u now before after (Err (Source fault)) = RefusesToForward fault rows end end' u before after
+Forwards rows end end' u now before after (Err (Source faults.NoMemory)) = ⊥
+Forwards rows end end' u now before after (Err (Source refusal)) = RefusesToForward refusal rows end end' u before after
+Forwards rows end end' u now before after (Err NoMemory) =
+    RefusesToForward faults.NoMemory rows end end' u before after ⊎ Delivers rows end end' u now before after (Err NoMemory)
 Forwards rows end end' u now before after result = Delivers rows end end' u now before after result
 
 -- ---- what is awaited

@@ -19,7 +19,7 @@ use wef_source::SourceEnd;
 /// a moment what comes back. Answers how many sessions there are, where offers were adopted. None
 /// where what came back is a fault, offers for another ask, or no reply that a source knows, in a
 /// response with another status than 200, 400 and 500, or no response. The store isn't used.
-#[tactic(auto, using(wef_ids::proofs::PlainIds::id_text_good, crate::proofs::Requested::asked))]
+#[tactic(auto, using(wef_ids::proofs::PlainIds::id_text_good, crate::proofs::Requested::asked, crate::proofs::Requested::not_asked))]
 pub fn ask_once<L: Link, K: Keeper>(
     alloc: Global,
     link: &mut L,
@@ -35,7 +35,7 @@ pub fn ask_once<L: Link, K: Keeper>(
 {
     match source.ask() {
         Ok(id) => ask_under(alloc, link, source, host, &id, now),
-        Err(fault) => Err(FrontFault::Source(fault)),
+        Err(refusal) => Err(FrontFault::from(refusal)),
     }
 }
 

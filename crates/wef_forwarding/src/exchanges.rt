@@ -17,13 +17,13 @@ use wef_source::SourceFault;
 /// Why an exchange isn't made, or nobody knows what became of it.
 #[derive(Clone, Copy, Debug, PartialEq, Eq, Error)]
 pub enum FrontFault {
-    /// Memory was wanting once the source had drawn an id.
+    /// Memory was wanting: for what the source had to say, or for its exchange.
     #[error("no memory")]
     NoMemory,
     /// The link couldn't connect, or failed while it sent or read.
     #[error("the link failed")]
     LinkFailed,
-    /// The source refused to ask or to be polled, for want of memory among other reasons.
+    /// The source refused to ask or to be polled, for another reason than want of memory.
     #[error("the source refused: {0}")]
     Source(SourceFault),
 }
@@ -35,6 +35,20 @@ impl From<AllocError> for FrontFault {
 
     fn from(_error: AllocError) -> FrontFault {
         FrontFault::NoMemory
+    }
+}
+
+impl From<SourceFault> for FrontFault {
+    ghost use Rattle.wef_forwarding.specs.Exchanges.{refused_by};
+
+    ghost from_gives = { λ refusal fault. fault ≡ refused_by refusal };
+
+    /// Why a source has nothing to exchange.
+    fn from(refusal: SourceFault) -> FrontFault {
+        match refusal {
+            SourceFault::NoMemory => FrontFault::NoMemory,
+            _ => FrontFault::Source(refusal),
+        }
     }
 }
 

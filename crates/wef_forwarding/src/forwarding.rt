@@ -41,6 +41,7 @@ pub enum Exchange {
 /// and does what the reply says. Whoever replies otherwise than with an acknowledgement or a fault of
 /// this very message, or in a response other than 200, 400 and 500, has lost it: the source sends it
 /// again from where it was. The store is used by the poll alone.
+#[tactic(auto, using(crate::proofs::Forwarded::refused_forwards, crate::proofs::Forwarded::refused_settles, crate::proofs::Forwarded::refused_reads))]
 pub fn forward_once<L: Link, K: Keeper>(
     alloc: Global,
     link: &mut L,
@@ -59,7 +60,7 @@ pub fn forward_once<L: Link, K: Keeper>(
     match source.poll(sub, now) {
         Ok(Poll::Send(delivery)) => deliver(alloc, link, source, sub, &delivery),
         Ok(Poll::Nothing) => Ok(Exchange::Nothing),
-        Err(fault) => Err(FrontFault::Source(fault)),
+        Err(refusal) => Err(FrontFault::from(refusal)),
     }
 }
 
