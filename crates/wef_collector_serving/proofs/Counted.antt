@@ -64,10 +64,10 @@ unsure Raised (Some rows) cause never = λ formed. never (cause formed)
 
 -- ---- connections
 
-answer_counts : (moment : ℕ) (s : KnownCollector) (request : HttpRequest) (answer : Answer) (t : KnownCollector) → Answers moment s request answer t → s.store.faults ≤ t.store.faults
+pub answer_counts : (moment : ℕ) (s : KnownCollector) (request : HttpRequest) (answer : Answer) (t : KnownCollector) → Answers moment s request answer t → s.store.faults ≤ t.store.faults
 answer_counts moment s request answer t ((heard, hears, is), lawful) = steps_count request.host heard.asked moment is.said s.store t.store is.stepped
 
-leaving_counts : (moment : ℕ) (s : KnownCollector) (request : HttpRequest) (t : KnownCollector) → Leaves moment s request t → s.store.faults ≤ t.store.faults
+pub leaving_counts : (moment : ℕ) (s : KnownCollector) (request : HttpRequest) (t : KnownCollector) → Leaves moment s request t → s.store.faults ≤ t.store.faults
 leaving_counts moment s request t (inl is, lawful) = let e : s.store.faults ≡ t.store.faults = ap (λ (c : KnownCollector). c.store.faults) (sym is) in omega arith
 leaving_counts moment s request t (inr (heard, hears, is), lawful) = unanswered_counts request.host heard moment s.ids t.ids s.store t.store is
 

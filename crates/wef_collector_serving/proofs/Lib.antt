@@ -1,3 +1,4 @@
 pub mod Hosts
 pub mod Writable
 pub mod Counted
+pub mod OverRows
