@@ -48,8 +48,15 @@ one_image None (Some stand) found both only told = let bad : false ≡ true = bo
 one_image (Some left) None found both only told = absurd only
 one_image (Some left) (Some stand) found both only told = ap Some (only ∙ ap (λ (r : Rows). r ∷ []) (same_Some stand found told))
 
-image_of : (store : Store) (found : Rows) → Stand store found → store.images ≡ Some (found ∷ [])
+pub image_of : (store : Store) (found : Rows) → Stand store found → store.images ≡ Some (found ∷ [])
 image_of store found stand = one_image store.images store.rows found stand.lawful.both (stand.lawful.only stand.calm) stand.told
+
+-- without doubt an opening finds the rows that stand
+pub calm_rows : (rows : Option Rows) (images : Option (List Rows)) (left : Rows) → is_some images ≡ is_some rows → IfSome images (λ all. WhereTold rows (λ stand. all ≡ stand ∷ []))
+    → WhereTold images (λ all. IsOneOf all left) → rows ≡ Some left
+calm_rows rows None left both only one = absurd one
+calm_rows None (Some all) left both only one = let bad : true ≡ false = both in cc
+calm_rows (Some stand) (Some all) left both only one = ap Some (sym (subst (λ (all : List Rows). IsOneOf all left) only one))
 
 -- what a call did with rows that were told
 pub from_one : (before now : Store) (found after : Rows) (Holds : Rows → Rows → Type 0) → Stand before found → now.rows ≡ Some after → From before now Holds → Holds found after
@@ -71,7 +78,7 @@ mid_stands mid now after lawful ready untold told = by mid.rows refl
 
 -- ---- starts
 
-boot_made : (found after : Rows) → Makes (boot_effect found) found after → after ≡ started found
+pub boot_made : (found after : Rows) → Makes (boot_effect found) found after → after ≡ started found
 boot_made found after makes = by (nat_lt (boot_of found) MAX) makes
   where
     by : (room : Bool) → Makes {F = CollectorFault} (if room then Ok (put boot_key (boot_of found + 1) [] ∷ []) else Err faults.Full) found after → after ≡ started found
@@ -85,7 +92,7 @@ boot_full found is = by (nat_lt (boot_of found) MAX) is
     by true e = cc
     by false e = refl
 
-started_so : (before mid : Store) (ids : Ids) (found rows : Rows) → Starts (Ok ids) before mid → Stand before found → mid.rows ≡ Some rows → rows ≡ started found
+pub started_so : (before mid : Store) (ids : Ids) (found rows : Rows) → Starts (Ok ids) before mid → Stand before found → mid.rows ≡ Some rows → rows ≡ started found
 started_so before mid ids found rows start stand told =
     let did = from_one before mid found rows (Did collector_store AreFormed boot_effect ids_begun (Ok ids) before mid) stand told start.0.did in
     boot_made found rows did.answer.0

@@ -3,7 +3,9 @@ pub mod CallsMade
 pub mod Checked
 pub mod EventLines
 pub mod HeldWritten
+pub mod Leaving
 pub mod LinesWritten
 pub mod LogByRows
+pub mod PagesJudged
 pub mod PagesWritten
 pub mod Written

@@ -26,14 +26,14 @@ use Rattle.wef_commands.proofs.ByRows.{from_one, mid_stands}
 
 -- ---- what the log does
 
-log_made : (found after : Rows) → Makes (start_effect found LOG_CAPACITY) found after → after ≡ log.started found LOG_CAPACITY
+pub log_made : (found after : Rows) → Makes (start_effect found LOG_CAPACITY) found after → after ≡ log.started found LOG_CAPACITY
 log_made found after makes = by (is_boot_full found) makes
   where
     by : (full : Bool) → Makes {F = LogFault} (if full then Err faults.Full else Ok (start_changes found LOG_CAPACITY)) found after → after ≡ log.started found LOG_CAPACITY
     by true made = absurd made
     by false made = made
 
-event_made : (rows : Rows) (event : Event) (after : Rows) → Makes (write_effect rows event) rows after → after ≡ with_event rows event
+pub event_made : (rows : Rows) (event : Event) (after : Rows) → Makes (write_effect rows event) rows after → after ≡ with_event rows event
 event_made rows event after makes = by (is_full rows event.channel) (is_none (numbered event (next_number rows event))) makes
   where
     by : (full long : Bool) → Makes {F = LogFault} (if full then Err faults.Full else if long then Err faults.TooLong else Ok (write_changes (capacity_of rows) event.channel (next_number rows event) (next_text rows event))) rows after

@@ -3,6 +3,7 @@ use Rattle.std.specs.Prelude.{◌≡◌, ℕ, List, ◌⊎◌, Some, IfSome, IfE
 use Rattle.std.specs.declared.result.Result.TheVariants.{Err}
 use Rattle.std.specs.Io.KnownBytes.{IsAtEnd}
 use Rattle.wef_collector.specs.Calls.{OfAdd, add_effect}
+use Rattle.wef_collector.specs.Judged.{JudgesAdd}
 use Rattle.wef_collector_rows.specs.Faults.{collector_store}
 use Rattle.wef_collector_rows.specs.Forms.{AreFormed}
 use Rattle.wef_collector_rows.specs.declared.faults.CollectorFault.{CollectorFault}
@@ -11,7 +12,7 @@ use Rattle.wef_documents.specs.Kept.{read_kept}
 use Rattle.wef_documents.specs.Written.{document_text}
 use Rattle.wef_documents.specs.declared.faults.DocumentFault.TheVariants.{BadDocument, Tree}
 use Rattle.wef_eventing.specs.declared.subscriptions.Subscription.{Subscription}
-use Rattle.wef_keeper.specs.Calls.{IsCall}
+use Rattle.wef_keeper.specs.Calls.{DoesWith, IsCall}
 use Rattle.wef_keeper.specs.Keeping.{Store}
 use Rattle.wef_machine.specs.Printed.{name_line}
 use Rattle.wef_xml.specs.declared.faults.TreeFault.{TreeFault}
@@ -25,9 +26,11 @@ use Rattle.wef_commands.specs.declared.ending.Ending.TheVariants as ends
 abbrev pub added_text : List ℕ → List ℕ
 added_text u = name_line (codes "added") u
 
--- adding a subscription
+-- adding a subscription; the rows that it has read are of their form, unless its store refuses it
 abbrev pub Adds : Subscription → Result (Unit {0}) CollectorFault → Store → Store → Type 0
-Adds s done before now = IsCall collector_store AreFormed (λ rows. add_effect rows s) (λ _. tt) done before now × IfErr done OfAdd
+Adds s done before now =
+    IsCall collector_store AreFormed (λ rows. add_effect rows s) (λ _. tt) done before now × IfErr done OfAdd
+    × DoesWith collector_store AreFormed (λ rows. add_effect rows s) (λ _. tt) (λ answer found after. JudgesAdd answer found s.name) done before now
 
 -- where bytes are no document of XML
 abbrev pub place_of : TreeFault → ℕ

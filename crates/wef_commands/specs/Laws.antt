@@ -1,19 +1,22 @@
 -- What commands do, by the rows that stood before them, where these and the rows behind them are told.
-use Rattle.std.specs.Prelude.{◌≡◌, ℕ, ◌+◌, true, false, nat_lt, List, [], ◌∷◌, Some}
+use Rattle.std.specs.Prelude.{◌≡◌, ◌⊎◌, ℕ, ◌+◌, true, false, nat_lt, List, [], ◌∷◌, ◌++◌, Some}
 use Rattle.std.specs.Io.KnownBytes.{Appends}
 use Rattle.wef_base.specs.declared.numbers.TheConstants.{MAX}
 use Rattle.wef_collector.specs.Boots.{boot_of}
+use Rattle.wef_collector.specs.Calls.{add_effect, end_effect}
 use Rattle.wef_collector.specs.Taken.{put}
 use Rattle.wef_collector_reports.specs.Listing.{listed}
 use Rattle.wef_collector_reports.specs.Report.{report}
 use Rattle.wef_collector_rows.specs.Answers.{IsEnded, added_rows, ended_rows, is_known, is_there}
 use Rattle.wef_collector_rows.specs.Keys.{boot_key}
 use Rattle.wef_collector_rows.specs.Standing.{is_full, standing}
+use Rattle.wef_collector_rows.specs.declared.faults.CollectorFault.{CollectorFault}
 use Rattle.wef_collector_rows.specs.declared.standings.Standing.{Standing}
 use Rattle.wef_collector_rows.specs.declared.standings.Standing.TheVariants.{Unknown, Live}
 use Rattle.wef_event.specs.Events.{Event}
 use Rattle.wef_eventing.specs.declared.subscriptions.Subscription.{Subscription}
-use Rattle.wef_keeper.specs.Keeping.{IsLawful, Store}
+use Rattle.wef_keeper.specs.Calls.{Effect, MayLeave}
+use Rattle.wef_keeper.specs.Keeping.{IsLawful, MayFind, Store}
 use Rattle.wef_keeper.specs.Rows.{Rows, applied}
 use Rattle.wef_source_log.specs.Answers.{next_number, next_text}
 use Rattle.wef_source_log.specs.Windows as log
@@ -140,3 +143,42 @@ WriteSays _ input out found after = Unit {0}
 
 abbrev pub WritesByRows : Type 0
 WritesByRows = (ending : Ending) (input out : Told) (before now : Store) → WriteEnds ending input out before now → OverRows (WriteSays ending input out) before now
+
+-- ---- whatever the ending
+
+-- what holds of the rows before a run and of any that an opening may find behind it, also where the store failed or memory was wanting
+abbrev pub OverLast : (Rows → Rows → Type 0) → Store → Store → Type 0
+OverLast Holds before now = IsLawful now → (found last : Rows) → Stand before found → MayFind now last → Holds found last
+
+-- the rows are as they were, or the collector was started, and no more
+abbrev pub StartsAtMost : Rows → Rows → Type 0
+StartsAtMost found last = (last ≡ found) ⊎ (last ≡ started found)
+
+-- or its one call was made, whole
+abbrev pub CallsAtMost : (Rows → Effect CollectorFault) → Rows → Rows → Type 0
+CallsAtMost effect found last = (last ≡ found) ⊎ MayLeave effect last (started found)
+
+-- at most the subscription of the document was added
+abbrev pub AddLeaves : Type 0
+AddLeaves = (ending : Ending) (input out : Told) (before now : Store) → AddEnds ending input out before now
+    → OverLast (λ found last. (last ≡ found) ⊎ ((s : Subscription) × HasDocument s input × CallsAtMost (λ rows. add_effect rows s) found last)) before now
+
+-- at most the subscription of the name has ended
+abbrev pub RemoveLeaves : Type 0
+RemoveLeaves = (u : List ℕ) (ending : Ending) (out : Told) (before now : Store) → RemoveEnds u ending out before now → OverLast (CallsAtMost (λ rows. end_effect rows u)) before now
+
+-- what only reads leaves all else
+pub record ReadersLeave : Type 0 where
+  pub list : (ending : Ending) (out : Told) (before now : Store) → ListEnds ending out before now → OverLast StartsAtMost before now
+  pub show : (ending : Ending) (out : Told) (before now : Store) → ShowEnds ending out before now → OverLast StartsAtMost before now
+  pub events : (u s c : List ℕ) (ending : Ending) (out : Told) (before now : Store) → EventsEnds u s c ending out before now → OverLast StartsAtMost before now
+
+-- some of the input's events were written, from its first on, in its order
+pub record AreWritten (input : Told) (found last : Rows) : Type 0 where
+  pub front : List Event
+  pub behind : List Event
+  pub events : HasEvents (front ++ behind) input
+  pub rows : last ≡ with_events (log.started found LOG_CAPACITY) front
+
+abbrev pub WriteLeaves : Type 0
+WriteLeaves = (ending : Ending) (input out : Told) (before now : Store) → WriteEnds ending input out before now → OverLast (λ found last. (last ≡ found) ⊎ AreWritten input found last) before now

@@ -1,5 +1,5 @@
 -- How `list` ends.
-use Rattle.std.specs.Prelude.{◌≡◌, ℕ, Bool, List, [], ◌∷◌, ◌++◌, ◌⊎◌, IfSome, Result, codes, if◌then◌else◌}
+use Rattle.std.specs.Prelude.{◌≡◌, ℕ, Bool, List, [], ◌∷◌, ◌++◌, ◌⊎◌, IfSome, OnOk, Result, codes, if◌then◌else◌}
 use Rattle.std.specs.declared.result.Result.TheVariants.{Ok, Err}
 use Rattle.std.specs.List.{flat_map}
 use Rattle.wef_base.specs.Printed.{printed}
@@ -8,6 +8,8 @@ use Rattle.wef_collector_reports.specs.declared.listing.Listed.{Listed}
 use Rattle.wef_collector_rows.specs.Answers.{IsOfStore}
 use Rattle.wef_collector_rows.specs.Faults.{collector_store}
 use Rattle.wef_collector_rows.specs.Forms.{AreFormed}
+use Rattle.wef_collector_rows.specs.Judged.{AreAllFormed}
+use Rattle.wef_collector_rows.specs.Standing.{subscription_rows}
 use Rattle.wef_collector_rows.specs.declared.faults.CollectorFault.{CollectorFault}
 use Rattle.wef_eventing.specs.declared.subscriptions.SubKind.{SubKind}
 use Rattle.wef_eventing.specs.declared.subscriptions.SubKind.TheVariants.{BySource, ByCollector}
@@ -39,9 +41,9 @@ abbrev pub AreListed : Result (List Listed) CollectorFault → Store → Type 0
 AreListed (Ok list) now = IfSome now.rows (λ rows. list ≡ listed rows)
 AreListed (Err fault) now = IsOfStore fault
 
--- reading which subscriptions there are
+-- reading which subscriptions there are, whose rows are then of their form
 abbrev pub Lists : Result (List Listed) CollectorFault → Store → Store → Type 0
-Lists done before now = Looks collector_store AreFormed done before now × AreListed done now
+Lists done before now = Looks collector_store AreFormed done before now × AreListed done now × OnOk done (IfSome now.rows (λ rows. AreAllFormed (subscription_rows rows)))
 
 -- the lines are written, or the output failed; or there was no memory for them
 abbrev pub WroteList : List Listed → Ending → Told → Type 0

@@ -1,18 +1,22 @@
 -- How `show` and `events` end.
-use Rattle.std.specs.Prelude.{◌≡◌, ℕ, Bool, true, false, List, ◌⊎◌, IfSome, Result}
+use Rattle.std.specs.Prelude.{◌≡◌, ℕ, Bool, true, false, List, ◌⊎◌, IfSome, OnOk, Result}
 use Rattle.std.specs.declared.result.Result.TheVariants.{Ok, Err}
 use Rattle.std.specs.Io.KnownBytes.{Appends}
+use Rattle.wef_collector_reports.specs.Judged.{is_report_formed}
 use Rattle.wef_collector_reports.specs.Report.{report}
 use Rattle.wef_collector_rows.specs.Answers.{IsOfStore, is_known}
 use Rattle.wef_collector_rows.specs.Faults.{collector_store}
 use Rattle.wef_collector_rows.specs.Forms.{AreFormed}
-use Rattle.wef_collector_rows.specs.Held.{held_after}
+use Rattle.wef_collector_rows.specs.Held.{held_after, held_rows}
+use Rattle.wef_collector_rows.specs.Judged.{AreAllFormed, IsFormedAt}
+use Rattle.wef_collector_rows.specs.Keys.{subscription_key}
 use Rattle.wef_collector_rows.specs.Standing.{standing}
 use Rattle.wef_collector_rows.specs.declared.faults.CollectorFault.{CollectorFault}
 use Rattle.wef_keeper.specs.Access.{Reads}
 use Rattle.wef_keeper.specs.Calls.{Looks}
 use Rattle.wef_keeper.specs.Keeping.{Store}
 use Rattle.wef_keeper.specs.Rows.{Rows}
+use Rattle.wef_keeper.specs.declared.keys.Row.{Row}
 use Rattle.wef_machine.specs.Printed.{events_text}
 use Rattle.wef_commands.specs.Calling.{CallEnds, IsUndone, Started, Starts, WroteOut, store_ending}
 use Rattle.wef_commands.specs.Endings.{HasFailed, IsUnwritten, Told}
@@ -27,9 +31,9 @@ abbrev pub IsReport : Result (List ℕ) CollectorFault → Store → Type 0
 IsReport (Ok text) now = IfSome now.rows (λ rows. text ≡ report rows)
 IsReport (Err fault) now = IsOfStore fault
 
--- reading the report
+-- reading the report; the rows that it tells of are then of their form
 abbrev pub Reports : Result (List ℕ) CollectorFault → Store → Store → Type 0
-Reports done before now = Looks collector_store AreFormed done before now × IsReport done now
+Reports done before now = Looks collector_store AreFormed done before now × IsReport done now × OnOk done (IfSome now.rows (λ rows. is_report_formed rows ≡ true))
 
 abbrev pub ShowEnds : Ending → Told → Store → Store → Type 0
 ShowEnds ending out before now = CallEnds Reports store_ending WroteOut ending out before now
@@ -66,6 +70,18 @@ TellsHeld u s c ends.Done out rows = (is_known (standing rows u) ≡ true) × Ap
 TellsHeld u s c (ends.Unknown name) out rows = is_known (standing rows u) ≡ false
 TellsHeld u s c _ out rows = WritesPart out.before out.after (held_text rows u s c)
 
+-- where all of some rows was written, they are of their form
+abbrev pub JudgesRows : Ending → List Row → Type 0
+JudgesRows ends.Done rows = AreAllFormed rows
+JudgesRows _ rows = Unit {0}
+
+-- which of the rows that it read are of their form: the subscription's, also where that says that there is none, and all whose
+-- events were written
+abbrev pub JudgesHeld : List ℕ → List ℕ → List ℕ → Ending → Rows → Type 0
+JudgesHeld u s c ends.Done rows = IsFormedAt (subscription_key u) rows × AreAllFormed (held_rows rows u s c 0)
+JudgesHeld u s c (ends.Unknown name) rows = IsFormedAt (subscription_key u) rows
+JudgesHeld u s c _ rows = Unit {0}
+
 -- The endings that there are.
 abbrev pub EndsHeld : List ℕ → Ending → Told → Type 0
 EndsHeld u (ends.Unknown name) out = (name ≡ u) × IsUnwritten out
@@ -76,6 +92,7 @@ EndsHeld u ending out = EndsWriting ending out
 pub record WritesHeld (u s c : List ℕ) (ending : Ending) (out : Told) (before now : Store) : Type 0 where
   pub reads : Reads AreFormed (is_store_failed ending) before now
   pub tells : IfSome now.rows (TellsHeld u s c ending out)
+  pub judged : IfSome now.rows (JudgesHeld u s c ending)
   pub ends_so : EndsHeld u ending out
 
 -- Nothing is done, for want of memory; or the collector couldn't be started, and nothing is written; or it was, and what it holds

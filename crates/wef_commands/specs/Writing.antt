@@ -8,13 +8,13 @@ use Rattle.wef_base.specs.Printed.{printed}
 use Rattle.wef_event.specs.Events.{Event}
 use Rattle.wef_event.specs.declared.records.EventFault.{EventFault}
 use Rattle.wef_event.specs.declared.records.EventFault.TheVariants as events
-use Rattle.wef_keeper.specs.Access.{From}
-use Rattle.wef_keeper.specs.Calls.{IsCall}
+use Rattle.wef_keeper.specs.Calls.{DoesWith, IsCall}
 use Rattle.wef_keeper.specs.Keeping.{IsLawful, Store}
 use Rattle.wef_replay.specs.Documents.{new_event_in}
 use Rattle.wef_source_log.specs.Answers.{ExtendsHistory, RefusesStart, next_boot, next_number, start_effect, write_effect}
 use Rattle.wef_source_log.specs.Faults.{log_store}
 use Rattle.wef_source_log.specs.Forms.{AreFormed}
+use Rattle.wef_source_log.specs.Judged.{JudgesWrite}
 use Rattle.wef_source_log.specs.declared.faults.LogFault.{LogFault}
 use Rattle.wef_source_log.specs.declared.faults.LogFault.TheVariants as faults
 use Rattle.wef_commands.specs.Adding.{IsReadAs, IsReadAsSome}
@@ -45,12 +45,13 @@ events_of lines = filter_map new_event_in lines
 abbrev pub StartsLog : Result ℕ LogFault → Store → Store → Type 0
 StartsLog done before now = IsCall log_store AreFormed (λ found. start_effect found LOG_CAPACITY) next_boot done before now × IfErr done RefusesStart × IsLawful now
 
--- writing an event as the next record of its channel; where the rows are the window of histories, they are that of the longer ones;
--- and the store has the laws of every keeper's
+-- writing an event as the next record of its channel: the rows that it read were of their form, and where the rows are the window of
+-- histories, they are that of the longer ones; and the store has the laws of every keeper's
 abbrev pub WritesEvent : Event → Result ℕ LogFault → Store → Store → Type 0
 WritesEvent event done before now =
     IsCall log_store AreFormed (λ found. write_effect found event) (λ found. next_number found event) done before now
-    × From before now (λ found after. IfOk done (ExtendsHistory found after event))
+    × DoesWith log_store AreFormed (λ found. write_effect found event) (λ found. next_number found event)
+    (λ answer found after. JudgesWrite answer event.channel found × IfOk answer (ExtendsHistory found after event)) done before now
     × IsLawful now
 
 -- These events were written, one after the other, and these are their numbers.

@@ -4,6 +4,7 @@ ghost use Rattle.std.specs.List.{flat_map};
 ghost use Rattle.std.specs.Prelude.{◌≡◌, ◌++◌, IfOk, IfSome, OnOk};
 ghost use Rattle.wef_collector_reports.specs.Report.{last_row_number};
 ghost use Rattle.wef_collector_rows.specs.Forms.{AreFormed};
+ghost use Rattle.wef_collector_rows.specs.Held.{held_rows};
 ghost use Rattle.wef_commands.specs.Endings.{told_of};
 ghost use Rattle.wef_commands.specs.Pages as pages;
 ghost use Rattle.wef_commands.specs.Showing as spec;
@@ -81,6 +82,7 @@ fn write_known<K: Keeper, O: Sink>(
     ensures reads { access.Reads AreFormed (spec.is_store_failed result) (K.store keeper.old) (K.store keeper.new) }
     ensures wrote { IfSome (K.store keeper.new).rows (λ rows. spec.WroteUpTo (spec.held_text rows name.now source.now channel.now) result
         (told_of O.taken O.faults out.old out.new)) }
+    ensures judged { IfSome (K.store keeper.new).rows (λ rows. spec.JudgesRows result (held_rows rows name.now source.now channel.now 0)) }
     ensures cause { spec.EndsWriting result
         (told_of O.taken O.faults out.old out.new) }
 {
@@ -102,6 +104,7 @@ fn write_behind<K: Keeper, O: Sink>(
     ensures reads { access.Reads AreFormed (spec.is_store_failed result) (K.store keeper.old) (K.store keeper.new) }
     ensures wrote { IfSome (K.store keeper.new).rows (λ rows. spec.WroteUpTo (pages.rows_text (rows_under Channel after.old rows)) result
         (told_of O.taken O.faults out.old out.new)) }
+    ensures judged { IfSome (K.store keeper.new).rows (λ rows. spec.JudgesRows result (rows_under Channel after.old rows)) }
     ensures cause { spec.EndsWriting result
         (told_of O.taken O.faults out.old out.new) }
 {

@@ -1,6 +1,6 @@
 //! What commands do by the rows that stood before them, as contracts.
 
-ghost use Rattle.wef_commands.specs.Laws.{AddsByRows, EventsByRows, ListsByRows, RemovesByRows, ShowsByRows, WritesByRows};
+ghost use Rattle.wef_commands.specs.Laws.{AddLeaves, AddsByRows, EventsByRows, ListsByRows, ReadersLeave, RemoveLeaves, RemovesByRows, ShowsByRows, WriteLeaves, WritesByRows};
 
 /// Where the rows before and behind a run are told: `exists` and `too many` are told exactly by the
 /// rows, and once `add` is done the subscription of the document stands live. `unknown` and `already`
@@ -23,4 +23,14 @@ pub fn texts_are_of_rows()
 /// start left it, and the number that is printed of it is its channel's last one plus one.
 pub fn numbers_follow_the_rows()
     ensures { WritesByRows }
+{}
+
+/// Whatever the ending, also where the store failed or memory was wanting: any rows that an opening may
+/// find behind a run are those before it, or those of the start, or these with the one change of `add`
+/// or `remove`, whole, or with the first so many events of `write`.
+pub fn no_run_does_more()
+    ensures add { AddLeaves }
+    ensures remove { RemoveLeaves }
+    ensures readers { ReadersLeave }
+    ensures write { WriteLeaves }
 {}
