@@ -106,7 +106,7 @@ one_further clock now_clock a b c m k n f g h s t u same (es, long, served, tell
 -- a further connection was served, and told in part
 last_of : (clock now_clock : Option ℕ) (a b c : Option (List ℕ)) (m k bytes count n : ℕ) (f g h : ports.Told) (s t u : KnownCollector) → now_clock ≡ clock
     → SoFar clock a b f s n g t → n < count → (e : ConnectionEnd) → IsServed now_clock g t h u e → Appends b c (take bytes (connection_line (n + 1) e))
-    → IsTheLast clock [] (object a c m k) f s h u count bytes
+    → IsTheLast (AreServed clock) [] (object a c m k) f s h u count bytes
 last_of clock now_clock a b c m k bytes count n f g h s t u same (es, long, served, tellable, lines) below e is line =
     let number : n + 1 ≡ suc (length es) = omega (arith, long) in
     record {
@@ -148,7 +148,7 @@ behind : (a b c : Option (List ℕ)) (told text : List ℕ) → Appends a b told
 behind a b c told text first next = Appends-trans a b c told text first next
 
 last_behind : (clock : Option ℕ) (told : List ℕ) (a b c : Option (List ℕ)) (m k l count bytes : ℕ) (f g : ports.Told) (s t : KnownCollector) → Appends a b told
-    → IsTheLast clock [] (object b c k l) f s g t count bytes → IsTheLast clock told (object a c m l) f s g t count bytes
+    → IsTheLast (AreServed clock) [] (object b c k l) f s g t count bytes → IsTheLast (AreServed clock) told (object a c m l) f s g t count bytes
 last_behind clock told a b c m k l count bytes f g s t first last = record {
   told_whole = last.told_whole;
   last = last.last;

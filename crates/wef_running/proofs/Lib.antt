@@ -1,2 +1,5 @@
 pub mod BatchesSent
+pub mod ByRows
 pub mod Collected
+pub mod LinksCounted
+pub mod SentByRows

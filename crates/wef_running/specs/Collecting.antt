@@ -97,42 +97,56 @@ abbrev pub TurnEnds : Option ℕ → ℕ → Result Unit Ending → Told → por
 TurnEnds clock number (Err ends.ListeningFailed) out f s g t = FrontRefuses f g × (t ≡ s) × IsUnwritten out
 TurnEnds clock number done out f s g t = (e : ConnectionEnd) × IsServed clock f s g t e × TellsEnd number e done out
 
+-- How connections are served: from a front and a collector, those that ended so, to a front and a collector.
+abbrev pub Serving : Type 0 → Type 1
+Serving S = ports.Told → S → List ConnectionEnd → ports.Told → S → Type 0
+
 -- Connections were served, and a text was written behind what was there: what was told before them, and their lines.
-pub record AreTold (clock : Option ℕ) (told : List ℕ) (out : Told) (f : ports.Told) (s : KnownCollector) (es : List ConnectionEnd) (g : ports.Told) (t : KnownCollector) : Type 0 where
-  pub served : AreServed clock f s es g t
+pub record AreTold {S : Type 0} (Served : Serving S) (told : List ℕ) (out : Told) (f : ports.Told) (s : S) (es : List ConnectionEnd) (g : ports.Told) (t : S) : Type 0 where
+  pub served : Served f s es g t
   pub tellable : AllByRecursion IsTellable es
   pub lines : Appends out.before out.after (told ++ lines_from 1 es)
 
 -- One more connection was served than is told whole: of its line so many bytes were written.
-pub record IsTheLast (clock : Option ℕ) (told : List ℕ) (out : Told) (f : ports.Told) (s : KnownCollector) (g : ports.Told) (t : KnownCollector) (count bytes : ℕ) : Type 0 where
+pub record IsTheLast {S : Type 0} (Served : Serving S) (told : List ℕ) (out : Told) (f : ports.Told) (s : S) (g : ports.Told) (t : S) (count bytes : ℕ) : Type 0 where
   pub told_whole : List ConnectionEnd
   pub last : ConnectionEnd
   pub within : length told_whole < count
-  pub served : AreServed clock f s (told_whole ++ last ∷ []) g t
+  pub served : Served f s (told_whole ++ last ∷ []) g t
   pub lines : Appends out.before out.after (told ++ (lines_from 1 told_whole ++ take bytes (connection_line (suc (length told_whole)) last)))
 
 -- How so many connections are served. Each is told once it is over. A failed one ends nothing but itself. One that wanted memory
 -- isn't told, and ends the run; so does one whose line can't be written; and so does a front that takes no further one.
-abbrev pub ServingEnds : Option ℕ → List ℕ → ℕ → Ending → Told → ports.Told → KnownCollector → ports.Told → KnownCollector → Type 0
-ServingEnds clock told count ends.Done out f s g t = (es : List ConnectionEnd) × (length es ≡ count) × AreTold clock told out f s es g t
-ServingEnds clock told count ends.ListeningFailed out f s g t =
-    (es : List ConnectionEnd) × (length es < count) × (h : ports.Told) × AreTold clock told out f s es h t × FrontRefuses h g
+abbrev pub ServingEndsBy : {S : Type 0} → Serving S → List ℕ → ℕ → Ending → Told → ports.Told → S → ports.Told → S → Type 0
+ServingEndsBy Served told count ends.Done out f s g t = (es : List ConnectionEnd) × (length es ≡ count) × AreTold Served told out f s es g t
+ServingEndsBy Served told count ends.ListeningFailed out f s g t =
+    (es : List ConnectionEnd) × (length es < count) × (h : ports.Told) × AreTold Served told out f s es h t × FrontRefuses h g
     × RoseBy (suc (failed_among es)) f.faults g.faults × Rises f.around.refusals g.around.refusals
-ServingEnds clock told count ends.NoMemory out f s g t = IsTheLast clock told out f s g t count 0
-ServingEnds clock told count ends.OutputFailed out f s g t = HasFailed out × (bytes : ℕ) × IsTheLast clock told out f s g t count bytes
-ServingEnds clock told count _ out f s g t = ⊥
+ServingEndsBy Served told count ends.NoMemory out f s g t = IsTheLast Served told out f s g t count 0
+ServingEndsBy Served told count ends.OutputFailed out f s g t = HasFailed out × (bytes : ℕ) × IsTheLast Served told out f s g t count bytes
+ServingEndsBy Served told count _ out f s g t = ⊥
 
 -- How it ends once it listens: that it does can't be told; or connections are served.
-abbrev pub TellingEnds : Option ℕ → List ℕ → ℕ → Ending → Told → ports.Told → KnownCollector → ports.Told → KnownCollector → Type 0
-TellingEnds clock told count ending out f s g t =
+abbrev pub TellingEndsBy : {S : Type 0} → Serving S → List ℕ → ℕ → Ending → Told → ports.Told → S → ports.Told → S → Type 0
+TellingEndsBy Served told count ending out f s g t =
     ((ending ≡ ends.OutputFailed) × HasFailed out × WritesPart out.before out.after told × (g ≡ f) × (t ≡ s))
-    ⊎ ServingEnds clock told count ending out f s g t
+    ⊎ ServingEndsBy Served told count ending out f s g t
 
 -- How it ends once the collector is started: it can't listen at the address; or it does, and tells so.
-abbrev pub ListeningEnds : Option ℕ → List ℕ → ℕ → Ending → Told → ports.Told → KnownCollector → ports.Told → KnownCollector → Type 0
-ListeningEnds clock address count ending out f s g t =
+abbrev pub ListeningEndsBy : {S : Type 0} → Serving S → List ℕ → ℕ → Ending → Told → ports.Told → S → ports.Told → S → Type 0
+ListeningEndsBy Served address count ending out f s g t =
     ((ending ≡ ends.ListeningFailed) × FrontRefuses f g × IsUnwritten out × (t ≡ s))
-    ⊎ TellingEnds clock (listening_line address) count ending out (with_address address f) s g t
+    ⊎ TellingEndsBy Served (listening_line address) count ending out (with_address address f) s g t
+
+-- The same of connections that are served for a collector over its store.
+abbrev pub ServingEnds : Option ℕ → List ℕ → ℕ → Ending → Told → ports.Told → KnownCollector → ports.Told → KnownCollector → Type 0
+ServingEnds clock told count ending out f s g t = ServingEndsBy (AreServed clock) told count ending out f s g t
+
+abbrev pub TellingEnds : Option ℕ → List ℕ → ℕ → Ending → Told → ports.Told → KnownCollector → ports.Told → KnownCollector → Type 0
+TellingEnds clock told count ending out f s g t = TellingEndsBy (AreServed clock) told count ending out f s g t
+
+abbrev pub ListeningEnds : Option ℕ → List ℕ → ℕ → Ending → Told → ports.Told → KnownCollector → ports.Told → KnownCollector → Type 0
+ListeningEnds clock address count ending out f s g t = ListeningEndsBy (AreServed clock) address count ending out f s g t
 
 -- The collector is started first. Where that is refused, nothing is written, and the front isn't asked.
 abbrev pub CollectEnds : List ℕ → ℕ → Ending → Told → Option ℕ → ports.Told → ports.Told → Store → Store → Type 0

@@ -105,11 +105,18 @@ pub record IsSent (clock : Option ℕ) (u : List ℕ) (result : Result Exchange 
   -- the store has the laws of every keeper's
   pub lawful : IsLawful now.store
 
+-- how the next batch of the session of a name is forwarded, by what is answered, from a source that runs to what it is then
+abbrev pub Sending : Type 1
+Sending = List ℕ → Result Exchange FrontFault → Running → Running → Type 0
+
 -- These were sent, one after the other, each by the session that was next.
+abbrev pub AreSentBy : Sending → Plan → List (List ℕ × Exchange) → Running → Running → Type 0
+AreSentBy Sent plan [] before now = now ≡ before
+AreSentBy Sent plan (x ∷ xs) before now =
+    (next plan ≡ Some x.0) × ((mid : Running) × Sent x.0 (Ok x.1) before mid × AreSentBy Sent (behind x.1 plan) xs mid now)
+
 abbrev pub AreSent : Option ℕ → Plan → List (List ℕ × Exchange) → Running → Running → Type 0
-AreSent clock plan [] before now = now ≡ before
-AreSent clock plan (x ∷ xs) before now =
-    (next plan ≡ Some x.0) × ((mid : Running) × IsSent clock x.0 (Ok x.1) before mid × AreSent clock (behind x.1 plan) xs mid now)
+AreSent clock plan xs before now = AreSentBy (IsSent clock) plan xs before now
 
 -- ---- how it ends
 
@@ -132,10 +139,13 @@ EndsDone text ends.Done out = Appends out.before out.after (text ++ done_line)
 EndsDone text ending out = IsUntold ending out text done_line
 
 -- Why it ends at the session of a name: its batch isn't forwarded; or it is, but isn't told.
+abbrev pub EndsAtBy : Sending → List ℕ → List ℕ → Ending → Told → Running → Running → Type 0
+EndsAtBy Sent u text ending out before now =
+    ((fault : FrontFault) × Sent u (Err fault) before now × (ending ≡ front_ending fault) × Appends out.before out.after text)
+    ⊎ ((exchange : Exchange) × Sent u (Ok exchange) before now × IsUntold ending out text (line_of (u, exchange)))
+
 abbrev pub EndsAt : Option ℕ → List ℕ → List ℕ → Ending → Told → Running → Running → Type 0
-EndsAt clock u text ending out before now =
-    ((fault : FrontFault) × IsSent clock u (Err fault) before now × (ending ≡ front_ending fault) × Appends out.before out.after text)
-    ⊎ ((exchange : Exchange) × IsSent clock u (Ok exchange) before now × IsUntold ending out text (line_of (u, exchange)))
+EndsAt clock u text ending out before now = EndsAtBy (IsSent clock) u text ending out before now
 
 -- The next batch of the session of a name is forwarded and told, or why it ends there.
 abbrev pub TurnsSession : Option ℕ → List ℕ → Result Exchange Ending → Told → Running → Running → Type 0
@@ -143,24 +153,33 @@ TurnsSession clock u (Ok exchange) out before now = IsSent clock u (Ok exchange)
 TurnsSession clock u (Err ending) out before now = EndsAt clock u [] ending out before now
 
 -- How it ends before the next session, if there is one.
+abbrev pub EndsBeforeBy : Sending → Option (List ℕ) → List ℕ → Ending → Told → Running → Running → Type 0
+EndsBeforeBy Sent None text ending out before now = EndsDone text ending out × (now ≡ before)
+EndsBeforeBy Sent (Some u) text ending out before now = EndsAtBy Sent u text ending out before now
+
 abbrev pub EndsBefore : Option ℕ → Option (List ℕ) → List ℕ → Ending → Told → Running → Running → Type 0
-EndsBefore clock None text ending out before now = EndsDone text ending out × (now ≡ before)
-EndsBefore clock (Some u) text ending out before now = EndsAt clock u text ending out before now
+EndsBefore clock o text ending out before now = EndsBeforeBy (IsSent clock) o text ending out before now
 
 -- Batches are sent, and each is told once it is over, behind a text, as far as the run came.
-pub record SendsAll (clock : Option ℕ) (plan : Plan) (text : List ℕ) (ending : Ending) (out : Told) (before now : Running) : Type 0 where
+pub record SendsAllBy (Sent : Sending) (plan : Plan) (text : List ℕ) (ending : Ending) (out : Told) (before now : Running) : Type 0 where
   pub sent : List (List ℕ × Exchange)
   -- the source once these were sent
   pub mid : Running
-  pub are_sent : AreSent clock plan sent before mid
-  pub stops : EndsBefore clock (next (behind_all sent plan)) (text ++ flat_map line_of sent) ending out mid now
+  pub are_sent : AreSentBy Sent plan sent before mid
+  pub stops : EndsBeforeBy Sent (next (behind_all sent plan)) (text ++ flat_map line_of sent) ending out mid now
+
+abbrev pub SendsAll : Option ℕ → Plan → List ℕ → Ending → Told → Running → Running → Type 0
+SendsAll clock plan text ending out before now = SendsAllBy (IsSent clock) plan text ending out before now
 
 -- The number of sessions is told and all is sent, or the number isn't told.
-abbrev pub SendsFrom : Option ℕ → ℕ → Ending → Told → Running → Running → Type 0
-SendsFrom clock deliveries ending out before now =
+abbrev pub SendsFromBy : Sending → ℕ → Ending → Told → Running → Running → Type 0
+SendsFromBy Sent deliveries ending out before now =
     let names : List (List ℕ) = names_of before.memory.sessions in
     (IsUntold ending out [] (subscriptions_line (length names)) × (now ≡ before))
-    ⊎ SendsAll clock (record { names = names; left = deliveries }) (subscriptions_line (length names)) ending out before now
+    ⊎ SendsAllBy Sent (record { names = names; left = deliveries }) (subscriptions_line (length names)) ending out before now
+
+abbrev pub SendsFrom : Option ℕ → ℕ → Ending → Told → Running → Running → Type 0
+SendsFrom clock deliveries ending out before now = SendsFromBy (IsSent clock) deliveries ending out before now
 
 -- The source of a name asks the collector at an address; the store stays as it is.
 pub record IsAsked (clock : Option ℕ) (address s : List ℕ) (result : Result (Option ℕ) FrontFault) (before now : Running) : Type 0 where
@@ -170,10 +189,13 @@ pub record IsAsked (clock : Option ℕ) (address s : List ℕ) (result : Result 
   pub store : now.store ≡ before.store
 
 -- It asks, and sends what its sessions have; or it can't ask.
-abbrev pub AsksAndSends : Option ℕ → List ℕ → List ℕ → ℕ → Ending → Told → Running → Running → Type 0
-AsksAndSends clock address s deliveries ending out before now =
+abbrev pub AsksAndSendsBy : Sending → Option ℕ → List ℕ → List ℕ → ℕ → Ending → Told → Running → Running → Type 0
+AsksAndSendsBy Sent clock address s deliveries ending out before now =
     ((fault : FrontFault) × IsAsked clock address s (Err fault) before now × (ending ≡ front_ending fault) × IsUnwritten out)
-    ⊎ ((count : Option ℕ) × (mid : Running) × IsAsked clock address s (Ok count) before mid × SendsFrom clock deliveries ending out mid now)
+    ⊎ ((count : Option ℕ) × (mid : Running) × IsAsked clock address s (Ok count) before mid × SendsFromBy Sent deliveries ending out mid now)
+
+abbrev pub AsksAndSends : Option ℕ → List ℕ → List ℕ → ℕ → Ending → Told → Running → Running → Type 0
+AsksAndSends clock address s deliveries ending out before now = AsksAndSendsBy (IsSent clock) clock address s deliveries ending out before now
 
 -- starting a source, whose first start keeps the capacity; and its store has the laws of every keeper's
 abbrev pub StartsSource : Result ℕ SourceFault → Store → Store → Type 0

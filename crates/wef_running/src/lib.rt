@@ -3,6 +3,7 @@
 
 mod collecting;
 mod forwarding;
+pub mod laws;
 
 pub use collecting::collect;
 pub use forwarding::forward;
