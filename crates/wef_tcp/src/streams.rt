@@ -19,7 +19,11 @@ const LINGER_TIME: u64 = 1;
 /// How many bytes of it are let go.
 const LINGER_BYTES: usize = 262_144;
 
-/// Sets the time limit of a stream's reads and writes.
+/// How many of them are read at once.
+const LINGER_PIECE: usize = 8192;
+
+/// Sets the time limit of a stream's reads and writes. A stream has no limits in its contracts, so no clause
+/// says them.
 pub fn limited(stream: TcpStream) -> io::Result<TcpStream> {
     let limit = Some(Duration::from_secs(TIME_LIMIT));
     stream.set_read_timeout(limit)?;
@@ -60,13 +64,14 @@ pub fn write_to(stream: &mut TcpStream, piece: &[u8]) -> io::Result<usize>
 pub fn let_go(rt: &HostRuntime, stream: &mut TcpStream) -> io::Result<()> {
     stream.shutdown(Shutdown::Write)?;
     let begun = Instant::now(rt)?;
-    let mut buf = [0; 8192];
+    let mut buf = [0; LINGER_PIECE];
     let mut left = LINGER_BYTES;
+    // Each round takes a byte at least, or ends, but for one that is interrupted.
     for _ in 0..LINGER_BYTES {
         // No time is left where this is zero, and it can't be set.
         let time = Duration::from_secs(LINGER_TIME).saturating_sub(begun.elapsed(rt)?);
         stream.set_read_timeout(Some(time))?;
-        match stream.read(&mut buf[..left.min(8192)]) {
+        match stream.read(&mut buf[..left.min(LINGER_PIECE)]) {
             Ok(0) => break,
             Ok(count) => left -= count,
             Err(error) if error.kind() == ErrorKind::Interrupted => {}
