@@ -9,6 +9,7 @@ use Rattle.wef_ids.specs.declared.MessageId.{MessageId}
 use Rattle.wef_keeper.specs.Rows.{Rows}
 use Rattle.wef_ports.specs.Telling.{Told}
 use Rattle.wef_source.specs.Answers.{MayRefusePoll, Polls, RefusesPoll, Sends, waiting_for}
+use Rattle.wef_source.specs.Judged.{JudgesPoll}
 use Rattle.wef_source.specs.Machine.{End, acknowledged_in, lost_in, refused_in}
 use Rattle.wef_source.specs.Sessions.{session_of}
 use Rattle.wef_source.specs.declared.faults.SourceFault.{SourceFault}
@@ -51,10 +52,12 @@ Ends d u (Err fault) mid end result = (result ≡ Err fault) × (end ≡ lost_in
 abbrev pub IsAwaited : End → MessageId → Type 0
 IsAwaited end id = is_some (waiting_for end id.value) ≡ true
 
--- A poll gave this, and left the source so. What it is by the rows is known where they are told.
+-- A poll gave this, and left the source so. What it is by the rows is known where they are told, and that those which it rests on are
+-- of their form.
 pub record Polled (rows : Option Rows) (end mid : End) (u : List ℕ) (now : ℕ) (poll : Poll) : Type 0 where
   pub sends : Sends end mid u now poll
   pub by_rows : IfSome rows (λ rows. Polls rows end mid u now poll)
+  pub judged : IfSome rows (λ rows. JudgesPoll rows end u)
 
 -- A delivery was exchanged, and the source took what came back.
 pub record IsDelivered (d : Delivery) (u : List ℕ) (before after : Told) (mid end : End) (result : Result Exchange FrontFault) : Type 0 where

@@ -1,5 +1,6 @@
 pub mod Heard
 pub mod HeardReplies
+pub mod Judged
 pub mod Laws
 pub mod Replies
 pub mod Sending

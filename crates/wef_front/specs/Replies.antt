@@ -24,6 +24,7 @@ use Rattle.wef_source.specs.declared.messages.Reply as source
 use Rattle.wef_source.specs.declared.messages.Reply.TheVariants as replies
 use Rattle.wef_xml.specs.Canonical.{canonical, encoded}
 use Rattle.wef_xml.specs.Good.{IsXmlText}
+use Rattle.wef_front.specs.Judged.{Judges}
 use Rattle.wef_front.specs.Steps.{HasStepped, Steps, effect_in, said_by}
 use Rattle.wef_http_heads.specs.declared.answers.Answer.{Answer}
 use Rattle.wef_front.specs.declared.hearing.Heard.{Heard}
@@ -160,6 +161,8 @@ MayHaveDrawn most before now = (draws : ℕ) × (draws ≤ most) × (now ≡ ids
 pub record IsAnswer (host : List ℕ) (heard : Heard) (charset : Charset) (moment : ℕ) (answer : Answer) (ids ids_now : Ids) (before now : Store) : Type 0 where
   pub said : Said
   pub stepped : Steps host heard.asked moment said before now
+  -- the rows that it read for that are of their form, unless it says that its store failed
+  pub judged : Judges host heard.asked moment said before now
   pub written : answer ≡ answer_of ids charset heard.relates said
   pub spelt : IsSpeltFor ids said
   pub drawn : ids_now ≡ ids_behind ids said

@@ -9,6 +9,7 @@ ghost use Rattle.wef_collector_rows.specs.declared.faults.CollectorFault as faul
 ghost use Rattle.wef_eventing.specs.Addresses.{IsHost};
 ghost use Rattle.wef_eventing.specs.declared.offers.Offer.{Offer as TheOffer};
 ghost use Rattle.wef_front.specs.Heard.{IsSoundAsk};
+ghost use Rattle.wef_front.specs.Judged.{Judges, JudgesBatch, JudgesOffers, JudgesUnread};
 ghost use Rattle.wef_front.specs.Steps.{Calls, CallsFor, HasStepped, IsAnswered, IsFailure, IsFault, IsKnownSaid, Says, SaysOffers, Steps, fault_for, said_of, said_with};
 ghost use Rattle.wef_front.specs.declared.saying.Said.TheVariants.{Fault, Offers};
 
@@ -44,6 +45,7 @@ pub fn say<K: Keeper>(
     requires host { IsHost host.now }
     requires sound { IsSoundAsk asked.now }
     ensures said { IfOk result (λ said. Steps host.now asked.now now said (K.store collector.old.keeper) (K.store collector.new.keeper)) }
+    ensures judged { IfOk result (λ said. Judges host.now asked.now now said (K.store collector.old.keeper) (K.store collector.new.keeper)) }
     ensures wants_memory { IfErr result (λ _. HasStepped host.now asked.now now (K.store collector.old.keeper) (K.store collector.new.keeper)) }
     ensures known { IfOk result IsKnownSaid }
     ensures ids { collector.new.ids ≡ collector.old.ids }
@@ -65,6 +67,7 @@ fn offer<K: Keeper>(
 ) -> Result<Said, AllocError>
     requires { IsHost host.now }
     ensures said { IfOk result (λ said. SaysOffers host.now source.now said (K.store collector.old.keeper) (K.store collector.new.keeper)) }
+    ensures judged { IfOk result (λ said. JudgesOffers host.now source.now said (K.store collector.old.keeper) (K.store collector.new.keeper)) }
     ensures wants_memory { IfErr result (λ _. (done : Result (List TheOffer) fault.CollectorFault) × CallsFor (λ rows. offers rows source.now host.now) no_effect done (K.store collector.old.keeper) (K.store collector.new.keeper) × IfErr done IsOfStore) }
     ensures known { IfOk result IsKnownSaid }
     ensures ids { collector.new.ids ≡ collector.old.ids }
@@ -88,9 +91,10 @@ fn said_of_offers(done: Result<List<Offer>, CollectorFault>) -> Result<Said, All
 }
 
 /// Takes a batch for a subscription that couldn't be read.
-#[tactic(auto, using(crate::proofs::SaidOfCalls::unread_of))]
+#[tactic(auto, using(crate::proofs::SaidOfCalls::unread_of, crate::proofs::SaidOfCalls::unread_judged))]
 fn take_unread<K: Keeper>(collector: &mut Collector<K>, sub: &SubId) -> Result<Said, AllocError>
     ensures said { IfOk result (λ said. Says false (λ rows. unread_effect rows sub.now) said (K.store collector.old.keeper) (K.store collector.new.keeper) × IsFault said) }
+    ensures judged { IfOk result (λ said. JudgesUnread sub.now said (K.store collector.old.keeper) (K.store collector.new.keeper)) }
     ensures wants_memory { IfErr result (λ _. (done : Result (Unit {0}) fault.CollectorFault) × Calls (λ rows. unread_effect rows sub.now) done (K.store collector.old.keeper) (K.store collector.new.keeper)) }
     ensures known { IfOk result IsKnownSaid }
     ensures ids { collector.new.ids ≡ collector.old.ids }
@@ -99,7 +103,7 @@ fn take_unread<K: Keeper>(collector: &mut Collector<K>, sub: &SubId) -> Result<S
 }
 
 /// Takes a batch of a source for a subscription.
-#[tactic(auto, using(crate::proofs::SaidOfCalls::says_of))]
+#[tactic(auto, using(crate::proofs::SaidOfCalls::says_of, crate::proofs::SaidOfCalls::batch_judged))]
 fn take<K: Keeper>(
     collector: &mut Collector<K>,
     sub: &SubId,
@@ -109,6 +113,7 @@ fn take<K: Keeper>(
 ) -> Result<Said, AllocError>
     requires { AreNumbered batch.now.items }
     ensures said { IfOk result (λ said. Says batch.now.ack_wanted (λ rows. take_effect rows sub.now source.now batch.now now) said (K.store collector.old.keeper) (K.store collector.new.keeper)) }
+    ensures judged { IfOk result (λ said. JudgesBatch sub.now source.now batch.now now said (K.store collector.old.keeper) (K.store collector.new.keeper)) }
     ensures wants_memory { IfErr result (λ _. (done : Result (Unit {0}) fault.CollectorFault) × Calls (λ rows. take_effect rows sub.now source.now batch.now now) done (K.store collector.old.keeper) (K.store collector.new.keeper)) }
     ensures known { IfOk result IsKnownSaid }
     ensures ids { collector.new.ids ≡ collector.old.ids }

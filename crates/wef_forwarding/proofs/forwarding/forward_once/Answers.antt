@@ -3,6 +3,7 @@ use Rattle.std.specs.Prelude.{IfSome}
 use Rattle.wef_keeper.specs.Access.{OpensAndReads}
 use Rattle.wef_keeper.specs.Rows.{Rows}
 use Rattle.wef_source.specs.Answers.{Polls, Sends, SendsAddressed, SendsNumbered}
+use Rattle.wef_source.specs.Judged.{JudgesPoll}
 use Rattle.wef_source.specs.declared.messages.Poll.{Poll}
 use Rattle.wef_source.specs.declared.messages.Poll.TheVariants.{Send}
 use Rattle.wef_source_log.specs.Forms.{AreFormed}
@@ -38,6 +39,7 @@ returns-in-Ok-Send-clause-forwards g c =
     (record {
       sends = subst (Sends end mid u c.args.now) is c.in-Ok-Send.ensures.sends;
       by_rows = subst (λ keeper. IfSome (g.K.Keeper.store keeper).rows (λ (rows : Rows). Polls rows end mid u c.args.now (Send c.in-Ok-Send.delivery))) (sym c.deliver.ensures.keeper) by_rows;
+      judged = subst (λ keeper. IfSome (g.K.Keeper.store keeper).rows (λ (rows : Rows). JudgesPoll rows end u)) (sym c.deliver.ensures.keeper) c.in-Ok-Send.ensures.judged;
     })
     c.deliver.ensures.delivered
 
