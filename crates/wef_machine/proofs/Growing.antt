@@ -131,6 +131,8 @@ pub terms_grow : (rows rows' : Rows) (u s address : List ℕ) (identifier : Opti
 terms_grow rows rows' u s address identifier query max_items max_bytes grows terms = record {
   about = terms.about;
   known = grows.known u terms.about terms.known;
+  at = terms.at;
+  host = terms.host;
   address_is = terms.address_is;
   to_subscription = terms.to_subscription;
   to_source = terms.to_source;

@@ -1,5 +1,5 @@
 -- What the collector of a kept world offers to a declared source can be written as bytes, and is read again.
-use Rattle.std.proofs.Common.{◌≡◌, ℕ, ◌≤◌, ◌==◌, ◌&&◌, nat_eq, nat_le, Bool, true, false, cond, max, List, [], ◌∷◌, length, take, drop, refl, ap, sym, ◌∙◌, subst, arith}
+use Rattle.std.proofs.Common.{◌≡◌, ℕ, ◌≤◌, ◌==◌, ◌&&◌, ◌||◌, not, nat_eq, nat_le, Bool, true, false, cond, max, List, [], ◌∷◌, ◌++◌, length, take, drop, append_assoc, refl, ap, sym, ◌∙◌, subst, arith}
 use Rattle.wef_documents.proofs.KeptBack.{kept_names, kept_plain, kept_xml}
 use Rattle.wef_documents.specs.Kept.{read_kept}
 use Rattle.wef_documents.specs.Laws.{HasKeptNames, HasXmlTexts, IsPlain}
@@ -8,9 +8,9 @@ use Rattle.std.proofs.lemmas.Bool.Decides.{nat_tests}
 use Rattle.std.proofs.lemmas.Option.{none-some}
 use Rattle.std.specs.Cmp.Lexicographic.{bytes_decides, pointwise, slice_cmp}
 use Rattle.std.specs.FinMap as finite
-use Rattle.std.specs.List.{AllByRecursion, filter, list_all}
+use Rattle.std.specs.List.{AllByRecursion, filter, list_all, list_any}
 use Rattle.std.specs.Ordering.{eq_by_cmp, nat_cmp}
-use Rattle.std.specs.Prelude.{Option, Some, None, IfSome, is_some}
+use Rattle.std.specs.Prelude.{Option, Some, None, IfSome, is_some, codes}
 use Rattle.std.specs.Str.{is_utf8}
 use Rattle.wef_base.specs.Names.{channel_name, same}
 use Rattle.wef_base.specs.declared.numbers.TheConstants.{MAX}
@@ -29,7 +29,7 @@ use Rattle.wef_collector_rows.specs.Forms as collector
 use Rattle.wef_collector_rows.specs.Keys.{bookmark_key}
 use Rattle.wef_eventing.proofs.AddressTexts.{address_is_plain, address_printed}
 use Rattle.wef_eventing.proofs.AddressesBack.{addresses_read_back}
-use Rattle.wef_eventing.specs.Addresses.{delivery_address, has_path, has_segments, is_address, is_delivery, is_printed, scheme, subscription_in}
+use Rattle.wef_eventing.specs.Addresses.{IsHost, behind_slash, delivery_address, has_path, has_segments, is_address, is_delivery, is_printed, is_slash, scheme, segment, subscription_in}
 use Rattle.wef_eventing.specs.declared.subscriptions.Subscription.{Subscription}
 use Rattle.wef_ids.proofs.PlainIds.{id_text_good, id_text_trimmed}
 use Rattle.wef_keeper.specs.Rows.{Rows, cell_of_row, row_of}
@@ -54,32 +54,77 @@ use Rattle.wef_machine.proofs.Sent.{all_map}
 tested : (m n : ℕ) → nat_le m n ≡ true → m ≤ n
 tested m n e = grind (arith, nat_tests, e)
 
--- ---- addresses at the collector's host
+-- ---- addresses at a host
 
--- it has the scheme, an authority and a path
-begins_well : (u s : List ℕ) → (same (take (length scheme) (delivery_address host u s)) scheme && has_path (drop (length scheme) (delivery_address host u s))) ≡ true
+-- whether a text begins otherwise than with a slash
+abbrev pub begins_bare : List ℕ → Bool
+begins_bare [] = false
+begins_bare (c ∷ cs) = not (is_slash c)
+
+-- a host that an address of HTTP may have: it isn't taken for the path
+abbrev pub IsAuthority : List ℕ → Type 0
+IsAuthority at = IsHost at × (begins_bare at ≡ true)
+
+slash_behind : (front rest : List ℕ) → list_any is_slash (front ++ 47 ∷ rest) ≡ true
+slash_behind [] rest = refl
+slash_behind (c ∷ front) rest = by (is_slash c) (slash_behind front rest)
+  where
+    by : (t : Bool) → list_any is_slash (front ++ 47 ∷ rest) ≡ true → (t || list_any is_slash (front ++ 47 ∷ rest)) ≡ true
+    by true later = refl
+    by false later = later
+
+second_slash : (front rest : List ℕ) → list_any is_slash rest ≡ true → list_any is_slash (behind_slash (front ++ 47 ∷ rest)) ≡ true
+second_slash [] rest has = has
+second_slash (c ∷ front) rest has = by (is_slash c) (second_slash front rest has)
+  where
+    by : (t : Bool) → list_any is_slash (behind_slash (front ++ 47 ∷ rest)) ≡ true → list_any is_slash (cond t (front ++ 47 ∷ rest) (behind_slash (front ++ 47 ∷ rest))) ≡ true
+    by true later = slash_behind front rest
+    by false later = later
+
+grouped : (at path u s : List ℕ) → at ++ path ++ u ++ s ≡ at ++ (path ++ (u ++ s))
+grouped at path u s = simp append_assoc
+
+-- what stands behind the first slash of an address's path
+behind_first : List ℕ → List ℕ → List ℕ
+behind_first u s = codes "wsman/subscriptions/" ++ (segment u ++ 47 ∷ segment s)
+
+-- an address behind its scheme
+behind_scheme : (at u s : List ℕ) → drop (length scheme) (delivery_address at u s) ≡ at ++ 47 ∷ behind_first u s
+unfolding delivery_address scheme behind_first
+behind_scheme at u s = grouped at (codes "/wsman/subscriptions/") (segment u) (47 ∷ segment s)
+
+scheme_there : (at u s : List ℕ) → same (take (length scheme) (delivery_address at u s)) scheme ≡ true
 unfolding delivery_address scheme
-begins_well u s = refl
+scheme_there at u s = refl
 
-segments_there : (u s : List ℕ) → has_segments (delivery_address host u s) ≡ true
-unfolding delivery_address scheme
-segments_there u s = refl
+path_there : (at rest : List ℕ) → begins_bare at ≡ true → has_path (at ++ 47 ∷ rest) ≡ true
+path_there [] rest bare = cc
+path_there (c ∷ at) rest bare = and_from (not (is_slash c)) (list_any is_slash (at ++ 47 ∷ rest)) bare (slash_behind at rest)
 
--- so it is one of HTTP
-address_there : (u s : List ℕ) → is_address (delivery_address host u s) ≡ true
-address_there u s =
-    let address = delivery_address host u s in
-    and_from (same (take (length scheme) address) scheme && has_path (drop (length scheme) address)) (list_all is_printed address) (begins_well u s) (address_printed host u s refl)
+first_there : (u s : List ℕ) → list_any is_slash (behind_first u s) ≡ true
+unfolding behind_first
+first_there u s = refl
+
+segments_there : (at u s : List ℕ) → has_segments (delivery_address at u s) ≡ true
+segments_there at u s = ap (λ (text : List ℕ). list_any is_slash (behind_slash text)) (behind_scheme at u s) ∙ second_slash at (behind_first u s) (first_there u s)
+
+-- it has the scheme, an authority and a path, so it is one of HTTP
+address_there : (at u s : List ℕ) → IsAuthority at → is_address (delivery_address at u s) ≡ true
+address_there at u s is =
+    let address = delivery_address at u s in
+    let path = ap has_path (behind_scheme at u s) ∙ path_there at (behind_first u s) is.1 in
+    and_from (same (take (length scheme) address) scheme && has_path (drop (length scheme) address)) (list_all is_printed address)
+    (and_from (same (take (length scheme) address) scheme) (has_path (drop (length scheme) address)) (scheme_there at u s) path) (address_printed at u s is.0.1)
 
 -- and leads to the subscription
-delivery_there : (u s : List ℕ) → is_subscription u ≡ true → is_source s ≡ true → is_delivery (delivery_address host u s) ≡ true
-delivery_there u s name good =
-    let address = delivery_address host u s in
+delivery_there : (at u s : List ℕ) → IsAuthority at → is_subscription u ≡ true → is_source s ≡ true → is_delivery (delivery_address at u s) ≡ true
+delivery_there at u s is name good =
+    let address = delivery_address at u s in
     let sub = reads_subscription u name in
     let source = reads_source s good in
-    let back = addresses_read_back host u s sub.0 sub.1 source.0 source.1 in
+    let back = addresses_read_back at u s sub.0 sub.1 source.0 source.1 in
     and_from (is_address address && has_segments address) (is_some (subscription_in address))
-    (and_from (is_address address) (has_segments address) (address_there u s) (segments_there u s)) (ap is_some back.0)
+    (and_from (is_address address) (has_segments address) (address_there at u s is) (segments_there at u s)) (ap is_some back.0)
 
 -- ---- names
 
@@ -181,15 +226,15 @@ good_marks rows u s formed named =
 -- ---- offers
 
 -- the offer of a listed subscription is read as it is written
-plain_offer : (rows : Rows) (s : List ℕ) → collector.AreFormed rows → IsKeptNamed rows s → is_source s ≡ true → (l : Listed) → IsListed rows l → IsPlainOffer (offer_made rows s host l.subscription)
-plain_offer rows s formed named good l is =
+plain_offer : (rows : Rows) (s at : List ℕ) → IsAuthority at → collector.AreFormed rows → IsKeptNamed rows s → is_source s ≡ true → (l : Listed) → IsListed rows l → IsPlainOffer (offer_made rows s at l.subscription)
+plain_offer rows s at is_host formed named good l is =
     let about = l.subscription in
     let said = known_said rows about.name about is.known in
     record {
       version = id_text_trimmed about.version;
       subscribe = record {
-        notify_to = delivery_there about.name s is.name good;
-        end_to = address_there about.name s;
+        notify_to = delivery_there at about.name s is_host is.name good;
+        end_to = address_there at about.name s is_host;
         identifier = (subscription_is_plain about.name is.name).0;
         query = said.plain.query;
         max_items = said.plain.max_items;
@@ -201,11 +246,11 @@ plain_offer rows s formed named good l is =
     }
 
 -- and its texts can stand in a message
-standing_offer : (rows : Rows) (s : List ℕ) → collector.AreFormed rows → IsKeptNamed rows s → (l : Listed) → IsListed rows l → OfferCanStand (offer_made rows s host l.subscription)
-standing_offer rows s formed named l is =
+standing_offer : (rows : Rows) (s at : List ℕ) → IsHost at → collector.AreFormed rows → IsKeptNamed rows s → (l : Listed) → IsListed rows l → OfferCanStand (offer_made rows s at l.subscription)
+standing_offer rows s at is_host formed named l is =
     let about = l.subscription in
     let said = known_said rows about.name about is.known in
-    let address = (address_is_plain host about.name s (omega arith, refl)).1 in
+    let address = (address_is_plain at about.name s is_host).1 in
     let marks = good_marks rows about.name s formed named in
     record {
       version = id_text_good about.version;
@@ -216,10 +261,10 @@ standing_offer rows s formed named l is =
     }
 
 -- what is offered to a source can be written, and read again
-pub offers_can_be_sent : (rows : Rows) (s : List ℕ) → AreRowKeys rows → collector.AreFormed rows → IsKeptNamed rows s → is_source s ≡ true →
-    AllByRecursion IsPlainOffer (offers rows s host) × AllByRecursion OfferCanStand (offers rows s host)
-offers_can_be_sent rows s keys formed named good =
-    (all_made rows s host IsPlainOffer keys (plain_offer rows s formed named good), all_made rows s host OfferCanStand keys (standing_offer rows s formed named))
+pub offers_can_be_sent : (rows : Rows) (s at : List ℕ) → IsAuthority at → AreRowKeys rows → collector.AreFormed rows → IsKeptNamed rows s → is_source s ≡ true →
+    AllByRecursion IsPlainOffer (offers rows s at) × AllByRecursion OfferCanStand (offers rows s at)
+offers_can_be_sent rows s at is_host keys formed named good =
+    (all_made rows s at IsPlainOffer keys (plain_offer rows s at is_host formed named good), all_made rows s at OfferCanStand keys (standing_offer rows s at is_host.0 formed named))
 
 -- ---- kept worlds
 
@@ -244,4 +289,4 @@ declared_named state s slot kept there u c key cell is stands =
 pub kept_offers_can_be_sent : (state : State) (s : List ℕ) (slot : Slot) → IsKept state → slot_of state s ≡ Some slot →
     AllByRecursion IsPlainOffer (offers state.collector.rows s host) × AllByRecursion OfferCanStand (offers state.collector.rows s host)
 kept_offers_can_be_sent state s slot kept there =
-    offers_can_be_sent state.collector.rows s kept.keys kept.formed (declared_named state s slot kept there) (kept.sources s slot there).name
+    offers_can_be_sent state.collector.rows s host ((omega arith, refl), refl) kept.keys kept.formed (declared_named state s slot kept there) (kept.sources s slot there).name

@@ -31,7 +31,7 @@ use Rattle.wef_collector_rows.specs.Standing.{standing}
 use Rattle.wef_collector_reports.specs.declared.listing.Listed.{Listed}
 use Rattle.wef_collector_rows.specs.declared.standings.Standing.TheVariants.{Ended, Live}
 use Rattle.wef_eventing.proofs.AddressesBack.{addresses_read_back}
-use Rattle.wef_eventing.specs.Addresses.{delivery_address, source_in, subscription_in}
+use Rattle.wef_eventing.specs.Addresses.{IsHost, delivery_address, source_in, subscription_in}
 use Rattle.wef_eventing.specs.declared.offers.Offer.{Offer}
 use Rattle.wef_keeper.specs.Rows.{Rows, cell_of_row, is_after, key_cmp, key_cmp_total, row_of, rows_after}
 use Rattle.wef_keeper.specs.Sections.{is_under, rows_under}
@@ -44,7 +44,6 @@ use Rattle.wef_replay.proofs.GoodNames.{one_given}
 use Rattle.wef_replay.specs.Good.{is_one, is_source, is_subscription}
 use Rattle.wef_machine.specs.Kept.{IsBehind, IsOffered}
 use Rattle.wef_machine.specs.Safe.{about_of, subscription_at}
-use Rattle.wef_machine.specs.States.{host}
 use Rattle.wef_machine.proofs.RowMoves.{AreRowKeys, known_name}
 use Rattle.wef_machine.proofs.Sent.{all_filter_map, all_map}
 
@@ -223,14 +222,16 @@ leads_back rows s host good l is =
     (back.0, back.1)
 
 -- all that is offered to a source is offered well
-pub all_offers : (rows : Rows) (s : List ℕ) → AreRowKeys rows → is_source s ≡ true → AllByRecursion (λ (offer : Offer). IsOffered rows s offer.subscribe) (offers rows s host)
-all_offers rows s keys good = all_made rows s host (λ (offer : Offer). IsOffered rows s offer.subscribe) keys (λ l is.
+pub all_offers : (rows : Rows) (s host : List ℕ) → IsHost host → AreRowKeys rows → is_source s ≡ true → AllByRecursion (λ (offer : Offer). IsOffered rows s offer.subscribe) (offers rows s host)
+all_offers rows s host is_host keys good = all_made rows s host (λ (offer : Offer). IsOffered rows s offer.subscribe) keys (λ l is.
     let back = leads_back rows s host good l is in
     record {
       u = l.subscription.name;
       terms = record {
         about = l.subscription;
         known = is.known;
+        at = host;
+        host = is_host;
         address_is = refl;
         to_subscription = back.0;
         to_source = back.1;

@@ -150,7 +150,7 @@ delivery_can_be_sent state s u slot end session kept there runs found left =
     record {
       spelt = next_spelt slot.place.rows end source.formed running.0.boot left;
       id = id_text_good (next_id end);
-      notify_to = subst IsPlainText (sym served.terms.address_is) (address_is_plain host session.name s (omega arith, refl));
+      notify_to = subst IsPlainText (sym served.terms.address_is) (address_is_plain served.terms.at session.name s served.terms.host);
       identifier = subst (λ (o : Option (List ℕ)). IfSome o IsPlainText) (sym served.terms.identifier_is) (subscription_is_plain session.name name);
       plain = items.0;
       kept = items.1;

@@ -79,7 +79,7 @@ taken_keeps : Lower → (state : State) (m : Message) → IsKept state → WasSe
 taken_keeps lower state (sent.Ask s id) kept was = at_collector_keeps lower state (offers_at s id) kept (λ now ids kept_now opened.
     let was_now : WasSent now.messages (sent.Ask s id) = subst (λ (ms : List Message). WasSent ms (sent.Ask s id)) (sym opened.messages) was in
     of_declared (slot_of now s) (λ (slot : Slot). WasDrawn slot id.value) (IsKept (offers_at s id ids now)) (kept_now.messages (sent.Ask s id) was_now) (λ slot there drawn.
-    kept_reply now (sent.Offers s (reply_id ids) id (offers now.collector.rows s host)) kept_now refl (all_offers now.collector.rows s kept_now.keys (kept_now.sources s slot there).name)))
+    kept_reply now (sent.Offers s (reply_id ids) id (offers now.collector.rows s host)) kept_now refl (all_offers now.collector.rows s host (omega arith, refl) kept_now.keys (kept_now.sources s slot there).name)))
 taken_keeps lower state (sent.Offers s id relates given) kept was = offers_keep lower state s relates given kept (kept.messages (sent.Offers s id relates given) was)
 taken_keeps lower state (sent.Events s delivery) kept was = at_collector_keeps lower state (events_at s delivery) kept (λ now ids kept_now opened.
     let was_now : WasSent now.messages (sent.Events s delivery) = subst (λ (ms : List Message). WasSent ms (sent.Events s delivery)) (sym opened.messages) was in

@@ -11,7 +11,7 @@ use Rattle.wef_collector_rows.specs.Forms as collector
 use Rattle.wef_collector.specs.FormsStay.{IsSoundBatch}
 use Rattle.wef_collector_rows.specs.Keys.{subscription_key}
 use Rattle.wef_ids.specs.declared.MessageId.{MessageId}
-use Rattle.wef_eventing.specs.Addresses.{delivery_address, source_in, subscription_in}
+use Rattle.wef_eventing.specs.Addresses.{IsHost, delivery_address, source_in, subscription_in}
 use Rattle.wef_eventing.specs.declared.offers.Offer.{Offer}
 use Rattle.wef_eventing.specs.declared.offers.Subscribe.{Subscribe}
 use Rattle.wef_eventing.specs.declared.subscriptions.Subscription.{Subscription}
@@ -31,7 +31,7 @@ use Rattle.wef_source.specs.declared.messages.Delivery.{Delivery}
 use Rattle.wef_source.specs.declared.sessions.Outstanding.{Outstanding}
 use Rattle.wef_source.specs.declared.sessions.Session.{Session}
 use Rattle.wef_machine.specs.Safe.{IsAcknowledged, IsPairSafe, IsUntouched, WasSent, settings_of, subscription_at}
-use Rattle.wef_machine.specs.States.{Slot, Slots, State, host}
+use Rattle.wef_machine.specs.States.{Slot, Slots, State}
 use Rattle.wef_machine.specs.declared.messages.Message.{Message}
 use Rattle.wef_machine.specs.declared.messages.Message.TheVariants.{Ask, Offers, Events, Ack, Fault}
 
@@ -49,8 +49,10 @@ pub record AreTerms (rows : Rows) (u s address : List ℕ) (identifier : Option 
   pub about : Subscription
   -- the subscription is there, live or ended
   pub known : subscription_at rows u ≡ Some about
-  -- the address is the collector's for both, and leads to it and to the source
-  pub address_is : address ≡ delivery_address host u s
+  -- the address is the collector's for both, at some host, and leads to it and to the source
+  pub at : List ℕ
+  pub host : IsHost at
+  pub address_is : address ≡ delivery_address at u s
   pub to_subscription : subscription_in address ≡ Some u
   pub to_source : source_in address ≡ Some s
   -- each delivery tells the name
