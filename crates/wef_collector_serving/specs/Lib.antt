@@ -1,3 +1,4 @@
 pub mod Answers
 pub mod ByRows
+pub mod Clocks
 pub mod Laws

@@ -1,6 +1,7 @@
 //! Laws of connections that were served for a collector, each the contract of a function that does
 //! nothing.
 
+ghost use Rattle.wef_collector_serving.specs.Clocks.{ClocksDecideNothingElse};
 ghost use Rattle.wef_collector_serving.specs.Laws.{ConnectionsGoByRows, FaultsNeverFall, InternalErrorsRaiseFaults, RequestsGoByRows};
 
 /// Over a connection the count of the store's faults never falls. Where it doesn't rise, no request of
@@ -18,4 +19,13 @@ pub fn internal_errors_raise_faults()
 pub fn connections_go_by_rows()
     ensures served { ConnectionsGoByRows }
     ensures answered { RequestsGoByRows }
+{}
+
+/// Of a connection the clock decides the moments at which sources were heard, and nothing else: over rows
+/// that are alike, whatever two clocks tell, the same bytes are answered with the same bytes, under the
+/// same ids, and the rows then are alike. This holds where neither the store nor the port fails and memory
+/// isn't short. One choice is left, which no clock decides: a head that is cut off, and that nothing could
+/// make good, may be refused, or end the connection as one that was cut short.
+pub fn clocks_decide_nothing_else()
+    ensures { ClocksDecideNothingElse }
 {}

@@ -33,7 +33,7 @@ which_found Holds None any = (any.0, tt, any.1)
 which_found Holds (Some images) any = which_of Holds images any
 
 -- without doubt an opening finds the rows that stand
-calm_rows : (rows : Option Rows) (images : Option (List Rows)) (left : Rows) → is_some images ≡ is_some rows → IfSome images (λ all. WhereTold rows (λ stand. all ≡ stand ∷ []))
+pub calm_rows : (rows : Option Rows) (images : Option (List Rows)) (left : Rows) → is_some images ≡ is_some rows → IfSome images (λ all. WhereTold rows (λ stand. all ≡ stand ∷ []))
     → WhereTold images (λ all. IsOneOf all left) → rows ≡ Some left
 calm_rows rows None left both only one = absurd one
 calm_rows None (Some all) left both only one = let no : true ≡ false = both in cc

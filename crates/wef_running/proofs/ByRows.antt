@@ -1,20 +1,18 @@
 -- `collect` over rows: from any of those that an opening may find behind it, back to those that stood before.
-use Rattle.std.proofs.Common.{◌≡◌, ◌⊎◌, inl, inr, ℕ, zero, suc, ◌+◌, ◌<◌, ◌≤◌, true, false, List, [], ◌∷◌, ◌++◌, ap, sym, refl, subst, ◌∙◌, arith}
-use Rattle.std.proofs.lemmas.Option.{same_Some}
+use Rattle.std.proofs.Common.{◌≡◌, inl, inr, ℕ, ◌+◌, ◌≤◌, true, List, [], ◌∷◌, ◌++◌, ap, sym, refl, subst, arith}
 use Rattle.std.specs.List.{AllByRecursion}
-use Rattle.std.specs.Prelude.{Option, Some, None, IfSome, Result, Ok, Err}
+use Rattle.std.specs.Prelude.{Option, Some, None, IfSome, Ok, Err}
 use Rattle.wef_collector.specs.Boots.{ids_begun}
 use Rattle.wef_collector.specs.Calls.{boot_effect}
 use Rattle.wef_collector.specs.Laws.{BookmarksRise}
-use Rattle.wef_collector_rows.specs.Bookmarks.{bookmark_at}
 use Rattle.wef_collector_rows.specs.Faults.{collector_store}
 use Rattle.wef_collector_rows.specs.Forms.{AreFormed}
 use Rattle.wef_collector_rows.specs.declared.faults.CollectorFault.{CollectorFault}
 use Rattle.wef_collector_serving.proofs.OverRows.{both_counted, both_rise, connections_go_by_rows, from_none, nothing_counted, requests_go_by_rows, turns_later, turns_open}
-use Rattle.wef_collector_serving.specs.Answers.{Answers, AnswersInTurn, KnownCollector, Leaves}
+use Rattle.wef_collector_serving.specs.Answers.{Answers, KnownCollector, Leaves}
 use Rattle.wef_collector_serving.specs.ByRows.{AnswersBy, AreGood, Kept, LeavesBy, kept_of}
-use Rattle.wef_collector_serving.specs.Laws.{AreCounted, IsServedOver}
-use Rattle.wef_commands.proofs.ByRows.{calm_rows, from_one, image_of, started_so}
+use Rattle.wef_collector_serving.specs.Laws.{AreCounted}
+use Rattle.wef_commands.proofs.ByRows.{from_one, image_of, started_so}
 use Rattle.wef_commands.specs.Calling.{Starts, store_ending}
 use Rattle.wef_commands.specs.Endings.{IsUnwritten, Told}
 use Rattle.wef_commands.specs.Laws.{Stand, started}
@@ -26,7 +24,7 @@ use Rattle.wef_http_heads.specs.declared.answers.Answer.{Answer}
 use Rattle.wef_http_heads.specs.declared.targets.Side.{Side}
 use Rattle.wef_http_heads.specs.declared.targets.Side.TheVariants.{Collector}
 use Rattle.wef_ids.specs.declared.ids.Ids.{Ids}
-use Rattle.wef_keeper.proofs.Going.{goes_over, which_found}
+use Rattle.wef_keeper.proofs.Going.{calm_rows, goes_over, which_found}
 use Rattle.wef_keeper.specs.Calls.{Did, GoesOver}
 use Rattle.wef_keeper.specs.Keeping.{IsOneOf, MayFind, Store, WhereTold}
 use Rattle.wef_keeper.specs.Rows.{Rows}
@@ -35,9 +33,9 @@ use Rattle.wef_serving.specs.Serving.{AnswersAt, LeavesAt, Responds, RespondsInT
 use Rattle.wef_serving.specs.Serving.{finishes, cuts, refuses, closes, goes_on, breaks, refuses_part, answers_part, leaves, to_none, to_one_more}
 use Rattle.wef_serving.specs.Turns.{OnSent}
 use Rattle.wef_serving.specs.declared.ends.ConnectionEnd.{ConnectionEnd}
-use Rattle.wef_running.specs.ByRows.{AreServedBy, CollectSays, CollectsByRows, IsNotStarted, IsServedBy, IsStarted, begun}
+use Rattle.wef_running.specs.ByRows.{AreServedBy, CollectsByRows, IsNotStarted, IsServedBy, IsStarted, begun}
 use Rattle.wef_running.specs.ByRows.{none_by, one_by}
-use Rattle.wef_running.specs.Collecting.{AreServed, AreTold, IsServed, IsTheLast, ListeningEnds, ListeningEndsBy, ServingEnds, ServingEndsBy, TellingEnds, TellingEndsBy, listening_line}
+use Rattle.wef_running.specs.Collecting.{AreServed, IsServed, IsTheLast, ListeningEnds, ListeningEndsBy, ServingEnds, ServingEndsBy, TellingEnds, TellingEndsBy, listening_line}
 use Rattle.wef_running.specs.Collecting.{none_served, one_served}
 
 -- ---- the requests of a connection, without its bytes
@@ -69,13 +67,13 @@ record IsServedBack (final : Rows) (clock : Option ℕ) (f : ports.Told) (s : Kn
   counts : AreCounted s t errors
   rises : BookmarksRise first last
 
-record AreServedBack (final : Rows) (clock : Option ℕ) (f : ports.Told) (s : KnownCollector) (es : List ConnectionEnd) (g : ports.Told) (t : KnownCollector) (last : Rows) : Type 0 where
-  first : Rows
-  found : MayFind s.store first
-  errors : ℕ
-  served : (before : ℕ) → AreServedBy final clock f (kept_of first s before) es g (kept_of last t (errors + before))
-  counts : AreCounted s t errors
-  rises : BookmarksRise first last
+pub record AreServedBack (final : Rows) (clock : Option ℕ) (f : ports.Told) (s : KnownCollector) (es : List ConnectionEnd) (g : ports.Told) (t : KnownCollector) (last : Rows) : Type 0 where
+  pub first : Rows
+  pub found : MayFind s.store first
+  pub errors : ℕ
+  pub served : (before : ℕ) → AreServedBy final clock f (kept_of first s before) es g (kept_of last t (errors + before))
+  pub counts : AreCounted s t errors
+  pub rises : BookmarksRise first last
 
 module _ (final : Rows) (clock : Option ℕ) where
   one_back : (f : ports.Told) (s : KnownCollector) (g : ports.Told) (t : KnownCollector) (e : ConnectionEnd) (last : Rows) → IsServed clock f s g t e → s.store.opened ≡ true → MayFind t.store last → BookmarksRise last final
@@ -127,7 +125,7 @@ module _ (final : Rows) (clock : Option ℕ) where
   all_later (none_served f s) = omega arith
   all_later (one_served f g h s t u e es is more) = let here = one_later f s g t e is in let there = all_later more in omega (arith, here, there)
 
-  all_back : {f : ports.Told} {s : KnownCollector} {es : List ConnectionEnd} {g : ports.Told} {t : KnownCollector} → AreServed clock f s es g t → s.store.opened ≡ true → (last : Rows) → MayFind t.store last → BookmarksRise last final
+  pub all_back : {f : ports.Told} {s : KnownCollector} {es : List ConnectionEnd} {g : ports.Told} {t : KnownCollector} → AreServed clock f s es g t → s.store.opened ≡ true → (last : Rows) → MayFind t.store last → BookmarksRise last final
       → AreServedBack final clock f s es g t last
   all_back (none_served f s) opened last found rises =
       record { first = last; found = found; errors = 0; served = λ before. subst (λ (n : ℕ). AreServedBy final clock f (kept_of last s before) [] f (kept_of last s n)) (from_none before) (none_by f (kept_of last s before)); counts = nothing_counted clock s opened; rises = λ u s c. omega arith }
@@ -252,7 +250,7 @@ not_started ending out f g before now fault start is unwritten same found last s
     (unwritten, same, inr (fault, is, start.1, subst (λ (rows : Rows). GoesOver collector_store boot_effect ids_begun (Err fault) rows last) (only_found before found back.0 stand back.1) back.2))
 
 -- rows of their form are so behind a start
-good_start : (before mid : Store) (ids : Ids) (found : Rows) → Starts (Ok ids) before mid → Stand before found → AreFormed found → AreGood mid
+pub good_start : (before mid : Store) (ids : Ids) (found : Rows) → Starts (Ok ids) before mid → Stand before found → AreFormed found → AreGood mid
 good_start before mid ids found start stand formed =
     let stays = subst (λ (o : Option (List Rows)). IfSome o (λ old. AllByRecursion AreFormed old → IfSome mid.images (AllByRecursion AreFormed))) (image_of before found stand) start.0.formed in
     stays (formed, tt)

@@ -1,5 +1,6 @@
 pub mod BatchesSent
 pub mod ByRows
 pub mod Collected
+pub mod CollectedAlike
 pub mod LinksCounted
 pub mod SentByRows

@@ -1,13 +1,11 @@
 -- Where a run of `forward` says that its link failed, the link's count of faults rose in it.
-use Rattle.std.proofs.Common.{◌≡◌, ◌⊎◌, inl, inr, ℕ, ◌≤◌, List, [], ◌∷◌, ◌++◌, ap, sym, refl, subst, ◌∙◌, arith}
-use Rattle.std.specs.List.{flat_map}
+use Rattle.std.proofs.Common.{◌≡◌, inl, inr, ℕ, ◌≤◌, List, [], ◌∷◌, ap, refl, subst, arith}
 use Rattle.std.specs.Prelude.{Option, Some, None, Result, Ok, Err}
 use Rattle.wef_base.specs.Counts.{Rose}
 use Rattle.wef_commands.specs.Endings.{Told}
-use Rattle.wef_commands.specs.declared.ending.Ending.{Ending}
 use Rattle.wef_commands.specs.declared.ending.Ending.TheVariants as ends
 use Rattle.wef_forwarding.specs.Exchanges.{Replied}
-use Rattle.wef_forwarding.specs.Forwarding.{Delivers, Ends, Forwards, IsDelivered}
+use Rattle.wef_forwarding.specs.Forwarding.{Delivers, Ends, Forwards}
 use Rattle.wef_forwarding.specs.declared.exchanges.FrontFault.{FrontFault}
 use Rattle.wef_forwarding.specs.declared.exchanges.FrontFault.TheVariants as fronts
 use Rattle.wef_forwarding.specs.declared.forwarding.Exchange.{Exchange}
@@ -20,7 +18,7 @@ use Rattle.wef_source.specs.declared.faults.SourceFault.TheVariants as faults
 use Rattle.wef_source.specs.declared.messages.Delivery.{Delivery}
 use Rattle.wef_source.specs.declared.messages.Reply.{Reply}
 use Rattle.wef_running.specs.ByRows.{FailedLinksAreCounted}
-use Rattle.wef_running.specs.Forwarding.{AreSent, AsksAndSends, EndsBefore, IsAsked, IsSent, Plan, Running, SendsAll, SendsFrom, behind, behind_all, front_ending, line_of, next, source_ending, unless_gone}
+use Rattle.wef_running.specs.Forwarding.{AreSent, AsksAndSends, EndsBefore, IsAsked, IsSent, Plan, Running, SendsFrom, behind, front_ending, source_ending, unless_gone}
 
 -- ---- which fault it is
 

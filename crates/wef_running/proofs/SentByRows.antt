@@ -1,8 +1,8 @@
 -- `forward` over rows: its source changes them once, as it starts, and each batch is the one that they give then.
-use Rattle.std.proofs.Common.{◌≡◌, ◌⊎◌, inl, inr, ℕ, ◌≤◌, Bool, true, false, List, [], ◌∷◌, ◌++◌, length, ap, sym, refl, subst, ◌∙◌, arith}
+use Rattle.std.proofs.Common.{◌≡◌, inl, inr, ℕ, Bool, true, false, List, [], ◌∷◌, ◌++◌, ap, sym, refl, subst, ◌∙◌}
 use Rattle.std.specs.List.{AllByRecursion, flat_map}
 use Rattle.std.specs.Prelude.{Option, Some, None, IfSome, Result, Ok, Err, is_some, if◌then◌else◌}
-use Rattle.wef_commands.proofs.ByRows.{from_one, image_of}
+use Rattle.wef_commands.proofs.ByRows.{from_one}
 use Rattle.wef_commands.specs.Endings.{IsUnwritten, Told}
 use Rattle.wef_commands.specs.Laws.{Stand}
 use Rattle.wef_commands.specs.declared.ending.Ending.{Ending}
@@ -27,7 +27,7 @@ use Rattle.wef_source_log.specs.Windows as log
 use Rattle.wef_source_log.specs.declared.faults.LogFault.TheVariants as log_faults
 use Rattle.wef_running.proofs.ByRows.{only_found}
 use Rattle.wef_running.specs.ByRows.{ForwardsByRows, IsBegun, IsNotBegun, IsSentOver}
-use Rattle.wef_running.specs.Forwarding.{AreSent, AreSentBy, AsksAndSends, AsksAndSendsBy, EndsAt, EndsBefore, EndsBeforeBy, IsAsked, IsSent, Plan, Running, SendsAll, SendsAllBy, SendsFrom, SendsFromBy, StartsSource, behind, behind_all, front_ending, line_of, next, source_ending, unless_gone}
+use Rattle.wef_running.specs.Forwarding.{AreSent, AreSentBy, AsksAndSends, AsksAndSendsBy, EndsBefore, EndsBeforeBy, IsSent, Plan, Running, SendsAll, SendsAllBy, SendsFrom, SendsFromBy, StartsSource, behind, behind_all, line_of, next, source_ending}
 
 -- ---- a store that keeps its rows
 

@@ -1,3 +1,4 @@
 pub mod ByRows
+pub mod Clocks
 pub mod Collecting
 pub mod Forwarding

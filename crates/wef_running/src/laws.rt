@@ -2,6 +2,7 @@
 //! does nothing.
 
 ghost use Rattle.wef_running.specs.ByRows.{CollectsByRows, FailedLinksAreCounted, ForwardsByRows};
+ghost use Rattle.wef_running.specs.Clocks.{CollectsAlike};
 
 /// Where the rows before `collect` are told, and what an opening may find behind it: each connection is
 /// served over the rows that the one before it left, from the started collector's on. Each request got
@@ -22,4 +23,14 @@ pub fn forwarding_goes_by_rows()
 /// Where `forward` says that its link failed, the link's count of faults rose in this run.
 pub fn failed_links_are_counted()
     ensures { FailedLinksAreCounted }
+{}
+
+/// Of `collect` the clock decides the moments at which sources were heard, and nothing else: two runs of so
+/// many connections at an address, over the same bytes and over rows that are alike, send the same in each
+/// connection, whatever their clocks tell, and leave rows that are alike. This holds of runs that are done
+/// over rows that are told and of their form, where neither the store nor the front failed; that memory
+/// wasn't short follows. One choice is left, which no clock decides: a head that is cut off, and that
+/// nothing could make good, may be refused, or end its connection as one that was cut short.
+pub fn collecting_is_alike_by_any_clock()
+    ensures { CollectsAlike }
 {}
