@@ -1,9 +1,13 @@
 pub mod Causes
+pub mod CollectingDue
 pub mod Completing
 pub mod FailuresCaused
+pub mod FormsStaying
+pub mod ForwardingDue
 pub mod ForwardsCaused
 mod Hosts
 pub mod LinesDone
 mod Named
+pub mod TellingDue
 pub mod TooLong
 mod Wanting

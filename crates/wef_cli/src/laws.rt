@@ -1,6 +1,7 @@
 //! How runs end, as contracts.
 
 ghost use Rattle.wef_cli.specs.Complete.{BadLinesAreTold, EndsAsCalledFor, FailsWithCause};
+ghost use Rattle.wef_cli.specs.Due.{AddsAsDue, CollectsAsDue, EventsAsDue, ForwardsAsDue, ListsAsDue, RemovesAsDue, ShowsAsDue, WritesAsDue};
 
 /// Where nothing fails, a run of `replay` or `check` ends as its input calls for, or wants memory.
 pub fn runs_are_complete()
@@ -11,6 +12,20 @@ pub fn runs_are_complete()
 /// nothing, or wants memory.
 pub fn bad_lines_are_told()
     ensures { BadLinesAreTold }
+{}
+
+/// Where nothing fails, and the rows before and behind a run are told and of their form: each command
+/// over the store tells the ending that its input and these rows call for, or that it wants memory. Where
+/// that is that it is done, its whole output is written, and the rows are what it makes of them.
+pub fn endings_are_due()
+    ensures add { AddsAsDue }
+    ensures remove { RemovesAsDue }
+    ensures list { ListsAsDue }
+    ensures show { ShowsAsDue }
+    ensures events { EventsAsDue }
+    ensures write { WritesAsDue }
+    ensures collect { CollectsAsDue }
+    ensures forward { ForwardsAsDue }
 {}
 
 /// A store that tells its rows is said to fail only where its count of faults rose in the run, or where

@@ -1,25 +1,24 @@
 -- What the collector's commands do, by the rows that stood before them.
-use Rattle.std.proofs.Common.{◌≡◌, ◌⊎◌, ℕ, ◌+◌, Bool, true, false, cond, List, [], ◌∷◌, refl, sym, ap, ◌∙◌, subst, nat_lt, inl, inr}
+use Rattle.std.proofs.Common.{◌≡◌, ℕ, ◌+◌, Bool, true, false, List, [], ◌∷◌, refl, sym, ap, ◌∙◌, subst, nat_lt, inl, inr}
 use Rattle.std.proofs.lemmas.Option.{none-some, same_Some}
-use Rattle.std.specs.Prelude.{Option, Some, None, Result, Ok, Err, IfSome, is_some, if◌then◌else◌}
+use Rattle.std.specs.Prelude.{Option, Some, None, Ok, Err, IfSome, is_some, if◌then◌else◌}
 use Rattle.std.specs.Io.KnownBytes.{Appends}
 use Rattle.wef_base.specs.declared.numbers.TheConstants.{MAX}
 use Rattle.wef_documents.specs.Written.{document_text}
 use Rattle.wef_eventing.specs.declared.subscriptions.Subscription.{Subscription}
 use Rattle.wef_ids.specs.declared.ids.Ids.{Ids}
 use Rattle.wef_keeper.specs.Access.{AnyFound, From, IsReady}
-use Rattle.wef_keeper.specs.Calls.{Did, Effect, Makes}
+use Rattle.wef_keeper.specs.Calls.{Did, Makes}
 use Rattle.wef_keeper.specs.Keeping.{IsLawful, IsOneOf, Stays, StaysUntold, Store, WhereTold}
-use Rattle.wef_keeper.specs.Rows.{Rows, applied}
-use Rattle.wef_keeper.specs.declared.keys.Change.{Change}
+use Rattle.wef_keeper.specs.Rows.{Rows}
 use Rattle.wef_collector.specs.Boots.{boot_of, ids_begun}
-use Rattle.wef_collector.specs.Calls.{add_effect, boot_effect, end_by, end_effect, ended}
+use Rattle.wef_collector.specs.Calls.{add_effect, boot_effect, end_by, end_effect}
 use Rattle.wef_collector.specs.Taken.{put}
 use Rattle.wef_collector.proofs.Live.{put_lives}
 use Rattle.wef_collector_reports.specs.Listing.{listed}
 use Rattle.wef_collector_reports.specs.Report.{report}
 use Rattle.wef_collector_reports.specs.declared.listing.Listed.{Listed}
-use Rattle.wef_collector_rows.specs.Answers.{IsEnded, added_rows, ended_rows, is_known, is_there}
+use Rattle.wef_collector_rows.specs.Answers.{IsEnded, IsOfStore, added_rows, ended_rows, is_there}
 use Rattle.wef_collector_rows.specs.Faults.{collector_store}
 use Rattle.wef_collector_rows.specs.Forms.{AreFormed}
 use Rattle.wef_collector_rows.specs.Keys.{boot_key, subscription_key}
@@ -30,11 +29,12 @@ use Rattle.wef_collector_rows.specs.declared.standings.Standing.{Standing}
 use Rattle.wef_collector_rows.specs.declared.standings.Standing.TheVariants.{Unknown, Ended, Live}
 use Rattle.wef_commands.specs.Adding.{Adds, DocumentEnds, HasDocument, IsReadAgain, added_text}
 use Rattle.wef_commands.specs.Calling.{CallEnds, Started, Starts, WroteOut, named_ending, store_ending}
-use Rattle.wef_commands.specs.Endings.{IsUnwritten, Told}
-use Rattle.wef_commands.specs.Laws.{AddSays, AddsByRows, EventsByRows, EventsSay, IsAdded, IsNotAdded, ListsByRows, OverRows, RemoveSays, RemovesByRows, ShowsByRows, Stand, WritesText, started}
+use Rattle.wef_commands.specs.Endings.{Told}
+use Rattle.wef_commands.specs.Laws.{AddSays, AddsByRows, EventsByRows, EventsSay, HasEnded, IsAdded, ListsByRows, OverRows, RemoveSays, RemovesByRows, ShowsByRows, Stand, WritesText, can_start, started}
 use Rattle.wef_commands.specs.Listing.{Lists, WroteList, list_text}
 use Rattle.wef_commands.specs.Removing.{Ends, ended_text}
 use Rattle.wef_commands.specs.Showing.{Reports, TellsHeld, WritesHeld}
+use Rattle.wef_commands.specs.Streams.{WritesPart}
 use Rattle.wef_commands.specs.declared.ending.Ending.{Ending}
 use Rattle.wef_commands.specs.declared.ending.Ending.TheVariants as ends
 
@@ -50,13 +50,6 @@ one_image (Some left) (Some stand) found both only told = ap Some (only ∙ ap (
 
 pub image_of : (store : Store) (found : Rows) → Stand store found → store.images ≡ Some (found ∷ [])
 image_of store found stand = one_image store.images store.rows found stand.lawful.both (stand.lawful.only stand.calm) stand.told
-
--- without doubt an opening finds the rows that stand
-pub calm_rows : (rows : Option Rows) (images : Option (List Rows)) (left : Rows) → is_some images ≡ is_some rows → IfSome images (λ all. WhereTold rows (λ stand. all ≡ stand ∷ []))
-    → WhereTold images (λ all. IsOneOf all left) → rows ≡ Some left
-calm_rows rows None left both only one = absurd one
-calm_rows None (Some all) left both only one = let bad : true ≡ false = both in cc
-calm_rows (Some stand) (Some all) left both only one = ap Some (sym (subst (λ (all : List Rows). IsOneOf all left) only one))
 
 -- what a call did with rows that were told
 pub from_one : (before now : Store) (found after : Rows) (Holds : Rows → Rows → Type 0) → Stand before found → now.rows ≡ Some after → From before now Holds → Holds found after
@@ -85,7 +78,14 @@ boot_made found after makes = by (nat_lt (boot_of found) MAX) makes
     by true made = made
     by false made = absurd made
 
-boot_full : (found : Rows) → boot_effect found ≡ Err faults.Full → nat_lt (boot_of found) MAX ≡ false
+boot_room : (found after : Rows) → Makes (boot_effect found) found after → can_start found ≡ true
+boot_room found after makes = by (nat_lt (boot_of found) MAX) makes
+  where
+    by : (room : Bool) → Makes {F = CollectorFault} (if room then Ok (put boot_key (boot_of found + 1) [] ∷ []) else Err faults.Full) found after → room ≡ true
+    by true made = refl
+    by false made = absurd made
+
+pub boot_full : (found : Rows) → boot_effect found ≡ Err faults.Full → can_start found ≡ false
 boot_full found is = by (nat_lt (boot_of found) MAX) is
   where
     by : (room : Bool) → (if room then Ok (put boot_key (boot_of found + 1) [] ∷ []) else Err faults.Full) ≡ Err faults.Full → room ≡ false
@@ -97,9 +97,15 @@ started_so before mid ids found rows start stand told =
     let did = from_one before mid found rows (Did collector_store AreFormed boot_effect ids_begun (Ok ids) before mid) stand told start.0.did in
     boot_made found rows did.answer.0
 
+-- and its boot number could rise
+pub could_start : (before mid : Store) (ids : Ids) (found rows : Rows) → Starts (Ok ids) before mid → Stand before found → mid.rows ≡ Some rows → can_start found ≡ true
+could_start before mid ids found rows start stand told =
+    let did = from_one before mid found rows (Did collector_store AreFormed boot_effect ids_begun (Ok ids) before mid) stand told start.0.did in
+    boot_room found rows did.answer.0
+
 -- a start that is refused
 start_by_rows : (Says : Ending → Rows → Rows → Type 0) → ((found after : Rows) → Says ends.NoMemory found after) → ((found after : Rows) → Says ends.StoreFailed found after)
-    → ((found after : Rows) → nat_lt (boot_of found) MAX ≡ false → after ≡ found → Says ends.Full found after)
+    → ((found after : Rows) → can_start found ≡ false → after ≡ found → Says ends.Full found after)
     → (ending : Ending) (before now : Store) (fault : CollectorFault) → Starts (Err fault) before now → ending ≡ store_ending fault → OverRows (Says ending) before now
 start_by_rows Says wants fails full ending before now faults.NoMemory start is = λ found after stand told. subst (λ (e : Ending). Says e found after) (sym is) (wants found after)
 start_by_rows Says wants fails full ending before now faults.Failed start is = λ found after stand told. subst (λ (e : Ending). Says e found after) (sym is) (fails found after)
@@ -110,10 +116,11 @@ start_by_rows Says wants fails full ending before now _ start is = absurd start.
 
 -- a call behind a start
 behind : (Call : Store → Store → Type 0) (Says : Rows → Rows → Type 0) (before now : Store) (begun : Started Call before now) → StaysUntold begun.mid now
-    → ((found rows after : Rows) → Stand begun.mid rows → now.rows ≡ Some after → rows ≡ started found → Says found after) → OverRows Says before now
+    → ((found rows after : Rows) → Stand begun.mid rows → now.rows ≡ Some after → rows ≡ started found → can_start found ≡ true → Says found after) → OverRows Says before now
 behind Call Says before now begun untold says = λ found after stand told.
     let mid = mid_stands begun.mid now after begun.start.2 begun.start.0.ready untold told in
     says found mid.0 after mid.1 told (started_so before begun.mid begun.ids found mid.0 begun.start stand mid.1.told)
+    (could_start before begun.mid begun.ids found mid.0 begun.start stand mid.1.told)
 
 -- ---- `add`
 
@@ -143,58 +150,64 @@ add_too_many rows s is = by (is_there rows s.name) (is_full rows) is
     by false true e = (refl, refl)
     by false false e = let bad : ⊥ = cc in absurd bad
 
-document_says : (ending : Ending) (input : Told) → DocumentEnds ending input → (found after : Rows) → AddSays ending input found after
-document_says ends.Done input d found after = absurd d
-document_says ends.OutputFailed input d found after = absurd d
-document_says (ends.Exists u) input d found after = absurd d
-document_says ends.TooMany input d found after = absurd d
-document_says ends.Full input d found after = absurd d
-document_says _ input d found after = tt
+document_says : (ending : Ending) (input out : Told) → DocumentEnds ending input → (found after : Rows) → after ≡ found → AddSays ending input out found after
+document_says (ends.BadPlace k) input out d found after same = (d, same)
+document_says (ends.BadElement part) input out d found after same = (d, same)
+document_says ends.InputFailed input out d found after same = (d, same)
+document_says ends.NoMemory input out d found after same = tt
+document_says _ input out d found after same = absurd d
 
 module _ (s : Subscription) (input : Told) (document : HasDocument s input) (again : IsReadAgain s) where
-  added : (found rows after : Rows) → rows ≡ started found → Makes (add_effect rows s) rows after → IsAdded input found after
-  added found rows after is makes =
-      let P : Rows → Type 0 = λ r. (is_there r s.name ≡ false) × (is_full r ≡ false) × (after ≡ added_rows r s) in
-      let done = subst P is (add_done rows s after makes) in
-      record {
-        subscription = s;
-        document = document;
-        new = done.0;
-        room = done.1;
-        rows = done.2;
-        live = ap (λ (r : Rows). standing r s.name) done.2 ∙ put_lives (started found) s (document_text s) again;
-      }
+  added_so : (found rows after : Rows) → rows ≡ started found → Makes (add_effect rows s) rows after
+      → (is_there (started found) s.name ≡ false) × (is_full (started found) ≡ false) × (after ≡ added_rows (started found) s)
+  added_so found rows after is makes = subst (λ (r : Rows). (is_there r s.name ≡ false) × (is_full r ≡ false) × (after ≡ added_rows r s)) is (add_done rows s after makes)
 
-  refused_so : (fault : CollectorFault) (mid now : Store) → Adds s (Err fault) mid now → (found rows after : Rows) → Stand mid rows → now.rows ≡ Some after → rows ≡ started found
-      → AddSays (named_ending s.name fault) input found after
-  refused_so faults.NoMemory mid now call found rows after stand told is = tt
-  refused_so faults.Failed mid now call found rows after stand told is = tt
-  refused_so faults.Exists mid now call found rows after stand told is =
+  abbrev added : (found after : Rows) → can_start found ≡ true → (is_there (started found) s.name ≡ false) × (is_full (started found) ≡ false) × (after ≡ added_rows (started found) s) → IsAdded input found after
+  added found after starts done = record {
+    subscription = s;
+    document = document;
+    starts = starts;
+    new = done.0;
+    room = done.1;
+    rows = done.2;
+    live = ap (λ (r : Rows). standing r s.name) done.2 ∙ put_lives (started found) s (document_text s) again;
+  }
+
+  refused_so : (fault : CollectorFault) (out : Told) (mid now : Store) → Adds s (Err fault) mid now → (found rows after : Rows) → Stand mid rows → now.rows ≡ Some after → rows ≡ started found → can_start found ≡ true
+      → AddSays (named_ending s.name fault) input out found after
+  refused_so faults.NoMemory out mid now call found rows after stand told is starts = tt
+  refused_so faults.Failed out mid now call found rows after stand told is starts = tt
+  refused_so faults.Exists out mid now call found rows after stand told is starts =
       let did = from_one mid now rows after (Did collector_store AreFormed (λ rows. add_effect rows s) (λ _. tt) (Err faults.Exists) mid now) stand told call.0.did in
-      record { subscription = s; document = document; cause = (refl, subst (λ (r : Rows). is_there r s.name ≡ true) is (add_exists rows s did.answer.0)); rows = did.answer.1 ∙ is }
-  refused_so faults.TooMany mid now call found rows after stand told is =
+      record { subscription = s; document = document; starts = starts; cause = (refl, subst (λ (r : Rows). is_there r s.name ≡ true) is (add_exists rows s did.answer.0)); rows = did.answer.1 ∙ is }
+  refused_so faults.TooMany out mid now call found rows after stand told is starts =
       let did = from_one mid now rows after (Did collector_store AreFormed (λ rows. add_effect rows s) (λ _. tt) (Err faults.TooMany) mid now) stand told call.0.did in
-      record { subscription = s; document = document; cause = subst (λ (r : Rows). (is_there r s.name ≡ false) × (is_full r ≡ true)) is (add_too_many rows s did.answer.0); rows = did.answer.1 ∙ is }
-  refused_so _ mid now call found rows after stand told is = absurd call.1
+      record { subscription = s; document = document; starts = starts; cause = subst (λ (r : Rows). (is_there r s.name ≡ false) × (is_full r ≡ true)) is (add_too_many rows s did.answer.0); rows = did.answer.1 ∙ is }
+  refused_so _ out mid now call found rows after stand told is starts = absurd call.1
 
-  told_so : (ending : Ending) (out : Told) → WroteOut (added_text s.name) ending out → (found after : Rows) → IsAdded input found after → AddSays ending input found after
-  told_so ends.Done out wrote found after is = is
-  told_so ends.OutputFailed out wrote found after is = is
-  told_so _ out wrote found after is = absurd wrote
+  told_so : (ending : Ending) (out : Told) → WroteOut (added_text s.name) ending out → (found after : Rows) → can_start found ≡ true
+      → (is_there (started found) s.name ≡ false) × (is_full (started found) ≡ false) × (after ≡ added_rows (started found) s) → AddSays ending input out found after
+  told_so ends.Done out wrote found after starts done = (added found after starts done, wrote)
+  told_so ends.OutputFailed out wrote found after starts done = (added found after starts done, wrote.0, wrote.1)
+  told_so _ out wrote found after starts done = absurd wrote
 
-  add_call : (ending : Ending) (out : Told) (before now : Store) → CallEnds (Adds s) (named_ending s.name) (λ _. WroteOut (added_text s.name)) ending out before now → OverRows (AddSays ending input) before now
+  add_call : (ending : Ending) (out : Told) (before now : Store) → CallEnds (Adds s) (named_ending s.name) (λ _. WroteOut (added_text s.name)) ending out before now → OverRows (AddSays ending input out) before now
   add_call ending out before now (inl (fault, start, is, unwritten)) =
-      start_by_rows (λ (e : Ending). AddSays e input) (λ found after. tt) (λ found after. tt) (λ found after full same. (full, same)) ending before now fault start is
+      start_by_rows (λ (e : Ending). AddSays e input out) (λ found after. tt) (λ found after. tt) (λ found after full same. (full, same, (s, document))) ending before now fault start is
   add_call ending out before now (inr (inl (fault, begun, is, unwritten))) =
-      behind (Adds s (Err fault)) (AddSays ending input) before now begun begun.call.0.untold (λ found rows after stand told same.
-      subst (λ (e : Ending). AddSays e input found after) (sym is) (refused_so fault begun.mid now begun.call found rows after stand told same))
+      behind (Adds s (Err fault)) (AddSays ending input out) before now begun begun.call.0.untold (λ found rows after stand told same starts.
+      subst (λ (e : Ending). AddSays e input out found after) (sym is) (refused_so fault out begun.mid now begun.call found rows after stand told same starts))
   add_call ending out before now (inr (inr (done, begun, wrote))) =
-      behind (Adds s (Ok done)) (AddSays ending input) before now begun begun.call.0.untold (λ found rows after stand told same.
+      behind (Adds s (Ok done)) (AddSays ending input out) before now begun begun.call.0.untold (λ found rows after stand told same starts.
       let did = from_one begun.mid now rows after (Did collector_store AreFormed (λ rows. add_effect rows s) (λ _. tt) (Ok done) begun.mid now) stand told begun.call.0.did in
-      told_so ending out wrote found after (added found rows after same did.answer.0))
+      told_so ending out wrote found after starts (added_so found rows after same did.answer.0))
+
+-- a store that is as it was
+same_rows : (before now : Store) (found after : Rows) → now ≡ before → Stand before found → now.rows ≡ Some after → after ≡ found
+same_rows before now found after same stand told = same_Some after found (sym told ∙ ap (λ (store : Store). store.rows) same ∙ stand.told)
 
 pub adds_by_rows : AddsByRows
-adds_by_rows ending input out before now (inl (why, unwritten, same)) = λ found after stand told. document_says ending input why found after
+adds_by_rows ending input out before now (inl (why, unwritten, same)) = λ found after stand told. document_says ending input out why found after (same_rows before now found after same stand told)
 adds_by_rows ending input out before now (inr (s, document, again, call)) = add_call s input document again ending out before now call
 
 -- ---- `remove`
@@ -224,40 +237,42 @@ module _ (u : List ℕ) where
       by (Ended s) e = tt
       by (Live s) e = let bad : ⊥ = cc in absurd bad
 
-  not_ended : (fault : CollectorFault) (mid now : Store) → Ends u (Err fault) mid now → (found rows after : Rows) → Stand mid rows → now.rows ≡ Some after → rows ≡ started found
-      → RemoveSays u (named_ending u fault) found after
-  not_ended faults.NoMemory mid now call found rows after stand told is = tt
-  not_ended faults.Failed mid now call found rows after stand told is = tt
-  not_ended faults.NoSubscription mid now call found rows after stand told is =
+  not_ended : (fault : CollectorFault) (out : Told) (mid now : Store) → Ends u (Err fault) mid now → (found rows after : Rows) → Stand mid rows → now.rows ≡ Some after → rows ≡ started found → can_start found ≡ true
+      → RemoveSays u (named_ending u fault) out found after
+  not_ended faults.NoMemory out mid now call found rows after stand told is starts = tt
+  not_ended faults.Failed out mid now call found rows after stand told is starts = tt
+  not_ended faults.NoSubscription out mid now call found rows after stand told is starts =
       let did = from_one mid now rows after (Did collector_store AreFormed (λ rows. end_effect rows u) (λ _. tt) (Err faults.NoSubscription) mid now) stand told call.0.did in
-      (refl, subst (λ (r : Rows). standing r u ≡ Unknown) is (end_unknown rows did.answer.0), did.answer.1 ∙ is)
-  not_ended faults.Ended mid now call found rows after stand told is =
+      (refl, starts, subst (λ (r : Rows). standing r u ≡ Unknown) is (end_unknown rows did.answer.0), did.answer.1 ∙ is)
+  not_ended faults.Ended out mid now call found rows after stand told is starts =
       let did = from_one mid now rows after (Did collector_store AreFormed (λ rows. end_effect rows u) (λ _. tt) (Err faults.Ended) mid now) stand told call.0.did in
-      (refl, subst (λ (r : Rows). IsEnded (standing r u)) is (end_already rows did.answer.0), did.answer.1 ∙ is)
-  not_ended _ mid now call found rows after stand told is = absurd call.1
+      (refl, starts, subst (λ (r : Rows). IsEnded (standing r u)) is (end_already rows did.answer.0), did.answer.1 ∙ is)
+  not_ended _ out mid now call found rows after stand told is starts = absurd call.1
 
-  abbrev HasEnded : Rows → Rows → Type 0
-  HasEnded found after = ((s : Subscription) × (standing (started found) u ≡ Live s)) × (after ≡ ended_rows (started found) u)
+  has_ended : (found rows after : Rows) → rows ≡ started found → can_start found ≡ true → Makes (end_effect rows u) rows after → HasEnded u found after
+  has_ended found rows after is starts makes =
+      let P : Rows → Type 0 = λ r. ((s : Subscription) × (standing r u ≡ Live s)) × (after ≡ ended_rows r u) in
+      let done = subst P is (end_done rows after makes) in
+      record { starts = starts; subscription = done.0.0; live = done.0.1; rows = done.1 }
 
-  ended_told : (ending : Ending) (out : Told) → WroteOut (ended_text u) ending out → (found after : Rows) → HasEnded found after → RemoveSays u ending found after
-  ended_told ends.Done out wrote found after is = is
-  ended_told ends.OutputFailed out wrote found after is = is
+  ended_told : (ending : Ending) (out : Told) → WroteOut (ended_text u) ending out → (found after : Rows) → HasEnded u found after → RemoveSays u ending out found after
+  ended_told ends.Done out wrote found after is = (is, wrote)
+  ended_told ends.OutputFailed out wrote found after is = (is, wrote.0, wrote.1)
   ended_told _ out wrote found after is = absurd wrote
 
-  end_call : (ending : Ending) (out : Told) (before now : Store) → CallEnds (Ends u) (named_ending u) (λ _. WroteOut (ended_text u)) ending out before now → OverRows (RemoveSays u ending) before now
+  end_call : (ending : Ending) (out : Told) (before now : Store) → CallEnds (Ends u) (named_ending u) (λ _. WroteOut (ended_text u)) ending out before now → OverRows (RemoveSays u ending out) before now
   end_call ending out before now (inl (fault, start, is, unwritten)) =
-      start_by_rows (RemoveSays u) (λ found after. tt) (λ found after. tt) (λ found after full same. (full, same)) ending before now fault start is
+      start_by_rows (λ (e : Ending). RemoveSays u e out) (λ found after. tt) (λ found after. tt) (λ found after full same. (full, same)) ending before now fault start is
   end_call ending out before now (inr (inl (fault, begun, is, unwritten))) =
-      behind (Ends u (Err fault)) (RemoveSays u ending) before now begun begun.call.0.untold (λ found rows after stand told same.
-      subst (λ (e : Ending). RemoveSays u e found after) (sym is) (not_ended fault begun.mid now begun.call found rows after stand told same))
+      behind (Ends u (Err fault)) (RemoveSays u ending out) before now begun begun.call.0.untold (λ found rows after stand told same starts.
+      subst (λ (e : Ending). RemoveSays u e out found after) (sym is) (not_ended fault out begun.mid now begun.call found rows after stand told same starts))
   end_call ending out before now (inr (inr (done, begun, wrote))) =
-      behind (Ends u (Ok done)) (RemoveSays u ending) before now begun begun.call.0.untold (λ found rows after stand told same.
+      behind (Ends u (Ok done)) (RemoveSays u ending out) before now begun begun.call.0.untold (λ found rows after stand told same starts.
       let did = from_one begun.mid now rows after (Did collector_store AreFormed (λ rows. end_effect rows u) (λ _. tt) (Ok done) begun.mid now) stand told begun.call.0.did in
-      let P : Rows → Type 0 = λ r. ((s : Subscription) × (standing r u ≡ Live s)) × (after ≡ ended_rows r u) in
-      ended_told ending out wrote found after (subst P same (end_done rows after did.answer.0)))
+      ended_told ending out wrote found after (has_ended found rows after same starts did.answer.0))
 
 pub removes_by_rows : RemovesByRows
-removes_by_rows u ending out before now (inl (is, unwritten, same)) = λ found after stand told. subst (λ (e : Ending). RemoveSays u e found after) (sym is) tt
+removes_by_rows u ending out before now (inl (is, unwritten, same)) = λ found after stand told. subst (λ (e : Ending). RemoveSays u e out found after) (sym is) tt
 removes_by_rows u ending out before now (inr call) = end_call u ending out before now call
 
 -- ---- `list`, `show` and `events`
@@ -273,42 +288,44 @@ told_rows : (now : Store) (after : Rows) (P : Rows → Type 0) → now.rows ≡ 
 told_rows now after P told holds = subst (λ (o : Option Rows). IfSome o P) told holds
 
 -- a text of rows that was written
-text_of_rows : (text : Rows → List ℕ) (written : List ℕ) (ending : Ending) (out : Told) (found rows after : Rows) → rows ≡ started found → after ≡ rows → written ≡ text after → WroteOut written ending out
-    → WritesText (λ found. text (started found)) ending out found after
-text_of_rows text written ends.Done out found rows after is same said wrote = (subst (Appends out.before out.after) (said ∙ ap text (same ∙ is)) wrote, same ∙ is)
-text_of_rows text written ends.OutputFailed out found rows after is same said wrote = tt
-text_of_rows text written _ out found rows after is same said wrote = absurd wrote
+text_of_rows : (text : Rows → List ℕ) (written : List ℕ) (ending : Ending) (out : Told) (found rows after : Rows) → rows ≡ started found → can_start found ≡ true → after ≡ rows → written ≡ text after
+    → WroteOut written ending out → WritesText (λ found. text (started found)) ending out found after
+text_of_rows text written ends.Done out found rows after is starts same said wrote = (subst (Appends out.before out.after) (said ∙ ap text (same ∙ is)) wrote, same ∙ is, starts)
+text_of_rows text written ends.OutputFailed out found rows after is starts same said wrote =
+    (wrote.0, subst (WritesPart out.before out.after) (said ∙ ap text (same ∙ is)) wrote.1, same ∙ is, starts)
+text_of_rows text written _ out found rows after is starts same said wrote = absurd wrote
 
--- of a reading that is refused nothing is said
-unread : (text : Rows → List ℕ) (ending : Ending) (out : Told) (fault : CollectorFault) → ending ≡ store_ending fault → (found after : Rows) → WritesText text ending out found after
-unread text ending out faults.NoMemory is found after = subst (λ (e : Ending). WritesText text e out found after) (sym is) tt
-unread text ending out faults.Full is found after = subst (λ (e : Ending). WritesText text e out found after) (sym is) tt
-unread text ending out faults.Failed is found after = subst (λ (e : Ending). WritesText text e out found after) (sym is) tt
-unread text ending out faults.NoSubscription is found after = subst (λ (e : Ending). WritesText text e out found after) (sym is) tt
-unread text ending out faults.Exists is found after = subst (λ (e : Ending). WritesText text e out found after) (sym is) tt
-unread text ending out faults.Ended is found after = subst (λ (e : Ending). WritesText text e out found after) (sym is) tt
-unread text ending out faults.NotWellFormed is found after = subst (λ (e : Ending). WritesText text e out found after) (sym is) tt
-unread text ending out faults.TooMany is found after = subst (λ (e : Ending). WritesText text e out found after) (sym is) tt
+-- a start that is refused before a reading
+text_unstarted : (text : Rows → List ℕ) (ending : Ending) (out : Told) (before now : Store) (fault : CollectorFault) → Starts (Err fault) before now → ending ≡ store_ending fault
+    → OverRows (WritesText text ending out) before now
+text_unstarted text ending out before now fault start is =
+    start_by_rows (λ (e : Ending). WritesText text e out) (λ found after. tt) (λ found after. tt) (λ found after full same. (full, same)) ending before now fault start is
 
-unwritten_list : (list : List Listed) (ending : Ending) (out : Told) (found rows after : Rows) → rows ≡ started found → after ≡ rows → list ≡ listed after → WroteList list ending out
+-- of a reading that its store refuses nothing is said
+unread : (text : Rows → List ℕ) (ending : Ending) (out : Told) (fault : CollectorFault) → IsOfStore fault → ending ≡ store_ending fault → (found after : Rows) → WritesText text ending out found after
+unread text ending out faults.NoMemory allowed is found after = subst (λ (e : Ending). WritesText text e out found after) (sym is) tt
+unread text ending out faults.Failed allowed is found after = subst (λ (e : Ending). WritesText text e out found after) (sym is) tt
+unread text ending out _ allowed is found after = absurd allowed
+
+unwritten_list : (list : List Listed) (ending : Ending) (out : Told) (found rows after : Rows) → rows ≡ started found → can_start found ≡ true → after ≡ rows → list ≡ listed after → WroteList list ending out
     → WritesText (λ found. list_text (listed (started found))) ending out found after
-unwritten_list list ending out found rows after is same said (inl wrote) =
-    text_of_rows (λ rows. list_text (listed rows)) (list_text list) ending out found rows after is same (ap list_text said) wrote
-unwritten_list list ending out found rows after is same said (inr (wants, unwritten)) = subst (λ (e : Ending). WritesText (λ found. list_text (listed (started found))) e out found after) (sym wants) tt
+unwritten_list list ending out found rows after is starts same said (inl wrote) =
+    text_of_rows (λ rows. list_text (listed rows)) (list_text list) ending out found rows after is starts same (ap list_text said) wrote
+unwritten_list list ending out found rows after is starts same said (inr (wants, unwritten)) = subst (λ (e : Ending). WritesText (λ found. list_text (listed (started found))) e out found after) (sym wants) tt
 
 pub lists_by_rows : ListsByRows
-lists_by_rows ending out before now (inl (fault, start, is, unwritten)) = λ found after stand told. unread (λ found. list_text (listed (started found))) ending out fault is found after
-lists_by_rows ending out before now (inr (inl (fault, begun, is, unwritten))) = λ found after stand told. unread (λ found. list_text (listed (started found))) ending out fault is found after
+lists_by_rows ending out before now (inl (fault, start, is, unwritten)) = text_unstarted (λ found. list_text (listed (started found))) ending out before now fault start is
+lists_by_rows ending out before now (inr (inl (fault, begun, is, unwritten))) = λ found after stand told. unread (λ found. list_text (listed (started found))) ending out fault begun.call.1 is found after
 lists_by_rows ending out before now (inr (inr (list, begun, wrote))) =
-    behind (Lists (Ok list)) (WritesText (λ found. list_text (listed (started found))) ending out) before now begun begun.call.0.opened.0.7 (λ found rows after stand told same.
-    unwritten_list list ending out found rows after same (read_same begun.mid now rows after stand told (begun.call.0.found refl)) (told_rows now after (λ rows. list ≡ listed rows) told begun.call.1) wrote)
+    behind (Lists (Ok list)) (WritesText (λ found. list_text (listed (started found))) ending out) before now begun begun.call.0.opened.0.7 (λ found rows after stand told same starts.
+    unwritten_list list ending out found rows after same starts (read_same begun.mid now rows after stand told (begun.call.0.found refl)) (told_rows now after (λ rows. list ≡ listed rows) told begun.call.1) wrote)
 
 pub shows_by_rows : ShowsByRows
-shows_by_rows ending out before now (inl (fault, start, is, unwritten)) = λ found after stand told. unread (λ found. report (started found)) ending out fault is found after
-shows_by_rows ending out before now (inr (inl (fault, begun, is, unwritten))) = λ found after stand told. unread (λ found. report (started found)) ending out fault is found after
+shows_by_rows ending out before now (inl (fault, start, is, unwritten)) = text_unstarted (λ found. report (started found)) ending out before now fault start is
+shows_by_rows ending out before now (inr (inl (fault, begun, is, unwritten))) = λ found after stand told. unread (λ found. report (started found)) ending out fault begun.call.1 is found after
 shows_by_rows ending out before now (inr (inr (text, begun, wrote))) =
-    behind (Reports (Ok text)) (WritesText (λ found. report (started found)) ending out) before now begun begun.call.0.opened.0.7 (λ found rows after stand told same.
-    text_of_rows report text ending out found rows after same (read_same begun.mid now rows after stand told (begun.call.0.found refl)) (told_rows now after (λ rows. text ≡ report rows) told begun.call.1) wrote)
+    behind (Reports (Ok text)) (WritesText (λ found. report (started found)) ending out) before now begun begun.call.0.opened.0.7 (λ found rows after stand told same starts.
+    text_of_rows report text ending out found rows after same starts (read_same begun.mid now rows after stand told (begun.call.0.found refl)) (told_rows now after (λ rows. text ≡ report rows) told begun.call.1) wrote)
 
 -- what isn't told isn't told behind reads
 reads_untold : (mid now : Option Rows) (images : Option (List Rows)) → is_some images ≡ is_some mid → Stays mid now → is_some images ≡ false → is_some now ≡ false
@@ -323,28 +340,29 @@ stays_same mid now rows after stand told stays =
     same_Some after rows (sym kept ∙ stand.told)
 
 events_say : (u s c : List ℕ) (ending : Ending) (out : Told) (mid now : Store) → WritesHeld u s c ending out mid now → (found rows after : Rows) → Stand mid rows → now.rows ≡ Some after → rows ≡ started found
-    → EventsSay u s c ending out found after
-events_say u s c ends.Done out mid now writes found rows after stand told is =
+    → can_start found ≡ true → EventsSay u s c ending out found after
+events_say u s c ends.Done out mid now writes found rows after stand told is starts =
     let same = stays_same mid now rows after stand told writes.reads.0.1 ∙ is in
     let tells = told_rows now after (TellsHeld u s c ends.Done out) told writes.tells in
     let here = subst (TellsHeld u s c ends.Done out) same tells in
-    (here.0, here.1, same)
-events_say u s c (ends.Unknown name) out mid now writes found rows after stand told is =
+    (here.0, here.1, same, starts)
+events_say u s c ends.OutputFailed out mid now writes found rows after stand told is starts =
+    let same = stays_same mid now rows after stand told writes.reads.0.1 ∙ is in
+    let tells = told_rows now after (TellsHeld u s c ends.OutputFailed out) told writes.tells in
+    (writes.ends_so, subst (TellsHeld u s c ends.OutputFailed out) same tells, same, starts)
+events_say u s c (ends.Unknown name) out mid now writes found rows after stand told is starts =
     let same = stays_same mid now rows after stand told writes.reads.0.1 ∙ is in
     let tells = told_rows now after (TellsHeld u s c (ends.Unknown name) out) told writes.tells in
-    (writes.ends_so.0, subst (TellsHeld u s c (ends.Unknown name) out) same tells, same)
-events_say u s c _ out mid now writes found rows after stand told is = tt
-
-events_refused : (u s c : List ℕ) (ending : Ending) (out : Told) (fault : CollectorFault) (before now : Store) → Starts (Err fault) before now → ending ≡ store_ending fault → (found after : Rows) → EventsSay u s c ending out found after
-events_refused u s c ending out faults.NoMemory before now start is found after = subst (λ (e : Ending). EventsSay u s c e out found after) (sym is) tt
-events_refused u s c ending out faults.Full before now start is found after = subst (λ (e : Ending). EventsSay u s c e out found after) (sym is) tt
-events_refused u s c ending out faults.Failed before now start is found after = subst (λ (e : Ending). EventsSay u s c e out found after) (sym is) tt
-events_refused u s c ending out _ before now start is found after = absurd start.1
+    (writes.ends_so.0, subst (TellsHeld u s c (ends.Unknown name) out) same tells, writes.ends_so.1, same, starts)
+events_say u s c ends.NoMemory out mid now writes found rows after stand told is starts = tt
+events_say u s c ends.StoreFailed out mid now writes found rows after stand told is starts = tt
+events_say u s c _ out mid now writes found rows after stand told is starts = absurd writes.ends_so
 
 pub events_by_rows : EventsByRows
 events_by_rows u s c ending out before now (inl (is, unwritten, same)) = λ found after stand told. subst (λ (e : Ending). EventsSay u s c e out found after) (sym is) tt
-events_by_rows u s c ending out before now (inr (inl (fault, start, is, unwritten))) = λ found after stand told. events_refused u s c ending out fault before now start is found after
+events_by_rows u s c ending out before now (inr (inl (fault, start, is, unwritten))) =
+    start_by_rows (λ (e : Ending). EventsSay u s c e out) (λ found after. tt) (λ found after. tt) (λ found after full same. (full, same)) ending before now fault start is
 events_by_rows u s c ending out before now (inr (inr begun)) =
     behind (WritesHeld u s c ending out) (EventsSay u s c ending out) before now begun
     (λ opened untold. reads_untold begun.mid.rows now.rows begun.mid.images begun.start.2.both begun.call.reads.0.1 untold)
-    (λ found rows after stand told same. events_say u s c ending out begun.mid now begun.call found rows after stand told same)
+    (λ found rows after stand told same starts. events_say u s c ending out begun.mid now begun.call found rows after stand told same starts)

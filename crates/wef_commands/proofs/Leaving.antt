@@ -1,5 +1,5 @@
 -- What a run may leave, whatever its ending: from any rows that an opening may find behind it, back to those that stood before.
-use Rattle.std.proofs.Common.{◌≡◌, ◌⊎◌, inl, inr, ℕ, true, false, List, [], ◌∷◌, ◌++◌, ap, sym, refl, subst, ◌∙◌, append-nil, append_assoc}
+use Rattle.std.proofs.Common.{◌≡◌, ◌⊎◌, inl, inr, ℕ, true, false, List, [], ◌∷◌, ◌++◌, ap, sym, refl, subst, ◌∙◌, append_assoc}
 use Rattle.std.specs.List.{AllByRecursion}
 use Rattle.std.specs.Prelude.{Option, Some, None, Result, Ok, Err, IfSome, is_some}
 use Rattle.wef_collector.specs.Boots.{ids_begun}
@@ -8,21 +8,19 @@ use Rattle.wef_collector_rows.specs.Faults.{collector_store}
 use Rattle.wef_collector_rows.specs.Forms.{AreFormed}
 use Rattle.wef_collector_rows.specs.declared.faults.CollectorFault.{CollectorFault}
 use Rattle.wef_event.specs.Events.{Event}
-use Rattle.wef_eventing.specs.declared.subscriptions.Subscription.{Subscription}
 use Rattle.wef_ids.specs.declared.ids.Ids.{Ids}
-use Rattle.wef_keeper.proofs.Going.{goes_over, may_leave, one_of, told_before, which_found}
+use Rattle.wef_keeper.proofs.Going.{calm_rows, goes_over, may_leave, one_of, told_before, which_found}
 use Rattle.wef_keeper.specs.Access.{HasOpened}
-use Rattle.wef_keeper.specs.Calls.{Effect, GoesOver, IsCall, Makes, MayLeave}
-use Rattle.wef_keeper.specs.Keeping.{IsLawful, IsOneOf, MayFind, Stays, StaysUntold, Store, WhereTold}
+use Rattle.wef_keeper.specs.Calls.{Effect, GoesOver, IsCall, MayLeave}
+use Rattle.wef_keeper.specs.Keeping.{IsLawful, IsOneOf, MayFind, Stays, Store, WhereTold}
 use Rattle.wef_keeper.specs.Rows.{Rows}
 use Rattle.wef_source_log.specs.Answers.{next_boot, next_number, start_effect, write_effect}
 use Rattle.wef_source_log.specs.Faults.{log_store}
 use Rattle.wef_source_log.specs.Forms as log_forms
 use Rattle.wef_source_log.specs.Windows as log
 use Rattle.wef_source_log.specs.declared.faults.LogFault.{LogFault}
-use Rattle.wef_commands.proofs.ByRows.{boot_made, calm_rows, image_of, started_so}
+use Rattle.wef_commands.proofs.ByRows.{boot_made, image_of, started_so}
 use Rattle.wef_commands.proofs.LogByRows.{event_made, log_made}
-use Rattle.wef_commands.specs.Adding.{HasDocument}
 use Rattle.wef_commands.specs.Calling.{Starts}
 use Rattle.wef_commands.specs.Endings.{Told}
 use Rattle.wef_commands.specs.Laws.{AddLeaves, AreWritten, CallsAtMost, ReadersLeave, RemoveLeaves, Stand, StartsAtMost, WriteLeaves, started, with_event, with_events}
@@ -33,11 +31,11 @@ use Rattle.wef_commands.specs.declared.writing.TheConstants.{LOG_CAPACITY}
 -- ---- starts
 
 -- the rows that were found are those that stood
-same_found : (before : Store) (found rows : Rows) → Stand before found → IfSome before.images (λ old. IsOneOf old rows) → rows ≡ found
+pub same_found : (before : Store) (found rows : Rows) → Stand before found → IfSome before.images (λ old. IsOneOf old rows) → rows ≡ found
 same_found before found rows stand one = subst (λ (o : Option (List Rows)). IfSome o (λ old. IsOneOf old rows)) (image_of before found stand) one
 
 -- a store that is as it was
-same_store : (before now : Store) (found last : Rows) → now ≡ before → Stand before found → MayFind now last → last ≡ found
+pub same_store : (before now : Store) (found last : Rows) → now ≡ before → Stand before found → MayFind now last → last ≡ found
 same_store before now found last same stand may =
     let told = subst (λ (store : Store). MayFind store last) same may in
     subst (λ (o : Option (List Rows)). WhereTold o (λ old. IsOneOf old last)) (image_of before found stand) told
@@ -165,7 +163,7 @@ wrote_back (event ∷ events) (n ∷ numbers) before now last (next, write, wrot
     let here = done_back event n before next later.0 write opened later.1 in
     (here.0, here.1, later.2 ∙ ap (λ (rows : Rows). with_events rows events) here.2)
 
-wrote_opened : (events : List Event) (numbers : List ℕ) (before now : Store) → Wrote events numbers before now → before.opened ≡ true → now.opened ≡ true
+pub wrote_opened : (events : List Event) (numbers : List ℕ) (before now : Store) → Wrote events numbers before now → before.opened ≡ true → now.opened ≡ true
 wrote_opened [] [] before now same opened = ap (λ (store : Store). store.opened) same ∙ opened
 wrote_opened [] (n ∷ numbers) before now wrote opened = absurd wrote
 wrote_opened (event ∷ events) [] before now wrote opened = absurd wrote

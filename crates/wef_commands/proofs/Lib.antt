@@ -6,6 +6,7 @@ pub mod HeldWritten
 pub mod Leaving
 pub mod LinesWritten
 pub mod LogByRows
+pub mod NumbersTold
 pub mod PagesJudged
 pub mod PagesWritten
 pub mod Written

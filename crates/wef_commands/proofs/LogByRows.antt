@@ -1,7 +1,7 @@
 -- What `write` does, by the rows that stood before it.
 use Rattle.std.proofs.Common.{◌≡◌, ℕ, ◌+◌, Bool, true, false, List, [], ◌∷◌, ◌++◌, length, refl, sym, ap, ◌∙◌, subst, inl, inr}
 use Rattle.std.proofs.lemmas.List.{append-nil}
-use Rattle.std.specs.Prelude.{Option, Some, None, Result, Ok, Err, is_none, if◌then◌else◌}
+use Rattle.std.specs.Prelude.{Some, Ok, Err, is_none, if◌then◌else◌}
 use Rattle.std.specs.Io.KnownBytes.{Appends}
 use Rattle.wef_event.specs.Events.{Event}
 use Rattle.wef_event.specs.Numbering.{numbered}
@@ -16,10 +16,9 @@ use Rattle.wef_source_log.specs.Windows as log
 use Rattle.wef_source_log.specs.Windows.{capacity_of, start_changes, write_changes}
 use Rattle.wef_source_log.specs.declared.faults.LogFault.{LogFault}
 use Rattle.wef_source_log.specs.declared.faults.LogFault.TheVariants as faults
-use Rattle.wef_commands.specs.Endings.{IsUnwritten, Told}
+use Rattle.wef_commands.specs.Endings.{Told}
 use Rattle.wef_commands.specs.Laws.{OverRows, Stand, WriteSays, WritesByRows, numbers_of, with_event, with_events}
-use Rattle.wef_commands.specs.Writing.{EndsAt, EndsBefore, EndsJudging, HasEvents, StartsLog, WritesAll, WritesEvent, Wrote, WroteEvents, log_ending, write_ending, written_text}
-use Rattle.wef_commands.specs.declared.ending.Ending.{Ending}
+use Rattle.wef_commands.specs.Writing.{EndsBefore, HasEvents, StartsLog, Wrote, WroteEvents, log_ending, write_ending, written_text}
 use Rattle.wef_commands.specs.declared.ending.Ending.TheVariants as ends
 use Rattle.wef_commands.specs.declared.writing.TheConstants.{LOG_CAPACITY}
 use Rattle.wef_commands.proofs.ByRows.{from_one, mid_stands}

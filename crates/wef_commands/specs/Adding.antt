@@ -1,5 +1,5 @@
 -- How `add` ends.
-use Rattle.std.specs.Prelude.{◌≡◌, ℕ, List, ◌⊎◌, Some, IfSome, IfErr, Result, codes}
+use Rattle.std.specs.Prelude.{◌≡◌, ℕ, List, ◌⊎◌, Some, None, IfSome, IfErr, Result, codes}
 use Rattle.std.specs.declared.result.Result.TheVariants.{Err}
 use Rattle.std.specs.Io.KnownBytes.{IsAtEnd}
 use Rattle.wef_collector.specs.Calls.{OfAdd, add_effect}
@@ -44,10 +44,10 @@ place_of (tree.Refused at) = at
 abbrev pub IsBadFrom : ℕ → List ℕ → Type 0
 IsBadFrom k bytes = (fault : TreeFault) × ReadsDocument bytes (Err (Tree fault)) × (place_of fault ≡ k)
 
--- why bytes aren't taken as a document; want of memory is free
+-- why bytes aren't taken as a document, and that they are none then; want of memory is free
 abbrev pub IsRefused : Ending → List ℕ → Type 0
-IsRefused (ends.BadPlace k) bytes = IsBadFrom k bytes
-IsRefused (ends.BadElement part) bytes = ReadsDocument bytes (Err (BadDocument part))
+IsRefused (ends.BadPlace k) bytes = IsBadFrom k bytes × (document_in bytes ≡ None)
+IsRefused (ends.BadElement part) bytes = ReadsDocument bytes (Err (BadDocument part)) × (document_in bytes ≡ None)
 IsRefused ends.NoMemory bytes = Unit {0}
 IsRefused _ bytes = ⊥
 

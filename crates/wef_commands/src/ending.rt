@@ -17,9 +17,10 @@ pub enum Ending {
     Done,
     /// The words are no command line.
     BadCommand,
-    /// A line of the schedule, or of what is checked, isn't good: the first such line, counted from 1.
+    /// A line of the input isn't good: the first such line, counted from 1. Of a line of `write` that
+    /// says an event, its text may be too long with the number that it gets.
     BadLine(u64),
-    /// The schedule, or what is checked, has more than 16 MiB.
+    /// The schedule has more than 16 MiB.
     TooLong,
     /// The bytes are no document of XML, by what stands at this place, counted in bytes from the start
     /// of the input.

@@ -1,6 +1,6 @@
 //! What commands do by the rows that stood before them, as contracts.
 
-ghost use Rattle.wef_commands.specs.Laws.{AddLeaves, AddsByRows, EventsByRows, ListsByRows, ReadersLeave, RemoveLeaves, RemovesByRows, ShowsByRows, WriteLeaves, WritesByRows};
+ghost use Rattle.wef_commands.specs.Laws.{AddLeaves, AddsByRows, EventsByRows, ListsByRows, ReadersLeave, RemoveLeaves, RemovesByRows, ShowsByRows, WriteLeaves, WritesAsFar, WritesByRows};
 
 /// Where the rows before and behind a run are told: `exists` and `too many` are told exactly by the
 /// rows, and once `add` is done the subscription of the document stands live. `unknown` and `already`
@@ -23,6 +23,14 @@ pub fn texts_are_of_rows()
 /// start left it, and the number that is printed of it is its channel's last one plus one.
 pub fn numbers_follow_the_rows()
     ensures { WritesByRows }
+{}
+
+/// Whatever the ending of `write`: of the events of its input the first so many were written over the
+/// log as its start left it, and exactly their lines are printed, each with the number that its channel
+/// had next; at most one event more was written, whose line isn't printed, or not whole. `full` and a
+/// line whose text is too long with its number come exactly by the rows.
+pub fn numbers_told_are_written()
+    ensures { WritesAsFar }
 {}
 
 /// Whatever the ending, also where the store failed or memory was wanting: any rows that an opening may
