@@ -1,6 +1,8 @@
 pub mod Columns
+pub mod Contents
 pub mod Keeping
 pub mod Makes
+pub mod Paging
 pub mod Places
 pub mod Refusals
 pub mod Schema

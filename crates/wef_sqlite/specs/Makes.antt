@@ -1,22 +1,24 @@
 -- What the statements of a commit make of the database, change by change.
-use Rattle.std.specs.Prelude.{◌≡◌, ◌⊎◌, ◌<◌, ℕ, true, List, [], ◌∷◌, Ok}
+use Rattle.std.specs.Prelude.{◌≡◌, ◌⊎◌, ◌<◌, ℕ, true, List, [], ◌∷◌, Some, Ok}
 use Rattle.sqlite.specs.Effect.{Database}
 use Rattle.sqlite.specs.Held.{Held, state}
 use Rattle.sqlite.specs.State.{ExecutesInside}
 use Rattle.sqlite_trees.specs.declared.store.Store.{Ghosts}
 use Rattle.sqlite_trees.specs.Tree.{Trees}
 use Rattle.wef_base.specs.declared.numbers.TheConstants.{MAX}
+use Rattle.wef_keeper.specs.Rows.{cell_of_row}
 use Rattle.wef_keeper.specs.declared.keys.Change.{Change}
 use Rattle.wef_keeper.specs.declared.keys.Change.TheVariants.{Put, Delete}
 use Rattle.wef_keeper.specs.declared.keys.Key.{Key}
 use Rattle.wef_keeper.specs.declared.keys.Row.{Row}
+use Rattle.wef_sqlite.specs.Columns.{entry_in}
 use Rattle.wef_sqlite.specs.Statements.{key_values, row_values}
 use Rattle.wef_sqlite.specs.declared.write.TheConstants.{PUT, DELETE}
 
 module _ {S : Type 0} (g : Ghosts S) where
-  -- a row is put by its statement
+  -- a row, which its columns say, is put by its statement
   abbrev pub Puts : Row → Held S → Held S → Type 0
-  Puts row before now = (count : ℕ) × ExecutesInside 0 PUT.now (row_values row) (state g before) (state g now) (Ok count)
+  Puts row before now = (entry_in (row_values row) ≡ Some (row.key, cell_of_row row)) × (count : ℕ) × ExecutesInside 0 PUT.now (row_values row) (state g before) (state g now) (Ok count)
 
   -- a key is deleted by its statement; where no row can have its number, nothing is done
   abbrev pub Deletes : Key → Held S → Held S → Type 0

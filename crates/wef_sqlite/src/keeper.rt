@@ -1,13 +1,13 @@
 //! The keeper whose rows stand in a database. It tells no rows.
 
-ghost use Rattle.std.specs.Prelude.{◌≡◌, if◌then◌else◌, ◌≤◌, true, length, All, ◌||◌, is_err, is_some, false, IfOk, IfErr, refl};
+ghost use Rattle.std.specs.Prelude.{◌≡◌, if◌then◌else◌, ◌≤◌, true, length, All, ◌||◌, is_err, is_some, false, IfOk, IfErr, OnOk, refl};
 ghost use Rattle.std.specs.declared.option.Option.TheVariants.{None};
 ghost use Rattle.wef_base.specs.Counts.{Rose};
 ghost use Rattle.wef_keeper.specs.Keeping.{HasFault, raised};
 ghost use Rattle.wef_keeper.specs.Rows.{is_after};
 ghost use Rattle.wef_keeper.specs.declared.keys.Row as the_row;
 ghost use Rattle.wef_sqlite.specs.Keeping.{StaysSet, is_opened, untold};
-ghost use Rattle.wef_sqlite.specs.Places.{has_connection};
+ghost use Rattle.wef_sqlite.specs.Places.{IsAlive, has_connection};
 
 use crate::opening::{Opens, Origin};
 use crate::place::Place;
@@ -92,7 +92,8 @@ impl<S: Opens> SqlKeeper<S> {
 
     /// Opens the database where it isn't open.
     fn open(&mut self) -> Result<(), Refusal>
-        ensures { self.new ≡ record self.old { place = self.new.place; opened = is_opened result self.old.opened } }
+        ensures state { self.new ≡ record self.old { place = self.new.place; opened = is_opened result self.old.opened } }
+        ensures alive { IsAlive S.Store self.old.place → OnOk result (IsAlive S.Store self.new.place) }
     {
         self.place.open(&self.origin)?;
         self.opened = true;
@@ -163,9 +164,11 @@ impl<S: Opens> SqlKeeper<S> {
         }
     }
 
-    /// Opens the database where it isn't open, or where a failure shut its connection.
+    /// Opens the database where it isn't open, or where a failure shut its connection. Failed where one
+    /// is shut that has no path.
     fn restore(&mut self) -> Result<(), Refusal>
-        ensures { self.new ≡ record self.old { place = self.new.place; opened = is_opened result self.old.opened } }
+        ensures state { self.new ≡ record self.old { place = self.new.place; opened = is_opened result self.old.opened } }
+        ensures alive { self.old.may_be_shut ≡ true → OnOk result (IsAlive S.Store self.new.place) }
     {
         if self.may_be_shut {
             self.place.leave_shut(&self.origin)?;

@@ -1,10 +1,10 @@
 //! How a database is opened: at a path, with the table of rows in it.
 
 ghost use Rattle.sqlite.specs.Held.{state, IsNew};
-ghost use Rattle.sqlite.specs.State.{HasCleanDisk, IsLive, Survives};
+ghost use Rattle.sqlite.specs.State.{HasCleanDisk, IsLive, KeepsCommit, Survives};
 ghost use Rattle.std.specs.Prelude.{◌≡◌, ◌≢◌, false, IsTrue, IfOk, OnOk};
 ghost use Rattle.wef_sqlite.specs.Schema.{kept_schema, no_schema};
-ghost use Rattle.wef_sqlite.specs.States.{Rests};
+ghost use Rattle.wef_sqlite.specs.States.{IsReady, Rests};
 
 use crate::refusal::Refusal;
 use crate::schema::{is_kept, is_new};
@@ -80,19 +80,26 @@ pub fn make_table<S: Opens>(conn: &mut Connection<S>) -> Result<(), Refusal>
     Ok(())
 }
 
-/// The same database, read and audited once more, from its store.
+/// The same database, read and audited once more, from its store. Failed where it isn't that of the
+/// table alone.
 pub fn audited<S: Opens>(alloc: Global, conn: Connection<S>) -> Result<Connection<S>, Refusal>
     ensures new { IfOk result IsNew }
     ensures live { IfOk result (λ again. HasCleanDisk (state S.Store again) → IsLive (state S.Store again)) }
+    ensures ready { IfOk result (λ again. IsReady (state S.Store again)) }
+    ensures alive { IfOk result (λ again. HasCleanDisk (state S.Store again) → IsTrue (state S.Store again).is_open) }
 {
     let store = conn.into_store();
     if store.is_broken() {
         return Err(Refusal::Failed);
     }
-    match Connection::over(alloc, store) {
-        Ok(conn) => Ok(conn),
-        Err((error, _)) => Err(Refusal::from(error)),
+    let again = match Connection::over(alloc, store) {
+        Ok(again) => again,
+        Err((error, _)) => return Err(Refusal::from(error)),
+    };
+    if !is_kept(again.schema()) {
+        return Err(Refusal::Failed);
     }
+    Ok(again)
 }
 
 /// The allocator that a connection answers with.
@@ -109,6 +116,8 @@ pub fn is_shut<S: Opens>(conn: &mut Connection<S>) -> Result<bool, Refusal>
     ensures rests { HasCleanDisk (state S.Store conn.new) → IfOk result (λ shut. shut ≡ false → Rests (state S.Store conn.old) (state S.Store conn.new)) }
     ensures alive { HasCleanDisk (state S.Store conn.new) → IfOk result (λ shut. shut ≡ false → IsTrue (state S.Store conn.new).is_open) }
     ensures survives { Survives (state S.Store conn.old) (state S.Store conn.new) (λ _. ⊥) }
+    ensures keeps { HasCleanDisk (state S.Store conn.new) → KeepsCommit (state S.Store conn.old) (state S.Store conn.new) }
+    ensures ended { conn.old.in_transaction ≡ false → conn.new.in_transaction ≡ false }
 {
     match conn.prepare(ANY) {
         Ok(_) => Ok(false),

@@ -1,9 +1,14 @@
 //! Where the table stands, from before its opening on.
 
-ghost use Rattle.std.specs.Prelude.{◌≡◌, ◌≤◌, true, false, length, is_some, All, IfOk, OnOk};
-ghost use Rattle.wef_keeper.specs.Rows.{is_after};
+ghost use Rattle.sqlite.specs.Held.{state};
+ghost use Rattle.sqlite.specs.State.{HasCleanDisk, KeepsCommit};
+ghost use Rattle.sqlite_trees.specs.Tree.{Trees};
+ghost use Rattle.std.specs.Prelude.{◌≡◌, ◌⊎◌, ◌≤◌, true, false, length, take, is_some, All, IsTrue, IfOk, OnErr, OnOk};
+ghost use Rattle.wef_keeper.specs.Keeping.{row_at};
+ghost use Rattle.wef_keeper.specs.Rows.{applied, is_after, rows_after};
 ghost use Rattle.wef_keeper.specs.declared.keys.Row as the_row;
-ghost use Rattle.wef_sqlite.specs.Places.{IsAlive, has_connection, is_open};
+ghost use Rattle.wef_sqlite.specs.Contents.{AreReadAt, Moves, are_rows, rows_in, table_in};
+ghost use Rattle.wef_sqlite.specs.Places.{AcrossOpen, IsAlive, OnOpen, has_connection, is_open};
 
 use crate::opening::{Opens, Origin, connect};
 use crate::refusal::Refusal;
@@ -32,6 +37,7 @@ impl<S: Opens> Place<S> {
     pub fn open(&mut self, origin: &Option<Origin>) -> Result<(), Refusal>
         ensures ready { OnOk result (is_open self.new ≡ true) }
         ensures nothing { is_open self.old ≡ true → (result ≡ Ok tt) × (self.new ≡ self.old) }
+        ensures alive { IsAlive S.Store self.old → OnOk result (IsAlive S.Store self.new) }
     {
         match mem::replace(self, Place::Unopened) {
             Place::Open(table) => {
@@ -45,7 +51,8 @@ impl<S: Opens> Place<S> {
 
     /// Takes the table of a connection. One that is refused stays where it is to be kept.
     fn adopt(&mut self, conn: Connection<S>, keeps: bool) -> Result<(), Refusal>
-        ensures { OnOk result (is_open self.new ≡ true) }
+        ensures ready { OnOk result (is_open self.new ≡ true) }
+        ensures alive { OnOk result (IsAlive S.Store self.new) }
     {
         match Table::adopt(conn) {
             Ok(table) => {
@@ -92,7 +99,10 @@ impl<S: Opens> Place<S> {
 
     /// The row of a key, or none where there is none. Failed where the table isn't open.
     pub fn get(&mut self, key: &Key) -> Result<Option<Row>, Refusal>
-        ensures { is_open self.old ≡ false → result ≡ Err Refusal.Failed }
+        ensures unopened { is_open self.old ≡ false → result ≡ Err Refusal.Failed }
+        ensures stays { is_open self.old ≡ true → is_open self.new ≡ true }
+        ensures found { OnOpen self.new (λ now. IsTrue (state S.Store now).is_open → IfOk result (λ row. row ≡ row_at key.now (rows_in (table_in (state S.Store now).committed.trees)))) }
+        ensures reads { OnOpen self.new (λ now. IsTrue (state S.Store now).is_open → OnOk result (AreReadAt key.now (table_in (state S.Store now).committed.trees))) }
     {
         match self {
             Place::Open(table) => table.get(key),
@@ -103,6 +113,8 @@ impl<S: Opens> Place<S> {
     /// The first `max` rows whose keys are greater than `after`. Failed where the table isn't open.
     pub fn page(&mut self, after: &Key, max: u32) -> Result<List<Row>, Refusal>
         ensures unopened { is_open self.old ≡ false → result ≡ Err Refusal.Failed }
+        ensures stays { is_open self.old ≡ true → is_open self.new ≡ true }
+        ensures given { OnOpen self.new (λ now. IsTrue (state S.Store now).is_open → are_rows (table_in (state S.Store now).committed.trees) ≡ true → IfOk result (λ page. page ≡ take max (rows_after after.now (rows_in (table_in (state S.Store now).committed.trees))))) }
         ensures size { IfOk result (λ page. length page ≤ max) }
         ensures behind { IfOk result (All (λ (row : the_row.Row). is_after after.now row.key ≡ true)) }
     {
@@ -114,7 +126,12 @@ impl<S: Opens> Place<S> {
 
     /// Makes all changes, or none. Failed where the table isn't open.
     pub fn commit(&mut self, changes: &List<Change>) -> Result<(), Refusal>
-        ensures { is_open self.old ≡ false → result ≡ Err Refusal.Failed }
+        ensures unopened { is_open self.old ≡ false → result ≡ Err Refusal.Failed }
+        ensures stays { is_open self.old ≡ true → is_open self.new ≡ true }
+        ensures applied { AcrossOpen self.old self.new (λ before now. IsTrue (state S.Store now).is_open → OnOk result (Moves (applied changes.now) (table_in (state S.Store before).committed.trees) (table_in (state S.Store now).committed.trees))) }
+        ensures images { AcrossOpen self.old self.new (λ before now. IsTrue (state S.Store before).is_open → HasCleanDisk (state S.Store now) → (trees : Trees) → (state S.Store now).may_leave trees → (trees ≡ (state S.Store before).committed.trees) ⊎ Moves (applied changes.now) (table_in (state S.Store before).committed.trees) (table_in trees)) }
+        ensures settled { OnOpen self.new (λ now. IsTrue (state S.Store now).is_open → (trees : Trees) → (state S.Store now).may_leave trees → trees ≡ (state S.Store now).committed.trees) }
+        ensures undone { AcrossOpen self.old self.new (λ before now. IsTrue (state S.Store now).is_open → OnErr result (KeepsCommit (state S.Store before) (state S.Store now))) }
     {
         match self {
             Place::Open(table) => table.commit(changes),

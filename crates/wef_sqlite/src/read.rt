@@ -5,10 +5,13 @@ ghost use Rattle.sqlite.specs.Held.{state};
 ghost use Rattle.sqlite.specs.Listing.{understood};
 ghost use Rattle.sqlite.specs.State.{HasCleanDisk, Shown, Survives};
 ghost use Rattle.sqlite.specs.Values.{bound};
-ghost use Rattle.std.specs.Prelude.{◌≡◌, ◌<◌, ◌≤◌, true, [], ◌∷◌, ◌++◌, ◌+◌, min, pos, length, All, IfOk, OnOk};
+ghost use Rattle.std.specs.Prelude.{◌≡◌, ◌<◌, ◌≤◌, true, [], ◌∷◌, ◌++◌, ◌+◌, ◌-◌, min, pos, length, take, All, IfOk, OnOk};
 ghost use Rattle.wef_base.specs.declared.numbers.TheConstants.{MAX};
-ghost use Rattle.wef_keeper.specs.Rows.{is_after};
+ghost use Rattle.wef_keeper.specs.Rows.{is_after, rows_after};
 ghost use Rattle.wef_keeper.specs.declared.keys.Row as the_row;
+ghost use Rattle.wef_keeper.specs.Keeping.{row_at};
+ghost use Rattle.wef_sqlite.specs.Contents.{AreReadAt, rows_in, table_in};
+ghost use Rattle.wef_sqlite.specs.Paging.{GoesOn, GoesThrough, OnRows, SayRows, rows_behind, sections};
 ghost use Rattle.wef_sqlite.specs.Schema.{kept_schema};
 ghost use Rattle.wef_sqlite.specs.Statements.{key_values, next_bytes, text_behind, values_behind};
 ghost use Rattle.wef_sqlite.specs.States.{Rests};
@@ -52,9 +55,12 @@ pub enum Section {
     Kind,
 }
 
-/// The row of a key, or none where there is none. No row has a number above `MAX`.
+/// The row of a key, or none where there is none. No row has a number above `MAX`. Failed where a row
+/// of the table says the key and is none of ours.
 pub fn get<S: Alter>(conn: &mut Connection<S>, key: &Key) -> Result<Option<Row>, Refusal>
     requires { conn.old.schema ≡ kept_schema }
+    ensures found { HasCleanDisk (state S.Store conn.new) → IfOk result (λ row. row ≡ row_at key.now (rows_in (table_in (state S.Store conn.new).now.trees))) }
+    ensures reads { HasCleanDisk (state S.Store conn.new) → OnOk result (AreReadAt key.now (table_in (state S.Store conn.new).now.trees)) }
     ensures rests { HasCleanDisk (state S.Store conn.new) → OnOk result (Rests (state S.Store conn.old) (state S.Store conn.new)) }
     ensures survives { Survives (state S.Store conn.old) (state S.Store conn.new) (λ _. ⊥) }
 {
@@ -85,12 +91,14 @@ fn rows_of<S: Alter>(
 }
 
 /// The first `max` rows whose keys are greater than `after`, in the order of their keys: section by
-/// section from the innermost outwards.
+/// section from the innermost outwards. Failed where a row that is read is none of ours.
 pub fn page<S: Alter>(conn: &mut Connection<S>, after: &Key, max: u32) -> Result<List<Row>, Refusal>
     ensures rests { HasCleanDisk (state S.Store conn.new) → OnOk result (Rests (state S.Store conn.old) (state S.Store conn.new)) }
     ensures survives { Survives (state S.Store conn.old) (state S.Store conn.new) (λ _. ⊥) }
     ensures size { IfOk result (λ page. length page ≤ max) }
     ensures behind { IfOk result (All (λ (row : the_row.Row). is_after after.now row.key ≡ true)) }
+    ensures read { HasCleanDisk (state S.Store conn.new) → IfOk result (GoesThrough S.Store sections after.now max conn.old conn.new []) }
+    ensures given { IfOk result (λ page. OnRows (state S.Store conn.new) (λ rows. page ≡ take max (rows_after after.now rows))) }
 {
     let mut page = List::new(after.sub.alloc());
     fill(conn, &mut page, Section::Number, after, max)?;
@@ -101,7 +109,8 @@ pub fn page<S: Alter>(conn: &mut Connection<S>, after: &Key, max: u32) -> Result
     Ok(page)
 }
 
-/// Goes on with a page by the rows of a section, as long as there is room.
+/// Goes on with a page by the rows of a section, as long as there is room. Failed where one of them is
+/// none of ours.
 fn fill<S: Alter>(
     conn: &mut Connection<S>,
     page: &mut List<Row>,
@@ -113,6 +122,8 @@ fn fill<S: Alter>(
     ensures survives { Survives (state S.Store conn.old) (state S.Store conn.new) (λ _. ⊥) }
     ensures size { OnOk result (length page.old ≤ max → length page.new ≤ max) }
     ensures behind { OnOk result (All (λ (row : the_row.Row). is_after after.now row.key ≡ true) page.old → All (λ (row : the_row.Row). is_after after.now row.key ≡ true) page.new) }
+    ensures read { HasCleanDisk (state S.Store conn.new) → OnOk result (GoesOn section after.now (max - length page.old) (state S.Store conn.old) (state S.Store conn.new) page.old page.new) }
+    ensures given { HasCleanDisk (state S.Store conn.new) → OnOk result (OnRows (state S.Store conn.new) (λ rows. page.new ≡ page.old ++ take (max - length page.old) (rows_behind section after.now rows))) }
 {
     let room = room_in(page, max);
     if room == 0 {
@@ -127,7 +138,7 @@ fn fill<S: Alter>(
 
 /// How many rows a page may still take.
 fn room_in(page: &List<Row>, max: u32) -> u32
-    ensures { result ≤ max }
+    ensures { result ≡ max - length page.now }
 {
     match u32::try_from(page.len()) {
         Ok(count) => max.saturating_sub(count),
@@ -178,6 +189,8 @@ fn rows_behind<S: Alter>(
 ) -> Result<Vec<Columns>, Refusal>
     ensures rests { HasCleanDisk (state S.Store conn.new) → OnOk result (Rests (state S.Store conn.old) (state S.Store conn.new)) }
     ensures survives { Survives (state S.Store conn.old) (state S.Store conn.new) (λ _. ⊥) }
+    ensures shown { HasCleanDisk (state S.Store conn.new) → IfOk result (λ answer. Shown (text_behind section) (values_behind section after.now room) (state S.Store conn.old) (state S.Store conn.new) answer.items) }
+    ensures shows { HasCleanDisk (state S.Store conn.new) → IfOk result (λ answer. OnRows (state S.Store conn.new) (λ rows. SayRows answer.items (take room (rows_behind section after.now rows)))) }
 {
     if !is_kept(conn.schema()) {
         return Err(Refusal::Failed);

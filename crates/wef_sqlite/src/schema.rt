@@ -10,7 +10,8 @@ use sqlite_value::value::Value;
 
 /// Whether the schema is that of the table of rows.
 pub fn is_kept(schema: &Schema) -> bool
-    ensures { IsTrue result → schema.now ≡ kept_schema }
+    ensures kept { IsTrue result → schema.now ≡ kept_schema }
+    ensures back { schema.now ≡ kept_schema → IsTrue result }
 {
     are_tables(schema.tables.as_slice())
         && are_indexes(schema.indexes.as_slice())
@@ -19,13 +20,15 @@ pub fn is_kept(schema: &Schema) -> bool
 
 /// Whether there is nothing in the database yet.
 pub fn is_new(schema: &Schema) -> bool
-    ensures { IsTrue result → schema.now ≡ no_schema }
+    ensures kept { IsTrue result → schema.now ≡ no_schema }
+    ensures back { schema.now ≡ no_schema → IsTrue result }
 {
     schema.tables.is_empty() && schema.indexes.is_empty() && schema.views.is_empty()
 }
 
 fn are_tables(tables: &[Table]) -> bool
-    ensures { IsTrue result → tables.now ≡ kept_table ∷ [] }
+    ensures kept { IsTrue result → tables.now ≡ kept_table ∷ [] }
+    ensures back { tables.now ≡ kept_table ∷ [] → IsTrue result }
 {
     match tables {
         [table] => is_kept_table(table),
@@ -34,7 +37,8 @@ fn are_tables(tables: &[Table]) -> bool
 }
 
 fn are_indexes(indexes: &[Index]) -> bool
-    ensures { IsTrue result → indexes.now ≡ kept_index ∷ [] }
+    ensures kept { IsTrue result → indexes.now ≡ kept_index ∷ [] }
+    ensures back { indexes.now ≡ kept_index ∷ [] → IsTrue result }
 {
     match indexes {
         [index] => is_kept_index(index),
@@ -43,7 +47,8 @@ fn are_indexes(indexes: &[Index]) -> bool
 }
 
 fn is_kept_table(table: &Table) -> bool
-    ensures { IsTrue result → table.now ≡ kept_table }
+    ensures kept { IsTrue result → table.now ≡ kept_table }
+    ensures back { table.now ≡ kept_table → IsTrue result }
 {
     table.name.as_slice() == "kept".as_bytes()
         && table.tree == 0
@@ -60,7 +65,8 @@ fn is_kept_table(table: &Table) -> bool
 }
 
 fn is_kept_index(index: &Index) -> bool
-    ensures { IsTrue result → index.now ≡ kept_index }
+    ensures kept { IsTrue result → index.now ≡ kept_index }
+    ensures back { index.now ≡ kept_index → IsTrue result }
 {
     index.name.as_slice() == "sqlite_autoindex_kept_1".as_bytes()
         && index.tree == 1
@@ -71,7 +77,8 @@ fn is_kept_index(index: &Index) -> bool
 }
 
 fn are_columns(columns: &[Column]) -> bool
-    ensures { IsTrue result → columns.now ≡ kept_columns }
+    ensures kept { IsTrue result → columns.now ≡ kept_columns }
+    ensures back { columns.now ≡ kept_columns → IsTrue result }
 {
     match columns {
         [kind, sub, source, channel, number, value, body] => {
@@ -89,7 +96,8 @@ fn are_columns(columns: &[Column]) -> bool
 
 /// Whether a column has this name and kind, is strict, and is never null.
 fn is_column(column: &Column, name: &str, kind: Kind) -> bool
-    ensures { IsTrue result → column.now ≡ kept_column name.now kind }
+    ensures kept { IsTrue result → column.now ≡ kept_column name.now kind }
+    ensures back { column.now ≡ kept_column name.now kind → IsTrue result }
 {
     column.name.as_slice() == name.as_bytes()
         && column.kind == kind
@@ -100,7 +108,8 @@ fn is_column(column: &Column, name: &str, kind: Kind) -> bool
 }
 
 fn are_places(places: &[usize]) -> bool
-    ensures { IsTrue result → places.now ≡ key_places }
+    ensures kept { IsTrue result → places.now ≡ key_places }
+    ensures back { places.now ≡ key_places → IsTrue result }
 {
     match places {
         [kind, sub, source, channel, number] => {
@@ -111,7 +120,8 @@ fn are_places(places: &[usize]) -> bool
 }
 
 fn are_uniques(uniques: &[Items<usize>]) -> bool
-    ensures { IsTrue result → uniques.now ≡ key_places ∷ [] }
+    ensures kept { IsTrue result → uniques.now ≡ key_places ∷ [] }
+    ensures back { uniques.now ≡ key_places ∷ [] → IsTrue result }
 {
     match uniques {
         [key] => are_places(key.as_slice()),
@@ -120,7 +130,8 @@ fn are_uniques(uniques: &[Items<usize>]) -> bool
 }
 
 fn are_orders(orders: &[Order]) -> bool
-    ensures { IsTrue result → orders.now ≡ record { digits = 0 } ∷ [] }
+    ensures kept { IsTrue result → orders.now ≡ record { digits = 0 } ∷ [] }
+    ensures back { orders.now ≡ record { digits = 0 } ∷ [] → IsTrue result }
 {
     match orders {
         [order] => order.digits == 0,
@@ -129,7 +140,8 @@ fn are_orders(orders: &[Order]) -> bool
 }
 
 fn are_no_stamps(stamps: &Stamps) -> bool
-    ensures { IsTrue result → stamps.now ≡ record { places = []; terms = []; formats = [] } }
+    ensures kept { IsTrue result → stamps.now ≡ record { places = []; terms = []; formats = [] } }
+    ensures back { stamps.now ≡ record { places = []; terms = []; formats = [] } → IsTrue result }
 {
     stamps.places.is_empty() && stamps.terms.roots.is_empty() && stamps.formats.is_empty()
 }

@@ -1,6 +1,7 @@
 -- One change more is made behind those before it.
 use Rattle.std.proofs.Common.{◌≡◌, ◌∙◌, ◌+◌, sym, ap, subst, take, arith, [], ◌∷◌, ◌++◌}
 use Rattle.std.proofs.lemmas.List.{take_more}
+use Rattle.sqlite.proofs.InsideLemmas.{keeps_then}
 use Rattle.sqlite.specs.Held.{state}
 use Rattle.wef_sqlite.specs.Makes.{MakesAll}
 use Rattle.wef_sqlite.proofs.Making.{makes_more}
@@ -24,5 +25,17 @@ loop-change-preserved g c =
           let so_far = inv.makes (clean_before (state g.S.Store before) (state g.S.Store now) c.make.ensures.survives clean) inside in
           let made = c.in_ok-make.ensures.makes clean so_far.1 in
           (subst (λ all. MakesAll g.S.Store all first now) (sym front) (makes_more g.S.Store (take index changes) change first before now so_far.0 made.0), made.1);
+      keeps = λ clean inside.
+          let late = clean_before (state g.S.Store before) (state g.S.Store now) c.make.ensures.survives clean in
+          keeps_then (state g.S.Store first) (state g.S.Store before) (state g.S.Store now) (inv.keeps late inside) (c.make.ensures.keeps clean (inv.makes late inside).1);
       survives = survives_reads (state g.S.Store first) (state g.S.Store before) (state g.S.Store now) inv.survives c.make.ensures.survives;
     }
+
+pub returns-in_err-make-clause-keeps : goal.returns-in_err-make-clause-keeps
+returns-in_err-make-clause-keeps g c clean inside =
+    let first = c.args.tx.now.conn.now in
+    let before = c.loop-change.tx.conn.now in
+    let now = c.make.new.tx.conn.now in
+    let inv = c.loop-change.invariant in
+    let late = clean_before (state g.S.Store before) (state g.S.Store now) c.make.ensures.survives clean in
+    keeps_then (state g.S.Store first) (state g.S.Store before) (state g.S.Store now) (inv.keeps late inside) (c.make.ensures.keeps clean (inv.makes late inside).1)
