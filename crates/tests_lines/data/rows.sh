@@ -1,5 +1,6 @@
 # Reads the stores that a walk through two folders has left by sqlite3, where it is installed and not older than the
-# kind of their table, and compares the rows with those that are wanted. The program still reads them behind it.
+# kind of their table, and compares the rows with those that are wanted. The program still reads them behind it, and a
+# store that sqlite3 wrote.
 #
 #     sh rows.sh WEF
 
@@ -59,3 +60,15 @@ wanted source "SELECT count(*) FROM kept WHERE kind = 9 AND value = 0 AND body L
 END
 
 (cd collector && "$1" show) | diff before - || exit 1
+
+# A file that sqlite3 wrote, whose rows stand in the log beside it alone.
+mkdir written copied
+sqlite3 written/wef.db > written/out << END || exit 1
+PRAGMA journal_mode = wal;
+PRAGMA wal_autocheckpoint = 0;
+CREATE TABLE kept (kind INTEGER NOT NULL, sub TEXT NOT NULL, source TEXT NOT NULL, channel TEXT NOT NULL, number INTEGER NOT NULL, value INTEGER NOT NULL, body TEXT NOT NULL, PRIMARY KEY (kind, sub, source, channel, number)) STRICT;
+ATTACH 'collector/wef.db' AS other;
+INSERT INTO kept SELECT * FROM other.kept;
+.shell cp written/wef.db written/wef.db-wal copied
+END
+(cd copied && "$1" show) | diff before - || exit 1

@@ -5,6 +5,7 @@
 //! value is taken away. In SQLite a store is opened anew behind ` then `, over the same database.
 #![tactic(auto)]
 
+mod beside;
 mod databases;
 mod many;
 mod memory;

@@ -2,6 +2,7 @@
 
 ghost use Rattle.std.specs.Prelude.{◌≤◌};
 
+use crate::beside::alike;
 use crate::rows::{AnyForm, key_in, number_in, push_rows, put};
 use crate::steps::most_in;
 use std::alloc::{AllocError, Global};
@@ -29,6 +30,8 @@ pub(crate) fn counted<K: Keeper>(
         "fill" => fill(keeper, alloc, number_in(digits))?,
         // As many are looked for as are there, here and there.
         "gets" => gets(keeper, alloc, number_in(digits))?,
+        // So many changes are made here and in a store in memory, until the two answer differently.
+        "alike" => alike(keeper, alloc, number_in(digits))?,
         // All rows are walked over by pages.
         "walk" => walk(keeper, alloc, most_in(digits), None)?,
         _ => return Ok(None),
