@@ -1,14 +1,14 @@
 //! Messages, and what is sent of them.
 
 ghost use Rattle.std.specs.Prelude.{◌≡◌};
-ghost use Rattle.wef_http_writing.specs.Messages.{is_status};
+ghost use Rattle.wef_http.specs.Written.{is_status};
 
 use std::alloc::{AllocError, Global};
 use tests_tasks::escapes::escaped;
 use wef_base::{Bytes, Charset, List, Text};
+use wef_http::head_texts::has_body;
+use wef_http::{write_request, write_response};
 use wef_http_heads::HttpEnd;
-use wef_http_writing::heads::has_body;
-use wef_http_writing::{write_request, write_response};
 use wef_ports::MemPort;
 
 /// The response `STATUS CHARSET BODY`. What has no body is written without it.

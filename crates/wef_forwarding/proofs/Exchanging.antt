@@ -8,7 +8,7 @@ use Rattle.wef_http.specs.Messages.{RefusesResponse}
 use Rattle.wef_http_heads.specs.Laws.{IsByBytes}
 use Rattle.wef_http_heads.specs.declared.ends.HttpEnd.{HttpEnd}
 use Rattle.wef_http_heads.specs.declared.ends.HttpEnd.TheVariants as end
-use Rattle.wef_http_writing.specs.Sending.{IsNotSent, Sends, SendsPart}
+use Rattle.wef_http.specs.Sending.{IsNotSent, Sends, SendsPart}
 use Rattle.wef_ports.specs.Telling.{Told}
 use Rattle.wef_source.specs.declared.messages.Delivery.{Delivery}
 use Rattle.wef_forwarding.specs.Exchanges.{Brings, BrokeOff, Exchanged, IsCause, Replied, WasMade, brought_without, connected, fault_of, request_bytes, request_of}

@@ -14,8 +14,8 @@ use Rattle.wef_http_heads.specs.Laws.{IsByBytes}
 use Rattle.wef_http.specs.declared.messages.HttpResponse.{HttpResponse}
 use Rattle.wef_http_heads.specs.declared.ends.HttpEnd.{HttpEnd}
 use Rattle.wef_http_heads.specs.declared.ends.HttpEnd.TheVariants as end
-use Rattle.wef_http_writing.specs.Messages.{request}
-use Rattle.wef_http_writing.specs.Sending.{Sends, SendsPart}
+use Rattle.wef_http.specs.Written.{request}
+use Rattle.wef_http.specs.Sending.{Sends, SendsPart}
 use Rattle.wef_ids.specs.Ids.{ids_agree}
 use Rattle.wef_ids.specs.declared.MessageId.{MessageId}
 use Rattle.wef_ports.specs.Telling.{Told}

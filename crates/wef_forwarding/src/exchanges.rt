@@ -2,15 +2,14 @@
 
 ghost use Rattle.std.specs.Prelude.{◌≡◌, ◌≤◌, IfOk, IfErr, IfSome, OnOk};
 ghost use Rattle.wef_forwarding.specs.Exchanges.{Brings, Exchanged, IsCause, brought_without, envelope_of, has_envelope, request_bytes};
-ghost use Rattle.wef_http_writing.specs.Sending.{Sends, SendsPart};
+ghost use Rattle.wef_http.specs.Sending.{Sends, SendsPart};
 
 use std::alloc::{AllocError, Global};
 use thiserror::Error;
 use wef_base::{Bytes, Text};
 use wef_connections::Link;
-use wef_http::{HttpResponse, read_response};
+use wef_http::{HttpResponse, read_response, write_request};
 use wef_http_heads::HttpEnd;
-use wef_http_writing::write_request;
 use wef_ports::Port;
 use wef_source::SourceFault;
 

@@ -4,4 +4,6 @@ pub mod Laws
 pub mod Messages
 pub mod Parts
 pub mod Reading
+pub mod Sending
 pub mod Trailers
+pub mod Written

@@ -13,7 +13,7 @@ use Rattle.wef_http_heads.specs.Statuses.{refusal}
 use Rattle.wef_http_heads.specs.declared.ends.HttpEnd.{HttpEnd}
 use Rattle.wef_http_heads.specs.declared.ends.HttpEnd.TheVariants as http
 use Rattle.wef_http_heads.specs.declared.targets.Side.{Side}
-use Rattle.wef_http_writing.specs.Sending.{Sends}
+use Rattle.wef_http.specs.Sending.{Sends}
 use Rattle.wef_ports.specs.Telling.{Told}
 use Rattle.wef_serving.specs.Serving.{Responds, RespondsInTurn, Serves, refusal_with, response_to, to_one_more}
 use Rattle.wef_serving.specs.Serving.{finishes, cuts, refuses, closes, goes_on, breaks, refuses_part, answers_part, leaves}

@@ -8,7 +8,7 @@ use Rattle.wef_http_heads.specs.Statuses.{refusal}
 use Rattle.wef_http_heads.specs.declared.ends.HttpEnd.{HttpEnd}
 use Rattle.wef_http_heads.specs.declared.ends.HttpEnd.TheVariants as http
 use Rattle.wef_http_heads.specs.declared.targets.Side.{Side}
-use Rattle.wef_http_writing.specs.Messages.{has_body, is_status, response}
+use Rattle.wef_http.specs.Written.{has_body, is_status, response}
 use Rattle.wef_serving.specs.declared.ends.ConnectionEnd.{ConnectionEnd}
 use Rattle.wef_serving.specs.declared.ends.ConnectionEnd.TheVariants as over
 

@@ -8,7 +8,7 @@ use Rattle.wef_http_heads.specs.Statuses.{refusal}
 use Rattle.wef_http_heads.specs.declared.ends.HttpEnd.{HttpEnd}
 use Rattle.wef_http_heads.specs.declared.ends.HttpEnd.TheVariants as http
 use Rattle.wef_http_heads.specs.declared.targets.Side.{Side}
-use Rattle.wef_http_writing.specs.Sending.{Sends, SendsPart}
+use Rattle.wef_http.specs.Sending.{Sends, SendsPart}
 use Rattle.wef_ports.specs.Telling.{Told}
 use Rattle.wef_serving.specs.Serving.{Serves, refusal_with, response_to}
 use Rattle.wef_serving.specs.declared.ends.ConnectionEnd.{ConnectionEnd}

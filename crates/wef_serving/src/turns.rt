@@ -5,7 +5,7 @@ ghost use Rattle.wef_base.specs.Counts.{Rose};
 ghost use Rattle.wef_http.specs.Reading.{ahead, reach};
 ghost use Rattle.wef_http_heads.specs.Fields.{is_host};
 ghost use Rattle.wef_http_heads.specs.declared.ends.HttpEnd.TheVariants.{ReadFault};
-ghost use Rattle.wef_http_writing.specs.Messages.{is_refusal};
+ghost use Rattle.wef_http.specs.Written.{is_refusal};
 ghost use Rattle.wef_ports.specs.Telling.{OnlyWrites};
 ghost use Rattle.wef_serving.specs.Serving.{AnswersAt, LeavesAt, Responds};
 ghost use Rattle.wef_serving.specs.Turns.{HasAnswered, HasRefused, SendsRefusal, Turns};
@@ -15,9 +15,8 @@ use crate::answering::Answering;
 use crate::ends::ConnectionEnd;
 use std::alloc::Global;
 use wef_base::{Bytes, Charset};
-use wef_http::{HttpRequest, read_request};
+use wef_http::{HttpRequest, read_request, write_response};
 use wef_http_heads::{HttpEnd, Side};
-use wef_http_writing::write_response;
 use wef_ports::{Clock, Port};
 
 /// Serves the next request, of which `rest` may have the first bytes. What follows it stays there.

@@ -1,7 +1,0 @@
-use Rattle.std.proofs.Common.{◌∙◌}
-use Rattle.std.proofs.lemmas.Result.{IfOk-weaker}
-use Rattle.wef_http_writing.proofs.Joined.{request_is_joined}
-use Rattle.wef_http_writing.proofs.heads.request_head.Goals as goal
-
-pub returns : goal.returns
-returns c = IfOk-weaker c.format.result _ _ (λ _ made. made ∙ request_is_joined c.args.host.now c.args.path.now c.args.size) c.format.ensures.ok

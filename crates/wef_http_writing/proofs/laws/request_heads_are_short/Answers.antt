@@ -1,5 +1,0 @@
-use Rattle.wef_http_writing.proofs.RequestsRead.{heads_short}
-use Rattle.wef_http_writing.proofs.laws.request_heads_are_short.Goals as goal
-
-pub returns : goal.returns
-returns c = heads_short

@@ -1,5 +1,0 @@
-use Rattle.wef_http_writing.proofs.RequestsRead.{requests_read}
-use Rattle.wef_http_writing.proofs.laws.requests_are_read.Goals as goal
-
-pub returns : goal.returns
-returns c = requests_read

@@ -1,5 +1,0 @@
-use Rattle.wef_http_writing.proofs.ResponsesRead.{responses_read}
-use Rattle.wef_http_writing.proofs.laws.responses_are_read.Goals as goal
-
-pub returns : goal.returns
-returns c = responses_read
