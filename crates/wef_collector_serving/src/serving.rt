@@ -32,8 +32,14 @@ pub fn serve_connection<F: Front, K: Keeper, C: Clock>(
     ensures fault { result ≡ PortFailed → Rose (F.told front.old).faults (F.told front.new).faults }
     ensures clock { C.told clock.new ≡ C.told clock.old }
 {
-    let side = Side::Collector;
-    serve(alloc, side, front, &CollectorAnswers, collector, clock)
+    serve(
+        alloc,
+        Side::Collector,
+        front,
+        &CollectorAnswers,
+        collector,
+        clock,
+    )
 }
 
 /// Takes the next connection of a front, serves it for a collector, and closes it. It is refused where
@@ -55,6 +61,12 @@ pub fn serve_next_connection<F: Front, K: Keeper, C: Clock>(
     ensures untouched { OnErr result (collector.new ≡ collector.old) }
     ensures clock { C.told clock.new ≡ C.told clock.old }
 {
-    let side = Side::Collector;
-    serve_next(alloc, side, front, &CollectorAnswers, collector, clock)
+    serve_next(
+        alloc,
+        Side::Collector,
+        front,
+        &CollectorAnswers,
+        collector,
+        clock,
+    )
 }

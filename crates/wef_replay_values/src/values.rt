@@ -55,10 +55,10 @@ impl From<EventFault> for LineFault {
     ghost from_gives = { λ fault e. e ≡ event_line_fault fault };
 
     fn from(fault: EventFault) -> LineFault {
-        if let EventFault::NoMemory = fault {
-            return LineFault::NoMemory;
+        match fault {
+            EventFault::NoMemory => LineFault::NoMemory,
+            _ => LineFault::NotUnderstood,
         }
-        LineFault::NotUnderstood
     }
 }
 
