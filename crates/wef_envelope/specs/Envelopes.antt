@@ -57,6 +57,23 @@ address_in e = option_map said_in (first_called addressing (codes "Address") e.c
 
 -- ---- envelopes
 
+-- an envelope with what each has that is written, and with no other header
+abbrev pub plain_envelope : List ℕ → List ℕ → MessageId → List Element → Envelope
+plain_envelope to action id body = record {
+  to = Some to;
+  resource = None;
+  reply_to = None;
+  action = action;
+  id = id;
+  relates = None;
+  machine = None;
+  max_size = None;
+  identifier = None;
+  bookmark = None;
+  ack_wanted = false;
+  body = body;
+}
+
 -- the envelope of these headers and elements, its action and its id
 abbrev pub envelope_of : List Element → List Element → List ℕ → List ℕ → Envelope
 envelope_of headers body action id = record {

@@ -1,5 +1,8 @@
 //! Envelopes, and why a tree says none.
 
+ghost use Rattle.std.specs.Prelude.{◌≡◌};
+ghost use Rattle.wef_envelope.specs.Envelopes.{plain_envelope};
+
 use std::alloc::AllocError;
 use thiserror::Error;
 use wef_base::{Element, List, Text};
@@ -22,7 +25,6 @@ pub enum EnvelopeFault {
 }
 
 impl From<AllocError> for EnvelopeFault {
-    ghost use Rattle.std.specs.Prelude.{◌≡◌};
     ghost use Rattle.wef_envelope.specs.declared.envelopes.EnvelopeFault.TheVariants.{NoMemory};
 
     ghost from_gives = { λ _ e. e ≡ NoMemory };
@@ -65,6 +67,29 @@ pub struct Envelope {
     /// Whether the sender wants an acknowledgement.
     pub ack_wanted: bool,
     pub body: List<Element>,
+}
+
+impl Envelope {
+    /// A message with what each has that is written, and with no other header: whoever wants one
+    /// more sets it.
+    pub fn new(to: Text, action: Text, id: MessageId, body: List<Element>) -> Envelope
+        ensures { result ≡ plain_envelope to action id body }
+    {
+        Envelope {
+            to: Some(to),
+            resource: None,
+            reply_to: None,
+            action,
+            id,
+            relates: None,
+            machine: None,
+            max_size: None,
+            identifier: None,
+            bookmark: None,
+            ack_wanted: false,
+            body,
+        }
+    }
 }
 
 /// One call for whoever lets an envelope go, whatever it holds.

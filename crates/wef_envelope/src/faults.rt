@@ -311,7 +311,8 @@ fn code_node(alloc: Global, fault: &Fault) -> Result<Element, AllocError>
     ensures { IfOk result (λ node. node ≡ part (codes "Code") (value (code_text fault.now.code) ∷ subcode_of fault.now.name)) }
 {
     let mut parts = List::new(alloc);
-    parts.push(value(alloc, code_text(fault.code))?)?;
+    let code = Text::from_str(alloc, code_text(fault.code))?;
+    parts.push(value(alloc, code)?)?;
     push_subcode(alloc, &mut parts, &fault.name)?;
     part(alloc, "Code", parts)
 }
@@ -328,10 +329,10 @@ fn code_text(code: FaultCode) -> &'static str
 }
 
 #[tactic(auto, unfolding(crate::specs::Spaces::soap))]
-fn value(alloc: Global, text: &str) -> Result<Element, AllocError>
-    ensures { IfOk result (λ node. node ≡ value text.now) }
+fn value(alloc: Global, text: Text) -> Result<Element, AllocError>
+    ensures { IfOk result (λ node. node ≡ value text) }
 {
-    with_text(space(alloc, SOAP)?, "Value", Text::from_str(alloc, text)?)
+    with_text(space(alloc, SOAP)?, "Value", text)
 }
 
 /// Appends the Subcode of a name, but for MustUnderstand, whose code is its name.
@@ -345,9 +346,8 @@ fn push_subcode(
     if let FaultName::MustUnderstand = name {
         return Ok(());
     }
-    let text = prefixed(alloc, name)?;
     let mut values = List::new(alloc);
-    values.push(value(alloc, text.as_str())?)?;
+    values.push(value(alloc, prefixed(alloc, name)?)?)?;
     parts.push(part(alloc, "Subcode", values)?)
 }
 

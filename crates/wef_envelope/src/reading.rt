@@ -6,7 +6,7 @@ ghost use Rattle.std.specs.List.{find, list_any};
 ghost use Rattle.std.specs.Option.{option_and_then, option_map};
 ghost use Rattle.wef_elements.specs.Children.{elements_in};
 ghost use Rattle.wef_elements.specs.Texts.{said_in};
-ghost use Rattle.wef_envelope.specs.Envelopes.{Says, address_in, comes_again, envelope_of, id_in, is_beyond, is_demand, is_kind, is_part, may_repeat, only, parts_among, parts_of, repeated, said, text_of, unless_beyond, unless_repeated, with_required};
+ghost use Rattle.wef_envelope.specs.Envelopes.{Says, address_in, comes_again, envelope_of, id_in, is_beyond, is_demand, is_kind, is_part, may_repeat, only, parts_among, parts_of, repeated, said, text_of, unless_repeated, with_required};
 ghost use Rattle.wef_ids.specs.IdTexts.{id_of};
 
 use crate::envelopes::{Envelope, EnvelopeFault};
