@@ -1,11 +1,12 @@
 -- The elements that are written for the body of a message.
-use Rattle.std.specs.Prelude.{ℕ, false, List, [], ◌∷◌, ◌++◌, codes, map, Some, None}
+use Rattle.std.specs.Prelude.{ℕ, List, [], ◌∷◌, ◌++◌, codes, map, Some}
 use Rattle.std.specs.Fmt.{decimal}
 use Rattle.std.specs.Option.{option_map, option_to_list}
 use Rattle.wef_base.specs.declared.tree.Element.{Element}
 use Rattle.wef_bookmark.specs.Nodes.{bookmark_element}
 use Rattle.wef_elements.specs.Children.{as_nodes, with_attributes, with_elements, with_text}
 use Rattle.wef_elements.specs.Spaces.{management}
+use Rattle.wef_envelope.specs.Envelopes.{plain_envelope}
 use Rattle.wef_envelope.specs.Spaces.{addressing, enumeration, eventing, subscription}
 use Rattle.wef_envelope.specs.Written.{written}
 use Rattle.wef_envelope.specs.declared.envelopes.Envelope.{Envelope}
@@ -83,19 +84,9 @@ subscribe_element s = with_elements eventing (codes "Subscribe") (subscribe_part
 
 -- the envelope that an offer holds
 unfoldable pub offer_envelope : MessageId → Subscribe → Envelope
-offer_envelope id s = record {
-  to = Some anonymous;
+offer_envelope id s = record (plain_envelope anonymous subscribe id (subscribe_element s ∷ [])) {
   resource = Some event_log;
   reply_to = Some anonymous;
-  action = subscribe;
-  id = id;
-  relates = None;
-  machine = None;
-  max_size = None;
-  identifier = None;
-  bookmark = None;
-  ack_wanted = false;
-  body = subscribe_element s ∷ [];
 }
 
 abbrev pub offer_element : MessageId → Offer → Element

@@ -1,7 +1,6 @@
 //! The limits of a delivery.
 
-ghost use Rattle.std.specs.Prelude.{◌≡◌, ◌≤◌, option_copied, IfOk, IfSome};
-ghost use Rattle.wef_base.specs.declared.numbers.TheConstants.{MAX};
+ghost use Rattle.std.specs.Prelude.{◌≡◌, ◌≤◌, option_copied, IfOk};
 ghost use Rattle.wef_bodies.specs.Limits.{count_in, duration_near, heartbeats_in, nearest, number_near};
 ghost use Rattle.wef_bodies.specs.Steps.{Reads};
 ghost use Rattle.wef_elements.specs.Texts.{said_in, text_inside};
@@ -9,7 +8,7 @@ ghost use Rattle.wef_times.specs.Durations.{duration_in};
 
 use crate::bodies::{BodyFault, Part};
 use std::alloc::AllocError;
-use wef_base::numbers::{MAX, read_number};
+use wef_base::numbers::read_number;
 use wef_base::{Element, ValueFault};
 use wef_elements::text_inside;
 use wef_times::read_duration;

@@ -3,7 +3,7 @@
 ghost use Rattle.std.specs.List.{filter};
 ghost use Rattle.std.specs.Prelude.{◌≡◌, ◌∷◌, [], option_copied, slice_get, IfOk};
 ghost use Rattle.wef_base.specs.Names.{same};
-ghost use Rattle.wef_bodies.specs.Offers.{is_offer, offer_of, offered, offered_in, offers_among, offers_in, offers_of, unless_none, version_in, with_front};
+ghost use Rattle.wef_bodies.specs.Offers.{is_offer, offer_of, offered, offered_in, offers_among, offers_in, version_in};
 ghost use Rattle.wef_bodies.specs.Spaces.{subscribe};
 ghost use Rattle.wef_bodies.specs.Steps.{Reads};
 ghost use Rattle.wef_elements.specs.Children.{elements_in};

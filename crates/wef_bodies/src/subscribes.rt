@@ -1,6 +1,6 @@
 //! Reading a Subscribe.
 
-ghost use Rattle.std.specs.Prelude.{◌≡◌, codes, option_copied};
+ghost use Rattle.std.specs.Prelude.{option_copied};
 ghost use Rattle.std.specs.Result.{result_map_both};
 ghost use Rattle.wef_bodies.specs.Spaces.{batches, event_query};
 ghost use Rattle.wef_bodies.specs.Steps.{Reads};

@@ -2,8 +2,7 @@
 
 ghost use Rattle.std.specs.List.{AllByRecursion};
 ghost use Rattle.std.specs.Option.{option_map, option_to_list};
-ghost use Rattle.std.specs.Prelude.{◌≡◌, ◌++◌, ◌∷◌, [], true, option_copied, IfOk, OnOk};
-ghost use Rattle.std.specs.Str.{is_utf8};
+ghost use Rattle.std.specs.Prelude.{◌≡◌, ◌++◌, [], option_copied, IfOk, OnOk};
 ghost use Rattle.wef_bodies.specs.Laws.{IsKeptOffer, IsKeptSubscribe, IsTextEntry};
 ghost use Rattle.wef_bodies.specs.Written.{address_element, count_element, delivery_element, end_element, expires_element, filter_element, heartbeats_element, last_parts, marked_holder, notify_element, properties_element, size_element, subscribe_element, subscribe_parts};
 ghost use Rattle.wef_bookmark.specs.Entries.{AreEntries};
@@ -212,6 +211,7 @@ pub(crate) fn offered_names_are_kept(offers: &[Offer])
     }
 }
 
+/// Reading the text of a name brings what its type keeps.
 fn queried_names_are_kept(items: &[QueryItem])
     ensures { AllByRecursion HasKeptName items.now }
 {
@@ -228,6 +228,7 @@ pub fn marked_names_are_kept(bookmark: &Bookmark)
     entries_are_texts(bookmark.numbers());
 }
 
+/// Reading the text of a name brings what its type keeps.
 fn entries_are_texts(entries: &BTreeMap<ChannelName, u64>)
     ensures { AllByRecursion IsTextEntry entries.now.entries }
 {

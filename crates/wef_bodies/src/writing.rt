@@ -1,7 +1,7 @@
 //! Writing bodies.
 
 ghost use Rattle.std.specs.List.{All};
-ghost use Rattle.std.specs.Prelude.{◌≡◌, ◌++◌, ◌∷◌, [], IfOk, OnOk};
+ghost use Rattle.std.specs.Prelude.{◌≡◌, ◌∷◌, [], IfOk};
 ghost use Rattle.wef_bodies.specs.Laws.{CanBeWritten, IsXmlId};
 ghost use Rattle.wef_bodies.specs.Written.{body_elements, enumerate_element, no_ids, offer_element, offer_elements, offer_envelope, offers_element, response_element, subscribe_element};
 ghost use Rattle.wef_elements.specs.Good.{AreGoodElements};
@@ -152,18 +152,12 @@ fn offer_element(alloc: Global, offer: &Offer, id: &MessageId) -> Result<Element
 fn offer_envelope(alloc: Global, wish: &Subscribe, id: &MessageId) -> Result<Envelope, AllocError>
     ensures { IfOk result (λ e. e ≡ offer_envelope id.now wish.now) }
 {
-    Ok(Envelope {
-        to: Some(Text::from_str(alloc, ANONYMOUS)?),
-        resource: Some(Text::from_str(alloc, EVENT_LOG)?),
-        reply_to: Some(Text::from_str(alloc, ANONYMOUS)?),
-        action: Text::from_str(alloc, SUBSCRIBE)?,
-        id: id.clone()?,
-        relates: None,
-        machine: None,
-        max_size: None,
-        identifier: None,
-        bookmark: None,
-        ack_wanted: false,
-        body: only(alloc, subscribe_element(alloc, wish)?)?,
-    })
+    let asker = Text::from_str(alloc, ANONYMOUS)?;
+    let reply_to = asker.clone()?;
+    let action = Text::from_str(alloc, SUBSCRIBE)?;
+    let body = only(alloc, subscribe_element(alloc, wish)?)?;
+    let mut envelope = Envelope::new(asker, action, id.clone()?, body);
+    envelope.resource = Some(Text::from_str(alloc, EVENT_LOG)?);
+    envelope.reply_to = Some(reply_to);
+    Ok(envelope)
 }
