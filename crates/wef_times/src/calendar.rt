@@ -37,8 +37,12 @@ pub(crate) fn nanos_to(
 }
 
 fn civil(year: u64, month: u64, day: u64, hour: u64, minute: u64, second: u64) -> Option<DateTime>
-    requires date { (year ≤ 9999) × (month ≤ 99) × (day ≤ 99) }
-    requires time { (hour ≤ 99) × (minute ≤ 99) × (second ≤ 99) }
+    requires year { year ≤ 9999 }
+    requires month { month ≤ 99 }
+    requires day { day ≤ 99 }
+    requires hour { hour ≤ 99 }
+    requires minute { minute ≤ 99 }
+    requires second { second ≤ 99 }
     ensures some { IsSome result ↔ (IsDate (pos year) (pos month) (pos day) × IsTime (pos hour) (pos minute) (pos second) (pos 0)) }
     ensures value { IfSome result (λ at. IsYmd (pos year) (pos month) (pos day) at.date × IsHms (pos hour) (pos minute) (pos second) (pos 0) at.time) }
 {

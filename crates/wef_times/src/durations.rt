@@ -70,10 +70,10 @@ fn time_in(text: &[u8]) -> Option<u64>
 fn hours_in(text: &[u8]) -> Option<u64>
     ensures { result ≡ option_map capped (hours_in text.now) }
 {
-    match text {
-        [] => None,
-        _ => with_part(text, b'H', 3_600_000, minutes_in(behind_part(b'H', text))),
+    if text.is_empty() {
+        return None;
     }
+    with_part(text, b'H', 3_600_000, minutes_in(behind_part(b'H', text)))
 }
 
 fn minutes_in(text: &[u8]) -> Option<u64>
