@@ -1,7 +1,5 @@
 //! Why a token isn't read.
 
-ghost use Rattle.std.specs.Prelude.{◌≡◌};
-
 use std::alloc::AllocError;
 
 /// Why a token isn't there, or isn't taken.
@@ -13,6 +11,7 @@ pub enum Halt {
 }
 
 impl From<AllocError> for Halt {
+    ghost use Rattle.std.specs.Prelude.{◌≡◌};
     ghost use Rattle.wef_query_tokens.specs.declared.halt.Halt.TheVariants.{NoMemory};
 
     ghost from_gives = { λ _ e. e ≡ NoMemory };

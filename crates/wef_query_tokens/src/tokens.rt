@@ -69,11 +69,10 @@ pub fn behind_spaces(text: &[char]) -> &[char]
 {
     let mut rest = text;
     while let [character, more @ ..] = rest {
-        if is_xml_space(*character) {
-            rest = more;
-        } else {
+        if !is_xml_space(*character) {
             return rest;
         }
+        rest = more;
     }
     rest
 }
@@ -297,10 +296,10 @@ fn decimal_tail(begun: u64, text: &[char]) -> Result<(Token, &[char]), Halt>
     let mut number = begun;
     let mut rest = text;
     while let [character, more @ ..] = rest {
-        match decimal_digit(*character) {
-            Some(digit) => number = one_more(10, number, digit)?,
-            None => return whole(number, rest),
-        }
+        let Some(digit) = decimal_digit(*character) else {
+            return whole(number, rest);
+        };
+        number = one_more(10, number, digit)?;
         rest = more;
     }
     Ok((Token::Figure(number), rest))
