@@ -28,7 +28,7 @@ pub fn start_at<'a>(default: &'a str, text: &'a str) -> Option<Start<'a>>
     requires { IsBareSpace default.now }
     ensures { IfSome result (λ start. IsStart default.now text.now start) }
 {
-    let tag = open_at(default, text)?;
+    let tag = tag_head_at(default, text)?;
     let rest = strip(b">", tag.rest)?;
     Some(Start {
         name: tag.name,
@@ -39,7 +39,7 @@ pub fn start_at<'a>(default: &'a str, text: &'a str) -> Option<Start<'a>>
 
 /// The tag that a text begins with, inside an element of this namespace, up to the `>` or `/>` that
 /// ends it, which is left with what stands behind it.
-pub fn open_at<'a>(default: &'a str, text: &'a str) -> Option<Start<'a>>
+pub fn tag_head_at<'a>(default: &'a str, text: &'a str) -> Option<Start<'a>>
     requires { IsBareSpace default.now }
     ensures { IfSome result (λ tag. IsOpen default.now text.now tag) }
 {

@@ -10,7 +10,7 @@ use std::alloc::AllocError;
 use wef_base::Text;
 use wef_canonical::characters::behind_text;
 use wef_canonical::cuts::{before, strip};
-use wef_canonical::tags::{Start, behind_end, open_at};
+use wef_canonical::tags::{Start, behind_end, tag_head_at};
 
 /// The one text of the tree of which this is a loose text. None of other texts, of some of these,
 /// and where memory is wanting.
@@ -40,7 +40,7 @@ fn push_element<'a>(
     if room == 0 {
         return None;
     }
-    let tag = open_at(default, text)?;
+    let tag = tag_head_at(default, text)?;
     if let Some(rest) = strip(b"/>", tag.rest) {
         push_empty(whole, text, &tag)?;
         return Some(rest);

@@ -1,5 +1,5 @@
 use Rattle.wef_canonical.proofs.BareTags.{open_begins}
-use Rattle.wef_canonical.proofs.tags.open_at.Goals as goal
+use Rattle.wef_canonical.proofs.tags.tag_head_at.Goals as goal
 
 pub returns : goal.returns
 returns c =
