@@ -168,7 +168,7 @@ impl MemConnections {
     }
 
     /// Counts an opening that fails for want of memory.
-    fn want_memory(&mut self) -> IoFailed
+    fn refuse_out_of_memory(&mut self) -> IoFailed
         ensures rest { OnlyFails (told_of self.old) (told_of self.new) }
         ensures cause { Rises self.old.faults self.new.faults }
         ensures refusals { Rises self.old.refusals self.new.refusals }
@@ -235,7 +235,7 @@ impl Front for MemConnections {
     {
         self.count_opening()?;
         if self.add_address(address).is_err() {
-            return Err(self.want_memory());
+            return Err(self.refuse_out_of_memory());
         }
         Ok(())
     }
@@ -249,7 +249,7 @@ impl Front for MemConnections {
     {
         self.count_opening()?;
         if self.begin().is_err() {
-            return Err(self.want_memory());
+            return Err(self.refuse_out_of_memory());
         }
         Ok(())
     }
@@ -268,7 +268,7 @@ impl Link for MemConnections {
         self.count_opening()?;
         match self.begin_at(address) {
             Ok(()) => Ok(()),
-            Err(_) => Err(self.want_memory()),
+            Err(_) => Err(self.refuse_out_of_memory()),
         }
     }
 
