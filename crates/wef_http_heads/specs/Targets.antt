@@ -22,13 +22,13 @@ abbrev pub filled : List ℕ → Option (List ℕ)
 filled text = if nat_lt 0 (length text) then Some text else None
 
 -- the name that a segment says, percent-decoded (RFC 3986, 2.1)
-abbrev pub name_said : List ℕ → Option (List ℕ)
-name_said segment = option_and_then filled (decoded segment)
+abbrev pub decoded_name : List ℕ → Option (List ℕ)
+decoded_name segment = option_and_then filled (decoded segment)
 
 -- batches for the subscription and of the source that two segments say
 abbrev pub delivery_of : List ℕ → List ℕ → Option Target
 delivery_of sub source =
-    option_and_then (λ u. option_map (λ s. Delivery u s) (name_said source)) (name_said sub)
+    option_and_then (λ u. option_map (λ s. Delivery u s) (decoded_name source)) (decoded_name sub)
 
 -- a source itself
 abbrev pub root_at : List ℕ → Option Target

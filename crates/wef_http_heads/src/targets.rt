@@ -3,7 +3,7 @@
 ghost use Rattle.std.specs.List.{position};
 ghost use Rattle.std.specs.Prelude.{◌≡◌};
 ghost use Rattle.wef_http_heads.specs.Steps.{Judges, needed};
-ghost use Rattle.wef_http_heads.specs.Targets.{delivery_at, delivery_of, is_question_mark, manager_at, name_said, path_of, root_at, serves, target_at, target_behind, target_of};
+ghost use Rattle.wef_http_heads.specs.Targets.{delivery_at, delivery_of, is_question_mark, manager_at, decoded_name, path_of, root_at, serves, target_at, target_behind, target_of};
 ghost use Rattle.wef_http_heads.specs.declared.ends.HttpEnd.TheVariants.{Path};
 ghost use Rattle.wef_http_heads.specs.declared.targets.Side.TheVariants.{Source};
 
@@ -150,14 +150,14 @@ fn delivery_at(
 fn delivery_of(alloc: Global, sub: &[u8], source: &[u8]) -> Result<Target, HttpEnd>
     ensures { Judges result (needed Path (delivery_of sub.now source.now)) }
 {
-    let sub = name_said(alloc, sub)?;
-    let source = name_said(alloc, source)?;
+    let sub = decoded_name(alloc, sub)?;
+    let source = decoded_name(alloc, source)?;
     Ok(Target::Delivery { sub, source })
 }
 
 /// The name that a segment says.
-fn name_said(alloc: Global, segment: &[u8]) -> Result<Text, HttpEnd>
-    ensures { Judges result (needed Path (name_said segment.now)) }
+fn decoded_name(alloc: Global, segment: &[u8]) -> Result<Text, HttpEnd>
+    ensures { Judges result (needed Path (decoded_name segment.now)) }
 {
     let Some(name) = decode(alloc, segment)? else {
         return Err(HttpEnd::Path);
