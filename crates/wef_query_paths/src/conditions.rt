@@ -87,14 +87,16 @@ impl Level {
     fn add_unit(&mut self, alloc: Global, unit: Unit) -> Result<(), AllocError>
         ensures { OnOk result (self.new ≡ with_and_behind self.old unit) }
     {
-        if let Some(units) = &mut self.units {
-            return units.rest.push(unit);
+        match &mut self.units {
+            Some(units) => units.rest.push(unit),
+            None => {
+                self.units = Some(And {
+                    first: unit,
+                    rest: List::new(alloc),
+                });
+                Ok(())
+            }
         }
-        self.units = Some(And {
-            first: unit,
-            rest: List::new(alloc),
-        });
-        Ok(())
     }
 
     /// Makes the units one more alternative. What is there after an error may be anything.

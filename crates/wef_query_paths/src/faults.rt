@@ -1,7 +1,5 @@
 //! Why a text says no path.
 
-ghost use Rattle.std.specs.Prelude.{◌≡◌};
-
 use std::alloc::AllocError;
 use thiserror::Error;
 
@@ -23,6 +21,7 @@ pub enum PathFault {
 }
 
 impl From<AllocError> for PathFault {
+    ghost use Rattle.std.specs.Prelude.{◌≡◌};
     ghost use Rattle.wef_query_paths.specs.declared.faults.PathFault.TheVariants.{NoMemory};
 
     ghost from_gives = { λ _ e. e ≡ NoMemory };
