@@ -7,7 +7,7 @@ use Rattle.std.proofs.lemmas.Bool.{and_from, and_parts, or_cases, or_left, or_ri
 use Rattle.std.proofs.lemmas.Bool.Decides.{nat_tests}
 use Rattle.wef_base.specs.Names.{same}
 use Rattle.wef_base.specs.declared.tree.Element.{Element}
-use Rattle.wef_query_nodes.proofs.AnyPath.{any_gives}
+use Rattle.wef_query_values.proofs.AnyPath.{any_gives}
 use Rattle.wef_query_paths.proofs.AnyPath.{star_is_any}
 use Rattle.wef_query_paths.specs.Paths.{path_of}
 use Rattle.wef_query.specs.Items.{QueryItem}

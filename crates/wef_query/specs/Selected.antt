@@ -3,7 +3,7 @@ use Rattle.std.specs.Prelude.{ℕ, ◌==◌, Bool, false, not, ◌&&◌, List, [
 use Rattle.std.specs.List.{list_any}
 use Rattle.wef_base.specs.Names.{same}
 use Rattle.wef_base.specs.declared.tree.Element.{Element}
-use Rattle.wef_query_nodes.specs.Meaning.{gives}
+use Rattle.wef_query_values.specs.Meaning.{gives}
 use Rattle.wef_query_paths.specs.Paths.{path_of}
 use Rattle.wef_query_paths.specs.declared.path.Path.{Path}
 use Rattle.wef_query.specs.Order.{in_order}

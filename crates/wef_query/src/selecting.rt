@@ -10,7 +10,7 @@ ghost use Rattle.wef_query.specs.Selected.{is_asking_for_all, is_selecting, is_s
 
 use crate::QueryItem;
 use wef_base::{ChannelName, Element};
-use wef_query_nodes::gives_node;
+use wef_query_values::gives_node;
 
 /// Whether an item selects an event of a channel, and none of its group takes it out.
 pub(crate) fn has_item_in_force(items: &[QueryItem], channel: &ChannelName, node: &Element) -> bool

@@ -1,7 +1,15 @@
+pub mod Ahead
+pub mod AnyPath
+pub mod Counting
 pub mod Ends
 pub mod Exchanged
 pub mod Fronts
+pub mod Layers
+pub mod Leaving
 pub mod Numerals
+pub mod Placeless
 pub mod Stamps
 pub mod Stripped
 pub mod Trimmed
+pub mod Turns
+pub mod Weighing

@@ -1,8 +1,12 @@
 pub mod Comparisons
 pub mod Laws
+pub mod Meaning
 pub mod Numbers
 pub mod Numerals
 pub mod Operators
 pub mod Places
 pub mod Stamps
 pub mod Stripped
+pub mod Walk
+pub mod Wanted
+pub mod Weights

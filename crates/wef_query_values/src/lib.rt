@@ -1,16 +1,21 @@
-//! What the nodes of an event say, and how it compares with what a query writes out. It takes no
-//! memory: no text is built.
+//! Which nodes of an event a query's path reaches, and how what they say compares with what the query
+//! writes out. It takes no memory: no list of nodes and no text is built.
 #![tactic(auto)]
 
 mod comparing;
 mod feeding;
+mod ignoring;
 mod instants;
 pub mod laws;
 mod numbers;
 mod operators;
+mod slots;
 pub mod spots;
 mod texts;
+mod walk;
+mod wanted;
 
 pub use comparing::{compares, has_bits, masked_compares};
 pub use operators::mirrored;
 pub use spots::Spot;
+pub use walk::gives_node;

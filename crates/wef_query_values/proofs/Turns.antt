@@ -5,13 +5,13 @@ use Rattle.std.proofs.Math.Seq.{take-length}
 use Rattle.wef_query_paths.specs.declared.path.Predicate.{Predicate}
 use Rattle.wef_query_paths.specs.declared.path.Step.{Step, out-Step}
 use Rattle.wef_query_values.specs.Places.{Place}
-use Rattle.wef_query_nodes.specs.Meaning.{Finds, after, goes, holds, left_by, somes}
-use Rattle.wef_query_nodes.specs.Walk.{AllIgnore, AreCounts, ahead, leaves, tests}
-use Rattle.wef_query_nodes.proofs.Ahead.{ahead_all, ahead_front, slots_of}
-use Rattle.wef_query_nodes.proofs.Counting.{counts_passes, counts_start}
-use Rattle.wef_query_nodes.proofs.Layers.{goes_out}
-use Rattle.wef_query_nodes.proofs.Leaving.{asked_next, count_no, count_yes, found, found_fails, found_front, found_gone, found_here, found_none, leaves_gone, left_none, tests_gone}
-use Rattle.wef_query_nodes.proofs.Placeless.{ignores_at}
+use Rattle.wef_query_values.specs.Meaning.{Finds, after, goes, holds, left_by, somes}
+use Rattle.wef_query_values.specs.Walk.{AllIgnore, AreCounts, ahead, leaves, tests}
+use Rattle.wef_query_values.proofs.Ahead.{ahead_all, ahead_front, slots_of}
+use Rattle.wef_query_values.proofs.Counting.{counts_passes, counts_start}
+use Rattle.wef_query_values.proofs.Layers.{goes_out}
+use Rattle.wef_query_values.proofs.Leaving.{asked_next, count_no, count_yes, found, found_fails, found_front, found_gone, found_here, found_none, leaves_gone, left_none, tests_gone}
+use Rattle.wef_query_values.proofs.Placeless.{ignores_at}
 
 -- the first predicates of a step, where they are read from its list
 pub passed : (s : Step) (k : ℕ) (ps : List Predicate) (xs : List Place) (y : Place) (b r : Bool) → ps ≡ (out-Step s).predicates → b ≡ leaves (map holds (take k ps)) xs y → b ≡ r

@@ -20,7 +20,7 @@ use Rattle.wef_query_paths.specs.declared.path.Predicate.TheFolds.{fold_out-And,
 use Rattle.wef_query_paths.specs.declared.path.Predicate.TheViews.{outs-At, outs-Compared, outs-Group, outs-Nodes, outs-Position}
 use Rattle.wef_query_values.specs.Operators.{mirrored}
 use Rattle.wef_query_values.specs.Places.{Place}
-use Rattle.wef_query_nodes.specs.Meaning.{Test, Given, Found, Counted, Masked, Finds, after, alone, compared, given, left_by, slots, somes, nodes, goes, holds, holds_or, holds_and, holds_unit, predicate_step, unit_step, value_step, and_step, or_step, path_step, step_step}
+use Rattle.wef_query_values.specs.Meaning.{Test, Given, Found, Counted, Masked, Finds, after, alone, compared, given, left_by, slots, somes, nodes, goes, holds, holds_or, holds_and, holds_unit, predicate_step, unit_step, value_step, and_step, or_step, path_step, step_step}
 
 pub holds_and_out : (a : And) (x : Place) (n : ℕ) → holds_and a x n ≡ (holds_unit (out-And a).first x n && list_all (λ u. u x n) (map holds_unit (out-And a).rest))
 holds_and_out a x n = ap (λ (f : Test). f x n) (fold_out-And Test Test Given Test Test Finds Finds predicate_step unit_step value_step and_step or_step path_step step_step a)

@@ -2,8 +2,8 @@
 use Rattle.std.specs.Prelude.{Bool, true}
 use Rattle.wef_query_values.specs.Comparisons.{compares, has_bits, masked_compares}
 use Rattle.wef_query_values.specs.Places.{Place}
-use Rattle.wef_query_nodes.specs.declared.wanted.Wanted.{Wanted}
-use Rattle.wef_query_nodes.specs.declared.wanted.Wanted.TheVariants.{Any, Comparing, Masked, Bits}
+use Rattle.wef_query_values.specs.declared.wanted.Wanted.{Wanted}
+use Rattle.wef_query_values.specs.declared.wanted.Wanted.TheVariants.{Any, Comparing, Masked, Bits}
 
 -- whether a node is what is asked for
 abbrev pub is_wanted : Wanted → Place → Bool

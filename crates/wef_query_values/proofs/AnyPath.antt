@@ -14,9 +14,9 @@ use Rattle.wef_query_paths.specs.declared.path.Unit.{Unit}
 use Rattle.wef_query_paths.specs.declared.path.Value.{Value}
 use Rattle.wef_query_paths.specs.declared.path.Value.TheVariants.{Position}
 use Rattle.wef_query_values.specs.Places.{Place, Document, Inside}
-use Rattle.wef_query_nodes.specs.Laws.{AnyGives, NumbersArePlaces}
-use Rattle.wef_query_nodes.specs.Meaning.{after, compared, gives, goes, nodes}
-use Rattle.wef_query_nodes.proofs.Layers.{given_position, goes_out, holds_at, holds_compared, nodes_out}
+use Rattle.wef_query_values.specs.Laws.{AnyGives, NumbersArePlaces}
+use Rattle.wef_query_values.specs.Meaning.{after, compared, gives, goes, nodes}
+use Rattle.wef_query_values.proofs.Layers.{given_position, goes_out, holds_at, holds_compared, nodes_out}
 
 any_nodes : (root : Element) → nodes any_path (Document root) ≡ Inside root ∷ []
 unfolding any_path

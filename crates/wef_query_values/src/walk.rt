@@ -3,18 +3,19 @@
 
 ghost use Rattle.std.specs.List.{list_any};
 ghost use Rattle.std.specs.Prelude.{◌≡◌, ℕ, ◌+◌, ◌-◌, ◌<◌, ◌≤◌, true, List, [], ◌∷◌, ◌++◌, get_or, length, map};
-ghost use Rattle.wef_query_nodes.specs.Meaning.{after, alone, compared, given, gives, goes, holds, holds_and, holds_or, holds_unit, left_by, nodes};
-ghost use Rattle.wef_query_nodes.specs.Walk.{AllIgnore, AreCounts, IsPlace, ahead, leaves, raised, tests};
-ghost use Rattle.wef_query_nodes.specs.Wanted.{is_wanted};
+ghost use Rattle.wef_query_values.specs.Meaning.{after, alone, compared, given, gives, goes, holds, holds_and, holds_or, holds_unit, left_by, nodes};
+ghost use Rattle.wef_query_values.specs.Walk.{AllIgnore, AreCounts, IsPlace, ahead, leaves, raised, tests};
+ghost use Rattle.wef_query_values.specs.Wanted.{is_wanted};
 ghost use Rattle.wef_query_paths.specs.declared.path.Step.{out-Step};
 ghost use Rattle.wef_query_values.specs.Places.{Place, plain};
 
 use crate::ignoring::{ignores_place, ignoring_count};
+use crate::operators::mirrored;
 use crate::slots::{slot, slot_count};
+use crate::spots::Spot;
 use crate::wanted::{Wanted, is_wanted, place_compares};
 use wef_base::Element;
 use wef_query_paths::{And, Literal, Operator, Or, Path, Predicate, Step, Unit, Value};
-use wef_query_values::{Spot, mirrored};
 
 /// How many predicates of a step have a counter, from the first one on that asks for a place.
 const COUNTERS: usize = 16;

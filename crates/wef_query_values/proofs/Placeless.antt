@@ -7,9 +7,9 @@ use Rattle.wef_query_paths.specs.declared.path.Or.{Or, out-Or}
 use Rattle.wef_query_paths.specs.declared.path.Unit.{Unit}
 use Rattle.wef_query_paths.specs.declared.path.Unit.TheVariants.{Group}
 use Rattle.wef_query_values.specs.Places.{Place}
-use Rattle.wef_query_nodes.specs.Meaning.{Test, holds_or, holds_and, holds_unit}
-use Rattle.wef_query_nodes.specs.Walk.{AllIgnore, Ignores}
-use Rattle.wef_query_nodes.proofs.Layers.{holds_and_out, holds_group, holds_or_out}
+use Rattle.wef_query_values.specs.Meaning.{Test, holds_or, holds_and, holds_unit}
+use Rattle.wef_query_values.specs.Walk.{AllIgnore, Ignores}
+use Rattle.wef_query_values.proofs.Layers.{holds_and_out, holds_group, holds_or_out}
 
 all_same : (ps : List Test) (x : Place) (m n : ℕ) → AllIgnore ps → list_all (λ p. p x m) ps ≡ list_all (λ p. p x n) ps
 all_same [] x m n h = refl

@@ -2,12 +2,12 @@
 
 ghost use Rattle.std.specs.Option.{option_map};
 ghost use Rattle.std.specs.Prelude.{◌≡◌, None, get_or, length, map};
-ghost use Rattle.wef_query_nodes.specs.Meaning.{if_taken, slots, taken_attribute, taken_child, taken_element, takes};
+ghost use Rattle.wef_query_values.specs.Meaning.{if_taken, slots, taken_attribute, taken_child, taken_element, takes};
 ghost use Rattle.wef_query_values.specs.Places.{plain};
 
+use crate::spots::Spot;
 use wef_base::{Attribute, Element, Node, Text};
 use wef_query_paths::{Axis, NameTest};
-use wef_query_values::Spot;
 
 /// How many children or attributes a node has.
 pub fn slot_count(spot: Spot, axis: Axis) -> usize

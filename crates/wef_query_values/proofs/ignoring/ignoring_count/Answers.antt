@@ -1,6 +1,6 @@
-use Rattle.wef_query_nodes.specs.Meaning.{holds}
-use Rattle.wef_query_nodes.proofs.Placeless.{next_ignores}
-use Rattle.wef_query_nodes.proofs.ignoring.ignoring_count.Goals as goal
+use Rattle.wef_query_values.specs.Meaning.{holds}
+use Rattle.wef_query_values.proofs.Placeless.{next_ignores}
+use Rattle.wef_query_values.proofs.ignoring.ignoring_count.Goals as goal
 
 -- src/ignoring.rt:15:5
 pub loop-index-preserved : goal.loop-index-preserved

@@ -17,7 +17,7 @@ use Rattle.wef_query_paths.specs.declared.path.Predicate.TheOpen.{Predicate-F, U
 use Rattle.wef_query_paths.specs.declared.path.Predicate.TheOpen as layer
 use Rattle.wef_query_paths.specs.declared.path.Predicate.TheVariants.{Whether, Group, Alone, Compared, Mirrored, Nodes, Band}
 use Rattle.wef_query_paths.specs.declared.path.Predicate.TheViews.{outs-Whether, outs-Group, outs-Alone, outs-Compared, outs-Mirrored, outs-Nodes, outs-Band}
-use Rattle.wef_query_nodes.specs.Weights.{predicate_above, unit_above, value_above, and_above, or_above, path_above, step_above, predicate_weight, unit_weight, value_weight, and_weight, or_weight, path_weight, step_weight}
+use Rattle.wef_query_values.specs.Weights.{predicate_above, unit_above, value_above, and_above, or_above, path_above, step_above, predicate_weight, unit_weight, value_weight, and_weight, or_weight, path_weight, step_weight}
 
 pub and_weighs : (a : And) → and_weight a ≡ unit_weight (out-And a).first + sum_by unit_weight (out-And a).rest + 1
 and_weighs a = fold_out-And ℕ ℕ ℕ ℕ ℕ ℕ ℕ predicate_above unit_above value_above and_above or_above path_above step_above a ∙ ap (λ k. unit_weight (out-And a).first + k + 1) (sum-map unit_weight (out-And a).rest)

@@ -3,7 +3,7 @@ use Rattle.std.specs.Prelude.{◌≡◌, ℕ, ◌+◌, ◌<◌, Bool, true, ◌&
 use Rattle.wef_query_paths.specs.declared.path.Predicate.{Predicate}
 use Rattle.wef_query_paths.specs.declared.path.Step.{Step, out-Step}
 use Rattle.wef_query_values.specs.Places.{Place}
-use Rattle.wef_query_nodes.specs.Meaning.{Given, Found, Counted, Masked, Test, holds, kept, left_by, slots, somes}
+use Rattle.wef_query_values.specs.Meaning.{Given, Found, Counted, Masked, Test, holds, kept, left_by, slots, somes}
 
 -- whether predicates leave a node that stands behind these
 abbrev pub leaves : List Test → List Place → Place → Bool

@@ -9,8 +9,8 @@ use Rattle.std.proofs.lemmas.Bool.Decides.{nat_tests}
 use Rattle.wef_query_paths.specs.declared.path.Predicate.{Predicate}
 use Rattle.wef_query_paths.specs.declared.path.Step.{Step, out-Step}
 use Rattle.wef_query_values.specs.Places.{Place}
-use Rattle.wef_query_nodes.specs.Meaning.{Test, Finds, after, holds, kept, left_by}
-use Rattle.wef_query_nodes.specs.Walk.{leaves, tests}
+use Rattle.wef_query_values.specs.Meaning.{Test, Finds, after, holds, kept, left_by}
+use Rattle.wef_query_values.specs.Walk.{leaves, tests}
 
 -- a node, where a test of it passes
 abbrev if_so : Bool → Place → List Place

@@ -1,12 +1,13 @@
 //! What is asked of the nodes that a path finds.
 
 ghost use Rattle.std.specs.Prelude.{◌≡◌};
-ghost use Rattle.wef_query_nodes.specs.Meaning.{ordered, place_compares};
-ghost use Rattle.wef_query_nodes.specs.Wanted.{is_wanted};
+ghost use Rattle.wef_query_values.specs.Meaning.{ordered, place_compares};
+ghost use Rattle.wef_query_values.specs.Wanted.{is_wanted};
 ghost use Rattle.wef_query_values.specs.Places.{plain};
 
+use crate::comparing::{compares, has_bits, masked_compares};
+use crate::spots::Spot;
 use wef_query_paths::{Literal, Operator};
-use wef_query_values::{Spot, compares, has_bits, masked_compares};
 
 /// What is asked of a node.
 #[derive(Clone, Copy)]

@@ -5,8 +5,8 @@ use Rattle.std.proofs.lemmas.List.Elements.{filter_map-append}
 use Rattle.std.proofs.lemmas.Bool.{cases_lt}
 use Rattle.wef_query_paths.specs.declared.path.Step.{Step, out-Step}
 use Rattle.wef_query_values.specs.Places.{Place}
-use Rattle.wef_query_nodes.specs.Meaning.{slots, somes}
-use Rattle.wef_query_nodes.specs.Walk.{ahead}
+use Rattle.wef_query_values.specs.Meaning.{slots, somes}
+use Rattle.wef_query_values.specs.Walk.{ahead}
 
 somes_more : (os : List (Option Place)) (at : ℕ) (o : Option Place) → o ≡ get_or os at None → somes (take (at + 1) os) ≡ somes (take at os) ++ somes (o ∷ [])
 somes_more os at o is = elim (cases_lt at (length os)) [

@@ -1,7 +1,7 @@
 use Rattle.std.proofs.Common.{map, take}
-use Rattle.wef_query_nodes.specs.Meaning.{holds_and, holds_unit}
-use Rattle.wef_query_nodes.specs.Walk.{AllIgnore}
-use Rattle.wef_query_nodes.proofs.ignoring.+ignoring.Given as goal
+use Rattle.wef_query_values.specs.Meaning.{holds_and, holds_unit}
+use Rattle.wef_query_values.specs.Walk.{AllIgnore}
+use Rattle.wef_query_values.proofs.ignoring.+ignoring.Given as goal
 
 abbrev pub invariant-and_ignores_place-loop-unit : goal.invariant-and_ignores_place-loop-unit
 invariant-and_ignores_place-loop-unit l = AllIgnore (map holds_unit (take l.unit-index l.unit-items))

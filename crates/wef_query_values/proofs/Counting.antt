@@ -5,10 +5,10 @@ use Rattle.std.proofs.lemmas.Bool.{cases_lt}
 use Rattle.std.proofs.lemmas.List.{get_or-replicate, length-replicate, get_or-set_other, get_or-set_same, length-set}
 use Rattle.wef_query_paths.specs.declared.path.Step.{Step}
 use Rattle.wef_query_values.specs.Places.{Place}
-use Rattle.wef_query_nodes.specs.Meaning.{left_by}
-use Rattle.wef_query_nodes.specs.Walk.{AreCounts, ahead, leaves, raised, tests}
-use Rattle.wef_query_nodes.proofs.Ahead.{ahead_within}
-use Rattle.wef_query_nodes.proofs.Leaving.{count_no, count_yes, left_none, left_within, tests_gone}
+use Rattle.wef_query_values.specs.Meaning.{left_by}
+use Rattle.wef_query_values.specs.Walk.{AreCounts, ahead, leaves, raised, tests}
+use Rattle.wef_query_values.proofs.Ahead.{ahead_within}
+use Rattle.wef_query_values.proofs.Leaving.{count_no, count_yes, left_none, left_within, tests_gone}
 
 -- a node is counted at the predicates before i, which leave it, and not yet at the others
 abbrev pub IsCounted : Step → ℕ → ℕ → ℕ → List Place → Place → List ℕ → Type 0

@@ -1,8 +1,8 @@
 use Rattle.std.proofs.Common.{map, refl, subst}
-use Rattle.wef_query_nodes.specs.Meaning.{holds_and, holds_unit}
-use Rattle.wef_query_nodes.specs.Walk.{AllIgnore}
-use Rattle.wef_query_nodes.proofs.Placeless.{all_ignore, and_ignores, group_ignores, next_ignores, or_ignores}
-use Rattle.wef_query_nodes.proofs.ignoring.+ignoring.Goals as goal
+use Rattle.wef_query_values.specs.Meaning.{holds_and, holds_unit}
+use Rattle.wef_query_values.specs.Walk.{AllIgnore}
+use Rattle.wef_query_values.proofs.Placeless.{all_ignore, and_ignores, group_ignores, next_ignores, or_ignores}
+use Rattle.wef_query_values.proofs.ignoring.+ignoring.Goals as goal
 
 pub and_ignores_place-loop-unit-preserved : goal.and_ignores_place-loop-unit-preserved
 and_ignores_place-loop-unit-preserved t c =

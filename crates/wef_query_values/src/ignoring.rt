@@ -1,8 +1,8 @@
 //! Predicates that don't ask which place a node has.
 
 ghost use Rattle.std.specs.Prelude.{◌≡◌, ◌≤◌, IsTrue, length, map, take};
-ghost use Rattle.wef_query_nodes.specs.Meaning.{given, holds, holds_and, holds_or, holds_unit};
-ghost use Rattle.wef_query_nodes.specs.Walk.{AllIgnore, Ignores, IsPlaceless};
+ghost use Rattle.wef_query_values.specs.Meaning.{given, holds, holds_and, holds_or, holds_unit};
+ghost use Rattle.wef_query_values.specs.Walk.{AllIgnore, Ignores, IsPlaceless};
 
 use wef_query_paths::{And, Or, Predicate, Unit, Value};
 

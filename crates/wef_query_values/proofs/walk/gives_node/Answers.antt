@@ -1,8 +1,8 @@
 use Rattle.std.proofs.Common.{◌∙◌}
 use Rattle.wef_query_values.specs.Places.{Document}
-use Rattle.wef_query_nodes.specs.Meaning.{gives, nodes}
-use Rattle.wef_query_nodes.proofs.Leaving.{any_node}
-use Rattle.wef_query_nodes.proofs.walk.gives_node.Goals as goal
+use Rattle.wef_query_values.specs.Meaning.{gives, nodes}
+use Rattle.wef_query_values.proofs.Leaving.{any_node}
+use Rattle.wef_query_values.proofs.walk.gives_node.Goals as goal
 
 -- src/walk.rt:21:1
 pub returns : goal.returns

@@ -4,17 +4,17 @@ use Rattle.wef_query_paths.specs.declared.path.And.{out-And}
 use Rattle.wef_query_paths.specs.declared.path.Or.{out-Or}
 use Rattle.wef_query_paths.specs.declared.path.Predicate.TheVariants.{At}
 use Rattle.wef_query_values.specs.Places.{plain}
-use Rattle.wef_query_nodes.specs.Meaning.{alone, given, goes, holds, holds_and, holds_unit, nodes}
-use Rattle.wef_query_nodes.specs.Walk.{AllIgnore, ahead, leaves, tests}
-use Rattle.wef_query_nodes.specs.Wanted.{is_wanted}
-use Rattle.wef_query_nodes.specs.Weights.{and_weight, predicate_weight, unit_weight}
-use Rattle.wef_query_nodes.proofs.Ahead.{ahead_none, ahead_some}
-use Rattle.wef_query_nodes.proofs.Counting.{counted_gone, counted_here, counted_next, counted_start, left_at_most}
-use Rattle.wef_query_nodes.proofs.Layers.{given_nodes, holds_and_by, holds_or_by}
-use Rattle.wef_query_nodes.proofs.Leaving.{any_node, leaves_gone, tests_gone}
-use Rattle.wef_query_nodes.proofs.Turns.{left_goes, left_passes, left_skipped, left_start, left_stays, none_passes, none_reached, none_skipped, none_start, none_reached_at_all, none_stays, passed, passes_next, reached, stays_all, stays_next}
-use Rattle.wef_query_nodes.proofs.Weighing.{and_weighs, fewer_weigh, no_more_weigh, or_weighs, part_weighs}
-use Rattle.wef_query_nodes.proofs.walk.+walk.Goals as goal
+use Rattle.wef_query_values.specs.Meaning.{alone, given, goes, holds, holds_and, holds_unit, nodes}
+use Rattle.wef_query_values.specs.Walk.{AllIgnore, ahead, leaves, tests}
+use Rattle.wef_query_values.specs.Wanted.{is_wanted}
+use Rattle.wef_query_values.specs.Weights.{and_weight, predicate_weight, unit_weight}
+use Rattle.wef_query_values.proofs.Ahead.{ahead_none, ahead_some}
+use Rattle.wef_query_values.proofs.Counting.{counted_gone, counted_here, counted_next, counted_start, left_at_most}
+use Rattle.wef_query_values.proofs.Layers.{given_nodes, holds_and_by, holds_or_by}
+use Rattle.wef_query_values.proofs.Leaving.{any_node, leaves_gone, tests_gone}
+use Rattle.wef_query_values.proofs.Turns.{left_goes, left_passes, left_skipped, left_start, left_stays, none_passes, none_reached, none_skipped, none_start, none_reached_at_all, none_stays, passed, passes_next, reached, stays_all, stays_next}
+use Rattle.wef_query_values.proofs.Weighing.{and_weighs, fewer_weigh, no_more_weigh, or_weighs, part_weighs}
+use Rattle.wef_query_values.proofs.walk.+walk.Goals as goal
 
 pub is_and_held-loop-unit-init : goal.is_and_held-loop-unit-init
 is_and_held-loop-unit-init t c =

@@ -2,13 +2,13 @@ use Rattle.std.proofs.Common.{◌≡◌, ◌+◌, ◌*◌, true, List, length, m
 use Rattle.std.specs.List.{list_all, list_any}
 use Rattle.wef_query_paths.specs.declared.path.Step.{out-Step}
 use Rattle.wef_query_values.specs.Places.{Place, plain}
-use Rattle.wef_query_nodes.specs.Meaning.{goes, holds, holds_and, holds_or, holds_unit}
-use Rattle.wef_query_nodes.specs.Walk.{ahead, leaves}
-use Rattle.wef_query_nodes.specs.Wanted.{is_wanted}
-use Rattle.wef_query_nodes.specs.Weights.{and_weight, or_weight, path_weight, predicate_weight, predicates_weight, step_weight, steps_weight, unit_weight, value_weight}
-use Rattle.wef_query_nodes.proofs.Counting.{IsCounted}
-use Rattle.wef_query_nodes.proofs.Turns.{LeftSoFar, NoneSoFar}
-use Rattle.wef_query_nodes.proofs.walk.+walk.Given as goal
+use Rattle.wef_query_values.specs.Meaning.{goes, holds, holds_and, holds_or, holds_unit}
+use Rattle.wef_query_values.specs.Walk.{ahead, leaves}
+use Rattle.wef_query_values.specs.Wanted.{is_wanted}
+use Rattle.wef_query_values.specs.Weights.{and_weight, or_weight, path_weight, predicate_weight, predicates_weight, step_weight, steps_weight, unit_weight, value_weight}
+use Rattle.wef_query_values.proofs.Counting.{IsCounted}
+use Rattle.wef_query_values.proofs.Turns.{LeftSoFar, NoneSoFar}
+use Rattle.wef_query_values.proofs.walk.+walk.Given as goal
 
 abbrev pub decreases-finds : goal.decreases-finds
 decreases-finds l = 10 * path_weight l.path.now

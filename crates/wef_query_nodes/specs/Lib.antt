@@ -1,5 +1,0 @@
-pub mod Laws
-pub mod Meaning
-pub mod Walk
-pub mod Wanted
-pub mod Weights
