@@ -19,10 +19,11 @@ both_hold operator (Some x) (Some y) = holds operator x y
 both_hold operator (Some x) None = false
 both_hold operator None y = false
 
--- the operator that holds with its sides exchanged: `=` and `!=` themselves do
+-- the operator that holds with its sides exchanged
 abbrev pub mirrored : Operator → Operator
+mirrored Equal = Equal
+mirrored NotEqual = NotEqual
 mirrored Less = Greater
 mirrored LessOrEqual = GreaterOrEqual
 mirrored Greater = Less
 mirrored GreaterOrEqual = LessOrEqual
-mirrored operator = operator
