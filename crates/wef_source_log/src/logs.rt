@@ -99,12 +99,12 @@ impl<K: Keeper> Log<K> {
     /// The last number of a channel: 0 where nothing was written.
     #[tactic(auto, using(crate::proofs::Looking::looked_then, crate::proofs::Looking::not_looked))]
     pub fn last(&mut self, channel: &ChannelName) -> Result<u64, LogFault>
-        ensures looks { Looks log_store AreFormed result (K.store self.old.keeper) (K.store self.new.keeper) }
-        ensures boot { self.new.boot ≡ self.old.boot }
         ensures ok { IfSome (K.store self.new.keeper).rows (λ rows. IfOk result (λ number. number ≡ windows.last_of rows channel.now)) }
         ensures within { IfOk result (λ number. number ≤ MAX) }
         ensures judged { IfSome (K.store self.new.keeper).rows (λ rows. OnOk result (judged.JudgesLast channel.now rows)) }
         ensures refusal { IfErr result answers.RefusesRead }
+        ensures looks { Looks log_store AreFormed result (K.store self.old.keeper) (K.store self.new.keeper) }
+        ensures boot { self.new.boot ≡ self.old.boot }
     {
         self.open()?;
         self.last_ready(channel)
@@ -158,12 +158,12 @@ impl<K: Keeper> Log<K> {
     /// As `last`, in a store that is ready.
     pub fn last_ready(&mut self, channel: &ChannelName) -> Result<u64, LogFault>
         requires { access.IsReady (K.store self.old.keeper) }
-        ensures reads { access.Reads AreFormed (fails log_store result) (K.store self.old.keeper) (K.store self.new.keeper) }
-        ensures boot { self.new.boot ≡ self.old.boot }
         ensures ok { IfSome (K.store self.new.keeper).rows (λ rows. IfOk result (λ number. number ≡ windows.last_of rows channel.now)) }
         ensures within { IfOk result (λ number. number ≤ MAX) }
         ensures judged { IfSome (K.store self.new.keeper).rows (λ rows. OnOk result (judged.JudgesLast channel.now rows)) }
         ensures refusal { IfErr result answers.RefusesRead }
+        ensures reads { access.Reads AreFormed (fails log_store result) (K.store self.old.keeper) (K.store self.new.keeper) }
+        ensures boot { self.new.boot ≡ self.old.boot }
     {
         Ok(last_of(&mut self.keeper, channel)?)
     }
@@ -178,9 +178,9 @@ impl<K: Keeper> Log<K> {
         requires max { 1 ≤ max }
         requires ready { access.IsReady (K.store self.old.keeper) }
         ensures page { IfSome (K.store self.new.keeper).rows (λ rows. IfOk result (λ page. page ≡ take max (windows.records_after rows channel.now after))) }
-        ensures above { IfOk result (AllByRecursion (λ (event : the_event.Event). after < event.number)) }
         ensures rest { IfSome (K.store self.new.keeper).rows (λ rows. IfOk result (λ page. windows.records_after rows channel.now after
             ≡ page ++ windows.records_after rows channel.now (windows.last_number after page))) }
+        ensures above { IfOk result (AllByRecursion (λ (event : the_event.Event). after < event.number)) }
         ensures judged { IfSome (K.store self.new.keeper).rows (λ rows. OnOk result (judged.JudgesPage channel.now after max rows)) }
         ensures refusal { IfErr result answers.RefusesRead }
         ensures reads { access.Reads AreFormed (fails log_store result) (K.store self.old.keeper) (K.store self.new.keeper) }

@@ -3,7 +3,7 @@
 ghost use Rattle.std.specs.List.{AllByRecursion, list_all};
 ghost use Rattle.std.specs.Prelude.{◌≡◌, ◌+◌, ◌<◌, ◌≤◌, ◌++◌, true, take, map, is_some, IfOk, IfSome, OnOk};
 ghost use Rattle.wef_event.specs.Events as the_event;
-ghost use Rattle.wef_keeper.specs.Access.{IsReady, Reads, fails};
+ghost use Rattle.wef_keeper.specs.Access as access;
 ghost use Rattle.wef_keeper.specs.Forms.{IsPassedAt};
 ghost use Rattle.wef_keeper.specs.Keeping.{row_at};
 ghost use Rattle.wef_source_log.specs.Forms as forms;
@@ -24,11 +24,11 @@ use wef_keeper::{Depth, Keeper, Key, Row, StoreFault};
 /// The number that stands at a key: 0 where none does.
 pub fn number_at<K: Keeper>(keeper: &mut K, key: &Key) -> Result<u64, StoreFault>
     requires number { forms.has_number key.now.kind ≡ true }
-    requires ready { IsReady (K.store keeper.old) }
+    requires ready { access.IsReady (K.store keeper.old) }
     ensures number { IfSome (K.store keeper.new).rows (λ rows. IfOk result (λ number. number ≡ windows.number_at rows key.now)) }
     ensures within { IfOk result (λ number. number ≤ MAX) }
     ensures judged { IfSome (K.store keeper.new).rows (λ rows. OnOk result (IsPassedAt forms.is_formed key.now rows)) }
-    ensures reads { Reads forms.AreFormed (fails result) (K.store keeper.old) (K.store keeper.new) }
+    ensures reads { access.Reads forms.AreFormed (access.fails result) (K.store keeper.old) (K.store keeper.new) }
 {
     let Some(row) = formed_row::<LogForm, K>(keeper, key)? else {
         return Ok(0);
@@ -41,11 +41,11 @@ pub fn number_at<K: Keeper>(keeper: &mut K, key: &Key) -> Result<u64, StoreFault
 
 /// The last number of a channel: 0 where nothing was written.
 pub fn last_of<K: Keeper>(keeper: &mut K, channel: &ChannelName) -> Result<u64, StoreFault>
-    requires { IsReady (K.store keeper.old) }
+    requires { access.IsReady (K.store keeper.old) }
     ensures number { IfSome (K.store keeper.new).rows (λ rows. IfOk result (λ number. number ≡ windows.last_of rows channel.now)) }
     ensures within { IfOk result (λ number. number ≤ MAX) }
     ensures judged { IfSome (K.store keeper.new).rows (λ rows. OnOk result (judged.JudgesLast channel.now rows)) }
-    ensures reads { Reads forms.AreFormed (fails result) (K.store keeper.old) (K.store keeper.new) }
+    ensures reads { access.Reads forms.AreFormed (access.fails result) (K.store keeper.old) (K.store keeper.new) }
 {
     let key = last_key(channel)?;
     number_at(keeper, &key)
@@ -53,11 +53,11 @@ pub fn last_of<K: Keeper>(keeper: &mut K, channel: &ChannelName) -> Result<u64, 
 
 /// How many records of a channel are kept.
 pub fn capacity_of<K: Keeper>(keeper: &mut K, channel: &ChannelName) -> Result<u64, StoreFault>
-    requires { IsReady (K.store keeper.old) }
+    requires { access.IsReady (K.store keeper.old) }
     ensures number { IfSome (K.store keeper.new).rows (λ rows. IfOk result (λ number. number ≡ windows.capacity_of rows)) }
     ensures within { IfOk result (λ number. number ≤ MAX) }
     ensures judged { IfSome (K.store keeper.new).rows (λ rows. OnOk result (IsPassedAt forms.is_formed keys.capacity_key rows)) }
-    ensures reads { Reads forms.AreFormed (fails result) (K.store keeper.old) (K.store keeper.new) }
+    ensures reads { access.Reads forms.AreFormed (access.fails result) (K.store keeper.old) (K.store keeper.new) }
 {
     let key = capacity_key(channel.as_text().alloc());
     number_at(keeper, &key)
@@ -65,10 +65,10 @@ pub fn capacity_of<K: Keeper>(keeper: &mut K, channel: &ChannelName) -> Result<u
 
 /// Whether the capacity is kept.
 pub fn has_capacity<K: Keeper>(alloc: Global, keeper: &mut K) -> Result<bool, StoreFault>
-    requires { IsReady (K.store keeper.old) }
+    requires { access.IsReady (K.store keeper.old) }
     ensures kept { IfSome (K.store keeper.new).rows (λ rows. IfOk result (λ kept. kept ≡ is_some (row_at keys.capacity_key rows))) }
     ensures judged { IfSome (K.store keeper.new).rows (λ rows. OnOk result (IsPassedAt forms.is_formed keys.capacity_key rows)) }
-    ensures reads { Reads forms.AreFormed (fails result) (K.store keeper.old) (K.store keeper.new) }
+    ensures reads { access.Reads forms.AreFormed (access.fails result) (K.store keeper.old) (K.store keeper.new) }
 {
     let key = capacity_key(alloc);
     is_kept(keeper, &key)
@@ -76,21 +76,21 @@ pub fn has_capacity<K: Keeper>(alloc: Global, keeper: &mut K) -> Result<bool, St
 
 /// Whether a row stands at a key.
 fn is_kept<K: Keeper>(keeper: &mut K, key: &Key) -> Result<bool, StoreFault>
-    requires { IsReady (K.store keeper.old) }
+    requires { access.IsReady (K.store keeper.old) }
     ensures kept { IfSome (K.store keeper.new).rows (λ rows. IfOk result (λ kept. kept ≡ is_some (row_at key.now rows))) }
     ensures judged { IfSome (K.store keeper.new).rows (λ rows. OnOk result (IsPassedAt forms.is_formed key.now rows)) }
-    ensures reads { Reads forms.AreFormed (fails result) (K.store keeper.old) (K.store keeper.new) }
+    ensures reads { access.Reads forms.AreFormed (access.fails result) (K.store keeper.old) (K.store keeper.new) }
 {
     Ok(formed_row::<LogForm, K>(keeper, key)?.is_some())
 }
 
 /// How often the source was started.
 pub fn boot_of<K: Keeper>(alloc: Global, keeper: &mut K) -> Result<u64, StoreFault>
-    requires { IsReady (K.store keeper.old) }
+    requires { access.IsReady (K.store keeper.old) }
     ensures number { IfSome (K.store keeper.new).rows (λ rows. IfOk result (λ number. number ≡ windows.boot_of rows)) }
     ensures within { IfOk result (λ number. number ≤ MAX) }
     ensures judged { IfSome (K.store keeper.new).rows (λ rows. OnOk result (IsPassedAt forms.is_formed keys.boot_key rows)) }
-    ensures reads { Reads forms.AreFormed (fails result) (K.store keeper.old) (K.store keeper.new) }
+    ensures reads { access.Reads forms.AreFormed (access.fails result) (K.store keeper.old) (K.store keeper.new) }
 {
     let key = boot_key(alloc);
     number_at(keeper, &key)
@@ -98,11 +98,11 @@ pub fn boot_of<K: Keeper>(alloc: Global, keeper: &mut K) -> Result<u64, StoreFau
 
 /// The first number of a channel's window: 1 where nothing was written.
 pub fn first_of<K: Keeper>(keeper: &mut K, channel: &ChannelName) -> Result<u64, StoreFault>
-    requires { IsReady (K.store keeper.old) }
+    requires { access.IsReady (K.store keeper.old) }
     ensures number { IfSome (K.store keeper.new).rows (λ rows. IfOk result (λ number. number ≡ windows.first_of rows channel.now)) }
     ensures within { IfOk result (λ number. number ≤ MAX + 1) }
     ensures judged { IfSome (K.store keeper.new).rows (λ rows. OnOk result (judged.JudgesFirst channel.now rows)) }
-    ensures reads { Reads forms.AreFormed (fails result) (K.store keeper.old) (K.store keeper.new) }
+    ensures reads { access.Reads forms.AreFormed (access.fails result) (K.store keeper.old) (K.store keeper.new) }
 {
     let capacity = capacity_of(keeper, channel)?;
     let last = last_of(keeper, channel)?;
@@ -128,14 +128,14 @@ pub fn page_of<K: Keeper>(
     after: u64,
     max: u32,
 ) -> Result<List<Event>, StoreFault>
-    requires ready { IsReady (K.store keeper.old) }
     requires max { 1 ≤ max }
+    requires ready { access.IsReady (K.store keeper.old) }
     ensures page { IfSome (K.store keeper.new).rows (λ rows. IfOk result (λ page. page ≡ take max (windows.records_after rows channel.now after))) }
-    ensures above { IfOk result (AllByRecursion (λ (event : the_event.Event). after < event.number)) }
     ensures rest { IfSome (K.store keeper.new).rows (λ rows. IfOk result (λ page. windows.records_after rows channel.now after
         ≡ page ++ windows.records_after rows channel.now (windows.last_number after page))) }
+    ensures above { IfOk result (AllByRecursion (λ (event : the_event.Event). after < event.number)) }
     ensures judged { IfSome (K.store keeper.new).rows (λ rows. OnOk result (judged.JudgesPage channel.now after max rows)) }
-    ensures reads { Reads forms.AreFormed (fails result) (K.store keeper.old) (K.store keeper.new) }
+    ensures reads { access.Reads forms.AreFormed (access.fails result) (K.store keeper.old) (K.store keeper.new) }
 {
     let rows = {
         let start = record_key(channel, after)?;
