@@ -35,7 +35,7 @@ use Rattle.wef_source.specs.declared.messages.Reply.TheVariants as replies
 use Rattle.wef_source.specs.declared.sessions.Session.{Session}
 use Rattle.wef_source_log.specs.Answers.{is_boot_full, next_boot}
 use Rattle.wef_source_log.specs.Forms.{AreFormed}
-use Rattle.wef_source_log.specs.Windows as log
+use Rattle.wef_source_log.specs.LogWindow as log
 use Rattle.wef_source_log.specs.declared.faults.LogFault.TheVariants as log_faults
 use Rattle.wef_commands.proofs.ByRows.{from_one}
 use Rattle.wef_commands.specs.Calling.{IsUndone}

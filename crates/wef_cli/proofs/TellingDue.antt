@@ -16,8 +16,8 @@ use Rattle.wef_keeper.specs.Keeping.{IsLawful, IsOneOf, MayFind, Store, WhereTol
 use Rattle.wef_keeper.specs.Rows.{Rows}
 use Rattle.wef_source_log.specs.Answers.{is_boot_full, next_boot, next_number, start_effect}
 use Rattle.wef_source_log.specs.Faults.{log_store}
-use Rattle.wef_source_log.specs.Windows as log
-use Rattle.wef_source_log.specs.Windows.{start_changes}
+use Rattle.wef_source_log.specs.LogWindow as log
+use Rattle.wef_source_log.specs.LogWindow.{start_changes}
 use Rattle.wef_source_log.specs.declared.faults.LogFault.{LogFault}
 use Rattle.wef_source_log.specs.declared.faults.LogFault.TheVariants as log_faults
 use Rattle.wef_commands.proofs.ByRows.{adds_by_rows, events_by_rows, lists_by_rows, removes_by_rows, shows_by_rows}

@@ -17,7 +17,7 @@ use Rattle.wef_keeper.specs.Rows.{Rows}
 use Rattle.wef_source_log.specs.Answers.{next_boot, next_number, start_effect, write_effect}
 use Rattle.wef_source_log.specs.Faults.{log_store}
 use Rattle.wef_source_log.specs.Forms as log_forms
-use Rattle.wef_source_log.specs.Windows as log
+use Rattle.wef_source_log.specs.LogWindow as log
 use Rattle.wef_source_log.specs.declared.faults.LogFault.{LogFault}
 use Rattle.wef_commands.proofs.ByRows.{boot_made, image_of, started_so}
 use Rattle.wef_commands.proofs.LogByRows.{event_made, log_made}

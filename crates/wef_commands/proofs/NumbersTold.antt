@@ -11,8 +11,8 @@ use Rattle.wef_keeper.specs.Rows.{Rows}
 use Rattle.wef_source_log.specs.Answers.{is_boot_full, is_full, next_boot, next_number, next_text, start_effect, write_effect}
 use Rattle.wef_source_log.specs.Faults.{log_store}
 use Rattle.wef_source_log.specs.Forms.{AreFormed}
-use Rattle.wef_source_log.specs.Windows as log
-use Rattle.wef_source_log.specs.Windows.{capacity_of, start_changes, write_changes}
+use Rattle.wef_source_log.specs.LogWindow as log
+use Rattle.wef_source_log.specs.LogWindow.{capacity_of, start_changes, write_changes}
 use Rattle.wef_source_log.specs.declared.faults.LogFault.{LogFault}
 use Rattle.wef_source_log.specs.declared.faults.LogFault.TheVariants as faults
 use Rattle.wef_commands.specs.Endings.{Told}

@@ -21,8 +21,8 @@ use Rattle.wef_keeper.specs.Rows.{Rows, applied}
 use Rattle.wef_source_log.specs.Answers as source
 use Rattle.wef_source_log.specs.Answers.{RefusesStart, is_boot_full, next_boot, next_number, next_text, start_effect, write_effect}
 use Rattle.wef_source_log.specs.Faults.{log_store}
-use Rattle.wef_source_log.specs.Windows as log
-use Rattle.wef_source_log.specs.Windows.{capacity_of, write_changes}
+use Rattle.wef_source_log.specs.LogWindow as log
+use Rattle.wef_source_log.specs.LogWindow.{capacity_of, write_changes}
 use Rattle.wef_source_log.specs.declared.faults.LogFault.{LogFault}
 use Rattle.wef_commands.specs.Adding.{AddEnds, HasDocument, IsReadAs, IsRefused, added_text}
 use Rattle.wef_commands.specs.Endings.{HasFailed, IsUnwritten, Told}

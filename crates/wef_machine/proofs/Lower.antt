@@ -28,8 +28,8 @@ use Rattle.wef_source_log.specs.Answers.{is_boot_full, is_full, next_text}
 use Rattle.wef_source_log.specs.Forms as log
 use Rattle.wef_source_log.specs.Histories.{Histories, extended, history}
 use Rattle.wef_source_log.specs.Laws.{WindowsRead}
-use Rattle.wef_source_log.specs.Windows as windows
-use Rattle.wef_source_log.specs.Windows.{IsWindow, started, last_of, written}
+use Rattle.wef_source_log.specs.LogWindow as windows
+use Rattle.wef_source_log.specs.LogWindow.{IsWindow, started, last_of, written}
 
 pub record Lower : Type 0 where
   -- the collector's rows keep their form

@@ -19,7 +19,7 @@ use Rattle.wef_source_log.proofs.Forming.{forms_stay as log_forms, number_within
 use Rattle.wef_source_log.specs.Forms as log
 use Rattle.wef_source_log.specs.Histories.{Histories}
 use Rattle.wef_source_log.specs.Keys.{last_key}
-use Rattle.wef_source_log.specs.Windows.{IsWindow, boot_of, last_of}
+use Rattle.wef_source_log.specs.LogWindow.{IsWindow, boot_of, last_of}
 use Rattle.wef_machine.proofs.Lower.{Lower}
 
 below : (n : ℕ) → nat_le 9223372036854775807 n ≡ false → n < 9223372036854775807

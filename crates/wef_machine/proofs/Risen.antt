@@ -39,7 +39,7 @@ use Rattle.wef_source.specs.declared.messages.Delivery.{Delivery}
 use Rattle.wef_source.specs.declared.sessions.Outstanding.{Outstanding}
 use Rattle.wef_source.specs.declared.sessions.Session.{Session}
 use Rattle.wef_source_log.specs.Answers.{is_boot_full, next_text, start_effect, write_effect}
-use Rattle.wef_source_log.specs.Windows.{boot_of, start_changes}
+use Rattle.wef_source_log.specs.LogWindow.{boot_of, start_changes}
 use Rattle.wef_source_log.specs.declared.faults.LogFault.{LogFault}
 use Rattle.wef_source_log.specs.declared.faults.LogFault.TheVariants as log_faults
 use Rattle.wef_machine.specs.Arming.{fate, is_done, is_stopped}

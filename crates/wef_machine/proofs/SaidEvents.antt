@@ -18,7 +18,7 @@ use Rattle.wef_source.specs.Selecting.{is_wanted}
 use Rattle.wef_source.specs.declared.sessions.Session.{Session}
 use Rattle.wef_source_log.specs.Histories.{AreEvents, Histories, History, extended, history, text_at}
 use Rattle.wef_source_log.specs.Laws.{ReadsWindow, numbered_from}
-use Rattle.wef_source_log.specs.Windows.{first_for, first_of, records_after}
+use Rattle.wef_source_log.specs.LogWindow.{first_for, first_of, records_after}
 use Rattle.wef_machine.proofs.EventTrees.{said_has_number}
 use Rattle.wef_machine.proofs.GoodLines.{IsWritable}
 use Rattle.wef_machine.proofs.Moves.{put_there}

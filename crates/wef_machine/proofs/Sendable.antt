@@ -35,7 +35,7 @@ use Rattle.wef_source.specs.declared.sessions.Session.{Session}
 use Rattle.wef_source_log.proofs.Forming.{number_within}
 use Rattle.wef_source_log.specs.Forms as log
 use Rattle.wef_source_log.specs.Keys.{boot_key}
-use Rattle.wef_source_log.specs.Windows.{boot_of}
+use Rattle.wef_source_log.specs.LogWindow.{boot_of}
 use Rattle.wef_machine.specs.Kept.{IsDelivery, IsKept, IsServed}
 use Rattle.wef_machine.specs.States.{Slot, State, host, slot_of}
 use Rattle.wef_machine.proofs.EventTrees.{said_has_tree}

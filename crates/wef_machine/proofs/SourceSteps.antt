@@ -28,7 +28,7 @@ use Rattle.wef_replay.specs.Good.{is_among}
 use Rattle.wef_source_log.specs.Answers.{is_boot_full, is_full, next_text, start_effect}
 use Rattle.wef_source_log.specs.Forms as log
 use Rattle.wef_source_log.specs.Histories.{AreEvents, Histories, History, extended, history}
-use Rattle.wef_source_log.specs.Windows.{IsWindow, boot_of, capacity_of, last_of, start_changes, started, write_changes, written}
+use Rattle.wef_source_log.specs.LogWindow.{IsWindow, boot_of, capacity_of, last_of, start_changes, started, write_changes, written}
 use Rattle.wef_source_log.specs.declared.faults.LogFault.{LogFault}
 use Rattle.wef_source_log.specs.declared.faults.LogFault.TheVariants as log_faults
 use Rattle.wef_source.specs.Answers.{waiting_for}

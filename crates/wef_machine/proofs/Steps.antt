@@ -25,7 +25,7 @@ use Rattle.wef_replay.specs.declared.lines.Line.{Line}
 use Rattle.wef_replay.specs.declared.lines.Line.TheVariants.{Subscribe, End, Batch, Source, Write, WriteXml, Ask, Poll, Deliver, Back, Lost, Crash, Fail, Stop, Calm, Show, Print}
 use Rattle.wef_source_log.specs.Histories.{history}
 use Rattle.wef_source_log.specs.Keys.{boot_key}
-use Rattle.wef_source_log.specs.Windows.{IsWindow, boot_of}
+use Rattle.wef_source_log.specs.LogWindow.{IsWindow, boot_of}
 use Rattle.wef_machine.specs.Collecting.{reply_id}
 use Rattle.wef_machine.specs.Deliveries.{deliver_message, deliver_step, events_at, message_at, number_back, offers_at, taken_by}
 use Rattle.wef_machine.specs.Kept.{IsChannelKept, IsDelivery, IsKept, IsPairKept, WasDrawn, WhereDeclared}

@@ -23,7 +23,7 @@ use Rattle.wef_query.specs.declared.QueryList.{QueryList}
 use Rattle.wef_replay.specs.Good.{is_among, is_source, is_subscription}
 use Rattle.wef_source_log.specs.Histories.{AreEvents, history}
 use Rattle.wef_source_log.specs.Forms as log
-use Rattle.wef_source_log.specs.Windows.{IsWindow, boot_of}
+use Rattle.wef_source_log.specs.LogWindow.{IsWindow, boot_of}
 use Rattle.wef_source.specs.Machine.{End, most_drawn}
 use Rattle.wef_source.specs.Fits.{Fits}
 use Rattle.wef_source.specs.Sessions.{names_of}

@@ -8,7 +8,7 @@ use Rattle.wef_keeper.specs.Calls.{Effect}
 use Rattle.wef_keeper.specs.declared.keys.Change.{Change}
 use Rattle.wef_source_log.specs.Answers.{next_boot, next_text, start_effect, write_effect}
 use Rattle.wef_source_log.specs.Histories.{Histories, extended}
-use Rattle.wef_source_log.specs.Windows.{last_of}
+use Rattle.wef_source_log.specs.LogWindow.{last_of}
 use Rattle.wef_source_log.specs.declared.faults.LogFault as the_log_fault
 use Rattle.wef_source_log.specs.declared.faults.LogFault.TheVariants as log_faults
 use Rattle.wef_source.specs.Machine.{End, asked, delivery_of, is_idle, is_spent, lost_in, next_id, sent, start_of}

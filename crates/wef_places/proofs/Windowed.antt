@@ -8,7 +8,7 @@ use Rattle.wef_keeper.specs.declared.keys.Cell.{Cell}
 use Rattle.wef_source_log.specs.Forms.{AreFormed, is_formed}
 use Rattle.wef_source_log.specs.Histories.{Histories, history}
 use Rattle.wef_source_log.specs.Keys.{last_key}
-use Rattle.wef_source_log.specs.Windows.{IsWindow, last_of, number_cell}
+use Rattle.wef_source_log.specs.LogWindow.{IsWindow, last_of, number_cell}
 use Rattle.wef_source_log.proofs.Forming.{number_within}
 
 nothing_within : (n : ℕ) → (n == 0) ≡ true → n ≤ 9223372036854775807

@@ -18,7 +18,7 @@ use Rattle.wef_source_log.specs.Answers as log
 use Rattle.wef_source_log.specs.Answers.{is_full, next_boot, next_number, next_text, write_effect}
 use Rattle.wef_source_log.specs.Forms.{AreFormed}
 use Rattle.wef_source_log.specs.Histories.{Histories, extended, history}
-use Rattle.wef_source_log.specs.Windows.{boot_of, capacity_of, write_changes}
+use Rattle.wef_source_log.specs.LogWindow.{boot_of, capacity_of, write_changes}
 use Rattle.wef_source_log.specs.declared.faults.LogFault.{LogFault}
 use Rattle.wef_source_log.specs.declared.faults.LogFault.TheVariants.{Full, TooLong}
 use Rattle.wef_machine.specs.Arming.{fate, is_kept}

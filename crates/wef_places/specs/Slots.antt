@@ -21,7 +21,7 @@ use Rattle.wef_source.specs.declared.sessions.Session.{Session}
 use Rattle.wef_source_log.specs.Answers.{next_number, next_text, write_effect}
 use Rattle.wef_source_log.specs.Forms.{AreFormed}
 use Rattle.wef_source_log.specs.Histories.{extended, history}
-use Rattle.wef_source_log.specs.Windows.{IsWindow, boot_of}
+use Rattle.wef_source_log.specs.LogWindow.{IsWindow, boot_of}
 use Rattle.wef_source_log.specs.declared.faults.LogFault.{LogFault}
 use Rattle.wef_machine.specs.Deliveries.{after_ack, after_fault, after_offers, offers_word}
 use Rattle.wef_machine.specs.Places.{remembering}

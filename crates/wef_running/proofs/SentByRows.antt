@@ -23,7 +23,7 @@ use Rattle.wef_source.specs.Machine.{End, start_of}
 use Rattle.wef_source.specs.declared.faults.SourceFault.{SourceFault}
 use Rattle.wef_source_log.specs.Answers.{is_boot_full, next_boot}
 use Rattle.wef_source_log.specs.Forms.{AreFormed}
-use Rattle.wef_source_log.specs.Windows as log
+use Rattle.wef_source_log.specs.LogWindow as log
 use Rattle.wef_source_log.specs.declared.faults.LogFault.TheVariants as log_faults
 use Rattle.wef_running.proofs.ByRows.{only_found}
 use Rattle.wef_running.specs.ByRows.{ForwardsByRows, IsBegun, IsNotBegun, IsSentOver}

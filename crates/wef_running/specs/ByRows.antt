@@ -32,7 +32,7 @@ use Rattle.wef_source.specs.Faults.{source_store}
 use Rattle.wef_source.specs.Machine.{End, start_of}
 use Rattle.wef_source.specs.declared.faults.SourceFault.{SourceFault}
 use Rattle.wef_source_log.specs.Answers.{next_boot}
-use Rattle.wef_source_log.specs.Windows as log
+use Rattle.wef_source_log.specs.LogWindow as log
 
 -- The next connection of a front was served over rows, in a run that leaves the final rows, and ended so.
 pub record IsServedBy (final : Rows) (clock : Option ℕ) (f : ports.Told) (k : Kept) (g : ports.Told) (l : Kept) (e : ConnectionEnd) : Type 0 where

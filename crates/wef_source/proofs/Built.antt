@@ -13,7 +13,7 @@ use Rattle.wef_query.specs.Selected.{selects}
 use Rattle.wef_query.specs.declared.QueryList.{QueryList}
 use Rattle.wef_source_log.specs.Histories.{Histories, History, history}
 use Rattle.wef_source_log.specs.Laws.{ReadsWindow, WindowsRead}
-use Rattle.wef_source_log.specs.Windows.{last_of}
+use Rattle.wef_source_log.specs.LogWindow.{last_of}
 use Rattle.wef_source.specs.Building.{built, built_items, built_to, channel_candidates, candidates, item_of, left_items, room_of, session_channels}
 use Rattle.wef_source.specs.Fits.{FitsChannel, FitsUpTo, event_at, ranges_in}
 use Rattle.wef_source.specs.Laws.{AreWithin, BuiltBatchesFit, BuiltBookmarksReach}

@@ -12,7 +12,7 @@ use Rattle.wef_event.specs.Events as records
 use Rattle.wef_query.specs.declared.QueryList.{QueryList}
 use Rattle.wef_source_log.specs.Histories.{History, text_at}
 use Rattle.wef_source_log.specs.Laws.{numbered_from, records_from}
-use Rattle.wef_source_log.specs.Windows.{first_for}
+use Rattle.wef_source_log.specs.LogWindow.{first_for}
 use Rattle.wef_source.specs.Building.{first_number, is_of, item_of, room_of, sized_item}
 use Rattle.wef_source.specs.Fits.{event_at, ranges_in}
 use Rattle.wef_source.specs.Selecting.{is_wanted}

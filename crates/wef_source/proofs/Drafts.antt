@@ -15,7 +15,7 @@ use Rattle.wef_source.specs.Building.{built, built_items, built_to, candidates, 
 use Rattle.wef_source.specs.Drafting.{empty_draft, offered, stop_at, with_item, with_items}
 use Rattle.wef_source.specs.declared.drafting.Draft.{Draft}
 use Rattle.wef_source.specs.declared.sessions.Session.{Session}
-use Rattle.wef_source_log.specs.Windows.{last_of}
+use Rattle.wef_source_log.specs.LogWindow.{last_of}
 
 -- nothing is taken once an item is left
 pub taken_none : (d : Draft) (first : Item) (is : List Item) → d.left ≡ Some first → with_items d is ≡ d

@@ -20,7 +20,7 @@ use Rattle.wef_keeper.specs.declared.keys.Row.{Row}
 use Rattle.wef_query.specs.declared.QueryList.{QueryList}
 use Rattle.wef_source_log.specs.Judged.{JudgesFirst, JudgesPage}
 use Rattle.wef_source_log.specs.Keys.{record_key}
-use Rattle.wef_source_log.specs.Windows.{event_of_row, first_of, last_number, last_of, records_after}
+use Rattle.wef_source_log.specs.LogWindow.{event_of_row, first_of, last_number, last_of, records_after}
 use Rattle.wef_source_log.proofs.Records.{nothing_read, page_read, page_within}
 use Rattle.wef_source.specs.Building.{candidates, channel_candidates, first_number, has_room, is_of, item_of, left_items, reaches, room_of, session_channels, sized_item, unread}
 use Rattle.wef_source.specs.Drafting.{empty_draft, offered, with_item, with_items}

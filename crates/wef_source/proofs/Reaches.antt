@@ -11,7 +11,7 @@ use Rattle.wef_batch.specs.declared.items.Item.{Item}
 use Rattle.wef_bookmark.proofs.Joining.{get-raised}
 use Rattle.wef_bookmark.specs.Order.{Marks, number_at, raised}
 use Rattle.wef_keeper.specs.Rows.{Rows}
-use Rattle.wef_source_log.specs.Windows.{last_of}
+use Rattle.wef_source_log.specs.LogWindow.{last_of}
 use Rattle.wef_source.specs.Building.{first_number, is_of, reaches, with_reach, with_reaches}
 use Rattle.wef_source.proofs.Cases.{apart, by_test, either_false, lt_fails, one_name, same_itself}
 use Rattle.wef_source.proofs.Channels.{AllOf, AreApart, AreOwn, own-append, own_elsewhere, own_none}

@@ -19,7 +19,7 @@ use Rattle.wef_keeper.specs.declared.keys.Depth.TheVariants.{Channel}
 use Rattle.wef_keeper.specs.declared.keys.Row.{Row}
 use Rattle.wef_query.specs.declared.QueryList.{QueryList}
 use Rattle.wef_source_log.specs.Keys.{record_key}
-use Rattle.wef_source_log.specs.Windows.{event_of_row, first_of, records_after}
+use Rattle.wef_source_log.specs.LogWindow.{event_of_row, first_of, records_after}
 use Rattle.wef_source.specs.Building.{built, candidates, channel_candidates, fitting, has_room, item_of, room_of, session_channels, sized_item}
 use Rattle.wef_source.specs.Laws.{EmptyMeansNothingToSend}
 use Rattle.wef_source.specs.Selecting.{is_wanted}

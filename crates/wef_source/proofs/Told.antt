@@ -9,7 +9,7 @@ use Rattle.wef_keeper.specs.Keeping.{IsLawful, IsOneOf, Stays, Store}
 use Rattle.wef_keeper.specs.Rows.{Rows}
 use Rattle.wef_keeper.specs.declared.keeping.Plan.{Plan}
 use Rattle.wef_source_log.specs.Forms.{AreFormed}
-use Rattle.wef_source_log.specs.Windows.{last_number}
+use Rattle.wef_source_log.specs.LogWindow.{last_number}
 
 -- ---- facts of rows that are told
 

@@ -15,7 +15,7 @@ use Rattle.wef_event.specs.Events.{Event}
 use Rattle.wef_keeper.specs.Rows.{Rows}
 use Rattle.wef_query.specs.Selected.{channels_of}
 use Rattle.wef_query.specs.declared.QueryList.{QueryList}
-use Rattle.wef_source_log.specs.Windows.{first_of, last_of, records_after}
+use Rattle.wef_source_log.specs.LogWindow.{first_of, last_of, records_after}
 use Rattle.wef_source.specs.Selecting.{is_wanted}
 use Rattle.wef_source.specs.declared.sessions.Session.{Session}
 

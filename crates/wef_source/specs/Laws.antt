@@ -9,7 +9,7 @@ use Rattle.wef_batch.specs.declared.items.Item.{Item}
 use Rattle.wef_bookmark.specs.Order.{IsAtMost, Marks, number_at}
 use Rattle.wef_keeper.specs.Rows.{Rows}
 use Rattle.wef_source_log.specs.Histories.{Histories, history}
-use Rattle.wef_source_log.specs.Windows.{IsWindow}
+use Rattle.wef_source_log.specs.LogWindow.{IsWindow}
 use Rattle.wef_source.specs.Building.{built, built_items, candidates, left_items, room_of, session_channels}
 use Rattle.wef_source.specs.Fits.{Fits}
 use Rattle.wef_source.specs.declared.sessions.Session.{Session}

@@ -13,8 +13,8 @@ ghost use Rattle.wef_source.specs.Judged as judged;
 ghost use Rattle.wef_source.specs.Selecting.{is_wanted};
 ghost use Rattle.wef_source_log.specs.Forms.{AreFormed};
 ghost use Rattle.wef_source_log.specs.Judged.{JudgesFirst};
-ghost use Rattle.wef_source_log.specs.Windows as windows;
-ghost use Rattle.wef_source_log.specs.Windows.{records_after};
+ghost use Rattle.wef_source_log.specs.LogWindow as windows;
+ghost use Rattle.wef_source_log.specs.LogWindow.{records_after};
 
 use crate::faults::SourceFault;
 use crate::sessions::Session;

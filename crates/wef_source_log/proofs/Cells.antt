@@ -22,7 +22,7 @@ use Rattle.wef_source_log.specs.Answers.{ExtendsHistory, next_text}
 use Rattle.wef_source_log.specs.Histories.{Histories, History, extended, history, text_at}
 use Rattle.wef_source_log.specs.Keys.{boot_key, capacity_key, last_key, record_key}
 use Rattle.wef_source_log.specs.Laws.{NothingIsEmpty, StartsKeep}
-use Rattle.wef_source_log.specs.Windows.{IsWindow, boot_of, capacity_cell, capacity_changes, capacity_of, first_for, last_cell, last_of, number_cell, record_cell, start_changes, started, text_cell, write_changes, written}
+use Rattle.wef_source_log.specs.LogWindow.{IsWindow, boot_of, capacity_cell, capacity_changes, capacity_of, first_for, last_cell, last_of, number_cell, record_cell, start_changes, started, text_cell, write_changes, written}
 
 -- ---- keys
 

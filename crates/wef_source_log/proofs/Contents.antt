@@ -24,7 +24,7 @@ use Rattle.wef_keeper.specs.declared.keys.Row.{Row}
 use Rattle.wef_source_log.specs.Histories.{Histories, History, history, text_at}
 use Rattle.wef_source_log.specs.Keys.{record_key}
 use Rattle.wef_source_log.specs.Laws.{WindowsRead, numbered_from, records_from}
-use Rattle.wef_source_log.specs.Windows.{IsWindow, boot_of, event_of_row, first_for, record_cell, records_after, text_cell}
+use Rattle.wef_source_log.specs.LogWindow.{IsWindow, boot_of, event_of_row, first_for, record_cell, records_after, text_cell}
 use Rattle.wef_source_log.proofs.Cells.{capacity_in, hits, hits_record, last_cell-number, last_in, number_of, one, tie}
 use Rattle.wef_source_log.proofs.Pages.{own_key}
 

@@ -27,7 +27,7 @@ use Rattle.wef_source_log.specs.Judged.{JudgesPage}
 use Rattle.wef_source_log.specs.declared.keys.TheConstants.{RECORD, LAST, CAPACITY, BOOT}
 use Rattle.wef_source_log.specs.Keys.{boot_key, capacity_key, last_key, record_key}
 use Rattle.wef_source_log.specs.Laws.{FormsStay}
-use Rattle.wef_source_log.specs.Windows.{boot_of, capacity_changes, capacity_of, last_of, start_changes, write_changes}
+use Rattle.wef_source_log.specs.LogWindow.{boot_of, capacity_changes, capacity_of, last_of, start_changes, write_changes}
 use Rattle.wef_source_log.proofs.Pages.{own_key}
 
 -- a row with the key of a record is of its form where it is a record

@@ -14,7 +14,7 @@ use Rattle.wef_keeper.specs.declared.keys.Key.{Key}
 use Rattle.wef_keeper.specs.declared.keys.Row.{Row}
 use Rattle.wef_source_log.specs.Keys.{record_key}
 use Rattle.wef_source_log.specs.declared.keys.TheConstants.{RECORD}
-use Rattle.wef_source_log.specs.Windows.{event_of_row, last_number, records_after}
+use Rattle.wef_source_log.specs.LogWindow.{event_of_row, last_number, records_after}
 
 -- a key under that of a channel's records is the one of its own number
 pub own_key : (c : List ℕ) (n : ℕ) (k : Key) → is_under Channel (record_key c n) k ≡ true → k ≡ record_key c k.number

@@ -20,7 +20,7 @@ use Rattle.wef_keeper.specs.declared.keys.Row.{Row}
 use Rattle.wef_source_log.specs.Forms.{is_formed}
 use Rattle.wef_source_log.specs.Judged.{JudgesPage}
 use Rattle.wef_source_log.specs.Keys.{record_key}
-use Rattle.wef_source_log.specs.Windows.{event_of_row, last_number, records_after}
+use Rattle.wef_source_log.specs.LogWindow.{event_of_row, last_number, records_after}
 use Rattle.wef_source_log.proofs.Cells.{hits}
 use Rattle.wef_source_log.proofs.Contents.{hit, is_wanted, rose, section_entries, wanted_record}
 use Rattle.wef_source_log.proofs.Pages.{own_key}

@@ -7,7 +7,7 @@ use Rattle.wef_keeper.specs.Calls.{Answers, Makes}
 use Rattle.wef_keeper.specs.Rows.{Rows}
 use Rattle.wef_source_log.specs.Answers.{ExtendsHistory, is_full, next_number, next_text, write_effect}
 use Rattle.wef_source_log.specs.Faults.{log_store}
-use Rattle.wef_source_log.specs.Windows.{capacity_of, write_changes, written}
+use Rattle.wef_source_log.specs.LogWindow.{capacity_of, write_changes, written}
 use Rattle.wef_source_log.specs.declared.faults.LogFault.{LogFault}
 use Rattle.wef_source_log.specs.declared.faults.LogFault.TheVariants.{Full, TooLong}
 use Rattle.wef_source_log.proofs.Cells.{extends}

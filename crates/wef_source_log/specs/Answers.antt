@@ -6,7 +6,7 @@ use Rattle.wef_event.specs.Numbering.{numbered, numbered_text}
 use Rattle.wef_keeper.specs.Calls.{Effect}
 use Rattle.wef_keeper.specs.Rows.{Rows}
 use Rattle.wef_source_log.specs.Histories.{Histories, history, extended}
-use Rattle.wef_source_log.specs.Windows.{IsWindow, boot_of, capacity_of, last_of, start_changes, write_changes}
+use Rattle.wef_source_log.specs.LogWindow.{IsWindow, boot_of, capacity_of, last_of, start_changes, write_changes}
 use Rattle.wef_source_log.specs.declared.faults.LogFault.{LogFault}
 use Rattle.wef_source_log.specs.declared.faults.LogFault.TheVariants.{NoMemory, Failed, Full, TooLong}
 

@@ -8,7 +8,7 @@ use Rattle.wef_base.specs.declared.numbers.TheConstants.{MAX}
 use Rattle.wef_keeper.specs.Rows.{Rows}
 use Rattle.wef_source_log.specs.Forms.{AreFormed}
 use Rattle.wef_source_log.specs.Histories.{History, Histories, history}
-use Rattle.wef_source_log.specs.Windows.{IsWindow, boot_of, capacity_of, first_for, first_of, last_of, records_after, started, written}
+use Rattle.wef_source_log.specs.LogWindow.{IsWindow, boot_of, capacity_of, first_for, first_of, last_of, records_after, started, written}
 
 -- records of a channel with these texts, numbered from `n` on
 abbrev pub numbered_from : List ℕ → ℕ → List (List ℕ) → List Event

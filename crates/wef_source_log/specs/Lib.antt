@@ -5,6 +5,6 @@ pub mod Histories
 pub mod Judged
 pub mod Keys
 pub mod Laws
+pub mod LogWindow
 pub mod Prepared
 pub mod State
-pub mod Windows

@@ -12,7 +12,7 @@ ghost use Rattle.wef_source_log.specs.Forms.{AreFormed, is_formed};
 ghost use Rattle.wef_source_log.specs.Judged as judged;
 ghost use Rattle.wef_source_log.specs.Keys as keys;
 ghost use Rattle.wef_source_log.specs.Prepared.{Prepares, RefusesNumber};
-ghost use Rattle.wef_source_log.specs.Windows as windows;
+ghost use Rattle.wef_source_log.specs.LogWindow as windows;
 
 use crate::faults::LogFault;
 use crate::forms::LogForm;

@@ -2,7 +2,7 @@
 
 ghost use Rattle.std.specs.Prelude.{◌≡◌, ◌==◌, ◌&&◌, is_some, IfOk, IfSome};
 ghost use Rattle.wef_source_log.specs.Forms as forms;
-ghost use Rattle.wef_source_log.specs.Windows.{event_of_row};
+ghost use Rattle.wef_source_log.specs.LogWindow.{event_of_row};
 
 use crate::keys::{BOOT, CAPACITY, LAST, RECORD};
 use std::alloc::AllocError;

@@ -11,7 +11,7 @@ ghost use Rattle.wef_source_log.specs.Answers as answers;
 ghost use Rattle.wef_source_log.specs.Faults.{log_store};
 ghost use Rattle.wef_source_log.specs.Forms.{AreFormed};
 ghost use Rattle.wef_source_log.specs.Judged as judged;
-ghost use Rattle.wef_source_log.specs.Windows as windows;
+ghost use Rattle.wef_source_log.specs.LogWindow as windows;
 
 use crate::changing::{start_in, write_in};
 use crate::faults::LogFault;

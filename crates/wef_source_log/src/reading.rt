@@ -9,7 +9,7 @@ ghost use Rattle.wef_keeper.specs.Keeping.{row_at};
 ghost use Rattle.wef_source_log.specs.Forms as forms;
 ghost use Rattle.wef_source_log.specs.Judged as judged;
 ghost use Rattle.wef_source_log.specs.Keys as keys;
-ghost use Rattle.wef_source_log.specs.Windows as windows;
+ghost use Rattle.wef_source_log.specs.LogWindow as windows;
 
 use crate::forms::{LogForm, event_of};
 use crate::keys::{boot_key, capacity_key, last_key, record_key};

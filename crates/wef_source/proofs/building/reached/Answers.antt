@@ -6,7 +6,7 @@ use Rattle.wef_keeper.specs.Rows.{Rows}
 use Rattle.wef_source.specs.Building.{reaches, with_reaches}
 use Rattle.wef_source.specs.Drafting.{stop_at}
 use Rattle.wef_source.specs.Serving.{ReadsAbove}
-use Rattle.wef_source_log.specs.Windows.{last_of}
+use Rattle.wef_source_log.specs.LogWindow.{last_of}
 use Rattle.wef_source.proofs.Drafts.{reach_read}
 use Rattle.wef_source.proofs.Polling.{item_in}
 use Rattle.wef_source.proofs.Remembered.{reads_further, reads_nothing}

@@ -1,5 +1,5 @@
 use Rattle.std.proofs.Common.{◌≡◌, drop}
-use Rattle.wef_source_log.specs.Windows.{last_number}
+use Rattle.wef_source_log.specs.LogWindow.{last_number}
 use Rattle.wef_source.proofs.drafting.last_number.Given as goal
 
 abbrev pub invariant-loop-event : goal.invariant-loop-event

@@ -2,7 +2,7 @@ use Rattle.std.proofs.Common.{◌≡◌, ◌++◌, map, drop}
 use Rattle.std.specs.List.{list_all}
 use Rattle.wef_keeper.specs.declared.keys.Row.{Row}
 use Rattle.wef_source_log.specs.Forms.{is_record}
-use Rattle.wef_source_log.specs.Windows.{event_of_row}
+use Rattle.wef_source_log.specs.LogWindow.{event_of_row}
 use Rattle.wef_source_log.proofs.reading.events_of.Given as goal
 
 abbrev pub invariant-loop-row : goal.invariant-loop-row

@@ -4,7 +4,7 @@ use Rattle.wef_event.specs.Events.{Event}
 use Rattle.wef_keeper.specs.declared.keys.Row.{Row}
 use Rattle.wef_keeper.proofs.ReadsOf.{ill_formed}
 use Rattle.wef_source_log.specs.Forms.{AreFormed, is_record}
-use Rattle.wef_source_log.specs.Windows.{event_of_row, last_number, records_after}
+use Rattle.wef_source_log.specs.LogWindow.{event_of_row, last_number, records_after}
 use Rattle.wef_source_log.proofs.Contents.{records_above}
 use Rattle.wef_source_log.proofs.Forming.{no_record, page_judged}
 use Rattle.wef_source_log.proofs.Pages.{is_told_page, is_told_rest, own_events}

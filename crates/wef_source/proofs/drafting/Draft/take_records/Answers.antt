@@ -5,7 +5,7 @@ use Rattle.wef_source.specs.Building.{first_number, item_of}
 use Rattle.wef_source.specs.Drafting.{with_items}
 use Rattle.wef_source.specs.Judged.{AreRead, AreSound}
 use Rattle.wef_source_log.specs.Judged.{JudgesPage}
-use Rattle.wef_source_log.specs.Windows.{last_number, records_after}
+use Rattle.wef_source_log.specs.LogWindow.{last_number, records_after}
 use Rattle.wef_source.proofs.Drafts.{page_taken, taken_full}
 use Rattle.wef_source.proofs.Judging.{ends_empty, ends_full, none_has, nothing_sound, page_judged}
 use Rattle.wef_source.proofs.Told.{any_told, both_told, if_told, last_above, read_itself, read_twice, told_since}

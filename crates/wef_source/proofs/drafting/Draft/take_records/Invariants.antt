@@ -4,7 +4,7 @@ use Rattle.wef_keeper.specs.Access.{HasRead}
 use Rattle.wef_source.specs.Building.{first_number, item_of}
 use Rattle.wef_source.specs.Drafting.{IsNumberedDraft, with_items}
 use Rattle.wef_source.specs.Judged.{AreSound}
-use Rattle.wef_source_log.specs.Windows.{records_after}
+use Rattle.wef_source_log.specs.LogWindow.{records_after}
 use Rattle.wef_source.proofs.drafting.Draft.take_records.Given as goal
 
 abbrev pub invariant-loop-log : goal.invariant-loop-log
