@@ -1,4 +1,5 @@
-//! The keys of the collector's rows.
+//! The keys of the collector's rows. Their kinds are 1 to 8, of which 7 isn't used yet; 9 to 12 are the
+//! log's of a source. docs/commands.md lists them all.
 
 ghost use Rattle.std.specs.Prelude.{◌≡◌, [], IfOk};
 ghost use Rattle.wef_collector_rows.specs.Keys as keys;

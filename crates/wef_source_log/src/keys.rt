@@ -1,4 +1,5 @@
-//! The keys of the log's rows.
+//! The keys of the log's rows. Their kinds are 9 to 12; those below are the collector's.
+//! docs/commands.md lists them all.
 
 ghost use Rattle.std.specs.Prelude.{◌≡◌, IfOk};
 ghost use Rattle.wef_source_log.specs.Keys as keys;
