@@ -5,7 +5,6 @@ use Rattle.wef_keeper.specs.Access.{AnyRows, Finds, IsRefused, Leaves, LeavesPla
 use Rattle.wef_keeper.specs.Forms.{ArePut}
 use Rattle.wef_keeper.specs.Keeping.{IsLawful, Store}
 use Rattle.wef_keeper.specs.Rows.{Rows}
-use Rattle.wef_keeper.specs.declared.keys.Change.{Change}
 use Rattle.wef_keeper.specs.declared.access.StoreFault.{StoreFault}
 use Rattle.wef_keeper.specs.declared.access.StoreFault.TheVariants.{NoMemory, Failed}
 use Rattle.wef_keeper.proofs.Calls.{committed, committed_with, not_committed, not_opened}

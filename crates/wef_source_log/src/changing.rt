@@ -1,6 +1,6 @@
 //! What the log's calls change, and how it is committed.
 
-ghost use Rattle.std.specs.Prelude.{◌≡◌, ◌≤◌, ◌++◌, [], ◌∷◌, true, false, is_some, Some, None, Option, IfOk, IfErr, IfSome, OnOk};
+ghost use Rattle.std.specs.Prelude.{◌≡◌, ◌≤◌, ◌++◌, [], ◌∷◌, true, false, is_some, Some, Option, IfOk, IfErr, IfSome, OnOk};
 ghost use Rattle.wef_event.specs.Numbering as numbering;
 ghost use Rattle.wef_keeper.specs.Access as access;
 ghost use Rattle.wef_keeper.specs.Calls.{DoesWith, IsCall, fails};
