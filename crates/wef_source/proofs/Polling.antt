@@ -2,13 +2,15 @@
 use Rattle.std.proofs.Common.{◌≡◌, ℕ, zero, suc, drop, ◌+◌, ◌<◌, true, false, List, [], ◌∷◌, get_or, length, set, refl, ap, sym, subst, ◌∙◌, Some, None}
 use Rattle.std.specs.Prelude.{Option, Ok, Err, IfSome, is_none, is_some}
 use Rattle.std.specs.FinMap as map
+use Rattle.std.specs.List.{position}
 use Rattle.std.proofs.lemmas.List.Elements.{All-set}
 use Rattle.wef_bookmark.specs.Order.{Marks}
 use Rattle.wef_keeper.specs.Calls.{Looks}
 use Rattle.wef_keeper.specs.Keeping.{Store}
 use Rattle.wef_keeper.specs.Rows.{Rows}
 use Rattle.wef_source_log.specs.Forms.{AreFormed}
-use Rattle.wef_source.specs.Answers.{IsAddressed, IsReachOf, MayRefusePoll, Polls, PollsIn, RefusesPoll, Remembers, Sends, SendsAddressed, SendsFrom, SendsRemembered, WhereThere, may_send}
+use Rattle.wef_source.specs.Accounts.{PollAccount, PreparedAccount}
+use Rattle.wef_source.specs.Answers.{IsAddressed, IsReachOf, MayRefusePoll, Polls, PollsIn, RefusesPoll, Remembers, Sends, SendsAddressed, SendsFrom, SendsNumbered, SendsRemembered, WhereThere, may_send}
 use Rattle.wef_source.specs.Building.{session_channels}
 use Rattle.wef_source.specs.Faults.{source_store}
 use Rattle.wef_source.specs.Judged.{JudgesBatch, JudgesPoll}
@@ -19,17 +21,23 @@ use Rattle.wef_source.specs.Sessions.{is_named, sending, session_of, with_change
 use Rattle.wef_source.specs.declared.faults.SourceFault.{SourceFault}
 use Rattle.wef_source.specs.declared.faults.SourceFault.TheVariants.{NoMemory, Failed, Full, TooLong, NotAsked, UnknownSubscription, Spent}
 use Rattle.wef_source.specs.declared.messages.Delivery.{Delivery}
+use Rattle.wef_source.specs.declared.messages.Poll.{Poll}
 use Rattle.wef_source.specs.declared.messages.Poll.TheVariants.{Send, Nothing}
 use Rattle.wef_source.specs.declared.sessions.Outstanding.{Outstanding}
 use Rattle.wef_source.specs.declared.sessions.Session.{Session}
 use Rattle.wef_batch.specs.WellFormed.{is_in}
 use Rattle.wef_base.specs.Names.{same}
 use Rattle.std.specs.Cmp.Lexicographic.{nat_list_eq_equiv}
+use Rattle.wef_source.proofs.Places.{first_at}
 use Rattle.wef_source.proofs.Served.{either, either_true, read_served, sending_served}
 use Rattle.wef_source.proofs.Remembered.{are_reaches, first_changed}
 use Rattle.wef_query.specs.Selected.{channels_of}
 use Rattle.wef_source.proofs.InOrder.{changed_in_order, sending_name}
-use Rattle.wef_source.proofs.Told.{if_told}
+use Rattle.wef_source.proofs.Told.{any_told, if_told}
+
+-- the session at the place at which a name is found
+pub session_at : (end : End) (u : List ℕ) (ss : List Session) (k : ℕ) (s : Session) → ss ≡ end.sessions → position (is_named u) ss ≡ Some k → s ≡ get_or ss k s → session_of end.sessions u ≡ Some s
+session_at end u ss k s same at is = ap (λ (xs : List Session). session_of xs u) (sym same) ∙ first_at (is_named u) ss k s at is
 
 pub polls_nothing : (rows : Rows) (end : End) (u : List ℕ) (now : ℕ) (s : Session) → session_of end.sessions u ≡ Some s → Prepares rows end s None → Polls rows end end u now Nothing
 polls_nothing rows end u now s found idle = subst (λ o. PollsIn rows end end o now Nothing) (sym found) (idle, refl)
@@ -157,3 +165,22 @@ looks_done first second before now looks = record { opened = looks.opened; found
 
 pub looks_refused : {S T : Type 0} (fault : SourceFault) (before now : Store) → Looks {T = S} source_store AreFormed (Err fault) before now → Looks {T = T} source_store AreFormed (Err fault) before now
 looks_refused fault before now looks = record { opened = looks.opened; found = looks.found; ready = looks.ready }
+
+-- the account of a poll that is answered, from that of what it prepared
+pub answered : {L : Type 0} (log log' : L) (before after : Store) (end end' : End) (u : List ℕ) (now : ℕ) (s : Session) (prepared : Option (Delivery × Outstanding)) (answer : Poll)
+    → session_of end.sessions u ≡ Some s → IfSome after.rows (λ rows. Polls rows end end' u now answer) → Sends end end' u now answer → SendsNumbered answer → SendsRemembered end end' u answer → SendsAddressed end u answer
+    → PreparedAccount log log' before after end s (Ok prepared) → PollAccount log log' before after end end' u now (Ok answer)
+answered log log' before after end end' u now s prepared answer found ok sends numbered remembered addressed account = record {
+  ok = ok;
+  refusal = any_told (λ (rows : Rows). Unit {0}) after.rows (λ rows. tt);
+  sends = sends;
+  numbered = numbered;
+  remembered = remembered;
+  addressed = addressed;
+  judged = polls_judged after.rows end u s found account.judged;
+  listed = tt;
+  err = tt;
+  looks = λ may. looks_done prepared answer before after (account.looks (awaits_nothing end u s found may));
+  untouched = λ may. account.untouched (awaits end u s found may);
+  reads = account.reads;
+}

@@ -1,16 +1,17 @@
 //! What a source remembers while it runs. It is lost where the source ends.
 
-ghost use Rattle.std.specs.Prelude.{◌≡◌, false, true, is_some, Some, IfOk, IfErr, IfSome, OnOk, OnErr};
+ghost use Rattle.std.specs.Prelude.{◌≡◌, false, true, is_some, IfOk, IfErr, IfSome, OnOk, OnErr};
 ghost use Rattle.wef_batch.specs.Numbers.{AreNumbered};
 ghost use Rattle.wef_eventing.specs.Sending.{AreServable};
 ghost use Rattle.wef_ids.specs.IdTexts.{id_of_value};
 ghost use Rattle.wef_ids.specs.Ids.{ids_agree};
 ghost use Rattle.wef_keeper.specs.Access as access;
-ghost use Rattle.wef_keeper.specs.Calls.{Looks, fails};
+ghost use Rattle.wef_keeper.specs.Calls.{fails};
 ghost use Rattle.wef_query.specs.Order.{IsInOrder};
+ghost use Rattle.wef_source.specs.Accounts.{PollAccount, PreparedAccount};
 ghost use Rattle.wef_source.specs.Answers as answers;
 ghost use Rattle.wef_source.specs.Faults.{source_store};
-ghost use Rattle.wef_source.specs.Judged.{JudgesBatch, JudgesPoll};
+ghost use Rattle.wef_source.specs.Judged.{JudgesBatch};
 ghost use Rattle.wef_source.specs.Machine as machine;
 ghost use Rattle.wef_source.specs.Prepared.{MayDraw, MayRefuseToPrepare, Prepares, RefusesToPrepare};
 ghost use Rattle.wef_source.specs.Serving.{HasKeptSessions};
@@ -151,18 +152,7 @@ impl Memory {
         sub: &SubId,
         now: Moment,
     ) -> Result<Poll, SourceFault>
-        ensures ok { IfSome (K.store log.new.keeper).rows (λ rows. IfOk result (answers.Polls rows self.old self.new sub.now now)) }
-        ensures refusal { IfSome (K.store log.new.keeper).rows (λ rows. IfErr result (λ fault. answers.RefusesPoll fault rows self.old sub.now)) }
-        ensures sends { IfOk result (answers.Sends self.old self.new sub.now now) }
-        ensures numbered { IfOk result answers.SendsNumbered }
-        ensures remembered { IfOk result (answers.SendsRemembered self.old self.new sub.now) }
-        ensures addressed { IfOk result (answers.SendsAddressed self.old sub.now) }
-        ensures judged { IfSome (K.store log.new.keeper).rows (λ rows. OnOk result (JudgesPoll rows self.old sub.now)) }
-        ensures listed { IfErr result (λ fault. answers.MayRefusePoll fault self.old sub.now) }
-        ensures err { OnErr result (self.new ≡ self.old) }
-        ensures looks { answers.may_send (the_sessions.session_of self.old.sessions sub.now) ≡ true → Looks source_store AreFormed result (K.store log.old.keeper) (K.store log.new.keeper) }
-        ensures untouched { answers.may_send (the_sessions.session_of self.old.sessions sub.now) ≡ false → log.new ≡ log.old }
-        ensures reads { access.OpensAndReads AreFormed (fails source_store result) (K.store log.old.keeper) (K.store log.new.keeper) }
+        ensures { PollAccount log.old log.new (K.store log.old.keeper) (K.store log.new.keeper) self.old self.new sub.now now result }
     {
         let Some(place) = place_of_name(self.sessions.as_slice(), sub) else {
             return Err(SourceFault::UnknownSubscription);
@@ -233,17 +223,7 @@ impl Memory {
         log: &mut Log<K>,
         session: &Session,
     ) -> Result<Option<(Delivery, Outstanding)>, SourceFault>
-        ensures ok { IfSome (K.store log.new.keeper).rows (λ rows. IfOk result (Prepares rows self.now session.now)) }
-        ensures refusal { IfSome (K.store log.new.keeper).rows (λ rows. IfErr result (RefusesToPrepare rows self.now session.now)) }
-        ensures draws { IfOk result (MayDraw self.now session.now) }
-        ensures numbered { IfOk result (λ found. IfSome found (λ prepared. AreNumbered prepared.0.batch.items)) }
-        ensures addressed { IfOk result (λ found. IfSome found (λ prepared. answers.IsAddressed session.now prepared.0)) }
-        ensures judged { IfSome (K.store log.new.keeper).rows (λ rows. OnOk result (is_some session.now.outstanding ≡ false → JudgesBatch rows session.now)) }
-        ensures listed { IfErr result (MayRefuseToPrepare self.now) }
-        ensures looks { is_some session.now.outstanding ≡ false → Looks source_store AreFormed result (K.store log.old.keeper) (K.store log.new.keeper) }
-        ensures untouched { is_some session.now.outstanding ≡ true → log.new ≡ log.old }
-        ensures idle { OnErr result (is_some session.now.outstanding ≡ false) }
-        ensures reads { access.OpensAndReads AreFormed (fails source_store result) (K.store log.old.keeper) (K.store log.new.keeper) }
+        ensures { PreparedAccount log.old log.new (K.store log.old.keeper) (K.store log.new.keeper) self.now session.now result }
     {
         if session.outstanding.is_some() {
             return Ok(None);

@@ -1,16 +1,15 @@
 //! The source end.
 
-ghost use Rattle.std.specs.Prelude.{◌≡◌, ◌≤◌, true, false, IfOk, IfErr, IfSome, OnOk, OnErr, MatchResult};
+ghost use Rattle.std.specs.Prelude.{◌≡◌, ◌≤◌, IfOk, IfErr, OnOk, OnErr, MatchResult};
 ghost use Rattle.wef_eventing.specs.Sending.{AreServable};
-ghost use Rattle.wef_keeper.specs.Access as access;
-ghost use Rattle.wef_keeper.specs.Calls.{DoesWith, IsCall, Looks, fails};
+ghost use Rattle.wef_keeper.specs.Calls.{DoesWith, IsCall};
 ghost use Rattle.wef_keeper.specs.Keeping as keeping;
 ghost use Rattle.wef_keeper.specs.declared.keeping.Plan.TheVariants.{Done, Fails};
 ghost use Rattle.wef_query.specs.Order.{IsInOrder};
+ghost use Rattle.wef_source.specs.Accounts.{PollAccount};
 ghost use Rattle.wef_source.specs.Answers as answers;
 ghost use Rattle.wef_source.specs.Calls.{JudgesStart, JudgesWrite, start_effect, write_effect};
 ghost use Rattle.wef_source.specs.Faults.{source_answer, source_store};
-ghost use Rattle.wef_source.specs.Judged.{JudgesPoll};
 ghost use Rattle.wef_source.specs.Machine as machine;
 ghost use Rattle.wef_source.specs.Serving.{HasKeptSessions};
 ghost use Rattle.wef_source.specs.Sessions as the_sessions;
@@ -161,18 +160,7 @@ impl<K: Keeper> SourceEnd<K> {
     /// What a session has to send at a moment: a batch, unless the answer to one is outstanding or there is none.
     /// The store is used only where no answer is outstanding.
     pub fn poll(&mut self, sub: &SubId, now: Moment) -> Result<Poll, SourceFault>
-        ensures ok { IfSome (K.store self.new.keeper).rows (λ rows. IfOk result (answers.Polls rows self.old.memory self.new.memory sub.now now)) }
-        ensures refusal { IfSome (K.store self.new.keeper).rows (λ rows. IfErr result (λ fault. answers.RefusesPoll fault rows self.old.memory sub.now)) }
-        ensures sends { IfOk result (answers.Sends self.old.memory self.new.memory sub.now now) }
-        ensures numbered { IfOk result answers.SendsNumbered }
-        ensures remembered { IfOk result (answers.SendsRemembered self.old.memory self.new.memory sub.now) }
-        ensures addressed { IfOk result (answers.SendsAddressed self.old.memory sub.now) }
-        ensures judged { IfSome (K.store self.new.keeper).rows (λ rows. OnOk result (JudgesPoll rows self.old.memory sub.now)) }
-        ensures listed { IfErr result (λ fault. answers.MayRefusePoll fault self.old.memory sub.now) }
-        ensures err { OnErr result (self.new.memory ≡ self.old.memory) }
-        ensures looks { answers.may_send (the_sessions.session_of self.old.memory.sessions sub.now) ≡ true → Looks source_store AreFormed result (K.store self.old.keeper) (K.store self.new.keeper) }
-        ensures untouched { answers.may_send (the_sessions.session_of self.old.memory.sessions sub.now) ≡ false → self.new.keeper ≡ self.old.keeper }
-        ensures reads { access.OpensAndReads AreFormed (fails source_store result) (K.store self.old.keeper) (K.store self.new.keeper) }
+        ensures account { PollAccount self.old.keeper self.new.keeper (K.store self.old.keeper) (K.store self.new.keeper) self.old.memory self.new.memory sub.now now result }
         ensures name { self.new.name ≡ self.old.name }
     {
         self.memory.poll(&mut self.log, sub, now)
