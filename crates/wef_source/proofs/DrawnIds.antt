@@ -1,5 +1,5 @@
 -- A session awaits at most the answer to an id that was drawn.
-use Rattle.std.proofs.Common.{◌≡◌, ℕ, ◌<◌, ◌≤◌, Bool, true, false, cond, List, [], ◌∷◌, arith}
+use Rattle.std.proofs.Common.{ℕ, ◌<◌, ◌≤◌, Bool, true, false, cond, List, [], ◌∷◌, arith}
 use Rattle.std.specs.Cmp.Lexicographic.{slice_cmp}
 use Rattle.std.specs.Ordering.{nat_cmp}
 use Rattle.std.specs.Prelude.{Option, Some, None}
@@ -11,7 +11,7 @@ use Rattle.wef_eventing.specs.declared.offers.Subscribe.{Subscribe}
 use Rattle.wef_ids.specs.declared.FaultName.{FaultName}
 use Rattle.wef_source.specs.Machine.{is_unreachable}
 use Rattle.wef_source.specs.Serving.{AwaitBelow, AwaitsBelow}
-use Rattle.wef_source.specs.Sessions.{acknowledged, answered, moved_by, placed, sending, session_from, settled, with_changed, with_offered, with_offers, with_session, waits_for, without}
+use Rattle.wef_source.specs.Sessions.{answered, moved_by, placed, sending, session_from, settled, with_changed, with_offered, with_offers, with_session, waits_for, without}
 use Rattle.wef_source.specs.declared.serving.Answer.{Answer}
 use Rattle.wef_source.specs.declared.serving.Answer.TheVariants.{Taken, Refused}
 use Rattle.wef_source.specs.declared.sessions.Outstanding.{Outstanding}
