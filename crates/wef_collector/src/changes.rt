@@ -27,6 +27,14 @@ use wef_event::Event;
 use wef_keeper::forms::formed_cell;
 use wef_keeper::{Changes, Keeper, Key, Row, StoreFault};
 
+/// A channel of a source, as it is collected for a subscription.
+#[derive(Clone, Copy)]
+struct CollectedChannel<'a> {
+    sub: &'a SubId,
+    source: &'a SourceName,
+    channel: &'a ChannelName,
+}
+
 /// All that a batch for these channels changes.
 pub fn batch_changes<K: Keeper>(
     keeper: &mut K,
@@ -67,7 +75,12 @@ fn push_all_changes<K: Keeper>(
     ensures reads { access.Reads AreFormed (access.fails result) (K.store keeper.old) (K.store keeper.new) }
 {
     for channel in channels {
-        push_channel_changes(changes, keeper, sub, source, channel, batch)?;
+        let of = CollectedChannel {
+            sub,
+            source,
+            channel,
+        };
+        push_channel_changes(changes, keeper, &of, batch)?;
     }
     Ok(())
 }
@@ -75,101 +88,78 @@ fn push_all_changes<K: Keeper>(
 fn push_channel_changes<K: Keeper>(
     changes: &mut Changes<CollectorForm>,
     keeper: &mut K,
-    sub: &SubId,
-    source: &SourceName,
-    channel: &ChannelName,
+    of: &CollectedChannel,
     batch: &Batch,
 ) -> Result<(), StoreFault>
     requires ready { access.IsReady (K.store keeper.old) }
-    requires order { formed.is_in_order batch.now channel.now ≡ true }
+    requires order { formed.is_in_order batch.now of.now.channel.now ≡ true }
     requires numbered { AreNumbered batch.now.items }
     requires loose { reaches.loose_sum batch.now.items ≤ MAX }
-    ensures changes { IfSome (K.store keeper.new).rows (λ rows. OnOk result (changes.new ≡ changes.old ++ spec.channel_changes rows sub.now source.now batch.now channel.now)) }
-    ensures judged { IfSome (K.store keeper.new).rows (λ rows. OnOk result (judged.IsReachedFormed rows sub.now source.now batch.now channel.now)) }
+    ensures changes { IfSome (K.store keeper.new).rows (λ rows. OnOk result (changes.new ≡ changes.old ++ spec.channel_changes rows of.now.sub.now of.now.source.now batch.now of.now.channel.now)) }
+    ensures judged { IfSome (K.store keeper.new).rows (λ rows. OnOk result (judged.IsReachedFormed rows of.now.sub.now of.now.source.now batch.now of.now.channel.now)) }
     ensures reads { access.Reads AreFormed (access.fails result) (K.store keeper.old) (K.store keeper.new) }
 {
-    let Some(to) = reach(batch, channel) else {
+    let Some(to) = reach(batch, of.channel) else {
         return Ok(());
     };
-    let bookmark = bookmark_at(keeper, sub, source, channel)?;
-    push_reach_changes(changes, sub, source, channel, bookmark, batch, to)?;
+    let bookmark = bookmark_at(keeper, of.sub, of.source, of.channel)?;
+    push_reach_changes(changes, of, bookmark, batch, to)?;
     Ok(())
 }
 
 /// What a batch that reaches a channel up to a number changes in it.
 fn push_reach_changes(
     changes: &mut Changes<CollectorForm>,
-    sub: &SubId,
-    source: &SourceName,
-    channel: &ChannelName,
+    of: &CollectedChannel,
     bookmark: u64,
     batch: &Batch,
     to: u64,
 ) -> Result<(), AllocError>
-    requires order { formed.is_in_order batch.now channel.now ≡ true }
+    requires order { formed.is_in_order batch.now of.now.channel.now ≡ true }
     requires numbered { AreNumbered batch.now.items }
     requires loose { reaches.loose_sum batch.now.items ≤ MAX }
     requires to { to ≤ MAX }
-    ensures { OnOk result (changes.new ≡ changes.old ++ spec.reach_changes sub.now source.now channel.now bookmark batch.now (Some to)) }
+    ensures { OnOk result (changes.new ≡ changes.old ++ spec.reach_changes of.now.sub.now of.now.source.now of.now.channel.now bookmark batch.now (Some to)) }
 {
-    push_items_changes(
-        changes,
-        sub,
-        source,
-        channel,
-        bookmark,
-        batch.items.as_slice(),
-    )?;
-    push_move_changes(
-        changes,
-        sub,
-        source,
-        channel,
-        bookmark,
-        to,
-        loose_sum(batch.items.as_slice()),
-    )
+    push_items_changes(changes, of, bookmark, batch.items.as_slice())?;
+    push_move_changes(changes, of, bookmark, to, loose_sum(batch.items.as_slice()))
 }
 
 fn push_items_changes(
     changes: &mut Changes<CollectorForm>,
-    sub: &SubId,
-    source: &SourceName,
-    channel: &ChannelName,
+    of: &CollectedChannel,
     bookmark: u64,
     items: &[Item],
 ) -> Result<(), AllocError>
-    requires { AllByRecursion (IsKeepable channel.now) items.now }
-    ensures { OnOk result (changes.new ≡ changes.old ++ flat_map (spec.item_changes sub.now source.now channel.now bookmark) items.now) }
+    requires { AllByRecursion (IsKeepable of.now.channel.now) items.now }
+    ensures { OnOk result (changes.new ≡ changes.old ++ flat_map (spec.item_changes of.now.sub.now of.now.source.now of.now.channel.now bookmark) items.now) }
 {
     for item in items {
-        push_item_changes(changes, sub, source, channel, bookmark, item)?;
+        push_item_changes(changes, of, bookmark, item)?;
     }
     Ok(())
 }
 
 fn push_item_changes(
     changes: &mut Changes<CollectorForm>,
-    sub: &SubId,
-    source: &SourceName,
-    channel: &ChannelName,
+    of: &CollectedChannel,
     bookmark: u64,
     item: &Item,
 ) -> Result<(), AllocError>
-    requires { IsKeepable channel.now item.now }
-    ensures { OnOk result (changes.new ≡ changes.old ++ spec.item_changes sub.now source.now channel.now bookmark item.now) }
+    requires { IsKeepable of.now.channel.now item.now }
+    ensures { OnOk result (changes.new ≡ changes.old ++ spec.item_changes of.now.sub.now of.now.source.now of.now.channel.now bookmark item.now) }
 {
     match item {
-        Item::Event(event) if event.channel == *channel && bookmark < event.number => {
-            push_held_change(changes, sub, source, event)
+        Item::Event(event) if event.channel == *of.channel && bookmark < event.number => {
+            push_held_change(changes, of.sub, of.source, event)
         }
         Item::Dropped {
             channel: dropped,
             first,
             last,
-        } if *dropped == *channel && bookmark < *last => {
+        } if *dropped == *of.channel && bookmark < *last => {
             let first = (*first).max(bookmark + 1);
-            push_mark_change(changes, sub, source, channel, first, *last)
+            push_mark_change(changes, of, first, *last)
         }
         _ => Ok(()),
     }
@@ -195,47 +185,46 @@ fn push_held_change(
 
 fn push_mark_change(
     changes: &mut Changes<CollectorForm>,
-    sub: &SubId,
-    source: &SourceName,
-    channel: &ChannelName,
+    of: &CollectedChannel,
     first: u64,
     last: u64,
 ) -> Result<(), AllocError>
     requires order { first ≤ last }
     requires last { last ≤ MAX }
-    ensures { OnOk result (changes.new ≡ changes.old ++ spec.put (keys.mark_key sub.now source.now channel.now first) last [] ∷ []) }
+    ensures { OnOk result (changes.new ≡ changes.old ++ spec.put (keys.mark_key of.now.sub.now of.now.source.now of.now.channel.now first) last [] ∷ []) }
 {
-    let key = mark_key(sub.as_text(), source.as_text(), channel.as_text(), first)?;
-    push_put(changes, key, last, Text::new(sub.as_text().alloc()))
+    let key = mark_key(
+        of.sub.as_text(),
+        of.source.as_text(),
+        of.channel.as_text(),
+        first,
+    )?;
+    push_put(changes, key, last, Text::new(of.sub.as_text().alloc()))
 }
 
 fn push_move_changes(
     changes: &mut Changes<CollectorForm>,
-    sub: &SubId,
-    source: &SourceName,
-    channel: &ChannelName,
+    of: &CollectedChannel,
     bookmark: u64,
     to: u64,
     loose: u128,
 ) -> Result<(), AllocError>
     requires loose { loose ≤ MAX }
     requires to { to ≤ MAX }
-    ensures { OnOk result (changes.new ≡ changes.old ++ spec.move_changes sub.now source.now channel.now bookmark to loose) }
+    ensures { OnOk result (changes.new ≡ changes.old ++ spec.move_changes of.now.sub.now of.now.source.now of.now.channel.now bookmark to loose) }
 {
     if to <= bookmark {
         return Ok(());
     }
     if loose > 0 {
-        push_loose_change(changes, sub, source, channel, bookmark, to, loose as u64)?;
+        push_loose_change(changes, of, bookmark, to, loose as u64)?;
     }
-    push_bookmark_change(changes, sub, source, channel, to)
+    push_bookmark_change(changes, of, to)
 }
 
 fn push_loose_change(
     changes: &mut Changes<CollectorForm>,
-    sub: &SubId,
-    source: &SourceName,
-    channel: &ChannelName,
+    of: &CollectedChannel,
     bookmark: u64,
     to: u64,
     count: u64,
@@ -243,31 +232,29 @@ fn push_loose_change(
     requires above { bookmark < to }
     requires to { to ≤ MAX }
     requires count { count ≤ MAX }
-    ensures { OnOk result (changes.new ≡ changes.old ++ spec.put (keys.loose_key sub.now source.now channel.now (bookmark + 1)) to (decimal count) ∷ []) }
+    ensures { OnOk result (changes.new ≡ changes.old ++ spec.put (keys.loose_key of.now.sub.now of.now.source.now of.now.channel.now (bookmark + 1)) to (decimal count) ∷ []) }
 {
     let key = loose_key(
-        sub.as_text(),
-        source.as_text(),
-        channel.as_text(),
+        of.sub.as_text(),
+        of.source.as_text(),
+        of.channel.as_text(),
         bookmark + 1,
     )?;
-    let mut digits = Text::new(sub.as_text().alloc());
+    let mut digits = Text::new(of.sub.as_text().alloc());
     digits.push_number(count)?;
     push_put(changes, key, to, digits)
 }
 
 fn push_bookmark_change(
     changes: &mut Changes<CollectorForm>,
-    sub: &SubId,
-    source: &SourceName,
-    channel: &ChannelName,
+    of: &CollectedChannel,
     to: u64,
 ) -> Result<(), AllocError>
     requires { to ≤ MAX }
-    ensures { OnOk result (changes.new ≡ changes.old ++ spec.put (keys.bookmark_key sub.now source.now channel.now) to [] ∷ []) }
+    ensures { OnOk result (changes.new ≡ changes.old ++ spec.put (keys.bookmark_key of.now.sub.now of.now.source.now of.now.channel.now) to [] ∷ []) }
 {
-    let key = bookmark_key(sub.as_text(), source.as_text(), channel.as_text())?;
-    push_put(changes, key, to, Text::new(sub.as_text().alloc()))
+    let key = bookmark_key(of.sub.as_text(), of.source.as_text(), of.channel.as_text())?;
+    push_put(changes, key, to, Text::new(of.sub.as_text().alloc()))
 }
 
 fn push_heard_changes<K: Keeper>(

@@ -13,7 +13,7 @@ use Rattle.wef_collector.proofs.changes.push_reach_changes.Goals as goal
 
 pub push_items_changes-requires : goal.push_items_changes-requires
 push_items_changes-requires c =
-    let channel = c.args.channel.now in
+    let channel = c.args.of.now.channel.now in
     let batch = c.args.batch.now in
     let rising = (and_parts (rises channel None batch.items) (is_at_least (map.get batch.to channel) (last_in channel batch.items)) c.requires.order).0 in
     subst (λ (items : List Item). AllByRecursion (IsKeepable channel) items) (sym c.as_slice.ensures)
