@@ -1,6 +1,5 @@
 //! What the collector's calls change, or why they are refused.
 
-ghost use Rattle.std.specs.FinMap as map;
 ghost use Rattle.std.specs.Prelude.{◌≡◌, ◌≤◌, true, false, [], ◌∷◌, is_some, Some, Ok, IsErr, IfErr, IfOk, IfSome, OnOk};
 ghost use Rattle.wef_batch.specs.Numbers.{AreNumbered};
 ghost use Rattle.wef_collector.specs.Boots.{boot_of, ids_begun};

@@ -1,6 +1,6 @@
 //! The calls that change what is kept: each opens the store, reads, and makes at most one commit.
 
-ghost use Rattle.std.specs.Prelude.{IfErr, IfOk, IfSome, OnOk, Ok, Err};
+ghost use Rattle.std.specs.Prelude.{IfErr, IfSome, OnOk};
 ghost use Rattle.wef_collector.specs.Boots.{ids_begun};
 ghost use Rattle.wef_collector.specs.Calls as calls;
 ghost use Rattle.wef_collector.specs.Judged as judged;
