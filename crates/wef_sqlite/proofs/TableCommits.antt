@@ -13,15 +13,10 @@ use Rattle.wef_sqlite.specs.Contents.{Carries, IsOurs, LeavesRows, Moves, table_
 use Rattle.wef_sqlite.specs.Schema.{kept_schema}
 use Rattle.wef_sqlite.specs.States.{IsReady, Rests}
 use Rattle.wef_sqlite.specs.declared.refusal.Refusal.{Refusal}
+use Rattle.wef_sqlite.proofs.Keeping.{not_run_keeps}
 use Rattle.wef_sqlite.proofs.Ready.{clean_if_open, ours_if_open, ready_commit}
 
--- a statement that isn't run leaves what is committed
-pub not_run_keeps : (old new : State) (sql : List ℕ) (params : Columns) (e : Error) → IsNotRun old new sql params e → KeepsCommit old new
-unfolding IsNotRun
-not_run_keeps old new sql params e (inl refused) = unchanged_keeps old new (inl refused.1)
-not_run_keeps old new sql params e (inr failed) = unchanged_keeps old new (inr failed.3)
-
--- nor does one that is only compiled change it
+-- a statement that is only compiled leaves what is committed
 pub prepared_keeps : {T : Type 0} (P : T → Type 0) (old new : State) (sql : List ℕ) (result : Result T Error) → (HasCleanDisk new → IfOk result (λ s. P s × IsUnchanged old new))
     → (HasCleanDisk new → IfErr result (λ e. (params : Columns) → IsNotRun old new sql params e)) → HasCleanDisk new → KeepsCommit old new
 prepared_keeps P old new sql (Ok s) ok err clean = unchanged_keeps old new (inl (ok clean).1)
@@ -31,6 +26,10 @@ prepared_keeps P old new sql (Err e) ok err clean = not_run_keeps old new sql []
 pub on_err : {T : Type 0} (result : Result T Refusal) (Fact : Type 0) → Fact → OnErr result Fact
 on_err (Ok x) Fact fact = tt
 on_err (Err e) Fact fact = fact
+
+-- a crash finds after a read what it found before
+pub left_before : (old new : State) → Survives old new (λ _. ⊥) → HasCleanDisk new → (trees : Trees) → new.may_leave trees → old.may_leave trees
+left_before old new survives clean trees left = elim (survives.crash clean trees left) [ inl was ↦ was | inr none ↦ absurd none ]
 
 rests_keep : (old new : State) → Rests old new → KeepsCommit old new
 rests_keep old new rests = record { was_open = λ still. sym rests.is_open ∙ still; committed = λ _. rests.committed }
@@ -57,12 +56,14 @@ module _ {S : Type 0} (g : Ghosts S) (shut_if_dirty : (s : S) → (g.view s).is_
       subst (λ (db : Database). Moves f (table_in db.trees) (table_in (state g new).committed.trees)) (seen early) (carries clean (ours early)).moves
   applied_rows (Err e) carries still = tt
 
-  pub images_of : HasCleanDisk (state g new) → (trees : Trees) → (state g new).may_leave trees → (trees ≡ (state g old).committed.trees) ⊎ Moves f (table_in (state g old).committed.trees) (table_in trees)
-  images_of clean trees left =
+  -- a crash finds what it found before, or what the commit made of the rows that were committed
+  pub left_by : Survives (state g old) (state g mid) (λ _. ⊥) → HasCleanDisk (state g new) → (trees : Trees) → (state g new).may_leave trees
+      → (state g old).may_leave trees ⊎ (IsTrue (state g old).is_open × Moves f (table_in (state g old).committed.trees) (table_in trees))
+  left_by first clean trees left =
       let early = doubts clean in
       elim ((survives (ours early)).crash clean trees left) [
-        | inl was ↦ inl (settles mid.store trees (alive early) was ∙ ap (λ (db : Database). db.trees) (rests early).committed)
-        | inr made ↦ inr (subst (λ (db : Database). Moves f (table_in db.trees) (table_in trees)) (seen early) made.moves)
+        | inl was ↦ inl (left_before (state g old) (state g mid) first early trees was)
+        | inr made ↦ inr (sym (rests early).is_open ∙ alive early, subst (λ (db : Database). Moves f (table_in db.trees) (table_in trees)) (seen early) made.moves)
       ]
 
   pub undone_rows : (result : Result (Unit {0}) Refusal) → (HasCleanDisk (state g new) → OnErr result (KeepsCommit (state g mid) (state g new)))

@@ -2,7 +2,7 @@
 
 ghost use Rattle.sqlite.specs.Held.{state, IsNew};
 ghost use Rattle.sqlite.specs.State.{HasCleanDisk, IsLive, KeepsCommit, Survives};
-ghost use Rattle.std.specs.Prelude.{◌≡◌, ◌≢◌, false, IsTrue, IfOk, OnOk};
+ghost use Rattle.std.specs.Prelude.{◌≡◌, ◌≢◌, true, false, IsTrue, IfOk, OnOk};
 ghost use Rattle.wef_sqlite.specs.Schema.{kept_schema, no_schema};
 ghost use Rattle.wef_sqlite.specs.States.{IsReady, Rests};
 
@@ -115,8 +115,9 @@ pub fn alloc_of<S: Opens>(conn: &mut Connection<S>) -> Result<Global, Refusal>
 pub fn is_shut<S: Opens>(conn: &mut Connection<S>) -> Result<bool, Refusal>
     ensures rests { HasCleanDisk (state S.Store conn.new) → IfOk result (λ shut. shut ≡ false → Rests (state S.Store conn.old) (state S.Store conn.new)) }
     ensures alive { HasCleanDisk (state S.Store conn.new) → IfOk result (λ shut. shut ≡ false → IsTrue (state S.Store conn.new).is_open) }
+    ensures shut { HasCleanDisk (state S.Store conn.new) → IfOk result (λ shut. shut ≡ true → (state S.Store conn.old).is_open ≡ false) }
     ensures survives { Survives (state S.Store conn.old) (state S.Store conn.new) (λ _. ⊥) }
-    ensures keeps { HasCleanDisk (state S.Store conn.new) → KeepsCommit (state S.Store conn.old) (state S.Store conn.new) }
+    ensures keeps { KeepsCommit (state S.Store conn.old) (state S.Store conn.new) }
     ensures ended { conn.old.in_transaction ≡ false → conn.new.in_transaction ≡ false }
 {
     match conn.prepare(ANY) {

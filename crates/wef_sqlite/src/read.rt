@@ -3,9 +3,9 @@
 ghost use Rattle.sqlite.specs.Given.{IsPlain};
 ghost use Rattle.sqlite.specs.Held.{state};
 ghost use Rattle.sqlite.specs.Listing.{understood};
-ghost use Rattle.sqlite.specs.State.{HasCleanDisk, Shown, Survives};
+ghost use Rattle.sqlite.specs.State.{HasCleanDisk, KeepsCommit, Shown, Survives};
 ghost use Rattle.sqlite.specs.Values.{bound};
-ghost use Rattle.std.specs.Prelude.{◌≡◌, ◌<◌, ◌≤◌, true, [], ◌∷◌, ◌++◌, ◌+◌, ◌-◌, min, pos, length, take, All, IfOk, OnOk};
+ghost use Rattle.std.specs.Prelude.{◌≡◌, ◌<◌, ◌≤◌, true, [], ◌∷◌, ◌++◌, ◌+◌, ◌-◌, min, pos, length, take, All, IfOk, IsTrue, OnOk};
 ghost use Rattle.wef_base.specs.declared.numbers.TheConstants.{MAX};
 ghost use Rattle.wef_keeper.specs.Rows.{is_after, rows_after};
 ghost use Rattle.wef_keeper.specs.declared.keys.Row as the_row;
@@ -62,6 +62,8 @@ pub fn get<S: Alter>(conn: &mut Connection<S>, key: &Key) -> Result<Option<Row>,
     ensures found { HasCleanDisk (state S.Store conn.new) → IfOk result (λ row. row ≡ row_at key.now (rows_in (table_in (state S.Store conn.new).now.trees))) }
     ensures reads { HasCleanDisk (state S.Store conn.new) → OnOk result (AreReadAt key.now (table_in (state S.Store conn.new).now.trees)) }
     ensures rests { HasCleanDisk (state S.Store conn.new) → OnOk result (Rests (state S.Store conn.old) (state S.Store conn.new)) }
+    ensures alive { HasCleanDisk (state S.Store conn.new) → key.now.number ≤ MAX → OnOk result (IsTrue (state S.Store conn.new).is_open) }
+    ensures keeps { KeepsCommit (state S.Store conn.old) (state S.Store conn.new) }
     ensures survives { Survives (state S.Store conn.old) (state S.Store conn.new) (λ _. ⊥) }
 {
     let Some(number) = kept_number(key.number) else {
@@ -85,6 +87,8 @@ fn rows_of<S: Alter>(
     requires number { number ≡ pos key.now.number }
     ensures shows { HasCleanDisk (state S.Store conn.new) → IfOk result (λ rows. Shown GET.now (key_values key.now) (state S.Store conn.old) (state S.Store conn.new) rows.items) }
     ensures rests { HasCleanDisk (state S.Store conn.new) → OnOk result (Rests (state S.Store conn.old) (state S.Store conn.new)) }
+    ensures alive { HasCleanDisk (state S.Store conn.new) → OnOk result (IsTrue (state S.Store conn.new).is_open) }
+    ensures keeps { KeepsCommit (state S.Store conn.old) (state S.Store conn.new) }
     ensures survives { Survives (state S.Store conn.old) (state S.Store conn.new) (λ _. ⊥) }
 {
     ask(conn, GET, &key_values(key, number))
@@ -92,8 +96,11 @@ fn rows_of<S: Alter>(
 
 /// The first `max` rows whose keys are greater than `after`, in the order of their keys: section by
 /// section from the innermost outwards. Failed where a row that is read is none of ours.
+#[tactic(auto, using(crate::proofs::Keeping::keeps_reads))]
 pub fn page<S: Alter>(conn: &mut Connection<S>, after: &Key, max: u32) -> Result<List<Row>, Refusal>
     ensures rests { HasCleanDisk (state S.Store conn.new) → OnOk result (Rests (state S.Store conn.old) (state S.Store conn.new)) }
+    ensures alive { HasCleanDisk (state S.Store conn.new) → 1 ≤ max → OnOk result (IsTrue (state S.Store conn.new).is_open) }
+    ensures keeps { KeepsCommit (state S.Store conn.old) (state S.Store conn.new) }
     ensures survives { Survives (state S.Store conn.old) (state S.Store conn.new) (λ _. ⊥) }
     ensures size { IfOk result (λ page. length page ≤ max) }
     ensures behind { IfOk result (All (λ (row : the_row.Row). is_after after.now row.key ≡ true)) }
@@ -119,6 +126,8 @@ fn fill<S: Alter>(
     max: u32,
 ) -> Result<(), Refusal>
     ensures rests { HasCleanDisk (state S.Store conn.new) → OnOk result (Rests (state S.Store conn.old) (state S.Store conn.new)) }
+    ensures alive { HasCleanDisk (state S.Store conn.new) → length page.old < max → OnOk result (IsTrue (state S.Store conn.new).is_open) }
+    ensures keeps { KeepsCommit (state S.Store conn.old) (state S.Store conn.new) }
     ensures survives { Survives (state S.Store conn.old) (state S.Store conn.new) (λ _. ⊥) }
     ensures size { OnOk result (length page.old ≤ max → length page.new ≤ max) }
     ensures behind { OnOk result (All (λ (row : the_row.Row). is_after after.now row.key ≡ true) page.old → All (λ (row : the_row.Row). is_after after.now row.key ≡ true) page.new) }
@@ -168,6 +177,8 @@ fn ask<S: Alter>(
     requires { IsPlain (understood conn.old.schema sql.now) }
     ensures shows { HasCleanDisk (state S.Store conn.new) → IfOk result (λ rows. Shown sql.now (bound values.now) (state S.Store conn.old) (state S.Store conn.new) rows.items) }
     ensures rests { HasCleanDisk (state S.Store conn.new) → OnOk result (Rests (state S.Store conn.old) (state S.Store conn.new)) }
+    ensures alive { HasCleanDisk (state S.Store conn.new) → OnOk result (IsTrue (state S.Store conn.new).is_open) }
+    ensures keeps { KeepsCommit (state S.Store conn.old) (state S.Store conn.new) }
     ensures survives { Survives (state S.Store conn.old) (state S.Store conn.new) (λ _. ⊥) }
 {
     Ok(conn.query_all(sql, values)?)
@@ -188,6 +199,8 @@ fn rows_behind<S: Alter>(
     room: u32,
 ) -> Result<Vec<Columns>, Refusal>
     ensures rests { HasCleanDisk (state S.Store conn.new) → OnOk result (Rests (state S.Store conn.old) (state S.Store conn.new)) }
+    ensures alive { HasCleanDisk (state S.Store conn.new) → OnOk result (IsTrue (state S.Store conn.new).is_open) }
+    ensures keeps { KeepsCommit (state S.Store conn.old) (state S.Store conn.new) }
     ensures survives { Survives (state S.Store conn.old) (state S.Store conn.new) (λ _. ⊥) }
     ensures shown { HasCleanDisk (state S.Store conn.new) → IfOk result (λ answer. Shown (text_behind section) (values_behind section after.now room) (state S.Store conn.old) (state S.Store conn.new) answer.items) }
     ensures shows { HasCleanDisk (state S.Store conn.new) → IfOk result (λ answer. OnRows (state S.Store conn.new) (λ rows. SayRows answer.items (take room (rows_behind section after.now rows)))) }
@@ -209,6 +222,8 @@ fn ask_behind<S: Alter>(
     requires { conn.old.schema ≡ kept_schema }
     ensures shows { HasCleanDisk (state S.Store conn.new) → IfOk result (λ rows. Shown (text_behind section) (values_behind section after.now room) (state S.Store conn.old) (state S.Store conn.new) rows.items) }
     ensures rests { HasCleanDisk (state S.Store conn.new) → OnOk result (Rests (state S.Store conn.old) (state S.Store conn.new)) }
+    ensures alive { HasCleanDisk (state S.Store conn.new) → OnOk result (IsTrue (state S.Store conn.new).is_open) }
+    ensures keeps { KeepsCommit (state S.Store conn.old) (state S.Store conn.new) }
     ensures survives { Survives (state S.Store conn.old) (state S.Store conn.new) (λ _. ⊥) }
 {
     let sql = statement_of(section);

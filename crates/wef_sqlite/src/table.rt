@@ -4,6 +4,7 @@ ghost use Rattle.sqlite.specs.Held.{state, IsNew};
 ghost use Rattle.sqlite.specs.State.{HasCleanDisk, IsLive, KeepsCommit, Survives};
 ghost use Rattle.sqlite_trees.specs.Tree.{Trees};
 ghost use Rattle.std.specs.Prelude.{◌≡◌, ◌⊎◌, ◌≤◌, true, false, length, take, All, IsTrue, IfOk, OnErr, OnOk};
+ghost use Rattle.wef_base.specs.declared.numbers.TheConstants.{MAX};
 ghost use Rattle.wef_keeper.specs.Keeping.{row_at};
 ghost use Rattle.wef_keeper.specs.Rows.{applied, is_after, rows_after};
 ghost use Rattle.wef_keeper.specs.declared.keys.Row as the_row;
@@ -76,6 +77,8 @@ impl<S: Opens> Table<S> {
         ensures found { IsTrue (state S.Store self.new).is_open → IfOk result (λ row. row ≡ row_at key.now (rows_in (table_in (state S.Store self.new).committed.trees))) }
         ensures reads { IsTrue (state S.Store self.new).is_open → OnOk result (AreReadAt key.now (table_in (state S.Store self.new).committed.trees)) }
         ensures rests { HasCleanDisk (state S.Store self.new) → OnOk result (Rests (state S.Store self.old) (state S.Store self.new)) }
+        ensures alive { HasCleanDisk (state S.Store self.new) → key.now.number ≤ MAX → OnOk result (IsTrue (state S.Store self.new).is_open) }
+        ensures keeps { KeepsCommit (state S.Store self.old) (state S.Store self.new) }
         ensures survives { Survives (state S.Store self.old) (state S.Store self.new) (λ _. ⊥) }
     {
         self.look()?;
@@ -87,6 +90,8 @@ impl<S: Opens> Table<S> {
     #[tactic(auto, using(crate::proofs::Ready::ready_read))]
     pub fn page(&mut self, after: &Key, max: u32) -> Result<List<Row>, Refusal>
         ensures rests { HasCleanDisk (state S.Store self.new) → OnOk result (Rests (state S.Store self.old) (state S.Store self.new)) }
+        ensures alive { HasCleanDisk (state S.Store self.new) → 1 ≤ max → OnOk result (IsTrue (state S.Store self.new).is_open) }
+        ensures keeps { KeepsCommit (state S.Store self.old) (state S.Store self.new) }
         ensures survives { Survives (state S.Store self.old) (state S.Store self.new) (λ _. ⊥) }
         ensures size { IfOk result (λ page. length page ≤ max) }
         ensures behind { IfOk result (All (λ (row : the_row.Row). is_after after.now row.key ≡ true)) }
@@ -100,7 +105,9 @@ impl<S: Opens> Table<S> {
     /// with all changes, and after Ok the latter alone.
     pub fn commit(&mut self, changes: &List<Change>) -> Result<(), Refusal>
         ensures applied { IsTrue (state S.Store self.new).is_open → OnOk result (Moves (applied changes.now) (table_in (state S.Store self.old).committed.trees) (table_in (state S.Store self.new).committed.trees)) }
-        ensures images { IsTrue (state S.Store self.old).is_open → HasCleanDisk (state S.Store self.new) → (trees : Trees) → (state S.Store self.new).may_leave trees → (trees ≡ (state S.Store self.old).committed.trees) ⊎ Moves (applied changes.now) (table_in (state S.Store self.old).committed.trees) (table_in trees) }
+        ensures alive { HasCleanDisk (state S.Store self.new) → OnOk result (IsTrue (state S.Store self.old).is_open × IsTrue (state S.Store self.new).is_open) }
+        ensures left { HasCleanDisk (state S.Store self.new) → (trees : Trees) → (state S.Store self.new).may_leave trees → (state S.Store self.old).may_leave trees ⊎ (IsTrue (state S.Store self.old).is_open × Moves (applied changes.now) (table_in (state S.Store self.old).committed.trees) (table_in trees)) }
+        ensures clean { HasCleanDisk (state S.Store self.new) → HasCleanDisk (state S.Store self.old) }
         ensures settled { IsTrue (state S.Store self.new).is_open → (trees : Trees) → (state S.Store self.new).may_leave trees → trees ≡ (state S.Store self.new).committed.trees }
         ensures undone { IsTrue (state S.Store self.new).is_open → OnErr result (KeepsCommit (state S.Store self.old) (state S.Store self.new)) }
         ensures ended { self.old.in_transaction ≡ false → self.new.in_transaction ≡ false }
@@ -117,8 +124,9 @@ impl<S: Opens> Table<S> {
     pub fn is_shut(&mut self) -> Result<bool, Refusal>
         ensures rests { HasCleanDisk (state S.Store self.new) → IfOk result (λ shut. shut ≡ false → Rests (state S.Store self.old) (state S.Store self.new)) }
         ensures alive { HasCleanDisk (state S.Store self.new) → IfOk result (λ shut. shut ≡ false → IsTrue (state S.Store self.new).is_open) }
+        ensures shut { HasCleanDisk (state S.Store self.new) → IfOk result (λ shut. shut ≡ true → (state S.Store self.old).is_open ≡ false) }
         ensures survives { Survives (state S.Store self.old) (state S.Store self.new) (λ _. ⊥) }
-        ensures keeps { HasCleanDisk (state S.Store self.new) → KeepsCommit (state S.Store self.old) (state S.Store self.new) }
+        ensures keeps { KeepsCommit (state S.Store self.old) (state S.Store self.new) }
         ensures ended { self.old.in_transaction ≡ false → self.new.in_transaction ≡ false }
     {
         opening::is_shut(&mut self.conn)

@@ -30,6 +30,7 @@ pub fn commit<S: Alter>(conn: &mut Connection<S>, changes: &List<Change>) -> Res
     ensures rows { HasCleanDisk (state S.Store conn.new) → OnOk result (IsOurs (state S.Store conn.old).now → Carries (applied changes.now) (state S.Store conn.old).now (state S.Store conn.new).committed) }
     ensures crash_rows { IsOurs (state S.Store conn.old).now → Survives (state S.Store conn.old) (state S.Store conn.new) (LeavesRows (applied changes.now) (state S.Store conn.old).now) }
     ensures was_open { HasCleanDisk (state S.Store conn.new) → OnOk result (IsTrue (state S.Store conn.old).is_open) }
+    ensures alive { HasCleanDisk (state S.Store conn.new) → OnOk result (IsTrue (state S.Store conn.new).is_open) }
     ensures undone { HasCleanDisk (state S.Store conn.new) → OnErr result (KeepsCommit (state S.Store conn.old) (state S.Store conn.new)) }
 {
     if !conn.is_autocommit() {

@@ -1,5 +1,5 @@
 -- The transaction is over the connection, so what it commits is what its changes make.
-use Rattle.std.proofs.Common.{◌≡◌, true, sym, subst, arith, rules}
+use Rattle.std.proofs.Common.{◌≡◌, IsTrue, true, sym, subst, arith, rules}
 use Rattle.sqlite.specs.Held.{Held, state}
 use Rattle.sqlite.specs.State.{HasCleanDisk}
 use Rattle.wef_sqlite.proofs.Carrying.{all_open, crash_carries, made_carries}
@@ -48,3 +48,10 @@ returns-clause-was_open g c clean =
     let before : HasCleanDisk (state g.S.Store mid) = omega (arith, c.commit.ensures.survives.clean, late) in
     let made = makes_from g.S.Store c.args.changes.now c.args.conn.now begun mid c.transaction-tx.ensures.begun (all_made g.S.Store _ c.args.changes.now begun mid c.as_slice.ensures c.in_ok-change_all.ensures.makes before) in
     all_open g.S.Store c.args.changes.now (record c.args.conn.now { in_transaction = true }) mid made (c.in_ok-commit.ensures.ok late).1.was_open
+
+pub returns-clause-alive : goal.returns-clause-alive
+returns-clause-alive g c clean =
+    let end = c.commit.new.self.0 in
+    let same : end ≡ c.conn-2-1.given.0 = search rules in
+    let late : HasCleanDisk (state g.S.Store end) = subst (λ (held : Held _). HasCleanDisk (state g.S.Store held)) (sym same) clean in
+    subst (λ (held : Held _). IsTrue (state g.S.Store held).is_open) same (c.in_ok-commit.ensures.ok late).1.is_open
