@@ -1,5 +1,6 @@
 pub mod Carrying
 pub mod Changes
+pub mod DatabaseLemmas
 pub mod Finds
 pub mod Gone
 pub mod Keeping
@@ -18,5 +19,6 @@ pub mod Puts
 pub mod Reading
 pub mod Ready
 pub mod TableCommits
+pub mod TellingLemmas
 pub mod Texts
 pub mod Whole

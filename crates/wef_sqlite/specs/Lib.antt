@@ -6,5 +6,7 @@ pub mod Paging
 pub mod Places
 pub mod Refusals
 pub mod Schema
+pub mod Seeing
 pub mod Statements
 pub mod States
+pub mod Telling

@@ -1,17 +1,19 @@
 //! Where the table stands, from before its opening on.
 
 ghost use Rattle.sqlite.specs.Held.{state};
-ghost use Rattle.sqlite.specs.State.{HasCleanDisk, KeepsCommit};
-ghost use Rattle.sqlite_trees.specs.Tree.{Trees};
-ghost use Rattle.std.specs.Prelude.{◌≡◌, ◌⊎◌, ◌≤◌, true, false, length, take, is_some, All, IsTrue, IfOk, OnErr, OnOk};
+ghost use Rattle.sqlite.specs.State.{KeepsCommit, Survives};
+ghost use Rattle.std.specs.Option.{option_map};
+ghost use Rattle.std.specs.Prelude.{◌≡◌, ◌≤◌, true, length, take, is_some, All, IfOk, IsTrue, OnOk};
+ghost use Rattle.std.specs.declared.option.Option.TheVariants.{None};
 ghost use Rattle.wef_keeper.specs.Keeping.{row_at};
-ghost use Rattle.wef_keeper.specs.Rows.{applied, is_after, rows_after};
+ghost use Rattle.wef_keeper.specs.Rows.{is_after, rows_after};
 ghost use Rattle.wef_keeper.specs.declared.keys.Row as the_row;
-ghost use Rattle.wef_sqlite.specs.Contents.{AreReadAt, Moves, are_rows, rows_in, table_in};
-ghost use Rattle.wef_sqlite.specs.Places.{AcrossOpen, IsAlive, OnOpen, has_connection, is_open};
+ghost use Rattle.wef_sqlite.specs.Places.{CommitsAt, OnOpen, Remains, has_connection, is_open};
+ghost use Rattle.wef_sqlite.specs.Telling.{Commits, IsAlive, ReadsTold, held_in, seen_after};
 
 use crate::opening::{Opens, Origin, connect};
 use crate::refusal::Refusal;
+use crate::seen::Seen;
 use crate::table::Table;
 use sqlite::Connection;
 use std::mem;
@@ -37,7 +39,7 @@ impl<S: Opens> Place<S> {
     pub fn open(&mut self, origin: &Option<Origin>) -> Result<(), Refusal>
         ensures ready { OnOk result (is_open self.new ≡ true) }
         ensures nothing { is_open self.old ≡ true → (result ≡ Ok tt) × (self.new ≡ self.old) }
-        ensures alive { IsAlive S.Store self.old → OnOk result (IsAlive S.Store self.new) }
+        ensures alive { IsAlive S.Store (held_in self.old) → OnOk result (IsAlive S.Store (held_in self.new)) }
     {
         match mem::replace(self, Place::Unopened) {
             Place::Open(table) => {
@@ -52,7 +54,7 @@ impl<S: Opens> Place<S> {
     /// Takes the table of a connection. One that is refused stays where it is to be kept.
     fn adopt(&mut self, conn: Connection<S>, keeps: bool) -> Result<(), Refusal>
         ensures ready { OnOk result (is_open self.new ≡ true) }
-        ensures alive { OnOk result (IsAlive S.Store self.new) }
+        ensures alive { OnOk result (IsAlive S.Store (held_in self.new)) }
     {
         match Table::adopt(conn) {
             Ok(table) => {
@@ -70,8 +72,9 @@ impl<S: Opens> Place<S> {
     /// Lets a connection go that an earlier failure shut. Failed where there is no origin to open it
     /// from.
     pub fn leave_shut(&mut self, origin: &Option<Origin>) -> Result<(), Refusal>
-        ensures alive { OnOk result (IsAlive S.Store self.new) }
+        ensures alive { OnOk result (IsAlive S.Store (held_in self.new)) }
         ensures kept { origin.now ≡ None → has_connection self.new ≡ has_connection self.old }
+        ensures remains { Remains S.Store self.old self.new }
     {
         let Place::Open(table) = self else {
             return Ok(());
@@ -99,10 +102,8 @@ impl<S: Opens> Place<S> {
 
     /// The row of a key, or none where there is none. Failed where the table isn't open.
     pub fn get(&mut self, key: &Key) -> Result<Option<Row>, Refusal>
-        ensures unopened { is_open self.old ≡ false → result ≡ Err Refusal.Failed }
-        ensures stays { is_open self.old ≡ true → is_open self.new ≡ true }
-        ensures found { OnOpen self.new (λ now. IsTrue (state S.Store now).is_open → IfOk result (λ row. row ≡ row_at key.now (rows_in (table_in (state S.Store now).committed.trees)))) }
-        ensures reads { OnOpen self.new (λ now. IsTrue (state S.Store now).is_open → OnOk result (AreReadAt key.now (table_in (state S.Store now).committed.trees))) }
+        ensures told { OnOpen self.new (λ now. ReadsTold S.Store now result (λ row rows. row ≡ row_at key.now rows)) }
+        ensures remains { Remains S.Store self.old self.new }
     {
         match self {
             Place::Open(table) => table.get(key),
@@ -110,13 +111,14 @@ impl<S: Opens> Place<S> {
         }
     }
 
-    /// The first `max` rows whose keys are greater than `after`. Failed where the table isn't open.
+    /// The first `max` rows whose keys are greater than `after`, in the order of their keys. Failed where
+    /// the table isn't open.
     pub fn page(&mut self, after: &Key, max: u32) -> Result<List<Row>, Refusal>
-        ensures unopened { is_open self.old ≡ false → result ≡ Err Refusal.Failed }
-        ensures stays { is_open self.old ≡ true → is_open self.new ≡ true }
-        ensures given { OnOpen self.new (λ now. IsTrue (state S.Store now).is_open → are_rows (table_in (state S.Store now).committed.trees) ≡ true → IfOk result (λ page. page ≡ take max (rows_after after.now (rows_in (table_in (state S.Store now).committed.trees))))) }
+        requires { 1 ≤ max }
+        ensures told { OnOpen self.new (λ now. ReadsTold S.Store now result (λ page rows. page ≡ take max (rows_after after.now rows))) }
         ensures size { IfOk result (λ page. length page ≤ max) }
         ensures behind { IfOk result (All (λ (row : the_row.Row). is_after after.now row.key ≡ true)) }
+        ensures remains { Remains S.Store self.old self.new }
     {
         match self {
             Place::Open(table) => table.page(after, max),
@@ -124,18 +126,67 @@ impl<S: Opens> Place<S> {
         }
     }
 
-    /// Makes all changes, or none. Failed where the table isn't open.
-    pub fn commit(&mut self, changes: &List<Change>) -> Result<(), Refusal>
-        ensures unopened { is_open self.old ≡ false → result ≡ Err Refusal.Failed }
-        ensures stays { is_open self.old ≡ true → is_open self.new ≡ true }
-        ensures applied { AcrossOpen self.old self.new (λ before now. IsTrue (state S.Store now).is_open → OnOk result (Moves (applied changes.now) (table_in (state S.Store before).committed.trees) (table_in (state S.Store now).committed.trees))) }
-        ensures images { AcrossOpen self.old self.new (λ before now. IsTrue (state S.Store before).is_open → HasCleanDisk (state S.Store now) → (trees : Trees) → (state S.Store now).may_leave trees → (trees ≡ (state S.Store before).committed.trees) ⊎ Moves (applied changes.now) (table_in (state S.Store before).committed.trees) (table_in trees)) }
-        ensures settled { OnOpen self.new (λ now. IsTrue (state S.Store now).is_open → (trees : Trees) → (state S.Store now).may_leave trees → trees ≡ (state S.Store now).committed.trees) }
-        ensures undone { AcrossOpen self.old self.new (λ before now. IsTrue (state S.Store now).is_open → OnErr result (KeepsCommit (state S.Store before) (state S.Store now))) }
+    /// Makes all changes in one transaction, in order, or none, and puts down what is seen of the table.
+    /// Failed where it isn't open.
+    pub fn commit(
+        &mut self,
+        seen: &mut Option<Seen<S>>,
+        changes: &List<Change>,
+    ) -> Result<(), Refusal>
+        ensures { CommitsAt S.Store changes.now result self.old self.new seen.old seen.new }
     {
         match self {
-            Place::Open(table) => table.commit(changes),
+            Place::Open(table) => committed(table, seen, changes),
             _ => Err(Refusal::Failed),
         }
+    }
+
+    /// Whether the table is open.
+    pub fn is_open(&self) -> bool
+        ensures { result ≡ is_open self.now }
+    {
+        matches!(self, Place::Open(_))
+    }
+
+    /// What is seen of the table, where it is open.
+    pub fn seen(&self) -> Option<Seen<S>>
+        ensures { result ≡ option_map (λ table. record { opened = table; last = table; failed = None }) (held_in self.now) }
+    {
+        match self {
+            Place::Open(table) => Some(Seen::of(table)),
+            _ => None,
+        }
+    }
+}
+
+/// Makes changes in a table, and puts down what is seen of it.
+fn committed<S: Opens>(
+    table: &mut Table<S>,
+    seen: &mut Option<Seen<S>>,
+    changes: &List<Change>,
+) -> Result<(), Refusal>
+    ensures commits { Commits S.Store changes.now result table.old table.new }
+    ensures seen { seen.new ≡ option_map (λ it. seen_after result changes.now it table.new) seen.old }
+{
+    let done = table.commit(changes);
+    note(seen, table, &done, changes);
+    done
+}
+
+/// Puts down what is seen of a table after a commit.
+fn note<S: Opens>(
+    seen: &mut Option<Seen<S>>,
+    table: &Table<S>,
+    done: &Result<(), Refusal>,
+    changes: &List<Change>,
+)
+    ensures { seen.new ≡ option_map (λ it. seen_after done.now changes.now it table.now) seen.old }
+{
+    let Some(seen) = seen else {
+        return;
+    };
+    match done {
+        Ok(()) => seen.commit_done(table),
+        Err(_) => seen.commit_failed(changes),
     }
 }

@@ -6,6 +6,7 @@ ghost use Rattle.sqlite.specs.Listing.{understood};
 ghost use Rattle.sqlite.specs.State.{HasCleanDisk, KeepsCommit, Shown, Survives};
 ghost use Rattle.sqlite.specs.Values.{bound};
 ghost use Rattle.std.specs.Prelude.{◌≡◌, ◌<◌, ◌≤◌, true, [], ◌∷◌, ◌++◌, ◌+◌, ◌-◌, min, pos, length, take, All, IfOk, IsTrue, OnOk};
+ghost use Rattle.std.specs.declared.option.Option.TheVariants.{None};
 ghost use Rattle.wef_base.specs.declared.numbers.TheConstants.{MAX};
 ghost use Rattle.wef_keeper.specs.Rows.{is_after, rows_after};
 ghost use Rattle.wef_keeper.specs.declared.keys.Row as the_row;
@@ -62,6 +63,7 @@ pub fn get<S: Alter>(conn: &mut Connection<S>, key: &Key) -> Result<Option<Row>,
     ensures found { HasCleanDisk (state S.Store conn.new) → IfOk result (λ row. row ≡ row_at key.now (rows_in (table_in (state S.Store conn.new).now.trees))) }
     ensures reads { HasCleanDisk (state S.Store conn.new) → OnOk result (AreReadAt key.now (table_in (state S.Store conn.new).now.trees)) }
     ensures rests { HasCleanDisk (state S.Store conn.new) → OnOk result (Rests (state S.Store conn.old) (state S.Store conn.new)) }
+    ensures beyond { MAX < key.now.number → IfOk result (λ row. row ≡ None) }
     ensures alive { HasCleanDisk (state S.Store conn.new) → key.now.number ≤ MAX → OnOk result (IsTrue (state S.Store conn.new).is_open) }
     ensures keeps { KeepsCommit (state S.Store conn.old) (state S.Store conn.new) }
     ensures survives { Survives (state S.Store conn.old) (state S.Store conn.new) (λ _. ⊥) }

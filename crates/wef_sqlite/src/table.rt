@@ -11,6 +11,7 @@ ghost use Rattle.wef_keeper.specs.declared.keys.Row as the_row;
 ghost use Rattle.wef_sqlite.specs.Contents.{AreReadAt, IsWhole, Moves, are_rows, rows_in, table_in};
 ghost use Rattle.wef_sqlite.specs.Schema.{kept_schema};
 ghost use Rattle.wef_sqlite.specs.States.{IsReady, Rests};
+ghost use Rattle.wef_sqlite.specs.Telling.{Commits, ReadsTold};
 
 use crate::opening::{self, Opens};
 use crate::refusal::Refusal;
@@ -75,6 +76,7 @@ impl<S: Opens> Table<S> {
     #[tactic(auto, using(crate::proofs::Ready::ready_read))]
     pub fn get(&mut self, key: &Key) -> Result<Option<Row>, Refusal>
         ensures found { IsTrue (state S.Store self.new).is_open → IfOk result (λ row. row ≡ row_at key.now (rows_in (table_in (state S.Store self.new).committed.trees))) }
+        ensures told { ReadsTold S.Store self.new result (λ row rows. row ≡ row_at key.now rows) }
         ensures reads { IsTrue (state S.Store self.new).is_open → OnOk result (AreReadAt key.now (table_in (state S.Store self.new).committed.trees)) }
         ensures rests { HasCleanDisk (state S.Store self.new) → OnOk result (Rests (state S.Store self.old) (state S.Store self.new)) }
         ensures alive { HasCleanDisk (state S.Store self.new) → key.now.number ≤ MAX → OnOk result (IsTrue (state S.Store self.new).is_open) }
@@ -89,8 +91,10 @@ impl<S: Opens> Table<S> {
     /// a row that is read is none of ours.
     #[tactic(auto, using(crate::proofs::Ready::ready_read))]
     pub fn page(&mut self, after: &Key, max: u32) -> Result<List<Row>, Refusal>
+        requires { 1 ≤ max }
+        ensures told { ReadsTold S.Store self.new result (λ page rows. page ≡ take max (rows_after after.now rows)) }
         ensures rests { HasCleanDisk (state S.Store self.new) → OnOk result (Rests (state S.Store self.old) (state S.Store self.new)) }
-        ensures alive { HasCleanDisk (state S.Store self.new) → 1 ≤ max → OnOk result (IsTrue (state S.Store self.new).is_open) }
+        ensures alive { HasCleanDisk (state S.Store self.new) → OnOk result (IsTrue (state S.Store self.new).is_open) }
         ensures keeps { KeepsCommit (state S.Store self.old) (state S.Store self.new) }
         ensures survives { Survives (state S.Store self.old) (state S.Store self.new) (λ _. ⊥) }
         ensures size { IfOk result (λ page. length page ≤ max) }
@@ -104,12 +108,8 @@ impl<S: Opens> Table<S> {
     /// Makes all changes in one transaction, in order, or none. A crash leaves the rows before, or those
     /// with all changes, and after Ok the latter alone.
     pub fn commit(&mut self, changes: &List<Change>) -> Result<(), Refusal>
-        ensures applied { IsTrue (state S.Store self.new).is_open → OnOk result (Moves (applied changes.now) (table_in (state S.Store self.old).committed.trees) (table_in (state S.Store self.new).committed.trees)) }
-        ensures alive { HasCleanDisk (state S.Store self.new) → OnOk result (IsTrue (state S.Store self.old).is_open × IsTrue (state S.Store self.new).is_open) }
-        ensures left { HasCleanDisk (state S.Store self.new) → (trees : Trees) → (state S.Store self.new).may_leave trees → (state S.Store self.old).may_leave trees ⊎ (IsTrue (state S.Store self.old).is_open × Moves (applied changes.now) (table_in (state S.Store self.old).committed.trees) (table_in trees)) }
-        ensures clean { HasCleanDisk (state S.Store self.new) → HasCleanDisk (state S.Store self.old) }
+        ensures commits { Commits S.Store changes.now result self.old self.new }
         ensures settled { IsTrue (state S.Store self.new).is_open → (trees : Trees) → (state S.Store self.new).may_leave trees → trees ≡ (state S.Store self.new).committed.trees }
-        ensures undone { IsTrue (state S.Store self.new).is_open → OnErr result (KeepsCommit (state S.Store self.old) (state S.Store self.new)) }
         ensures ended { self.old.in_transaction ≡ false → self.new.in_transaction ≡ false }
     {
         if self.is_shut()? {
