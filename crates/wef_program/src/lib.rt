@@ -2,6 +2,9 @@
 //! connections of TCP, the clock of the system, and the words of its command line to `run`.
 #![tactic(auto)]
 
+pub mod database;
+
+use database::{open_for, run_in_database};
 use sqlite::{File, FileStore};
 use std::alloc::Global;
 use std::io::ErrorKind;
@@ -31,13 +34,13 @@ pub fn run(rt: HostRuntime) -> ExitCode {
     };
     let mut input = StdSource::new(rt);
     let mut out = StdSink::new(rt);
-    let (_, status) = wef_cli::run(
+    let (_, status) = run_in_database(
         alloc,
         words.as_slice(),
         &mut input,
         &mut out,
         &mut err,
-        keeper,
+        open_for(keeper, words.as_slice()),
         &mut TcpFront::new(rt),
         &mut TcpLink::new(rt),
         &mut SystemClock::new(rt),
