@@ -1,8 +1,9 @@
 //! What is told of a call of the collector.
 
-ghost use Rattle.std.specs.Prelude.{◌≡◌};
+ghost use Rattle.std.specs.Prelude.{◌≡◌, ◌≤◌};
 ghost use Rattle.wef_commands.specs.Calling as spec;
 ghost use Rattle.wef_commands.specs.Endings.{told_of};
+ghost use Rattle.wef_commands.specs.Writing.{TellsLine};
 
 use crate::ending::Ending;
 use crate::streams::write_whole;
@@ -17,6 +18,19 @@ pub fn write_done<O: Sink>(text: &Text, out: &mut O) -> Ending
     match write_whole(out, text.as_str().as_bytes()) {
         Ok(()) => Ending::Done,
         Err(_) => Ending::OutputFailed,
+    }
+}
+
+/// Writes the line that tells of what is done; or says how the run ends.
+pub fn tell_line<O: Sink>(line: &str, out: &mut O) -> Result<(), Ending>
+    ensures told { TellsLine result
+        (told_of O.taken O.faults out.old out.new)
+        line.now }
+    ensures later { O.faults out.old ≤ O.faults out.new }
+{
+    match write_whole(out, line.as_bytes()) {
+        Ok(()) => Ok(()),
+        Err(_) => Err(Ending::OutputFailed),
     }
 }
 

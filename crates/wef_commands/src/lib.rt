@@ -15,7 +15,7 @@ mod streams;
 mod writing;
 
 pub use adding::add;
-pub use calling::store_ending;
+pub use calling::{store_ending, tell_line};
 pub use checking::check;
 pub use ending::Ending;
 pub use listing::list;

@@ -6,9 +6,10 @@ ghost use Rattle.wef_commands.specs.Endings.{told_of};
 ghost use Rattle.wef_commands.specs.Writing as spec;
 ghost use Rattle.wef_replay.specs.Documents.{new_event_in};
 
+use crate::calling::tell_line;
 use crate::checking::cut;
 use crate::ending::Ending;
-use crate::streams::{InputFault, read_whole, write_whole};
+use crate::streams::{InputFault, read_whole};
 use std::alloc::{AllocError, Global};
 use std::str;
 use wef_base::{Bytes, ChannelName, Sink, Source, Text};
@@ -200,12 +201,9 @@ fn tell<O: Sink>(channel: &ChannelName, number: u64, out: &mut O) -> Result<(), 
         (spec.written_line channel.now number) }
     ensures later { O.faults out.old ≤ O.faults out.new }
 {
-    let Ok(text) = written_line(channel, number) else {
-        return Err(Ending::NoMemory);
-    };
-    match write_whole(out, text.as_str().as_bytes()) {
-        Ok(()) => Ok(()),
-        Err(_) => Err(Ending::OutputFailed),
+    match written_line(channel, number) {
+        Ok(text) => tell_line(text.as_str(), out),
+        Err(_) => Err(Ending::NoMemory),
     }
 }
 

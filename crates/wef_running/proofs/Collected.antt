@@ -137,7 +137,7 @@ turn_ends clock now_clock a b c m k l count n f g h s t u ends.ListeningFailed s
   rises_since f.around.refusals g.around.refusals h.around.refusals (same_refusals clock served) refused.2,
 )
 turn_ends clock now_clock a b c m k l count n f g h s t u ends.NoMemory same later so_far below (e, is, (unwritten, told)) =
-    last_of clock now_clock a b c m l 0 count n f g h s t u same so_far below e is (Appends-kept b b c [] (Appends-nil b) unwritten)
+    last_of clock now_clock a b c m l 0 count n f g h s t u same so_far below e is unwritten
 turn_ends clock now_clock a b c m k l count n f g h s t u ends.OutputFailed same later so_far below (e, is, ((failed, part), told)) =
     (failed_since m k l later failed, part.0, last_of clock now_clock a b c m l part.0 count n f g h s t u same so_far below e is part.1)
 turn_ends clock now_clock a b c m k l count n f g h s t u _ same later so_far below (e, is, (never, told)) = absurd never

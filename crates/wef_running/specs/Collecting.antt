@@ -16,6 +16,7 @@ use Rattle.wef_serving.specs.declared.ends.ConnectionEnd.TheVariants as over
 use Rattle.wef_commands.specs.Calling.{IsUndone, Starts, store_ending}
 use Rattle.wef_commands.specs.Endings.{HasFailed, IsUnwritten, Told}
 use Rattle.wef_commands.specs.Streams.{WritesPart}
+use Rattle.wef_commands.specs.Writing.{TellsLine}
 use Rattle.wef_commands.specs.declared.ending.Ending.{Ending}
 use Rattle.wef_commands.specs.declared.ending.Ending.TheVariants as ends
 
@@ -81,16 +82,9 @@ FrontRefuses before now = OnlyFails before now × Rises before.faults now.faults
 abbrev pub IsTellable : ConnectionEnd → Type 0
 IsTellable e = e ≡ over.NoMemory → ⊥
 
--- A line was written; or a part of it, where the output failed; or nothing, for want of memory.
-abbrev pub WritesLine : List ℕ → Result Unit Ending → Told → Type 0
-WritesLine line (Ok done) out = Appends out.before out.after line
-WritesLine line (Err ends.NoMemory) out = IsUnwritten out
-WritesLine line (Err ends.OutputFailed) out = HasFailed out × WritesPart out.before out.after line
-WritesLine line (Err _) out = ⊥
-
 -- The connection of a number has its line, where it can be told; or a part of it; or none.
 abbrev pub TellsEnd : ℕ → ConnectionEnd → Result Unit Ending → Told → Type 0
-TellsEnd number e done out = WritesLine (connection_line number e) done out × OnOk done (IsTellable e)
+TellsEnd number e done out = TellsLine done out (connection_line number e) × OnOk done (IsTellable e)
 
 -- The connection of a number was served, and told; or none could be taken, and nothing was done.
 abbrev pub TurnEnds : Option ℕ → ℕ → Result Unit Ending → Told → ports.Told → KnownCollector → ports.Told → KnownCollector → Type 0

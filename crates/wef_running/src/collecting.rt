@@ -11,7 +11,7 @@ use std::alloc::{AllocError, Global};
 use wef_base::{Sink, Text};
 use wef_collector::Collector;
 use wef_collector_serving::{ConnectionEnd, serve_next_connection};
-use wef_commands::{Ending, store_ending, write_whole};
+use wef_commands::{Ending, store_ending, tell_line, write_whole};
 use wef_connections::Front;
 use wef_keeper::Keeper;
 use wef_ports::Clock;
@@ -153,19 +153,8 @@ fn tell<O: Sink>(alloc: Global, number: u64, over: ConnectionEnd, out: &mut O) -
         return Err(Ending::NoMemory);
     }
     match connection_line(alloc, number, over) {
-        Ok(line) => write_line(&line, out),
+        Ok(line) => tell_line(line.as_str(), out),
         Err(_) => Err(Ending::NoMemory),
-    }
-}
-
-fn write_line<O: Sink>(line: &Text, out: &mut O) -> Result<(), Ending>
-    ensures line { spec.WritesLine line.now result
-        (told_of O.taken O.faults out.old out.new) }
-    ensures later { O.faults out.old ≤ O.faults out.new }
-{
-    match write_whole(out, line.as_str().as_bytes()) {
-        Ok(()) => Ok(()),
-        Err(_) => Err(Ending::OutputFailed),
     }
 }
 

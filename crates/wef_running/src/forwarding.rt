@@ -9,7 +9,7 @@ ghost use Rattle.wef_running.specs.Forwarding as spec;
 
 use std::alloc::{AllocError, Global};
 use wef_base::{Sink, SourceName, SubId, Text};
-use wef_commands::{Ending, LOG_CAPACITY, write_whole};
+use wef_commands::{Ending, LOG_CAPACITY, tell_line};
 use wef_connections::Link;
 use wef_forwarding::{Exchange, FrontFault, ask_once, forward_once};
 use wef_keeper::Keeper;
@@ -124,7 +124,7 @@ fn send_all<K: Keeper, O: Sink, L: Link, C: Clock>(
             Err(ending) => return ending,
         }
     }
-    match write_line("done\n", out) {
+    match tell_line("done\n", out) {
         Ok(()) => Ending::Done,
         Err(ending) => ending,
     }
@@ -208,7 +208,7 @@ fn tell_sessions<O: Sink>(alloc: Global, count: u64, out: &mut O) -> Result<(), 
     ensures later { O.faults out.old ≤ O.faults out.new }
 {
     match subscriptions_line(alloc, count) {
-        Ok(text) => write_line(text.as_str(), out),
+        Ok(text) => tell_line(text.as_str(), out),
         Err(_) => Err(Ending::NoMemory),
     }
 }
@@ -221,21 +221,8 @@ fn tell_exchange<O: Sink>(sub: &SubId, exchange: Exchange, out: &mut O) -> Resul
     ensures later { O.faults out.old ≤ O.faults out.new }
 {
     match exchange_line(sub, exchange) {
-        Ok(text) => write_line(text.as_str(), out),
+        Ok(text) => tell_line(text.as_str(), out),
         Err(_) => Err(Ending::NoMemory),
-    }
-}
-
-/// Writes a line; or says how the run ends.
-fn write_line<O: Sink>(line: &str, out: &mut O) -> Result<(), Ending>
-    ensures told { TellsLine result
-        (told_of O.taken O.faults out.old out.new)
-        line.now }
-    ensures later { O.faults out.old ≤ O.faults out.new }
-{
-    match write_whole(out, line.as_bytes()) {
-        Ok(()) => Ok(()),
-        Err(_) => Err(Ending::OutputFailed),
     }
 }
 

@@ -62,14 +62,14 @@ returns-in-Err-clause-ends g c =
     (subst (λ (m : Option ℕ). TurnsSession m c.in-Some.sub.now (Err c.in-Err.ending) out mid now) c.sending.invariant.clock c.in-Err.ensures.turn)
 
 -- no session is next, and it tells so
-pub returns-in-Ok-write_line-clause-ends : goal.returns-in-Ok-write_line-clause-ends
+pub returns-in-Ok-tell_line-clause-ends : goal.returns-in-Ok-tell_line-clause-ends
 unfolding done_line
-returns-in-Ok-write_line-clause-ends g c =
-    stopped _ _ _ None Done _ _ _ _ (g.O.Sink.faults c.sending.out) _ _ _ _ c.sending.invariant.so_far c.sending.invariant.later (sym c.in_default.ensures) (c.in-Ok-write_line.ensures.told, refl)
+returns-in-Ok-tell_line-clause-ends g c =
+    stopped _ _ _ None Done _ _ _ _ (g.O.Sink.faults c.sending.out) _ _ _ _ c.sending.invariant.so_far c.sending.invariant.later (sym c.in_default.ensures) (c.in-Ok-tell_line.ensures.told, refl)
 
-pub returns-in-Err-write_line-clause-ends : goal.returns-in-Err-write_line-clause-ends
+pub returns-in-Err-tell_line-clause-ends : goal.returns-in-Err-tell_line-clause-ends
 unfolding done_line
-returns-in-Err-write_line-clause-ends g c =
-    let ending = c.in-Err-write_line.ending in
+returns-in-Err-tell_line-clause-ends g c =
+    let ending = c.in-Err-tell_line.ending in
     stopped _ _ _ None ending _ _ _ _ (g.O.Sink.faults c.sending.out) _ _ _ _ c.sending.invariant.so_far c.sending.invariant.later (sym c.in_default.ensures)
-    (untold_done ending _ c.in-Err-write_line.ensures.told, refl)
+    (untold_done ending _ c.in-Err-tell_line.ensures.told, refl)
