@@ -7,7 +7,6 @@ pub mod ForwardingDue
 pub mod ForwardsCaused
 mod Hosts
 pub mod LinesDone
-mod Named
 pub mod TellingDue
 pub mod TooLong
 mod Wanting

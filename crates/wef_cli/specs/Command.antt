@@ -1,21 +1,13 @@
 -- The command lines: `replay`, `add`, `remove NAME`, `list`, `check`, `write`, `collect ADDRESS N`, `forward ADDRESS SOURCE N`,
 -- `show` and `events NAME SOURCE CHANNEL`. No word of one begins with `-`.
-use Rattle.std.specs.Prelude.{◌≡◌, ℕ, ◌==◌, nat_lt, Bool, false, ◌&&◌, List, [], ◌∷◌, length, Option, Some, None, Result, Ok, Err, codes, if◌then◌else◌}
+use Rattle.std.specs.Prelude.{ℕ, ◌==◌, nat_lt, Bool, false, ◌&&◌, List, [], ◌∷◌, length, Option, Some, None, codes, if◌then◌else◌}
 use Rattle.std.specs.List.{list_all, list_any}
 use Rattle.std.specs.Option.{option_and_then, option_map}
 use Rattle.wef_base.specs.Names.{channel_name, same, source_name, subscription_name}
 use Rattle.wef_base.specs.Numbers.{plain_number}
-use Rattle.wef_base.specs.declared.names.ValueFault.{ValueFault}
-use Rattle.wef_base.specs.declared.names.ValueFault.TheVariants.{BadName}
 use Rattle.wef_eventing.specs.Addresses.{IsHost, is_printed}
 use Rattle.wef_cli.specs.declared.command.Command.{Command}
 use Rattle.wef_cli.specs.declared.command.Command.TheVariants as the
-
--- what is made of the name that was read of a word: none where it is no such name
-abbrev pub IsName : {N : Type 0} → Result N ValueFault → Option N → Type 0
-IsName (Ok name) given = given ≡ Some name
-IsName (Err BadName) given = given ≡ None
-IsName (Err _) given = ⊥
 
 -- the command of one word
 abbrev pub command_named : List ℕ → Option Command

@@ -199,34 +199,32 @@ impl Command {
 }
 
 /// The subscription's name that a word is; none where it is no such name.
-#[tactic(auto, using(crate::proofs::Named::named_so))]
 fn subscription_in(word: &Text) -> Result<Option<SubId>, AllocError>
     ensures { IfOk result (λ name. name ≡ subscription_name word.now) }
 {
-    named_in(SubId::read(word))
+    match SubId::read(word) {
+        Ok(name) => Ok(Some(name)),
+        Err(ValueFault::BadName) => Ok(None),
+        Err(_) => Err(AllocError),
+    }
 }
 
 /// The source's name that a word is; none where it is no such name.
-#[tactic(auto, using(crate::proofs::Named::named_so))]
 fn source_in(word: &Text) -> Result<Option<SourceName>, AllocError>
     ensures { IfOk result (λ name. name ≡ source_name word.now) }
 {
-    named_in(SourceName::read(word))
+    match SourceName::read(word) {
+        Ok(name) => Ok(Some(name)),
+        Err(ValueFault::BadName) => Ok(None),
+        Err(_) => Err(AllocError),
+    }
 }
 
 /// The channel's name that a word is; none where it is no such name.
-#[tactic(auto, using(crate::proofs::Named::named_so))]
 fn channel_in(word: &Text) -> Result<Option<ChannelName>, AllocError>
     ensures { IfOk result (λ name. name ≡ channel_name word.now) }
 {
-    named_in(ChannelName::read(word))
-}
-
-/// The name that was read of a word; none where the word is no such name.
-fn named_in<N>(read: Result<N, ValueFault>) -> Result<Option<N>, AllocError>
-    ensures { IfOk result (λ name. spec.IsName read name) }
-{
-    match read {
+    match ChannelName::read(word) {
         Ok(name) => Ok(Some(name)),
         Err(ValueFault::BadName) => Ok(None),
         Err(_) => Err(AllocError),
