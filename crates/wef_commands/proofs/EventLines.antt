@@ -12,8 +12,8 @@ use Rattle.wef_event.specs.declared.records.EventFault.TheVariants as faults
 use Rattle.wef_tree_reading.specs.Documents.{tree_of}
 use Rattle.wef_xml.specs.Decoding.{utf8_mark, without_front, without_mark}
 use Rattle.wef_xml.specs.Fronts.{strip}
-use Rattle.wef_replay.specs.Documents.{new_event_in}
-use Rattle.wef_replay.proofs.SaidEvents.{refused}
+use Rattle.wef_lines.specs.Documents.{new_event_in}
+use Rattle.wef_lines.proofs.SaidEvents.{bad, said}
 use Rattle.wef_commands.specs.Writing.{is_wanting}
 
 mark_is_utf8 : is_utf8 utf8_mark ≡ true
@@ -40,7 +40,7 @@ not_utf8 text other = by (is_utf8 (without_mark Utf8 text)) refl
 -- a text that is refused, and not for want of memory, says no event
 pub none_said : (text : List ℕ) (fault : EventFault) → ReadsEvent false text (Err fault) → is_wanting fault ≡ false → new_event_in text ≡ None
 none_said text faults.NoMemory reads other = absurd (true≢false other)
-none_said text (faults.BadEvent at) reads other = refused text (faults.BadEvent at) reads
-none_said text faults.NoChannel reads other = refused text faults.NoChannel reads
-none_said text faults.NoRecordId reads other = refused text faults.NoRecordId reads
-none_said text faults.TooLong reads other = refused text faults.TooLong reads
+none_said text (faults.BadEvent at) reads other = bad text at reads
+none_said text faults.NoChannel reads other = said text (Err faults.NoChannel) reads
+none_said text faults.NoRecordId reads other = said text (Err faults.NoRecordId) reads
+none_said text faults.TooLong reads other = said text (Err faults.TooLong) reads

@@ -22,7 +22,7 @@ use Rattle.wef_keeper.specs.Rows.{Rows}
 use Rattle.wef_keeper.specs.Sections.{rows_under}
 use Rattle.wef_keeper.specs.declared.keys.Depth.TheVariants.{Channel}
 use Rattle.wef_keeper.specs.declared.keys.Row.{Row}
-use Rattle.wef_machine.specs.Printed.{event_line, events_text}
+use Rattle.wef_lines.specs.Printed.{event_line, events_text}
 use Rattle.wef_commands.proofs.PagesWritten.{no_part}
 use Rattle.wef_commands.specs.Calling.{Starts, named_ending}
 use Rattle.wef_commands.specs.Endings.{Told}

@@ -7,7 +7,7 @@ use Rattle.std.specs.Io.KnownBytes.{Appends}
 use Rattle.wef_base.specs.Counts.{Rose}
 use Rattle.wef_event.specs.Events.{Event}
 use Rattle.wef_keeper.specs.Keeping.{Store}
-use Rattle.wef_replay.specs.Documents.{new_event_in}
+use Rattle.wef_lines.specs.Documents.{new_event_in}
 use Rattle.wef_commands.specs.Endings.{Told}
 use Rattle.wef_commands.specs.Writing.{EndsAt, IsUntold, TellsLine, TurnsLine, WritesEvent, Wrote, WroteEvents, bad_from, events_of, written_line, written_text}
 use Rattle.wef_commands.specs.declared.ending.Ending.{Ending}

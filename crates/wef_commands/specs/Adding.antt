@@ -14,7 +14,7 @@ use Rattle.wef_documents.specs.declared.faults.DocumentFault.TheVariants.{BadDoc
 use Rattle.wef_eventing.specs.declared.subscriptions.Subscription.{Subscription}
 use Rattle.wef_keeper.specs.Calls.{DoesWith, IsCall}
 use Rattle.wef_keeper.specs.Keeping.{Store}
-use Rattle.wef_machine.specs.Printed.{name_line}
+use Rattle.wef_lines.specs.Printed.{name_line}
 use Rattle.wef_xml.specs.declared.faults.TreeFault.{TreeFault}
 use Rattle.wef_xml.specs.declared.faults.TreeFault.TheVariants as tree
 use Rattle.wef_commands.specs.Calling.{CallEnds, WroteOut, named_ending}

@@ -6,7 +6,7 @@ use Rattle.wef_base.specs.Counts.{Rose}
 use Rattle.wef_commands.specs.Streams.{WritesPart}
 use Rattle.wef_documents.specs.declared.faults.Part.{Part}
 use Rattle.wef_documents.specs.declared.faults.Part.TheVariants as part
-use Rattle.wef_machine.specs.Printed.{name_line}
+use Rattle.wef_lines.specs.Printed.{name_line}
 use Rattle.wef_commands.specs.declared.ending.Ending.{Ending}
 use Rattle.wef_commands.specs.declared.ending.Ending.TheVariants.{Done, BadCommand, BadLine, TooLong, BadPlace, BadElement, InputFailed, OutputFailed, ListeningFailed, LinkFailed, NoMemory, StoreFailed, Unknown, Already, Exists, TooMany, Full, Spent}
 

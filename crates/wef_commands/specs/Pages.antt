@@ -3,7 +3,7 @@ use Rattle.std.specs.Prelude.{◌≡◌, ℕ, List, [], ◌∷◌, ◌++◌, ◌
 use Rattle.std.specs.List.{flat_map}
 use Rattle.wef_collector_rows.specs.Held.{own_event}
 use Rattle.wef_keeper.specs.declared.keys.Row.{Row}
-use Rattle.wef_machine.specs.Printed.{event_line}
+use Rattle.wef_lines.specs.Printed.{event_line}
 use Rattle.wef_commands.specs.Calling.{WroteOut}
 use Rattle.wef_commands.specs.Endings.{IsUnwritten, Told}
 use Rattle.wef_commands.specs.declared.ending.Ending.{Ending}

@@ -7,7 +7,7 @@ use Rattle.wef_collector_rows.specs.Judged.{JudgesName}
 use Rattle.wef_collector_rows.specs.declared.faults.CollectorFault.{CollectorFault}
 use Rattle.wef_keeper.specs.Calls.{DoesWith, IsCall}
 use Rattle.wef_keeper.specs.Keeping.{Store}
-use Rattle.wef_machine.specs.Printed.{name_line}
+use Rattle.wef_lines.specs.Printed.{name_line}
 use Rattle.wef_commands.specs.Calling.{CallEnds, IsUndone, WroteOut, named_ending}
 use Rattle.wef_commands.specs.Endings.{Told}
 use Rattle.wef_commands.specs.declared.ending.Ending.{Ending}

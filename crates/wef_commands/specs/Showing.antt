@@ -17,7 +17,7 @@ use Rattle.wef_keeper.specs.Calls.{Looks}
 use Rattle.wef_keeper.specs.Keeping.{Store}
 use Rattle.wef_keeper.specs.Rows.{Rows}
 use Rattle.wef_keeper.specs.declared.keys.Row.{Row}
-use Rattle.wef_machine.specs.Printed.{events_text}
+use Rattle.wef_lines.specs.Printed.{events_text}
 use Rattle.wef_commands.specs.Calling.{CallEnds, IsUndone, Started, Starts, WroteOut, store_ending}
 use Rattle.wef_commands.specs.Endings.{HasFailed, IsUnwritten, Told}
 use Rattle.wef_commands.specs.Streams.{WritesPart}

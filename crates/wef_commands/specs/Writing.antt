@@ -10,7 +10,7 @@ use Rattle.wef_event.specs.declared.records.EventFault.{EventFault}
 use Rattle.wef_event.specs.declared.records.EventFault.TheVariants as events
 use Rattle.wef_keeper.specs.Calls.{DoesWith, IsCall}
 use Rattle.wef_keeper.specs.Keeping.{IsLawful, Store}
-use Rattle.wef_replay.specs.Documents.{new_event_in}
+use Rattle.wef_lines.specs.Documents.{new_event_in}
 use Rattle.wef_source_log.specs.Answers.{ExtendsHistory, RefusesStart, next_boot, next_number, start_effect, write_effect}
 use Rattle.wef_source_log.specs.Faults.{log_store}
 use Rattle.wef_source_log.specs.Forms.{AreFormed}

@@ -9,7 +9,7 @@ ghost use Rattle.wef_documents.specs.Kept.{read_kept};
 ghost use Rattle.wef_documents.specs.Written.{document_text};
 
 use crate::calling::{named_ending, store_ending, write_done};
-use crate::ending::{Ending, name_line};
+use crate::ending::Ending;
 use crate::streams::{InputFault, read_whole};
 use std::alloc::{AllocError, Global};
 use wef_base::{Sink, Source, SubId, Text};
@@ -17,6 +17,7 @@ use wef_collector::Collector;
 use wef_documents::{DocumentFault, read_document};
 use wef_eventing::Subscription;
 use wef_keeper::Keeper;
+use wef_lines::name_line;
 use wef_xml::TreeFault;
 
 /// Adds the subscription of a document, and tells so. The document is read and judged before the
@@ -71,7 +72,7 @@ fn telling(name: &SubId) -> Result<(SubId, Text), AllocError>
     ensures name { IfOk result (λ told. told.0 ≡ name.now) }
     ensures text { IfOk result (λ told. told.1 ≡ spec.added_text name.now) }
 {
-    let text = name_line("added", name)?;
+    let text = name_line("added", name.as_text())?;
     Ok((name.clone()?, text))
 }
 

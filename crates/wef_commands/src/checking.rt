@@ -12,8 +12,8 @@ use crate::streams::{InputFault, read_whole};
 use std::alloc::{AllocError, Global};
 use wef_base::{Sink, Source, Text};
 use wef_event::{EventFault, event_of_node};
+use wef_lines::{list_in, tree_in};
 use wef_query::{QueryList, selected};
-use wef_replay::{list_in, tree_in};
 use wef_xml::ToldTree;
 
 /// Reads lines, the first of which is a list of queries and each other one an event, and writes a line

@@ -3,12 +3,12 @@
 ghost use Rattle.std.specs.Fmt.{decimal};
 ghost use Rattle.std.specs.Prelude.{◌≡◌, true, false, codes, IfOk};
 ghost use Rattle.wef_commands.specs.Endings as spec;
-ghost use Rattle.wef_machine.specs.Printed as printed;
 
 use crate::streams::write_whole;
 use std::alloc::{AllocError, Global};
 use wef_base::{Sink, SubId, Text};
 use wef_documents::Part;
+use wef_lines::name_line;
 
 /// How a run ends.
 #[derive(Debug, Drop)]
@@ -145,9 +145,9 @@ impl Ending {
             Ending::BadLine(line) => numbered_line(alloc, "line ", *line),
             Ending::BadPlace(at) => numbered_line(alloc, "place ", *at as u64),
             Ending::BadElement(part) => element_line(alloc, *part),
-            Ending::Unknown(name) => name_line("unknown", name),
-            Ending::Already(name) => name_line("already", name),
-            Ending::Exists(name) => name_line("exists", name),
+            Ending::Unknown(name) => name_line("unknown", name.as_text()),
+            Ending::Already(name) => name_line("already", name.as_text()),
+            Ending::Exists(name) => name_line("exists", name.as_text()),
             _ => Ok(Text::new(alloc)),
         }
     }
@@ -202,16 +202,4 @@ fn part_name(part: Part) -> &'static str
         Part::Address => "Address",
         Part::Version => "Version",
     }
-}
-
-/// A word and the name of a subscription, as lines of the program show it.
-#[tactic(auto, unfolding(wef_machine::specs::Printed::name_line))]
-pub fn name_line(word: &str, name: &SubId) -> Result<Text, AllocError>
-    ensures { IfOk result (λ text. text ≡ printed.name_line word.now name.now) }
-{
-    let mut text = Text::from_str(name.as_text().alloc(), word)?;
-    text.push_str(" ")?;
-    text.push_printed(name.as_text())?;
-    text.push_str("\n")?;
-    Ok(text)
 }

@@ -153,7 +153,7 @@ fn page_text(alloc: Global, page: &[Row]) -> Result<Text, AllocError>
     Ok(text)
 }
 
-#[tactic(auto, unfolding(wef_machine::specs::Printed::event_line))]
+#[tactic(auto, unfolding(wef_lines::specs::Printed::event_line))]
 fn push_line(text: &mut Text, row: &Row) -> Result<(), AllocError>
     ensures { OnOk result (text.new ≡ text.old ++ pages.row_line row.now) }
 {

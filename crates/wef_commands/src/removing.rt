@@ -5,11 +5,12 @@ ghost use Rattle.wef_commands.specs.Endings.{told_of};
 ghost use Rattle.wef_commands.specs.Removing as spec;
 
 use crate::calling::{named_ending, store_ending, write_done};
-use crate::ending::{Ending, name_line};
+use crate::ending::Ending;
 use std::alloc::Global;
 use wef_base::{Sink, SubId, Text};
 use wef_collector::Collector;
 use wef_keeper::Keeper;
+use wef_lines::name_line;
 
 /// Ends the subscription of a name, and tells so. The text is made first, so nothing is done for want
 /// of memory for it.
@@ -18,7 +19,7 @@ pub fn remove<K: Keeper, O: Sink>(alloc: Global, keeper: K, name: SubId, out: &m
         (told_of O.taken O.faults out.old out.new)
         (K.store keeper) (K.store result.0) }
 {
-    match name_line("ended", &name) {
+    match name_line("ended", name.as_text()) {
         Ok(text) => end(alloc, keeper, name, &text, out),
         Err(_) => (keeper, Ending::NoMemory),
     }

@@ -4,7 +4,7 @@ ghost use Rattle.std.specs.Prelude.{◌≡◌, ◌≤◌, true, false, None, is_
 ghost use Rattle.wef_commands.specs.Checking.{lines_of};
 ghost use Rattle.wef_commands.specs.Endings.{told_of};
 ghost use Rattle.wef_commands.specs.Writing as spec;
-ghost use Rattle.wef_replay.specs.Documents.{new_event_in};
+ghost use Rattle.wef_lines.specs.Documents.{new_event_in};
 
 use crate::calling::tell_line;
 use crate::checking::cut;

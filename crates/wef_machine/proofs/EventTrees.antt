@@ -14,7 +14,7 @@ use Rattle.wef_event.proofs.Made.{is_read}
 use Rattle.wef_event.specs.Events.{Event, HasTree, event_in, event_of, event_or_none, is_event, is_event_root, is_found, number_or, with_number_found}
 use Rattle.wef_event.specs.Paths.{channel_in, number_in}
 use Rattle.wef_replay.proofs.SaidEvents.{given_is, has_tree}
-use Rattle.wef_replay.specs.Documents.{is_new_event, new_event_in}
+use Rattle.wef_lines.specs.Documents.{is_new_event, new_event_in}
 use Rattle.wef_event.specs.declared.records.EventFault.{EventFault}
 use Rattle.wef_tree_reading.proofs.Functions.{is_spelt_by}
 use Rattle.wef_tree_reading.proofs.GoodTrees.{spells_good}

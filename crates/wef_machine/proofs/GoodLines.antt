@@ -38,7 +38,7 @@ use Rattle.wef_query.specs.Laws.{ReadsBack, are_grouped}
 use Rattle.wef_query_paths.specs.Paths.{path_of}
 use Rattle.wef_query.specs.declared.QueryList.{QueryList}
 use Rattle.wef_replay.proofs.GoodNames.{kept_channel}
-use Rattle.wef_replay.specs.Documents.{is_new_event}
+use Rattle.wef_lines.specs.Documents.{is_new_event}
 use Rattle.wef_replay.specs.Good.{are_limits, are_queries, are_words, fits_always, has_word, may_be_written, is_between, is_channel, is_count, is_item, is_line, is_no_collector, is_number, is_one, is_query, is_query_text, is_reach, is_source, is_subscription}
 use Rattle.wef_replay.specs.declared.lines.Line.TheVariants as lines
 use Rattle.wef_machine.proofs.EventTrees.{new_has_tree}

@@ -1,17 +1,12 @@
 -- What the lines of a schedule print.
 use Rattle.std.specs.Prelude.{ℕ, List, [], ◌∷◌, ◌++◌, codes}
 use Rattle.std.specs.Fmt.{decimal}
-use Rattle.std.specs.List.{flat_map}
 use Rattle.wef_base.specs.Printed.{printed}
 use Rattle.wef_machine.specs.declared.arming.Fate.{Fate}
 use Rattle.wef_machine.specs.declared.arming.Fate.TheVariants.{Done, Failed, Stopped}
 use Rattle.wef_ids.specs.declared.FaultName.{FaultName}
 use Rattle.wef_ids.specs.Faults.{fault_text}
-use Rattle.wef_event.specs.Events.{Event}
-
--- a word and a name
-unfoldable pub name_line : List ℕ → List ℕ → List ℕ
-name_line word name = word ++ 32 ∷ printed name ++ 10 ∷ []
+use Rattle.wef_lines.specs.Printed.{name_line}
 
 -- `batch U S ANSWER`
 unfoldable pub batch_text : List ℕ → List ℕ → List ℕ → List ℕ
@@ -20,14 +15,6 @@ batch_text u s answer = codes "batch " ++ printed u ++ 32 ∷ printed s ++ 32 �
 -- `fault NAME`
 unfoldable pub fault_answer : FaultName → List ℕ
 fault_answer name = codes "fault " ++ fault_text name
-
--- `event N TEXT`
-unfoldable pub event_line : Event → List ℕ
-event_line event = codes "event " ++ decimal event.number ++ 32 ∷ event.text ++ 10 ∷ []
-
--- events, and at last `end`
-unfoldable pub events_text : List Event → List ℕ
-events_text events = flat_map event_line events ++ codes "end" ++ 10 ∷ []
 
 -- a word and the names of a source and a subscription
 unfoldable pub pair_line : List ℕ → List ℕ → List ℕ → List ℕ

@@ -16,7 +16,8 @@ use Rattle.wef_source.specs.Sessions.{session_of}
 use Rattle.wef_source.specs.declared.sessions.Session.{Session}
 use Rattle.wef_machine.specs.Arming.{fate, is_kept}
 use Rattle.wef_machine.specs.Places.{Place, commits, new_place, opened, opening}
-use Rattle.wef_machine.specs.Printed.{fate_line, name_line, pair_line, sent_ask_line, sent_events_line, wrote_line}
+use Rattle.wef_lines.specs.Printed.{name_line}
+use Rattle.wef_machine.specs.Printed.{fate_line, pair_line, sent_ask_line, sent_events_line, wrote_line}
 use Rattle.wef_machine.specs.States.{Slot, State, next_number, slot_of, slot_with, with_end, with_message, with_slot}
 use Rattle.wef_machine.specs.declared.arming.Armed.{Armed}
 use Rattle.wef_machine.specs.declared.arming.Fate.{Fate}

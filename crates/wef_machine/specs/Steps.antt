@@ -22,7 +22,8 @@ use Rattle.wef_replay.specs.declared.lines.Line.TheVariants.{Subscribe, End, Bat
 use Rattle.wef_machine.specs.Arming.{fate}
 use Rattle.wef_machine.specs.Collecting.{at_collector, print_at_collector, with_call}
 use Rattle.wef_machine.specs.Deliveries.{answer_word, batch_effect, deliver_printed, deliver_step, number_back}
-use Rattle.wef_machine.specs.Printed.{name_line, batch_text, collector_name, events_text, fate_line, fate_word}
+use Rattle.wef_lines.specs.Printed.{name_line, events_text}
+use Rattle.wef_machine.specs.Printed.{batch_text, collector_name, fate_line, fate_word}
 use Rattle.wef_machine.specs.Places.{armed_with, calmed, crashed}
 use Rattle.wef_machine.specs.Seen.{seen_printed}
 use Rattle.wef_machine.specs.Sources.{ask_printed, ask_step, at_declared, declared_slot, fate_text, lost_printed, lost_step, poll_printed, poll_step, write_printed, write_step}

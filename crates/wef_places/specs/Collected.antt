@@ -3,7 +3,8 @@ use Rattle.std.specs.Prelude.{ℕ, List, codes}
 use Rattle.wef_collector.specs.declared.collector.Collector.{Collector}
 use Rattle.wef_collector_rows.specs.declared.faults.CollectorFault.{CollectorFault}
 use Rattle.wef_keeper.specs.declared.mem_keeper.MemKeeper.{MemKeeper}
-use Rattle.wef_machine.specs.Printed.{collector_name, fate_line, name_line}
+use Rattle.wef_lines.specs.Printed.{name_line}
+use Rattle.wef_machine.specs.Printed.{collector_name, fate_line}
 use Rattle.wef_machine.specs.States as machine
 use Rattle.wef_machine.specs.Steps.{end_refused, subscribe_refused}
 use Rattle.wef_places.specs.Places.{seen}

@@ -2,7 +2,8 @@
 use Rattle.std.specs.Prelude.{ℕ, List, Option, Some, None, codes}
 use Rattle.wef_front.specs.Sending.{CanBeAsked, CanBeSent}
 use Rattle.wef_ids.specs.declared.MessageId.{MessageId}
-use Rattle.wef_machine.specs.Printed.{fate_line, name_line, pair_line, sent_ask_line, sent_events_line}
+use Rattle.wef_lines.specs.Printed.{name_line}
+use Rattle.wef_machine.specs.Printed.{fate_line, pair_line, sent_ask_line, sent_events_line}
 use Rattle.wef_machine.specs.States.{State, with_message}
 use Rattle.wef_machine.specs.declared.messages.Message.TheVariants.{Ask, Events}
 use Rattle.wef_places.specs.declared.places.Used.{Used}

@@ -1,10 +1,7 @@
 -- Cutting a text part by part.
-use Rattle.std.proofs.Common.{◌≡◌, ℕ, ◌+◌, ◌<◌, ◌≤◌, ◌==◌, Bool, true, false, cond, List, [], ◌∷◌, ◌++◌, length, get_or, take, drop, All, refl, ap, sym, ◌∙◌, subst, arith, add-one, take-append-drop, eq-eqb}
+use Rattle.std.proofs.Common.{◌≡◌, ℕ, ◌+◌, ◌<◌, ◌≤◌, ◌==◌, Bool, true, false, cond, List, [], ◌∷◌, ◌++◌, length, get_or, take, drop, All, refl, ap, sym, ◌∙◌, arith, take-append-drop, eq-eqb}
 use Rattle.std.specs.List.{onto_first}
-use Rattle.std.proofs.Math.Seq.{take-suc}
-use Rattle.std.proofs.lemmas.Bool.Decides.{nat_tests}
 use Rattle.std.proofs.lemmas.List.{drop_more}
-use Rattle.std.proofs.lemmas.List.Elements.{All-push}
 use Rattle.std.proofs.lemmas.List.Splits.{slice_split_at}
 use Rattle.wef_base.specs.Words.{parts}
 
@@ -15,16 +12,6 @@ cut_at separator at text inside ends before =
     let whole : text ≡ take at text ++ separator ∷ drop (at + 1) text =
     sym (take-append-drop at text) ∙ ap (λ more. take at text ++ more) (drop_more text at 0 inside ∙ ap (λ b. b ∷ drop (at + 1) text) ends) in
     ap (parts separator) whole ∙ slice_split_at (λ b. b == separator) (take at text) separator (drop (at + 1) text) before (eq-eqb separator separator refl)
-
--- a byte that doesn't separate isn't the end of it
-pub none_before : (separator at : ℕ) (text : List ℕ) → at < length text → (get_or text at 0 ≡ separator → ⊥) → All (λ b. (b == separator) ≡ false) (take at text)
-    → All (λ b. (b == separator) ≡ false) (take (at + 1) text)
-none_before separator at text inside other before =
-    subst (λ front. All (λ b. (b == separator) ≡ false) front) (sym (ap (λ n. take n text) (add-one at) ∙ take-suc text at 0 inside))
-    (All-push (λ b. (b == separator) ≡ false) (take at text) (get_or text at 0) before (differs (get_or text at 0) separator other))
-  where
-    differs : (n m : ℕ) → (n ≡ m → ⊥) → (n == m) ≡ false
-    differs n m h = grind (arith, nat_tests, h)
 
 -- a text has a part, at least
 pub record HasFirst (separator : ℕ) (text : List ℕ) : Type 0 where

@@ -19,7 +19,7 @@ use Rattle.wef_replay_values.specs.Reading.{with_first}
 use Rattle.wef_replay_values.specs.Values.{after_word, channel_word, channel_words, end_word, joined, number_word, sending_source_word, source_word, subscription_word}
 use Rattle.wef_replay_values.specs.declared.end_name.EndName.TheVariants as end
 use Rattle.wef_replay.specs.BatchWords.{empty_batch, read_words}
-use Rattle.wef_replay.specs.Documents.{new_event_in}
+use Rattle.wef_lines.specs.Documents.{new_event_in}
 use Rattle.wef_replay.specs.Good.{are_limits, are_queries, fits_always, may_be_written, is_between, is_channel, is_count, is_end, is_line, is_no_collector, is_query, is_query_text, is_source, is_subscription}
 use Rattle.wef_replay.specs.Grammar.{all_of, ask_line, back_line, batch_line, calm_line, commit_words, crash_line, deliver_line, does_nothing, end_line, event_if_xml, event_words, failure_line_of, fitting_event, if_fits, limit_words, line_of_words, meaning, message_words, other_line, pair_words, print_line, query_words, seen_words, show_line, source_line, source_line_of, subscribe_line, write_line, write_xml_line, xml_event_words}
 use Rattle.wef_replay.specs.PlainEvents.{HasPlainEvents}

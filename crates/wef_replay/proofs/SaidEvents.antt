@@ -1,5 +1,5 @@
 -- The event that a text says is the event of a tree, so it is the one that its own text says, and its channel is a name.
-use Rattle.std.proofs.Common.{◌≡◌, ℕ, ◌==◌, Bool, true, false, ◌&&◌, cond, List, [], ◌∷◌, refl, ap, subst, ◌∙◌, arith, ◌⊎◌, inl, inr}
+use Rattle.std.proofs.Common.{◌≡◌, ℕ, ◌==◌, Bool, true, false, ◌&&◌, cond, List, [], ◌∷◌, refl, ap, subst, ◌∙◌, arith}
 use Rattle.std.proofs.lemmas.Bool.Decides.{nat_tests}
 use Rattle.std.proofs.lemmas.Option.{none-some, same_Some}
 use Rattle.std.proofs.lemmas.Str.{is_utf8-from_IsUtf8}
@@ -20,37 +20,21 @@ use Rattle.wef_elements.specs.Texts.{text_inside}
 use Rattle.wef_event.proofs.Made.{event_tree, made}
 use Rattle.wef_event.specs.Events.{Event, HasTree, event_of, event_or_none, is_found}
 use Rattle.wef_event.specs.Paths.{channel_in, field_in, first_child, if_named, named}
-use Rattle.wef_event.specs.Reading.{IsFaulty, ReadsEvent, Says}
+use Rattle.wef_event.specs.Reading.{ReadsEvent}
 use Rattle.wef_event.specs.declared.records.EventFault.{EventFault}
 use Rattle.wef_event.specs.declared.records.EventFault.TheVariants.{NoMemory, BadEvent, NoChannel, NoRecordId, TooLong}
-use Rattle.wef_tree_reading.proofs.Functions.{is_given, is_spelt_by}
+use Rattle.wef_tree_reading.proofs.Functions.{is_spelt_by}
 use Rattle.wef_tree_reading.proofs.GoodTrees.{spells_good}
-use Rattle.wef_tree_reading.proofs.Readings.{has_no_fault}
 use Rattle.wef_tree_reading.specs.Documents.{tree_of}
 use Rattle.wef_xml.specs.Good.{AreGoodNodes, IsGoodElement, IsGoodNode, IsGoodTree}
 use Rattle.wef_replay_values.specs.Reading.{Refuses, event_line_fault}
-use Rattle.wef_replay.specs.Documents.{is_new_event, new_event_in}
+use Rattle.wef_lines.proofs.SaidEvents.{bad, said}
+use Rattle.wef_lines.specs.Documents.{is_new_event, new_event_in}
 use Rattle.wef_replay.specs.Good.{is_channel, may_be_written}
 use Rattle.wef_replay.proofs.Gifts.{AllOf}
 use Rattle.wef_replay.proofs.GoodNames.{kept_is_one}
 
 -- ---- what is read
-
--- the event of a text whose root is known
-pub said : (text : List ℕ) (answer : Result Event EventFault) → Says false text answer → new_event_in text ≡ event_or_none answer
-unfolding new_event_in
-said text answer says =
-    ap (option_and_then (λ root. event_or_none (event_of false root))) (is_given Utf8 text says.0 says.1) ∙ ap event_or_none says.2
-
--- a faulty text has none, and neither has one whose tree says none
-bad : (text : List ℕ) (at : ℕ) → IsFaulty text at ⊎ Says false text (Err (BadEvent at)) → new_event_in text ≡ None
-unfolding new_event_in
-bad text at (inr says) = said text (Err (BadEvent at)) says
-bad text at (inl fault) = by (tree_of Utf8 text) refl
-  where
-    by : (o : Option Element) → tree_of Utf8 text ≡ o → option_and_then (λ root. event_or_none (event_of false root)) o ≡ None
-    by None e = refl
-    by (Some root) e = absurd (has_no_fault Utf8 text root fault.0 at (is_spelt_by Utf8 text root e) fault.1)
 
 -- where reading refuses a text, it says no event
 pub refused : (text : List ℕ) (fault : EventFault) → ReadsEvent false text (Err fault) → Refuses (event_line_fault fault) (new_event_in text)

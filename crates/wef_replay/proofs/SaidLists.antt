@@ -23,7 +23,7 @@ use Rattle.wef_tree_reading.proofs.Functions.{is_spelt_by}
 use Rattle.wef_tree_reading.proofs.GoodTrees.{spells_good}
 use Rattle.wef_tree_reading.specs.Documents.{tree_of}
 use Rattle.wef_xml.specs.Good.{IsGoodTree, IsXmlText}
-use Rattle.wef_replay.specs.Documents.{list_in, list_or_none}
+use Rattle.wef_lines.specs.Documents.{list_in, list_or_none}
 use Rattle.wef_replay.specs.Good.{are_queries, is_query}
 use Rattle.wef_replay.proofs.Gifts.{AllOf}
 use Rattle.wef_replay.proofs.GoodNames.{kept_is_one}

@@ -28,7 +28,7 @@ use Rattle.wef_query.specs.Items.{QueryItem, says_path}
 use Rattle.wef_query.specs.Laws.{are_grouped}
 use Rattle.wef_replay_values.specs.declared.end_name.EndName.{EndName}
 use Rattle.wef_replay_values.specs.declared.end_name.EndName.TheVariants as end
-use Rattle.wef_replay.specs.Documents.{is_new_event}
+use Rattle.wef_lines.specs.Documents.{is_new_event}
 use Rattle.wef_replay.specs.declared.lines.Line.{Line}
 use Rattle.wef_replay.specs.declared.lines.Line.TheVariants.{Subscribe, End, Batch, Source, Write, WriteXml, Ask, Poll, Deliver, Back, Lost, Show, Print, Crash, Fail, Stop, Calm}
 

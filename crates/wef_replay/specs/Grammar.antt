@@ -34,7 +34,7 @@ use Rattle.wef_query.specs.Queries.{all_events_of}
 use Rattle.wef_replay_values.specs.Values.{subscription_word, source_word, channel_word, sending_source_word, end_word, after_word, joined, number_word, channel_words}
 use Rattle.wef_replay_values.specs.declared.end_name.EndName.{EndName}
 use Rattle.wef_replay.specs.BatchWords.{read_words, empty_batch}
-use Rattle.wef_replay.specs.Documents.{list_in, new_event_in}
+use Rattle.wef_lines.specs.Documents.{list_in, new_event_in}
 use Rattle.wef_replay.specs.declared.lines.Line.{Line}
 use Rattle.wef_replay.specs.declared.lines.Line.TheVariants.{Subscribe, End, Batch, Source, Write, WriteXml, Ask, Poll, Deliver, Back, Lost, Show, Print, Crash, Fail, Stop, Calm}
 

@@ -3,7 +3,7 @@
 ghost use Rattle.std.specs.Option.{option_map};
 ghost use Rattle.std.specs.Prelude.{◌≡◌};
 ghost use Rattle.wef_base.specs.Words.{parts};
-ghost use Rattle.wef_replay.specs.Documents.{list_in};
+ghost use Rattle.wef_lines.specs.Documents.{list_in};
 ghost use Rattle.wef_replay.specs.Grammar.{all_of, ask_line, back_line, batch_line, batch_of_source, calm_line, commit_words, crash_line, deliver_line, does_nothing, end_line, event_words, failure_line_of, fitting_event, limit_words, line_of_words, meaning, message_words, other_line, pair_words, print_line, query_words, seen_words, show_line, source_line, source_line_of, subscribe_line, write_line, write_xml_line, xml_event_words};
 ghost use Rattle.wef_replay.specs.Parts.{parts_behind};
 ghost use Rattle.wef_replay.specs.declared.lines.Line.TheVariants.{Fail, Lost, Poll, Stop};
@@ -11,7 +11,7 @@ ghost use Rattle.wef_replay_values.specs.Reading.{Gives};
 ghost use Rattle.wef_replay_values.specs.Values.{channel_words, joined};
 
 use crate::cutting::cut;
-use crate::documents::{list_in, new_event_in};
+use crate::documents::new_event_in;
 use crate::lines::Line;
 use crate::spelled::SpelledBatch;
 use std::alloc::Global;
@@ -19,6 +19,7 @@ use wef_base::numbers::MAX;
 use wef_base::words::{is_text, split};
 use wef_base::{Bytes, ChannelName, SourceName, SubId, Text, is_xml_text};
 use wef_event::{Event, PlainEvent};
+use wef_lines::list_in;
 use wef_query::QueryList;
 use wef_replay_values::EndName;
 use wef_replay_values::values::{

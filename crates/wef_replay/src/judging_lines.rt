@@ -4,7 +4,7 @@ ghost use Rattle.std.specs.List.{list_all};
 ghost use Rattle.std.specs.Prelude.{◌≡◌, ◌&&◌};
 ghost use Rattle.std.specs.Str.{is_utf8};
 ghost use Rattle.wef_base.specs.Characters.{is_xml_text};
-ghost use Rattle.wef_replay.specs.Documents.{is_new_event};
+ghost use Rattle.wef_lines.specs.Documents.{is_new_event};
 ghost use Rattle.wef_replay.specs.Good.{are_limits, are_queries, fits_always, may_be_written, is_between, is_channel, is_count, is_end, is_line, is_no_collector, is_query, is_source, is_subscription};
 
 use crate::lines::Line;

@@ -14,7 +14,6 @@ mod pieces;
 mod schedule;
 mod spelled;
 
-pub use documents::{list_in, tree_in};
 pub use judging_lines::is_line;
 pub use lines::Line;
 pub use schedule::{SCHEDULE_LIMIT, ScheduleFault, read_schedule};

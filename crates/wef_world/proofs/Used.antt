@@ -20,7 +20,8 @@ use Rattle.wef_source_log.specs.declared.faults.LogFault.TheVariants as logs
 use Rattle.wef_machine.specs.Arming.{is_done}
 use Rattle.wef_machine.specs.Deliveries.{closed_text, end_at, source_text, word_text}
 use Rattle.wef_machine.specs.Places.{remembering}
-use Rattle.wef_machine.specs.Printed.{fate_line, name_line, pair_line, sent_ask_line, took_line, wrote_line}
+use Rattle.wef_lines.specs.Printed.{name_line}
+use Rattle.wef_machine.specs.Printed.{fate_line, pair_line, sent_ask_line, took_line, wrote_line}
 use Rattle.wef_machine.specs.Sources.{ask_at, ask_text, at_slot, at_source, closed_line, fate_text, lost_text, lost_text_in, poll_at, poll_in, poll_text, poll_text_in, print_at_slot, print_at_source, print_where_runs, slot_opened, slot_opening, where_runs, with_opened, write_at, write_by, write_refused, write_text, write_text_by}
 use Rattle.wef_machine.specs.States.{Slot, Slots, State, next_number as next_message, slot_of, slot_with, with_end, with_message, with_slot}
 use Rattle.wef_machine.specs.declared.arming.Fate as the_fate

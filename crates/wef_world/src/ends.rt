@@ -3,9 +3,9 @@
 ghost use Rattle.std.specs.Prelude.{◌≡◌, true, [], codes, IfOk, OnOk};
 ghost use Rattle.wef_batch.specs.Numbers.{AreNumbered};
 ghost use Rattle.wef_collector_rows.specs.Forms.{AreFormed};
+ghost use Rattle.wef_lines.specs.Printed.{name_line};
 ghost use Rattle.wef_machine.specs.Collecting as collecting;
 ghost use Rattle.wef_machine.specs.Kept.{IsKept};
-ghost use Rattle.wef_machine.specs.Printed as texts;
 ghost use Rattle.wef_machine.specs.States as states;
 ghost use Rattle.wef_machine.specs.Steps as steps;
 ghost use Rattle.wef_places.specs.Collected as collected;
@@ -15,7 +15,7 @@ ghost use Rattle.wef_replay.specs.Good.{allows, has_end, is_among};
 
 use crate::deliveries::{outcome_word, take_batch};
 use crate::messages::Sent;
-use crate::printing::{batch_line, fate_line, held_text, name_line};
+use crate::printing::{batch_line, fate_line, held_text};
 use std::alloc::{AllocError, Global};
 use std::collections::BTreeSet;
 use std::marker::Model;
@@ -23,6 +23,7 @@ use wef_base::{Bytes, ChannelName, List, Moment, SourceName, SubId, Text};
 use wef_batch::Batch;
 use wef_collector::CollectorFault;
 use wef_eventing::{SubKind, Subscription};
+use wef_lines::name_line;
 use wef_machine::Armed;
 use wef_places::collecting::{self, Call, CollectorPlace};
 use wef_places::places::{Called, Placed, Used};
@@ -271,7 +272,7 @@ impl Ends {
 
     fn crash(&mut self, end: &EndName) -> Result<Text, WorldFault>
         ensures state { OnOk result (self.new ≡ steps.crash_step self.old end.now) }
-        ensures printed { IfOk result (λ text. text ≡ texts.name_line (codes "crashed") (steps.end_name end.now)) }
+        ensures printed { IfOk result (λ text. text ≡ name_line (codes "crashed") (steps.end_name end.now)) }
     {
         match end {
             EndName::Collector => {

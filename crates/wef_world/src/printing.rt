@@ -1,11 +1,11 @@
 //! What the lines of a schedule print.
 
-ghost use Rattle.std.specs.List.{flat_map};
-ghost use Rattle.std.specs.Prelude.{◌≡◌, ◌++◌, true, Some, IfOk, IfErr, OnOk};
+ghost use Rattle.std.specs.Prelude.{◌≡◌, true, Some, IfOk, IfErr, OnOk};
 ghost use Rattle.wef_collector_rows.specs.Answers as answers;
 ghost use Rattle.wef_collector_rows.specs.Forms.{AreFormed};
 ghost use Rattle.wef_collector_rows.specs.Held.{held_after, last_number};
 ghost use Rattle.wef_collector_rows.specs.Standing.{standing};
+ghost use Rattle.wef_lines.specs.Printed.{events_text};
 ghost use Rattle.wef_machine.specs.Printed as spec;
 
 use std::alloc::{AllocError, Global};
@@ -14,23 +14,11 @@ use wef_collector::{Collector, CollectorFault};
 use wef_event::Event;
 use wef_ids::FaultName;
 use wef_keeper::MemKeeper;
+use wef_lines::{name_line, push_events};
 use wef_machine::Fate;
 
 /// How many events are read at once.
 const PAGE: u32 = 256;
-
-/// A word and a name.
-#[tactic(auto, unfolding(wef_machine::specs::Printed::name_line))]
-pub fn name_line(word: &str, name: &Text) -> Result<Text, AllocError>
-    ensures { IfOk result (λ text. text ≡ spec.name_line word.now name.now) }
-{
-    let mut text = Text::new(name.alloc());
-    text.push_str(word)?;
-    text.push_str(" ")?;
-    text.push_printed(name)?;
-    text.push_str("\n")?;
-    Ok(text)
-}
 
 /// The answer to a batch.
 #[tactic(auto, unfolding(wef_machine::specs::Printed::batch_text))]
@@ -200,22 +188,9 @@ pub fn adopted_word(alloc: Global, number: u64) -> Result<Text, AllocError>
     Ok(text)
 }
 
-/// Appends an event.
-#[tactic(auto, unfolding(wef_machine::specs::Printed::event_line))]
-pub fn push_event(text: &mut Text, event: &Event) -> Result<(), AllocError>
-    ensures { OnOk result (text.new ≡ text.old ++ spec.event_line event.now) }
-{
-    text.push_str("event ")?;
-    text.push_number(event.number)?;
-    text.push_str(" ")?;
-    text.push_str(event.text.as_str())?;
-    text.push_str("\n")?;
-    Ok(())
-}
-
 /// The events that are held of a source's channel, one a line, and at last `end`, read page by
 /// page.
-#[tactic(auto, unfolding(wef_machine::specs::Printed::events_text))]
+#[tactic(auto, unfolding(wef_lines::specs::Printed::events_text))]
 pub fn held_text(
     alloc: Global,
     collector: &mut Collector<MemKeeper>,
@@ -227,7 +202,7 @@ pub fn held_text(
     ensures rows { collector.new.keeper.rows ≡ collector.old.keeper.rows }
     ensures ids { collector.new.ids ≡ collector.old.ids }
     ensures known { OnOk result (answers.is_known (standing collector.old.keeper.rows sub.now) ≡ true) }
-    ensures text { IfOk result (λ text. text ≡ spec.events_text (held_after collector.old.keeper.rows sub.now source.now channel.now 0)) }
+    ensures text { IfOk result (λ text. text ≡ events_text (held_after collector.old.keeper.rows sub.now source.now channel.now 0)) }
     ensures refusal { IfErr result (λ fault. answers.RefusesUnknown fault (Some collector.old.keeper.rows) sub.now) }
 {
     let mut text = Text::new(alloc);
@@ -252,14 +227,4 @@ fn last_number_of(after: u64, events: &[Event]) -> u64
         Some((event, _)) => event.number,
         None => after,
     }
-}
-
-/// Appends events, one a line.
-fn push_events(text: &mut Text, events: &[Event]) -> Result<(), AllocError>
-    ensures { OnOk result (text.new ≡ text.old ++ flat_map spec.event_line events.now) }
-{
-    for event in events {
-        push_event(text, event)?;
-    }
-    Ok(())
 }

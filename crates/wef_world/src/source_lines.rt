@@ -12,13 +12,12 @@ ghost use Rattle.wef_places.specs.Slots as slots;
 
 use crate::ends::Ends;
 use crate::messages::{Content, DeliveryBytes, Sent, WishBytes};
-use crate::printing::{
-    fate_line, name_line, pair_line, sent_ask_line, sent_events_line, wrote_line,
-};
+use crate::printing::{fate_line, pair_line, sent_ask_line, sent_events_line, wrote_line};
 use std::alloc::AllocError;
 use wef_base::{SourceName, SubId, Text};
 use wef_event::{Event, PlainEvent};
 use wef_ids::MessageId;
+use wef_lines::name_line;
 use wef_places::WorldFault;
 use wef_places::places::{Called, Used};
 use wef_places::slots::{Capacity, Polled, Slot};

@@ -1,6 +1,6 @@
 use Rattle.std.proofs.Common.{take_all}
 use Rattle.std.proofs.lemmas.List.{take_rest}
-use Rattle.wef_replay.proofs.Cuts.{none_before}
+use Rattle.wef_lines.proofs.Cuts.{none_before}
 use Rattle.wef_commands.proofs.Checked.{first_line, last_line}
 use Rattle.wef_commands.proofs.checking.cut.Goals as goal
 

@@ -1,6 +1,6 @@
 use Rattle.std.proofs.Common.{sym}
 use Rattle.std.specs.declared.result.Result.TheVariants.{Ok}
-use Rattle.wef_replay.proofs.SaidEvents.{said}
+use Rattle.wef_lines.proofs.SaidEvents.{said}
 use Rattle.wef_commands.proofs.EventLines.{none_said}
 use Rattle.wef_commands.proofs.writing.new_event.Goals as goal
 

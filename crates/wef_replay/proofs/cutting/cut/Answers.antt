@@ -1,7 +1,8 @@
 use Rattle.std.proofs.Common.{take_all}
 use Rattle.std.proofs.lemmas.List.{take_rest}
 use Rattle.std.proofs.lemmas.List.Splits.{slice_split_none}
-use Rattle.wef_replay.proofs.Cuts.{cut_at, none_before}
+use Rattle.wef_lines.proofs.Cuts.{none_before}
+use Rattle.wef_replay.proofs.Cuts.{cut_at}
 use Rattle.wef_replay.proofs.cutting.cut.Goals as goal
 
 pub returns-then-byte-separator : goal.returns-then-byte-separator

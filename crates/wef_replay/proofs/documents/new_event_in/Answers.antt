@@ -1,5 +1,6 @@
 use Rattle.std.specs.declared.result.Result.TheVariants.{Ok}
-use Rattle.wef_replay.proofs.SaidEvents.{refused, said}
+use Rattle.wef_lines.proofs.SaidEvents.{said}
+use Rattle.wef_replay.proofs.SaidEvents.{refused}
 use Rattle.wef_replay.proofs.documents.new_event_in.Goals as goal
 
 pub returns-in-Ok : goal.returns-in-Ok

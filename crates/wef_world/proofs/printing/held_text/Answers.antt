@@ -5,7 +5,7 @@ use Rattle.wef_event.specs.Events.{Event}
 use Rattle.wef_keeper.specs.Rows.{Rows}
 use Rattle.wef_collector_rows.specs.Held.{held_after}
 use Rattle.wef_keeper.proofs.ByPages.{last_page}
-use Rattle.wef_machine.specs.Printed.{event_line, events_text}
+use Rattle.wef_lines.specs.Printed.{event_line, events_text}
 use Rattle.wef_world.proofs.printing.held_text.Goals as goal
 
 pub returns-then-is_last-clause-text : goal.returns-then-is_last-clause-text

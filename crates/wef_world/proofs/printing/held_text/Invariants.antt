@@ -1,7 +1,7 @@
 use Rattle.std.proofs.Common.{◌≡◌, ◌++◌, length}
 use Rattle.std.specs.List.{flat_map}
 use Rattle.wef_collector_rows.specs.Held.{held_after}
-use Rattle.wef_machine.specs.Printed.{event_line}
+use Rattle.wef_lines.specs.Printed.{event_line}
 use Rattle.wef_world.proofs.printing.held_text.Given as goal
 
 abbrev pub invariant-loop-text : goal.invariant-loop-text

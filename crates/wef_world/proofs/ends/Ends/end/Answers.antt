@@ -2,7 +2,7 @@ use Rattle.std.proofs.Common.{List, ℕ, refl, ap, ◌∙◌}
 use Rattle.std.specs.Prelude.{codes}
 use Rattle.wef_collector.specs.Calls.{end_effect}
 use Rattle.wef_machine.specs.Collecting.{print_at_collector}
-use Rattle.wef_machine.specs.Printed.{name_line}
+use Rattle.wef_lines.specs.Printed.{name_line}
 use Rattle.wef_machine.specs.States.{State}
 use Rattle.wef_machine.specs.Steps.{closed_line, end_refused, end_text, end_text_by}
 use Rattle.wef_places.proofs.CollectorCalls.{called_prints}

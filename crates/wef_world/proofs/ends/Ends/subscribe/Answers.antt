@@ -3,7 +3,7 @@ use Rattle.std.specs.Prelude.{codes}
 use Rattle.wef_collector.specs.Calls.{add_effect}
 use Rattle.wef_eventing.specs.declared.subscriptions.Subscription.{Subscription}
 use Rattle.wef_machine.specs.Collecting.{print_at_collector}
-use Rattle.wef_machine.specs.Printed.{name_line}
+use Rattle.wef_lines.specs.Printed.{name_line}
 use Rattle.wef_machine.specs.States.{State}
 use Rattle.wef_machine.specs.Steps.{closed_line, subscribe_refused, subscribe_text_by}
 use Rattle.wef_places.proofs.CollectorCalls.{called_prints}
