@@ -159,6 +159,7 @@ fn tell_text<E: Sink>(text: &str, err: &mut E)
         (spec.told_of E.taken E.faults err.old err.new)
         text.now }
 {
+    // Where the stream fails there is nowhere else to tell it, and the status stands.
     let _ = write_whole(err, text.as_bytes());
 }
 

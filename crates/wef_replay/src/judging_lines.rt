@@ -58,6 +58,7 @@ pub fn is_line(line: &Line) -> bool
 fn is_subscription(sub: &SubId) -> bool
     ensures { result ≡ is_subscription sub.now }
 {
+    // The text, once it is lent, brings what the type promises.
     let _kept = sub.as_text().as_str();
     true
 }
@@ -66,6 +67,7 @@ fn is_subscription(sub: &SubId) -> bool
 fn is_source(source: &SourceName) -> bool
     ensures { result ≡ is_source source.now }
 {
+    // The text, once it is lent, brings what the type promises.
     let _kept = source.as_text().as_str();
     true
 }
@@ -74,6 +76,7 @@ fn is_source(source: &SourceName) -> bool
 fn is_channel(channel: &ChannelName) -> bool
     ensures { result ≡ is_channel channel.now }
 {
+    // The text, once it is lent, brings what the type promises.
     let _kept = channel.as_text().as_str();
     true
 }
@@ -159,6 +162,7 @@ fn may_be_written(event: &Event) -> bool
 fn is_new_event(event: &Event) -> bool
     ensures { result ≡ is_new_event event.now }
 {
+    // The text, once it is lent, brings what the type promises.
     let _kept = &event.text;
     true
 }
@@ -167,6 +171,7 @@ fn is_new_event(event: &Event) -> bool
 fn is_text(text: &Text) -> bool
     ensures { result ≡ is_utf8 text.now }
 {
+    // The text, once it is lent, brings what the type promises.
     let _kept = text.as_str();
     true
 }

@@ -66,6 +66,7 @@ impl SpelledBatch {
     pub(crate) fn has_word(&self) -> bool
         ensures { result ≡ are_words self.now }
     {
+        // What is read of the batch brings what its type promises.
         let _kept = self.words.len();
         true
     }
