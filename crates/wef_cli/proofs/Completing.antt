@@ -8,7 +8,7 @@ use Rattle.wef_replay.specs.declared.lines.Line.{Line}
 use Rattle.wef_replay.specs.declared.schedule.ScheduleFault as fault
 use Rattle.wef_commands.specs.Checking.{CheckEnds, WroteAnswers, checked, lines_of}
 use Rattle.wef_commands.specs.Endings.{HasFailed, IsToldAs, Told}
-use Rattle.wef_commands.specs.Writing.{EndsJudging, IsBad, WriteEnds, bad_line, events_of}
+use Rattle.wef_commands.specs.Writing.{EndsJudging, IsBad, bad_line, events_of}
 use Rattle.wef_commands.specs.declared.ending.Ending.{Ending}
 use Rattle.wef_commands.specs.declared.ending.Ending.TheVariants as ends
 use Rattle.wef_cli.specs.Complete.{BadLinesAreTold, EndsAs, EndsAsCalledFor, ending_checked, ending_for}

@@ -7,7 +7,7 @@ use Rattle.std.specs.Option.{option_and_then, option_map}
 use Rattle.std.specs.Prelude.{Option, None, Some, IfSome, codes}
 use Rattle.wef_base.specs.Names.{channel_name, same, source_name, subscription_name}
 use Rattle.wef_eventing.specs.Addresses.{IsHost, is_printed}
-use Rattle.wef_cli.specs.Command.{HasHost, address_of, begins_with_dash, collect_of, command_in, command_named, command_of, command_of_three, events_of, forward_of, is_address, number_of, remove_of}
+use Rattle.wef_cli.specs.Command.{HasHost, address_of, begins_with_dash, collect_of, command_in, command_named, command_of, events_of, forward_of, is_address, number_of, remove_of}
 use Rattle.wef_cli.specs.declared.command.Command.{Command}
 use Rattle.wef_cli.specs.declared.command.Command.TheVariants as the
 

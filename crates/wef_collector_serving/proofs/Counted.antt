@@ -1,6 +1,6 @@
 -- The faults of a collector's store are counted over a connection, and where none came no answer says so.
 use Rattle.std.proofs.Common.{◌≡◌, ◌⊎◌, inl, inr, ℕ, ◌≤◌, List, ap, sym, refl, arith}
-use Rattle.std.specs.Prelude.{Option, Some, None, IfSome, Result}
+use Rattle.std.specs.Prelude.{Option, Some, None, IfSome}
 use Rattle.wef_base.specs.Counts.{Rose}
 use Rattle.wef_collector_rows.specs.Forms.{AreFormed}
 use Rattle.wef_front.proofs.Causes.{internal_errors_have_a_cause}

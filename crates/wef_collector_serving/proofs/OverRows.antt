@@ -1,5 +1,5 @@
 -- Connections over rows: from any of those that an opening may find behind them, back to those that stood before.
-use Rattle.std.proofs.Common.{◌≡◌, ◌⊎◌, inl, inr, ℕ, zero, suc, ◌+◌, ◌<◌, ◌≤◌, max, Bool, true, false, cond, List, [], ◌∷◌, ◌++◌, ap, sym, refl, subst, ◌∙◌, arith}
+use Rattle.std.proofs.Common.{◌≡◌, ◌⊎◌, inl, inr, ℕ, zero, ◌+◌, ◌<◌, ◌≤◌, max, Bool, true, false, cond, List, [], ◌∷◌, ◌++◌, ap, sym, refl, subst, ◌∙◌, arith}
 use Rattle.std.specs.List.{AllByRecursion}
 use Rattle.std.specs.Prelude.{Option, Some, None, IfSome, IfErr, Result, Ok, Err, is_some}
 use Rattle.wef_base.specs.Counts.{Rose}
@@ -21,11 +21,10 @@ use Rattle.wef_collector_rows.specs.declared.standings.Standing.{Standing}
 use Rattle.wef_collector_rows.specs.declared.standings.Standing.TheVariants as stands
 use Rattle.wef_eventing.specs.declared.subscriptions.Subscription.{Subscription}
 use Rattle.wef_front.proofs.Causes.{internal_errors_have_a_cause}
-use Rattle.wef_front.specs.Replies.{IsUnanswered, rows_by}
+use Rattle.wef_front.specs.Replies.{rows_by}
 use Rattle.wef_front.specs.Steps.{HasStepped, IsAnswered, IsFailure, Steps, batch_said, effect_in, fault_for, said_where, said_with}
 use Rattle.wef_front.specs.declared.hearing.Asked.{Asked}
 use Rattle.wef_front.specs.declared.hearing.Asked.TheVariants.{Refused, Enumerate, Unread, Take}
-use Rattle.wef_front.specs.declared.hearing.Heard.{Heard}
 use Rattle.wef_front.specs.declared.saying.Said.{Said}
 use Rattle.wef_front.specs.declared.saying.Said.TheVariants.{Ack, Quiet, Offers, Fault}
 use Rattle.wef_http.specs.Messages.{IsRequest}
@@ -34,9 +33,7 @@ use Rattle.wef_http_heads.specs.declared.answers.Answer.{Answer}
 use Rattle.wef_http_heads.specs.declared.targets.Side.{Side}
 use Rattle.wef_ids.specs.declared.FaultName.{FaultName}
 use Rattle.wef_ids.specs.declared.FaultName.TheVariants as the
-use Rattle.wef_ids.specs.declared.ids.Ids.{Ids}
 use Rattle.wef_keeper.proofs.Going.{goes_over, may_leave, one_of, told_before, which_found}
-use Rattle.wef_keeper.specs.Access.{HasCause}
 use Rattle.wef_keeper.specs.Calls.{GoesOver, IsCall, Makes, MayLeave}
 use Rattle.wef_keeper.specs.Forms.{StayFormed}
 use Rattle.wef_keeper.specs.Keeping.{IsLawful, IsOneOf, MayFind, Store, WhereTold}

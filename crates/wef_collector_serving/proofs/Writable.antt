@@ -1,5 +1,5 @@
 -- What the collector answers is a response: an envelope under 200 or 500, or nothing under 204.
-use Rattle.std.proofs.Common.{◌≡◌, ◌⊎◌, inl, inr, ℕ, Bool, true, false, List, refl, ap, sym, subst}
+use Rattle.std.proofs.Common.{◌≡◌, ◌⊎◌, inl, inr, ℕ, refl, ap, sym, subst}
 use Rattle.std.specs.Prelude.{Option, Result, IfErr, IfOk}
 use Rattle.std.specs.declared.result.Result.TheVariants.{Ok, Err}
 use Rattle.wef_base.specs.declared.tree.Charset.{Charset}

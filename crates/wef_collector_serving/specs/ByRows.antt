@@ -1,5 +1,5 @@
 -- What a collector answers to the requests of a connection, by the rows that are kept, whatever its store does meanwhile.
-use Rattle.std.specs.Prelude.{◌≡◌, ◌⊎◌, ℕ, ◌+◌, Bool, true, false, List, Option, IfSome, if◌then◌else◌}
+use Rattle.std.specs.Prelude.{◌≡◌, ◌⊎◌, ℕ, ◌+◌, Bool, true, false, List, IfSome, if◌then◌else◌}
 use Rattle.std.specs.List.{AllByRecursion}
 use Rattle.wef_base.specs.declared.tree.Charset.{Charset}
 use Rattle.wef_batch.specs.declared.items.Batch.{Batch}

@@ -10,10 +10,10 @@ use Rattle.wef_batch.specs.Reading.{AreGoodTrees}
 use Rattle.wef_bodies.specs.Addresses.{identifier_among, identifier_in, passing, target_in}
 use Rattle.wef_bodies.specs.Addresses as bodies
 use Rattle.wef_bodies.specs.Limits.{heartbeats_in}
-use Rattle.wef_bodies.specs.Offers.{bad_offer, is_offer, of_offer, offer_of, offered, offered_in, offers_among, offers_from, offers_in, offers_of, unless_none, with_front}
+use Rattle.wef_bodies.specs.Offers.{bad_offer, is_offer, of_offer, offer_of, offered_in, offers_among, offers_from, offers_in, offers_of, unless_none, with_front}
 use Rattle.wef_bodies.specs.Spaces.{subscribe}
 use Rattle.wef_bodies.specs.Steps.{and_then, needed}
-use Rattle.wef_bodies.specs.Subscribes.{bookmark_of, bytes_in, delivery_in, expires_of, filter_in, has_attribute, in_eventing, in_management, in_mode, items_in, subscribe_in, subscribe_of, subscribe_with}
+use Rattle.wef_bodies.specs.Subscribes.{bookmark_of, bytes_in, delivery_in, expires_of, filter_in, has_attribute, in_eventing, in_management, items_in, subscribe_in, subscribe_of, subscribe_with}
 use Rattle.wef_bodies.specs.Spaces.{batches}
 use Rattle.wef_bodies.specs.declared.bodies.BodyFault.{BodyFault}
 use Rattle.wef_bodies.specs.declared.bodies.BodyFault.TheVariants.{BadBody, BadMode}

@@ -1,11 +1,11 @@
 -- A call of the collector, and what is said of how it went.
 use Rattle.std.proofs.Common.{◌≡◌, ℕ, Bool, true, false, List, refl, sym, subst}
-use Rattle.std.specs.Prelude.{Result, IfErr, IfOk, IfSome, IsErr, OnOk, Option}
+use Rattle.std.specs.Prelude.{Result, IfErr, IfOk, IfSome, IsErr, OnOk}
 use Rattle.std.specs.declared.result.Result.TheVariants.{Ok, Err}
 use Rattle.wef_keeper.proofs.Calls.{found_weaker}
 use Rattle.wef_keeper.proofs.Told.{told_both}
 use Rattle.wef_keeper.specs.Access.{AnyFound}
-use Rattle.wef_keeper.specs.Calls.{Answers, Did, DidWith, DoesWith, IsCall}
+use Rattle.wef_keeper.specs.Calls.{Answers, Did, DidWith, DoesWith}
 use Rattle.wef_keeper.specs.Keeping.{Store}
 use Rattle.wef_keeper.specs.Rows.{Rows}
 use Rattle.wef_collector_rows.specs.declared.faults.CollectorFault.{CollectorFault}

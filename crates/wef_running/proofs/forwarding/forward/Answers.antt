@@ -1,4 +1,4 @@
-use Rattle.std.proofs.Common.{ℕ, List, sym, subst, inr}
+use Rattle.std.proofs.Common.{ℕ, List, subst, inr}
 use Rattle.wef_source.specs.Machine.{End}
 use Rattle.wef_commands.specs.Endings.{Told}
 use Rattle.wef_running.specs.Forwarding.{AsksAndSends, Running}

@@ -2,7 +2,7 @@ use Rattle.std.proofs.Common.{◌+◌, ◌<◌, ◌∙◌, ℕ, length, arith, r
 use Rattle.std.specs.Prelude.{Option, Some, None, Ok, Err}
 use Rattle.wef_commands.specs.Endings.{Told}
 use Rattle.wef_commands.specs.declared.ending.Ending.TheVariants.{Done}
-use Rattle.wef_running.specs.Forwarding.{Plan, Running, TurnsSession, done_line, next}
+use Rattle.wef_running.specs.Forwarding.{Plan, Running, TurnsSession, done_line}
 use Rattle.wef_running.proofs.BatchesSent.{IsSentTo, gets_less, none_sent, one_sent, stopped, untold_done}
 use Rattle.wef_running.proofs.forwarding.send_all.Goals as goal
 
