@@ -1,11 +1,12 @@
 -- A page of held events: what its rows are, and the key behind which it ends.
-use Rattle.std.proofs.Common.{◌≡◌, ℕ, true, ◌&&◌, List, [], ◌∷◌, ◌++◌, map, take, nat_eq, refl, sym, subst, ap, ◌∙◌}
+use Rattle.std.proofs.Common.{◌≡◌, ℕ, ◌<◌, true, ◌&&◌, List, [], ◌∷◌, ◌++◌, length, map, take, nat_eq, refl, sym, subst, ap, ◌∙◌, arith}
 use Rattle.std.proofs.lemmas.Bool.{and_parts, eqb-true}
-use Rattle.std.proofs.lemmas.List.{take-map, map-append}
+use Rattle.std.proofs.lemmas.List.{length-map, take-map, map-append}
 use Rattle.std.proofs.lemmas.List.Elements.{All-head, All-tail, All-take, filter_passes}
 use Rattle.std.specs.Cmp.Lexicographic.{bytes_decides, pointwise}
 use Rattle.std.specs.List.{All, AllByRecursion, list_all}
 use Rattle.std.specs.Prelude.{Option, Some, None, IfSome, OnOk, Result, Ok, Err}
+use Rattle.wef_event.specs.Events.{Event}
 use Rattle.wef_keeper.specs.Access.{IsBehind}
 use Rattle.wef_keeper.specs.Rows.{Rows, rows_after}
 use Rattle.wef_keeper.specs.Sections.{is_under, last_key, rows_under}
@@ -17,6 +18,8 @@ use Rattle.wef_collector_rows.specs.Forms.{is_formed, is_held_row}
 use Rattle.wef_collector_rows.specs.Held.{event_of_row, held_rows, held_after, last_number, own_event}
 use Rattle.wef_collector_rows.specs.Judged.{AreAllFormed}
 use Rattle.wef_collector_rows.specs.Keys.{held_key}
+use Rattle.wef_collector_reports.proofs.Channels.{last_is, page_rises}
+use Rattle.wef_collector_reports.specs.Report.{last_row_number}
 
 -- a key under that of a channel's held events is the one of its own number
 pub own_key : (u s c : List ℕ) (n : ℕ) (k : Key) → is_under Channel (held_key u s c n) k ≡ true → k ≡ held_key u s c k.number
@@ -71,19 +74,55 @@ is_page m rows u s c after start page begins is =
     let held : page ≡ take m (held_rows rows u s c after) = is ∙ ap (λ (k : Key). take m (rows_under Channel k rows)) begins in
     ap (map (event_of_row c)) held ∙ sym (take-map (event_of_row c) m (held_rows rows u s c after))
 
+-- the key of its last row is that of its last event's number
+last_of_page : (m : ℕ) (rows : Rows) (u s c : List ℕ) (after : ℕ) (start : Key) (page : List Row) → start ≡ held_key u s c after
+    → page ≡ take m (rows_under Channel start rows) → last_key start page ≡ held_key u s c (last_number after (map (event_of_row c) page))
+last_of_page m rows u s c after start page begins is =
+    let passes = filter_passes (λ (row : Row). is_under Channel start row.key) (rows_after start rows) in
+    let taken = All-take (λ (row : Row). is_under Channel start row.key ≡ true) m (rows_under Channel start rows) passes in
+    let all = subst (λ (xs : List Row). All (λ (row : Row). is_under Channel start row.key ≡ true) xs) (sym is) taken in
+    let held = subst (λ (k : Key). All (λ (row : Row). is_under Channel k row.key ≡ true) page) begins all in
+    ap (λ (k : Key). last_key k page) begins ∙ last_held u s c after page held
+
 -- and what stands behind it
 pub is_rest : (m : ℕ) (rows : Rows) (u s c : List ℕ) (after : ℕ) (start : Key) (page : List Row) → start ≡ held_key u s c after
     → page ≡ take m (rows_under Channel start rows) → rows_under Channel start rows ≡ page ++ rows_under Channel (last_key start page) rows
     → held_after rows u s c after ≡ map (event_of_row c) page ++ held_after rows u s c (last_number after (map (event_of_row c) page))
 is_rest m rows u s c after start page begins is splits =
-    let passes = filter_passes (λ (row : Row). is_under Channel start row.key) (rows_after start rows) in
-    let taken = All-take (λ (row : Row). is_under Channel start row.key ≡ true) m (rows_under Channel start rows) passes in
-    let all = subst (λ (xs : List Row). All (λ (row : Row). is_under Channel start row.key ≡ true) xs) (sym is) taken in
-    let held = subst (λ (k : Key). All (λ (row : Row). is_under Channel k row.key ≡ true) page) begins all in
-    let last = ap (λ (k : Key). last_key k page) begins ∙ last_held u s c after page held in
+    let last = last_of_page m rows u s c after start page begins is in
     ap (λ (k : Key). map (event_of_row c) (rows_under Channel k rows)) (sym begins) ∙ ap (map (event_of_row c)) splits
     ∙ map-append (event_of_row c) page (rows_under Channel (last_key start page) rows)
     ∙ ap (λ (k : Key). map (event_of_row c) page ++ map (event_of_row c) (rows_under Channel k rows)) last
+
+-- the same of its rows
+pub is_rest_of_rows : (m : ℕ) (rows : Rows) (u s c : List ℕ) (after : ℕ) (start : Key) (page : List Row) → start ≡ held_key u s c after
+    → page ≡ take m (rows_under Channel start rows) → rows_under Channel start rows ≡ page ++ rows_under Channel (last_key start page) rows
+    → held_rows rows u s c after ≡ take m (held_rows rows u s c after) ++ held_rows rows u s c (last_number after (map (event_of_row c) page))
+is_rest_of_rows m rows u s c after start page begins is splits =
+    let held : page ≡ take m (held_rows rows u s c after) = is ∙ ap (λ (k : Key). take m (rows_under Channel k rows)) begins in
+    let last = last_of_page m rows u s c after start page begins is in
+    ap (λ (k : Key). rows_under Channel k rows) (sym begins) ∙ splits ∙ (λ i. held i ++ rows_under Channel (last i) rows)
+
+same_last : (after : ℕ) (rows : List Row) → last_number after (map own_event rows) ≡ last_row_number after rows
+same_last after [] = refl
+same_last after (row ∷ rows) = same_last row.key.number rows
+
+-- the number of its last event is above the one that it was read behind
+pub held_rises : (u s c : List ℕ) (after : ℕ) (start : Key) (page : List Row) (events : List Event) → start ≡ held_key u s c after → AllByRecursion (IsBehind Channel start) page
+    → events ≡ map own_event page → 0 < length events → after < last_number after events
+held_rises u s c after start page events begins behind are some =
+    let number : start.number ≡ after = ap (λ (k : Key). k.number) begins in
+    let size : length events ≡ length page = ap length are ∙ length-map page own_event in
+    let rows : 0 < length page = omega (arith, size, some) in
+    let rises : start.number < (last_key start page).number = page_rises start page rows behind in
+    let last : (last_key start page).number ≡ last_number after events =
+    ap (λ (k : Key). k.number) (last_is start page behind) ∙ ap (λ (n : ℕ). last_row_number n page) number ∙ sym (same_last after page) ∙ ap (last_number after) (sym are) in
+    omega (arith, number, rises, last)
+
+-- the number of a list's last event
+pub last_number-push : (after : ℕ) (front : List Event) (event : Event) → last_number after (front ++ event ∷ []) ≡ event.number
+last_number-push after [] event = refl
+last_number-push after (first ∷ front) event = last_number-push first.number front event
 
 -- and its rows are of their form, where each is a held row of its form
 pub page_judged : {A : Type 0} (result : Result A StoreFault) (told : Option Rows) (m : ℕ) (u s c : List ℕ) (after : ℕ) (start : Key) (page : List Row) → start ≡ held_key u s c after

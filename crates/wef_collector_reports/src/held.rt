@@ -1,7 +1,7 @@
 //! The events that are held.
 
 ghost use Rattle.std.specs.List.{list_all};
-ghost use Rattle.std.specs.Prelude.{◌≡◌, ◌≤◌, [], ◌∷◌, ◌++◌, true, false, map, take, IfOk, IfSome, OnOk};
+ghost use Rattle.std.specs.Prelude.{◌≡◌, ◌<◌, ◌≤◌, [], ◌∷◌, ◌++◌, true, false, length, map, take, IfOk, IfSome, OnOk};
 ghost use Rattle.wef_collector_rows.specs.Forms.{AreFormed, is_held_row};
 ghost use Rattle.wef_collector_rows.specs.Held as spec;
 ghost use Rattle.wef_collector_rows.specs.Judged.{AreAllFormed};
@@ -31,12 +31,25 @@ pub fn held_page<K: Keeper>(
     ensures page { IfSome (K.store keeper.new).rows (λ rows. IfOk result (λ page. page ≡ take max (spec.held_after rows sub.now source.now channel.now after))) }
     ensures rest { IfSome (K.store keeper.new).rows (λ rows. IfOk result (λ page. spec.held_after rows sub.now source.now channel.now after
         ≡ page ++ spec.held_after rows sub.now source.now channel.now (spec.last_number after page))) }
+    ensures rest_of_rows { IfSome (K.store keeper.new).rows (λ rows. IfOk result (λ page. spec.held_rows rows sub.now source.now channel.now after
+        ≡ take max (spec.held_rows rows sub.now source.now channel.now after) ++ spec.held_rows rows sub.now source.now channel.now (spec.last_number after page))) }
+    ensures rises { IfOk result (λ page. 0 < length page → after < spec.last_number after page) }
     ensures judged { IfSome (K.store keeper.new).rows (λ rows. OnOk result (AreAllFormed (take max (spec.held_rows rows sub.now source.now channel.now after)))) }
     ensures reads { access.Reads AreFormed (access.fails result) (K.store keeper.old) (K.store keeper.new) }
 {
     let start = held_start(sub, source, channel, after)?;
     let page = section_page(keeper, &start, Depth::Channel, max)?;
     events_of(channel.as_text().alloc(), page.as_slice())
+}
+
+/// The number of a page's last event, and the one that it was read behind where it has no event.
+pub fn last_number_of(after: u64, page: &[Event]) -> u64
+    ensures { result ≡ spec.last_number after page.now }
+{
+    match page.split_last() {
+        Some((event, _)) => event.number,
+        None => after,
+    }
 }
 
 /// The key of the event of a number, behind which a page begins.

@@ -1,15 +1,14 @@
 -- What is said of held events once they are written, or can't be.
-use Rattle.std.proofs.Common.{◌≡◌, ◌∙◌, ℕ, true, List, [], ◌∷◌, ◌++◌, map, refl, ap, sym, append_assoc, inr}
+use Rattle.std.proofs.Common.{◌≡◌, ℕ, true, List, refl, inr}
 use Rattle.std.proofs.KnownBytes.{Keeps-refl}
-use Rattle.std.specs.Prelude.{Option, Some, None, IfSome, Result, codes}
+use Rattle.std.specs.Prelude.{Option, IfSome}
 use Rattle.std.specs.declared.result.Result.TheVariants.{Ok, Err}
-use Rattle.std.specs.List.{flat_map}
 use Rattle.wef_collector_rows.specs.Answers.{RefusesUnknown, is_known}
 use Rattle.wef_collector_rows.specs.Faults.{collector_store}
 use Rattle.wef_collector_rows.specs.Forms.{AreFormed}
-use Rattle.wef_collector_rows.specs.Held.{event_of_row, held_after, held_rows, own_event}
+use Rattle.wef_collector_rows.specs.Held.{held_rows}
 use Rattle.wef_collector_rows.specs.Judged.{IsFormedAt, JudgesName}
-use Rattle.wef_collector_rows.specs.Keys.{held_key, subscription_key}
+use Rattle.wef_collector_rows.specs.Keys.{subscription_key}
 use Rattle.wef_collector_rows.specs.Standing.{standing}
 use Rattle.wef_collector_rows.specs.declared.faults.CollectorFault.{CollectorFault}
 use Rattle.wef_collector_rows.specs.declared.faults.CollectorFault.TheVariants as faults
@@ -19,35 +18,12 @@ use Rattle.wef_keeper.specs.Access.{Reads}
 use Rattle.wef_keeper.specs.Calls.{fails}
 use Rattle.wef_keeper.specs.Keeping.{Store}
 use Rattle.wef_keeper.specs.Rows.{Rows}
-use Rattle.wef_keeper.specs.Sections.{rows_under}
-use Rattle.wef_keeper.specs.declared.keys.Depth.TheVariants.{Channel}
-use Rattle.wef_keeper.specs.declared.keys.Row.{Row}
-use Rattle.wef_lines.specs.Printed.{event_line, events_text}
 use Rattle.wef_commands.proofs.PagesWritten.{no_part}
 use Rattle.wef_commands.specs.Calling.{Starts, named_ending}
 use Rattle.wef_commands.specs.Endings.{Told}
-use Rattle.wef_commands.specs.Pages.{end_line, row_line, rows_text}
 use Rattle.wef_commands.specs.Showing.{EndsHeld, EndsWriting, EventsEnds, JudgesHeld, JudgesRows, TellsHeld, WritesHeld, WroteUpTo, held_text, is_store_failed}
 use Rattle.wef_commands.specs.declared.ending.Ending.{Ending}
 use Rattle.wef_commands.specs.declared.ending.Ending.TheVariants as ends
-
--- ---- the text
-
--- an event's line doesn't say its channel
-same_line : (c : List ℕ) (row : Row) → row_line row ≡ event_line (event_of_row c row)
-unfolding event_line
-same_line c row = refl
-
-same_lines : (c : List ℕ) (rows : List Row) → flat_map row_line rows ≡ flat_map event_line (map (event_of_row c) rows)
-same_lines c [] = refl
-same_lines c (row ∷ rows) = λ i. same_line c row i ++ same_lines c rows i
-
--- the lines of the rows of a channel are its held events
-pub same_text : (rows : Rows) (u s c : List ℕ) → rows_text (rows_under Channel (held_key u s c 0) rows) ≡ held_text rows u s c
-unfolding events_text
-same_text rows u s c =
-    ap (λ (text : List ℕ). text ++ end_line) (same_lines c (rows_under Channel (held_key u s c 0) rows))
-    ∙ sym (append_assoc (flat_map event_line (held_after rows u s c 0)) (codes "end") (10 ∷ []))
 
 -- ---- the endings
 

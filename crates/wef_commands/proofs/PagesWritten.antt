@@ -1,40 +1,46 @@
 -- Held events, written page by page.
 use Rattle.std.proofs.Common.{◌≡◌, ◌∙◌, ℕ, List, [], ◌∷◌, ◌++◌, ◌<◌, length, take, refl, ap, sym, subst, append_assoc, append-nil, inl, inr}
-use Rattle.std.specs.Prelude.{Option, None, Some, IfSome}
-use Rattle.std.specs.List.{AllByRecursion, flat_map}
+use Rattle.std.specs.Prelude.{Option, None, Some, IfSome, codes}
+use Rattle.std.specs.List.{flat_map}
 use Rattle.std.specs.Io.KnownBytes.{Appends, Keeps}
-use Rattle.wef_keeper.proofs.Told.{told_both, told_map, told_still}
-use Rattle.wef_keeper.specs.Access.{IsBehind}
+use Rattle.wef_collector_rows.specs.Held.{held_after, last_number}
+use Rattle.wef_event.specs.Events.{Event}
+use Rattle.wef_keeper.proofs.ByPages.{last_page}
+use Rattle.wef_keeper.proofs.Told.{told_any, told_both, told_map, told_still}
 use Rattle.wef_keeper.specs.Keeping.{Stays}
 use Rattle.wef_keeper.specs.Rows.{Rows}
-use Rattle.wef_keeper.specs.Sections.{last_key, rows_under}
-use Rattle.wef_keeper.specs.declared.keys.Depth.TheVariants.{Channel}
-use Rattle.wef_keeper.specs.declared.keys.Key.{Key}
-use Rattle.wef_keeper.specs.declared.keys.Row.{Row}
-use Rattle.wef_collector_reports.proofs.Channels.{last_is, page_rises}
-use Rattle.wef_collector_reports.specs.Report.{last_row_number}
+use Rattle.wef_lines.specs.Printed.{event_line, events_text}
 use Rattle.wef_commands.proofs.Written.{both, further, part, part_further, unwritten}
 use Rattle.wef_commands.specs.Calling.{WroteOut}
-use Rattle.wef_commands.specs.Pages.{WroteLast, end_line, row_line, rows_text}
+use Rattle.wef_commands.specs.Pages.{WroteLast, end_line}
 use Rattle.wef_commands.specs.Showing.{WroteUpTo}
 use Rattle.wef_commands.specs.Streams.{IsWrittenUpTo, WritesPart}
 use Rattle.wef_commands.specs.declared.ending.Ending.{Ending}
 use Rattle.wef_commands.specs.declared.ending.Ending.TheVariants as ends
 
+-- the text of events, put together from the other end
+text_is : (events : List Event) → events_text events ≡ flat_map event_line events ++ end_line
+unfolding events_text
+text_is events = append_assoc (flat_map event_line events) (codes "end") (10 ∷ [])
+
+lines_first : (page rest : List Event) → flat_map event_line (page ++ rest) ≡ flat_map event_line page ++ flat_map event_line rest
+lines_first [] rest = refl
+lines_first (event ∷ page) rest =
+    ap (λ (text : List ℕ). event_line event ++ text) (lines_first page rest) ∙ sym (append_assoc (event_line event) (flat_map event_line page) (flat_map event_line rest))
+
 -- the text of a page and of what stands behind it
-pub page_first : (page rest : List Row) → rows_text (page ++ rest) ≡ flat_map row_line page ++ rows_text rest
-page_first [] rest = refl
-page_first (row ∷ page) rest =
-    append_assoc (row_line row) (flat_map row_line (page ++ rest)) end_line ∙ ap (λ (text : List ℕ). row_line row ++ text) (page_first page rest)
-    ∙ sym (append_assoc (row_line row) (flat_map row_line page) (rows_text rest))
+page_first : (page rest : List Event) → events_text (page ++ rest) ≡ flat_map event_line page ++ events_text rest
+page_first page rest =
+    text_is (page ++ rest) ∙ ap (λ (text : List ℕ). text ++ end_line) (lines_first page rest)
+    ∙ append_assoc (flat_map event_line page) (flat_map event_line rest) end_line ∙ ap (λ (text : List ℕ). flat_map event_line page ++ text) (sym (text_is rest))
 
 -- what is left, by the text of the page that comes next
-page_left : (all page rest : List Row) (text : List ℕ) → all ≡ page ++ rest → text ≡ flat_map row_line page → rows_text all ≡ text ++ rows_text rest
-page_left all page rest text splits is = ap rows_text splits ∙ page_first page rest ∙ ap (λ (t : List ℕ). t ++ rows_text rest) (sym is)
+page_left : (all page rest : List Event) (text : List ℕ) → all ≡ page ++ rest → text ≡ flat_map event_line page → events_text all ≡ text ++ events_text rest
+page_left all page rest text splits is = ap events_text splits ∙ page_first page rest ∙ ap (λ (t : List ℕ). t ++ events_text rest) (sym is)
 
 -- and by that of the last page
-last_left : (all page : List Row) (text : List ℕ) → all ≡ page → text ≡ flat_map row_line page → rows_text all ≡ text ++ end_line
-last_left all page text whole is = ap rows_text whole ∙ ap (λ (t : List ℕ). t ++ end_line) (sym is)
+last_left : (all page : List Event) (text : List ℕ) → all ≡ page → text ≡ flat_map event_line page → events_text all ≡ text ++ end_line
+last_left all page text whole is = ap events_text whole ∙ text_is page ∙ ap (λ (t : List ℕ). t ++ end_line) (sym is)
 
 -- nothing was written of a text yet
 pub no_part : (a : Option (List ℕ)) (text : List ℕ) → WritesPart a a text
@@ -78,61 +84,66 @@ last_written ending whole left a b c f g h first (inr (is, unwritten)) =
 
 -- ---- page by page, by the rows that are still told
 
--- of the text of a channel's rows behind the first key that of those behind the second is left
-abbrev pub IsLeftBehind : Option (List ℕ) → Option (List ℕ) → Key → Key → Rows → Type 0
-IsLeftBehind a b first after rows = IsWrittenUpTo a b (rows_text (rows_under Channel first rows)) (rows_text (rows_under Channel after rows))
+module _ (u s c : List ℕ) where
+  -- what is written of the held events above a number
+  abbrev pub text_above : ℕ → Rows → List ℕ
+  text_above after rows = events_text (held_after rows u s c after)
 
--- where it stops, a front part was written
-pub stopped : (a b : Option (List ℕ)) (before now : Option Rows) (first after : Key) → Stays before now → IfSome before (IsLeftBehind a b first after)
-    → IfSome now (λ rows. WritesPart a b (rows_text (rows_under Channel first rows)))
-stopped a b before now first after stays written =
-    told_map now (IsLeftBehind a b first after) (λ rows. WritesPart a b (rows_text (rows_under Channel first rows)))
-    (λ rows. part a b (rows_text (rows_under Channel first rows)) (rows_text (rows_under Channel after rows)))
-    (told_still before now (IsLeftBehind a b first after) stays written)
+  -- of the text of all held events that of those above a number is left
+  abbrev pub IsLeftAbove : Option (List ℕ) → Option (List ℕ) → ℕ → Rows → Type 0
+  IsLeftAbove a b after rows = IsWrittenUpTo a b (text_above 0 rows) (text_above after rows)
 
-module _ (a b : Option (List ℕ)) (before now : Option Rows) (first after : Key) (page : List Row) (text : List ℕ)
-    (stays : Stays before now) (written : IfSome before (IsLeftBehind a b first after)) (is : text ≡ flat_map row_line page) where
+  -- nothing is written yet
+  pub all_left : (a : Option (List ℕ)) (told : Option Rows) → IfSome told (IsLeftAbove a a 0)
+  all_left a told = told_any told (IsLeftAbove a a 0) (λ rows. unwritten a (text_above 0 rows))
+
+  -- where it stops, a front part was written
+  pub stopped : (a b : Option (List ℕ)) (before now : Option Rows) (after : ℕ) → Stays before now → IfSome before (IsLeftAbove a b after)
+      → IfSome now (λ rows. WritesPart a b (text_above 0 rows))
+  stopped a b before now after stays written =
+      told_map now (IsLeftAbove a b after) (λ rows. WritesPart a b (text_above 0 rows)) (λ rows. part a b (text_above 0 rows) (text_above after rows))
+      (told_still before now (IsLeftAbove a b after) stays written)
+
+module _ (u s c : List ℕ) (a b : Option (List ℕ)) (before now : Option Rows) (after : ℕ) (page : List Event) (text : List ℕ)
+    (stays : Stays before now) (written : IfSome before (IsLeftAbove u s c a b after)) (is : text ≡ flat_map event_line page) where
   abbrev whole : Rows → List ℕ
-  whole rows = rows_text (rows_under Channel first rows)
+  whole rows = text_above u s c 0 rows
 
-  abbrev behind : Rows → List Row
-  behind rows = rows_under Channel (last_key after page) rows
+  abbrev behind : Rows → List Event
+  behind rows = held_after rows u s c (last_number after page)
 
   -- the page comes next
   abbrev IsNext : Rows → Type 0
-  IsNext rows = rows_under Channel after rows ≡ page ++ behind rows
+  IsNext rows = held_after rows u s c after ≡ page ++ behind rows
 
   -- its text comes next
   abbrev IsLeftWith : Rows → Type 0
-  IsLeftWith rows = IsWrittenUpTo a b (whole rows) (text ++ rows_text (behind rows))
+  IsLeftWith rows = IsWrittenUpTo a b (whole rows) (text ++ events_text (behind rows))
 
   left_with : IfSome now IsNext → IfSome now IsLeftWith
   left_with next =
-      told_both now IsNext (IsLeftBehind a b first after) IsLeftWith next (told_still before now (IsLeftBehind a b first after) stays written)
-      (λ rows splits. subst (IsWrittenUpTo a b (whole rows)) (page_left (rows_under Channel after rows) page (behind rows) text splits is))
+      told_both now IsNext (IsLeftAbove u s c a b after) IsLeftWith next (told_still before now (IsLeftAbove u s c a b after) stays written)
+      (λ rows splits. subst (IsWrittenUpTo a b (whole rows)) (page_left (held_after rows u s c after) page (behind rows) text splits is))
 
   -- the output fails behind the page
   pub failed_behind : (d : Option (List ℕ)) → IfSome now IsNext → WritesPart b d text → IfSome now (λ rows. WritesPart a d (whole rows))
   failed_behind d next part =
-      told_map now IsLeftWith (λ rows. WritesPart a d (whole rows)) (λ rows left. part_further a b d (whole rows) text (rows_text (behind rows)) left part) (left_with next)
+      told_map now IsLeftWith (λ rows. WritesPart a d (whole rows)) (λ rows left. part_further a b d (whole rows) text (events_text (behind rows)) left part) (left_with next)
 
   -- the page is written
-  pub written_behind : (d : Option (List ℕ)) (last : Key) → IfSome now IsNext → Appends b d text → last ≡ last_key after page → IfSome now (IsLeftBehind a d first last)
+  pub written_behind : (d : Option (List ℕ)) (last : ℕ) → IfSome now IsNext → Appends b d text → last ≡ last_number after page → IfSome now (IsLeftAbove u s c a d last)
   written_behind d last next more is_last =
-      told_map now IsLeftWith (IsLeftBehind a d first last)
-      (λ rows left. subst (λ (k : Key). IsLeftBehind a d first k rows) (sym is_last) (page_written a b d (whole rows) text (rows_text (behind rows)) left more)) (left_with next)
+      told_map now IsLeftWith (IsLeftAbove u s c a d last)
+      (λ rows left. subst (λ (n : ℕ). IsLeftAbove u s c a d n rows) (sym is_last) (page_written a b d (whole rows) text (events_text (behind rows)) left more)) (left_with next)
 
   -- the page is the last
-  pub ended_behind : (ending : Ending) (d : Option (List ℕ)) (f g h : ℕ) → IfSome now (λ rows. rows_under Channel after rows ≡ page)
+  pub ended_behind : (m : ℕ) (ending : Ending) (d : Option (List ℕ)) (f g h : ℕ) → length page < m → IfSome now (λ rows. page ≡ take m (held_after rows u s c after)) → IfSome now IsNext
       → WroteLast (text ++ end_line) ending (record { before = b; after = d; faults_before = g; faults_after = h })
       → IfSome now (λ rows. WroteUpTo (whole rows) ending (record { before = a; after = d; faults_before = f; faults_after = h }))
-  ended_behind ending d f g h all wrote =
-      told_both now (λ rows. rows_under Channel after rows ≡ page) (IsLeftBehind a b first after)
-      (λ rows. WroteUpTo (whole rows) ending (record { before = a; after = d; faults_before = f; faults_after = h })) all (told_still before now (IsLeftBehind a b first after) stays written)
+  ended_behind m ending d f g h short first next wrote =
+      let all = told_both now (λ rows. page ≡ take m (held_after rows u s c after)) IsNext (λ rows. held_after rows u s c after ≡ page) first next
+      (λ rows is_page splits. last_page m (held_after rows u s c after) page (behind rows) is_page splits short) in
+      told_both now (λ rows. held_after rows u s c after ≡ page) (IsLeftAbove u s c a b after)
+      (λ rows. WroteUpTo (whole rows) ending (record { before = a; after = d; faults_before = f; faults_after = h })) all (told_still before now (IsLeftAbove u s c a b after) stays written)
       (λ rows last left. last_written ending (whole rows) (text ++ end_line) a b d f g h
-      (subst (IsWrittenUpTo a b (whole rows)) (last_left (rows_under Channel after rows) page text last is) left) wrote)
-
--- the number of the last row of a page that isn't empty is greater than that behind which it stands
-pub numbers_rise : (after : Key) (page : List Row) (number : ℕ) → 0 < length page → AllByRecursion (IsBehind Channel after) page → number ≡ last_row_number after.number page → after.number < number
-numbers_rise after page number some behind is =
-    subst (λ (n : ℕ). after.number < n) (sym is) (subst (λ (k : Key). after.number < k.number) (last_is after page behind) (page_rises after page some behind))
+      (subst (IsWrittenUpTo a b (whole rows)) (last_left (held_after rows u s c after) page text last is) left) wrote)

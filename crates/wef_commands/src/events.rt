@@ -1,16 +1,14 @@
 //! `events`: the events that are held of a source's channel.
 
 ghost use Rattle.std.specs.List.{flat_map};
-ghost use Rattle.std.specs.Prelude.{◌≡◌, ◌++◌, IfOk, IfSome, OnOk};
-ghost use Rattle.wef_collector_reports.specs.Report.{last_row_number};
+ghost use Rattle.std.specs.Prelude.{◌≡◌, ◌++◌, IfOk, IfSome};
 ghost use Rattle.wef_collector_rows.specs.Forms.{AreFormed};
 ghost use Rattle.wef_collector_rows.specs.Held.{held_rows};
 ghost use Rattle.wef_commands.specs.Endings.{told_of};
 ghost use Rattle.wef_commands.specs.Pages as pages;
 ghost use Rattle.wef_commands.specs.Showing as spec;
 ghost use Rattle.wef_keeper.specs.Access as access;
-ghost use Rattle.wef_keeper.specs.Sections.{rows_under};
-ghost use Rattle.wef_keeper.specs.declared.keys.Depth.TheVariants.{Channel};
+ghost use Rattle.wef_lines.specs.Printed.{event_line};
 
 use crate::calling::{named_ending, store_ending, write_done};
 use crate::ending::Ending;
@@ -18,11 +16,11 @@ use crate::streams::write_whole;
 use std::alloc::{AllocError, Global};
 use wef_base::{ChannelName, Sink, SourceName, SubId, Text};
 use wef_collector::Collector;
-use wef_collector_rows::CollectorForm;
-use wef_collector_rows::keys::held_key;
+use wef_collector_reports::held::{held_page, last_number_of};
 use wef_collector_rows::standings::known_in;
-use wef_keeper::forms::formed_page;
-use wef_keeper::{Depth, Keeper, Key, Row, StoreFault};
+use wef_event::Event;
+use wef_keeper::{Keeper, StoreFault};
+use wef_lines::push_events;
 
 /// How many events are read, and written, at once. No more of them are held in memory.
 const PAGE: u32 = 64;
@@ -69,7 +67,7 @@ fn write_held<K: Keeper, O: Sink>(
     }
 }
 
-/// Writes what is held for a subscription that there is.
+/// Writes what is held for a subscription that there is, page by page, and `end` behind it.
 fn write_known<K: Keeper, O: Sink>(
     alloc: Global,
     keeper: &mut K,
@@ -86,35 +84,15 @@ fn write_known<K: Keeper, O: Sink>(
     ensures cause { spec.EndsWriting result
         (told_of O.taken O.faults out.old out.new) }
 {
-    match held_key(name.as_text(), source.as_text(), channel.as_text(), 0) {
-        Ok(mut after) => write_behind(alloc, keeper, &mut after, out),
-        Err(_) => Ending::NoMemory,
-    }
-}
-
-/// Writes the events of a channel's rows behind a key, page by page, and `end` behind them. The key
-/// moves on to the last of them.
-fn write_behind<K: Keeper, O: Sink>(
-    alloc: Global,
-    keeper: &mut K,
-    after: &mut Key,
-    out: &mut O,
-) -> Ending
-    requires { access.IsReady (K.store keeper.old) }
-    ensures reads { access.Reads AreFormed (spec.is_store_failed result) (K.store keeper.old) (K.store keeper.new) }
-    ensures wrote { IfSome (K.store keeper.new).rows (λ rows. spec.WroteUpTo (pages.rows_text (rows_under Channel after.old rows)) result
-        (told_of O.taken O.faults out.old out.new)) }
-    ensures judged { IfSome (K.store keeper.new).rows (λ rows. spec.JudgesRows result (rows_under Channel after.old rows)) }
-    ensures cause { spec.EndsWriting result
-        (told_of O.taken O.faults out.old out.new) }
-{
-    loop {
-        let page = match formed_page::<CollectorForm, K>(keeper, after, Depth::Channel, PAGE) {
+    let mut after = 0;
+    'writing: loop {
+        let page = match held_page(keeper, name, source, channel, after, PAGE) {
             Ok(page) => page,
             Err(StoreFault::NoMemory) => return Ending::NoMemory,
             Err(StoreFault::Failed) => return Ending::StoreFailed,
         };
-        let text = match page_text(alloc, page.as_slice()) {
+        let events = page.as_slice();
+        let text = match page_text(alloc, events) {
             Ok(text) => text,
             Err(_) => return Ending::NoMemory,
         };
@@ -126,7 +104,7 @@ fn write_behind<K: Keeper, O: Sink>(
             Ok(()) => {}
             Err(_) => return Ending::OutputFailed,
         }
-        after.number = last_number(after.number, page.as_slice());
+        after = last_number_of(after, events);
     }
 }
 
@@ -143,34 +121,10 @@ fn write_last<O: Sink>(text: Text, out: &mut O) -> Ending
 }
 
 /// The lines of a page's events.
-fn page_text(alloc: Global, page: &[Row]) -> Result<Text, AllocError>
-    ensures { IfOk result (λ text. text ≡ flat_map pages.row_line page.now) }
+fn page_text(alloc: Global, events: &[Event]) -> Result<Text, AllocError>
+    ensures { IfOk result (λ text. text ≡ flat_map event_line events.now) }
 {
     let mut text = Text::new(alloc);
-    for row in page {
-        push_line(&mut text, row)?;
-    }
+    push_events(&mut text, events)?;
     Ok(text)
-}
-
-#[tactic(auto, unfolding(wef_lines::specs::Printed::event_line))]
-fn push_line(text: &mut Text, row: &Row) -> Result<(), AllocError>
-    ensures { OnOk result (text.new ≡ text.old ++ pages.row_line row.now) }
-{
-    text.push_str("event ")?;
-    text.push_number(row.key.number)?;
-    text.push_str(" ")?;
-    text.push_str(row.body.as_str())?;
-    text.push_str("\n")?;
-    Ok(())
-}
-
-/// The number of the last row, and the one given where there is none.
-fn last_number(after: u64, page: &[Row]) -> u64
-    ensures { result ≡ last_row_number after page.now }
-{
-    match page.split_last() {
-        Some((row, _)) => row.key.number,
-        None => after,
-    }
 }

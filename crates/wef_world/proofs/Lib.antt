@@ -2,7 +2,6 @@ pub mod Answered
 pub mod Asked
 pub mod Delivered
 pub mod Kept
-pub mod LastNumbers
 pub mod Ready
 pub mod Said
 pub mod Takings

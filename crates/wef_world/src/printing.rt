@@ -3,7 +3,7 @@
 ghost use Rattle.std.specs.Prelude.{◌≡◌, true, Some, IfOk, IfErr, OnOk};
 ghost use Rattle.wef_collector_rows.specs.Answers as answers;
 ghost use Rattle.wef_collector_rows.specs.Forms.{AreFormed};
-ghost use Rattle.wef_collector_rows.specs.Held.{held_after, last_number};
+ghost use Rattle.wef_collector_rows.specs.Held.{held_after};
 ghost use Rattle.wef_collector_rows.specs.Standing.{standing};
 ghost use Rattle.wef_lines.specs.Printed.{events_text};
 ghost use Rattle.wef_machine.specs.Printed as spec;
@@ -11,7 +11,7 @@ ghost use Rattle.wef_machine.specs.Printed as spec;
 use std::alloc::{AllocError, Global};
 use wef_base::{ChannelName, SourceName, SubId, Text};
 use wef_collector::{Collector, CollectorFault};
-use wef_event::Event;
+use wef_collector_reports::held::last_number_of;
 use wef_ids::FaultName;
 use wef_keeper::MemKeeper;
 use wef_lines::{name_line, push_events};
@@ -216,15 +216,5 @@ pub fn held_text(
             text.push_str("end\n")?;
             return Ok(text);
         }
-    }
-}
-
-/// The number of the last event, and the one given where there is none.
-fn last_number_of(after: u64, events: &[Event]) -> u64
-    ensures { result ≡ last_number after events.now }
-{
-    match events.split_last() {
-        Some((event, _)) => event.number,
-        None => after,
     }
 }

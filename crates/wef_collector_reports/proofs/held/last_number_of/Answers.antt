@@ -1,8 +1,8 @@
 use Rattle.std.proofs.Common.{◌∙◌, sym, ap}
 use Rattle.wef_event.specs.Events.{Event}
 use Rattle.wef_collector_rows.specs.Held.{last_number}
-use Rattle.wef_world.proofs.LastNumbers.{last_number-push}
-use Rattle.wef_world.proofs.printing.last_number_of.Goals as goal
+use Rattle.wef_collector_reports.proofs.HeldPages.{last_number-push}
+use Rattle.wef_collector_reports.proofs.held.last_number_of.Goals as goal
 
 pub returns-in-Some : goal.returns-in-Some
 returns-in-Some c =
