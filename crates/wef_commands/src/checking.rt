@@ -53,11 +53,10 @@ fn answers_of(alloc: Global, text: &[u8]) -> Result<Text, Ending>
         return Err(Ending::BadLine(1));
     }
     let (line, behind) = cut(text);
-    match list_in(alloc, line) {
-        Ok(Some(list)) => answers_from(alloc, &list, behind),
-        Ok(None) => Err(Ending::BadLine(1)),
-        Err(_) => Err(Ending::NoMemory),
-    }
+    let Some(list) = list_in(alloc, line)? else {
+        return Err(Ending::BadLine(1));
+    };
+    answers_from(alloc, &list, behind)
 }
 
 /// What is printed for lines of events, the first of which is line 2.
@@ -70,14 +69,10 @@ fn answers_from(alloc: Global, list: &QueryList, text: &[u8]) -> Result<Text, En
     while !rest.is_empty() {
         let (line, behind) = cut(rest);
         number += 1;
-        let selects = match answer_to(alloc, list, line) {
-            Ok(Some(selects)) => selects,
-            Ok(None) => return Err(Ending::BadLine(number)),
-            Err(_) => return Err(Ending::NoMemory),
+        let Some(selects) = answer_to(alloc, list, line)? else {
+            return Err(Ending::BadLine(number));
         };
-        if printed.push_str(answer_line(selects)).is_err() {
-            return Err(Ending::NoMemory);
-        }
+        printed.push_str(answer_line(selects))?;
         rest = behind;
     }
     Ok(printed)

@@ -50,6 +50,17 @@ pub enum Ending {
     Spent,
 }
 
+impl From<AllocError> for Ending {
+    ghost use Rattle.std.specs.Prelude.{◌≡◌};
+    ghost use Rattle.wef_commands.specs.declared.ending.Ending.TheVariants.{NoMemory};
+
+    ghost from_gives = { λ _ e. e ≡ NoMemory };
+
+    fn from(_error: AllocError) -> Ending {
+        Ending::NoMemory
+    }
+}
+
 impl Ending {
     /// The exit status.
     pub fn status(&self) -> u8

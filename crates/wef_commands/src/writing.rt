@@ -53,10 +53,8 @@ fn read_events<I: Source>(alloc: Global, input: &mut I) -> Result<Bytes, Ending>
         Err(InputFault::NoMemory | InputFault::TooLong) => return Err(Ending::NoMemory),
         Err(InputFault::Failed) => return Err(Ending::InputFailed),
     };
-    match judge(alloc, bytes.as_slice()) {
-        Ok(()) => Ok(bytes),
-        Err(ending) => Err(ending),
-    }
+    judge(alloc, bytes.as_slice())?;
+    Ok(bytes)
 }
 
 /// Judges the lines of a text, one after the other; or how the run ends.
@@ -69,10 +67,8 @@ fn judge(alloc: Global, text: &[u8]) -> Result<(), Ending>
     while !rest.is_empty() {
         let (line, behind) = cut(rest);
         number += 1;
-        match event_in(alloc, line) {
-            Ok(Some(_)) => {}
-            Ok(None) => return Err(Ending::BadLine(number)),
-            Err(_) => return Err(Ending::NoMemory),
+        if event_in(alloc, line)?.is_none() {
+            return Err(Ending::BadLine(number));
         }
         rest = behind;
     }
@@ -168,10 +164,9 @@ fn write_line<K: Keeper, O: Sink>(
         (K.store log.old.keeper) (K.store log.new.keeper)) }
     ensures later { O.faults out.old ≤ O.faults out.new }
 {
-    match event_in(alloc, line) {
-        Ok(Some(event)) => write_event(log, &event, number, out),
-        Ok(None) => unreachable!(),
-        Err(_) => Err(Ending::NoMemory),
+    match event_in(alloc, line)? {
+        Some(event) => write_event(log, &event, number, out),
+        None => unreachable!(),
     }
 }
 
@@ -201,10 +196,8 @@ fn tell<O: Sink>(channel: &ChannelName, number: u64, out: &mut O) -> Result<(), 
         (spec.written_line channel.now number) }
     ensures later { O.faults out.old ≤ O.faults out.new }
 {
-    match written_line(channel, number) {
-        Ok(text) => tell_line(text.as_str(), out),
-        Err(_) => Err(Ending::NoMemory),
-    }
+    let text = written_line(channel, number)?;
+    tell_line(text.as_str(), out)
 }
 
 #[tactic(auto, unfolding(crate::specs::Writing::written_line))]
