@@ -152,10 +152,8 @@ fn tell<O: Sink>(alloc: Global, number: u64, over: ConnectionEnd, out: &mut O) -
     if over == ConnectionEnd::NoMemory {
         return Err(Ending::NoMemory);
     }
-    match connection_line(alloc, number, over) {
-        Ok(line) => tell_line(line.as_str(), out),
-        Err(_) => Err(Ending::NoMemory),
-    }
+    let line = connection_line(alloc, number, over)?;
+    tell_line(line.as_str(), out)
 }
 
 /// Where it listens.

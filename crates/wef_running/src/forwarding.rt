@@ -207,10 +207,8 @@ fn tell_sessions<O: Sink>(alloc: Global, count: u64, out: &mut O) -> Result<(), 
         (spec.subscriptions_line count) }
     ensures later { O.faults out.old ≤ O.faults out.new }
 {
-    match subscriptions_line(alloc, count) {
-        Ok(text) => tell_line(text.as_str(), out),
-        Err(_) => Err(Ending::NoMemory),
-    }
+    let line = subscriptions_line(alloc, count)?;
+    tell_line(line.as_str(), out)
 }
 
 /// Tells what became of a batch, where there was one.
@@ -220,10 +218,8 @@ fn tell_exchange<O: Sink>(sub: &SubId, exchange: Exchange, out: &mut O) -> Resul
         (spec.line_of (sub.now, exchange)) }
     ensures later { O.faults out.old ≤ O.faults out.new }
 {
-    match exchange_line(sub, exchange) {
-        Ok(text) => tell_line(text.as_str(), out),
-        Err(_) => Err(Ending::NoMemory),
-    }
+    let line = exchange_line(sub, exchange)?;
+    tell_line(line.as_str(), out)
 }
 
 #[tactic(auto, unfolding(crate::specs::Forwarding::subscriptions_line))]
