@@ -6,6 +6,7 @@ pub mod FormsStaying
 pub mod ForwardingDue
 pub mod ForwardsCaused
 mod Hosts
+mod Leaving
 pub mod LinesDone
 pub mod TellingDue
 pub mod TooLong

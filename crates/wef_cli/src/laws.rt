@@ -1,6 +1,7 @@
 //! How runs end, as contracts.
 
 ghost use Rattle.wef_cli.specs.Complete.{BadLinesAreTold, EndsAsCalledFor, FailsWithCause};
+ghost use Rattle.wef_cli.specs.Leaving.{RunsLeave};
 ghost use Rattle.wef_cli.specs.Due.{AddsAsDue, CollectsAsDue, EventsAsDue, ForwardsAsDue, ListsAsDue, RemovesAsDue, ShowsAsDue, WritesAsDue};
 
 /// Where nothing fails, a run of `replay` or `check` ends as its input calls for, or wants memory.
@@ -33,3 +34,15 @@ pub fn endings_are_due()
 pub fn failed_stores_have_causes()
     ensures { FailsWithCause }
 {}
+
+/// Whatever its ending: any rows that an opening may find after a run are those that its command made of
+/// the rows that stood before it, by so many of its calls as were made, each of them whole. Where the
+/// store failed in a commit, the last of these may have been made or not.
+#[tactic(auto, using(crate::proofs::Leaving::runs_leave))]
+pub fn runs_leave_what_they_made()
+    ensures { RunsLeave }
+{
+    wef_commands::laws::no_run_does_more();
+    wef_running::laws::collecting_goes_by_rows();
+    wef_running::laws::forwarding_goes_by_rows();
+}

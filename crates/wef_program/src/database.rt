@@ -5,7 +5,8 @@ ghost use Rattle.wef_cli.specs.Command.{command_of};
 ghost use Rattle.wef_cli.specs.Runs.{RunEnds};
 ghost use Rattle.wef_commands.specs.Endings.{IsToldAs, told_of, status_of};
 ghost use Rattle.wef_commands.specs.declared.ending.Ending as the_ending;
-ghost use Rattle.wef_program.specs.InDatabase.{InDatabase, SaysOf, keeper_store};
+ghost use Rattle.wef_cli.specs.Leaving.{SaysOf};
+ghost use Rattle.wef_program.specs.InDatabase.{InDatabase, keeper_store};
 ghost use Rattle.wef_sqlite.specs.Keeping.{IsLeft, IsShown};
 
 use std::alloc::Global;
@@ -57,9 +58,7 @@ pub fn run_in_database<
     ensures shown { IsShown S.Store result.0.database.held (keeper_store result.0) }
     ensures left { IsLeft S.Store result.0.database.held (keeper_store result.0) }
 {
-    wef_commands::laws::no_run_does_more();
-    wef_running::laws::collecting_goes_by_rows();
-    wef_running::laws::forwarding_goes_by_rows();
+    wef_cli::laws::runs_leave_what_they_made();
     let (keeper, status) = wef_cli::run(alloc, words, input, out, err, keeper, front, link, clock);
     keeper.tells();
     (keeper, status)

@@ -3,6 +3,7 @@ pub mod Changes
 pub mod DatabaseLemmas
 pub mod Finds
 pub mod Gone
+pub mod Images
 pub mod Keeping
 pub mod Keys
 pub mod Making

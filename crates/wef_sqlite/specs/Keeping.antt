@@ -6,7 +6,7 @@ use Rattle.sqlite.specs.Held.{Held, state}
 use Rattle.sqlite.specs.State.{HasCleanDisk}
 use Rattle.sqlite_trees.specs.Tree.{Trees}
 use Rattle.sqlite_trees.specs.declared.store.Store.{Ghosts}
-use Rattle.wef_keeper.specs.Keeping.{IsLawful, IsOneOf, Store, WhereTold}
+use Rattle.wef_keeper.specs.Keeping.{IsLawful, IsOneOf, MayFind, Store, WhereTold}
 use Rattle.wef_keeper.specs.Rows.{Rows}
 use Rattle.wef_sqlite.specs.Contents.{are_rows, rows_in, table_in}
 use Rattle.wef_sqlite.specs.Telling.{Known, Told, committed_table}
@@ -51,6 +51,20 @@ IsShown g held store =
 abbrev pub IsLeft : {S : Type 0} → Ghosts S → Option (Held S) → Store → Type 0
 IsLeft g held store =
     IfSome store.images (λ images. WhereTold held (λ held. HasCleanDisk (state g held) → (trees : Trees) → (state g held).may_leave trees → (are_rows (table_in trees) ≡ true) × IsOneOf images (rows_in (table_in trees))))
+
+-- Rows that the next opening of a database finds where a crash ends now what is done with it: a disk that has returned what was
+-- written may leave them.
+pub record MayBeFound {S : Type 0} (g : Ghosts S) (held : Option (Held S)) (rows : Rows) : Type 0 where
+  pub table : Held S
+  pub is : held ≡ Some table
+  pub clean : HasCleanDisk (state g table)
+  pub trees : Trees
+  pub left : (state g table).may_leave trees
+  pub holds : rows_in (table_in trees) ≡ rows
+
+-- such rows are one of the images of a store that tells
+abbrev pub FindsImages : {S : Type 0} → Ghosts S → Option (Held S) → Store → Type 0
+FindsImages g held store = (last : Rows) → MayBeFound g held last → is_some store.images ≡ true → MayFind store last
 
 -- such a store keeps the laws of all
 pub lawful_store : {S : Type 0} (opened : Bool) (known : Known S) (tries reads faults : ℕ) → IsLawful (store_of opened known tries reads faults)

@@ -6,7 +6,7 @@ ghost use Rattle.wef_base.specs.Counts.{Rose};
 ghost use Rattle.wef_keeper.specs.Keeping.{Follows, HasFault, Stays, raised, row_at};
 ghost use Rattle.wef_keeper.specs.Rows.{applied, is_after, rows_after};
 ghost use Rattle.wef_keeper.specs.declared.keys.Row as the_row;
-ghost use Rattle.wef_sqlite.specs.Keeping.{IsLeft, IsShown, StaysSet, is_opened, store_of};
+ghost use Rattle.wef_sqlite.specs.Keeping.{FindsImages, IsLeft, IsShown, StaysSet, is_opened, store_of};
 
 use crate::database::Database;
 use crate::opening::{Opens, Origin};
@@ -88,6 +88,7 @@ impl<S: Opens> SqlKeeper<S> {
     pub fn tells(&self)
         ensures shown { IsShown S.Store self.now.database.held (store_of self.now.opened self.now.database self.now.tries self.now.reads self.now.faults) }
         ensures left { IsLeft S.Store self.now.database.held (store_of self.now.opened self.now.database self.now.tries self.now.reads self.now.faults) }
+        ensures found { FindsImages S.Store self.now.database.held (store_of self.now.opened self.now.database self.now.tries self.now.reads self.now.faults) }
     {
         self.database.tells();
     }
