@@ -1,6 +1,6 @@
 //! Stores in SQLite, over disks in memory.
 
-use crate::steps::push_steps;
+use crate::schedules::push_over;
 use sqlite::{Connection, Options};
 use sqlite_disk::{Files, Fuse, Memory};
 use std::alloc::{AllocError, Global};
@@ -74,8 +74,7 @@ fn push_opening<S: Opens>(
         *place = Some(conn);
         return told.push_str(if done { "done" } else { "refused" });
     }
-    let mut keeper = SqlKeeper::over(conn);
-    let pushed = push_steps(told, &mut keeper, steps);
+    let (keeper, pushed) = push_over(told, SqlKeeper::over(conn), steps);
     *place = keeper.into_connection();
     pushed
 }

@@ -2,7 +2,8 @@
 //!
 //! A line is steps with `; ` between them. A step that changes rows names each by the parts of its key,
 //! `KIND/SUBSCRIPTION/SOURCE/CHANNEL/NUMBER`, and by a value behind `=` where it puts the row; one without a
-//! value is taken away. In SQLite a store is opened anew behind ` then `, over the same database.
+//! value is taken away. In SQLite a store is opened anew behind ` then `, over the same database. Steps behind
+//! `collector ` are those of a collector over the store.
 #![tactic(auto)]
 
 mod beside;
@@ -10,6 +11,7 @@ mod databases;
 mod many;
 mod memory;
 mod rows;
+mod schedules;
 mod steps;
 
 use databases::{push_in_database, push_stopping};

@@ -1,5 +1,6 @@
 //! Stores in memory.
 
+use crate::schedules::push_over;
 use crate::steps::push_step;
 use std::alloc::AllocError;
 use wef_base::Text;
@@ -8,7 +9,12 @@ use wef_keeper::MemKeeper;
 /// What comes of the steps of a line in a store in memory, and whether a commit is armed behind each that
 /// arms or ends one.
 pub(crate) fn push_in_memory(shown: &mut Text, line: &str) -> Result<(), AllocError> {
-    push_steps_to(shown, &mut MemKeeper::new(shown.alloc()), line)
+    let mut keeper = MemKeeper::new(shown.alloc());
+    if line.starts_with("collector ") {
+        let (_, pushed) = push_over(shown, keeper, line);
+        return pushed;
+    }
+    push_steps_to(shown, &mut keeper, line)
 }
 
 fn push_steps_to(shown: &mut Text, keeper: &mut MemKeeper, line: &str) -> Result<(), AllocError> {
