@@ -1,6 +1,5 @@
 //! What a collector takes, over any store.
 
-ghost use Rattle.std.specs.List.{AllByRecursion};
 ghost use Rattle.std.specs.Prelude.{◌≡◌, ◌<◌, true, length, IfOk};
 ghost use Rattle.wef_batch.specs.Numbers.{AreNumbered, IsNumbered};
 ghost use Rattle.wef_eventing.specs.Subscriptions.{IsAllEvents};

@@ -1,5 +1,5 @@
 -- What each command leaves, by the laws of the commands.
-use Rattle.std.proofs.Common.{◌≡◌, [], ◌∷◌, List, Option, Some, None, IfSome, inl, inr, subst, sym}
+use Rattle.std.proofs.Common.{◌≡◌, [], ◌∷◌, List, Option, Some, None, IfSome, inl, inr, subst}
 use Rattle.wef_keeper.specs.Keeping.{IsOneOf, MayFind, Store, WhereTold}
 use Rattle.wef_keeper.specs.Rows.{Rows}
 use Rattle.wef_commands.specs.Laws.{AddLeaves, ReadersLeave, RemoveLeaves, Stand, WriteLeaves}

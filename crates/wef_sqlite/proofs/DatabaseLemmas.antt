@@ -1,18 +1,17 @@
 -- What a database tells stays so over its calls.
-use Rattle.std.proofs.Common.{◌≡◌, Bool, true, false, cond, List, Option, Some, None, Result, Ok, Err, IfSome, IfOk, OnOk, OnErr, IsTrue, is_err, refl, sym, ap, subst, ◌∙◌, arith}
+use Rattle.std.proofs.Common.{◌≡◌, Bool, true, false, List, Option, Some, None, Result, Ok, Err, IfSome, IfOk, OnOk, OnErr, IsTrue, is_err, refl, sym, subst, ◌∙◌, arith}
 use Rattle.std.specs.Option.{option_map}
 use Rattle.sqlite.specs.Held.{Held, state}
 use Rattle.sqlite.specs.State.{HasCleanDisk}
 use Rattle.sqlite_trees.proofs.Doubt.{clean_of, no_doubt}
 use Rattle.sqlite_trees.specs.Tree.{Trees}
-use Rattle.sqlite_trees.specs.View.{doubt}
 use Rattle.sqlite_trees.specs.declared.store.Store.{Ghosts}
 use Rattle.wef_keeper.specs.Keeping.{Follows, Stays, WhereTold}
 use Rattle.wef_keeper.specs.Rows.{Rows, applied}
 use Rattle.wef_keeper.specs.declared.keys.Change.{Change}
 use Rattle.wef_sqlite.proofs.TellingLemmas.{each_told, tells_again, tells_done, tells_failed, tells_read, tells_these, told_is}
 use Rattle.wef_sqlite.specs.Contents.{are_rows, rows_in}
-use Rattle.wef_sqlite.specs.Places.{CommitsAt, OnOpen, Remains, is_open}
+use Rattle.wef_sqlite.specs.Places.{CommitsAt, OnOpen, Remains}
 use Rattle.wef_sqlite.specs.Seeing.{Seeing}
 use Rattle.wef_sqlite.specs.Telling.{AreTold, Commits, IsAlive, ReadsTold, Told, Tells, committed_table, held_in, seen_after, telling, told_at, told_by}
 use Rattle.wef_sqlite.specs.declared.place.Place.{Place}
@@ -92,17 +91,6 @@ module _ {S : Type 0} (g : Ghosts S) where
       subst (λ o. WhereTold o (λ before. rows_in (committed_table g it.last) ≡ before.rows)) (sym (told_is g (state g h).is_clean seen d it clean is ours)) refl)
   follows_again Unopened seen d = tt
   follows_again (Given conn) seen d = tt
-
-  -- nothing is open that isn't
-  pub alive_unopened : (place : Place S) → is_open place ≡ false → IsAlive g (held_in place)
-  alive_unopened (Open h) shut = cc
-  alive_unopened Unopened shut = tt
-  alive_unopened (Given conn) shut = tt
-
-  pub untold_unopened : (place : Place S) (seen other : Option (Seeing S)) (d : Bool) → is_open place ≡ false → told_at g place seen d ≡ None
-  untold_unopened (Open h) seen other d shut = cc
-  untold_unopened Unopened seen other d shut = refl
-  untold_unopened (Given conn) seen other d shut = refl
 
   -- ---- after a commit
 

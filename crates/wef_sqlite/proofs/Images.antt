@@ -7,7 +7,7 @@ use Rattle.sqlite_trees.specs.declared.store.Store.{Ghosts}
 use Rattle.wef_keeper.specs.Keeping.{IsOneOf, Store, WhereTold}
 use Rattle.wef_keeper.specs.Rows.{Rows}
 use Rattle.wef_sqlite.specs.Contents.{are_rows, rows_in, table_in}
-use Rattle.wef_sqlite.specs.Keeping.{FindsImages, IsLeft, MayBeFound}
+use Rattle.wef_sqlite.specs.Keeping.{FindsImages, IsLeft}
 
 pub finds_images : {S : Type 0} (g : Ghosts S) (held : Option (Held S)) (store : Store) → IsLeft g held store → FindsImages g held store
 finds_images {S} g held store left last found some = go store.images left some

@@ -1,11 +1,11 @@
 -- What is committed stays, and an answer comes of a connection that is open.
-use Rattle.std.proofs.Common.{◌≡◌, ℕ, false, List, [], None, Some, Option, Result, Ok, Err, IfErr, IfOk, OnOk, IsTrue, refl, sym, ap, subst, ◌∙◌, inl, inr}
+use Rattle.std.proofs.Common.{◌≡◌, ℕ, false, List, [], None, Result, Ok, Err, IfErr, IfOk, IsTrue, refl, subst, ◌∙◌, inl, inr}
 use Rattle.sqlite.proofs.Callers.{IsPlain}
 use Rattle.sqlite.proofs.InsideLemmas.{keeps_then, unchanged_keeps}
 use Rattle.sqlite.specs.Clock.{timed}
 use Rattle.sqlite.specs.Held.{Held, state}
 use Rattle.sqlite.specs.Listing.{understood}
-use Rattle.sqlite.specs.State.{FailsToQuery, FailsToShow, Fails, HasCleanDisk, IsNoStatement, IsNotRun, IsUnchanged, KeepsCommit, Shown, ShowsRows, State, store_error}
+use Rattle.sqlite.specs.State.{FailsToQuery, FailsToShow, HasCleanDisk, IsNotRun, IsUnchanged, KeepsCommit, Shown, ShowsRows, State, store_error}
 use Rattle.sqlite.specs.declared.error.Error.{Error}
 use Rattle.sqlite.specs.declared.error.Error.TheVariants.{SqliteFailure}
 use Rattle.sqlite.specs.declared.error.ErrorCode.TheVariants as code

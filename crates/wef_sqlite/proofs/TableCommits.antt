@@ -1,5 +1,5 @@
 -- What a commit on the table makes of the rows that are committed.
-use Rattle.std.proofs.Common.{◌≡◌, ◌⊎◌, false, ℕ, List, [], Result, Ok, Err, IfErr, IfOk, OnErr, OnOk, arith, sym, ap, subst, ◌∙◌, inl, inr, IsTrue}
+use Rattle.std.proofs.Common.{◌≡◌, ◌⊎◌, false, ℕ, List, [], Result, Ok, Err, IfErr, IfOk, OnErr, OnOk, arith, sym, subst, ◌∙◌, inl, inr, IsTrue}
 use Rattle.sqlite.proofs.InsideLemmas.{keeps_then, unchanged_keeps}
 use Rattle.sqlite.specs.Effect.{Database}
 use Rattle.sqlite.specs.Held.{Held, state}

@@ -1,14 +1,13 @@
 -- What is told stays so: after an opening, a read, a commit that is done or fails, and at the end of a doubt.
-use Rattle.std.proofs.Common.{◌≡◌, ◌⊎◌, ◌<◌, ◌≤◌, Bool, true, false, cond, List, Option, Some, None, Result, Ok, Err, IfSome, IfOk, OnOk, OnErr, IsTrue, refl, sym, ap, subst, ◌∙◌, inl, inr, arith}
+use Rattle.std.proofs.Common.{◌≡◌, ◌⊎◌, ◌<◌, ◌≤◌, Bool, true, false, cond, List, Option, Some, None, Result, Ok, Err, IfSome, IfOk, OnOk, IsTrue, refl, sym, ap, subst, ◌∙◌, inl, inr, arith}
 use Rattle.std.proofs.lemmas.Bool.{cases_lt}
 use Rattle.sqlite.specs.Held.{Held, state}
-use Rattle.sqlite.specs.State.{HasCleanDisk, KeepsCommit, State, Survives}
-use Rattle.sqlite_trees.proofs.Doubt.{clean_of, no_doubt}
+use Rattle.sqlite.specs.State.{HasCleanDisk, KeepsCommit, Survives}
 use Rattle.sqlite_trees.specs.Tree.{Trees}
 use Rattle.sqlite_trees.specs.View.{doubt}
 use Rattle.sqlite_trees.specs.declared.store.Store.{Ghosts}
 use Rattle.wef_base.specs.declared.numbers.TheConstants.{MAX}
-use Rattle.wef_keeper.specs.Keeping.{Follows, Stays, WhereTold, row_at}
+use Rattle.wef_keeper.specs.Keeping.{row_at}
 use Rattle.wef_keeper.specs.Rows.{Rows}
 use Rattle.wef_keeper.specs.declared.keys.Key.{Key}
 use Rattle.wef_keeper.specs.declared.keys.Row.{Row}
@@ -17,7 +16,7 @@ use Rattle.wef_sqlite.proofs.TableCommits.{left_before}
 use Rattle.wef_sqlite.specs.Contents.{Moves, are_rows, rows_in, table_in}
 use Rattle.wef_sqlite.specs.Seeing.{Seeing}
 use Rattle.wef_sqlite.specs.declared.refusal.Refusal.{Refusal}
-use Rattle.wef_sqlite.specs.Telling.{AreTold, ReadsTold, Told, Tells, changed_by, committed_table, telling, told_by}
+use Rattle.wef_sqlite.specs.Telling.{ReadsTold, Told, Tells, committed_table, telling, told_by}
 
 -- a fact of whatever is told, shown of what was seen
 pub each_told : {S : Type 0} (g : Ghosts S) (clean : Bool) (seen : Option (Seeing S)) (doubt : Bool) (P : Told → Type 0)

@@ -1,8 +1,7 @@
 -- What the database of a keeper tells of its rows, and what that rests on.
-use Rattle.std.specs.Prelude.{◌≡◌, ◌⊎◌, ◌<◌, ◌∷◌, Bool, true, false, cond, refl, List, [], Option, Some, None, Result, Ok, Err, IfOk, IfSome, IsTrue, OnErr, OnOk}
+use Rattle.std.specs.Prelude.{◌≡◌, ◌⊎◌, ◌<◌, Bool, true, false, cond, refl, List, Option, Some, None, Result, Ok, Err, IfOk, IfSome, IsTrue, OnErr, OnOk}
 use Rattle.std.specs.Coded.{Coded, code_by, coded×, coded_bool, coded_option}
 use Rattle.std.specs.FinMap as finite
-use Rattle.std.specs.Option.{option_map}
 use Rattle.sqlite.specs.Held.{Held, held_code, state}
 use Rattle.sqlite.specs.State.{HasCleanDisk, KeepsCommit, State}
 use Rattle.sqlite_trees.specs.Tree.{Trees}

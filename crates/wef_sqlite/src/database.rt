@@ -1,8 +1,7 @@
 //! The database of a keeper, from before its opening on, and what it tells of its rows.
 
-ghost use Rattle.std.specs.Prelude.{◌≡◌, ◌≤◌, true, false, length, take, is_err, is_some, All, IfOk, IfSome, IsTrue, OnErr, OnOk};
+ghost use Rattle.std.specs.Prelude.{◌≡◌, ◌≤◌, true, false, length, take, is_err, is_some, All, IfOk, IfSome, OnErr, OnOk};
 ghost use Rattle.std.specs.declared.option.Option.TheVariants.{None};
-ghost use Rattle.sqlite.specs.Held.{state};
 ghost use Rattle.wef_keeper.specs.Keeping.{Follows, Stays, row_at};
 ghost use Rattle.wef_keeper.specs.Rows.{applied, is_after, rows_after};
 ghost use Rattle.wef_keeper.specs.declared.keys.Row as the_row;

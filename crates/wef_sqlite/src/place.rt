@@ -1,9 +1,7 @@
 //! Where the table stands, from before its opening on.
 
-ghost use Rattle.sqlite.specs.Held.{state};
-ghost use Rattle.sqlite.specs.State.{KeepsCommit, Survives};
 ghost use Rattle.std.specs.Option.{option_map};
-ghost use Rattle.std.specs.Prelude.{◌≡◌, ◌≤◌, true, length, take, is_some, All, IfOk, IsTrue, OnOk};
+ghost use Rattle.std.specs.Prelude.{◌≡◌, ◌≤◌, true, length, take, is_some, All, IfOk, OnOk};
 ghost use Rattle.std.specs.declared.option.Option.TheVariants.{None};
 ghost use Rattle.wef_keeper.specs.Keeping.{row_at};
 ghost use Rattle.wef_keeper.specs.Rows.{is_after, rows_after};

@@ -3,12 +3,12 @@
 ghost use Rattle.sqlite.specs.Held.{state, IsNew};
 ghost use Rattle.sqlite.specs.State.{HasCleanDisk, IsLive, KeepsCommit, Survives};
 ghost use Rattle.sqlite_trees.specs.Tree.{Trees};
-ghost use Rattle.std.specs.Prelude.{◌≡◌, ◌⊎◌, ◌≤◌, true, false, length, take, All, IsTrue, IfOk, OnErr, OnOk};
+ghost use Rattle.std.specs.Prelude.{◌≡◌, ◌≤◌, true, false, length, take, All, IsTrue, IfOk, OnOk};
 ghost use Rattle.wef_base.specs.declared.numbers.TheConstants.{MAX};
 ghost use Rattle.wef_keeper.specs.Keeping.{row_at};
-ghost use Rattle.wef_keeper.specs.Rows.{applied, is_after, rows_after};
+ghost use Rattle.wef_keeper.specs.Rows.{is_after, rows_after};
 ghost use Rattle.wef_keeper.specs.declared.keys.Row as the_row;
-ghost use Rattle.wef_sqlite.specs.Contents.{AreReadAt, IsWhole, Moves, are_rows, rows_in, table_in};
+ghost use Rattle.wef_sqlite.specs.Contents.{AreReadAt, IsWhole, are_rows, rows_in, table_in};
 ghost use Rattle.wef_sqlite.specs.Schema.{kept_schema};
 ghost use Rattle.wef_sqlite.specs.States.{IsReady, Rests};
 ghost use Rattle.wef_sqlite.specs.Telling.{Commits, ReadsTold};

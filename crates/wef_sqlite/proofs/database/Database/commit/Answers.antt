@@ -1,5 +1,5 @@
 -- What is told is what the commit made of it, or what it may have made.
-use Rattle.std.proofs.Common.{◌≡◌, ◌∙◌, false, is_err, OnErr, OnOk, ap, subst, sym}
+use Rattle.std.proofs.Common.{◌≡◌, ◌∙◌, false, OnErr, OnOk, ap, subst, sym}
 use Rattle.wef_keeper.specs.Keeping.{Follows}
 use Rattle.wef_keeper.specs.Rows.{applied}
 use Rattle.wef_sqlite.proofs.DatabaseLemmas.{done_follows, failed_follows, told_committed}

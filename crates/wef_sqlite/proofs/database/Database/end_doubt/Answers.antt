@@ -1,6 +1,6 @@
 -- A doubt ends with the rows that stand.
 use Rattle.std.proofs.Common.{rules}
-use Rattle.wef_sqlite.proofs.DatabaseLemmas.{follows_again, told_again}
+use Rattle.wef_sqlite.proofs.DatabaseLemmas.{told_again}
 use Rattle.wef_sqlite.proofs.database.Database.end_doubt.Goals as goal
 
 pub invariant_of-self : goal.invariant_of-self

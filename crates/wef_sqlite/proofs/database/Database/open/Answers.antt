@@ -1,6 +1,6 @@
 -- The first opening tells what it finds.
-use Rattle.std.proofs.Common.{◌≡◌, rules}
-use Rattle.wef_sqlite.proofs.DatabaseLemmas.{alive_unopened, told_opened}
+use Rattle.std.proofs.Common.{rules}
+use Rattle.wef_sqlite.proofs.DatabaseLemmas.{told_opened}
 use Rattle.wef_sqlite.proofs.database.Database.open.Goals as goal
 
 pub invariant_of-self-then-is_first-3 : goal.invariant_of-self-then-is_first-3
