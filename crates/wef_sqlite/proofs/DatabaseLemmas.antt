@@ -85,13 +85,6 @@ module _ {S : Type 0} (g : Ghosts S) where
     told_again Unopened seen d alive told = tt
     told_again (Given conn) seen d alive told = tt
 
-  pub follows_again : (place : Place S) (seen : Option (Seeing S)) (d : Bool) → Follows (told_at g place seen d) (told_at g place seen false) (λ before now. now.rows ≡ before.rows)
-  follows_again (Open h) seen d =
-      each_told g (state g h).is_clean seen false (λ now. WhereTold (told_by g (state g h).is_clean seen d) (λ before. now.rows ≡ before.rows)) (λ it clean is ours.
-      subst (λ o. WhereTold o (λ before. rows_in (committed_table g it.last) ≡ before.rows)) (sym (told_is g (state g h).is_clean seen d it clean is ours)) refl)
-  follows_again Unopened seen d = tt
-  follows_again (Given conn) seen d = tt
-
   -- ---- after a commit
 
   module _ (settles : (s : S) (db : Trees) → IsTrue (g.view s).is_open → g.recovers s db → db ≡ (g.view s).committed) (changes : List Change) where

@@ -1,5 +1,5 @@
 -- What is committed stays, and an answer comes of a connection that is open.
-use Rattle.std.proofs.Common.{◌≡◌, ℕ, false, List, [], None, Result, Ok, Err, IfErr, IfOk, IsTrue, refl, subst, ◌∙◌, inl, inr}
+use Rattle.std.proofs.Common.{◌≡◌, ℕ, false, List, [], None, Result, Ok, Err, IfErr, IfOk, IsTrue, refl, subst, inl, inr}
 use Rattle.sqlite.proofs.Callers.{IsPlain}
 use Rattle.sqlite.proofs.InsideLemmas.{keeps_then, unchanged_keeps}
 use Rattle.sqlite.specs.Clock.{timed}
@@ -14,7 +14,6 @@ use Rattle.sqlite_trees.specs.declared.error.StoreError.TheVariants.{OutOfMemory
 use Rattle.sqlite_trees.specs.declared.store.Store.{Ghosts}
 use Rattle.sqlite_value.specs.Order.{Row as Columns}
 use Rattle.wef_sqlite.proofs.Ready.{clean_if_open}
-use Rattle.wef_sqlite.specs.States.{Rests}
 
 pub keeps_itself : (s : State) → KeepsCommit s s
 keeps_itself s = record { was_open = λ h. h; committed = λ _. refl }
@@ -52,10 +51,6 @@ asked items sql params old new (Err e) plain ok err = failed_keeps sql params ol
 -- a query that is shown finds the connection open
 pub shown_open : (sql : List ℕ) (params : Columns) (old new : State) (rows : List Columns) → IsPlain (understood old.now.schema sql) → Shown sql params old new rows → IsTrue new.is_open
 shown_open sql params old new rows plain h = (unchanged_if_shown sql params old new rows plain h).0.is_open
-
--- a connection that is as open as one that is open is so
-pub rests_open : (old new : State) → Rests old new → IsTrue old.is_open → IsTrue new.is_open
-rests_open old new rests was = rests.is_open ∙ was
 
 module _ {S : Type 0} (g : Ghosts S) (shut_if_dirty : (s : S) → (g.view s).is_clean ≡ false → (g.view s).is_open ≡ false) (old new : Held S) where
   -- what is known of a clean disk is all that is asked

@@ -13,8 +13,7 @@ use Rattle.sqlite_trees.specs.View.{View, doubt, IsClean, IsOrdered, IsShaped}
 use Rattle.sqlite_trees.specs.declared.store.Shape.{Shape}
 use Rattle.sqlite_trees.specs.declared.store.Shape.TheVariants as shape
 use Rattle.sqlite_trees.specs.declared.store.Store.{Ghosts}
-use Rattle.wef_keeper.specs.Rows.{Rows}
-use Rattle.wef_sqlite.specs.Contents.{IsOurs, LeavesRows, table_in}
+use Rattle.wef_sqlite.specs.Contents.{IsOurs, table_in}
 use Rattle.wef_sqlite.specs.Schema.{kept_schema, kept_table}
 use Rattle.wef_sqlite.specs.States.{IsReady, Rests}
 use Rattle.wef_sqlite.specs.declared.refusal.Refusal.{Refusal}
@@ -30,13 +29,6 @@ pub ready_read : (old new : State) → Survives old new (λ _. ⊥) → IsReady 
 ready_read old new survives ready clean trees left = elim (survives.crash clean trees left) [
   | inl was ↦ ready (omega (arith, survives.clean, clean)) trees was
   | inr none ↦ absurd none
-]
-
--- and after a commit it leaves that, or a table of ours
-pub ready_commit : (old new : State) (f : Rows → Rows) → Survives old new (LeavesRows f old.now) → IsReady old → IsReady new
-ready_commit old new f survives ready clean trees left = elim (survives.crash clean trees left) [
-  | inl was ↦ ready (omega (arith, survives.clean, clean)) trees was
-  | inr made ↦ made.shaped
 ]
 
 -- the laws of a store that are needed here
