@@ -88,7 +88,6 @@ fn asked(
     request: &Request,
     second: u64,
 ) -> Result<Answer, AllocError> {
-    let now = Moment::of(second.saturating_mul(1_000)).unwrap_or(Moment::first());
     collector_answer(
         alloc,
         collector,
@@ -96,7 +95,7 @@ fn asked(
         &host(alloc)?,
         request.charset,
         &request.body,
-        now,
+        Moment::of(second.saturating_mul(1_000)).unwrap_or(Moment::first()),
     )
 }
 

@@ -131,8 +131,8 @@ fn push_ask(
     link: &mut MemLink,
     source: &mut SourceEnd<MemKeeper>,
 ) -> Result<(), AllocError> {
-    let alloc = shown.alloc();
-    match ask_once(alloc, link, source, &host(alloc)?, Moment::first()) {
+    let host = host(shown.alloc())?;
+    match ask_once(shown.alloc(), link, source, &host, Moment::first()) {
         Ok(Some(count)) => {
             shown.push_str("adopted ")?;
             shown.push_number(count)

@@ -136,13 +136,13 @@ fn wished(task: &str) -> Option<Way> {
     let way = match task {
         // What is said to Enumerates at the path of the subscriptions.
         "enumerate" => WISHED,
-        // The whole answer.
-        "enumerate whole" => WISHED_WHOLE,
         // The same where the source `pc1` delivers for the subscription `base`.
         "enumerate elsewhere" => Way {
             place: Place::Base,
             ..WISHED
         },
+        // The whole answer.
+        "enumerate whole" => WISHED_WHOLE,
         // The same in UTF-16, decoded.
         "enumerate utf-16" => Way {
             kind: Kind::WideWish,

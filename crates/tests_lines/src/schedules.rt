@@ -11,7 +11,7 @@ pub fn push_replayed(shown: &mut Text, schedule: &[u8]) -> Result<(), AllocError
 
 /// Appends the same of a line behind one that adds a subscription, in lines that stand in as an answer
 /// does.
-pub fn push_replayed_last(shown: &mut Text, line: &str) -> Result<bool, AllocError> {
+pub fn push_replayed_last(shown: &mut Text, line: &str) -> Result<(), AllocError> {
     let mut schedule = Bytes::from_slice(shown.alloc(), BASE.as_bytes())?;
     schedule.extend(line.as_bytes())?;
     let mut whole = Text::new(shown.alloc());
@@ -24,7 +24,7 @@ pub fn push_replayed_last(shown: &mut Text, line: &str) -> Result<bool, AllocErr
         shown.push_str(line)?;
         is_next = true;
     }
-    Ok(true)
+    Ok(())
 }
 
 fn push_outcome(shown: &mut Text, outcome: &Outcome) -> Result<(), AllocError> {

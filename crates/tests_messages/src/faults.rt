@@ -20,6 +20,13 @@ pub(crate) fn push_fault(shown: &mut Text, line: &str) -> Result<(), AllocError>
     }
 }
 
+fn push_refusal(shown: &mut Text, fault: &EnvelopeFault) -> Result<(), AllocError> {
+    match fault {
+        EnvelopeFault::NoMemory => Err(AllocError),
+        _ => shown.push_str("NotSoap"),
+    }
+}
+
 fn push_parts(shown: &mut Text, fault: &Fault) -> Result<(), AllocError> {
     shown.push_str(match fault.code {
         FaultCode::Sender => "Sender ",
@@ -30,13 +37,6 @@ fn push_parts(shown: &mut Text, fault: &Fault) -> Result<(), AllocError> {
         shown.push_str("another: ")?;
     }
     shown.push_str(fault.name.as_str())
-}
-
-fn push_refusal(shown: &mut Text, fault: &EnvelopeFault) -> Result<(), AllocError> {
-    match fault {
-        EnvelopeFault::NoMemory => Err(AllocError),
-        _ => shown.push_str("NotSoap"),
-    }
 }
 
 /// The action and the tree of the fault of a name.

@@ -44,21 +44,29 @@ fn push_number(shown: &mut Text, word: &str, number: u64) -> Result<(), AllocErr
 
 fn push_queries(shown: &mut Text, items: &[QueryItem]) -> Result<(), AllocError> {
     for item in items {
-        push_number(shown, " ", item.group)?;
-        shown.push_str(if item.suppress { "-" } else { "+" })?;
-        shown.push_str(item.channel.as_text().as_str())?;
+        push_query(shown, item)?;
     }
     Ok(())
 }
 
+fn push_query(shown: &mut Text, item: &QueryItem) -> Result<(), AllocError> {
+    push_number(shown, " ", item.group)?;
+    shown.push_str(if item.suppress { "-" } else { "+" })?;
+    shown.push_str(item.channel.as_text().as_str())
+}
+
 fn push_sources(shown: &mut Text, sources: &[SourceAt]) -> Result<(), AllocError> {
     for source in sources {
-        shown.push_str("; ")?;
-        shown.push_str(source.name.as_text().as_str())?;
-        shown.push_str(" at ")?;
-        shown.push_str(source.address.as_str())?;
+        push_source(shown, source)?;
     }
     Ok(())
+}
+
+fn push_source(shown: &mut Text, source: &SourceAt) -> Result<(), AllocError> {
+    shown.push_str("; ")?;
+    shown.push_str(source.name.as_text().as_str())?;
+    shown.push_str(" at ")?;
+    shown.push_str(source.address.as_str())
 }
 
 fn push_fault(shown: &mut Text, fault: DocumentFault) -> Result<(), AllocError> {

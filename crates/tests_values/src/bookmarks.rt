@@ -97,23 +97,31 @@ fn push_order(shown: &mut Text, here: &Bookmark, there: &Bookmark) -> Result<(),
     })
 }
 
-/// The number of each channel, in parentheses where the bookmark has none for it.
 fn push_numbers(
     shown: &mut Text,
     bookmark: &Bookmark,
     names: &[ChannelName],
 ) -> Result<(), AllocError> {
     for name in names {
-        let (before, after) = if bookmark.has(name) {
-            (" ", "")
-        } else {
-            (" (", ")")
-        };
-        shown.push_str(before)?;
-        shown.push_str(name.as_text().as_str())?;
-        shown.push(' ')?;
-        shown.push_number(bookmark.at(name))?;
-        shown.push_str(after)?;
+        push_number(shown, bookmark, name)?;
     }
     Ok(())
+}
+
+/// A channel's number, in parentheses where the bookmark has none for it.
+fn push_number(
+    shown: &mut Text,
+    bookmark: &Bookmark,
+    name: &ChannelName,
+) -> Result<(), AllocError> {
+    let (before, after) = if bookmark.has(name) {
+        (" ", "")
+    } else {
+        (" (", ")")
+    };
+    shown.push_str(before)?;
+    shown.push_str(name.as_text().as_str())?;
+    shown.push(' ')?;
+    shown.push_number(bookmark.at(name))?;
+    shown.push_str(after)
 }

@@ -52,13 +52,13 @@ fn push_item(shown: &mut Text, item: &QueryItem) -> Result<(), AllocError> {
     shown.push_str(item.text.as_str())
 }
 
-/// What is wrong with a list of queries.
+/// What is wrong with a list of queries, by the name of its fault.
 pub(crate) fn push_fault(shown: &mut Text, fault: QueryFault) -> Result<(), AllocError> {
     match fault {
         QueryFault::NoMemory => Err(AllocError),
-        QueryFault::BadQuery { item, at } => push_place(shown, "bad", item, at),
-        QueryFault::Unsupported { item, at } => push_place(shown, "unsupported", item, at),
-        QueryFault::TooDeepQuery { item, at } => push_place(shown, "too deep", item, at),
+        QueryFault::BadQuery { item, at } => push_place(shown, "BadQuery", item, at),
+        QueryFault::Unsupported { item, at } => push_place(shown, "Unsupported", item, at),
+        QueryFault::TooDeepQuery { item, at } => push_place(shown, "TooDeepQuery", item, at),
     }
 }
 
