@@ -3,7 +3,7 @@
 //!
 //! With words behind its name it is `wef`.
 //!
-//! A line `=== CRATE TASK: TITLE` says which crate of tests answers each line behind it, and as what. Behind
+//! A line `=== CRATE TASK: TITLE` says which crate of tests answers each line after it, and as what. After
 //! a line `=== many CRATE TASK: TITLE` they stand for longer ones, in which `~PIECE~COUNT~` is so many of a piece.
 //! Behind a line `=== script: TITLE` each is the name of a script. Behind `=== link: TITLE` each says what a link
 //! over TCP is to do, one link for all: so a script that runs this program without words has a client. A line
@@ -112,6 +112,7 @@ fn push_answer(shown: &mut Text, name: &str, line: &str) -> Result<bool, AllocEr
         "messages" => tests_messages::push_answer(shown, task, line),
         "http" => tests_http::push_answer(shown, task, line),
         "stores" => tests_stores::push_answer(shown, task, line),
+        "exchanges" => tests_exchanges::push_answer(shown, task, line),
         "answers" => tests_answers::push_answer(shown, task, line),
         "runs" => tests_runs::push_answer(shown, task, line),
         "ends" => tests_ends::push_answer(shown, task, line),
