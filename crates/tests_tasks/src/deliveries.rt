@@ -13,8 +13,8 @@ pub fn edited(alloc: Global, edits: &str) -> Result<Bytes, AllocError> {
     edited_from(alloc, DELIVERY, edits)
 }
 
-/// A document with edits, each `OLD => NEW`, with ` | ` between them; `as it is` for none. It is
-/// `no such text` where an edit's isn't there.
+/// A document with edits, each `OLD => NEW`, with ` | ` between them; `as it is` for none. Where an edit's text isn't
+/// there, the line is no test, and nothing answers it.
 pub fn edited_from(alloc: Global, document: &str, edits: &str) -> Result<Bytes, AllocError> {
     let mut document = Text::from_str(alloc, document)?;
     if edits != "as it is" {
@@ -28,7 +28,7 @@ pub fn edited_from(alloc: Global, document: &str, edits: &str) -> Result<Bytes, 
 fn edited_once(alloc: Global, document: &str, edit: &str) -> Result<Text, AllocError> {
     let (old, new) = edit.split_once(" => ").unwrap_or((edit, ""));
     let Some((before, after)) = document.split_once(old) else {
-        return Text::from_str(alloc, "no such text");
+        return Err(AllocError);
     };
     let mut text = Text::from_str(alloc, before)?;
     text.push_str(new)?;
