@@ -1,12 +1,14 @@
 //! Calls of both ends that no command makes or that come to limits: pages of held events, an event at its
-//! greatest length, the window of a log, and how often a source was started.
+//! greatest length, the window of a log, how often a source was started, and numbers at their greatest.
 #![tactic(auto)]
 
 mod events;
+mod greatest;
 mod lengths;
 mod logs;
 
 use events::push_events;
+use greatest::{push_greatest, push_spent};
 use lengths::push_length;
 use logs::{push_starts, push_window};
 use std::alloc::AllocError;
@@ -25,6 +27,11 @@ pub fn push_answer(shown: &mut Text, task: &str, line: &str) -> Result<bool, All
         "window" => push_window(shown, line),
         // What a source counts that is started so often.
         "starts" => push_starts(shown, number_of(line)),
+        // What runs come to over a store whose log, or whose end, has one number at its greatest: `NUMBER: RUNS`,
+        // NUMBER being `last number`, `source's boot` or `collector's boot`.
+        "greatest" => push_greatest(shown, line),
+        // What is told where a source has no ids left.
+        "spent" => push_spent(shown),
         _ => return Ok(false),
     };
     pushed?;
