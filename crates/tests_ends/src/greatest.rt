@@ -10,7 +10,7 @@ use wef_keeper::{Change, Keeper, Key, MemKeeper, Row};
 use wef_source_log::keys as log_keys;
 
 /// What the runs of `NUMBER: RUNS` come to, one after the other over a store that has this number alone, at its
-/// greatest; and the rows behind the last.
+/// greatest; and the rows after the last.
 pub(crate) fn push_greatest(shown: &mut Text, line: &str) -> Result<(), AllocError> {
     let (number, runs) = line.split_once(": ").unwrap_or((line, ""));
     let mut keeper = holding(shown.alloc(), number)?;

@@ -1,14 +1,14 @@
 //! Has the lines of its input answered, replays its schedules, and runs its scripts with itself as `wef`, each
 //! command a process of its own; and prints what comes of each.
 //!
-//! With words behind its name it is `wef`.
+//! With words after its name it is `wef`.
 //!
 //! A line `=== CRATE TASK: TITLE` says which crate of tests answers each line after it, and as what. After
 //! a line `=== many CRATE TASK: TITLE` they stand for longer ones, in which `~PIECE~COUNT~` is so many of a piece.
-//! Behind a line `=== script: TITLE` each is the name of a script. Behind `=== link: TITLE` each says what a link
+//! After a line `=== script: TITLE` each is the name of a script. After `=== link: TITLE` each says what a link
 //! over TCP is to do, one link for all: so a script that runs this program without words has a client. A line
-//! `=== schedule: TITLE` begins a schedule of the lines behind it, and behind a line `=== each: TITLE` every
-//! line is a schedule of its own: it stands last, without an end of its line, behind a line that adds the
+//! `=== schedule: TITLE` begins a schedule of the lines after it, and after a line `=== each: TITLE` every
+//! line is a schedule of its own: it stands last, without an end of its line, after a line that adds the
 //! subscription `base`.
 #![tactic(auto)]
 
