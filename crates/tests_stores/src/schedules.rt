@@ -32,11 +32,7 @@ pub(crate) fn push_over<K: Keeper>(
 
 /// Has a collector over a store do steps with `; ` between them, and appends what comes of each: `add NAME
 /// CHANNEL..`, `batch ..` as a line of a schedule has it, and `show`.
-fn push_taken<K: Keeper>(
-    shown: &mut Text,
-    keeper: K,
-    steps: &str,
-) -> (K, Result<(), AllocError>) {
+fn push_taken<K: Keeper>(shown: &mut Text, keeper: K, steps: &str) -> (K, Result<(), AllocError>) {
     match Collector::start(shown.alloc(), keeper) {
         Ok(collector) => {
             let mut collector = collector;

@@ -25,15 +25,7 @@ use wef_sqlite::{Opens, SqlKeeper};
 /// is what the command made of the rows that stood in it, or of a front part of its calls. So what
 /// `collect` acknowledged stands in it. That nobody else writes the database, and that its disk returns
 /// what was written, is the premise; of a database that was opened anew after a failure nothing is said.
-pub fn run_in_database<
-    S: Opens,
-    I: Source,
-    O: Sink,
-    E: Sink,
-    F: Front,
-    L: Link,
-    C: Clock,
->(
+pub fn run_in_database<S: Opens, I: Source, O: Sink, E: Sink, F: Front, L: Link, C: Clock>(
     alloc: Global,
     words: &[Text],
     input: &mut I,

@@ -14,8 +14,10 @@ finds_images {S} g held store left last found some = go store.images left some
   where
     table : Held S
     table = found.table
+
     Left : List Rows → Held S → Type 0
     Left images held = HasCleanDisk (state g held) → (trees : Trees) → (state g held).may_leave trees → (are_rows (table_in trees) ≡ true) × IsOneOf images (rows_in (table_in trees))
+
     go : (images : Option (List Rows)) → IfSome images (λ images. WhereTold held (λ held. HasCleanDisk (state g held) → (trees : Trees) → (state g held).may_leave trees → (are_rows (table_in trees) ≡ true) × IsOneOf images (rows_in (table_in trees))))
         → is_some images ≡ true → WhereTold images (λ images. IsOneOf images last)
     go None left some = absurd (let e = some in cc)

@@ -72,6 +72,7 @@ lawful_store opened known tries reads faults = law opened known.told known.doubt
   where
     store : Bool → Option Told → Bool → Store
     store opened told doubt = record { rows = rows_told opened told; images = images_told opened doubt told; doubt = doubt; tries = tries; reads = reads; faults = faults; opened = opened; plan = None }
+
     law : (opened : Bool) (told : Option Told) (doubt : Bool) → IsLawful (store opened told doubt)
     law false told doubt = record { both = refl; tells = tt; few = tt; only = λ _. tt; among = tt }
     law true None doubt = record { both = refl; tells = tt; few = tt; only = λ _. tt; among = tt }

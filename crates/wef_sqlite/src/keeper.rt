@@ -40,10 +40,7 @@ impl<S: Opens> SqlKeeper<S> {
     pub fn at(rt: HostRuntime, path: Text) -> Result<SqlKeeper<S>, KeeperFault>
         ensures { IfOk result (λ keeper. keeper ≡ record keeper { opened = false; may_be_shut = false; tries = 0; reads = 0; faults = 0; database = record { held = None; told = None; doubt = false; connected = false } }) }
     {
-        Ok(SqlKeeper::new(
-            Some(Origin { rt, path }),
-            Database::unopened(),
-        ))
+        Ok(SqlKeeper::new(Some(Origin { rt, path }), Database::unopened()))
     }
 
     /// A keeper over an open connection, whose table the first call looks for. It takes no memory.
