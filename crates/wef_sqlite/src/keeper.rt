@@ -1,7 +1,7 @@
 //! The keeper whose rows stand in a database, and which tells them.
 
 ghost use Rattle.std.specs.Prelude.{◌≡◌, if◌then◌else◌, ◌≤◌, true, length, take, All, is_err, is_some, false, IfOk, IfErr, IfSome, OnErr, OnOk};
-ghost use Rattle.std.specs.declared.option.Option.TheVariants.{None};
+ghost use Rattle.std.specs.declared.option.Option.TheVariants.{None, Some};
 ghost use Rattle.wef_base.specs.Counts.{Rose};
 ghost use Rattle.wef_keeper.specs.Keeping.{Follows, HasFault, Stays, raised, row_at};
 ghost use Rattle.wef_keeper.specs.Rows.{applied, is_after, rows_after};
@@ -38,7 +38,7 @@ impl<S: Opens> SqlKeeper<S> {
     /// A keeper of the database at a path, which the first call opens, and makes where it isn't
     /// there. Nothing is opened yet.
     pub fn at(rt: HostRuntime, path: Text) -> Result<SqlKeeper<S>, KeeperFault>
-        ensures { IfOk result (λ keeper. keeper ≡ record keeper { opened = false; may_be_shut = false; tries = 0; reads = 0; faults = 0; database = record { held = None; told = None; doubt = false; connected = false } }) }
+        ensures { result ≡ Ok (record { origin = Some (record { rt = rt; path = path }); database = record { held = None; told = None; doubt = false; connected = false }; opened = false; may_be_shut = false; tries = 0; reads = 0; faults = 0 }) }
     {
         Ok(SqlKeeper::new(Some(Origin { rt, path }), Database::unopened()))
     }

@@ -1,7 +1,7 @@
 //! Where the table stands, from before its opening on.
 
 ghost use Rattle.std.specs.Option.{option_map};
-ghost use Rattle.std.specs.Prelude.{◌≡◌, ◌≤◌, true, length, take, is_some, All, IfOk, OnOk};
+ghost use Rattle.std.specs.Prelude.{◌≡◌, ◌≤◌, true, false, length, take, is_some, All, IfOk, OnOk};
 ghost use Rattle.std.specs.declared.option.Option.TheVariants.{None};
 ghost use Rattle.wef_keeper.specs.Keeping.{row_at};
 ghost use Rattle.wef_keeper.specs.Rows.{is_after, rows_after};
@@ -100,6 +100,8 @@ impl<S: Opens> Place<S> {
 
     /// The row of a key, or none where there is none. Failed where the table isn't open.
     pub fn get(&mut self, key: &Key) -> Result<Option<Row>, Refusal>
+        ensures unopened { is_open self.old ≡ false → result ≡ Err Refusal.Failed }
+        ensures stays { is_open self.old ≡ true → is_open self.new ≡ true }
         ensures told { OnOpen self.new (λ now. ReadsTold S.Store now result (λ row rows. row ≡ row_at key.now rows)) }
         ensures remains { Remains S.Store self.old self.new }
     {
@@ -113,6 +115,8 @@ impl<S: Opens> Place<S> {
     /// the table isn't open.
     pub fn page(&mut self, after: &Key, max: u32) -> Result<List<Row>, Refusal>
         requires { 1 ≤ max }
+        ensures unopened { is_open self.old ≡ false → result ≡ Err Refusal.Failed }
+        ensures stays { is_open self.old ≡ true → is_open self.new ≡ true }
         ensures told { OnOpen self.new (λ now. ReadsTold S.Store now result (λ page rows. page ≡ take max (rows_after after.now rows))) }
         ensures size { IfOk result (λ page. length page ≤ max) }
         ensures behind { IfOk result (All (λ (row : the_row.Row). is_after after.now row.key ≡ true)) }
@@ -131,7 +135,9 @@ impl<S: Opens> Place<S> {
         seen: &mut Option<Seen<S>>,
         changes: &List<Change>,
     ) -> Result<(), Refusal>
-        ensures { CommitsAt S.Store changes.now result self.old self.new seen.old seen.new }
+        ensures unopened { is_open self.old ≡ false → result ≡ Err Refusal.Failed }
+        ensures stays { is_open self.old ≡ true → is_open self.new ≡ true }
+        ensures commits { CommitsAt S.Store changes.now result self.old self.new seen.old seen.new }
     {
         match self {
             Place::Open(table) => committed(table, seen, changes),
