@@ -1,6 +1,6 @@
 -- A kept name reads back as itself: trimming, testing and spelling it again change nothing.
 use Rattle.std.proofs.Common.{◌≡◌, ℕ, Bool, true, false, ◌||◌, cond, nat_lt, List, [], ◌∷◌, length, map, refl, ap, sym, ◌∙◌, arith, encode_utf8_all}
-use Rattle.std.specs.Prelude.{Some, None, Ok, Err, Result, IfOk}
+use Rattle.std.specs.Prelude.{Option, Some, None, IfSome, Result, Ok, Err, IfOk}
 use Rattle.std.specs.List.{list_any}
 use Rattle.std.specs.Char.{to_ascii_lowercase}
 use Rattle.std.specs.Str.{chars, IsUtf8, all_scalars}
@@ -8,8 +8,7 @@ use Rattle.std.proofs.lemmas.Bool.Decides.{nat_tests}
 use Rattle.std.proofs.lemmas.Bool.{and_parts, and_from}
 use Rattle.std.proofs.lemmas.Str.{chars-encodes, scalars-chars}
 use lib.Utf8.{scalar}
-use Rattle.wef_base.specs.declared.names.ValueFault.{ValueFault}
-use Rattle.wef_base.specs.Names.{ReadsName, is_space, is_forbidden, spelt, without_start, without_end, unless_last_space, trimmed_characters, name_of_characters, name_of}
+use Rattle.wef_base.specs.Names.{is_space, is_forbidden, spelt, without_start, without_end, unless_last_space, trimmed_characters, name_of_characters, name_of}
 use Rattle.wef_base.specs.declared.names.Letters.{Letters}
 use Rattle.wef_base.specs.declared.names.Letters.TheVariants.{Kept, Small}
 
@@ -165,10 +164,11 @@ name_kept letters limit text name utf8 e =
     let trimmed_again : trimmed_characters (chars name) ≡ map (spelt letters) cs = ap trimmed_characters read ∙ trimmed-map letters cs ∙ ap (map (spelt letters)) (trimmed_twice (chars text)) in
     ap (name_of_characters letters limit) trimmed_again ∙ spelt_alike letters limit cs ∙ e
 
--- and so is each name that a reader gives
-pub result_kept : (letters : Letters) (limit : ℕ) (text : List ℕ) (result : Result (List ℕ) ValueFault) → IsUtf8 text → ReadsName result (name_of letters limit text)
-    → IfOk result (λ name. name_of letters limit name ≡ Some name)
-result_kept letters limit text (Ok name) utf8 e = name_kept letters limit text name utf8 e
+-- and so is the name that a reader gives
+pub result_kept : {E : Type 0} (letters : Letters) (limit : ℕ) (text : List ℕ) (result : Result (Option (List ℕ)) E) → IsUtf8 text
+    → IfOk result (λ name. name ≡ name_of letters limit text) → IfOk result (λ name. IfSome name (λ name. name_of letters limit name ≡ Some name))
+result_kept letters limit text (Ok (Some name)) utf8 e = name_kept letters limit text name utf8 (sym e)
+result_kept letters limit text (Ok None) utf8 e = tt
 result_kept letters limit text (Err fault) utf8 e = tt
 
 -- ---- what a name holds

@@ -1,6 +1,6 @@
 //! Names of channels, sources and subscriptions.
 
-ghost use Rattle.std.specs.Prelude.{◌≡◌, ◌<◌, ◌≤◌, ◌==◌, ◌||◌, List, [], ◌++◌, length, map, IsTrue, ◌↔◌, IfOk, encode_utf8_all};
+ghost use Rattle.std.specs.Prelude.{◌≡◌, ◌<◌, ◌==◌, ◌||◌, List, [], map, IfOk, IfSome, encode_utf8_all};
 ghost use Rattle.std.specs.List.{list_any};
 ghost use Rattle.wef_base.specs.Names.{is_forbidden, is_space, spelt, trimmed_characters, without_end, without_start, name_of_characters, name_of, channel_name, source_name, subscription_name, ReadsName};
 
@@ -60,13 +60,21 @@ impl ChannelName {
     /// Reads a name: spaces at both ends are trimmed, and the letters A to Z made small. `BadName`
     /// where what is left is empty or has more than 256 bytes, or holds a character below U+0020,
     /// U+007F, U+FFFE or U+FFFF.
-    #[tactic(auto, unfolding(crate::specs::Names::channel_name))]
     pub fn read(text: &Text) -> Result<ChannelName, ValueFault>
         ensures { ReadsName result (channel_name text.now) }
     {
-        Ok(ChannelName {
-            text: read_name(text, 256, Letters::Small)?,
-        })
+        ChannelName::named(text)?.ok_or(ValueFault::BadName)
+    }
+
+    /// The name that a text is, as `read` reads it. None where it is no name.
+    #[tactic(auto, unfolding(crate::specs::Names::channel_name))]
+    pub fn named(text: &Text) -> Result<Option<ChannelName>, AllocError>
+        ensures { IfOk result (λ name. name ≡ channel_name text.now) }
+    {
+        let Some(text) = read_name(text, 256, Letters::Small)? else {
+            return Ok(None);
+        };
+        Ok(Some(ChannelName { text }))
     }
 
     /// The name as a text, which reads back as this name.
@@ -108,13 +116,21 @@ impl Model for SourceName {
 
 impl SourceName {
     /// Reads a name as `ChannelName::read` does, of at most 255 bytes.
-    #[tactic(auto, unfolding(crate::specs::Names::source_name))]
     pub fn read(text: &Text) -> Result<SourceName, ValueFault>
         ensures { ReadsName result (source_name text.now) }
     {
-        Ok(SourceName {
-            text: read_name(text, 255, Letters::Small)?,
-        })
+        SourceName::named(text)?.ok_or(ValueFault::BadName)
+    }
+
+    /// The name that a text is, as `read` reads it. None where it is no name.
+    #[tactic(auto, unfolding(crate::specs::Names::source_name))]
+    pub fn named(text: &Text) -> Result<Option<SourceName>, AllocError>
+        ensures { IfOk result (λ name. name ≡ source_name text.now) }
+    {
+        let Some(text) = read_name(text, 255, Letters::Small)? else {
+            return Ok(None);
+        };
+        Ok(Some(SourceName { text }))
     }
 
     /// The name as a text, which reads back as this name.
@@ -156,13 +172,21 @@ impl Model for SubId {
 
 impl SubId {
     /// Reads a name as `ChannelName::read` does, of at most 128 bytes, and keeps its letters.
-    #[tactic(auto, unfolding(crate::specs::Names::subscription_name))]
     pub fn read(text: &Text) -> Result<SubId, ValueFault>
         ensures { ReadsName result (subscription_name text.now) }
     {
-        Ok(SubId {
-            text: read_name(text, 128, Letters::Kept)?,
-        })
+        SubId::named(text)?.ok_or(ValueFault::BadName)
+    }
+
+    /// The name that a text is, as `read` reads it. None where it is no name.
+    #[tactic(auto, unfolding(crate::specs::Names::subscription_name))]
+    pub fn named(text: &Text) -> Result<Option<SubId>, AllocError>
+        ensures { IfOk result (λ name. name ≡ subscription_name text.now) }
+    {
+        let Some(text) = read_name(text, 128, Letters::Kept)? else {
+            return Ok(None);
+        };
+        Ok(Some(SubId { text }))
     }
 
     /// The name as a text, which reads back as this name.
@@ -201,9 +225,9 @@ impl Letters {
     }
 }
 
-fn read_name(text: &Text, limit: usize, letters: Letters) -> Result<Text, ValueFault>
-    ensures value { ReadsName result (name_of letters limit text.now) }
-    ensures kept { IfOk result (λ name. name_of letters limit name ≡ Some name) }
+fn read_name(text: &Text, limit: usize, letters: Letters) -> Result<Option<Text>, AllocError>
+    ensures value { IfOk result (λ name. name ≡ name_of letters limit text.now) }
+    ensures kept { IfOk result (λ name. IfSome name (λ name. name_of letters limit name ≡ Some name)) }
 {
     let characters = text.characters()?;
     name_from(text.alloc(), trim(characters.as_slice()), limit, letters)
@@ -214,17 +238,17 @@ fn name_from(
     characters: &[char],
     limit: usize,
     letters: Letters,
-) -> Result<Text, ValueFault>
-    ensures { ReadsName result (name_of_characters letters limit characters.now) }
+) -> Result<Option<Text>, AllocError>
+    ensures { IfOk result (λ name. name ≡ name_of_characters letters limit characters.now) }
 {
     if characters.is_empty() || has_forbidden(characters) {
-        return Err(ValueFault::BadName);
+        return Ok(None);
     }
     let name = respelt(alloc, characters, letters)?;
     if name.len() > limit {
-        return Err(ValueFault::BadName);
+        return Ok(None);
     }
-    Ok(name)
+    Ok(Some(name))
 }
 
 fn has_forbidden(characters: &[char]) -> bool

@@ -3,7 +3,6 @@
 ghost use Rattle.std.specs.Prelude.{◌≡◌, ◌++◌, OnOk, OnErr, string_bytes};
 ghost use Rattle.wef_base.specs.Printed.{printed};
 
-use crate::text::Text;
 use percent_encoding::{AsciiSet, CONTROLS, ascii_set, utf8_percent_encode};
 use std::alloc::AllocError;
 

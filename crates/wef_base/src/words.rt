@@ -1,6 +1,6 @@
 //! Words of a line: a text cut at a byte, and percent-encoded words.
 
-ghost use Rattle.std.specs.Prelude.{◌≡◌, true, IsTrue, ◌↔◌, IfOk};
+ghost use Rattle.std.specs.Prelude.{◌≡◌, true, IfOk};
 ghost use Rattle.std.specs.Str.{is_utf8};
 ghost use Rattle.wef_base.specs.Words.{decoded, parts};
 

@@ -14,11 +14,11 @@ ghost use Rattle.wef_xml.specs.Told.{IsTold};
 use crate::items::{Batch, Item};
 use std::alloc::{AllocError, Global};
 use thiserror::Error;
-use wef_base::{Element, List, Node, Text};
+use wef_base::{ChannelName, Element, List, Node, Text};
 use wef_bookmark::{Bookmark, BookmarkFault};
 use wef_elements::{
-    channel_said, element_at, element_of, has_words, is_management, is_words, number_said,
-    profile_value, text_inside,
+    element_at, element_of, has_words, is_management, is_words, number_said, profile_value,
+    text_inside,
 };
 use wef_event::{Event, EventFault, event_of_node, read_event};
 
@@ -81,13 +81,13 @@ fn only_events(body: &[Element]) -> Option<&Element>
     while let Some((element, more)) = rest.split_first() {
         rest = more;
         if is_events(element) {
-            return unless_again(element, more);
+            return unless_repeated(element, more);
         }
     }
     None
 }
 
-fn unless_again<'a>(element: &'a Element, more: &[Element]) -> Option<&'a Element>
+fn unless_repeated<'a>(element: &'a Element, more: &[Element]) -> Option<&'a Element>
     ensures { option_copied result ≡ (if list_any is_events more.now then None else Some element.now) }
 {
     if has_events(more) {
@@ -299,7 +299,7 @@ fn range_in(channel: &Text, first: u64, last: u64, count: u64) -> Result<Option<
     if !is_range(first, last, count) {
         return Ok(None);
     }
-    match channel_said(channel)? {
+    match ChannelName::named(channel)? {
         Some(channel) => Ok(Some(Item::Dropped {
             channel,
             first,

@@ -1,6 +1,6 @@
 //! Batches as elements of a message.
 
-ghost use Rattle.std.specs.Prelude.{◌≡◌, ◌+◌, ◌-◌, ◌∷◌, [], codes, map, IfOk};
+ghost use Rattle.std.specs.Prelude.{◌≡◌, ◌+◌, ◌-◌, ◌∷◌, [], map, IfOk};
 ghost use Rattle.wef_batch.specs.Elements.{action_attribute, batch_element, event_action, event_element, gone_element, item_element, profiled, range_attributes};
 ghost use Rattle.wef_batch.specs.Numbers.{AreNumbered, IsNumbered};
 ghost use Rattle.wef_elements.specs.Children.{with_attributes};

@@ -11,8 +11,8 @@ use std::alloc::{AllocError, Global};
 use std::collections::BTreeMap;
 use wef_base::{Attribute, ChannelName, Element, List, Node, Text};
 use wef_elements::{
-    channel_said, digits, element_of, has_words, is_management, management, number_said, said_in,
-    value_of, with_attributes, with_elements, with_text, with_value,
+    digits, element_of, has_words, is_management, management, number_said, said_in, value_of,
+    with_attributes, with_elements, with_text, with_value,
 };
 use wef_xml::spaces::no_space;
 
@@ -172,7 +172,7 @@ fn channel_of(element: &Element) -> Result<Option<ChannelName>, AllocError>
     ensures { IfOk result (λ found. found ≡ channel_of element.now) }
 {
     match value_of("", "Channel", element.attributes.as_slice()) {
-        Some(text) => channel_said(text),
+        Some(text) => ChannelName::named(text),
         None => Ok(None),
     }
 }

@@ -2,13 +2,12 @@
 
 ghost use Rattle.std.specs.List.{list_all, list_any};
 ghost use Rattle.std.specs.Prelude.{◌≡◌, IfOk, OnErr};
-ghost use Rattle.wef_base.specs.Names.{channel_name, source_name, subscription_name};
 ghost use Rattle.wef_cli.specs.Command as spec;
 ghost use Rattle.wef_eventing.specs.Addresses.{is_printed};
 
 use std::alloc::AllocError;
 use wef_base::numbers::read_plain_number;
-use wef_base::{ChannelName, SourceName, SubId, Text, ValueFault};
+use wef_base::{ChannelName, SourceName, SubId, Text};
 
 /// The greatest number of connections or deliveries that one run may be told.
 pub const GREATEST_NUMBER: u64 = 1_000_000;
@@ -129,7 +128,7 @@ impl Command {
         ensures value { IfOk result (λ command. command ≡ spec.remove_of word.now) }
         ensures wants_memory { OnErr result (spec.MayWantMemory (spec.remove_of word.now)) }
     {
-        match subscription_in(word)? {
+        match SubId::named(word)? {
             Some(name) => Ok(Some(Command::Remove(name))),
             None => Ok(None),
         }
@@ -162,7 +161,7 @@ impl Command {
         let Some(address) = address_in(at)? else {
             return Ok(None);
         };
-        let Some(source) = source_in(source)? else {
+        let Some(source) = SourceName::named(source)? else {
             return Ok(None);
         };
         match number_in(number) {
@@ -181,13 +180,13 @@ impl Command {
         ensures value { IfOk result (λ command. command ≡ spec.events_of name.now source.now channel.now) }
         ensures wants_memory { OnErr result (spec.MayWantMemory (spec.events_of name.now source.now channel.now)) }
     {
-        let Some(name) = subscription_in(name)? else {
+        let Some(name) = SubId::named(name)? else {
             return Ok(None);
         };
-        let Some(source) = source_in(source)? else {
+        let Some(source) = SourceName::named(source)? else {
             return Ok(None);
         };
-        match channel_in(channel)? {
+        match ChannelName::named(channel)? {
             Some(channel) => Ok(Some(Command::Events {
                 name,
                 source,
@@ -195,39 +194,6 @@ impl Command {
             })),
             None => Ok(None),
         }
-    }
-}
-
-/// The subscription's name that a word is; none where it is no such name.
-fn subscription_in(word: &Text) -> Result<Option<SubId>, AllocError>
-    ensures { IfOk result (λ name. name ≡ subscription_name word.now) }
-{
-    match SubId::read(word) {
-        Ok(name) => Ok(Some(name)),
-        Err(ValueFault::BadName) => Ok(None),
-        Err(_) => Err(AllocError),
-    }
-}
-
-/// The source's name that a word is; none where it is no such name.
-fn source_in(word: &Text) -> Result<Option<SourceName>, AllocError>
-    ensures { IfOk result (λ name. name ≡ source_name word.now) }
-{
-    match SourceName::read(word) {
-        Ok(name) => Ok(Some(name)),
-        Err(ValueFault::BadName) => Ok(None),
-        Err(_) => Err(AllocError),
-    }
-}
-
-/// The channel's name that a word is; none where it is no such name.
-fn channel_in(word: &Text) -> Result<Option<ChannelName>, AllocError>
-    ensures { IfOk result (λ name. name ≡ channel_name word.now) }
-{
-    match ChannelName::read(word) {
-        Ok(name) => Ok(Some(name)),
-        Err(ValueFault::BadName) => Ok(None),
-        Err(_) => Err(AllocError),
     }
 }
 

@@ -4,7 +4,7 @@ ghost use Rattle.std.specs.Prelude.{◌≡◌, Some, IfOk, IfErr};
 ghost use Rattle.wef_cli.specs.Command.{HasHost, command_of};
 ghost use Rattle.wef_cli.specs.Replaying.{EndsReading, HasLines, ReplayEnds};
 ghost use Rattle.wef_cli.specs.Runs.{RunEnds};
-ghost use Rattle.wef_commands.specs.Endings.{IsToldAs, Told, WroteMessage, status_of, told_of};
+ghost use Rattle.wef_commands.specs.Endings.{IsToldAs, WroteMessage, status_of, told_of};
 ghost use Rattle.wef_commands.specs.declared.ending.Ending as the_ending;
 ghost use Rattle.wef_replay.specs.Good.{AreGood, no_names};
 

@@ -9,7 +9,7 @@ ghost use Rattle.wef_collector_rows.specs.Standing as standings;
 ghost use Rattle.wef_keeper.specs.Access as access;
 
 use std::alloc::{AllocError, Global};
-use wef_base::{List, SubId, ValueFault};
+use wef_base::{List, SubId};
 use wef_collector_rows::CollectorForm;
 use wef_collector_rows::keys::subscriptions_start;
 use wef_documents::read_kept;
@@ -76,10 +76,8 @@ fn listed_of(row: &Row) -> Result<Option<Listed>, AllocError>
     ensures listed { IfOk result (λ listed. listed ≡ spec.listed_of row.now) }
     ensures texts { IfOk result (λ listed. IfSome listed spec.IsXmlListed) }
 {
-    let name = match SubId::read(&row.key.sub) {
-        Ok(name) => name,
-        Err(ValueFault::BadName) => return Ok(None),
-        Err(_) => return Err(AllocError),
+    let Some(name) = SubId::named(&row.key.sub)? else {
+        return Ok(None);
     };
     match read_kept(&name, &row.body)? {
         Some(subscription) => Ok(Some(Listed {

@@ -10,7 +10,7 @@ use crate::keys::{BOOKMARK, BOOT, HEARD, HELD, LOOSE, MARK, SUBSCRIPTION};
 use std::alloc::AllocError;
 use wef_base::moments::LAST_MOMENT;
 use wef_base::numbers::{MAX, read_plain_number};
-use wef_base::{ChannelName, SourceName, SubId, Text, ValueFault};
+use wef_base::{ChannelName, SourceName, SubId, Text};
 use wef_documents::read_kept;
 use wef_event::Event;
 use wef_eventing::Subscription;
@@ -192,10 +192,8 @@ fn names_source(key: &Key) -> Result<bool, AllocError>
 fn subscription_named(text: &Text) -> Result<Option<SubId>, AllocError>
     ensures { IfOk result (λ name. spec.NamesItself name text.now) }
 {
-    let name = match SubId::read(text) {
-        Ok(name) => name,
-        Err(ValueFault::BadName) => return Ok(None),
-        Err(_) => return Err(AllocError),
+    let Some(name) = SubId::named(text)? else {
+        return Ok(None);
     };
     if *text != *name.as_text() {
         return Ok(None);
@@ -206,21 +204,18 @@ fn subscription_named(text: &Text) -> Result<Option<SubId>, AllocError>
 fn is_source_name(text: &Text) -> Result<bool, AllocError>
     ensures { IfOk result (λ named. named ≡ spec.is_source_name text.now) }
 {
-    match SourceName::read(text) {
-        Ok(name) => Ok(*text == *name.as_text()),
-        Err(ValueFault::BadName) => Ok(false),
-        Err(_) => Err(AllocError),
-    }
+    let Some(name) = SourceName::named(text)? else {
+        return Ok(false);
+    };
+    Ok(*text == *name.as_text())
 }
 
 /// The channel's name that a text is, where it reads back as itself.
 fn channel_named(text: &Text) -> Result<Option<ChannelName>, AllocError>
     ensures { IfOk result (λ name. spec.NamesChannel name text.now) }
 {
-    let name = match ChannelName::read(text) {
-        Ok(name) => name,
-        Err(ValueFault::BadName) => return Ok(None),
-        Err(_) => return Err(AllocError),
+    let Some(name) = ChannelName::named(text)? else {
+        return Ok(None);
     };
     if *text != *name.as_text() {
         return Ok(None);

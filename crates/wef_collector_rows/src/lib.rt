@@ -1,5 +1,6 @@
 //! What the collector keeps: the keys and forms of its rows, reading them, and what they say of a
-//! subscription and of how far a source was served.
+//! subscription and of how far a source was served. It stands apart from wef_collector, whose calls
+//! change rows: here they are read, which reports and commands do too.
 #![tactic(auto)]
 
 pub mod bookmarks;

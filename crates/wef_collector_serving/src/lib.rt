@@ -1,4 +1,5 @@
-//! The collector as an end that is served: each request of a connection gets the collector's answer.
+//! The collector as an end that is served: each request of a connection gets the collector's
+//! answer. It stands apart from wef_front, which knows no connection.
 #![tactic(auto)]
 
 pub mod answering;

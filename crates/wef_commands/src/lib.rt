@@ -1,5 +1,6 @@
-//! The commands over a store and streams, and what all commands have in common: how they end, what is
-//! told of a call of the collector, and whole inputs and texts.
+//! The commands over a store and streams, and what all commands have in common: how they end, what
+//! is told of a call of the collector, and whole inputs and texts. They stand apart from
+//! wef_running: none of these needs a connection.
 #![tactic(auto)]
 
 mod adding;

@@ -1,7 +1,7 @@
 //! Reading a whole input, and writing a whole text.
 
-ghost use Rattle.std.specs.Io.KnownBytes.{Consumes, Appends, IsAtEnd};
-ghost use Rattle.std.specs.Prelude.{◌≡◌, ◌<◌, ◌≤◌, length, IfSome, OnOk, OnErr};
+ghost use Rattle.std.specs.Io.KnownBytes.{Appends};
+ghost use Rattle.std.specs.Prelude.{◌<◌, ◌≤◌, OnOk, OnErr};
 ghost use Rattle.wef_base.specs.Counts.{Rose};
 ghost use Rattle.wef_commands.specs.Streams.{ReadsWhole, WritesPart};
 

@@ -82,11 +82,11 @@ fn event_in(alloc: Global, line: &[u8]) -> Result<Option<Event>, AllocError>
     let Ok(text) = str::from_utf8(line) else {
         return Ok(None);
     };
-    new_event(&Text::from_str(alloc, text)?)
+    event_of_text(&Text::from_str(alloc, text)?)
 }
 
-/// The same of a line that is UTF-8.
-fn new_event(line: &Text) -> Result<Option<Event>, AllocError>
+/// The event that the text of a line says; none where it says none.
+fn event_of_text(line: &Text) -> Result<Option<Event>, AllocError>
     ensures { IfOk result (λ event. event ≡ new_event_in line.now) }
 {
     match read_new_event(line) {

@@ -6,7 +6,7 @@ ghost use Rattle.wef_base.specs.Numbers.{is_digit, is_numeral};
 ghost use Rattle.wef_documents.specs.Addresses.{before_last, behind_last, has_port, is_colon, machine_of, source_of, with_port};
 
 use std::alloc::{AllocError, Global};
-use wef_base::{SourceName, Text, ValueFault};
+use wef_base::{SourceName, Text};
 use wef_eventing::SourceAt;
 
 /// The source at an address, whose name is that of its machine. An address without a port gets
@@ -15,14 +15,13 @@ use wef_eventing::SourceAt;
 pub(crate) fn source_of(address: &Text) -> Result<Option<SourceAt>, AllocError>
     ensures { IfOk result (λ source. source ≡ source_of address.now) }
 {
-    match SourceName::read(&machine_of(address)?) {
-        Ok(name) => Ok(Some(SourceAt {
-            name,
-            address: with_port(address)?,
-        })),
-        Err(ValueFault::BadName) => Ok(None),
-        Err(_) => Err(AllocError),
-    }
+    let Some(name) = SourceName::named(&machine_of(address)?)? else {
+        return Ok(None);
+    };
+    Ok(Some(SourceAt {
+        name,
+        address: with_port(address)?,
+    }))
 }
 
 /// The machine that an address leads to: all but the port.

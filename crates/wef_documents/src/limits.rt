@@ -2,7 +2,6 @@
 
 ghost use Rattle.std.specs.Option.{option_and_then};
 ghost use Rattle.std.specs.Prelude.{◌≡◌, ◌≤◌, option_copied, IfOk, IfSome};
-ghost use Rattle.wef_base.specs.Names.{subscription_name};
 ghost use Rattle.wef_documents.specs.Steps.{Reads};
 ghost use Rattle.wef_documents.specs.Steps as steps;
 ghost use Rattle.wef_documents.specs.Values.{between, bytes_in, expires_in, heartbeat_in, is_enabled, is_pushed, items_in, kind_in, kind_said, limits_in, name_in, number_in, version_in};
@@ -45,11 +44,7 @@ pub(crate) fn name_in(root: &Element) -> Result<SubId, DocumentFault>
     let Some(element) = child("SubscriptionId", root) else {
         return Err(DocumentFault::BadDocument(Part::SubscriptionId));
     };
-    match SubId::read(&text_inside(element)?) {
-        Ok(name) => Ok(name),
-        Err(ValueFault::NoMemory) => Err(DocumentFault::NoMemory),
-        Err(_) => Err(DocumentFault::BadDocument(Part::SubscriptionId)),
-    }
+    SubId::named(&text_inside(element)?)?.ok_or(DocumentFault::BadDocument(Part::SubscriptionId))
 }
 
 /// Who begins the subscription.

@@ -1,6 +1,6 @@
 //! The elements among nodes, by their qualified names.
 
-ghost use Rattle.std.specs.Prelude.{◌≡◌, not, ◌++◌, ◌∷◌, [], option_copied, slice_get, IfOk, OnOk};
+ghost use Rattle.std.specs.Prelude.{◌≡◌, ◌++◌, ◌∷◌, [], option_copied, slice_get, IfOk, OnOk};
 ghost use Rattle.std.specs.List.{list_all};
 ghost use Rattle.wef_base.specs.Names.{is_space};
 ghost use Rattle.wef_elements.specs.Children.{as_nodes, element_of, elements_in, first_called, has_words, is_called, is_words, with_attributes, with_elements, with_text};

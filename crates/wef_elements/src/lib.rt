@@ -12,4 +12,4 @@ pub use children::{
 };
 pub use spaces::{is_management, management, profile, profile_value};
 pub use texts::{said_in, text_inside};
-pub use values::{channel_said, digits, number_said, value_of, with_value};
+pub use values::{digits, number_said, value_of, with_value};

@@ -2,12 +2,11 @@
 
 ghost use Rattle.std.specs.Prelude.{◌≡◌, ◌≤◌, option_copied, IfOk, IfSome};
 ghost use Rattle.std.specs.Fmt.{decimal};
-ghost use Rattle.wef_base.specs.Names.{channel_name};
 ghost use Rattle.wef_elements.specs.Values.{has_name, number_said, value_of};
 
 use std::alloc::{AllocError, Global};
 use wef_base::numbers::{MAX, read_number};
-use wef_base::{Attribute, ChannelName, Namespace, Text, ValueFault};
+use wef_base::{Attribute, Namespace, Text, ValueFault};
 
 /// The value of the first attribute of a namespace and a local name.
 pub fn value_of<'a>(space: &str, name: &str, attributes: &'a [Attribute]) -> Option<&'a Text>
@@ -51,17 +50,6 @@ pub fn number_said(text: &Text) -> Result<Option<u64>, AllocError>
 {
     match read_number(text) {
         Ok(number) => Ok(Some(number)),
-        Err(ValueFault::NoMemory) => Err(AllocError),
-        Err(_) => Ok(None),
-    }
-}
-
-/// The channel's name that a text says.
-pub fn channel_said(text: &Text) -> Result<Option<ChannelName>, AllocError>
-    ensures { IfOk result (λ found. found ≡ channel_name text.now) }
-{
-    match ChannelName::read(text) {
-        Ok(name) => Ok(Some(name)),
         Err(ValueFault::NoMemory) => Err(AllocError),
         Err(_) => Ok(None),
     }

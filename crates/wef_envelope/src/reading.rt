@@ -272,14 +272,14 @@ fn only(header: Header, nodes: &[Node]) -> Option<&Element>
         rest = more;
         if let Some(element) = element_of(node) {
             if is_kind(header, element) {
-                return unless_again(header, element, more);
+                return unless_repeated(header, element, more);
             }
         }
     }
     None
 }
 
-fn unless_again<'a>(header: Header, element: &'a Element, more: &[Node]) -> Option<&'a Element>
+fn unless_repeated<'a>(header: Header, element: &'a Element, more: &[Node]) -> Option<&'a Element>
     ensures { option_copied result ≡ (if list_any (is_kind header) (elements_in more.now) then None else Some element.now) }
 {
     if has_kind(header, more) {

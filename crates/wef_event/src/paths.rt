@@ -8,7 +8,7 @@ ghost use Rattle.wef_event.specs.Paths.{channel_in, field_in, first_child, if_na
 use std::alloc::AllocError;
 use wef_base::numbers::read_number;
 use wef_base::{ChannelName, Element, Node, Text, ValueFault};
-use wef_elements::{channel_said, text_inside};
+use wef_elements::text_inside;
 
 /// The channel of an event, where its field is a channel's name.
 #[tactic(auto, unfolding(crate::specs::Paths::channel_in))]
@@ -16,7 +16,7 @@ pub(crate) fn channel_in(root: &Element) -> Result<Option<ChannelName>, AllocErr
     ensures { IfOk result (λ found. found ≡ channel_in root.now) }
 {
     match field_in("Channel", root) {
-        Some(field) => channel_said(&text_inside(field)?),
+        Some(field) => ChannelName::named(&text_inside(field)?),
         None => Ok(None),
     }
 }

@@ -17,7 +17,7 @@ use crate::plain::EVENT_LIMIT;
 use crate::recognising::{Label, recognised};
 use crate::records::{Event, EventFault};
 use std::alloc::AllocError;
-use wef_base::{ChannelName, Charset, Element, Text, ValueFault};
+use wef_base::{ChannelName, Charset, Element, Text};
 use wef_tree::{ToldTree, TreeFault, read_told_tree, write_element_within};
 
 /// Reads an event from its text, which is a document (XML 1.0) whose root is called Event. Its
@@ -181,14 +181,13 @@ fn read_seen(needed: bool, label: &Label<'_>, text: &Text) -> Result<Event, Even
     ensures { ReadsEvent needed text.now result }
 {
     let word = Text::from_str(text.alloc(), label.channel)?;
-    match ChannelName::read(&word) {
-        Ok(channel) => Ok(Event {
+    match ChannelName::named(&word)? {
+        Some(channel) => Ok(Event {
             channel,
             number: label.number,
             text: text.clone()?,
         }),
-        Err(ValueFault::NoMemory) => Err(EventFault::NoMemory),
-        Err(_) => read_tree_event(needed, text),
+        None => read_tree_event(needed, text),
     }
 }
 

@@ -11,7 +11,7 @@ ghost use Rattle.wef_xml.specs.Good.{IsXmlText};
 use percent_encoding::{AsciiSet, NON_ALPHANUMERIC, ascii_set, utf8_percent_encode};
 use std::alloc::{AllocError, Global};
 use wef_base::words::{decode, split};
-use wef_base::{Bytes, List, SourceName, SubId, Text, ValueFault};
+use wef_base::{Bytes, List, SourceName, SubId, Text};
 
 /// The bytes that a segment shows escaped, beside those past ASCII: all but the unreserved
 /// characters (RFC 3986, section 2.3).
@@ -68,11 +68,7 @@ pub fn subscription_in(address: &Text) -> Result<Option<SubId>, AllocError>
     let Some(text) = decoded_piece(address.alloc(), before_last(pieces.as_slice()))? else {
         return Ok(None);
     };
-    match SubId::read(&text) {
-        Ok(sub) => Ok(Some(sub)),
-        Err(ValueFault::BadName) => Ok(None),
-        Err(_) => Err(AllocError),
-    }
+    SubId::named(&text)
 }
 
 /// The source that an address leads to: its last segment, percent-decoded. None where that names no
@@ -85,11 +81,7 @@ pub fn source_in(address: &Text) -> Result<Option<SourceName>, AllocError>
     let Some(text) = decoded_piece(address.alloc(), last(pieces.as_slice()))? else {
         return Ok(None);
     };
-    match SourceName::read(&text) {
-        Ok(source) => Ok(Some(source)),
-        Err(ValueFault::BadName) => Ok(None),
-        Err(_) => Err(AllocError),
-    }
+    SourceName::named(&text)
 }
 
 /// The pieces of an address around its slashes.

@@ -11,7 +11,7 @@ ghost use Rattle.wef_xml.specs.Good.{IsGoodTree};
 ghost use Rattle.wef_xml.specs.Told.{IsTold};
 
 use std::alloc::{AllocError, Global};
-use wef_base::{Charset, Element, SourceName, SubId, Text, ValueFault};
+use wef_base::{Charset, Element, SourceName, SubId, Text};
 use wef_batch::{Batch, BatchFault, read_batch};
 use wef_bodies::has_enumerate;
 use wef_envelope::actions::{ENUMERATE, EVENTS, SUBSCRIPTIONS};
@@ -175,7 +175,7 @@ fn machine_named(machine: Option<&Text>) -> Result<Option<SourceName>, AllocErro
     ensures { IfOk result (λ source. source ≡ option_and_then source_name (option_copied machine.entry)) }
 {
     match machine {
-        Some(machine) => source_named(machine),
+        Some(machine) => SourceName::named(machine),
         None => Ok(None),
     }
 }
@@ -210,10 +210,10 @@ fn events_asked(
     ensures asked { IfOk result (λ asked. asked ≡ events_asked (subscription_name sub.now) (source_name source.now) (batch_in envelope.now)) }
     ensures sound { IfOk result IsSoundAsk }
 {
-    let Some(sub) = subscription_named(sub)? else {
+    let Some(sub) = SubId::named(sub)? else {
         return Ok(Asked::Refused(FaultName::DestinationUnreachable));
     };
-    let Some(source) = source_named(source)? else {
+    let Some(source) = SourceName::named(source)? else {
         return Ok(Asked::Unread(sub));
     };
     match batch_in(told, envelope) {
@@ -238,26 +238,4 @@ fn batch_in(told: bool, envelope: &Envelope) -> Result<Batch, BatchFault>
         told,
         envelope.body.as_slice(),
     )
-}
-
-/// The subscription's name that a text is.
-fn subscription_named(text: &Text) -> Result<Option<SubId>, AllocError>
-    ensures { IfOk result (λ sub. sub ≡ subscription_name text.now) }
-{
-    match SubId::read(text) {
-        Ok(sub) => Ok(Some(sub)),
-        Err(ValueFault::NoMemory) => Err(AllocError),
-        Err(_) => Ok(None),
-    }
-}
-
-/// The source's name that a text is.
-fn source_named(text: &Text) -> Result<Option<SourceName>, AllocError>
-    ensures { IfOk result (λ source. source ≡ source_name text.now) }
-{
-    match SourceName::read(text) {
-        Ok(source) => Ok(Some(source)),
-        Err(ValueFault::NoMemory) => Err(AllocError),
-        Err(_) => Ok(None),
-    }
 }

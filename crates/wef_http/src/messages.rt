@@ -16,7 +16,7 @@ use crate::parts::read_part;
 use std::alloc::Global;
 use std::mem;
 use wef_base::{Bytes, Charset, Text};
-use wef_http_heads::{Framing, HttpEnd, RequestPlan, ResponsePlan, Side, Target};
+use wef_http_heads::{Framing, HttpEnd, RequestPlan, Side, Target};
 use wef_ports::Port;
 
 /// A request to an end.

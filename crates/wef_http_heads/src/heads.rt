@@ -1,7 +1,7 @@
 //! Heads that bytes begin with.
 
-ghost use Rattle.httparse.specs.Spans.{IsRequestOf, IsRequestWithin, IsResponseOf, IsResponseWithin, header_bytes, span_bytes};
-ghost use Rattle.std.specs.Prelude.{◌≤◌, IfOk, IfErr, length, map, take};
+ghost use Rattle.httparse.specs.Spans.{IsRequestWithin, header_bytes, span_bytes};
+ghost use Rattle.std.specs.Prelude.{IfOk, IfErr, map, take};
 ghost use Rattle.wef_http_heads.specs.Heads.{FindsRequest, FindsResponse, IsOfBytes, RefusesRequestHead, RefusesResponseHead};
 ghost use Rattle.wef_http_heads.specs.Judging.{request_of, response_of};
 ghost use Rattle.wef_http_heads.specs.Steps.{Judges};
@@ -12,9 +12,7 @@ use crate::judging::{request_of, response_of};
 use crate::plans::{Found, RequestPlan, ResponsePlan};
 use crate::targets::Side;
 use httparse::Status;
-use httparse::spans::{
-    EMPTY_HEADER_SPAN, HeaderSpan, RequestSpans, ResponseSpans, parse_request, parse_response,
-};
+use httparse::spans::{EMPTY_HEADER_SPAN, HeaderSpan, RequestSpans, parse_request, parse_response};
 use std::alloc::Global;
 
 /// How many bytes a head may have.

@@ -1,4 +1,5 @@
-//! Heads of HTTP messages: what is judged of a request or a response before its body is read.
+//! Heads of HTTP messages: what is judged of a request or a response before its body is read. They
+//! stand apart from wef_http: a head is judged as bytes in memory, without a port.
 #![tactic(auto)]
 
 pub mod answers;

@@ -4,7 +4,7 @@ ghost use Rattle.std.specs.List.{list_all};
 ghost use Rattle.std.specs.Option.{option_map};
 ghost use Rattle.std.specs.Prelude.{◌≡◌, Some, IfOk, option_copied};
 ghost use Rattle.wef_http_heads.specs.Media.{charset_among, charset_by, charset_in, charset_named, charset_of_parts, charset_said, first_charset, is_envelope, is_identity, is_uncoded, means_utf8, means_utf16, or_else, or_utf8, parts_from, quoting_behind, request_charset, response_charset, separates};
-ghost use Rattle.wef_http_heads.specs.Steps.{Judges, and_then, needed};
+ghost use Rattle.wef_http_heads.specs.Steps.{Judges, needed};
 ghost use Rattle.wef_http_heads.specs.declared.ends.HttpEnd.TheVariants.{Media};
 ghost use Rattle.wef_http_heads.specs.declared.media.Quoting.TheVariants.{Outside};
 

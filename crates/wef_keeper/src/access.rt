@@ -1,6 +1,6 @@
 //! How the ends use a keeper: it is opened, read, and given whole lists of changes.
 
-ghost use Rattle.std.specs.Prelude.{◌≡◌, ◌≤◌, ◌++◌, true, false, take, Option, IfOk, IfSome, OnOk, OnErr};
+ghost use Rattle.std.specs.Prelude.{◌≡◌, ◌≤◌, ◌++◌, true, false, take, Option, IfOk, IfSome, OnOk};
 ghost use Rattle.std.specs.List.{AllByRecursion};
 ghost use Rattle.wef_base.specs.Counts.{Rose};
 ghost use Rattle.wef_keeper.specs.Access as access;

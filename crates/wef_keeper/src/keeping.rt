@@ -1,9 +1,9 @@
 //! The store contract: what the ends ask of whatever keeps their rows.
 
-ghost use Rattle.std.specs.Prelude.{◌≡◌, if◌then◌else◌, ℕ, ◌≤◌, ◌<◌, true, Bool, length, take, ◌∷◌, [], Option, IfOk, IfSome, OnOk, OnErr, All};
+ghost use Rattle.std.specs.Prelude.{◌≡◌, if◌then◌else◌, ◌≤◌, ◌<◌, true, length, take, ◌∷◌, [], Option, IfOk, IfSome, OnOk, OnErr, All};
 ghost use Rattle.wef_keeper.specs.Forms.{AreWithin};
 ghost use Rattle.wef_keeper.specs.Keeping.{Store, OfRows, OfImages, StaysOpened, StaysUntold, KeepsRows, IsAsBefore, IsCalm, IsLawful, raised, is_in_doubt, OnFailed, OnRefused, HasFault, counted, row_at, leaves_doubt, tried, IsBeforeOrAfter, FollowsPlan, outcome, plan_after, opened_after, stays_in_doubt, Reopens, IsOneOf};
-ghost use Rattle.wef_keeper.specs.Rows.{Rows, applied, is_after, rows_after};
+ghost use Rattle.wef_keeper.specs.Rows.{applied, is_after, rows_after};
 ghost use Rattle.wef_keeper.specs.declared.keys.Row as the_row;
 
 use crate::keys::{Change, Key, Row};

@@ -1,7 +1,6 @@
 //! What stands in the rows, and how a section of them is named.
 
 ghost use Rattle.std.specs.Prelude.{◌≡◌, IfOk};
-ghost use Rattle.std.specs.Option.{option_copied};
 ghost use Rattle.wef_keeper.specs.Rows.{cell_of_row};
 ghost use Rattle.wef_keeper.specs.Sections.{is_under};
 

@@ -1,7 +1,6 @@
 //! A port in memory, which tells its bytes and fails where it is told to.
 
 ghost use Rattle.std.specs.Prelude.{◌≡◌, ◌+◌, ◌<◌, [], drop, length, true, false, IsOk, IsErr, IfOk, refl, min};
-ghost use Rattle.std.specs.declared.option.Option.TheVariants.{Some};
 ghost use Rattle.std.specs.Io.{ReadsAtMost, WritesAtMost};
 ghost use Rattle.std.specs.Io.KnownBytes.{ReadConsumes, WriteAppends};
 ghost use Rattle.wef_base.specs.Counts.{CountsFaults, HasCause, Gives, is_told};

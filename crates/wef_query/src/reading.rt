@@ -12,7 +12,7 @@ use crate::{QueryItem, QueryList};
 use std::alloc::{AllocError, Global};
 use thiserror::Error;
 use wef_base::{Attribute, ChannelName, Element, List, Node, Text};
-use wef_elements::{channel_said, element_at, element_of};
+use wef_elements::{element_at, element_of};
 use wef_query_paths::{PathFault, Shared, read_path};
 
 /// Why an element says no list of queries.
@@ -190,7 +190,7 @@ fn channel_of(element: &Element) -> Result<Option<ChannelName>, AllocError>
     ensures { IfOk result (λ found. found ≡ channel_of element.now) }
 {
     match path_said(element.attributes.as_slice()) {
-        Some(path) => channel_said(path),
+        Some(path) => ChannelName::named(path),
         None => Ok(None),
     }
 }
@@ -203,7 +203,7 @@ fn channel_by(
     ensures { IfOk result (λ found. found ≡ channel_by (option_copied own.entry) (option_copied around.entry)) }
 {
     if let Some(own) = own {
-        return channel_said(own);
+        return ChannelName::named(own);
     }
     match around {
         Some(channel) => Ok(Some(channel.clone()?)),

@@ -1,4 +1,5 @@
-//! What a query asks of an event: paths of steps to nodes of its tree.
+//! What a query asks of an event: paths of steps to nodes of its tree. Reading a path needs no
+//! event, so that it stands apart from what paths reach (wef_query_values).
 #![tactic(auto)]
 
 mod conditions;

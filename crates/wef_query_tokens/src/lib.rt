@@ -1,4 +1,5 @@
-//! The tokens of paths in queries, and how a text is read as them.
+//! The tokens of paths in queries, and how a text is read as them. They stand apart from
+//! wef_query_paths: a token knows characters, and no step of a path.
 #![tactic(auto)]
 
 mod axis;

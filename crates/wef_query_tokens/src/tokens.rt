@@ -53,6 +53,7 @@ impl Token {
         }
     }
 
+    /// Whether it is the call `position()`.
     pub fn is_position_call(&self) -> bool
         ensures { result ≡ is_position_call self.now }
     {
@@ -109,6 +110,7 @@ fn other_at(alloc: Global, character: char, rest: &[char]) -> Result<(Token, &[c
     sign_at(character, rest)
 }
 
+/// Whether a name may begin with a character: a letter of ASCII, `_`, or a character beyond ASCII.
 pub fn is_name_start(character: char) -> bool
     ensures { result ≡ is_name_start character }
 {

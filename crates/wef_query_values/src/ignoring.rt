@@ -1,6 +1,6 @@
 //! Predicates that don't ask which place a node has.
 
-ghost use Rattle.std.specs.Prelude.{◌≡◌, ◌≤◌, IsTrue, length, map, take};
+ghost use Rattle.std.specs.Prelude.{◌≤◌, IsTrue, length, map, take};
 ghost use Rattle.wef_query_values.specs.Meaning.{given, holds, holds_and, holds_or, holds_unit};
 ghost use Rattle.wef_query_values.specs.Walk.{AllIgnore, Ignores, IsPlaceless};
 

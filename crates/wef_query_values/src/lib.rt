@@ -1,5 +1,6 @@
-//! Which nodes of an event a query's path reaches, and how what they say compares with what the query
-//! writes out. It takes no memory: no list of nodes and no text is built.
+//! Which nodes of an event a query's path reaches, and how what they say compares with what the
+//! query writes out. It takes no memory: no list of nodes and no text is built. It stands apart
+//! from wef_query: one path knows no list of queries.
 #![tactic(auto)]
 
 mod comparing;

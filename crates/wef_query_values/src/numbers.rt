@@ -3,7 +3,7 @@
 ghost use Rattle.std.specs.Prelude.{◌≡◌, ◌≤◌, ◌<◌, IfSome};
 ghost use Rattle.wef_base.specs.Names.{is_space};
 ghost use Rattle.wef_query_values.specs.Numbers.{base, decimal_digit, digit, hexadecimal_digit, limit, number_of, signed, up_to, with_digit};
-ghost use Rattle.wef_query_values.specs.Numerals.{behind_number, digits_or_bad, first_byte, more_digits, next, value_of};
+ghost use Rattle.wef_query_values.specs.Numerals.{behind_number, first_byte, more_digits, next, value_of};
 ghost use Rattle.wef_query_values.specs.Places.{plain, text_at};
 
 use crate::feeding::{Feed, feed_spot};

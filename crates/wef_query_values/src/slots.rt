@@ -1,8 +1,8 @@
 //! The children and attributes of a node, one by one, as a step goes over them.
 
 ghost use Rattle.std.specs.Option.{option_map};
-ghost use Rattle.std.specs.Prelude.{◌≡◌, None, get_or, length, map};
-ghost use Rattle.wef_query_values.specs.Meaning.{if_taken, slots, taken_attribute, taken_child, taken_element, takes};
+ghost use Rattle.std.specs.Prelude.{◌≡◌, None, get_or, length};
+ghost use Rattle.wef_query_values.specs.Meaning.{slots, taken_attribute, taken_child, taken_element, takes};
 ghost use Rattle.wef_query_values.specs.Places.{plain};
 
 use crate::spots::Spot;

@@ -3,7 +3,7 @@
 ghost use Rattle.std.specs.Prelude.{◌≡◌, [], is_some, IsTrue, IfOk, OnOk};
 ghost use Rattle.wef_base.specs.Characters.{is_xml_text};
 ghost use Rattle.wef_base.specs.Words.{parts};
-ghost use Rattle.wef_replay.specs.BatchWords.{empty_batch, added, batch_word, IsWithin, dropped_word, loose_word, reach_word, read_words};
+ghost use Rattle.wef_replay.specs.BatchWords.{empty_batch, added, batch_word, IsWithin, loose_word, reach_word, read_words};
 ghost use Rattle.wef_replay.specs.Pieces.{GivesHalf, data_in, dropped_in, event_in, said};
 ghost use Rattle.wef_replay_values.specs.Reading.{Gives};
 

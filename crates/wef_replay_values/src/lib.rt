@@ -1,4 +1,5 @@
-//! The words of a schedule's lines as values, and why a line isn't read.
+//! The words of a schedule's lines as values, and why a line isn't read. They stand apart from
+//! wef_replay: a word knows no line that it stands in, and the machine reads words alone.
 #![tactic(auto)]
 
 mod end_name;

@@ -3,7 +3,6 @@
 ghost use Rattle.std.specs.Prelude.{◌≡◌, ◌≤◌, [], ◌++◌, IfOk, OnOk};
 ghost use Rattle.wef_collector_serving.specs.Answers.{known_of};
 ghost use Rattle.wef_commands.specs.Endings.{told_of};
-ghost use Rattle.wef_connections.specs.Opening.{with_address};
 ghost use Rattle.wef_running.specs.Collecting as spec;
 ghost use Rattle.wef_serving.specs.declared.ends.ConnectionEnd.TheVariants as over;
 

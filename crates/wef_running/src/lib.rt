@@ -1,4 +1,5 @@
-//! The commands that run over connections: `collect` takes them, and `forward` makes them.
+//! The commands that run over connections: `collect` takes them, and `forward` makes them. They
+//! stand apart from wef_commands, which need no connection.
 #![tactic(auto)]
 
 mod collecting;

@@ -1,4 +1,5 @@
-//! Connections served: each request that comes is answered, one after the other.
+//! Connections served: each request that comes is answered, one after the other. It stands apart
+//! from wef_http: a message knows no connection that goes on after it.
 #![tactic(auto)]
 
 pub mod answering;

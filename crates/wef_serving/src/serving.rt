@@ -2,7 +2,6 @@
 
 ghost use Rattle.std.specs.Prelude.{◌≡◌, ◌≤◌};
 ghost use Rattle.wef_base.specs.Counts.{Rose};
-ghost use Rattle.wef_ports.specs.Telling.{Told};
 ghost use Rattle.wef_serving.specs.Serving.{AnswersAt, LeavesAt, RespondsInTurn};
 ghost use Rattle.wef_serving.specs.Turns.{Ends};
 

@@ -7,7 +7,7 @@ ghost use Rattle.wef_source_log.specs.LogWindow.{event_of_row};
 use crate::keys::{BOOT, CAPACITY, LAST, RECORD};
 use std::alloc::AllocError;
 use wef_base::numbers::MAX;
-use wef_base::{ChannelName, Text, ValueFault};
+use wef_base::{ChannelName, Text};
 use wef_event::Event;
 use wef_keeper::{Form, Key, Row};
 
@@ -112,10 +112,8 @@ fn channel_of(text: &Text) -> Result<Option<ChannelName>, AllocError>
     ensures some { IfOk result (λ name. is_some name ≡ forms.is_channel text.now) }
     ensures value { IfOk result (λ name. IfSome name (λ name. name ≡ text.now)) }
 {
-    match ChannelName::read(text) {
-        Ok(name) if name.as_text() == text => Ok(Some(name)),
-        Ok(_) => Ok(None),
-        Err(ValueFault::NoMemory) => Err(AllocError),
-        Err(_) => Ok(None),
+    match ChannelName::named(text)? {
+        Some(name) if name.as_text() == text => Ok(Some(name)),
+        _ => Ok(None),
     }
 }

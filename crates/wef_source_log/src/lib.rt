@@ -1,5 +1,5 @@
 //! The log of a source: each channel's records, numbered 1, 2, 3 and so on, of which the last ones
-//! are kept.
+//! are kept. It stands apart from wef_source: a log knows no session.
 #![tactic(auto)]
 
 mod changing;

@@ -1,6 +1,6 @@
 //! Texts of fixed length.
 
-ghost use Rattle.std.specs.Prelude.{◌≡◌, ◌≤◌, ◌+◌, ◌<◌, ◌^◌, length};
+ghost use Rattle.std.specs.Prelude.{◌≡◌, ◌≤◌, ◌+◌, ◌<◌, ◌^◌};
 ghost use Rattle.wef_times.specs.Forms.{HasField, field, fits_place, has_form};
 
 use crate::digits::{is_digit, value_up_to};

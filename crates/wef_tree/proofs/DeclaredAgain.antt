@@ -9,7 +9,7 @@ use Rattle.std.specs.FinMap as map
 use Rattle.wef_base.specs.Names.{same}
 use Rattle.wef_xml.specs.Prefixes.{Scope, element_prefix, nine, prefix_of}
 use Rattle.wef_tree_reading.specs.Scopes.{Declared, declared_by, may_declare, with_declaration}
-use Rattle.wef_xml.specs.Spaces.{is_empty, is_xml, is_xml_space, is_xmlns}
+use Rattle.wef_xml.specs.Spaces.{is_empty, is_xml_prefix, is_xml_space, is_xmlns}
 use Rattle.wef_xml.specs.declared.bindings.Binding.{Binding}
 use Rattle.wef_tree_pieces.specs.declared.tags.Given.{Given}
 use Rattle.wef_tree_writing.specs.Levels.{bound_to}
@@ -80,7 +80,7 @@ defaults true space = map.empty
 defaults false space = map.insert map.empty [] space
 
 default_may : (space : List ℕ) → is_xml_space space ≡ false → may_declare [] space ≡ true
-unfolding is_xml is_xmlns
+unfolding is_xml_prefix is_xmlns
 default_may space e = ap (λ t. not t && true) e
 
 default_step : (space : List ℕ) (rest : List Given) → is_xml_space space ≡ false →

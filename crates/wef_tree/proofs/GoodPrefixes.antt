@@ -11,7 +11,7 @@ use Rattle.wef_xml.proofs.Glyphs.{digits_pass, each_glyph}
 use Rattle.wef_xml.specs.Good.{AreGoodAttributes, IsLocalName, IsXmlText}
 use Rattle.wef_xml.specs.Letters.{is_name_char, is_name_start}
 use Rattle.wef_xml.specs.Prefixes.{attribute_prefix, bindings_from, bound_by, element_prefix, in_digits, needs_prefix, new_bindings, new_spaces, next_free, nine, numbered_prefix, outer_prefixes, prefix_of, soap_space, unless_bound, with_space}
-use Rattle.wef_xml.specs.Spaces.{is_empty, is_xml, is_xml_space, is_xmlns, xml_space}
+use Rattle.wef_xml.specs.Spaces.{is_empty, is_xml_prefix, is_xml_space, is_xmlns, xml_space}
 use Rattle.wef_xml.specs.declared.bindings.Binding.{Binding}
 use Rattle.wef_tree_pieces.proofs.Inversions.{cond_is, none_some, some_is, unless_some}
 use Rattle.wef_tree.proofs.Spelled.{AreGoodBindings, IsGoodBinding}
@@ -27,7 +27,7 @@ xmlns_is_name = plain_name (codes "xmlns") refl
 
 -- a prefix of one letter, with its namespace
 one_letter :
-    (c : ℕ) (space : List ℕ) → list_all is_plain (c ∷ []) ≡ true → is_name_start c ≡ true → is_xml (c ∷ []) ≡ false → is_xmlns (c ∷ []) ≡ false →
+    (c : ℕ) (space : List ℕ) → list_all is_plain (c ∷ []) ≡ true → is_name_start c ≡ true → is_xml_prefix (c ∷ []) ≡ false → is_xmlns (c ∷ []) ≡ false →
     list_all is_plain space ≡ true → list_all is_xml_char space ≡ true → is_empty space ≡ false → is_xml_space space ≡ false →
     IsGoodBinding (record { prefix = c ∷ []; space = space })
 one_letter c space plain begins no_xml no_xmlns plain_space allowed some no_xml_space = record {
@@ -41,7 +41,7 @@ one_letter c space plain begins no_xml no_xmlns plain_space allowed some no_xml_
 
 -- the nine prefixes may be declared
 pub nine_are_good : AreGoodBindings nine
-unfolding nine soap_space is_xml is_xmlns is_xml_space xml_space
+unfolding nine soap_space is_xml_prefix is_xmlns is_xml_space xml_space
 nine_are_good = (
   one_letter 115 _ refl refl refl refl refl refl refl refl,
   (
@@ -177,7 +177,7 @@ new_spaces_good bound spaces (a ∷ more) good attributed =
 
 -- the binding of a numbered prefix
 numbered_good : (n : ℕ) (space : List ℕ) → IsGoodSpace space → IsGoodBinding (record { prefix = numbered_prefix n; space = space })
-unfolding is_xml is_xmlns
+unfolding is_xml_prefix is_xmlns
 numbered_good n space good = record {
   prefix = numbered_is_name n;
   space = good.text;

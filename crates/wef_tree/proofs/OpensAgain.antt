@@ -14,7 +14,7 @@ use Rattle.wef_tree_reading.specs.Building.{has_room, opened, opened_with}
 use Rattle.wef_xml.specs.Good.{IsGoodAttribute, AreGoodAttributes, IsGoodHead, IsXmlText, differ_behind}
 use Rattle.wef_xml.specs.Prefixes.{Scope, attribute_prefix, bound_by, element_prefix, inside, new_bindings, nine, prefix_of}
 use Rattle.wef_tree_reading.specs.Scopes.{Declared, attribute_one, attribute_space, attributes_by, declare_one, declared_by, declared_outside, declares, in_scope, undeclared, with_attribute}
-use Rattle.wef_xml.specs.Spaces.{is_attribute, is_empty, is_xml, is_xml_space, is_xmlns, xml_space}
+use Rattle.wef_xml.specs.Spaces.{is_attribute, is_empty, is_xml_prefix, is_xml_space, is_xmlns, xml_space}
 use Rattle.wef_xml.specs.declared.bindings.Binding.{Binding}
 use Rattle.wef_tree_reading.specs.declared.building.Builder.{Builder}
 use Rattle.wef_tree_reading.specs.declared.stack.Open.{Open}
@@ -69,17 +69,17 @@ agrees_inside o around os scope force alike = record {
 }
 
 -- what a prefix of the element's stands for
-stands_for : (own : Declared) (around : List Open) (p s : List ℕ) → is_xml p ≡ false → option_or (map.get own p) (declared_outside around p) ≡ Some s → in_scope own around p ≡ Some s
+stands_for : (own : Declared) (around : List Open) (p s : List ℕ) → is_xml_prefix p ≡ false → option_or (map.get own p) (declared_outside around p) ≡ Some s → in_scope own around p ≡ Some s
 stands_for own around p s other e =
     ap (λ t. cond t (Some xml_space) (option_or (map.get own p) (option_or (declared_outside around p) (undeclared p)))) other
     ∙ or_more (map.get own p) (declared_outside around p) (undeclared p) s e
 
 xml_stands : (own : Declared) (around : List Open) (s : List ℕ) → is_xml_space s ≡ true → in_scope own around (codes "xml") ≡ Some s
-unfolding is_xml is_xml_space
+unfolding is_xml_prefix is_xml_space
 xml_stands own around s e = ap Some (sym (one_name s xml_space e))
 
 none_stands : (own : Declared) (around : List Open) (s : List ℕ) → option_or (map.get own []) (option_or (declared_outside around []) (Some [])) ≡ Some s → in_scope own around [] ≡ Some s
-unfolding is_xml
+unfolding is_xml_prefix
 none_stands own around s e = e
 
 -- the element's own namespace
@@ -91,7 +91,7 @@ own_space own around scope space name attributes force = by (element_prefix scop
     bound : (p : List ℕ) → prefix_of (inside scope space attributes).bound space ≡ Some p → in_scope own around p ≡ Some space
     bound p e =
         let b = prefix_good (inside scope space attributes).bound space p force.bindings e in
-        stands_for own around p space (ap is_xml (sym b.2) ∙ b.1.no_xml) (force.bound space p e)
+        stands_for own around p space (ap is_xml_prefix (sym b.2) ∙ b.1.no_xml) (force.bound space p e)
 
     plain : (p : List ℕ) (soap : Bool) → scope.soap ≡ soap → cond soap (prefix_of nine space) None ≡ Some p → in_scope own around p ≡ Some space
     plain p true is e = bound p (force.nine_bound is space p e)

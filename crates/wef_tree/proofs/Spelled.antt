@@ -12,7 +12,7 @@ use Rattle.wef_xml.specs.Good.{IsGoodHead, IsLocalName, IsXmlText}
 use Rattle.wef_tree_pieces.specs.Pieces.{piece_at}
 use Rattle.wef_xml.specs.Prefixes.{Scope, attribute_prefix, element_prefix, inside, new_bindings, nine, prefix_of}
 use Rattle.wef_tree_reading.specs.Scopes.{declared_outside}
-use Rattle.wef_xml.specs.Spaces.{is_empty, is_xml, is_xml_space, is_xmlns}
+use Rattle.wef_xml.specs.Spaces.{is_empty, is_xml_prefix, is_xml_space, is_xmlns}
 use Rattle.wef_tree_reading.specs.Spelling.{Leads}
 use Rattle.wef_xml.specs.declared.bindings.Binding.{Binding}
 use Rattle.wef_tree_reading.specs.declared.building.Builder.{Builder}
@@ -52,7 +52,7 @@ pub record IsGoodBinding (b : Binding) : Type 0 where
   pub space : IsXmlText b.space
   pub some : is_empty b.space ≡ false
   pub no_xml_space : is_xml_space b.space ≡ false
-  pub no_xml : is_xml b.prefix ≡ false
+  pub no_xml : is_xml_prefix b.prefix ≡ false
   pub no_xmlns : is_xmlns b.prefix ≡ false
 
 abbrev pub AreGoodBindings : List Binding → Type 0

@@ -1,4 +1,5 @@
-//! The pieces that a document of XML is a list of, read one by one.
+//! The pieces that a document of XML is a list of, read one by one. It stands apart from
+//! wef_tree_reading: what one piece is needs no tree, and is proved without one.
 #![tactic(auto)]
 
 mod faults;

@@ -17,7 +17,7 @@ use Rattle.wef_base.specs.declared.tree.Node.{Node, Chars}
 use Rattle.wef_base.specs.declared.tree.Node.TheVariants.{Element as Child}
 use Rattle.wef_xml.specs.Good.{IsXmlText, IsGoodAttribute, AreGoodAttributes, differ_behind, are_different, is_text, are_apart, IsGoodText, IsGoodNode, AreGoodNodes, IsGoodElement}
 use Rattle.wef_tree_reading.specs.Scopes.{Declared, attribute_one, attribute_space, attributes_by, declare_one, declared_by, declared_outside, declares, in_scope, may_declare, undeclared, with_attribute, with_declaration}
-use Rattle.wef_xml.specs.Spaces.{is_attribute, is_empty, is_xml, is_xml_space, is_xmlns, xml_space}
+use Rattle.wef_xml.specs.Spaces.{is_attribute, is_empty, is_xml_prefix, is_xml_space, is_xmlns, xml_space}
 use Rattle.wef_tree_pieces.specs.declared.names.Name.{Name}
 use Rattle.wef_tree_reading.specs.declared.stack.Open.{Open}
 use Rattle.wef_tree_pieces.specs.declared.tags.Given.{Given}
@@ -79,7 +79,7 @@ xml_is_some = refl
 -- a namespace that may be declared isn't empty, but for the default one
 may_stand : (prefix space : List ℕ) → may_declare prefix space ≡ true → (is_empty prefix || not (is_empty space)) ≡ true
 unfolding is_xml_space
-may_stand prefix space = by (is_xml prefix)
+may_stand prefix space = by (is_xml_prefix prefix)
   where
     by : (b : Bool) → cond b (same space xml_space) (not (is_xmlns prefix) && not (same space xml_space) && (is_empty prefix || not (is_empty space))) ≡ true →
         (is_empty prefix || not (is_empty space)) ≡ true
@@ -142,7 +142,7 @@ pub good_in_scope :
     (own : Declared) (os : List Open) (room : ℕ) (prefix space : List ℕ) → AreGoodSpaces own → AreGoodOpens os room →
     in_scope own os prefix ≡ Some space → IsGoodSpace prefix space
 good_in_scope own os room prefix space good around =
-    by (is_xml prefix) (map.get own prefix) (declared_outside os prefix) (good prefix) (good_outside os room prefix space around)
+    by (is_xml_prefix prefix) (map.get own prefix) (declared_outside os prefix) (good prefix) (good_outside os room prefix space around)
   where
     by :
         (b : Bool) (here outside : Option (List ℕ)) → ((s : List ℕ) → here ≡ Some s → IsGoodSpace prefix s) →

@@ -14,7 +14,7 @@ use Rattle.wef_base.specs.declared.tree.Attribute.{Attribute}
 use Rattle.wef_base.specs.declared.tree.Element.{Element}
 use Rattle.wef_base.specs.declared.tree.Node.{Node, Chars}
 use Rattle.wef_base.specs.declared.tree.Node.TheVariants.{Element as Child}
-use Rattle.wef_xml.specs.Spaces.{is_attribute, is_empty, is_xml, xml_space}
+use Rattle.wef_xml.specs.Spaces.{is_attribute, is_empty, is_xml_prefix, xml_space}
 use Rattle.wef_xml.specs.Told.{AreAttributesIn, AreNodesIn, IsElementIn, IsNodeIn}
 use Rattle.wef_xml.proofs.Apart.{child_in}
 use Rattle.wef_tree_reading.specs.Building.{element_of, ended, entered, flushed, has_room, is_outside, opened, opened_with, passed, placed, taken, with_child, with_letter, with_more, with_text}
@@ -76,7 +76,7 @@ module _ (P : List ℕ → Type 0) where
     xml : P xml_space
 
   scope_in : (own : Declared) (os : List Open) (prefix space : List ℕ) → AreOwnIn → AreDeclaredIn P own → AreOpensIn P os → in_scope own os prefix ≡ Some space → P space
-  scope_in own os prefix space fixed in_own opens = by (is_xml prefix) (map.get own prefix) (declared_outside os prefix) (in_own prefix) (outside_in os prefix space opens)
+  scope_in own os prefix space fixed in_own opens = by (is_xml_prefix prefix) (map.get own prefix) (declared_outside os prefix) (in_own prefix) (outside_in os prefix space opens)
     where
       by :
           (b : Bool) (here outside : Option (List ℕ)) → ((s : List ℕ) → here ≡ Some s → P s) → (outside ≡ Some space → P space) →

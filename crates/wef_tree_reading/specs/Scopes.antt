@@ -7,7 +7,7 @@ use Rattle.std.specs.Cmp.Lexicographic.{slice_cmp}
 use Rattle.std.specs.List.{list_any}
 use Rattle.std.specs.FinMap as map
 use Rattle.wef_base.specs.declared.tree.Attribute.{Attribute}
-use Rattle.wef_xml.specs.Spaces.{is_attribute, is_empty, is_xml, is_xml_space, is_xmlns, xml_space}
+use Rattle.wef_xml.specs.Spaces.{is_attribute, is_empty, is_xml_prefix, is_xml_space, is_xmlns, xml_space}
 use Rattle.wef_tree_pieces.specs.declared.names.Name.{Name}
 use Rattle.wef_tree_pieces.specs.declared.tags.Given.{Given}
 use Rattle.wef_tree_reading.specs.declared.stack.Open.{Open}
@@ -26,7 +26,7 @@ declares name =
 -- prefix never as no namespace
 abbrev pub may_declare : List ℕ → List ℕ → Bool
 may_declare prefix space =
-    if is_xml prefix then is_xml_space space
+    if is_xml_prefix prefix then is_xml_space space
     else not (is_xmlns prefix) && not (is_xml_space space) && (is_empty prefix || not (is_empty space))
 
 -- the declarations of a tag with one more, which must be good and the first of its prefix
@@ -55,7 +55,7 @@ undeclared prefix = if is_empty prefix then Some [] else None
 -- the namespace that a prefix stands for in a tag with these declarations, inside these elements
 abbrev pub in_scope : Declared → List Open → List ℕ → Option (List ℕ)
 in_scope own around prefix =
-    if is_xml prefix then Some xml_space
+    if is_xml_prefix prefix then Some xml_space
     else option_or (map.get own prefix) (option_or (declared_outside around prefix) (undeclared prefix))
 
 -- the namespace of an attribute: none without a prefix

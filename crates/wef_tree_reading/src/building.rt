@@ -1,9 +1,8 @@
 //! Putting pieces together.
 
 ghost use Rattle.std.specs.Prelude.{◌≡◌, ◌++◌, length, true, encode_utf8, encode_utf8_all, IfOk, OnOk};
-ghost use Rattle.wef_tree_reading.specs.Building.{element_of, ended, flushed, has_room, nothing, opened, passed, placed, taken, with_letter, with_more};
+ghost use Rattle.wef_tree_reading.specs.Building.{element_of, flushed, has_room, nothing, opened, placed, taken, with_letter, with_more};
 ghost use Rattle.wef_tree_reading.specs.Reads.{Gives, Takes};
-ghost use Rattle.wef_xml.specs.Good.{greatest_depth};
 
 use crate::attributes::attributes_by;
 use crate::spaces::{declared_by, in_scope};

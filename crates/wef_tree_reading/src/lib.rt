@@ -1,4 +1,5 @@
-//! Reading documents as trees, exactly.
+//! Reading documents as trees, exactly. It stands apart from wef_tree_writing, since neither uses
+//! the other; wef_tree says what both are to each other.
 #![tactic(auto)]
 
 mod attributes;

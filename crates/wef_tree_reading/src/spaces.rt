@@ -12,7 +12,7 @@ use std::alloc::Global;
 use wef_base::{Namespace, Text};
 use wef_tree_pieces::{Given, Halt, Name};
 use wef_xml::digests::Digested;
-use wef_xml::spaces::{is_xml, is_xml_space, is_xmlns};
+use wef_xml::spaces::{is_xml_prefix, is_xml_space, is_xmlns};
 
 /// The declarations that a tag's attributes make. The others are passed over.
 pub fn declared_by(alloc: Global, given: &[Given]) -> Result<Declarations, Halt>
@@ -69,7 +69,7 @@ pub fn declared_prefix(name: &Name) -> Option<&Text>
 fn may_declare(prefix: &Text, space: &Text) -> bool
     ensures { result ≡ may_declare prefix.now space.now }
 {
-    if is_xml(prefix) {
+    if is_xml_prefix(prefix) {
         return is_xml_space(space);
     }
     !is_xmlns(prefix) && !is_xml_space(space) && (prefix.is_empty() || !space.is_empty())
@@ -79,7 +79,7 @@ fn may_declare(prefix: &Text, space: &Text) -> bool
 pub fn in_scope(own: &Declarations, around: &Stack, prefix: &Text) -> Result<Digested, Halt>
     ensures { Gives result (in_scope own.now around.now prefix.now) }
 {
-    if is_xml(prefix) {
+    if is_xml_prefix(prefix) {
         return Ok(around.xml_space()?);
     }
     if let Some(space) = own.get(prefix) {

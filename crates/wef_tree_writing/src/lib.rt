@@ -1,4 +1,5 @@
-//! Writing trees as documents, each in one way.
+//! Writing trees as documents, each in one way. It stands apart from wef_tree_reading, since
+//! neither uses the other; wef_tree says what both are to each other.
 #![tactic(auto)]
 
 mod bindings;

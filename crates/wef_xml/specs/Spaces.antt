@@ -11,8 +11,8 @@ xml_space = codes "http://www.w3.org/XML/1998/namespace"
 unfoldable pub is_xml_space : List ℕ → Bool
 is_xml_space space = same space xml_space
 
-unfoldable pub is_xml : List ℕ → Bool
-is_xml word = same word (codes "xml")
+unfoldable pub is_xml_prefix : List ℕ → Bool
+is_xml_prefix word = same word (codes "xml")
 
 unfoldable pub is_xmlns : List ℕ → Bool
 is_xmlns word = same word (codes "xmlns")

@@ -1,7 +1,7 @@
 //! Namespaces and prefixes of XML itself.
 
 ghost use Rattle.std.specs.Prelude.{◌≡◌, [], IfOk};
-ghost use Rattle.wef_xml.specs.Spaces.{is_xml, is_xml_space, is_xmlns, xml_space};
+ghost use Rattle.wef_xml.specs.Spaces.{is_xml_prefix, is_xml_space, is_xmlns, xml_space};
 
 use std::alloc::{AllocError, Global};
 use wef_base::{Namespace, Text};
@@ -32,10 +32,10 @@ pub fn is_xml_space(space: &Text) -> bool
     space.as_str() == XML_SPACE
 }
 
-/// Whether a word is `xml`.
-#[tactic(auto, unfolding(crate::specs::Spaces::is_xml))]
-pub fn is_xml(word: &Text) -> bool
-    ensures { result ≡ is_xml word.now }
+/// Whether a prefix is `xml`, which no document needs to declare.
+#[tactic(auto, unfolding(crate::specs::Spaces::is_xml_prefix))]
+pub fn is_xml_prefix(word: &Text) -> bool
+    ensures { result ≡ is_xml_prefix word.now }
 {
     word.as_str() == "xml"
 }

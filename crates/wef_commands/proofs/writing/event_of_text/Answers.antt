@@ -2,7 +2,7 @@ use Rattle.std.proofs.Common.{sym}
 use Rattle.std.specs.declared.result.Result.TheVariants.{Ok}
 use Rattle.wef_lines.proofs.SaidEvents.{said}
 use Rattle.wef_commands.proofs.EventLines.{none_said}
-use Rattle.wef_commands.proofs.writing.new_event.Goals as goal
+use Rattle.wef_commands.proofs.writing.event_of_text.Goals as goal
 
 pub returns-in-Ok : goal.returns-in-Ok
 returns-in-Ok c = sym (said c.args.line.now (Ok c.in-Ok.event) c.in-Ok.ensures.read)
