@@ -19,9 +19,10 @@ use Rattle.wef_keeper.specs.Rows.{Rows}
 use Rattle.wef_ports.specs.Telling as ports
 use Rattle.wef_serving.specs.declared.ends.ConnectionEnd.{ConnectionEnd}
 use Rattle.wef_commands.proofs.ByRows.{boot_full, could_start, from_one}
-use Rattle.wef_commands.specs.Calling.{Starts, store_ending}
+use Rattle.wef_commands.specs.Calling.{Starts}
 use Rattle.wef_commands.specs.Endings.{HasFailed, Told}
 use Rattle.wef_commands.specs.Laws.{Stand}
+use Rattle.wef_commands.specs.Refusals.{store_ending}
 use Rattle.wef_commands.specs.declared.ending.Ending.{Ending}
 use Rattle.wef_commands.specs.declared.ending.Ending.TheVariants as ends
 use Rattle.wef_connections.specs.Opening.{with_address}

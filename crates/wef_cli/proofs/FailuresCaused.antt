@@ -14,11 +14,12 @@ use Rattle.wef_source_log.specs.Forms as source
 use Rattle.wef_source_log.specs.declared.faults.LogFault.{LogFault}
 use Rattle.wef_source_log.specs.declared.faults.LogFault.TheVariants as log_faults
 use Rattle.wef_commands.specs.Adding.{Adds, added_text}
-use Rattle.wef_commands.specs.Calling.{CallEnds, Starts, WroteOut, named_ending, store_ending}
+use Rattle.wef_commands.specs.Calling.{CallEnds, Starts, WroteOut, named_ending}
 use Rattle.wef_commands.specs.Endings.{Told}
 use Rattle.wef_commands.specs.Listing.{Lists, WroteList}
+use Rattle.wef_commands.specs.Refusals.{log_ending, store_ending}
 use Rattle.wef_commands.specs.Removing.{Ends, ended_text}
-use Rattle.wef_commands.specs.Writing.{EndsBefore, StartsLog, WriteEnds, WritesAll, WritesEvent, Wrote, log_ending, write_ending, written_text}
+use Rattle.wef_commands.specs.Writing.{EndsBefore, StartsLog, WriteEnds, WritesAll, WritesEvent, Wrote, write_ending, written_text}
 use Rattle.wef_commands.specs.Showing.{Reports}
 use Rattle.wef_commands.specs.declared.ending.Ending.{Ending}
 use Rattle.wef_commands.specs.declared.ending.Ending.TheVariants as ends

@@ -21,10 +21,11 @@ use Rattle.wef_source_log.specs.Forms as source
 use Rattle.wef_commands.proofs.ByRows.{image_of}
 use Rattle.wef_commands.proofs.Leaving.{wrote_opened}
 use Rattle.wef_commands.specs.Adding.{Adds, added_text}
-use Rattle.wef_commands.specs.Calling.{CallEnds, WroteOut, named_ending, store_ending}
+use Rattle.wef_commands.specs.Calling.{CallEnds, WroteOut, named_ending}
 use Rattle.wef_commands.specs.Endings.{Told}
 use Rattle.wef_commands.specs.Laws.{Stand}
 use Rattle.wef_commands.specs.Listing.{Lists, WroteList}
+use Rattle.wef_commands.specs.Refusals.{store_ending}
 use Rattle.wef_commands.specs.Removing.{Ends, ended_text}
 use Rattle.wef_commands.specs.Showing.{Reports}
 use Rattle.wef_commands.specs.Writing.{EndsBefore, WritesAll, Wrote, written_text}

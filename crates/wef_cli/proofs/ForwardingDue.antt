@@ -41,6 +41,7 @@ use Rattle.wef_commands.proofs.ByRows.{from_one}
 use Rattle.wef_commands.specs.Calling.{IsUndone}
 use Rattle.wef_commands.specs.Endings.{HasFailed, Told}
 use Rattle.wef_commands.specs.Laws.{Stand}
+use Rattle.wef_commands.specs.Refusals.{source_ending}
 use Rattle.wef_commands.specs.Writing.{IsUntold}
 use Rattle.wef_commands.specs.declared.ending.Ending.{Ending}
 use Rattle.wef_commands.specs.declared.ending.Ending.TheVariants as ends
@@ -48,7 +49,7 @@ use Rattle.wef_commands.specs.declared.writing.TheConstants.{LOG_CAPACITY}
 use Rattle.wef_running.proofs.LinksCounted.{failed_links_are_counted}
 use Rattle.wef_running.proofs.SentByRows.{forwards_by_rows}
 use Rattle.wef_running.specs.ByRows.{ForwardSays}
-use Rattle.wef_running.specs.Forwarding.{AreSent, AsksAndSends, EndsBefore, EndsDone, ForwardEnds, IsAsked, IsSent, Plan, Running, SendsFrom, StartsSource, behind, behind_all, front_ending, line_of, next, source_ending, subscriptions_line, unless_gone}
+use Rattle.wef_running.specs.Forwarding.{AreSent, AsksAndSends, EndsBefore, EndsDone, ForwardEnds, IsAsked, IsSent, Plan, Running, SendsFrom, StartsSource, behind, behind_all, front_ending, line_of, next, subscriptions_line, unless_gone}
 use Rattle.wef_cli.proofs.CollectingDue.{with_says}
 use Rattle.wef_cli.proofs.TellingDue.{begun_due, full_log_due, may_find, sure, told_due}
 use Rattle.wef_cli.specs.Command.{greatest_number}

@@ -18,9 +18,10 @@ use Rattle.wef_source.specs.declared.faults.SourceFault.{SourceFault}
 use Rattle.wef_source.specs.declared.faults.SourceFault.TheVariants as faults
 use Rattle.wef_source_log.specs.Forms.{AreFormed}
 use Rattle.wef_commands.specs.Endings.{Told}
+use Rattle.wef_commands.specs.Refusals.{source_ending}
 use Rattle.wef_commands.specs.Showing.{is_store_failed}
 use Rattle.wef_commands.specs.declared.ending.Ending.TheVariants as ends
-use Rattle.wef_running.specs.Forwarding.{AreSent, AsksAndSends, EndsBefore, ForwardEnds, IsAsked, IsSent, Plan, Running, SendsAll, SendsFrom, StartsSource, behind, behind_all, front_ending, line_of, next, source_ending, unless_gone}
+use Rattle.wef_running.specs.Forwarding.{AreSent, AsksAndSends, EndsBefore, ForwardEnds, IsAsked, IsSent, Plan, Running, SendsAll, SendsFrom, StartsSource, behind, behind_all, front_ending, line_of, next, unless_gone}
 use Rattle.wef_cli.proofs.Causes.{later_caused, not_failed}
 
 abbrev Caused : Store → Store → Type 0

@@ -27,7 +27,8 @@ use Rattle.wef_commands.specs.Checking.{lines_of}
 use Rattle.wef_commands.specs.Endings.{HasFailed, IsToldAs, Told}
 use Rattle.wef_commands.specs.Laws.{AddSays, EventsSay, HasWritten, RemoveSays, StopsOver, WriteGoes, WritesText, can_start, events_ending, numbers_of, started, with_event, with_events}
 use Rattle.wef_commands.specs.Listing.{list_text}
-use Rattle.wef_commands.specs.Writing.{EndsJudging, HasEvents, IsBad, bad_line, events_of, log_ending, written_text}
+use Rattle.wef_commands.specs.Refusals.{log_ending}
+use Rattle.wef_commands.specs.Writing.{EndsJudging, HasEvents, IsBad, bad_line, events_of, written_text}
 use Rattle.wef_commands.specs.declared.ending.Ending.{Ending}
 use Rattle.wef_commands.specs.declared.ending.Ending.TheVariants as ends
 use Rattle.wef_commands.specs.declared.writing.TheConstants.{LOG_CAPACITY}

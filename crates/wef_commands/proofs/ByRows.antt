@@ -28,10 +28,11 @@ use Rattle.wef_collector_rows.specs.declared.faults.CollectorFault.TheVariants a
 use Rattle.wef_collector_rows.specs.declared.standings.Standing.{Standing}
 use Rattle.wef_collector_rows.specs.declared.standings.Standing.TheVariants.{Unknown, Ended, Live}
 use Rattle.wef_commands.specs.Adding.{Adds, DocumentEnds, HasDocument, IsReadAgain, added_text}
-use Rattle.wef_commands.specs.Calling.{CallEnds, Started, Starts, WroteOut, named_ending, store_ending}
+use Rattle.wef_commands.specs.Calling.{CallEnds, Started, Starts, WroteOut, named_ending}
 use Rattle.wef_commands.specs.Endings.{Told}
 use Rattle.wef_commands.specs.Laws.{AddSays, AddsByRows, EventsByRows, EventsSay, HasEnded, IsAdded, ListsByRows, OverRows, RemoveSays, RemovesByRows, ShowsByRows, Stand, WritesText, can_start, started}
 use Rattle.wef_commands.specs.Listing.{Lists, WroteList, list_text}
+use Rattle.wef_commands.specs.Refusals.{store_ending}
 use Rattle.wef_commands.specs.Removing.{Ends, ended_text}
 use Rattle.wef_commands.specs.Showing.{Reports, TellsHeld, WritesHeld}
 use Rattle.wef_commands.specs.Streams.{WritesPart}

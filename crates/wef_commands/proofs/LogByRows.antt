@@ -18,7 +18,8 @@ use Rattle.wef_source_log.specs.declared.faults.LogFault.{LogFault}
 use Rattle.wef_source_log.specs.declared.faults.LogFault.TheVariants as faults
 use Rattle.wef_commands.specs.Endings.{Told}
 use Rattle.wef_commands.specs.Laws.{OverRows, Stand, WriteSays, WritesByRows, numbers_of, with_event, with_events}
-use Rattle.wef_commands.specs.Writing.{EndsBefore, HasEvents, StartsLog, Wrote, WroteEvents, log_ending, write_ending, written_text}
+use Rattle.wef_commands.specs.Refusals.{log_ending}
+use Rattle.wef_commands.specs.Writing.{EndsBefore, HasEvents, StartsLog, Wrote, WroteEvents, write_ending, written_text}
 use Rattle.wef_commands.specs.declared.ending.Ending.TheVariants as ends
 use Rattle.wef_commands.specs.declared.writing.TheConstants.{LOG_CAPACITY}
 use Rattle.wef_commands.proofs.ByRows.{from_one, mid_stands}

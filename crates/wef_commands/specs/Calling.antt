@@ -12,6 +12,7 @@ use Rattle.wef_ids.specs.declared.ids.Ids.{Ids}
 use Rattle.wef_keeper.specs.Calls.{DoesWith, IsCall}
 use Rattle.wef_keeper.specs.Keeping.{IsLawful, Store}
 use Rattle.wef_commands.specs.Endings.{HasFailed, IsUnwritten, Told}
+use Rattle.wef_commands.specs.Refusals.{store_ending}
 use Rattle.wef_commands.specs.Streams.{WritesPart}
 use Rattle.wef_commands.specs.declared.ending.Ending.{Ending}
 use Rattle.wef_commands.specs.declared.ending.Ending.TheVariants as ends
@@ -29,12 +30,6 @@ pub record Started (Call : Store → Store → Type 0) (before now : Store) : Ty
   pub ids : Ids
   pub start : Starts (Ok ids) before mid
   pub call : Call mid now
-
--- the ending that tells of a refusal that is the store's, or the start's
-abbrev pub store_ending : CollectorFault → Ending
-store_ending faults.NoMemory = ends.NoMemory
-store_ending faults.Full = ends.Full
-store_ending _ = ends.StoreFailed
 
 -- the same of a call that names a subscription
 abbrev pub named_ending : List ℕ → CollectorFault → Ending

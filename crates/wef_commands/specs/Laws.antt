@@ -27,10 +27,11 @@ use Rattle.wef_source_log.specs.declared.faults.LogFault.{LogFault}
 use Rattle.wef_commands.specs.Adding.{AddEnds, HasDocument, IsReadAs, IsRefused, added_text}
 use Rattle.wef_commands.specs.Endings.{HasFailed, IsUnwritten, Told}
 use Rattle.wef_commands.specs.Listing.{ListEnds, list_text}
+use Rattle.wef_commands.specs.Refusals.{log_ending}
 use Rattle.wef_commands.specs.Removing.{RemoveEnds, ended_text}
 use Rattle.wef_commands.specs.Showing.{EventsEnds, ShowEnds, held_text}
 use Rattle.wef_commands.specs.Streams.{WritesPart}
-use Rattle.wef_commands.specs.Writing.{EndsJudging, HasEvents, WriteEnds, log_ending, written_line, written_text}
+use Rattle.wef_commands.specs.Writing.{EndsJudging, HasEvents, WriteEnds, written_line, written_text}
 use Rattle.wef_commands.specs.declared.ending.Ending.{Ending}
 use Rattle.wef_commands.specs.declared.ending.Ending.TheVariants as ends
 use Rattle.wef_commands.specs.declared.writing.TheConstants.{LOG_CAPACITY}

@@ -5,6 +5,7 @@ pub mod Endings
 pub mod Laws
 pub mod Listing
 pub mod Pages
+pub mod Refusals
 pub mod Removing
 pub mod Showing
 pub mod Streams

@@ -15,8 +15,9 @@ use Rattle.wef_eventing.specs.declared.subscriptions.SubKind.{SubKind}
 use Rattle.wef_eventing.specs.declared.subscriptions.SubKind.TheVariants.{BySource, ByCollector}
 use Rattle.wef_keeper.specs.Calls.{Looks}
 use Rattle.wef_keeper.specs.Keeping.{Store}
-use Rattle.wef_commands.specs.Calling.{CallEnds, WroteOut, store_ending}
+use Rattle.wef_commands.specs.Calling.{CallEnds, WroteOut}
 use Rattle.wef_commands.specs.Endings.{IsUnwritten, Told}
+use Rattle.wef_commands.specs.Refusals.{store_ending}
 use Rattle.wef_commands.specs.declared.ending.Ending.{Ending}
 use Rattle.wef_commands.specs.declared.ending.Ending.TheVariants as ends
 

@@ -18,8 +18,9 @@ use Rattle.wef_keeper.specs.Keeping.{Store}
 use Rattle.wef_keeper.specs.Rows.{Rows}
 use Rattle.wef_keeper.specs.declared.keys.Row.{Row}
 use Rattle.wef_lines.specs.Printed.{events_text}
-use Rattle.wef_commands.specs.Calling.{CallEnds, IsUndone, Started, Starts, WroteOut, store_ending}
+use Rattle.wef_commands.specs.Calling.{CallEnds, IsUndone, Started, Starts, WroteOut}
 use Rattle.wef_commands.specs.Endings.{HasFailed, IsUnwritten, Told}
+use Rattle.wef_commands.specs.Refusals.{store_ending}
 use Rattle.wef_commands.specs.Streams.{WritesPart}
 use Rattle.wef_commands.specs.declared.ending.Ending.{Ending}
 use Rattle.wef_commands.specs.declared.ending.Ending.TheVariants as ends

@@ -20,6 +20,7 @@ use Rattle.wef_source_log.specs.declared.faults.LogFault.TheVariants as faults
 use Rattle.wef_commands.specs.Adding.{IsReadAs, IsReadAsSome}
 use Rattle.wef_commands.specs.Checking.{lines_of}
 use Rattle.wef_commands.specs.Endings.{HasFailed, IsUnwritten, Told}
+use Rattle.wef_commands.specs.Refusals.{log_ending}
 use Rattle.wef_commands.specs.declared.ending.Ending.{Ending}
 use Rattle.wef_commands.specs.declared.ending.Ending.TheVariants as ends
 use Rattle.wef_commands.specs.declared.writing.TheConstants.{LOG_CAPACITY}
@@ -89,13 +90,6 @@ EndsJudging _ input = ⊥
 -- The input is at its end, and each of its lines says an event; these are the events.
 abbrev pub HasEvents : List Event → Told → Type 0
 HasEvents events input = IsReadAsSome (λ bytes. (bad_line bytes ≡ None) × (events_of (lines_of bytes) ≡ events)) input
-
--- the ending that tells why the log isn't started
-abbrev pub log_ending : LogFault → Ending
-log_ending faults.NoMemory = ends.NoMemory
-log_ending faults.Failed = ends.StoreFailed
-log_ending faults.Full = ends.Full
-log_ending faults.TooLong = ends.StoreFailed
 
 -- The ending that tells why the event of line k isn't written. With its number its text may be too long: so the line is bad.
 abbrev pub write_ending : ℕ → LogFault → Ending

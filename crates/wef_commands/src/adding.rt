@@ -8,7 +8,7 @@ ghost use Rattle.wef_documents.specs.Bytes.{document_in};
 ghost use Rattle.wef_documents.specs.Kept.{read_kept};
 ghost use Rattle.wef_documents.specs.Written.{document_text};
 
-use crate::calling::{named_ending, store_ending, write_done};
+use crate::calling::{named_ending, write_done};
 use crate::ending::Ending;
 use crate::streams::{InputFault, read_whole};
 use std::alloc::{AllocError, Global};
@@ -59,7 +59,7 @@ fn add_read<K: Keeper, O: Sink>(
 {
     let mut collector = match Collector::start(alloc, keeper) {
         Ok(collector) => collector,
-        Err((keeper, fault)) => return (keeper, store_ending(fault)),
+        Err((keeper, fault)) => return (keeper, Ending::from(fault)),
     };
     match collector.add(subscription) {
         Ok(()) => (collector.into_keeper(), write_done(text, out)),

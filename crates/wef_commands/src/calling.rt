@@ -34,17 +34,6 @@ pub fn tell_line<O: Sink>(line: &str, out: &mut O) -> Result<(), Ending>
     }
 }
 
-/// The ending that tells of a refusal that is the store's, or the start's.
-pub fn store_ending(fault: CollectorFault) -> Ending
-    ensures { result ≡ spec.store_ending fault }
-{
-    match fault {
-        CollectorFault::NoMemory => Ending::NoMemory,
-        CollectorFault::Full => Ending::Full,
-        _ => Ending::StoreFailed,
-    }
-}
-
 /// The ending that tells of a refusal of a call that names a subscription.
 pub fn named_ending(name: SubId, fault: CollectorFault) -> Ending
     ensures { result ≡ spec.named_ending name fault }

@@ -10,7 +10,7 @@ ghost use Rattle.wef_commands.specs.Showing as spec;
 ghost use Rattle.wef_keeper.specs.Access as access;
 ghost use Rattle.wef_lines.specs.Printed.{event_line};
 
-use crate::calling::{named_ending, store_ending, write_done};
+use crate::calling::{named_ending, write_done};
 use crate::ending::Ending;
 use crate::streams::write_whole;
 use std::alloc::{AllocError, Global};
@@ -41,7 +41,7 @@ pub fn events<K: Keeper, O: Sink>(
 {
     let mut keeper = match Collector::start(alloc, keeper) {
         Ok(collector) => collector.into_keeper(),
-        Err((keeper, fault)) => return (keeper, store_ending(fault)),
+        Err((keeper, fault)) => return (keeper, Ending::from(fault)),
     };
     let ending = write_held(alloc, &mut keeper, name, source, channel, out);
     (keeper, ending)

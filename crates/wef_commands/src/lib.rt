@@ -10,13 +10,14 @@ mod ending;
 pub mod events;
 pub mod laws;
 mod listing;
+mod refusals;
 mod removing;
 mod showing;
 mod streams;
 mod writing;
 
 pub use adding::add;
-pub use calling::{store_ending, tell_line};
+pub use calling::tell_line;
 pub use checking::check;
 pub use ending::Ending;
 pub use listing::list;

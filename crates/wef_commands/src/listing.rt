@@ -4,7 +4,7 @@ ghost use Rattle.std.specs.Prelude.{◌≡◌, ◌++◌, IfOk, OnOk};
 ghost use Rattle.wef_commands.specs.Endings.{told_of};
 ghost use Rattle.wef_commands.specs.Listing as spec;
 
-use crate::calling::{store_ending, write_done};
+use crate::calling::write_done;
 use crate::ending::Ending;
 use std::alloc::{AllocError, Global};
 use wef_base::{Sink, Text};
@@ -20,14 +20,14 @@ pub fn list<K: Keeper, O: Sink>(alloc: Global, keeper: K, out: &mut O) -> (K, En
 {
     let mut collector = match Collector::start(alloc, keeper) {
         Ok(collector) => collector,
-        Err((keeper, fault)) => return (keeper, store_ending(fault)),
+        Err((keeper, fault)) => return (keeper, Ending::from(fault)),
     };
     match collector.list() {
         Ok(list) => (
             collector.into_keeper(),
             write_list(alloc, list.as_slice(), out),
         ),
-        Err(fault) => (collector.into_keeper(), store_ending(fault)),
+        Err(fault) => (collector.into_keeper(), Ending::from(fault)),
     }
 }
 

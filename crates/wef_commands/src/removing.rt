@@ -4,7 +4,7 @@ ghost use Rattle.wef_commands.specs.Calling.{CallEnds, WroteOut, named_ending};
 ghost use Rattle.wef_commands.specs.Endings.{told_of};
 ghost use Rattle.wef_commands.specs.Removing as spec;
 
-use crate::calling::{named_ending, store_ending, write_done};
+use crate::calling::{named_ending, write_done};
 use crate::ending::Ending;
 use std::alloc::Global;
 use wef_base::{Sink, SubId, Text};
@@ -39,7 +39,7 @@ fn end<K: Keeper, O: Sink>(
 {
     let mut collector = match Collector::start(alloc, keeper) {
         Ok(collector) => collector,
-        Err((keeper, fault)) => return (keeper, store_ending(fault)),
+        Err((keeper, fault)) => return (keeper, Ending::from(fault)),
     };
     match collector.end(&name) {
         Ok(()) => (collector.into_keeper(), write_done(text, out)),

@@ -3,7 +3,7 @@
 ghost use Rattle.wef_commands.specs.Endings.{told_of};
 ghost use Rattle.wef_commands.specs.Showing as spec;
 
-use crate::calling::{store_ending, write_done};
+use crate::calling::write_done;
 use crate::ending::Ending;
 use std::alloc::Global;
 use wef_base::Sink;
@@ -18,10 +18,10 @@ pub fn show<K: Keeper, O: Sink>(alloc: Global, keeper: K, out: &mut O) -> (K, En
 {
     let mut collector = match Collector::start(alloc, keeper) {
         Ok(collector) => collector,
-        Err((keeper, fault)) => return (keeper, store_ending(fault)),
+        Err((keeper, fault)) => return (keeper, Ending::from(fault)),
     };
     match collector.report() {
         Ok(text) => (collector.into_keeper(), write_done(&text, out)),
-        Err(fault) => (collector.into_keeper(), store_ending(fault)),
+        Err(fault) => (collector.into_keeper(), Ending::from(fault)),
     }
 }

@@ -117,7 +117,7 @@ fn write_all<K: Keeper, O: Sink>(alloc: Global, keeper: K, text: &[u8], out: &mu
 {
     let mut log = match Log::start(alloc, keeper, LOG_CAPACITY) {
         Ok(log) => log,
-        Err((keeper, fault)) => return (keeper, log_ending(fault)),
+        Err((keeper, fault)) => return (keeper, Ending::from(fault)),
     };
     let ending = write_lines(alloc, &mut log, text, out);
     (log.into_keeper(), ending)
@@ -213,24 +213,12 @@ fn written_line(channel: &ChannelName, number: u64) -> Result<Text, AllocError>
     Ok(text)
 }
 
-/// The ending that tells why the log isn't started.
-fn log_ending(fault: LogFault) -> Ending
-    ensures { result ≡ spec.log_ending fault }
-{
-    match fault {
-        LogFault::NoMemory => Ending::NoMemory,
-        LogFault::Full => Ending::Full,
-        LogFault::Failed => Ending::StoreFailed,
-        LogFault::TooLong => Ending::StoreFailed,
-    }
-}
-
 /// The ending that tells why the event of the line of a number isn't written.
 fn write_ending(number: u64, fault: LogFault) -> Ending
     ensures { result ≡ spec.write_ending number fault }
 {
     match fault {
         LogFault::TooLong => Ending::BadLine(number),
-        _ => log_ending(fault),
+        _ => Ending::from(fault),
     }
 }

@@ -30,7 +30,7 @@ pub fn run(rt: HostRuntime) -> ExitCode {
     };
     let keeper = match keeper_in(rt, alloc) {
         Ok(keeper) => keeper,
-        Err(fault) => return ended(alloc, store_ending(fault), &mut err),
+        Err(fault) => return ended(alloc, Ending::from(fault), &mut err),
     };
     let mut input = StdSource::new(rt);
     let mut out = StdSink::new(rt);
@@ -67,14 +67,6 @@ fn ending_of(kind: ErrorKind) -> Ending {
     match kind {
         ErrorKind::InvalidData => Ending::BadCommand,
         _ => Ending::NoMemory,
-    }
-}
-
-/// How a run ends that has no store.
-fn store_ending(fault: KeeperFault) -> Ending {
-    match fault {
-        KeeperFault::NoMemory => Ending::NoMemory,
-        _ => Ending::StoreFailed,
     }
 }
 

@@ -13,9 +13,10 @@ use Rattle.wef_collector_serving.specs.Answers.{Answers, KnownCollector, Leaves}
 use Rattle.wef_collector_serving.specs.ByRows.{AnswersBy, AreGood, Kept, LeavesBy, kept_of}
 use Rattle.wef_collector_serving.specs.Laws.{AreCounted}
 use Rattle.wef_commands.proofs.ByRows.{from_one, image_of, started_so}
-use Rattle.wef_commands.specs.Calling.{Starts, store_ending}
+use Rattle.wef_commands.specs.Calling.{Starts}
 use Rattle.wef_commands.specs.Endings.{IsUnwritten, Told}
 use Rattle.wef_commands.specs.Laws.{Stand, started}
+use Rattle.wef_commands.specs.Refusals.{store_ending}
 use Rattle.wef_commands.specs.declared.ending.Ending.{Ending}
 use Rattle.wef_commands.specs.declared.ending.Ending.TheVariants as ends
 use Rattle.wef_connections.specs.Opening.{next_connection, with_address}

@@ -21,8 +21,9 @@ use Rattle.wef_collector_serving.specs.Answers.{KnownCollector}
 use Rattle.wef_collector_serving.specs.ByRows.{AnswersBy, Kept, LeavesBy, kept_of}
 use Rattle.wef_collector_serving.specs.Clocks.{AreAlike, Outcome}
 use Rattle.wef_commands.proofs.ByRows.{from_one, started_so}
-use Rattle.wef_commands.specs.Calling.{Starts, store_ending}
+use Rattle.wef_commands.specs.Calling.{Starts}
 use Rattle.wef_commands.specs.Laws.{started}
+use Rattle.wef_commands.specs.Refusals.{store_ending}
 use Rattle.wef_commands.specs.declared.ending.Ending.TheVariants as ends
 use Rattle.wef_connections.specs.Opening.{first_of, next_connection, sent_in_each, with_address, with_last}
 use Rattle.wef_http_heads.specs.declared.targets.Side.TheVariants.{Collector}

@@ -3,6 +3,7 @@ use Rattle.std.proofs.Common.{◌≡◌, inl, inr, ℕ, ◌≤◌, List, [], ◌
 use Rattle.std.specs.Prelude.{Option, Some, None, Result, Ok, Err}
 use Rattle.wef_base.specs.Counts.{Rose}
 use Rattle.wef_commands.specs.Endings.{Told}
+use Rattle.wef_commands.specs.Refusals.{source_ending}
 use Rattle.wef_commands.specs.declared.ending.Ending.TheVariants as ends
 use Rattle.wef_forwarding.specs.Exchanges.{Replied}
 use Rattle.wef_forwarding.specs.Forwarding.{Delivers, Ends, Forwards}
@@ -18,7 +19,7 @@ use Rattle.wef_source.specs.declared.faults.SourceFault.TheVariants as faults
 use Rattle.wef_source.specs.declared.messages.Delivery.{Delivery}
 use Rattle.wef_source.specs.declared.messages.Reply.{Reply}
 use Rattle.wef_running.specs.ByRows.{FailedLinksAreCounted}
-use Rattle.wef_running.specs.Forwarding.{AreSent, AsksAndSends, EndsBefore, IsAsked, IsSent, Plan, Running, SendsFrom, behind, front_ending, source_ending, unless_gone}
+use Rattle.wef_running.specs.Forwarding.{AreSent, AsksAndSends, EndsBefore, IsAsked, IsSent, Plan, Running, SendsFrom, behind, front_ending, unless_gone}
 
 -- ---- which fault it is
 

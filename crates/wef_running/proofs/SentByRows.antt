@@ -5,6 +5,7 @@ use Rattle.std.specs.Prelude.{Option, Some, None, IfSome, Result, Ok, Err, is_so
 use Rattle.wef_commands.proofs.ByRows.{from_one}
 use Rattle.wef_commands.specs.Endings.{IsUnwritten, Told}
 use Rattle.wef_commands.specs.Laws.{Stand}
+use Rattle.wef_commands.specs.Refusals.{source_ending}
 use Rattle.wef_commands.specs.declared.ending.Ending.{Ending}
 use Rattle.wef_commands.specs.declared.writing.TheConstants.{LOG_CAPACITY}
 use Rattle.wef_forwarding.specs.declared.exchanges.FrontFault.{FrontFault}
@@ -27,7 +28,7 @@ use Rattle.wef_source_log.specs.LogWindow as log
 use Rattle.wef_source_log.specs.declared.faults.LogFault.TheVariants as log_faults
 use Rattle.wef_running.proofs.ByRows.{only_found}
 use Rattle.wef_running.specs.ByRows.{ForwardsByRows, IsBegun, IsNotBegun, IsSentOver}
-use Rattle.wef_running.specs.Forwarding.{AreSent, AreSentBy, AsksAndSends, AsksAndSendsBy, EndsBefore, EndsBeforeBy, IsSent, Plan, Running, SendsAll, SendsAllBy, SendsFrom, SendsFromBy, StartsSource, behind, behind_all, line_of, next, source_ending}
+use Rattle.wef_running.specs.Forwarding.{AreSent, AreSentBy, AsksAndSends, AsksAndSendsBy, EndsBefore, EndsBeforeBy, IsSent, Plan, Running, SendsAll, SendsAllBy, SendsFrom, SendsFromBy, StartsSource, behind, behind_all, line_of, next}
 
 -- ---- a store that keeps its rows
 

@@ -8,9 +8,9 @@ use Rattle.wef_collector_rows.specs.Faults.{collector_store}
 use Rattle.wef_collector_rows.specs.Forms.{AreFormed}
 use Rattle.wef_collector_rows.specs.declared.faults.CollectorFault.{CollectorFault}
 use Rattle.wef_collector_serving.specs.ByRows.{AnswersBy, Kept, LeavesBy}
-use Rattle.wef_commands.specs.Calling.{store_ending}
 use Rattle.wef_commands.specs.Endings.{IsUnwritten, Told}
 use Rattle.wef_commands.specs.Laws.{Stand, started}
+use Rattle.wef_commands.specs.Refusals.{source_ending, store_ending}
 use Rattle.wef_commands.specs.declared.ending.Ending.{Ending}
 use Rattle.wef_commands.specs.declared.ending.Ending.TheVariants as ends
 use Rattle.wef_commands.specs.declared.writing.TheConstants.{LOG_CAPACITY}
@@ -22,7 +22,7 @@ use Rattle.wef_keeper.specs.Keeping.{MayFind, Store}
 use Rattle.wef_keeper.specs.Rows.{Rows}
 use Rattle.wef_ports.specs.Telling as ports
 use Rattle.wef_running.specs.Collecting.{CollectEnds, ListeningEndsBy}
-use Rattle.wef_running.specs.Forwarding.{AsksAndSendsBy, ForwardEnds, IsSent, Sending, source_ending}
+use Rattle.wef_running.specs.Forwarding.{AsksAndSendsBy, ForwardEnds, IsSent, Sending}
 use Rattle.wef_serving.specs.Serving.{AnswersAt, LeavesAt, RespondsInTurn}
 use Rattle.wef_serving.specs.Turns.{Ends}
 use Rattle.wef_serving.specs.declared.ends.ConnectionEnd.{ConnectionEnd}

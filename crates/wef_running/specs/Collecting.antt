@@ -13,8 +13,9 @@ use Rattle.wef_keeper.specs.Keeping.{Store}
 use Rattle.wef_ports.specs.Telling as ports
 use Rattle.wef_serving.specs.declared.ends.ConnectionEnd.{ConnectionEnd}
 use Rattle.wef_serving.specs.declared.ends.ConnectionEnd.TheVariants as over
-use Rattle.wef_commands.specs.Calling.{IsUndone, Starts, store_ending}
+use Rattle.wef_commands.specs.Calling.{IsUndone, Starts}
 use Rattle.wef_commands.specs.Endings.{HasFailed, IsUnwritten, Told}
+use Rattle.wef_commands.specs.Refusals.{store_ending}
 use Rattle.wef_commands.specs.Streams.{WritesPart}
 use Rattle.wef_commands.specs.Writing.{TellsLine}
 use Rattle.wef_commands.specs.declared.ending.Ending.{Ending}

@@ -24,6 +24,7 @@ use Rattle.wef_source.specs.declared.faults.SourceFault.TheVariants as faults
 use Rattle.wef_source_log.specs.Answers.{next_boot}
 use Rattle.wef_source_log.specs.Forms.{AreFormed}
 use Rattle.wef_commands.specs.Endings.{IsUnwritten, Told}
+use Rattle.wef_commands.specs.Refusals.{source_ending}
 use Rattle.wef_commands.specs.Writing.{IsUntold}
 use Rattle.wef_commands.specs.declared.ending.Ending.{Ending}
 use Rattle.wef_commands.specs.declared.ending.Ending.TheVariants as ends
@@ -120,14 +121,7 @@ AreSent clock plan xs before now = AreSentBy (IsSent clock) plan xs before now
 
 -- ---- how it ends
 
--- the ending that tells of a refusal of the source
-abbrev pub source_ending : SourceFault → Ending
-source_ending faults.NoMemory = ends.NoMemory
-source_ending faults.Full = ends.Full
-source_ending faults.Spent = ends.Spent
-source_ending _ = ends.StoreFailed
-
--- and of an exchange that nothing is known of
+-- the ending that tells of an exchange that nothing is known of
 abbrev pub front_ending : FrontFault → Ending
 front_ending fronts.NoMemory = ends.NoMemory
 front_ending fronts.LinkFailed = ends.LinkFailed

@@ -10,7 +10,7 @@ use std::alloc::{AllocError, Global};
 use wef_base::{Sink, Text};
 use wef_collector::Collector;
 use wef_collector_serving::{ConnectionEnd, serve_next_connection};
-use wef_commands::{Ending, store_ending, tell_line, write_whole};
+use wef_commands::{Ending, tell_line, write_whole};
 use wef_connections::Front;
 use wef_keeper::Keeper;
 use wef_ports::Clock;
@@ -38,7 +38,7 @@ pub fn collect<K: Keeper, O: Sink, F: Front, C: Clock>(
     };
     let mut collector = match Collector::start(alloc, keeper) {
         Ok(collector) => collector,
-        Err((keeper, fault)) => return (keeper, store_ending(fault)),
+        Err((keeper, fault)) => return (keeper, Ending::from(fault)),
     };
     let ending = listen(
         alloc,

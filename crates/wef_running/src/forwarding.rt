@@ -38,7 +38,7 @@ pub fn forward<K: Keeper, O: Sink, L: Link, C: Clock>(
 {
     let mut end = match SourceEnd::start(alloc, keeper, source, LOG_CAPACITY) {
         Ok(end) => end,
-        Err((keeper, fault)) => return (keeper, source_ending(fault)),
+        Err((keeper, fault)) => return (keeper, Ending::from(fault)),
     };
     let ending = ask_and_send(alloc, &mut end, address, deliveries, out, link, clock);
     (end.into_keeper(), ending)
@@ -275,18 +275,6 @@ fn push_acked(text: &mut Text, count: u32) -> Result<(), AllocError>
     text.push_number(u64::from(count))
 }
 
-/// The ending that tells of a refusal of the source.
-fn source_ending(fault: SourceFault) -> Ending
-    ensures { result ≡ spec.source_ending fault }
-{
-    match fault {
-        SourceFault::NoMemory => Ending::NoMemory,
-        SourceFault::Full => Ending::Full,
-        SourceFault::Spent => Ending::Spent,
-        _ => Ending::StoreFailed,
-    }
-}
-
 /// The ending that tells of an exchange that nothing is known of.
 fn front_ending(fault: FrontFault) -> Ending
     ensures { result ≡ spec.front_ending fault }
@@ -294,6 +282,6 @@ fn front_ending(fault: FrontFault) -> Ending
     match fault {
         FrontFault::NoMemory => Ending::NoMemory,
         FrontFault::LinkFailed => Ending::LinkFailed,
-        FrontFault::Source(fault) => source_ending(fault),
+        FrontFault::Source(fault) => Ending::from(fault),
     }
 }
