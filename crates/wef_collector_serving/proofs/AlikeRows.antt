@@ -1,15 +1,12 @@
 -- Rows that are alike are read alike, and stay so under what a batch changes, at whatever moment it comes.
-use Rattle.std.proofs.Common.{◌≡◌, ℕ, ◌+◌, ◌==◌, Bool, true, false, ◌&&◌, ◌||◌, cond, T, List, [], ◌∷◌, ◌++◌, map, refl, ap, sym, subst, ◌∙◌, nat_eq, nat_lt, if◌then◌else◌}
+use Rattle.std.proofs.Common.{◌≡◌, ℕ, ◌+◌, ◌==◌, Bool, true, false, ◌&&◌, ◌||◌, cond, List, [], ◌∷◌, ◌++◌, refl, ap, sym, subst, ◌∙◌, nat_eq, nat_lt, if◌then◌else◌}
 use Rattle.std.proofs.lemmas.Bool.{and_parts, eqb-true}
 use Rattle.std.specs.Cmp.Lexicographic.{pointwise}
 use Rattle.std.specs.FinMap as finite
-use Rattle.std.specs.FinMap.{find, is_sorted}
-use Rattle.std.specs.FinMap.Entries.{same_entries, where_key, is_sorted-where_key, find-where_key}
 use Rattle.std.specs.Fmt.{decimal}
 use Rattle.std.specs.List.{filter, filter_map, flat_map}
 use Rattle.std.specs.Option.{option_map}
 use Rattle.std.specs.Prelude.{Option, Some, None, is_some, max, unwrap_or}
-use Rattle.std.specs.declared.cmp.Ordering.TheVariants.{Equal}
 use Rattle.wef_base.specs.Names.{same}
 use Rattle.wef_batch.specs.Reach.{loose_sum, reach}
 use Rattle.wef_batch.specs.declared.items.Batch.{Batch}
@@ -24,8 +21,9 @@ use Rattle.wef_collector_rows.specs.Bookmarks.{bookmark_at, bookmark_of, has_cha
 use Rattle.wef_collector_rows.specs.Keys.{bookmark_key, heard_key, held_key, loose_key, mark_key, subscription_key}
 use Rattle.wef_collector_rows.specs.Standing.{standing, standing_of}
 use Rattle.wef_collector_rows.specs.declared.keys.TheConstants.{HEARD}
+use Rattle.wef_keeper.proofs.Sections.{same_under}
 use Rattle.wef_keeper.specs.Laws.{get-applied}
-use Rattle.wef_keeper.specs.Rows.{Rows, applied, cell_of, found_after, is_after, key_cmp, key_cmp_exact, key_cmp_total, key_of, row_of}
+use Rattle.wef_keeper.specs.Rows.{Rows, applied, cell_of, found_after, key_of}
 use Rattle.wef_keeper.specs.Sections.{is_under, rows_under}
 use Rattle.wef_keeper.specs.declared.keys.Cell.{Cell}
 use Rattle.wef_keeper.specs.declared.keys.Change.{Change}
@@ -64,42 +62,6 @@ alike_applied changes rows other alike = λ key.
 -- at a key of another kind the same stands
 pub unheard_same : (rows other : Rows) → AreAlike rows other → (q : Key) → (q.kind == HEARD) ≡ false → finite.get rows q ≡ finite.get other q
 unheard_same rows other alike q is = subst (λ (t : Bool). StandAlike t (finite.get rows q) (finite.get other q)) is (alike q)
-
-rows_kept : (test : Key → Bool) (entries : List (Key × Cell)) → filter (λ row. test row.key) (map row_of entries) ≡ map row_of (where_key key_cmp test entries)
-rows_kept test [] = refl
-rows_kept test (e ∷ entries) =
-    elim (test e.0) as (λ b. cond b (row_of e ∷ filter (λ row. test row.key) (map row_of entries)) (filter (λ row. test row.key) (map row_of entries)) ≡ map row_of (cond b (e ∷ where_key key_cmp test entries) (where_key key_cmp test entries))) [
-      | true ↦ ap (λ rows. row_of e ∷ rows) (rows_kept test entries)
-      | false ↦ rows_kept test entries
-    ]
-
-tested_alike : (test : Key → Bool) (q x : Key) → key_cmp q x ≡ Equal → test x ≡ test q
-tested_alike test q x tie = ap test (sym (key_cmp_exact q x tie))
-
--- what stands at a key of a section
-find_under : (depth : Depth) (a : Key) (rows : Rows) (q : Key) →
-    find key_cmp q (where_key key_cmp (is_under depth a) (where_key key_cmp (is_after a) (finite.entries rows))) ≡ cond (is_under depth a q) (cond (is_after a q) (finite.get rows q) None) None
-find_under depth a rows q =
-    find-where_key key_cmp (is_under depth a) q (tested_alike (is_under depth a) q) (where_key key_cmp (is_after a) (finite.entries rows))
-    ∙ ap (λ (o : Option Cell). cond (is_under depth a q) o None)
-    (find-where_key key_cmp (is_after a) q (tested_alike (is_after a) q) (finite.entries rows) ∙ ap (λ (o : Option Cell). cond (is_after a q) o None) (sym (finite.get-entries rows q)))
-
--- rows that answer alike in a section have the same section
-same_under : (depth : Depth) (a : Key) (rows other : Rows) → ((q : Key) → is_under depth a q ≡ true → finite.get rows q ≡ finite.get other q) → rows_under depth a rows ≡ rows_under depth a other
-same_under depth a rows other equal =
-    rows_kept (is_under depth a) (where_key key_cmp (is_after a) (finite.entries rows))
-    ∙ ap (map row_of) (same_entries key_cmp key_cmp_total key_cmp_exact _ _ (sorted rows) (sorted other)
-    (λ q. find_under depth a rows q ∙ by_test q (is_under depth a q) refl ∙ sym (find_under depth a other q)))
-    ∙ sym (rows_kept (is_under depth a) (where_key key_cmp (is_after a) (finite.entries other)))
-  where
-    sorted : (rows : Rows) → T (is_sorted key_cmp (where_key key_cmp (is_under depth a) (where_key key_cmp (is_after a) (finite.entries rows))))
-    sorted rows =
-        is_sorted-where_key key_cmp (is_under depth a) (where_key key_cmp (is_after a) (finite.entries rows))
-        (is_sorted-where_key key_cmp (is_after a) (finite.entries rows) (finite.entries_sorted rows))
-
-    by_test : (q : Key) (t : Bool) → is_under depth a q ≡ t → cond t (cond (is_after a q) (finite.get rows q) None) None ≡ cond t (cond (is_after a q) (finite.get other q) None) None
-    by_test q true is = ap (λ (o : Option Cell). cond (is_after a q) o None) (equal q is)
-    by_test q false is = refl
 
 -- a section is of one kind
 same_kind : (depth : Depth) (a q : Key) → is_under depth a q ≡ true → a.kind ≡ q.kind

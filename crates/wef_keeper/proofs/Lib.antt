@@ -7,6 +7,7 @@ pub mod Openings
 mod Pages
 mod Places
 pub mod ReadsOf
+pub mod Sections
 pub mod Stands
 pub mod StayFormed
 pub mod Told

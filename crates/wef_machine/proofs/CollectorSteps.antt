@@ -30,6 +30,7 @@ use Rattle.wef_ids.specs.declared.ids.Ids.{Ids}
 use Rattle.wef_documents.specs.Kept.{read_kept}
 use Rattle.wef_documents.specs.Written.{document_text}
 use Rattle.wef_eventing.specs.declared.subscriptions.Subscription.{Subscription}
+use Rattle.wef_keeper.proofs.Sections.{same_under}
 use Rattle.wef_keeper.specs.Rows.{Rows, applied, key_cmp_total}
 use Rattle.wef_keeper.specs.declared.keys.Cell.{Cell}
 use Rattle.wef_keeper.specs.declared.keys.Change.{Change}
@@ -57,7 +58,6 @@ use Rattle.wef_collector.specs.FormsStay.{IsSoundBatch}
 use Rattle.wef_machine.proofs.Lower.{Lower}
 use Rattle.wef_machine.proofs.Moves.{alike_pair, kept_reply, kept_rows, untouched_pair}
 use Rattle.wef_machine.proofs.Names.{among_with, not_among_with}
-use Rattle.wef_machine.proofs.Numbered.{same_under}
 use Rattle.wef_machine.proofs.RowMoves.{adding_grows, booting_grows, ending_grows, keys_by_adding, keys_by_booting, keys_by_ending, keys_by_taking, subscription_by_adding, subscription_by_booting, subscription_by_ending, subscription_by_taking, taking_covers, taking_grows, taking_reaches, unknown}
 use Rattle.wef_machine.proofs.Sent.{sent_before}
 use Rattle.wef_machine.proofs.Takes.{adding_spares, booting_spares, ending_spares, fitting_batches_are_safe, is_served, kind_apart, taking_spares, taking_spares_source, untouched_alike}

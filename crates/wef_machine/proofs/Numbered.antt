@@ -13,7 +13,8 @@ use Rattle.std.specs.Prelude.{T}
 use Rattle.std.specs.declared.cmp.Ordering.TheVariants.{Less, Equal, Greater}
 use Rattle.std.proofs.lemmas.Bool.{and_parts, eqb-true}
 use Rattle.wef_collector_rows.specs.Keys.{key}
-use Rattle.wef_keeper.specs.Rows.{Rows, is_after, key_cmp, key_cmp_exact, key_cmp_total, row_of}
+use Rattle.wef_keeper.proofs.Sections.{rows_kept, tested_alike}
+use Rattle.wef_keeper.specs.Rows.{Rows, is_after, key_cmp, row_of}
 use Rattle.wef_keeper.specs.Sections.{is_under, rows_under}
 use Rattle.wef_keeper.specs.declared.keys.Cell.{Cell}
 use Rattle.wef_keeper.specs.declared.keys.Depth.{Depth}
@@ -89,14 +90,6 @@ rows_own : (k : ℕ) (u s c : List ℕ) (es : List (Key × Cell)) → AreOwn k u
 rows_own k u s c [] all = refl
 rows_own k u s c (e ∷ es) all = λ i. row_of (all.0 i, e.1) ∷ rows_own k u s c es all.1 i
 
-rows_kept : (test : Key → Bool) (entries : List (Key × Cell)) → filter (λ row. test row.key) (map row_of entries) ≡ map row_of (where_key key_cmp test entries)
-rows_kept test [] = refl
-rows_kept test (e ∷ entries) =
-    elim (test e.0) as (λ b. cond b (row_of e ∷ filter (λ row. test row.key) (map row_of entries)) (filter (λ row. test row.key) (map row_of entries)) ≡ map row_of (cond b (e ∷ where_key key_cmp test entries) (where_key key_cmp test entries))) [
-      | true ↦ ap (λ rows. row_of e ∷ rows) (rows_kept test entries)
-      | false ↦ rows_kept test entries
-    ]
-
 -- ---- the rows of a section by number
 
 -- the entries of the rows behind a number
@@ -128,9 +121,6 @@ after_number m n = by_tests (nat_lt m n) (nat_eq m n)
     by_tests false true = refl
     by_tests false false = refl
 
-alike : (test : Key → Bool) (q x : Key) → key_cmp q x ≡ Equal → test x ≡ test q
-alike test q x tie = ap test (sym (key_cmp_exact q x tie))
-
 pub find_numbered : (k : ℕ) (u s c : List ℕ) (m : ℕ) (rows : Rows) (n : ℕ) → find nat_cmp n (numbered k u s c m rows) ≡ cond (nat_lt m n) (finite.get rows (key k u s c n)) None
 unfolding numbered section
 find_numbered k u s c m rows n =
@@ -138,9 +128,9 @@ find_numbered k u s c m rows n =
     let q = key k u s c n in
     let behind = where_key key_cmp (is_after a) (finite.entries rows) in
     sym (find_own k u s c n (section k u s c m rows) (are_own k u s c m behind))
-    ∙ find-where_key key_cmp (is_under Channel a) q (alike (is_under Channel a) q) behind
+    ∙ find-where_key key_cmp (is_under Channel a) q (tested_alike (is_under Channel a) q) behind
     ∙ ap (λ (t : Bool). cond t (find key_cmp q behind) None) (under_own k u s c m n)
-    ∙ find-where_key key_cmp (is_after a) q (alike (is_after a) q) (finite.entries rows)
+    ∙ find-where_key key_cmp (is_after a) q (tested_alike (is_after a) q) (finite.entries rows)
     ∙ (λ i. cond ((ap is_lt (key_cmp_number k u s c m n) ∙ after_number m n) i) (sym (finite.get-entries rows q) i) None)
 
 -- ---- lists by number
@@ -211,34 +201,6 @@ same_section k u s c m after before same =
     let lists = same_numbers (numbered k u s c m after) (numbered k u s c m before) (numbered_sorted k u s c m after) (numbered_sorted k u s c m before)
     (λ n. find_numbered k u s c m after n ∙ ap (λ (cell : Option Cell). cond (nat_lt m n) cell None) (same n) ∙ sym (find_numbered k u s c m before n)) in
     rows_numbered k u s c m after ∙ ap (map (own_row k u s c)) lists ∙ sym (rows_numbered k u s c m before)
-
--- ---- sections of any depth
-
--- what stands at a key of a section
-find_under : (depth : Depth) (a : Key) (rows : Rows) (q : Key) →
-    find key_cmp q (where_key key_cmp (is_under depth a) (where_key key_cmp (is_after a) (finite.entries rows))) ≡ cond (is_under depth a q) (cond (is_after a q) (finite.get rows q) None) None
-find_under depth a rows q =
-    find-where_key key_cmp (is_under depth a) q (alike (is_under depth a) q) (where_key key_cmp (is_after a) (finite.entries rows))
-    ∙ ap (λ (o : Option Cell). cond (is_under depth a q) o None)
-    (find-where_key key_cmp (is_after a) q (alike (is_after a) q) (finite.entries rows) ∙ ap (λ (o : Option Cell). cond (is_after a q) o None) (sym (finite.get-entries rows q)))
-
--- rows that answer alike in a section have the same section
-pub same_under : (depth : Depth) (a : Key) (after before : Rows) → ((q : Key) → is_under depth a q ≡ true → finite.get after q ≡ finite.get before q) →
-    rows_under depth a after ≡ rows_under depth a before
-same_under depth a after before same =
-    rows_kept (is_under depth a) (where_key key_cmp (is_after a) (finite.entries after))
-    ∙ ap (map row_of) (same_entries key_cmp key_cmp_total key_cmp_exact _ _ (sorted after) (sorted before)
-    (λ q. find_under depth a after q ∙ by_test q (is_under depth a q) refl ∙ sym (find_under depth a before q)))
-    ∙ sym (rows_kept (is_under depth a) (where_key key_cmp (is_after a) (finite.entries before)))
-  where
-    sorted : (rows : Rows) → T (is_sorted key_cmp (where_key key_cmp (is_under depth a) (where_key key_cmp (is_after a) (finite.entries rows))))
-    sorted rows =
-        is_sorted-where_key key_cmp (is_under depth a) (where_key key_cmp (is_after a) (finite.entries rows))
-        (is_sorted-where_key key_cmp (is_after a) (finite.entries rows) (finite.entries_sorted rows))
-
-    by_test : (q : Key) (t : Bool) → is_under depth a q ≡ t → cond t (cond (is_after a q) (finite.get after q) None) None ≡ cond t (cond (is_after a q) (finite.get before q) None) None
-    by_test q true is = ap (λ (o : Option Cell). cond (is_after a q) o None) (same q is)
-    by_test q false is = refl
 
 -- ---- no rows
 
