@@ -1,5 +1,5 @@
 -- What a database tells stays so over its calls.
-use Rattle.std.proofs.Common.{◌≡◌, Bool, true, false, List, Option, Some, None, Result, Ok, Err, IfSome, IfOk, OnOk, OnErr, IsTrue, is_err, refl, sym, subst, ◌∙◌, arith}
+use Rattle.std.proofs.Common.{◌≡◌, Bool, true, false, List, Option, Some, None, Result, Ok, Err, IfSome, IfOk, OnOk, OnErr, IsTrue, is_err, is_some, refl, sym, subst, ◌∙◌, arith}
 use Rattle.std.specs.Option.{option_map}
 use Rattle.sqlite.specs.Held.{Held, state}
 use Rattle.sqlite.specs.State.{HasCleanDisk}
@@ -11,12 +11,18 @@ use Rattle.wef_keeper.specs.Rows.{Rows, applied}
 use Rattle.wef_keeper.specs.declared.keys.Change.{Change}
 use Rattle.wef_sqlite.proofs.TellingLemmas.{each_told, tells_again, tells_done, tells_failed, tells_read, tells_these, told_is}
 use Rattle.wef_sqlite.specs.Contents.{are_rows, rows_in}
-use Rattle.wef_sqlite.specs.Places.{CommitsAt, OnOpen, Remains}
+use Rattle.wef_sqlite.specs.Places.{CommitsAt, OnOpen, Remains, is_open}
 use Rattle.wef_sqlite.specs.Seeing.{Seeing}
 use Rattle.wef_sqlite.specs.Telling.{AreTold, Commits, IsAlive, ReadsTold, Told, Tells, committed_table, held_in, seen_after, telling, told_at, told_by}
 use Rattle.wef_sqlite.specs.declared.place.Place.{Place}
 use Rattle.wef_sqlite.specs.declared.place.Place.TheVariants.{Unopened, Given, Open}
 use Rattle.wef_sqlite.specs.declared.refusal.Refusal.{Refusal}
+
+-- a table that is open is held
+pub held_if_open : {S : Type 0} (place : Place S) → is_open place ≡ true → is_some (held_in place) ≡ true
+held_if_open Unopened h = h
+held_if_open (Given conn) h = h
+held_if_open (Open table) h = refl
 
 module _ {S : Type 0} (g : Ghosts S) where
   -- what is told of a table that is open

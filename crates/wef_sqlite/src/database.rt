@@ -91,9 +91,11 @@ impl<S: Opens> Database<S> {
     }
 
     /// Opens the database where it isn't open. The first opening begins to tell what it finds.
+    #[tactic(auto, using(crate::proofs::DatabaseLemmas::held_if_open))]
     pub fn open(&mut self, origin: &Option<Origin>, is_first: bool) -> Result<(), Refusal>
         ensures stays { is_first ≡ false → Stays self.old.told self.new.told }
         ensures doubt { self.new.doubt ≡ self.old.doubt }
+        ensures ready { OnOk result (is_some self.new.held ≡ true) }
         ensures alive { IsAlive S.Store self.old.held → OnOk result (IsAlive S.Store self.new.held) }
     {
         if self.place.is_open() {
@@ -161,6 +163,8 @@ impl<S: Opens> Database<S> {
         ensures kept { is_first ≡ false → OnErr result (Stays self.old.told self.new.told) }
         ensures ended { OnOk result (self.new.doubt ≡ false) }
         ensures doubt { OnErr result (self.new.doubt ≡ self.old.doubt) }
+        ensures ready { OnOk result (is_some self.new.held ≡ true) }
+        ensures alive { may_be_shut ≡ true → OnOk result (IsAlive S.Store self.new.held) }
     {
         if may_be_shut || self.in_doubt {
             self.leave_shut(origin)?;
@@ -185,6 +189,7 @@ impl<S: Opens> Database<S> {
         requires { self.old.doubt ≡ true → IsAlive S.Store self.old.held }
         ensures rows { Follows self.old.told self.new.told (λ before now. now.rows ≡ before.rows) }
         ensures ended { self.new.doubt ≡ false }
+        ensures held { self.new.held ≡ self.old.held }
     {
         self.in_doubt = false;
     }

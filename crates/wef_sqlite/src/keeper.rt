@@ -7,6 +7,7 @@ ghost use Rattle.wef_keeper.specs.Keeping.{Follows, HasFault, Stays, raised, row
 ghost use Rattle.wef_keeper.specs.Rows.{applied, is_after, rows_after};
 ghost use Rattle.wef_keeper.specs.declared.keys.Row as the_row;
 ghost use Rattle.wef_sqlite.specs.Keeping.{FindsImages, IsLeft, IsShown, StaysSet, is_opened, store_of};
+ghost use Rattle.wef_sqlite.specs.Telling.{IsAlive};
 
 use crate::database::Database;
 use crate::opening::{Opens, Origin};
@@ -103,6 +104,7 @@ impl<S: Opens> SqlKeeper<S> {
         ensures state { self.new ≡ record self.old { database = self.new.database; opened = is_opened result self.old.opened } }
         ensures stays { self.old.opened ≡ true → Stays self.old.database.told self.new.database.told }
         ensures doubt { self.new.database.doubt ≡ self.old.database.doubt }
+        ensures ready { OnOk result (is_some self.new.database.held ≡ true) }
     {
         self.database.open(&self.origin, !self.opened)?;
         self.opened = true;
@@ -193,6 +195,8 @@ impl<S: Opens> SqlKeeper<S> {
         ensures kept { self.old.opened ≡ true → OnErr result (Stays self.old.database.told self.new.database.told) }
         ensures ended { OnOk result (self.new.database.doubt ≡ false) }
         ensures doubt { OnErr result (self.new.database.doubt ≡ self.old.database.doubt) }
+        ensures ready { OnOk result (is_some self.new.database.held ≡ true) }
+        ensures alive { self.old.may_be_shut ≡ true → OnOk result (IsAlive S.Store self.new.database.held) }
         ensures state { self.new ≡ record self.old { database = self.new.database; opened = is_opened result self.old.opened } }
     {
         self.database
