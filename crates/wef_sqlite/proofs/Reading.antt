@@ -1,5 +1,5 @@
 -- What the columns of an answer read as, and why a reading fails.
-use Rattle.std.proofs.Common.{◌≡◌, ◌^◌, ◌+◌, ℤ, ◌≢◌, ◌<◌, ℕ, pos, negsuc, Result, Err, Option, Some, None, List, length, cond, nat_lt, refl, sym, ap, subst, ◌∙◌, inl, inr, IsErrAnd}
+use Rattle.std.proofs.Common.{◌≡◌, ◌^◌, ◌+◌, ℤ, ◌≢◌, ◌<◌, ℕ, pos, Result, Err, Option, Some, None, List, length, cond, nat_lt, refl, sym, ap, subst, ◌∙◌, inl, inr, IsErrAnd}
 use Rattle.std.proofs.lemmas.Bool.{cases_Bool, ltb-true, ltb-false, lt-ltb}
 use Rattle.std.proofs.lemmas.List.{get_or_past}
 use Rattle.std.proofs.lemmas.Result.{err_from_is_err_and}
@@ -7,7 +7,6 @@ use Rattle.std.proofs.lemmas.Str.{is_utf8-from_IsUtf8, IsUtf8-from_is_utf8}
 use Rattle.std.specs.Str.{is_utf8, IsUtf8}
 use Rattle.std.specs.Int.Signed.{mag}
 use Rattle.std.specs.Option.{option_and_then, option_map}
-use Rattle.sqlite.specs.Values.{IsInt}
 use Rattle.sqlite.specs.declared.error.Error.{Error}
 use Rattle.sqlite.specs.declared.error.Error.TheVariants.{SqliteFailure}
 use Rattle.sqlite.specs.declared.error.ErrorCode.TheVariants.{OutOfMemory}
@@ -19,7 +18,7 @@ use Rattle.wef_keeper.specs.Rows.{cell_of_row}
 use Rattle.wef_keeper.specs.declared.keys.Cell.{Cell}
 use Rattle.wef_keeper.specs.declared.keys.Key.{Key}
 use Rattle.wef_keeper.specs.declared.keys.Row.{Row}
-use Rattle.wef_sqlite.specs.Columns.{Reads, text_in, number_below, wrapped_in, entry_in}
+use Rattle.wef_sqlite.specs.Columns.{Reads, text_in, number_below, entry_in}
 use Rattle.wef_sqlite.specs.Statements.{row_values}
 use Rattle.wef_sqlite.specs.Refusals.{refusal_of}
 use Rattle.wef_sqlite.specs.declared.refusal.Refusal.{Refusal}
@@ -65,28 +64,6 @@ no_text (Blob b) h = refl
 
 pub text_read : (v : Value) (t : List ℕ) → IsUtf8 t → v ≡ Text t → text_in v ≡ Some t
 text_read v t fits is = ap text_in is ∙ ap (λ b. cond b (Some t) None) (is_utf8-from_IsUtf8 t fits)
-
-pub no_wrapped : (v : Value) → ¬ (IsInt v) → wrapped_in v ≡ None
-no_wrapped Null h = refl
-no_wrapped (Int n) h = absurd (h (n, refl))
-no_wrapped (Real x) h = refl
-no_wrapped (Text t) h = refl
-no_wrapped (Blob b) h = refl
-
--- a number below a bound
-abbrev pub IsBelow : ℕ → Value → Type 0
-IsBelow bound v = (n : ℕ) × (v ≡ Int (pos n)) × (n < bound)
-
-pub no_number : (bound : ℕ) (v : Value) → ¬ (IsBelow bound v) → number_below bound v ≡ None
-no_number bound Null h = refl
-no_number bound (Int (pos n)) h = elim (cases_Bool (nat_lt n bound)) [
-  | inl fits ↦ absurd (h (n, refl, ltb-true n bound fits))
-  | inr past ↦ ap (λ b. cond b (Some n) None) past
-]
-no_number bound (Int (negsuc n)) h = refl
-no_number bound (Real x) h = refl
-no_number bound (Text t) h = refl
-no_number bound (Blob b) h = refl
 
 pub number_read : (bound : ℕ) (v : Value) (n : ℕ) → n < bound → v ≡ Int (pos n) → number_below bound v ≡ Some n
 number_read bound v n fits is = ap (number_below bound) is ∙ ap (λ b. cond b (Some n) None) (lt-ltb n bound fits)

@@ -1,9 +1,8 @@
 -- Which rows the table holds.
-use Rattle.std.specs.Prelude.{◌≡◌, Bool, true, cond, ◌&&◌, List, [], ◌∷◌, Option, Some, None, is_some}
+use Rattle.std.specs.Prelude.{◌≡◌, Bool, true, List, [], ◌∷◌, Option, Some, is_some}
 use Rattle.std.specs.FinMap.{from_entries}
 use Rattle.std.specs.List.{AllByRecursion, list_all, filter_map}
 use Rattle.sqlite.specs.Effect.{Database}
-use Rattle.sqlite.specs.State.{State}
 use Rattle.sqlite_trees.specs.Tree.{Trees, IsAscending}
 use Rattle.sqlite_trees.specs.View.{IsShaped}
 use Rattle.sqlite_trees.specs.declared.store.Shape.TheVariants as shape
@@ -76,7 +75,3 @@ pub record Carries (f : Rows → Rows) (old new : Database) : Type 0 where
 pub record LeavesRows (f : Rows → Rows) (old : Database) (trees : Trees) : Type 0 where
   pub shaped : IsShaped shape.Table (table_in trees)
   pub moves : Moves f (table_in old.trees) (table_in trees)
-
--- the rows that a connection tells: those that are committed, where it is open and each row of the table is one of ours
-abbrev pub told_by : State → Option Rows
-told_by s = cond (s.is_open && are_rows (table_in s.committed.trees)) (Some (rows_in (table_in s.committed.trees))) None

@@ -1,4 +1,4 @@
-//! What was seen of a table: for contracts alone, it takes no bytes.
+//! What was seen of a table: for contracts alone. It copies no row, and takes a byte for each `Option`.
 
 ghost use Rattle.std.specs.Prelude.{◌≡◌};
 ghost use Rattle.std.specs.declared.option.Option.TheVariants.{Some, None};
