@@ -1,1 +1,2 @@
 pub mod InDatabase
+pub mod Opening

@@ -1,12 +1,13 @@
 //! The program over a database.
 
-ghost use Rattle.std.specs.Prelude.{◌≡◌};
-ghost use Rattle.wef_cli.specs.Command.{command_of};
+ghost use Rattle.std.specs.Prelude.{◌≡◌, ◌⊎◌, true, false};
+ghost use Rattle.wef_cli.specs.Command.{MayWantMemory, command_of};
+ghost use Rattle.wef_cli.specs.Leaving.{SaysOf};
 ghost use Rattle.wef_cli.specs.Runs.{RunEnds};
 ghost use Rattle.wef_commands.specs.Endings.{IsToldAs, told_of, status_of};
 ghost use Rattle.wef_commands.specs.declared.ending.Ending as the_ending;
-ghost use Rattle.wef_cli.specs.Leaving.{SaysOf};
 ghost use Rattle.wef_program.specs.InDatabase.{InDatabase, keeper_store};
+ghost use Rattle.wef_program.specs.Opening.{IsOpening, asks_store};
 ghost use Rattle.wef_sqlite.specs.Keeping.{IsLeft, IsShown};
 
 use std::alloc::Global;
@@ -22,7 +23,7 @@ use wef_sqlite::{Opens, SqlKeeper};
 ///
 /// All that is proved of a run over any store that tells its rows is so of the database: the rows that
 /// the keeper tells are those that its table holds, and whatever an opening may find of it after a crash
-/// is what the command made of the rows that stood in it, or of a front part of its calls. So what
+/// is what the command made of the rows that stood in it, or what its first calls made of them. So what
 /// `collect` acknowledged stands in it. That nobody else writes the database, and that its disk returns
 /// what was written, is the premise; of a database that was opened anew after a failure nothing is said.
 pub fn run_in_database<S: Opens, I: Source, O: Sink, E: Sink, F: Front, L: Link, C: Clock>(
@@ -57,8 +58,13 @@ pub fn run_in_database<S: Opens, I: Source, O: Sink, E: Sink, F: Front, L: Link,
 }
 
 /// Opens the store where the words ask for a command that uses it, so that the command begins with rows
-/// that are told. One that can't be opened is left to the command, which tries again and tells it.
-pub fn open_for<S: Opens>(mut keeper: SqlKeeper<S>, words: &[Text]) -> SqlKeeper<S> {
+/// that are told. One that can't be opened is left to the command, which tries again and tells it; so is
+/// one where memory is wanting to read the words.
+#[tactic(auto, using(crate::proofs::Opening::opening_left))]
+pub fn open_for<S: Opens>(mut keeper: SqlKeeper<S>, words: &[Text]) -> SqlKeeper<S>
+    ensures unused { asks_store (command_of words.now) ≡ false → result ≡ keeper }
+    ensures opens { asks_store (command_of words.now) ≡ true → (MayWantMemory (command_of words.now) × (result ≡ keeper)) ⊎ IsOpening (keeper_store keeper) (keeper_store result) }
+{
     if uses_store(words) {
         // A failure is told by the command, which opens the store again.
         let _ = keeper.reopen();
@@ -66,8 +72,11 @@ pub fn open_for<S: Opens>(mut keeper: SqlKeeper<S>, words: &[Text]) -> SqlKeeper
     keeper
 }
 
-/// Whether words ask for a command that uses the store.
-fn uses_store(words: &[Text]) -> bool {
+/// Whether words ask for a command that uses the store. Not where memory is wanting to read them.
+fn uses_store(words: &[Text]) -> bool
+    ensures asks { result ≡ true → asks_store (command_of words.now) ≡ true }
+    ensures wants_memory { result ≡ false → asks_store (command_of words.now) ≡ true → MayWantMemory (command_of words.now) }
+{
     match Command::read(words) {
         Ok(Some(Command::Replay | Command::Check)) => false,
         Ok(Some(_)) => true,
