@@ -2,6 +2,7 @@ pub mod ByPages
 pub mod Calls
 pub mod Forming
 pub mod Going
+mod KindNumbers
 mod Live
 pub mod Openings
 mod Pages

@@ -1,14 +1,18 @@
--- What a list of changes leaves at each key.
+-- What a list of changes leaves at each key, and what the number of a kind tells.
 use Rattle.std.proofs.Common.{ap, ◌∙◌}
-use Rattle.std.specs.Prelude.{◌≡◌, refl, Bool, true, false, cond, ◌||◌, List, [], ◌∷◌, ◌++◌, Option, Some, None}
+use Rattle.std.specs.Prelude.{◌≡◌, refl, ℕ, nat_le, Bool, true, false, cond, ◌&&◌, ◌||◌, if◌then◌else◌, List, [], ◌∷◌, ◌++◌, Option, Some, None}
 use Rattle.std.specs.Cmp.{eq_by_cmp_equiv}
 use Rattle.std.specs.FinMap as finite
 use Rattle.std.specs.Ordering.{eq_by_cmp}
+use Rattle.wef_keeper.specs.Kinds.{number_of, owner_of}
 use Rattle.wef_keeper.specs.Rows.{Rows, applied, cell_of, cell_of_row, changed, found_after, is_named, key_cmp, key_cmp_total, key_of}
 use Rattle.wef_keeper.specs.declared.keys.Change.{Change}
 use Rattle.wef_keeper.specs.declared.keys.Change.TheVariants.{Put, Delete}
 use Rattle.wef_keeper.specs.declared.keys.Cell.{Cell}
 use Rattle.wef_keeper.specs.declared.keys.Key.{Key}
+use Rattle.wef_keeper.specs.declared.kinds.Owner.{Owner}
+use Rattle.wef_keeper.specs.declared.kinds.Owner.TheVariants.{Collector, Source}
+use Rattle.wef_keeper.specs.declared.kinds.RowKind.{RowKind}
 
 -- the last change that names a key says what stands there
 abbrev pub LastChangeDecides : Type 0
@@ -53,3 +57,14 @@ get-unnamed changes rows q e = get-applied changes rows q ∙ found_unnamed chan
 pub applied-append : ListsJoin
 applied-append [] second rows = refl
 applied-append (change ∷ first) second rows = applied-append first second (changed change rows)
+
+-- no two kinds have one number
+abbrev pub NumbersTellKinds : Type 0
+NumbersTellKinds = (one other : RowKind) → number_of one ≡ number_of other → one ≡ other
+
+-- the owner of the kind of each number: 1 to 8 are the collector's, 9 to 12 the source's
+abbrev pub owner_at : ℕ → Option Owner
+owner_at n = if nat_le 1 n && nat_le n 8 then Some Collector else if nat_le 9 n && nat_le n 12 then Some Source else None
+
+abbrev pub NumbersTellOwners : Type 0
+NumbersTellOwners = (kind : RowKind) → owner_at (number_of kind) ≡ Some (owner_of kind)
