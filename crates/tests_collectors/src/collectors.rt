@@ -7,10 +7,9 @@ ghost use Rattle.wef_eventing.specs.Subscriptions.{IsAllEvents};
 use std::alloc::{AllocError, Global};
 use wef_base::{ChannelName, List, SubId, Text};
 use wef_collector::Collector;
-use wef_collector_rows::keys::HEARD;
 use wef_documents::all_events_read_back;
 use wef_eventing::Subscription;
-use wef_keeper::{Keeper, Key, MemKeeper, Row};
+use wef_keeper::{Keeper, Key, MemKeeper, Row, RowKind};
 
 /// The subscriptions of a new collector, each to all events of `application`.
 #[derive(Clone, Copy)]
@@ -199,7 +198,7 @@ fn push_lines(shown: &mut Text, report: &str) -> Result<(), AllocError> {
 
 fn push_heard(shown: &mut Text, rows: &[Row]) -> Result<(), AllocError> {
     for row in rows {
-        if row.key.kind == HEARD {
+        if row.key.kind == RowKind::Heard.number() {
             shown.push_str("\n    heard ")?;
             shown.push_number(row.value)?;
         }

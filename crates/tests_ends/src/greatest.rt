@@ -4,10 +4,8 @@ use std::alloc::{AllocError, Global};
 use tests_runs::runs::push_run;
 use wef_base::numbers::MAX;
 use wef_base::{List, MemSink, Text};
-use wef_collector_rows::keys as collector_keys;
 use wef_commands::Ending;
-use wef_keeper::{Change, Keeper, Key, MemKeeper, Row};
-use wef_source_log::keys as log_keys;
+use wef_keeper::{Change, Keeper, Key, MemKeeper, Row, RowKind};
 
 /// What the runs of `NUMBER: RUNS` come to, one after the other over a store that has this number alone, at its
 /// greatest; and the rows after the last.
@@ -24,7 +22,7 @@ pub(crate) fn push_greatest(shown: &mut Text, line: &str) -> Result<(), AllocErr
 fn holding(alloc: Global, number: &str) -> Result<MemKeeper, AllocError> {
     let (kind, channel) = kept_as(number);
     let key = Key {
-        kind,
+        kind: kind.number(),
         sub: Text::new(alloc),
         source: Text::new(alloc),
         channel: Text::from_str(alloc, channel)?,
@@ -45,11 +43,11 @@ fn holding(alloc: Global, number: &str) -> Result<MemKeeper, AllocError> {
 }
 
 /// The kind of the row that keeps a number, and its channel, if it has one.
-fn kept_as(number: &str) -> (u8, &'static str) {
+fn kept_as(number: &str) -> (RowKind, &'static str) {
     match number {
-        "collector's boot" => (collector_keys::BOOT, ""),
-        "source's boot" => (log_keys::BOOT, ""),
-        _ => (log_keys::LAST, "application"),
+        "collector's boot" => (RowKind::CollectorBoot, ""),
+        "source's boot" => (RowKind::SourceBoot, ""),
+        _ => (RowKind::LastNumber, "application"),
     }
 }
 

@@ -7,11 +7,12 @@ use Rattle.wef_base.specs.declared.numbers.TheConstants.{MAX}
 use Rattle.wef_event.specs.Events.{is_event}
 use Rattle.wef_documents.specs.Kept.{read_kept}
 use Rattle.wef_keeper.specs.Forms.{ArePassed}
+use Rattle.wef_keeper.specs.Kinds.{number_of}
 use Rattle.wef_keeper.specs.Rows.{Rows}
 use Rattle.wef_keeper.specs.declared.keys.Key.{Key}
 use Rattle.wef_keeper.specs.declared.keys.Row.{Row}
+use Rattle.wef_keeper.specs.declared.kinds.RowKind.TheVariants.{Bookmark, CollectorBoot, Heard, Held, Loose, Mark, Subscription}
 use Rattle.wef_collector_rows.specs.Bookmarks.{is_one}
-use Rattle.wef_collector_rows.specs.declared.keys.TheConstants.{BOOKMARK, BOOT, HEARD, HELD, LOOSE, MARK, SUBSCRIPTION}
 
 abbrev pub is_empty : List ℕ → Bool
 is_empty text = length text == 0
@@ -85,13 +86,13 @@ is_boot_row row =
 -- whether a row is of the form of its kind; rows of other kinds aren't the collector's
 unfoldable pub is_formed : Row → Bool
 is_formed row =
-    if row.key.kind == SUBSCRIPTION then is_subscription_row row else
-    if row.key.kind == BOOKMARK then is_bookmark_row row else
-    if row.key.kind == HELD then is_held_row row else
-    if row.key.kind == MARK then is_mark_row row else
-    if row.key.kind == LOOSE then is_loose_row row else
-    if row.key.kind == HEARD then is_heard_row row else
-    if row.key.kind == BOOT then is_boot_row row else true
+    if row.key.kind == number_of Subscription then is_subscription_row row else
+    if row.key.kind == number_of Bookmark then is_bookmark_row row else
+    if row.key.kind == number_of Held then is_held_row row else
+    if row.key.kind == number_of Mark then is_mark_row row else
+    if row.key.kind == number_of Loose then is_loose_row row else
+    if row.key.kind == number_of Heard then is_heard_row row else
+    if row.key.kind == number_of CollectorBoot then is_boot_row row else true
 
 -- each row that stands is of its form
 abbrev pub AreFormed : Rows → Type 0

@@ -6,7 +6,6 @@ ghost use Rattle.wef_collector_rows.specs.Forms as spec;
 ghost use Rattle.wef_collector_rows.specs.Held.{own_event};
 ghost use Rattle.wef_documents.specs.Kept as kept;
 
-use crate::keys::{BOOKMARK, BOOT, HEARD, HELD, LOOSE, MARK, SUBSCRIPTION};
 use std::alloc::AllocError;
 use wef_base::moments::LAST_MOMENT;
 use wef_base::numbers::{MAX, read_plain_number};
@@ -14,7 +13,7 @@ use wef_base::{ChannelName, SourceName, SubId, Text};
 use wef_documents::read_kept;
 use wef_event::Event;
 use wef_eventing::Subscription;
-use wef_keeper::{Form, Key, Row};
+use wef_keeper::{Form, Key, Row, RowKind};
 
 /// The form of the collector's rows.
 pub struct CollectorForm;
@@ -34,15 +33,23 @@ impl Form for CollectorForm {
 pub fn is_formed(row: &Row) -> Result<bool, AllocError>
     ensures { IfOk result (λ formed. formed ≡ spec.is_formed row.now) }
 {
-    match row.key.kind {
-        SUBSCRIPTION => is_subscription(row),
-        BOOKMARK => is_bookmark(row),
-        HELD => is_held(row),
-        MARK => is_mark(row),
-        LOOSE => is_loose(row),
-        HEARD => is_heard(row),
-        BOOT => Ok(is_boot(row)),
-        _ => Ok(true),
+    let kind = row.key.kind;
+    if kind == RowKind::Subscription.number() {
+        is_subscription(row)
+    } else if kind == RowKind::Bookmark.number() {
+        is_bookmark(row)
+    } else if kind == RowKind::Held.number() {
+        is_held(row)
+    } else if kind == RowKind::Mark.number() {
+        is_mark(row)
+    } else if kind == RowKind::Loose.number() {
+        is_loose(row)
+    } else if kind == RowKind::Heard.number() {
+        is_heard(row)
+    } else if kind == RowKind::CollectorBoot.number() {
+        Ok(is_boot(row))
+    } else {
+        Ok(true)
     }
 }
 

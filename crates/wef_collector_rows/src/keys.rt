@@ -1,33 +1,12 @@
-//! The keys of the collector's rows. Their kinds are 1 to 8, of which 7 isn't used yet; 9 to 12 are the
-//! log's of a source. docs/commands.md lists them all.
+//! The keys of the collector's rows, of the kinds that the register has as the collector's.
 
 ghost use Rattle.std.specs.Prelude.{◌≡◌, [], IfOk};
+ghost use Rattle.wef_keeper.specs.Kinds.{number_of};
 ghost use Rattle.wef_collector_rows.specs.Keys as keys;
 
 use std::alloc::{AllocError, Global};
 use wef_base::{SubId, Text};
-use wef_keeper::Key;
-
-/// The kind of the row of a subscription.
-pub const SUBSCRIPTION: u8 = 1;
-
-/// The kind of the row of a bookmark.
-pub const BOOKMARK: u8 = 2;
-
-/// The kind of the row of a held event.
-pub const HELD: u8 = 3;
-
-/// The kind of the row of a mark of dropped records.
-pub const MARK: u8 = 4;
-
-/// The kind of the row of loose records.
-pub const LOOSE: u8 = 5;
-
-/// The kind of the row of the moment at which a source was last heard.
-pub const HEARD: u8 = 6;
-
-/// The kind of the row of the boot number.
-pub const BOOT: u8 = 8;
+use wef_keeper::{Key, RowKind};
 
 /// The key of a subscription.
 pub fn subscription_key(sub: &SubId) -> Result<Key, AllocError>
@@ -35,7 +14,7 @@ pub fn subscription_key(sub: &SubId) -> Result<Key, AllocError>
 {
     let alloc = sub.as_text().alloc();
     Ok(Key {
-        kind: SUBSCRIPTION,
+        kind: RowKind::Subscription.number(),
         sub: sub.as_text().clone()?,
         source: Text::new(alloc),
         channel: Text::new(alloc),
@@ -47,21 +26,21 @@ pub fn subscription_key(sub: &SubId) -> Result<Key, AllocError>
 pub fn subscriptions_start(alloc: Global) -> Key
     ensures { result ≡ keys.subscription_key [] }
 {
-    only_kind(alloc, SUBSCRIPTION)
+    only_kind(alloc, RowKind::Subscription)
 }
 
 /// The key of the boot number.
 pub fn boot_key(alloc: Global) -> Key
     ensures { result ≡ keys.boot_key }
 {
-    only_kind(alloc, BOOT)
+    only_kind(alloc, RowKind::CollectorBoot)
 }
 
-fn only_kind(alloc: Global, kind: u8) -> Key
-    ensures { result ≡ keys.key kind [] [] [] 0 }
+fn only_kind(alloc: Global, kind: RowKind) -> Key
+    ensures { result ≡ keys.key (number_of kind) [] [] [] 0 }
 {
     Key {
-        kind,
+        kind: kind.number(),
         sub: Text::new(alloc),
         source: Text::new(alloc),
         channel: Text::new(alloc),
@@ -73,7 +52,7 @@ fn only_kind(alloc: Global, kind: u8) -> Key
 pub fn bookmark_key(sub: &Text, source: &Text, channel: &Text) -> Result<Key, AllocError>
     ensures { IfOk result (λ key. key ≡ keys.bookmark_key sub.now source.now channel.now) }
 {
-    channel_key(BOOKMARK, sub, source, channel, 0)
+    channel_key(RowKind::Bookmark, sub, source, channel, 0)
 }
 
 /// The key in front of the bookmarks of a source.
@@ -96,21 +75,21 @@ pub fn all_bookmarks_start(sub: &Text) -> Result<Key, AllocError>
 pub fn held_key(sub: &Text, source: &Text, channel: &Text, number: u64) -> Result<Key, AllocError>
     ensures { IfOk result (λ key. key ≡ keys.held_key sub.now source.now channel.now number) }
 {
-    channel_key(HELD, sub, source, channel, number)
+    channel_key(RowKind::Held, sub, source, channel, number)
 }
 
 /// The key of a mark of dropped records, by its first number.
 pub fn mark_key(sub: &Text, source: &Text, channel: &Text, first: u64) -> Result<Key, AllocError>
     ensures { IfOk result (λ key. key ≡ keys.mark_key sub.now source.now channel.now first) }
 {
-    channel_key(MARK, sub, source, channel, first)
+    channel_key(RowKind::Mark, sub, source, channel, first)
 }
 
 /// The key of loose records, by the first number of the range that they fell in.
 pub fn loose_key(sub: &Text, source: &Text, channel: &Text, first: u64) -> Result<Key, AllocError>
     ensures { IfOk result (λ key. key ≡ keys.loose_key sub.now source.now channel.now first) }
 {
-    channel_key(LOOSE, sub, source, channel, first)
+    channel_key(RowKind::Loose, sub, source, channel, first)
 }
 
 /// The key of the moment at which a source was heard.
@@ -118,7 +97,7 @@ pub fn heard_key(sub: &Text, source: &Text) -> Result<Key, AllocError>
     ensures { IfOk result (λ key. key ≡ keys.heard_key sub.now source.now) }
 {
     let none = Text::new(sub.alloc());
-    channel_key(HEARD, sub, source, &none, 0)
+    channel_key(RowKind::Heard, sub, source, &none, 0)
 }
 
 /// The key in front of the moments at which sources were heard.
@@ -130,16 +109,16 @@ pub fn all_heard_start(sub: &Text) -> Result<Key, AllocError>
 }
 
 fn channel_key(
-    kind: u8,
+    kind: RowKind,
     sub: &Text,
     source: &Text,
     channel: &Text,
     number: u64,
 ) -> Result<Key, AllocError>
-    ensures { IfOk result (λ key. key ≡ keys.key kind sub.now source.now channel.now number) }
+    ensures { IfOk result (λ key. key ≡ keys.key (number_of kind) sub.now source.now channel.now number) }
 {
     Ok(Key {
-        kind,
+        kind: kind.number(),
         sub: sub.clone()?,
         source: source.clone()?,
         channel: channel.clone()?,

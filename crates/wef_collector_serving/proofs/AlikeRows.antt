@@ -20,8 +20,8 @@ use Rattle.wef_collector_reports.specs.declared.listing.Listed.{Listed}
 use Rattle.wef_collector_rows.specs.Bookmarks.{bookmark_at, bookmark_of, has_channel, raised_by_rows}
 use Rattle.wef_collector_rows.specs.Keys.{bookmark_key, heard_key, held_key, loose_key, mark_key, subscription_key}
 use Rattle.wef_collector_rows.specs.Standing.{standing, standing_of}
-use Rattle.wef_collector_rows.specs.declared.keys.TheConstants.{HEARD}
 use Rattle.wef_keeper.proofs.Sections.{same_under}
+use Rattle.wef_keeper.specs.Kinds.{number_of}
 use Rattle.wef_keeper.specs.Laws.{get-applied}
 use Rattle.wef_keeper.specs.Rows.{Rows, applied, cell_of, found_after, key_of}
 use Rattle.wef_keeper.specs.Sections.{is_under, rows_under}
@@ -31,6 +31,7 @@ use Rattle.wef_keeper.specs.declared.keys.Depth.{Depth}
 use Rattle.wef_keeper.specs.declared.keys.Depth.TheVariants.{Kind, Sub, Source, Channel}
 use Rattle.wef_keeper.specs.declared.keys.Key.{Key}
 use Rattle.wef_keeper.specs.declared.keys.Row.{Row}
+use Rattle.wef_keeper.specs.declared.kinds.RowKind.TheVariants.{Heard}
 use Rattle.wef_collector_serving.specs.Clocks.{AreAlike, StandAlike}
 
 -- ---- the same changes
@@ -53,14 +54,14 @@ carried heard one two other another first second alike =
 
 pub alike_applied : (changes : List Change) (rows other : Rows) → AreAlike rows other → AreAlike (applied changes rows) (applied changes other)
 alike_applied changes rows other alike = λ key.
-    carried (key.kind == HEARD) (finite.get (applied changes rows) key) (found_after changes key (finite.get rows key)) (finite.get (applied changes other) key) (found_after changes key (finite.get other key))
+    carried (key.kind == number_of Heard) (finite.get (applied changes rows) key) (found_after changes key (finite.get rows key)) (finite.get (applied changes other) key) (found_after changes key (finite.get other key))
     (get-applied changes rows key) (get-applied changes other key)
-    (alike_found (key.kind == HEARD) changes key (finite.get rows key) (finite.get other key) (alike key))
+    (alike_found (key.kind == number_of Heard) changes key (finite.get rows key) (finite.get other key) (alike key))
 
 -- ---- what is read
 
 -- at a key of another kind the same stands
-pub unheard_same : (rows other : Rows) → AreAlike rows other → (q : Key) → (q.kind == HEARD) ≡ false → finite.get rows q ≡ finite.get other q
+pub unheard_same : (rows other : Rows) → AreAlike rows other → (q : Key) → (q.kind == number_of Heard) ≡ false → finite.get rows q ≡ finite.get other q
 unheard_same rows other alike q is = subst (λ (t : Bool). StandAlike t (finite.get rows q) (finite.get other q)) is (alike q)
 
 -- a section is of one kind
@@ -75,9 +76,9 @@ same_kind Channel a q e =
     let middle = and_parts (nat_eq a.kind q.kind && pointwise nat_eq a.sub q.sub) (pointwise nat_eq a.source q.source) outer.0 in
     eqb-true a.kind q.kind (and_parts (nat_eq a.kind q.kind) (pointwise nat_eq a.sub q.sub) middle.0).0
 
-same_section : (depth : Depth) (a : Key) (rows other : Rows) → AreAlike rows other → (a.kind == HEARD) ≡ false → rows_under depth a rows ≡ rows_under depth a other
+same_section : (depth : Depth) (a : Key) (rows other : Rows) → AreAlike rows other → (a.kind == number_of Heard) ≡ false → rows_under depth a rows ≡ rows_under depth a other
 same_section depth a rows other alike is =
-    same_under depth a rows other (λ q under. unheard_same rows other alike q (ap (λ (kind : ℕ). kind == HEARD) (sym (same_kind depth a q under)) ∙ is))
+    same_under depth a rows other (λ q under. unheard_same rows other alike q (ap (λ (kind : ℕ). kind == number_of Heard) (sym (same_kind depth a q under)) ∙ is))
 
 same_bookmark : (rows other : Rows) → AreAlike rows other → (u s c : List ℕ) → bookmark_at rows u s c ≡ bookmark_at other u s c
 same_bookmark rows other alike u s c = ap (λ (found : Option Cell). unwrap_or (option_map (λ (cell : Cell). cell.value) found) 0) (unheard_same rows other alike (bookmark_key u s c) refl)
@@ -158,18 +159,18 @@ heard_there rows u s now q cell stays = by (is_later now (finite.get rows (heard
     by false false later hit = refl
 
 -- and no key of another kind changes
-heard_elsewhere : (rows : Rows) (u s : List ℕ) (now : ℕ) (q : Key) (cell : Option Cell) → (q.kind == HEARD) ≡ false → found_after (heard_changes rows u s now) q cell ≡ cell
+heard_elsewhere : (rows : Rows) (u s : List ℕ) (now : ℕ) (q : Key) (cell : Option Cell) → (q.kind == number_of Heard) ≡ false → found_after (heard_changes rows u s now) q cell ≡ cell
 heard_elsewhere rows u s now q cell is =
     found_if_other (is_later now (finite.get rows (heard_key u s))) (put (heard_key u s) now []) q cell
-    (refuted (hits (heard_key u s) q) (λ hit. not_both (ap (λ (k : Key). k.kind == HEARD) (sym (one_key (heard_key u s) q hit))) is))
+    (refuted (hits (heard_key u s) q) (λ hit. not_both (ap (λ (k : Key). k.kind == number_of Heard) (sym (one_key (heard_key u s) q hit))) is))
 
-alike_heard : (rows other : Rows) (u s : List ℕ) (now moment : ℕ) (q : Key) (one two : Option Cell) → StandAlike (q.kind == HEARD) one two
+alike_heard : (rows other : Rows) (u s : List ℕ) (now moment : ℕ) (q : Key) (one two : Option Cell) → StandAlike (q.kind == number_of Heard) one two
     → (is_some (finite.get rows (heard_key u s)) ≡ true → hits (heard_key u s) q ≡ true → is_some one ≡ true)
     → (is_some (finite.get other (heard_key u s)) ≡ true → hits (heard_key u s) q ≡ true → is_some two ≡ true)
-    → StandAlike (q.kind == HEARD) (found_after (heard_changes rows u s now) q one) (found_after (heard_changes other u s moment) q two)
-alike_heard rows other u s now moment q one two alike first second = by (q.kind == HEARD) refl alike
+    → StandAlike (q.kind == number_of Heard) (found_after (heard_changes rows u s now) q one) (found_after (heard_changes other u s moment) q two)
+alike_heard rows other u s now moment q one two alike first second = by (q.kind == number_of Heard) refl alike
   where
-    by : (t : Bool) → (q.kind == HEARD) ≡ t → StandAlike t one two → StandAlike t (found_after (heard_changes rows u s now) q one) (found_after (heard_changes other u s moment) q two)
+    by : (t : Bool) → (q.kind == number_of Heard) ≡ t → StandAlike t one two → StandAlike t (found_after (heard_changes rows u s now) q one) (found_after (heard_changes other u s moment) q two)
     by true is alike = heard_there rows u s now q one first ∙ ap (λ (there : Bool). hits (heard_key u s) q || there) alike ∙ sym (heard_there other u s moment q two second)
     by false is alike = heard_elsewhere rows u s now q one is ∙ alike ∙ sym (heard_elsewhere other u s moment q two is)
 
@@ -191,12 +192,12 @@ pub alike_taken : (rows other : Rows) → AreAlike rows other → (u s : List �
     → AreAlike (applied (batch_changes rows u s channels batch now) rows) (applied (batch_changes other u s channels batch moment) other)
 alike_taken rows other alike u s channels batch now moment = λ q.
     let changes = flat_map (channel_changes rows u s batch) channels in
-    carried (q.kind == HEARD)
+    carried (q.kind == number_of Heard)
     (finite.get (applied (batch_changes rows u s channels batch now) rows) q) (found_after (heard_changes rows u s now) q (found_after changes q (finite.get rows q)))
     (finite.get (applied (batch_changes other u s channels batch moment) other) q) (found_after (heard_changes other u s moment) q (found_after changes q (finite.get other q)))
     (taken_found rows u s channels batch now q)
     (taken_found other u s channels batch moment q
     ∙ ap (λ (xs : List Change). found_after (heard_changes other u s moment) q (found_after xs q (finite.get other q))) (sym (same_channels rows other alike u s batch channels)))
     (alike_heard rows other u s now moment q (found_after changes q (finite.get rows q)) (found_after changes q (finite.get other q))
-    (alike_found (q.kind == HEARD) changes q (finite.get rows q) (finite.get other q) (alike q))
+    (alike_found (q.kind == number_of Heard) changes q (finite.get rows q) (finite.get other q) (alike q))
     (stays_there rows u s changes (channels_keep rows u s batch channels) q) (stays_there other u s changes (channels_keep rows u s batch channels) q))

@@ -1,16 +1,17 @@
 -- What the clock decides of a connection: the moments at which sources were heard, and nothing else.
 use Rattle.std.specs.Prelude.{◌≡◌, ◌⊎◌, ℕ, ◌==◌, Bool, true, false, List, ◌++◌, Option, None, is_some}
 use Rattle.std.specs.FinMap as map
-use Rattle.wef_collector_rows.specs.declared.keys.TheConstants.{HEARD}
 use Rattle.wef_collector_serving.specs.ByRows.{AnswersBy, Kept, LeavesBy}
 use Rattle.wef_http.specs.Messages.{IsRequest, RefusesRequest}
 use Rattle.wef_http.specs.declared.messages.HttpRequest.{HttpRequest}
 use Rattle.wef_http_heads.specs.Ends.{behind_head}
 use Rattle.wef_http_heads.specs.declared.ends.HttpEnd.TheVariants as http
 use Rattle.wef_http_heads.specs.declared.targets.Side.{Side}
+use Rattle.wef_keeper.specs.Kinds.{number_of}
 use Rattle.wef_keeper.specs.Rows.{Rows}
 use Rattle.wef_keeper.specs.declared.keys.Cell.{Cell}
 use Rattle.wef_keeper.specs.declared.keys.Key.{Key}
+use Rattle.wef_keeper.specs.declared.kinds.RowKind.TheVariants.{Heard}
 use Rattle.wef_serving.specs.Serving.{AnswersAt, IsBroken, LeavesAt, Serves, refusal_with}
 use Rattle.wef_serving.specs.declared.ends.ConnectionEnd.{ConnectionEnd}
 use Rattle.wef_serving.specs.declared.ends.ConnectionEnd.TheVariants as over
@@ -25,7 +26,7 @@ StandAlike true one other = is_some one ≡ is_some other
 
 -- Rows that are the same but for the moments at which sources were heard.
 abbrev pub AreAlike : Rows → Rows → Type 0
-AreAlike rows other = (key : Key) → StandAlike (key.kind == HEARD) (map.get rows key) (map.get other key)
+AreAlike rows other = (key : Key) → StandAlike (key.kind == number_of Heard) (map.get rows key) (map.get other key)
 
 -- ---- replies
 

@@ -15,6 +15,7 @@ use Rattle.wef_keeper.proofs.StayFormed.{applied_formed}
 use Rattle.wef_keeper.specs.Access.{IsBehind}
 use Rattle.wef_keeper.specs.Forms.{ArePut}
 use Rattle.wef_keeper.specs.Keeping.{row_at}
+use Rattle.wef_keeper.specs.Kinds.{number_of}
 use Rattle.wef_keeper.specs.Rows.{Rows, key_cmp, row_of}
 use Rattle.wef_keeper.specs.Sections.{is_under, rows_under}
 use Rattle.wef_keeper.specs.declared.keys.Cell.{Cell}
@@ -22,9 +23,9 @@ use Rattle.wef_keeper.specs.declared.keys.Change.TheVariants.{Delete, Put}
 use Rattle.wef_keeper.specs.declared.keys.Depth.TheVariants.{Channel}
 use Rattle.wef_keeper.specs.declared.keys.Key.{Key}
 use Rattle.wef_keeper.specs.declared.keys.Row.{Row}
+use Rattle.wef_keeper.specs.declared.kinds.RowKind.TheVariants.{Record, LastNumber, Capacity, SourceBoot}
 use Rattle.wef_source_log.specs.Forms.{AreFormed, has_number, is_bare, is_boot, is_capacity, is_channel, is_formed, is_last, is_nameless, is_read, is_record}
 use Rattle.wef_source_log.specs.Judged.{JudgesPage}
-use Rattle.wef_source_log.specs.declared.keys.TheConstants.{RECORD, LAST, CAPACITY, BOOT}
 use Rattle.wef_source_log.specs.Keys.{boot_key, capacity_key, last_key, record_key}
 use Rattle.wef_source_log.specs.Laws.{FormsStay}
 use Rattle.wef_source_log.specs.LogWindow.{boot_of, capacity_changes, capacity_of, last_of, start_changes, write_changes}
@@ -34,7 +35,7 @@ use Rattle.wef_source_log.proofs.Pages.{own_key}
 record_form : (c : List ℕ) (after : ℕ) (row : Row) → is_under Channel (record_key c after) row.key ≡ true → is_record row ≡ is_formed row
 unfolding is_formed
 record_form c after row under =
-    ap (λ (key : Key). if key.kind == RECORD then is_record row else (if key.kind == LAST then is_last row else (if key.kind == CAPACITY then is_capacity row else (if key.kind == BOOT then is_boot row else true))))
+    ap (λ (key : Key). if key.kind == number_of Record then is_record row else (if key.kind == number_of LastNumber then is_last row else (if key.kind == number_of Capacity then is_capacity row else (if key.kind == number_of SourceBoot then is_boot row else true))))
     (sym (own_key c after row.key under))
 
 record_forms : (c : List ℕ) (after : ℕ) (rows : List Row) → AllByRecursion (IsBehind Channel (record_key c after)) rows → list_all is_record rows ≡ list_all is_formed rows
@@ -90,7 +91,7 @@ capacity_within row e =
 boot_within : (row : Row) → is_boot row ≡ true → row.value ≤ MAX
 boot_within row e = within row.value MAX (and_parts (is_bare row) (nat_le row.value MAX) e).1
 
-no_record_kind : (kind : ℕ) → (kind == RECORD) ≡ true → has_number kind ≡ true → ⊥
+no_record_kind : (kind : ℕ) → (kind == number_of Record) ≡ true → has_number kind ≡ true → ⊥
 no_record_kind kind e h = grind (arith, nat_tests, e, h)
 
 no_other_kind : (last capacity boot : Bool) → last ≡ false → capacity ≡ false → boot ≡ false → (last || capacity || boot) ≡ true → ⊥
@@ -103,9 +104,9 @@ pub number_within : (row : Row) → is_formed row ≡ true → has_number row.ke
 unfolding is_formed
 number_within row formed number =
     let kind = row.key.kind in
-    by_kind (row.value ≤ MAX) (kind == RECORD) (kind == LAST) (kind == CAPACITY) (kind == BOOT) (is_record row) (is_last row) (is_capacity row) (is_boot row) formed
+    by_kind (row.value ≤ MAX) (kind == number_of Record) (kind == number_of LastNumber) (kind == number_of Capacity) (kind == number_of SourceBoot) (is_record row) (is_last row) (is_capacity row) (is_boot row) formed
     (λ is. absurd (no_record_kind kind is number)) (last_within row) (capacity_within row) (boot_within row)
-    (λ first second third fourth. absurd (no_other_kind (kind == LAST) (kind == CAPACITY) (kind == BOOT) second third fourth number))
+    (λ first second third fourth. absurd (no_other_kind (kind == number_of LastNumber) (kind == number_of Capacity) (kind == number_of SourceBoot) second third fourth number))
 
 -- so where a greater one was read, the rows aren't all of their form
 pub no_number : (told : Option Rows) (key : Key) (row : Row) → is_formed row ≡ true → has_number key.kind ≡ true → MAX < row.value → IfSome told (λ rows. Some row ≡ row_at key rows)

@@ -7,22 +7,23 @@ use Rattle.std.specs.Cmp.Lexicographic.{bytes_decides, pointwise}
 use Rattle.std.specs.List.{All, AllByRecursion}
 use Rattle.std.specs.Prelude.{Option, Some, None, IfSome}
 use Rattle.wef_keeper.specs.Access.{IsBehind}
+use Rattle.wef_keeper.specs.Kinds.{number_of}
 use Rattle.wef_keeper.specs.Rows.{Rows, rows_after}
 use Rattle.wef_keeper.specs.Sections.{is_under, last_key, rows_under}
 use Rattle.wef_keeper.specs.declared.keys.Depth.TheVariants.{Channel}
 use Rattle.wef_keeper.specs.declared.keys.Key.{Key}
 use Rattle.wef_keeper.specs.declared.keys.Row.{Row}
+use Rattle.wef_keeper.specs.declared.kinds.RowKind.TheVariants.{Record}
 use Rattle.wef_source_log.specs.Keys.{record_key}
-use Rattle.wef_source_log.specs.declared.keys.TheConstants.{RECORD}
 use Rattle.wef_source_log.specs.LogWindow.{event_of_row, last_number, records_after}
 
 -- a key under that of a channel's records is the one of its own number
 pub own_key : (c : List ℕ) (n : ℕ) (k : Key) → is_under Channel (record_key c n) k ≡ true → k ≡ record_key c k.number
 own_key c n k e =
-    let outer = and_parts (nat_eq RECORD k.kind && pointwise nat_eq [] k.sub && pointwise nat_eq [] k.source) (pointwise nat_eq c k.channel) e in
-    let middle = and_parts (nat_eq RECORD k.kind && pointwise nat_eq [] k.sub) (pointwise nat_eq [] k.source) outer.0 in
-    let inner = and_parts (nat_eq RECORD k.kind) (pointwise nat_eq [] k.sub) middle.0 in
-    let kind = sym (eqb-true RECORD k.kind inner.0) in
+    let outer = and_parts (nat_eq (number_of Record) k.kind && pointwise nat_eq [] k.sub && pointwise nat_eq [] k.source) (pointwise nat_eq c k.channel) e in
+    let middle = and_parts (nat_eq (number_of Record) k.kind && pointwise nat_eq [] k.sub) (pointwise nat_eq [] k.source) outer.0 in
+    let inner = and_parts (nat_eq (number_of Record) k.kind) (pointwise nat_eq [] k.sub) middle.0 in
+    let kind = sym (eqb-true (number_of Record) k.kind inner.0) in
     let sub = sym ((bytes_decides [] k.sub).0 inner.1) in
     let source = sym ((bytes_decides [] k.source).0 middle.1) in
     let channel = sym ((bytes_decides c k.channel).0 outer.1) in

@@ -4,10 +4,11 @@ use Rattle.wef_base.specs.Names.{channel_name, same}
 use Rattle.wef_base.specs.declared.numbers.TheConstants.{MAX}
 use Rattle.wef_event.specs.Events.{is_event}
 use Rattle.wef_keeper.specs.Forms.{ArePassed}
+use Rattle.wef_keeper.specs.Kinds.{number_of}
 use Rattle.wef_keeper.specs.Rows.{Rows}
 use Rattle.wef_keeper.specs.declared.keys.Key.{Key}
 use Rattle.wef_keeper.specs.declared.keys.Row.{Row}
-use Rattle.wef_source_log.specs.declared.keys.TheConstants.{RECORD, LAST, CAPACITY, BOOT}
+use Rattle.wef_keeper.specs.declared.kinds.RowKind.TheVariants.{Record, LastNumber, Capacity, SourceBoot}
 
 -- whether a text is the name that was read from it
 abbrev pub is_read : Option (List ℕ) → List ℕ → Bool
@@ -49,10 +50,10 @@ is_boot row = is_bare row && nat_le row.value MAX
 -- whether a row is of its form; a row of another kind isn't the log's
 unfoldable pub is_formed : Row → Bool
 is_formed row =
-    if row.key.kind == RECORD then is_record row
-    else (if row.key.kind == LAST then is_last row
-    else (if row.key.kind == CAPACITY then is_capacity row
-    else (if row.key.kind == BOOT then is_boot row
+    if row.key.kind == number_of Record then is_record row
+    else (if row.key.kind == number_of LastNumber then is_last row
+    else (if row.key.kind == number_of Capacity then is_capacity row
+    else (if row.key.kind == number_of SourceBoot then is_boot row
     else true)))
 
 -- each row that stands is of its form
@@ -61,4 +62,4 @@ AreFormed rows = ArePassed is_formed rows
 
 -- whether rows of a kind have a number
 abbrev pub has_number : ℕ → Bool
-has_number kind = kind == LAST || kind == CAPACITY || kind == BOOT
+has_number kind = kind == number_of LastNumber || kind == number_of Capacity || kind == number_of SourceBoot

@@ -4,12 +4,11 @@ ghost use Rattle.std.specs.Prelude.{◌≡◌, ◌==◌, ◌&&◌, is_some, IfOk
 ghost use Rattle.wef_source_log.specs.Forms as forms;
 ghost use Rattle.wef_source_log.specs.LogWindow.{event_of_row};
 
-use crate::keys::{BOOT, CAPACITY, LAST, RECORD};
 use std::alloc::AllocError;
 use wef_base::numbers::MAX;
 use wef_base::{ChannelName, Text};
 use wef_event::Event;
-use wef_keeper::{Form, Key, Row};
+use wef_keeper::{Form, Key, Row, RowKind};
 
 /// The form of the log's rows.
 pub struct LogForm;
@@ -27,12 +26,17 @@ impl Form for LogForm {
 fn is_formed(row: &Row) -> Result<bool, AllocError>
     ensures { IfOk result (λ formed. formed ≡ forms.is_formed row.now) }
 {
-    match row.key.kind {
-        RECORD => is_record(row),
-        LAST => is_last(row),
-        CAPACITY => Ok(is_capacity(row)),
-        BOOT => Ok(is_boot(row)),
-        _ => Ok(true),
+    let kind = row.key.kind;
+    if kind == RowKind::Record.number() {
+        is_record(row)
+    } else if kind == RowKind::LastNumber.number() {
+        is_last(row)
+    } else if kind == RowKind::Capacity.number() {
+        Ok(is_capacity(row))
+    } else if kind == RowKind::SourceBoot.number() {
+        Ok(is_boot(row))
+    } else {
+        Ok(true)
     }
 }
 
