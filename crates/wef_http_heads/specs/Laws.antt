@@ -6,8 +6,12 @@ use Rattle.wef_http_heads.specs.declared.ends.HttpEnd.TheVariants.{NoMemory, Rea
 use Rattle.wef_http_heads.specs.declared.plans.RequestPlan.{RequestPlan}
 use Rattle.wef_http_heads.specs.declared.plans.ResponsePlan.{ResponsePlan}
 use Rattle.wef_http_heads.specs.declared.targets.Side.{Side}
+use Rattle.wef_http_heads.specs.declared.targets.Side.TheVariants.{Collector}
+use Rattle.wef_http_heads.specs.declared.targets.Target.TheVariants.{Manager}
+use Rattle.wef_http_heads.specs.declared.targets.TheConstants.{MANAGER_PATH}
 use Rattle.wef_http_heads.specs.Ends.{behind_head}
 use Rattle.wef_http_heads.specs.Heads.{PlansRequest, PlansResponse, RefusesRequestHead, RefusesResponseHead}
+use Rattle.wef_http_heads.specs.Targets.{target_at}
 
 -- A head of the grammar that bytes begin with ends with the first empty line behind its first line.
 pub record HeadsEnd : Type 0 where
@@ -24,3 +28,7 @@ pub record OneHead : Type 0 where
   pub request_stands : (side : Side) (bytes : List ℕ) (p : RequestPlan) (r : List ℕ) (e : HttpEnd) → PlansRequest side bytes p r → RefusesRequestHead side bytes e → IsByBytes e → ⊥
   pub response : (bytes : List ℕ) (p q : ResponsePlan) (r s : List ℕ) → PlansResponse bytes p r → PlansResponse bytes q s → (p ≡ q) × (r ≡ s)
   pub response_stands : (bytes : List ℕ) (p : ResponsePlan) (r : List ℕ) (e : HttpEnd) → PlansResponse bytes p r → RefusesResponseHead bytes e → IsByBytes e → ⊥
+
+-- The manager's path is for the manager, where a collector serves it.
+abbrev pub ManagerIsFound : Type 0
+ManagerIsFound = target_at Collector MANAGER_PATH.now ≡ Some Manager

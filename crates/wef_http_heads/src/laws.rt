@@ -1,6 +1,6 @@
 //! Laws of heads, each the contract of a function that does nothing.
 
-ghost use Rattle.wef_http_heads.specs.Laws.{HeadsEnd, OneHead};
+ghost use Rattle.wef_http_heads.specs.Laws.{HeadsEnd, ManagerIsFound, OneHead};
 
 /// A head that bytes begin with ends with the first empty line behind its first line.
 pub fn heads_end()
@@ -11,4 +11,9 @@ pub fn heads_end()
 /// them to refuse it. So each refusal comes exactly where its reason is.
 pub fn one_head_is_read()
     ensures { OneHead }
+{}
+
+/// A collector takes a request to its manager's path as one for the manager.
+pub fn manager_is_found()
+    ensures { ManagerIsFound }
 {}

@@ -17,4 +17,4 @@ pub use answers::Answer;
 pub use ends::HttpEnd;
 pub use heads::{BODY_LIMIT, HEAD_LIMIT, find_request_head, find_response_head};
 pub use plans::{Found, Framing, RequestPlan, ResponsePlan};
-pub use targets::{Side, Target};
+pub use targets::{MANAGER_PATH, Side, Target};

@@ -13,10 +13,13 @@ use std::alloc::Global;
 use wef_base::words::{decode, split};
 use wef_base::{Bytes, Text};
 
+/// The path at which a collector offers subscriptions.
+pub const MANAGER_PATH: &str = "/wsman/SubscriptionManager/WEC";
+
 /// What a request is for: the path of its target.
 #[derive(Debug, Drop, PartialEq, Eq)]
 pub enum Target {
-    /// `/wsman/SubscriptionManager/WEC`: the subscriptions for a source.
+    /// `MANAGER_PATH`: the subscriptions for a source.
     Manager,
     /// `/wsman/subscriptions/SUB/SOURCE`: batches of a source for a subscription. Both are as the
     /// path has them, percent-decoded.
