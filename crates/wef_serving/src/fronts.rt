@@ -1,11 +1,6 @@
 //! Connections of a front, served one after the other.
 
-ghost use Rattle.std.specs.Prelude.{◌≡◌, ◌≤◌, IfOk, OnErr, OnOk};
-ghost use Rattle.wef_base.specs.Counts.{Rose};
-ghost use Rattle.wef_connections.specs.Opening.{OnlyFails, Rises, next_connection};
-ghost use Rattle.wef_serving.specs.Serving.{AnswersAt, LeavesAt, RespondsInTurn};
-ghost use Rattle.wef_serving.specs.Turns.{Ends};
-ghost use Rattle.wef_serving.specs.declared.ends.ConnectionEnd.TheVariants.{PortFailed};
+ghost use Rattle.wef_serving.specs.Accounts.{NextAccount};
 
 use crate::answering::Answering;
 use crate::ends::ConnectionEnd;
@@ -26,16 +21,7 @@ pub fn serve_next<F: Front, E, A: Answering<E>, C: Clock>(
     end: &mut E,
     clock: &mut C,
 ) -> Result<ConnectionEnd, IoFailed>
-    ensures served { IfOk result (Ends side (AnswersAt (C.told clock.old) A.answers) (LeavesAt (C.told clock.old) A.leaves) (next_connection (F.told front.old)).coming (next_connection (F.told front.old)) end.old (F.told front.new) end.new) }
-    ensures responded { OnOk result (RespondsInTurn (AnswersAt (C.told clock.old) A.answers) (LeavesAt (C.told clock.old) A.leaves) end.old end.new) }
-    ensures around { OnOk result ((F.told front.new).around ≡ (next_connection (F.told front.old)).around) }
-    ensures later { (F.told front.old).faults ≤ (F.told front.new).faults }
-    ensures fault { IfOk result (λ over. over ≡ PortFailed → Rose (F.told front.old).faults (F.told front.new).faults) }
-    ensures refused { OnErr result (OnlyFails (F.told front.old) (F.told front.new)) }
-    ensures cause { OnErr result (Rises (F.told front.old).faults (F.told front.new).faults) }
-    ensures refusals { OnErr result (Rises (F.told front.old).around.refusals (F.told front.new).around.refusals) }
-    ensures untouched { OnErr result (end.new ≡ end.old) }
-    ensures clock { C.told clock.new ≡ C.told clock.old }
+    ensures { NextAccount side A.answers A.leaves (F.told front.old) (F.told front.new) end.old end.new (C.told clock.old) (C.told clock.new) result }
 {
     front.accept()?;
     let over = serve(alloc, side, front, how, end, clock);
