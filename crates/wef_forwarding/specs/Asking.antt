@@ -1,5 +1,5 @@
 -- What asking a collector for subscriptions does: the ask, the exchange, and what the source hears in what comes back.
-use Rattle.std.specs.Prelude.{◌≡◌, ◌⊎◌, ℕ, List, codes, Option, Some, None, Result, Ok, Err}
+use Rattle.std.specs.Prelude.{◌≡◌, ◌⊎◌, ℕ, List, Option, Some, None, Result, Ok, Err}
 use Rattle.wef_forwarding.specs.Exchanges.{BrokeOff, WasMade}
 use Rattle.wef_forwarding.specs.declared.exchanges.FrontFault.{FrontFault}
 use Rattle.wef_forwarding.specs.declared.exchanges.FrontFault.TheVariants.{NoMemory, Source}
@@ -8,6 +8,7 @@ use Rattle.wef_front.specs.HeardReplies.{HearsTold, offers_told, told}
 use Rattle.wef_front.specs.Sending.{enumerate_bytes}
 use Rattle.wef_front.specs.declared.listening.Hears.{Hears}
 use Rattle.wef_front.specs.declared.listening.Hears.TheVariants.{Adopted}
+use Rattle.wef_http_heads.specs.declared.targets.TheConstants.{MANAGER_PATH}
 use Rattle.wef_ids.specs.declared.MessageId.{MessageId}
 use Rattle.wef_ports.specs.Telling.{Told}
 use Rattle.wef_source.specs.Answers.{Asks, RefusesAsk}
@@ -17,7 +18,7 @@ use Rattle.wef_source.specs.declared.faults.SourceFault.TheVariants as faults
 
 -- the path at which a collector offers subscriptions
 unfoldable pub manager_path : List ℕ
-manager_path = codes "/wsman/SubscriptionManager/WEC"
+manager_path = MANAGER_PATH.now
 
 -- the request that the ask of a source at a host makes, under an id
 abbrev pub enumerate_request : List ℕ → List ℕ → MessageId → Request

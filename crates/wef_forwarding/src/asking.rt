@@ -11,6 +11,7 @@ use wef_base::moments::Moment;
 use wef_base::{Bytes, SourceName, Text};
 use wef_connections::Link;
 use wef_front::{Hears, source_hears, write_enumerate};
+use wef_http_heads::MANAGER_PATH;
 use wef_ids::MessageId;
 use wef_keeper::Keeper;
 use wef_source::SourceEnd;
@@ -91,7 +92,7 @@ fn enumerate_request(
 fn manager_path(alloc: Global) -> Result<Text, AllocError>
     ensures { IfOk result (λ path. path ≡ manager_path) }
 {
-    Text::from_str(alloc, "/wsman/SubscriptionManager/WEC")
+    Text::from_str(alloc, MANAGER_PATH)
 }
 
 /// Hears the envelope that came back, if one did.

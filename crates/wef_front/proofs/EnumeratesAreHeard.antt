@@ -36,6 +36,7 @@ use Rattle.wef_front.specs.Heard.{Hears, asked_by, asked_of, enumerate_asked, he
 use Rattle.wef_front.specs.Sending.{EnumeratesAreRead, enumerate_bytes, enumerate_envelope, manager_address, wish_by}
 use Rattle.wef_front.specs.declared.hearing.Asked.TheVariants.{Enumerate, Refused}
 use Rattle.wef_http_heads.specs.declared.targets.Target.TheVariants.{Manager}
+use Rattle.wef_http_heads.specs.declared.targets.TheConstants.{MANAGER_PATH}
 
 -- ---- the envelope
 
@@ -44,7 +45,7 @@ joined cs ds one other = list_all-append is_printed cs ds ∙ and_from _ _ one o
 
 manager_printed : (host : List ℕ) → list_all is_printed host ≡ true → list_all is_printed (manager_address host) ≡ true
 unfolding manager_address
-manager_printed host is = joined (codes "http://" ++ host) (codes "/wsman/SubscriptionManager/WEC") (joined (codes "http://") host refl is) refl
+manager_printed host is = joined (codes "http://" ++ host) MANAGER_PATH.now (joined (codes "http://") host refl is) refl
 
 subscriptions_trimmed : IsTrimmed SUBSCRIPTIONS.now
 unfolding chars encode

@@ -30,6 +30,7 @@ use Rattle.wef_front.specs.Heard.{Hears, batch_in, heard_in}
 use Rattle.wef_front.specs.declared.hearing.Asked.{Asked}
 use Rattle.wef_front.specs.declared.hearing.Asked.TheVariants.{Enumerate, Take}
 use Rattle.wef_http_heads.specs.declared.targets.Target.TheVariants.{Delivery, Manager}
+use Rattle.wef_http_heads.specs.declared.targets.TheConstants.{MANAGER_PATH}
 
 -- the envelope of a delivery: it goes to the address that the offer gave
 abbrev pub delivery_envelope : source.Delivery → Envelope
@@ -56,7 +57,7 @@ delivery_bytes d = encoded Utf8 (canonical (written (delivery_envelope d)))
 
 -- where a collector offers subscriptions at a host
 unfoldable pub manager_address : List ℕ → List ℕ
-manager_address host = codes "http://" ++ host ++ codes "/wsman/SubscriptionManager/WEC"
+manager_address host = codes "http://" ++ host ++ MANAGER_PATH.now
 
 -- the envelope in which a source asks the collector at a host for its subscriptions (WS-Enumeration, 3.1); the header MachineID
 -- names the source

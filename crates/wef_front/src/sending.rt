@@ -21,6 +21,7 @@ use wef_bodies::{Body, write_body};
 use wef_envelope::actions::{ANONYMOUS, ENUMERATE, EVENTS, SUBSCRIPTIONS};
 use wef_envelope::{Envelope, MessageId, to_node};
 use wef_event::Event;
+use wef_http_heads::MANAGER_PATH;
 use wef_source::Delivery;
 use wef_tree::write_tree;
 
@@ -92,7 +93,7 @@ fn manager_address(alloc: Global, host: &Text) -> Result<Text, AllocError>
 {
     let mut address = Text::from_str(alloc, "http://")?;
     address.push_str(host.as_str())?;
-    address.push_str("/wsman/SubscriptionManager/WEC")?;
+    address.push_str(MANAGER_PATH)?;
     Ok(address)
 }
 
