@@ -241,20 +241,11 @@ fn envelope_with(
 ) -> Result<Envelope, AllocError>
     ensures { IfOk result (λ envelope. envelope ≡ envelope_with action.now body id (option_copied relates.entry)) }
 {
-    Ok(Envelope {
-        to: Some(Text::from_str(alloc, ANONYMOUS)?),
-        resource: None,
-        reply_to: None,
-        action: Text::from_str(alloc, action)?,
-        id,
-        relates: copied(relates)?,
-        machine: None,
-        max_size: None,
-        identifier: None,
-        bookmark: None,
-        ack_wanted: false,
-        body,
-    })
+    let to = Text::from_str(alloc, ANONYMOUS)?;
+    let action = Text::from_str(alloc, action)?;
+    let mut envelope = Envelope::new(to, action, id, body);
+    envelope.relates = copied(relates)?;
+    Ok(envelope)
 }
 
 fn copied(id: Option<&MessageId>) -> Result<Option<MessageId>, AllocError>

@@ -62,20 +62,14 @@ fn enumerate_envelope(
     ensures value { IfOk result (λ envelope. envelope ≡ enumerate_envelope host.now source.now id.now) }
     ensures name { IfOk result (λ _. IsUtf8 source.now × (source_name source.now ≡ Some source.now)) }
 {
-    Ok(Envelope {
-        to: Some(manager_address(alloc, host)?),
-        resource: Some(Text::from_str(alloc, SUBSCRIPTIONS)?),
-        reply_to: Some(Text::from_str(alloc, ANONYMOUS)?),
-        action: Text::from_str(alloc, ENUMERATE)?,
-        id: id.clone()?,
-        relates: None,
-        machine: Some(name_of(source)?),
-        max_size: None,
-        identifier: None,
-        bookmark: None,
-        ack_wanted: false,
-        body: write_body(alloc, &Body::Enumerate)?,
-    })
+    let to = manager_address(alloc, host)?;
+    let action = Text::from_str(alloc, ENUMERATE)?;
+    let body = write_body(alloc, &Body::Enumerate)?;
+    let mut envelope = Envelope::new(to, action, id.clone()?, body);
+    envelope.resource = Some(Text::from_str(alloc, SUBSCRIPTIONS)?);
+    envelope.reply_to = Some(Text::from_str(alloc, ANONYMOUS)?);
+    envelope.machine = Some(name_of(source)?);
+    Ok(envelope)
 }
 
 /// The text of a source's name.
@@ -147,20 +141,15 @@ fn envelope_of(alloc: Global, delivery: &Delivery) -> Result<Envelope, AllocErro
     requires { CanBeWritten delivery.now }
     ensures { IfOk result (λ envelope. envelope ≡ delivery_envelope delivery.now) }
 {
-    Ok(Envelope {
-        to: Some(delivery.notify_to.clone()?),
-        resource: None,
-        reply_to: Some(Text::from_str(alloc, ANONYMOUS)?),
-        action: Text::from_str(alloc, EVENTS)?,
-        id: delivery.id.clone()?,
-        relates: None,
-        machine: None,
-        max_size: None,
-        identifier: copied(delivery.identifier.as_ref())?,
-        bookmark: Some(delivery.batch.to.to_node()?),
-        ack_wanted: delivery.batch.ack_wanted,
-        body: write_batch(alloc, &delivery.batch)?,
-    })
+    let to = delivery.notify_to.clone()?;
+    let action = Text::from_str(alloc, EVENTS)?;
+    let body = write_batch(alloc, &delivery.batch)?;
+    let mut envelope = Envelope::new(to, action, delivery.id.clone()?, body);
+    envelope.reply_to = Some(Text::from_str(alloc, ANONYMOUS)?);
+    envelope.identifier = copied(delivery.identifier.as_ref())?;
+    envelope.bookmark = Some(delivery.batch.to.to_node()?);
+    envelope.ack_wanted = delivery.batch.ack_wanted;
+    Ok(envelope)
 }
 
 fn copied(text: Option<&Text>) -> Result<Option<Text>, AllocError>
