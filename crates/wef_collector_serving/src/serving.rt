@@ -1,9 +1,9 @@
 //! Connections, served for a collector.
 
-ghost use Rattle.std.specs.Prelude.{◌≡◌, ◌≤◌, IfOk, OnErr, OnOk};
+ghost use Rattle.std.specs.Prelude.{◌≡◌, ◌≤◌};
 ghost use Rattle.wef_base.specs.Counts.{Rose};
+ghost use Rattle.wef_collector_serving.specs.Accounts.{NextCollectorAccount};
 ghost use Rattle.wef_collector_serving.specs.Answers.{AnswersInTurn, EndsConnection, known_of};
-ghost use Rattle.wef_connections.specs.Opening.{OnlyFails, Rises, next_connection};
 ghost use Rattle.wef_serving.specs.declared.ends.ConnectionEnd.TheVariants.{PortFailed};
 
 use crate::answering::CollectorAnswers;
@@ -50,16 +50,7 @@ pub fn serve_next_connection<F: Front, K: Keeper, C: Clock>(
     collector: &mut Collector<K>,
     clock: &mut C,
 ) -> Result<ConnectionEnd, IoFailed>
-    ensures served { IfOk result (EndsConnection (C.told clock.old) (next_connection (F.told front.old)) (known_of K.store collector.old) (F.told front.new) (known_of K.store collector.new)) }
-    ensures answered { OnOk result (AnswersInTurn (C.told clock.old) (known_of K.store collector.old) (known_of K.store collector.new)) }
-    ensures around { OnOk result ((F.told front.new).around ≡ (next_connection (F.told front.old)).around) }
-    ensures later { (F.told front.old).faults ≤ (F.told front.new).faults }
-    ensures fault { IfOk result (λ over. over ≡ PortFailed → Rose (F.told front.old).faults (F.told front.new).faults) }
-    ensures refused { OnErr result (OnlyFails (F.told front.old) (F.told front.new)) }
-    ensures cause { OnErr result (Rises (F.told front.old).faults (F.told front.new).faults) }
-    ensures refusals { OnErr result (Rises (F.told front.old).around.refusals (F.told front.new).around.refusals) }
-    ensures untouched { OnErr result (collector.new ≡ collector.old) }
-    ensures clock { C.told clock.new ≡ C.told clock.old }
+    ensures { NextCollectorAccount K.store (F.told front.old) (F.told front.new) collector.old collector.new (C.told clock.old) (C.told clock.new) result }
 {
     serve_next(
         alloc,

@@ -6,16 +6,23 @@ use Rattle.wef_http_heads.specs.declared.targets.Side.TheVariants.{Collector}
 use Rattle.wef_serving.proofs.Known.{ends_known, in_turn_known}
 use Rattle.wef_serving.specs.Serving.{AnswersAt, LeavesAt}
 
-pub returns-clause-served : goal.returns-clause-served
-returns-clause-served g c =
+pub returns : goal.returns
+returns g c =
     let clock = g.C.Clock.told c.args.clock.now in
     let before = next_connection (g.F.Port.told c.args.front.now) in
-    IfOk-weaker c.serve_next.result _ _
-    (λ over ends.
-    ends_known (known_of g.K.Keeper.store) Collector (AnswersAt clock Answers) (LeavesAt clock Leaves) before.coming before c.args.collector.now (g.F.Port.told c.serve_next.new.front) c.serve_next.new.end over ends)
-    c.serve_next.ensures.served
-
-pub returns-clause-answered : goal.returns-clause-answered
-returns-clause-answered g c =
-    let clock = g.C.Clock.told c.args.clock.now in
-    on_ok_weaker c.serve_next.result (λ responded. in_turn_known (known_of g.K.Keeper.store) Collector (AnswersAt clock Answers) (LeavesAt clock Leaves) responded) c.serve_next.ensures.responded
+    let account = c.serve_next.ensures in
+    record {
+      served = IfOk-weaker c.serve_next.result _ _
+          (λ over ends.
+          ends_known (known_of g.K.Keeper.store) Collector (AnswersAt clock Answers) (LeavesAt clock Leaves) before.coming before c.args.collector.now (g.F.Port.told c.serve_next.new.front) c.serve_next.new.end over ends)
+          account.served;
+      answered = on_ok_weaker c.serve_next.result (λ responded. in_turn_known (known_of g.K.Keeper.store) Collector (AnswersAt clock Answers) (LeavesAt clock Leaves) responded) account.responded;
+      around = account.around;
+      later = account.later;
+      fault = account.fault;
+      refused = account.refused;
+      cause = account.cause;
+      refusals = account.refusals;
+      untouched = account.untouched;
+      clock = account.clock;
+    }
