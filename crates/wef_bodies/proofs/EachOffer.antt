@@ -7,8 +7,8 @@ use Rattle.wef_base.specs.declared.tree.Node.{Node}
 use Rattle.wef_elements.specs.Children.{element_of, elements_in}
 use Rattle.wef_eventing.specs.declared.offers.Offer.{Offer}
 use Rattle.wef_bodies.specs.Offers.{is_offer, offer_of, offers_among, offers_from, with_front}
-use Rattle.wef_bodies.specs.Steps.{and_then}
-use Rattle.wef_bodies.specs.declared.bodies.BodyFault.{BodyFault}
+use Rattle.wef_subscribes.specs.Steps.{and_then}
+use Rattle.wef_subscribes.specs.declared.faults.BodyFault.{BodyFault}
 
 -- what stands in front stands there one by one
 fronts : (front : List Offer) (offer : Offer) (rest : Result (List Offer) BodyFault) → with_front (front ++ offer ∷ []) rest ≡ with_front front (with_front (offer ∷ []) rest)

@@ -1,5 +1,3 @@
 pub mod EachOffer
 pub mod GoodBodies
-pub mod KeptNames
 pub mod OffersAgain
-pub mod SubscribesAgain

@@ -19,19 +19,20 @@ use Rattle.wef_eventing.specs.declared.offers.Offer.{Offer}
 use Rattle.wef_eventing.specs.declared.offers.Subscribe.{Subscribe}
 use Rattle.wef_eventing.proofs.AddressTexts.{printed_text}
 use Rattle.wef_ids.specs.declared.MessageId.{MessageId}
-use Rattle.wef_bodies.specs.Laws.{IsPlainBody, IsPlainOffer, IsPlainSubscribe, action_of}
+use Rattle.wef_subscribes.specs.Laws.{IsPlainSubscribe}
+use Rattle.wef_subscribes.specs.Steps.{and_then, needed}
+use Rattle.wef_subscribes.specs.Subscribes.{in_management, subscribe_in}
+use Rattle.wef_subscribes.specs.declared.faults.BodyFault.{BodyFault}
+use Rattle.wef_subscribes.specs.declared.faults.BodyFault.TheVariants.{BadBody}
+use Rattle.wef_subscribes.specs.declared.faults.Part.TheVariants as the
+use Rattle.wef_subscribes.proofs.SubscribesAgain.{among, subscribe_again}
+use Rattle.wef_bodies.specs.Laws.{IsPlainBody, IsPlainOffer, action_of}
 use Rattle.wef_bodies.specs.Offers.{bad_offer, is_offer, of_offer, offer_of, offered, offered_in, offers_among, offers_from, offers_in, offers_of, unless_none, version_in, with_front}
 use Rattle.wef_bodies.specs.Reading.{body_in, enumerate_in}
 use Rattle.wef_bodies.specs.Spaces.{anonymous, enumerate, enumerate_response, event_log, subscribe}
-use Rattle.wef_bodies.specs.Steps.{and_then, needed}
-use Rattle.wef_bodies.specs.Subscribes.{in_management, subscribe_in}
 use Rattle.wef_bodies.specs.Written.{body_elements, enumerate_element, no_ids, offer_element, offer_elements, offer_envelope, offers_element, response_element}
 use Rattle.wef_bodies.specs.declared.bodies.Body.{Body}
 use Rattle.wef_bodies.specs.declared.bodies.Body.TheVariants as body
-use Rattle.wef_bodies.specs.declared.bodies.BodyFault.{BodyFault}
-use Rattle.wef_bodies.specs.declared.bodies.BodyFault.TheVariants.{BadBody}
-use Rattle.wef_bodies.specs.declared.bodies.Part.TheVariants as the
-use Rattle.wef_bodies.proofs.SubscribesAgain.{among, subscribe_again}
 
 -- ---- an offer
 

@@ -1,9 +1,5 @@
-pub mod Addresses
 pub mod Laws
-pub mod Limits
 pub mod Offers
 pub mod Reading
 pub mod Spaces
-pub mod Steps
-pub mod Subscribes
 pub mod Written

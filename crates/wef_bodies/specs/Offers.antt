@@ -16,11 +16,11 @@ use Rattle.wef_envelope.specs.declared.envelopes.EnvelopeFault.{EnvelopeFault}
 use Rattle.wef_eventing.specs.declared.offers.Offer.{Offer}
 use Rattle.wef_eventing.specs.declared.offers.Subscribe.{Subscribe}
 use Rattle.wef_bodies.specs.Spaces.{subscribe}
-use Rattle.wef_bodies.specs.Steps.{and_then, needed}
-use Rattle.wef_bodies.specs.Subscribes.{in_management, subscribe_in}
-use Rattle.wef_bodies.specs.declared.bodies.BodyFault.{BodyFault}
-use Rattle.wef_bodies.specs.declared.bodies.BodyFault.TheVariants.{BadBody}
-use Rattle.wef_bodies.specs.declared.bodies.Part.TheVariants as the
+use Rattle.wef_subscribes.specs.Steps.{and_then, needed}
+use Rattle.wef_subscribes.specs.Subscribes.{in_management, subscribe_in}
+use Rattle.wef_subscribes.specs.declared.faults.BodyFault.{BodyFault}
+use Rattle.wef_subscribes.specs.declared.faults.BodyFault.TheVariants.{BadBody}
+use Rattle.wef_subscribes.specs.declared.faults.Part.TheVariants as the
 
 -- an offer that isn't good, whatever is wrong with it
 abbrev pub bad_offer : BodyFault

@@ -8,13 +8,13 @@ use Rattle.wef_envelope.specs.Spaces.{enumeration}
 use Rattle.wef_envelope.specs.declared.envelopes.Envelope.{Envelope}
 use Rattle.wef_bodies.specs.Offers.{offers_in}
 use Rattle.wef_bodies.specs.Spaces.{enumerate, enumerate_response, subscribe}
-use Rattle.wef_bodies.specs.Steps.{and_then, needed}
-use Rattle.wef_bodies.specs.Subscribes.{subscribe_in}
+use Rattle.wef_subscribes.specs.Steps.{and_then, needed}
+use Rattle.wef_subscribes.specs.Subscribes.{subscribe_in}
 use Rattle.wef_bodies.specs.declared.bodies.Body.{Body}
 use Rattle.wef_bodies.specs.declared.bodies.Body.TheVariants as body
-use Rattle.wef_bodies.specs.declared.bodies.BodyFault.{BodyFault}
-use Rattle.wef_bodies.specs.declared.bodies.BodyFault.TheVariants.{BadBody}
-use Rattle.wef_bodies.specs.declared.bodies.Part.TheVariants as the
+use Rattle.wef_subscribes.specs.declared.faults.BodyFault.{BodyFault}
+use Rattle.wef_subscribes.specs.declared.faults.BodyFault.TheVariants.{BadBody}
+use Rattle.wef_subscribes.specs.declared.faults.Part.TheVariants as the
 
 -- whether there is an element Enumerate among those of a Body
 abbrev pub has_enumerate : List Element → Bool

@@ -1,19 +1,16 @@
 //! The bodies of messages: what their elements say, and the elements that are written for them.
 #![tactic(auto)]
 
-pub mod addresses;
 pub mod bodies;
 pub mod children;
 pub mod laws;
-pub mod limits;
 pub mod offers;
 pub mod reading;
 pub mod spaces;
-pub mod subscribes;
-pub mod wishes;
 pub mod writing;
 
-pub use bodies::{Body, BodyFault, Part};
+pub use bodies::Body;
 pub use offers::read_offers;
 pub use reading::{has_enumerate, read_body};
+pub use wef_subscribes::{BodyFault, Part};
 pub use writing::{write_body, write_offers};

@@ -5,18 +5,19 @@ ghost use Rattle.std.specs.Prelude.{◌≡◌, ◌∷◌, [], option_copied, sli
 ghost use Rattle.wef_base.specs.Names.{same};
 ghost use Rattle.wef_bodies.specs.Offers.{is_offer, offer_of, offered, offered_in, offers_among, offers_in, version_in};
 ghost use Rattle.wef_bodies.specs.Spaces.{subscribe};
-ghost use Rattle.wef_bodies.specs.Steps.{Reads};
 ghost use Rattle.wef_elements.specs.Children.{elements_in};
+ghost use Rattle.wef_subscribes.specs.Steps.{Reads};
 
-use crate::bodies::{BodyFault, Part};
-use crate::children::{enumeration_of, in_management, is_offer};
-use crate::subscribes::subscribe_in;
+use crate::children::{enumeration_of, is_offer};
 use std::alloc::{AllocError, Global};
 use wef_base::{Element, List, Moment, Node, Text};
 use wef_elements::{element_of, first_called, said_in};
 use wef_envelope::actions::SUBSCRIBE;
 use wef_envelope::{Envelope, EnvelopeFault, from_node};
 use wef_eventing::{Offer, Subscribe};
+use wef_subscribes::children::in_management;
+use wef_subscribes::subscribes::subscribe_in;
+use wef_subscribes::{BodyFault, Part};
 use wef_xml::messages::{SOAP, SUBSCRIPTION};
 
 /// Reads the offers among the elements of a Body.

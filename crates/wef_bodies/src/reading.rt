@@ -4,15 +4,16 @@ ghost use Rattle.std.specs.Prelude.{◌≡◌};
 ghost use Rattle.wef_base.specs.Names.{same};
 ghost use Rattle.wef_bodies.specs.Reading.{body_in, enumerate_in, has_enumerate};
 ghost use Rattle.wef_bodies.specs.Spaces.{enumerate, enumerate_response, subscribe};
-ghost use Rattle.wef_bodies.specs.Steps.{Reads};
+ghost use Rattle.wef_subscribes.specs.Steps.{Reads};
 
-use crate::bodies::{Body, BodyFault, Part};
+use crate::bodies::Body;
 use crate::children::enumeration_of;
 use crate::offers::read_offers;
-use crate::subscribes::subscribe_in;
 use wef_base::{Element, Moment};
 use wef_envelope::Envelope;
 use wef_envelope::actions::{ENUMERATE, ENUMERATE_RESPONSE, SUBSCRIBE};
+use wef_subscribes::subscribes::subscribe_in;
+use wef_subscribes::{BodyFault, Part};
 
 /// Reads the body of an envelope, by its action: that of Enumerate, EnumerateResponse or Subscribe.
 /// Elements are told by their namespaces and local names, and the first of a name counts. `now` is

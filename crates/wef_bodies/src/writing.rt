@@ -1,15 +1,15 @@
 //! Writing bodies.
 
-ghost use Rattle.std.specs.List.{All};
+ghost use Rattle.std.specs.List.{All, AllByRecursion};
 ghost use Rattle.std.specs.Prelude.{◌≡◌, ◌∷◌, [], IfOk};
-ghost use Rattle.wef_bodies.specs.Laws.{CanBeWritten, IsXmlId};
-ghost use Rattle.wef_bodies.specs.Written.{body_elements, enumerate_element, no_ids, offer_element, offer_elements, offer_envelope, offers_element, response_element, subscribe_element};
+ghost use Rattle.wef_bodies.specs.Laws.{CanBeWritten, IsKeptOffer, IsXmlId};
+ghost use Rattle.wef_bodies.specs.Written.{body_elements, enumerate_element, no_ids, offer_element, offer_elements, offer_envelope, offers_element, response_element};
 ghost use Rattle.wef_elements.specs.Good.{AreGoodElements};
 ghost use Rattle.wef_eventing.specs.Sending.{CanBeOffered, HasXmlTexts};
+ghost use Rattle.wef_subscribes.specs.Written.{subscribe_element};
 
 use crate::bodies::Body;
 use crate::spaces::enumeration;
-use crate::wishes::{names_are_kept, offered_names_are_kept, subscribe_element};
 use std::alloc::{AllocError, Global};
 use wef_base::{Element, List, Namespace, Text};
 use wef_elements::{management, with_elements, with_text};
@@ -17,6 +17,7 @@ use wef_envelope::actions::{ANONYMOUS, EVENT_LOG, SUBSCRIBE};
 use wef_envelope::{Envelope, to_node};
 use wef_eventing::{Offer, Subscribe};
 use wef_ids::{MessageId, read_id};
+use wef_subscribes::wishes::{names_are_kept, subscribe_element};
 use wef_xml::messages::SUBSCRIPTION;
 
 /// The elements that say a body. The envelopes in offers have an empty MessageID. Where its texts hold
@@ -62,6 +63,15 @@ fn write_subscribe(alloc: Global, wish: &Subscribe) -> Result<List<Element>, All
 {
     names_are_kept(wish);
     only(alloc, subscribe_element(alloc, wish)?)
+}
+
+/// Names of channels in wishes that are offered read back as themselves, since their type keeps it.
+fn offered_names_are_kept(offers: &[Offer])
+    ensures { AllByRecursion IsKeptOffer offers.now }
+{
+    for offer in offers {
+        names_are_kept(&offer.subscribe);
+    }
 }
 
 /// The elements of offers whose envelopes have no id yet.

@@ -13,7 +13,7 @@ use Rattle.wef_bodies.proofs.GoodBodies.{answer_good}
 use Rattle.wef_bodies.proofs.OffersAgain.{offers_again}
 use Rattle.wef_bodies.specs.Offers.{offers_in}
 use Rattle.wef_bodies.specs.Laws.{IsPlainOffer, IsXmlId, OfferCanStand}
-use Rattle.wef_bodies.specs.declared.bodies.BodyFault.{BodyFault}
+use Rattle.wef_subscribes.specs.declared.faults.BodyFault.{BodyFault}
 use Rattle.wef_bodies.specs.Written.{offers_element}
 use Rattle.wef_elements.specs.Good.{AreGoodElements}
 use Rattle.wef_envelope.specs.Envelopes.{said}

@@ -7,17 +7,17 @@ use Rattle.std.specs.Prelude.{Option, Some, None, Result, Ok, Err, IfOk, IfSome,
 use Rattle.wef_base.specs.Names.{same}
 use Rattle.wef_base.specs.declared.tree.Element.{Element}
 use Rattle.wef_batch.specs.Reading.{AreGoodTrees}
-use Rattle.wef_bodies.specs.Addresses.{identifier_among, identifier_in, passing, target_in}
-use Rattle.wef_bodies.specs.Addresses as bodies
-use Rattle.wef_bodies.specs.Limits.{heartbeats_in}
+use Rattle.wef_subscribes.specs.Addresses.{identifier_among, identifier_in, passing, target_in}
+use Rattle.wef_subscribes.specs.Addresses as bodies
+use Rattle.wef_subscribes.specs.Limits.{heartbeats_in}
 use Rattle.wef_bodies.specs.Offers.{bad_offer, is_offer, of_offer, offer_of, offered_in, offers_among, offers_from, offers_in, offers_of, unless_none, with_front}
 use Rattle.wef_bodies.specs.Spaces.{subscribe}
-use Rattle.wef_bodies.specs.Steps.{and_then, needed}
-use Rattle.wef_bodies.specs.Subscribes.{bookmark_of, bytes_in, delivery_in, expires_of, filter_in, has_attribute, in_eventing, in_management, items_in, subscribe_in, subscribe_of, subscribe_with}
-use Rattle.wef_bodies.specs.Spaces.{batches}
-use Rattle.wef_bodies.specs.declared.bodies.BodyFault.{BodyFault}
-use Rattle.wef_bodies.specs.declared.bodies.BodyFault.TheVariants.{BadBody, BadMode}
-use Rattle.wef_bodies.specs.declared.bodies.Part.TheVariants as the
+use Rattle.wef_subscribes.specs.Steps.{and_then, needed}
+use Rattle.wef_subscribes.specs.Subscribes.{bookmark_of, bytes_in, delivery_in, expires_of, filter_in, has_attribute, in_eventing, in_management, items_in, subscribe_in, subscribe_of, subscribe_with}
+use Rattle.wef_subscribes.specs.Spaces.{batches}
+use Rattle.wef_subscribes.specs.declared.faults.BodyFault.{BodyFault}
+use Rattle.wef_subscribes.specs.declared.faults.BodyFault.TheVariants.{BadBody, BadMode}
+use Rattle.wef_subscribes.specs.declared.faults.Part.TheVariants as the
 use Rattle.wef_documents.proofs.QueriesSaid.{AreGood, IsGood, elements_good}
 use Rattle.wef_elements.specs.Children.{elements_in, first_called, is_called}
 use Rattle.wef_elements.specs.Good.{AreGoodElements}

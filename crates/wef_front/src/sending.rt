@@ -16,13 +16,13 @@ ghost use Rattle.wef_xml.specs.Good.{IsGoodTree, IsXmlText};
 use std::alloc::{AllocError, Global};
 use wef_base::{Bytes, ChannelName, Charset, SourceName, Text};
 use wef_batch::{Item, write_batch};
-use wef_bodies::wishes::marked_names_are_kept;
 use wef_bodies::{Body, write_body};
 use wef_envelope::actions::{ANONYMOUS, ENUMERATE, EVENTS, SUBSCRIPTIONS};
 use wef_envelope::{Envelope, MessageId, to_node};
 use wef_event::Event;
 use wef_http_heads::MANAGER_PATH;
 use wef_source::Delivery;
+use wef_subscribes::wishes::marked_names_are_kept;
 use wef_tree::write_tree;
 
 /// Writes a delivery in UTF-8, as the message Events of WS-Management (10.2.9). It is read again where its

@@ -1,5 +1,6 @@
-use Rattle.wef_bodies.proofs.GoodBodies.{only_good, subscribe_good}
-use Rattle.wef_bodies.specs.Written.{subscribe_element}
+use Rattle.wef_bodies.proofs.GoodBodies.{only_good}
+use Rattle.wef_subscribes.specs.Written.{subscribe_element}
+use Rattle.wef_subscribes.proofs.GoodSubscribes.{subscribe_good}
 use Rattle.wef_bodies.proofs.writing.write_subscribe.Goals as goal
 
 pub returns-clause-good : goal.returns-clause-good

@@ -1,8 +1,0 @@
-use Rattle.std.proofs.Common.{subst}
-use Rattle.std.specs.List.{AllByRecursion}
-use Rattle.wef_bodies.specs.Laws.{IsTextEntry}
-use Rattle.wef_bodies.proofs.KeptNames.{found_texts}
-use Rattle.wef_bodies.proofs.wishes.marked_names_are_kept.Goals as goal
-
-pub returns-clause-names : goal.returns-clause-names
-returns-clause-names c = found_texts c.args.bookmark.now (subst (AllByRecursion IsTextEntry) c.numbers.ensures.entries c.entries_are_texts.ensures)

@@ -1,0 +1,3 @@
+pub mod GoodSubscribes
+pub mod KeptNames
+pub mod SubscribesAgain
