@@ -1,6 +1,6 @@
 -- What is written for a body is a good tree.
 use Rattle.std.proofs.Common.{◌≡◌, ℕ, suc, List, [], ◌∷◌, ap, refl, subst, sym, ◌∙◌}
-use Rattle.std.specs.Prelude.{Result, Ok, Err, IfOk, codes}
+use Rattle.std.specs.Prelude.{Some, Result, Ok, Err, IfOk, codes}
 use Rattle.std.specs.List.{All, AllByRecursion}
 use Rattle.std.proofs.lemmas.List.Elements.{All-from_recursion, recursion_from_All}
 use Rattle.wef_base.specs.declared.tree.Element.{Element}
@@ -9,20 +9,24 @@ use Rattle.wef_elements.specs.Good.{AreGoodElements}
 use Rattle.wef_elements.specs.Spaces.{management}
 use Rattle.wef_elements.proofs.GoodTexts.{empty_text, management_good}
 use Rattle.wef_elements.proofs.GoodTrees.{holder_good, leaf_good}
-use Rattle.wef_envelope.specs.Spaces.{enumeration, subscription}
+use Rattle.wef_envelope.specs.Spaces.{enumeration, eventing, subscription}
 use Rattle.wef_envelope.specs.Written.{written}
 use Rattle.wef_envelope.proofs.WrittenIsGood.{written_is_good as envelope_good}
 use Rattle.wef_eventing.specs.Sending.{CanBeOffered, HasXmlTexts}
 use Rattle.wef_eventing.specs.declared.offers.Offer.{Offer}
 use Rattle.wef_eventing.specs.declared.offers.Subscribe.{Subscribe}
+use Rattle.wef_eventing.specs.declared.subscriptions.EndStatus.{EndStatus}
+use Rattle.wef_eventing.specs.declared.subscriptions.EndStatus.TheVariants as status
 use Rattle.wef_ids.specs.declared.MessageId.{MessageId}
-use Rattle.wef_xml.specs.Good.{IsGoodElement, IsXmlText}
+use Rattle.wef_xml.specs.Good.{IsGoodElement, IsLocalName, IsXmlText}
 use Rattle.wef_xml.proofs.Ascii.{plain_name, plain_text}
 use Rattle.wef_subscribes.specs.Laws.{IsKeptSubscribe}
-use Rattle.wef_subscribes.proofs.GoodSubscribes.{subscribe_good}
+use Rattle.wef_subscribes.specs.Written.{address_element, expires_element, properties_element}
+use Rattle.wef_subscribes.proofs.GoodSubscribes.{address_good, eventing_good, expires_good, properties_good, subscribe_good}
 use Rattle.wef_bodies.specs.Laws.{IsKeptOffer, IsXmlId, OfferCanStand}
-use Rattle.wef_bodies.specs.Spaces.{anonymous, event_log, most_elements, subscribe}
-use Rattle.wef_bodies.specs.Written.{enumerate_element, no_ids, offer_element, offer_elements, offer_envelope, offers_element, response_element}
+use Rattle.wef_bodies.specs.Spaces.{anonymous, delivery_failure, event_log, most_elements, source_canceling, source_shutting_down, subscribe}
+use Rattle.wef_bodies.specs.Statuses.{status_text}
+use Rattle.wef_bodies.specs.Written.{bare_element, ended_element, enumerate_element, lease_element, manager_element, no_ids, offer_element, offer_elements, offer_envelope, offers_element, response_element, status_element, subscribed_element}
 
 -- ---- namespaces and fixed texts
 
@@ -49,6 +53,12 @@ log_good = plain_text event_log refl
 action_good : IsXmlText subscribe
 unfolding subscribe
 action_good = plain_text subscribe refl
+
+status_good : (s : EndStatus) → IsXmlText (status_text s)
+unfolding delivery_failure source_shutting_down source_canceling
+status_good status.DeliveryFailure = plain_text delivery_failure refl
+status_good status.SourceShuttingDown = plain_text source_shutting_down refl
+status_good status.SourceCanceling = plain_text source_canceling refl
 
 -- ---- a request for offers
 
@@ -116,6 +126,29 @@ unnamed_good (o ∷ offers) = (empty_text, unnamed_good offers)
 
 pub no_ids_good : (offers : List Offer) → All IsXmlId (no_ids offers)
 no_ids_good offers = All-from_recursion IsXmlId (no_ids offers) (unnamed_good offers)
+
+-- ---- a subscription that a collector began
+
+pub bare_good : (name : List ℕ) (room : ℕ) → IsLocalName name → IsGoodElement (bare_element name) (suc room)
+bare_good name room named = holder_good eventing name [] room eventing_good named tt
+
+pub lease_good : (name : List ℕ) (expires room : ℕ) → IsLocalName name → IsGoodElement (lease_element name expires) (suc (suc room))
+lease_good name expires room named = holder_good eventing name (expires_element expires ∷ []) (suc room) eventing_good named (expires_good (Some expires) room, tt)
+
+manager_good : (identifier : List ℕ) (room : ℕ) → IsXmlText identifier → IsGoodElement (manager_element identifier) (suc (suc (suc room)))
+manager_good identifier room allowed =
+    holder_good eventing (codes "SubscriptionManager") (address_element anonymous ∷ properties_element identifier ∷ []) (suc (suc room)) eventing_good (plain_name (codes "SubscriptionManager") refl)
+    (address_good anonymous (suc room) anonymous_good, (properties_good (Some identifier) room allowed, tt))
+
+pub subscribed_good : (identifier : List ℕ) (expires room : ℕ) → IsXmlText identifier → IsGoodElement (subscribed_element identifier expires) (suc (suc (suc (suc room))))
+subscribed_good identifier expires room allowed =
+    holder_good eventing (codes "SubscribeResponse") (manager_element identifier ∷ expires_element expires ∷ []) (suc (suc (suc room))) eventing_good (plain_name (codes "SubscribeResponse") refl)
+    (manager_good identifier room allowed, (expires_good (Some expires) (suc (suc room)), tt))
+
+pub ended_good : (identifier : List ℕ) (s : EndStatus) (room : ℕ) → IsXmlText identifier → IsGoodElement (ended_element identifier s) (suc (suc (suc (suc room))))
+ended_good identifier s room allowed =
+    holder_good eventing (codes "SubscriptionEnd") (manager_element identifier ∷ status_element s ∷ []) (suc (suc (suc room))) eventing_good (plain_name (codes "SubscriptionEnd") refl)
+    (manager_good identifier room allowed, (leaf_good eventing (codes "Status") (status_text s) (suc (suc room)) eventing_good (plain_name (codes "Status") refl) (status_good s), tt))
 
 -- ---- what is written
 

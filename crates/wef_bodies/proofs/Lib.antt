@@ -1,3 +1,5 @@
+pub mod BodiesAgain
 pub mod EachOffer
 pub mod GoodBodies
+pub mod LeasesAgain
 pub mod OffersAgain

@@ -1,9 +1,8 @@
--- What is written for offers, and for a body, is read as it.
+-- What is written for offers is read as it.
 use Rattle.std.proofs.Common.{◌≡◌, ℕ, suc, true, cond, List, [], ◌∷◌, length, refl, ap, ◌∙◌, arith}
-use Rattle.std.specs.Prelude.{Some, Ok, Err, Result, codes, find, unwrap_or}
+use Rattle.std.specs.Prelude.{Some, Ok, codes, find, unwrap_or}
 use Rattle.std.specs.List.{AllByRecursion, filter}
 use Rattle.std.specs.Option.{option_map}
-use Rattle.wef_base.specs.Names.{same}
 use Rattle.wef_base.specs.declared.tree.Element.{Element}
 use Rattle.wef_elements.specs.Children.{is_called, with_elements, with_text}
 use Rattle.wef_elements.specs.Spaces.{management}
@@ -21,18 +20,14 @@ use Rattle.wef_eventing.proofs.AddressTexts.{printed_text}
 use Rattle.wef_ids.specs.declared.MessageId.{MessageId}
 use Rattle.wef_subscribes.specs.Laws.{IsPlainSubscribe}
 use Rattle.wef_subscribes.specs.Steps.{and_then, needed}
-use Rattle.wef_subscribes.specs.Subscribes.{in_management, subscribe_in}
-use Rattle.wef_subscribes.specs.declared.faults.BodyFault.{BodyFault}
+use Rattle.wef_subscribes.specs.Subscribes.{in_management}
 use Rattle.wef_subscribes.specs.declared.faults.BodyFault.TheVariants.{BadBody}
 use Rattle.wef_subscribes.specs.declared.faults.Part.TheVariants as the
 use Rattle.wef_subscribes.proofs.SubscribesAgain.{among, subscribe_again}
-use Rattle.wef_bodies.specs.Laws.{IsPlainBody, IsPlainOffer, action_of}
+use Rattle.wef_bodies.specs.Laws.{IsPlainOffer}
 use Rattle.wef_bodies.specs.Offers.{bad_offer, is_offer, of_offer, offer_of, offered, offered_in, offers_among, offers_from, offers_in, offers_of, unless_none, version_in, with_front}
-use Rattle.wef_bodies.specs.Reading.{body_in, enumerate_in}
-use Rattle.wef_bodies.specs.Spaces.{anonymous, enumerate, enumerate_response, event_log, subscribe}
-use Rattle.wef_bodies.specs.Written.{body_elements, enumerate_element, no_ids, offer_element, offer_elements, offer_envelope, offers_element, response_element}
-use Rattle.wef_bodies.specs.declared.bodies.Body.{Body}
-use Rattle.wef_bodies.specs.declared.bodies.Body.TheVariants as body
+use Rattle.wef_bodies.specs.Spaces.{anonymous, event_log, subscribe}
+use Rattle.wef_bodies.specs.Written.{offer_element, offer_elements, offer_envelope, offers_element, response_element}
 
 -- ---- an offer
 
@@ -135,33 +130,3 @@ offers_again now ids offers as_many spelt plain =
     ∙ ap (λ es. offers_from now (filter is_offer es)) (elements_again items)
     ∙ ap (offers_from now) (all_are ids offers)
     ∙ each_again now ids offers as_many spelt plain
-
--- ---- bodies
-
-as_many : (offers : List Offer) → length (no_ids offers) ≡ length offers
-as_many [] = refl
-as_many (o ∷ offers) = ap suc (as_many offers)
-
-unnamed_spelt : (offers : List Offer) → AllByRecursion IsSpelt (no_ids offers)
-unnamed_spelt [] = tt
-unnamed_spelt (o ∷ offers) = (record { trimmed = (printed_text [] refl).0; value = refl }, unnamed_spelt offers)
-
-enumerate_again : enumerate_in (enumerate_element ∷ []) ≡ Ok body.Enumerate
-unfolding enumeration
-enumerate_again = refl
-
--- what is read of elements by an action
-abbrev by_action : ℕ → List ℕ → List Element → Result Body BodyFault
-by_action now action elements =
-    cond (same enumerate action) (enumerate_in elements)
-    (cond (same enumerate_response action) (and_then (offers_in now elements) (λ offers. Ok (body.Offers offers)))
-    (cond (same subscribe action) (and_then (subscribe_in now elements) (λ s. Ok (body.Subscribe s))) (Err (BadBody the.Action))))
-
-elements_read : (now : ℕ) (b : Body) → IsPlainBody b → by_action now (action_of b) (body_elements b) ≡ Ok b
-unfolding enumerate enumerate_response subscribe
-elements_read now body.Enumerate is = enumerate_again
-elements_read now (body.Offers offers) is = ap (λ r. and_then r (λ found. Ok (body.Offers found))) (offers_again now (no_ids offers) offers (as_many offers) (unnamed_spelt offers) is)
-elements_read now (body.Subscribe s) is = ap (λ r. and_then r (λ found. Ok (body.Subscribe found))) (subscribe_again now s is)
-
-pub body_again : (now : ℕ) (b : Body) (e : Envelope) → IsPlainBody b → e.action ≡ action_of b → e.body ≡ body_elements b → body_in now e ≡ Ok b
-body_again now b e is action elements = (λ i. by_action now (action i) (elements i)) ∙ elements_read now b is

@@ -4,9 +4,12 @@
 pub mod bodies;
 pub mod children;
 pub mod laws;
+pub mod leases;
 pub mod offers;
 pub mod reading;
 pub mod spaces;
+pub mod statuses;
+pub mod telling;
 pub mod writing;
 
 pub use bodies::Body;

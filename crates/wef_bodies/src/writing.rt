@@ -3,19 +3,21 @@
 ghost use Rattle.std.specs.List.{All, AllByRecursion};
 ghost use Rattle.std.specs.Prelude.{◌≡◌, ◌∷◌, [], IfOk};
 ghost use Rattle.wef_bodies.specs.Laws.{CanBeWritten, IsKeptOffer, IsXmlId};
-ghost use Rattle.wef_bodies.specs.Written.{body_elements, enumerate_element, no_ids, offer_element, offer_elements, offer_envelope, offers_element, response_element};
+ghost use Rattle.wef_bodies.specs.Written.{bare_element, body_elements, ended_element, enumerate_element, lease_element, no_ids, offer_element, offer_elements, offer_envelope, offers_element, response_element, subscribed_element};
 ghost use Rattle.wef_elements.specs.Good.{AreGoodElements};
 ghost use Rattle.wef_eventing.specs.Sending.{CanBeOffered, HasXmlTexts};
 ghost use Rattle.wef_subscribes.specs.Written.{subscribe_element};
+ghost use Rattle.wef_xml.specs.Good.{IsLocalName, IsXmlText};
 
 use crate::bodies::Body;
 use crate::spaces::enumeration;
+use crate::telling::{bare_element, ended_element, lease_element, subscribed_element};
 use std::alloc::{AllocError, Global};
 use wef_base::{Element, List, Namespace, Text};
 use wef_elements::{management, with_elements, with_text};
 use wef_envelope::actions::{ANONYMOUS, EVENT_LOG, SUBSCRIBE};
 use wef_envelope::{Envelope, to_node};
-use wef_eventing::{Offer, Subscribe};
+use wef_eventing::{EndStatus, Offer, Subscribe};
 use wef_ids::{MessageId, read_id};
 use wef_subscribes::wishes::{names_are_kept, subscribe_element};
 use wef_xml::messages::SUBSCRIPTION;
@@ -31,6 +33,17 @@ pub fn write_body(alloc: Global, body: &Body) -> Result<List<Element>, AllocErro
         Body::Enumerate => write_enumerate(alloc),
         Body::Offers(offers) => write_unnamed(alloc, offers.as_slice()),
         Body::Subscribe(wish) => write_subscribe(alloc, wish),
+        Body::Subscribed {
+            identifier,
+            expires,
+        } => write_subscribed(alloc, identifier, *expires),
+        Body::Renew { expires } => write_lease(alloc, "Renew", *expires),
+        Body::Renewed { expires } => write_lease(alloc, "RenewResponse", *expires),
+        Body::GetStatus => write_bare(alloc, "GetStatus"),
+        Body::StatusIs { expires } => write_lease(alloc, "GetStatusResponse", *expires),
+        Body::Unsubscribe => write_bare(alloc, "Unsubscribe"),
+        Body::Unsubscribed => Ok(List::new(alloc)),
+        Body::Ended { identifier, status } => write_ended(alloc, identifier, *status),
     }
 }
 
@@ -72,6 +85,44 @@ fn offered_names_are_kept(offers: &[Offer])
     for offer in offers {
         names_are_kept(&offer.subscribe);
     }
+}
+
+fn write_subscribed(
+    alloc: Global,
+    identifier: &Text,
+    expires: u64,
+) -> Result<List<Element>, AllocError>
+    ensures value { IfOk result (λ elements. elements ≡ subscribed_element identifier.now expires ∷ []) }
+    ensures good { IsXmlText identifier.now → IfOk result (λ elements. AreGoodElements elements 62) }
+{
+    only(alloc, subscribed_element(alloc, identifier, expires)?)
+}
+
+/// The element of a name that says in how many milliseconds a subscription expires.
+fn write_lease(alloc: Global, name: &str, expires: u64) -> Result<List<Element>, AllocError>
+    ensures value { IfOk result (λ elements. elements ≡ lease_element name.now expires ∷ []) }
+    ensures good { IsLocalName name.now → IfOk result (λ elements. AreGoodElements elements 62) }
+{
+    only(alloc, lease_element(alloc, name, expires)?)
+}
+
+/// The element of a name, with nothing in it.
+fn write_bare(alloc: Global, name: &str) -> Result<List<Element>, AllocError>
+    ensures value { IfOk result (λ elements. elements ≡ bare_element name.now ∷ []) }
+    ensures good { IsLocalName name.now → IfOk result (λ elements. AreGoodElements elements 62) }
+{
+    only(alloc, bare_element(alloc, name)?)
+}
+
+fn write_ended(
+    alloc: Global,
+    identifier: &Text,
+    status: EndStatus,
+) -> Result<List<Element>, AllocError>
+    ensures value { IfOk result (λ elements. elements ≡ ended_element identifier.now status ∷ []) }
+    ensures good { IsXmlText identifier.now → IfOk result (λ elements. AreGoodElements elements 62) }
+{
+    only(alloc, ended_element(alloc, identifier, status)?)
 }
 
 /// The elements of offers whose envelopes have no id yet.

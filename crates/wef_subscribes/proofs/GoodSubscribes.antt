@@ -31,7 +31,7 @@ use Rattle.wef_subscribes.specs.Written.{address_element, count_element, deliver
 
 -- ---- namespaces and fixed texts
 
-pub addressing_good : IsXmlText addressing
+addressing_good : IsXmlText addressing
 unfolding addressing
 addressing_good = plain_text addressing refl
 
@@ -82,7 +82,7 @@ policy_plain = (plain_name (codes "Policy") refl, refl)
 
 -- ---- what may be absent
 
-abbrev IsGoodPlace : Option Element → ℕ → Type 0
+abbrev pub IsGoodPlace : Option Element → ℕ → Type 0
 IsGoodPlace o room = IfSome o (λ (e : Element). IsGoodElement e room)
 
 with_place : (o : Option Element) (es : List Element) (room : ℕ) → IsGoodPlace o room → AreGoodElements es room → AreGoodElements (option_to_list o ++ es) room
@@ -91,7 +91,7 @@ with_place (Some e) es room good rest = (good, rest)
 
 -- ---- a Subscribe
 
-address_good : (text : List ℕ) (room : ℕ) → IsXmlText text → IsGoodElement (address_element text) (suc room)
+pub address_good : (text : List ℕ) (room : ℕ) → IsXmlText text → IsGoodElement (address_element text) (suc room)
 address_good text room allowed = leaf_good addressing (codes "Address") text room addressing_good (plain_name (codes "Address") refl) allowed
 
 end_good : (end : Option (List ℕ)) (room : ℕ) → IfSome end IsXmlText → IsGoodPlace (option_map end_element end) (suc (suc room))
@@ -99,7 +99,7 @@ end_good None room allowed = tt
 end_good (Some text) room allowed =
     holder_good eventing (codes "EndTo") (address_element text ∷ []) (suc room) eventing_good (plain_name (codes "EndTo") refl) (address_good text room allowed, tt)
 
-properties_good : (identifier : Option (List ℕ)) (room : ℕ) → IfSome identifier IsXmlText → IsGoodPlace (option_map properties_element identifier) (suc (suc room))
+pub properties_good : (identifier : Option (List ℕ)) (room : ℕ) → IfSome identifier IsXmlText → IsGoodPlace (option_map properties_element identifier) (suc (suc room))
 properties_good None room allowed = tt
 properties_good (Some text) room allowed =
     holder_good addressing (codes "ReferenceProperties") (with_text eventing (codes "Identifier") text ∷ []) (suc room) addressing_good (plain_name (codes "ReferenceProperties") refl)
@@ -137,7 +137,7 @@ delivery_good s room has =
       ),
     )
 
-expires_good : (expires : Option ℕ) (room : ℕ) → IsGoodPlace (option_map expires_element expires) (suc room)
+pub expires_good : (expires : Option ℕ) (room : ℕ) → IsGoodPlace (option_map expires_element expires) (suc room)
 expires_good None room = tt
 expires_good (Some ms) room = leaf_good eventing (codes "Expires") (duration_text ms) room eventing_good (plain_name (codes "Expires") refl) (duration_good ms)
 

@@ -12,7 +12,7 @@ use Rattle.wef_base.specs.declared.numbers.TheConstants.{MAX}
 use Rattle.wef_base.specs.declared.tree.Element.{Element}
 use Rattle.wef_bookmark.specs.Nodes.{bookmark_element, header_of}
 use Rattle.wef_bookmark.proofs.WrittenRead.{written_is_read as bookmark_read}
-use Rattle.wef_elements.specs.Children.{as_nodes, first_called, is_called, with_text}
+use Rattle.wef_elements.specs.Children.{as_nodes, first_called, is_called, with_elements, with_text}
 use Rattle.wef_elements.specs.Spaces.{management}
 use Rattle.wef_elements.specs.Texts.{said_in}
 use Rattle.wef_elements.proofs.Again.{elements_again, said_again, text_again}
@@ -141,18 +141,18 @@ end_again (Some a) is =
     ap (λ o. needed (BadBody the.EndTo) (option_map (λ text. Some text) (option_and_then (passing is_address) o))) (address_again eventing (codes "EndTo") a [] (address_trimmed a is))
     ∙ ap (λ o. needed (BadBody the.EndTo) (option_map (λ text. Some text) o)) (passed is_address a is)
 
-identifier_again : (s : Subscribe) (identifier : Option (List ℕ)) → IfSome identifier IsTrimmed →
-    identifier_in (record { space = eventing; name = codes "NotifyTo"; attributes = []; children = as_nodes (address_element s.notify_to ∷ option_to_list (option_map properties_element identifier)) }) ≡ identifier
+pub identifier_again : (name address : List ℕ) (identifier : Option (List ℕ)) → IfSome identifier IsTrimmed →
+    identifier_in (with_elements eventing name (address_element address ∷ option_to_list (option_map properties_element identifier))) ≡ identifier
 unfolding addressing eventing
-identifier_again s None is =
+identifier_again name address None is =
     (λ i. option_or
-    (option_map said_in (option_and_then (λ (e : Element). first_called eventing (codes "Identifier") e.children) (among addressing (codes "ReferenceProperties") (address_element s.notify_to ∷ []) i)))
-    (option_map said_in (option_and_then (λ (e : Element). first_called eventing (codes "Identifier") e.children) (among addressing (codes "ReferenceParameters") (address_element s.notify_to ∷ []) i))))
-identifier_again s (Some text) is =
-    let notify : Element = record { space = eventing; name = codes "NotifyTo"; attributes = []; children = as_nodes (address_element s.notify_to ∷ properties_element text ∷ []) } in
-    ap (λ o. option_or (option_map said_in (option_and_then (λ (e : Element). first_called eventing (codes "Identifier") e.children) o)) (identifier_among (codes "ReferenceParameters") notify))
-    (among addressing (codes "ReferenceProperties") (address_element s.notify_to ∷ properties_element text ∷ []))
-    ∙ ap (λ o. option_or (option_map said_in o) (identifier_among (codes "ReferenceParameters") notify)) (among eventing (codes "Identifier") (with_text eventing (codes "Identifier") text ∷ []))
+    (option_map said_in (option_and_then (λ (e : Element). first_called eventing (codes "Identifier") e.children) (among addressing (codes "ReferenceProperties") (address_element address ∷ []) i)))
+    (option_map said_in (option_and_then (λ (e : Element). first_called eventing (codes "Identifier") e.children) (among addressing (codes "ReferenceParameters") (address_element address ∷ []) i))))
+identifier_again name address (Some text) is =
+    let reference : Element = with_elements eventing name (address_element address ∷ properties_element text ∷ []) in
+    ap (λ o. option_or (option_map said_in (option_and_then (λ (e : Element). first_called eventing (codes "Identifier") e.children) o)) (identifier_among (codes "ReferenceParameters") reference))
+    (among addressing (codes "ReferenceProperties") (address_element address ∷ properties_element text ∷ []))
+    ∙ ap (λ o. option_or (option_map said_in o) (identifier_among (codes "ReferenceParameters") reference)) (among eventing (codes "Identifier") (with_text eventing (codes "Identifier") text ∷ []))
     ∙ ap Some (said_again eventing (codes "Identifier") text is)
 
 -- ---- limits
@@ -209,7 +209,7 @@ unfolding expiry_in
 expiry_again now zero is = let low = is.0 in let bad : ⊥ = omega arith in absurd bad
 expiry_again now (suc ms) is = ap (λ r. expiry_of r (until now (instant_in (duration_text (suc ms))))) (reads_back (suc ms) is.1)
 
-expires_again : (now : ℕ) (expires : Option ℕ) → IfSome expires (IsWithin 1 LIMIT) → expires_of now (option_map expires_element expires) ≡ Ok expires
+pub expires_again : (now : ℕ) (expires : Option ℕ) → IfSome expires (IsWithin 1 LIMIT) → expires_of now (option_map expires_element expires) ≡ Ok expires
 expires_again now None is = refl
 expires_again now (Some ms) is =
     ap (λ text. and_then (needed BadExpires (expiry_in now text)) (λ found. Ok (Some found))) (text_again (duration_text ms))
@@ -269,7 +269,7 @@ parts_again now s is =
     let bytes = bytes_again s is.max_bytes in
     let beats = heartbeats_again s is.heartbeat in
     let bookmark = bookmark_there s is in
-    let named = identifier_again s s.identifier is.identifier in
+    let named = identifier_again (codes "NotifyTo") s.notify_to s.identifier is.identifier in
     λ i. and_then (target i) (λ notify_to. and_then (end i) (λ end_to. and_then (items i) (λ max_items. and_then (bytes i) (λ max_bytes. and_then (beats i) (λ heartbeat. and_then (bookmark i) (λ from.
     Ok (record { notify_to = notify_to; end_to = end_to; identifier = named i; query = s.query; max_items = max_items; max_bytes = max_bytes; heartbeat = heartbeat; expires = s.expires; from = from })))))))
 

@@ -28,8 +28,8 @@ end_in (Some e) = needed (BadBody the.EndTo) (option_map (λ text. Some text) (o
 
 -- what the Identifier among reference properties or parameters says
 abbrev pub identifier_among : List ℕ → Element → Option (List ℕ)
-identifier_among name notify = option_map said_in (option_and_then (λ (e : Element). first_called eventing (codes "Identifier") e.children) (first_called addressing name notify.children))
+identifier_among name reference = option_map said_in (option_and_then (λ (e : Element). first_called eventing (codes "Identifier") e.children) (first_called addressing name reference.children))
 
--- the identifier that comes back with each delivery: that of the properties, or where none is there that of the parameters
+-- the identifier that a reference has messages bear: that of the properties, or where none is there that of the parameters
 abbrev pub identifier_in : Element → Option (List ℕ)
-identifier_in notify = option_or (identifier_among (codes "ReferenceProperties") notify) (identifier_among (codes "ReferenceParameters") notify)
+identifier_in reference = option_or (identifier_among (codes "ReferenceProperties") reference) (identifier_among (codes "ReferenceParameters") reference)

@@ -24,7 +24,7 @@ address_element address = with_text addressing (codes "Address") address
 abbrev pub end_element : List ℕ → Element
 end_element address = with_elements eventing (codes "EndTo") (address_element address ∷ [])
 
--- the element that brings an identifier back with each delivery
+-- the element by which messages to a reference bear an identifier
 abbrev pub properties_element : List ℕ → Element
 properties_element identifier = with_elements addressing (codes "ReferenceProperties") (with_text eventing (codes "Identifier") identifier ∷ [])
 

@@ -54,21 +54,21 @@ fn address_in(element: &Element) -> Result<Option<Text>, AllocError>
     }
 }
 
-/// The identifier in a NotifyTo that comes back with each delivery: that among the reference
-/// properties, or where none is there that among the reference parameters.
-pub(crate) fn identifier_in(notify: &Element) -> Result<Option<Text>, AllocError>
-    ensures { IfOk result (λ text. text ≡ identifier_in notify.now) }
+/// The identifier in a reference, as a NotifyTo is, whose messages bear it, or a SubscriptionManager:
+/// that among the reference properties, or where none is there that among the reference parameters.
+pub fn identifier_in(reference: &Element) -> Result<Option<Text>, AllocError>
+    ensures { IfOk result (λ text. text ≡ identifier_in reference.now) }
 {
-    match identifier_among("ReferenceProperties", notify)? {
+    match identifier_among("ReferenceProperties", reference)? {
         Some(identifier) => Ok(Some(identifier)),
-        None => identifier_among("ReferenceParameters", notify),
+        None => identifier_among("ReferenceParameters", reference),
     }
 }
 
-fn identifier_among(name: &str, notify: &Element) -> Result<Option<Text>, AllocError>
-    ensures { IfOk result (λ text. text ≡ identifier_among name.now notify.now) }
+fn identifier_among(name: &str, reference: &Element) -> Result<Option<Text>, AllocError>
+    ensures { IfOk result (λ text. text ≡ identifier_among name.now reference.now) }
 {
-    match in_addressing(name, notify) {
+    match in_addressing(name, reference) {
         Some(parent) => identifier_of(parent),
         None => Ok(None),
     }

@@ -19,6 +19,16 @@ pub enum Part {
     MaxEnvelopeSize,
     Heartbeats,
     Bookmark,
+    SubscribeResponse,
+    SubscriptionManager,
+    Identifier,
+    Renew,
+    RenewResponse,
+    GetStatus,
+    GetStatusResponse,
+    Unsubscribe,
+    SubscriptionEnd,
+    Status,
 }
 
 impl fmt::Display for Part {
@@ -36,6 +46,16 @@ impl fmt::Display for Part {
             Part::MaxEnvelopeSize => "MaxEnvelopeSize",
             Part::Heartbeats => "Heartbeats",
             Part::Bookmark => "Bookmark",
+            Part::SubscribeResponse => "SubscribeResponse",
+            Part::SubscriptionManager => "SubscriptionManager",
+            Part::Identifier => "Identifier",
+            Part::Renew => "Renew",
+            Part::RenewResponse => "RenewResponse",
+            Part::GetStatus => "GetStatus",
+            Part::GetStatusResponse => "GetStatusResponse",
+            Part::Unsubscribe => "Unsubscribe",
+            Part::SubscriptionEnd => "SubscriptionEnd",
+            Part::Status => "Status",
         })
     }
 }

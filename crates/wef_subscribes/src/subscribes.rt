@@ -110,7 +110,7 @@ fn queries_in(filter: &Element) -> Result<QueryList, BodyFault>
 }
 
 /// In how many milliseconds it expires, if it says so.
-fn expires_of(expires: Option<&Element>, now: Moment) -> Result<Option<u64>, BodyFault>
+pub fn expires_of(expires: Option<&Element>, now: Moment) -> Result<Option<u64>, BodyFault>
     ensures { Reads result (expires_of now (option_copied expires.entry)) }
 {
     let Some(expires) = expires else {

@@ -69,7 +69,8 @@ fn end_element(alloc: Global, address: &Text) -> Result<Element, AllocError>
     with_elements(eventing(alloc)?, "EndTo", parts)
 }
 
-fn address_element(alloc: Global, address: &Text) -> Result<Element, AllocError>
+/// An element that holds an address.
+pub fn address_element(alloc: Global, address: &Text) -> Result<Element, AllocError>
     ensures { IfOk result (λ e. e ≡ address_element address.now) }
 {
     with_text(addressing(alloc)?, "Address", address.clone()?)
@@ -89,7 +90,8 @@ fn push_expires(
     Ok(())
 }
 
-fn expires_element(alloc: Global, ms: u64) -> Result<Element, AllocError>
+/// The element that says in how many milliseconds it expires.
+pub fn expires_element(alloc: Global, ms: u64) -> Result<Element, AllocError>
     ensures { IfOk result (λ e. e ≡ expires_element ms) }
 {
     with_text(eventing(alloc)?, "Expires", write_duration(alloc, ms)?)
@@ -185,8 +187,8 @@ fn notify_element(alloc: Global, wish: &Subscribe) -> Result<Element, AllocError
     with_elements(eventing(alloc)?, "NotifyTo", parts)
 }
 
-/// What comes back with each delivery.
-fn properties_element(alloc: Global, identifier: &Text) -> Result<Element, AllocError>
+/// The identifier that messages to a reference bear.
+pub fn properties_element(alloc: Global, identifier: &Text) -> Result<Element, AllocError>
     ensures { IfOk result (λ e. e ≡ properties_element identifier.now) }
 {
     let mut parts = List::new(alloc);

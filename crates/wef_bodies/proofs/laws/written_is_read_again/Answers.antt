@@ -1,5 +1,6 @@
+use Rattle.wef_bodies.proofs.BodiesAgain.{body_again}
 use Rattle.wef_bodies.proofs.GoodBodies.{answer_good}
-use Rattle.wef_bodies.proofs.OffersAgain.{body_again, offers_again}
+use Rattle.wef_bodies.proofs.OffersAgain.{offers_again}
 use Rattle.wef_bodies.proofs.laws.written_is_read_again.Goals as goal
 
 pub returns-clause-says : goal.returns-clause-says
