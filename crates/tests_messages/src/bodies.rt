@@ -1,13 +1,17 @@
 //! Bodies, written out as what they say.
 
 use crate::documents::read_document;
+use crate::trees::push_element;
 use std::alloc::{AllocError, Global};
 use wef_base::{Moment, Text};
-use wef_bodies::{Body, BodyFault, read_body};
+use wef_bodies::{Body, BodyFault, read_body, write_body};
 use wef_bookmark::Bookmark;
-use wef_envelope::actions::{ENUMERATE, ENUMERATE_RESPONSE, SUBSCRIBE};
+use wef_envelope::actions::{
+    ENUMERATE, ENUMERATE_RESPONSE, GET_STATUS, GET_STATUS_RESPONSE, RENEW, RENEW_RESPONSE,
+    SUBSCRIBE, SUBSCRIBE_RESPONSE, SUBSCRIPTION_END, UNSUBSCRIBE, UNSUBSCRIBE_RESPONSE,
+};
 use wef_envelope::{Envelope, from_node};
-use wef_eventing::{Offer, Subscribe};
+use wef_eventing::{EndStatus, Offer, Subscribe};
 use wef_query::QueryItem;
 
 /// What stands for `@` and a letter in the body of a message.
@@ -32,6 +36,10 @@ const PIECES: &[(char, &str)] = &[
         'q',
         "<QueryList><Query Path=\"application\"><Select>*</Select></Query></QueryList>",
     ),
+    (
+        'm',
+        "<e:SubscriptionManager><a:Address>http://schemas.xmlsoap.org/ws/2004/08/addressing/role/anonymous</a:Address><a:ReferenceProperties><e:Identifier>uuid:1</e:Identifier></a:ReferenceProperties></e:SubscriptionManager>",
+    ),
     ('r', "<n:EnumerateResponse><w:Items>"),
     ('R', "</w:Items></n:EnumerateResponse>"),
     (
@@ -42,6 +50,16 @@ const PIECES: &[(char, &str)] = &[
 
 /// What the body of a message says at the beginning of the year 2000: `ACTION BODY`.
 pub(crate) fn push_body(shown: &mut Text, line: &str) -> Result<(), AllocError> {
+    push_line(shown, false, line)
+}
+
+/// The body that is written for what such a message says.
+pub(crate) fn push_again(shown: &mut Text, line: &str) -> Result<(), AllocError> {
+    push_line(shown, true, line)
+}
+
+/// What a body says, or else its elements as they are written.
+fn push_line(shown: &mut Text, written: bool, line: &str) -> Result<(), AllocError> {
     let Some((action, body)) = line.split_once(' ') else {
         return shown.push_str("no message");
     };
@@ -50,7 +68,7 @@ pub(crate) fn push_body(shown: &mut Text, line: &str) -> Result<(), AllocError> 
         return shown.push_str("no document");
     };
     match &from_node(&root) {
-        Ok(envelope) => push_read(shown, envelope),
+        Ok(envelope) => push_read(shown, written, envelope),
         Err(_) => shown.push_str("no envelope"),
     }
 }
@@ -61,6 +79,14 @@ fn action_of(name: &str) -> &str {
         "Enumerate" => ENUMERATE,
         "EnumerateResponse" => ENUMERATE_RESPONSE,
         "Subscribe" => SUBSCRIBE,
+        "SubscribeResponse" => SUBSCRIBE_RESPONSE,
+        "Renew" => RENEW,
+        "RenewResponse" => RENEW_RESPONSE,
+        "GetStatus" => GET_STATUS,
+        "GetStatusResponse" => GET_STATUS_RESPONSE,
+        "Unsubscribe" => UNSUBSCRIBE,
+        "UnsubscribeResponse" => UNSUBSCRIBE_RESPONSE,
+        "SubscriptionEnd" => SUBSCRIPTION_END,
         _ => name,
     }
 }
@@ -100,14 +126,24 @@ fn piece_of(letter: char) -> &'static str {
     ""
 }
 
-fn push_read(shown: &mut Text, envelope: &Envelope) -> Result<(), AllocError> {
+fn push_read(shown: &mut Text, written: bool, envelope: &Envelope) -> Result<(), AllocError> {
     let Some(now) = Moment::of(946_684_800_000) else {
         return shown.push_str("no moment");
     };
     match &read_body(envelope, now) {
+        Ok(body) if written => push_elements(shown, body),
         Ok(body) => push_said(shown, body),
         Err(fault) => push_fault(shown, *fault),
     }
+}
+
+fn push_elements(shown: &mut Text, body: &Body) -> Result<(), AllocError> {
+    let elements = write_body(shown.alloc(), body)?;
+    shown.push_str("<s:Body>")?;
+    for element in elements.as_slice() {
+        push_element(shown, element)?;
+    }
+    shown.push_str("</s:Body>")
 }
 
 fn push_fault(shown: &mut Text, fault: BodyFault) -> Result<(), AllocError> {
@@ -129,7 +165,34 @@ fn push_said(shown: &mut Text, body: &Body) -> Result<(), AllocError> {
         Body::Enumerate => shown.push_str("enumerate"),
         Body::Offers(offers) => push_offers(shown, offers.as_slice()),
         Body::Subscribe(wish) => push_wish(shown, wish),
+        Body::Subscribed {
+            identifier,
+            expires,
+        } => push_subscribed(shown, identifier, *expires),
+        Body::Renew { expires } => push_number(shown, "renew; expires ", *expires),
+        Body::Renewed { expires } => push_number(shown, "renewed; expires ", *expires),
+        Body::GetStatus => shown.push_str("get status"),
+        Body::StatusIs { expires } => push_number(shown, "status; expires ", *expires),
+        Body::Unsubscribe => shown.push_str("unsubscribe"),
+        Body::Unsubscribed => shown.push_str("unsubscribed"),
+        Body::Ended { identifier, status } => push_end(shown, identifier, *status),
     }
+}
+
+fn push_subscribed(shown: &mut Text, identifier: &Text, expires: u64) -> Result<(), AllocError> {
+    shown.push_str("subscribed ")?;
+    shown.push_str(identifier.as_str())?;
+    push_number(shown, "; expires ", expires)
+}
+
+fn push_end(shown: &mut Text, identifier: &Text, status: EndStatus) -> Result<(), AllocError> {
+    shown.push_str("ended ")?;
+    shown.push_str(identifier.as_str())?;
+    shown.push_str(match status {
+        EndStatus::DeliveryFailure => "; delivery failure",
+        EndStatus::SourceShuttingDown => "; source shutting down",
+        EndStatus::SourceCanceling => "; source canceling",
+    })
 }
 
 fn push_offers(shown: &mut Text, offers: &[Offer]) -> Result<(), AllocError> {

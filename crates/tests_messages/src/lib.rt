@@ -15,7 +15,7 @@ mod subscriptions_written;
 mod trees;
 mod wide;
 
-use bodies::push_body;
+use bodies::{push_again, push_body};
 use envelopes::{push_answered, push_document, push_headers, push_written};
 use faults::{push_fault, push_named};
 use ids::{push_id, push_value};
@@ -45,6 +45,8 @@ pub fn push_answer(shown: &mut Text, task: &str, line: &str) -> Result<bool, All
         "name" => push_named(shown, line),
         // What the body of a message says.
         "body" => push_body(shown, line),
+        // The body that is written for what the body of a message says.
+        "body written" => push_again(shown, line),
         // What the bytes of a document say.
         "subscription" => subscriptions::push_document(shown, line),
         // What a document of a subscription that sources begin says, with edits.
