@@ -21,18 +21,18 @@ use Rattle.wef_ports.specs.Telling as ports
 use Rattle.wef_source.specs.Answers as source
 use Rattle.wef_source.specs.Answers.{AnswersTo, RefusesStart, Sends, WhereThere}
 use Rattle.wef_source.specs.Calls.{start_effect}
-use Rattle.wef_source.specs.Faults.{source_answer, source_store}
+use Rattle.wef_building.specs.Faults.{source_answer, source_store}
 use Rattle.wef_source.specs.Machine.{End, is_spent, start_of}
 use Rattle.wef_source.specs.Sessions.{names_of, session_of}
-use Rattle.wef_source.specs.declared.faults.SourceFault.{SourceFault}
-use Rattle.wef_source.specs.declared.faults.SourceFault.TheVariants as faults
+use Rattle.wef_building.specs.declared.faults.SourceFault.{SourceFault}
+use Rattle.wef_building.specs.declared.faults.SourceFault.TheVariants as faults
 use Rattle.wef_source.specs.declared.messages.Delivery.{Delivery}
 use Rattle.wef_source.specs.declared.messages.Moved as moved
 use Rattle.wef_source.specs.declared.messages.Moved.TheVariants as moves
 use Rattle.wef_source.specs.declared.messages.Poll.TheVariants as polls
 use Rattle.wef_source.specs.declared.messages.Reply as reply
 use Rattle.wef_source.specs.declared.messages.Reply.TheVariants as replies
-use Rattle.wef_source.specs.declared.sessions.Session.{Session}
+use Rattle.wef_building.specs.declared.sessions.Session.{Session}
 use Rattle.wef_source_log.specs.Answers.{is_boot_full, next_boot}
 use Rattle.wef_source_log.specs.Forms.{AreFormed}
 use Rattle.wef_source_log.specs.LogWindow as log

@@ -12,10 +12,10 @@ use Rattle.wef_keeper.specs.Calls.{fails}
 use Rattle.wef_keeper.specs.Keeping.{Store}
 use Rattle.wef_ports.specs.Telling as ports
 use Rattle.wef_source.specs.Answers.{RefusesAsk, RefusesStart}
-use Rattle.wef_source.specs.Faults.{source_store}
+use Rattle.wef_building.specs.Faults.{source_store}
 use Rattle.wef_source.specs.Machine.{End}
-use Rattle.wef_source.specs.declared.faults.SourceFault.{SourceFault}
-use Rattle.wef_source.specs.declared.faults.SourceFault.TheVariants as faults
+use Rattle.wef_building.specs.declared.faults.SourceFault.{SourceFault}
+use Rattle.wef_building.specs.declared.faults.SourceFault.TheVariants as faults
 use Rattle.wef_source_log.specs.Forms.{AreFormed}
 use Rattle.wef_commands.specs.Endings.{Told}
 use Rattle.wef_commands.specs.Refusals.{source_ending}

@@ -11,7 +11,7 @@ use Rattle.wef_base.specs.declared.tree.Element.{Element}
 use Rattle.wef_event.specs.Events.{Event, event_in, event_of, event_or_none}
 use Rattle.wef_query.specs.Selected.{is_selected}
 use Rattle.wef_query.specs.declared.QueryList.{QueryList}
-use Rattle.wef_source.specs.Selecting.{in_tree, is_wanted}
+use Rattle.wef_building.specs.Selecting.{in_tree, is_wanted}
 use Rattle.wef_tree_reading.specs.Documents.{tree_of}
 use Rattle.wef_commands.specs.Checking.{Checks, EndsUnanswered, HasAnswers, answer_by, answer_to, answers_of, begun, checked, lines_of}
 use Rattle.wef_commands.specs.Endings.{Told}

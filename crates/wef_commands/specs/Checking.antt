@@ -8,7 +8,7 @@ use Rattle.wef_event.specs.Events.{Event, event_in, event_of, event_or_none}
 use Rattle.wef_query.specs.Selected.{is_selected}
 use Rattle.wef_query.specs.declared.QueryList.{QueryList}
 use Rattle.wef_lines.specs.Documents.{list_in}
-use Rattle.wef_source.specs.Selecting.{is_wanted}
+use Rattle.wef_building.specs.Selecting.{is_wanted}
 use Rattle.wef_commands.specs.Adding.{IsReadAs}
 use Rattle.wef_commands.specs.Endings.{HasFailed, IsUnwritten, Told}
 use Rattle.wef_commands.specs.Streams.{WritesPart}

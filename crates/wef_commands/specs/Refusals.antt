@@ -1,10 +1,10 @@
 -- The endings that tell of refusals.
+use Rattle.wef_building.specs.declared.faults.SourceFault.{SourceFault}
+use Rattle.wef_building.specs.declared.faults.SourceFault.TheVariants as source
 use Rattle.wef_collector_rows.specs.declared.faults.CollectorFault.{CollectorFault}
 use Rattle.wef_collector_rows.specs.declared.faults.CollectorFault.TheVariants as collector
 use Rattle.wef_keeper.specs.declared.keeping.KeeperFault.{KeeperFault}
 use Rattle.wef_keeper.specs.declared.keeping.KeeperFault.TheVariants as keeper
-use Rattle.wef_source.specs.declared.faults.SourceFault.{SourceFault}
-use Rattle.wef_source.specs.declared.faults.SourceFault.TheVariants as source
 use Rattle.wef_source_log.specs.declared.faults.LogFault.{LogFault}
 use Rattle.wef_source_log.specs.declared.faults.LogFault.TheVariants as log
 use Rattle.wef_commands.specs.declared.ending.Ending.{Ending}

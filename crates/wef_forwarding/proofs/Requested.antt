@@ -5,8 +5,8 @@ use Rattle.wef_ids.specs.declared.MessageId.{MessageId}
 use Rattle.wef_ports.specs.Telling.{Told}
 use Rattle.wef_source.specs.Answers.{Asks, RefusesAsk}
 use Rattle.wef_source.specs.Machine.{End}
-use Rattle.wef_source.specs.declared.faults.SourceFault.{SourceFault}
-use Rattle.wef_source.specs.declared.faults.SourceFault.TheVariants as faults
+use Rattle.wef_building.specs.declared.faults.SourceFault.{SourceFault}
+use Rattle.wef_building.specs.declared.faults.SourceFault.TheVariants as faults
 use Rattle.wef_source.specs.declared.messages.Delivery.{Delivery}
 use Rattle.wef_source.specs.declared.messages.Reply.{Reply}
 use Rattle.wef_forwarding.specs.Asking.{EndsAsk, Enumerates, HearsEnvelope, enumerate_request}

@@ -14,15 +14,15 @@ use Rattle.wef_source.specs.Answers.{AnswersTo, IsAddressed, Loses, RefusesAnswe
 use Rattle.wef_source.specs.Machine.{End, lost_in, next_id}
 use Rattle.wef_source.specs.Serving.{CanBeServed, HasKeptSessions}
 use Rattle.wef_source.specs.Sessions.{first_where, is_named, sending, session_of, settled, waits_for, with_changed}
-use Rattle.wef_source.specs.declared.faults.SourceFault.{SourceFault}
-use Rattle.wef_source.specs.declared.faults.SourceFault.TheVariants.{NoMemory, Failed, Full, TooLong, NotAsked, UnknownSubscription, Spent}
+use Rattle.wef_building.specs.declared.faults.SourceFault.{SourceFault}
+use Rattle.wef_building.specs.declared.faults.SourceFault.TheVariants.{NoMemory, Failed, Full, TooLong, NotAsked, UnknownSubscription, Spent}
 use Rattle.wef_source.specs.declared.messages.Delivery.{Delivery}
 use Rattle.wef_source.specs.declared.messages.Moved.{Moved}
 use Rattle.wef_source.specs.declared.messages.Moved.TheVariants as moves
 use Rattle.wef_source.specs.declared.messages.Poll.TheVariants.{Send}
 use Rattle.wef_source.specs.declared.messages.Reply.{Reply}
 use Rattle.wef_source.specs.declared.messages.Reply.TheVariants as replies
-use Rattle.wef_source.specs.declared.sessions.Session.{Session}
+use Rattle.wef_building.specs.declared.sessions.Session.{Session}
 use Rattle.wef_xml.specs.Good.{IsXmlText}
 use Rattle.wef_forwarding.specs.Forwarding.{IsAwaited, outcome_of, replied_in}
 use Rattle.wef_forwarding.specs.declared.forwarding.Exchange.TheVariants.{Acked, Refused}

@@ -13,8 +13,8 @@ use Rattle.wef_ids.specs.declared.MessageId.{MessageId}
 use Rattle.wef_ports.specs.Telling.{Told}
 use Rattle.wef_source.specs.Answers.{Asks, RefusesAsk}
 use Rattle.wef_source.specs.Machine.{End}
-use Rattle.wef_source.specs.declared.faults.SourceFault.{SourceFault}
-use Rattle.wef_source.specs.declared.faults.SourceFault.TheVariants as faults
+use Rattle.wef_building.specs.declared.faults.SourceFault.{SourceFault}
+use Rattle.wef_building.specs.declared.faults.SourceFault.TheVariants as faults
 
 -- the path at which a collector offers subscriptions
 unfoldable pub manager_path : List ℕ

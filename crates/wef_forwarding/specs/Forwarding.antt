@@ -12,8 +12,8 @@ use Rattle.wef_source.specs.Answers.{MayRefusePoll, Polls, RefusesPoll, Sends, w
 use Rattle.wef_source.specs.Judged.{JudgesPoll}
 use Rattle.wef_source.specs.Machine.{End, acknowledged_in, lost_in, refused_in}
 use Rattle.wef_source.specs.Sessions.{session_of}
-use Rattle.wef_source.specs.declared.faults.SourceFault.{SourceFault}
-use Rattle.wef_source.specs.declared.faults.SourceFault.TheVariants as faults
+use Rattle.wef_building.specs.declared.faults.SourceFault.{SourceFault}
+use Rattle.wef_building.specs.declared.faults.SourceFault.TheVariants as faults
 use Rattle.wef_source.specs.declared.messages.Delivery.{Delivery}
 use Rattle.wef_source.specs.declared.messages.Poll.{Poll}
 use Rattle.wef_source.specs.declared.messages.Poll.TheVariants as polls

@@ -8,7 +8,7 @@ ghost use Rattle.wef_front.specs.Sending.{CanBeWritten};
 ghost use Rattle.wef_keeper.specs.Access.{OpensAndReads};
 ghost use Rattle.wef_keeper.specs.Calls.{fails};
 ghost use Rattle.wef_source.specs.Answers.{may_send};
-ghost use Rattle.wef_source.specs.Faults.{source_store};
+ghost use Rattle.wef_building.specs.Faults.{source_store};
 ghost use Rattle.wef_source.specs.Machine.{lost_in};
 ghost use Rattle.wef_source.specs.Sessions.{session_of};
 ghost use Rattle.wef_source_log.specs.Forms.{AreFormed};

@@ -19,8 +19,8 @@ use Rattle.wef_collector.specs.Laws.{held_after_items, held_as, is_new}
 use Rattle.wef_keeper.specs.Rows.{Rows}
 use Rattle.wef_keeper.specs.declared.keys.Cell.{Cell}
 use Rattle.wef_query.specs.declared.QueryList.{QueryList}
-use Rattle.wef_source.specs.Fits.{event_at, is_event_at, text_of}
-use Rattle.wef_source.specs.Wanted.{EndBy, Range, in_ranges, selected_at, wanted}
+use Rattle.wef_building.specs.Fits.{event_at, is_event_at, text_of}
+use Rattle.wef_building.specs.Wanted.{EndBy, Range, in_ranges, selected_at, wanted}
 use Rattle.wef_source_log.specs.Histories.{History}
 use Rattle.wef_machine.specs.Safe.{wanted_events}
 use Rattle.wef_machine.proofs.Spared.{and_no}

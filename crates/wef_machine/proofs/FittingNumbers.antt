@@ -19,7 +19,7 @@ use Rattle.wef_bookmark.specs.Order.{Marks, number_at}
 use Rattle.wef_collector.proofs.Hits.{same_self}
 use Rattle.wef_query.specs.Selected.{channels_of}
 use Rattle.wef_query.specs.declared.QueryList.{QueryList}
-use Rattle.wef_source.specs.Fits.{Fits, FitsChannel}
+use Rattle.wef_building.specs.Fits.{Fits, FitsChannel}
 use Rattle.wef_source_log.specs.Histories.{Histories, History, history}
 use Rattle.wef_machine.proofs.SaidEvents.{IsSaidItem}
 use Rattle.wef_collector.specs.FormsStay.{IsSoundBatch, IsSoundItem}

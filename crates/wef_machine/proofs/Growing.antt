@@ -14,12 +14,12 @@ use Rattle.wef_eventing.specs.declared.subscriptions.Subscription.{Subscription}
 use Rattle.wef_keeper.specs.Rows.{Rows}
 use Rattle.wef_query.specs.declared.QueryList.{QueryList}
 use Rattle.wef_source_log.specs.Histories.{Histories, History, history}
-use Rattle.wef_source.specs.Fits.{Fits, FitsChannel, ranges_in}
+use Rattle.wef_building.specs.Fits.{Fits, FitsChannel, ranges_in}
 use Rattle.wef_source.specs.Machine.{End}
-use Rattle.wef_source.specs.Wanted.{Range, in_ranges, selected_at, wanted}
+use Rattle.wef_building.specs.Wanted.{Range, in_ranges, selected_at, wanted}
 use Rattle.wef_source.specs.declared.messages.Delivery.{Delivery}
-use Rattle.wef_source.specs.declared.sessions.Outstanding.{Outstanding}
-use Rattle.wef_source.specs.declared.sessions.Session.{Session}
+use Rattle.wef_building.specs.declared.sessions.Outstanding.{Outstanding}
+use Rattle.wef_building.specs.declared.sessions.Session.{Session}
 use Rattle.wef_machine.specs.Kept.{AreTerms, IsAckKept, IsBehind, IsDelivery, IsMessageKept, IsOffered, IsRunningKept, IsServed, IsSourceKept, WaitsFor, WasDrawn, WhereDeclared, last_id}
 use Rattle.wef_machine.specs.Laws.{FittingRises}
 use Rattle.wef_collector.specs.Laws.{IsReached}

@@ -10,8 +10,8 @@ use Rattle.wef_batch.specs.declared.items.Batch.{Batch}
 use Rattle.wef_batch.specs.declared.items.Item.{Item}
 use Rattle.wef_batch.specs.declared.items.Item.TheVariants.{Event, Dropped, Loose}
 use Rattle.wef_batch.proofs.Reached.{holds_in, items_are_reached}
-use Rattle.wef_source.specs.Fits.{ranges_in}
-use Rattle.wef_source.specs.Wanted.{EndBy}
+use Rattle.wef_building.specs.Fits.{ranges_in}
+use Rattle.wef_building.specs.Wanted.{EndBy}
 use Rattle.wef_machine.proofs.Numbered.{le_is}
 
 pub in_order : (channels : List (List ℕ)) (batch : Batch) (c : List ℕ) → is_well_formed channels batch ≡ true → is_in channels c ≡ true → rises c None batch.items ≡ true

@@ -20,10 +20,10 @@ use Rattle.wef_documents.specs.Written.{document_text}
 use Rattle.wef_eventing.specs.declared.subscriptions.Subscription.{Subscription}
 use Rattle.wef_keeper.specs.Rows.{Rows}
 use Rattle.wef_replay.specs.Good.{is_source, is_subscription}
-use Rattle.wef_source.specs.Building.{built}
-use Rattle.wef_source.specs.Fits.{Fits}
-use Rattle.wef_source.specs.Laws.{AreWithin}
-use Rattle.wef_source.specs.declared.sessions.Session.{Session}
+use Rattle.wef_building.specs.Building.{built}
+use Rattle.wef_building.specs.Fits.{Fits}
+use Rattle.wef_building.specs.Laws.{AreWithin}
+use Rattle.wef_building.specs.declared.sessions.Session.{Session}
 use Rattle.wef_source_log.specs.Answers.{is_boot_full, is_full, next_text}
 use Rattle.wef_source_log.specs.Forms as log
 use Rattle.wef_source_log.specs.Histories.{Histories, extended, history}

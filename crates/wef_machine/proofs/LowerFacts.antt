@@ -12,7 +12,7 @@ use Rattle.wef_event.proofs.NumberedTrees.{numbered_is_read}
 use Rattle.wef_keeper.specs.Rows.{Rows, row_of}
 use Rattle.wef_keeper.specs.declared.keys.Cell.{Cell}
 use Rattle.wef_replay.specs.Good.{is_source, is_subscription}
-use Rattle.wef_source.proofs.Built.{built_fit}
+use Rattle.wef_building.proofs.Built.{built_fit}
 use Rattle.wef_source_log.proofs.Cells.{extends, last_cell-number, last_in, nothing_is_empty, starts_keep}
 use Rattle.wef_source_log.proofs.Contents.{windows_read}
 use Rattle.wef_source_log.proofs.Forming.{forms_stay as log_forms, number_within}

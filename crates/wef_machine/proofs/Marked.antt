@@ -20,8 +20,8 @@ use Rattle.wef_collector_rows.specs.Keys.{bookmark_key, held_key, loose_key, mar
 use Rattle.wef_collector.specs.Taken.{item_changes, loose_changes, move_changes, put, reach_changes, taken}
 use Rattle.wef_keeper.specs.Rows.{found_after, Rows}
 use Rattle.wef_keeper.specs.declared.keys.Cell.{Cell}
-use Rattle.wef_source.specs.Fits.{ranges_in}
-use Rattle.wef_source.specs.Wanted.{AreRising, EndBy, Range}
+use Rattle.wef_building.specs.Fits.{ranges_in}
+use Rattle.wef_building.specs.Wanted.{AreRising, EndBy, Range}
 use Rattle.wef_machine.specs.Safe.{marks_of, range_of_row}
 use Rattle.std.proofs.lemmas.List.{map-append}
 use Rattle.wef_machine.proofs.Numbered.{above_zero, below, find-append, find_above, find_numbered, key_cmp_number, lt_is, no_tie, no_tie_back, not_below, numbered, numbered_sorted, own_row, rows_numbered, same_numbers, tie_is}

@@ -8,8 +8,8 @@ use Rattle.wef_batch.specs.Reach.{later, span_in}
 use Rattle.wef_batch.specs.WellFormed.{follows, rises}
 use Rattle.wef_batch.specs.declared.items.Item.{Item}
 use Rattle.wef_batch.specs.declared.items.Item.TheVariants.{Event, Dropped, Loose}
-use Rattle.wef_source.specs.Fits.{ranges_in}
-use Rattle.wef_source.specs.Wanted.{AreRising, EndBy, Range, in_ranges}
+use Rattle.wef_building.specs.Fits.{ranges_in}
+use Rattle.wef_building.specs.Wanted.{AreRising, EndBy, Range, in_ranges}
 use Rattle.wef_machine.proofs.Numbered.{le_is, lt_is, not_below}
 
 -- what of the ranges lies above a number

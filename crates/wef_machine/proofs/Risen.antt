@@ -28,16 +28,16 @@ use Rattle.wef_replay_values.specs.declared.end_name.EndName.{EndName}
 use Rattle.wef_replay_values.specs.declared.end_name.EndName.TheVariants as ends
 use Rattle.wef_replay.specs.declared.lines.Line.{Line}
 use Rattle.wef_replay.specs.declared.lines.Line.TheVariants.{Subscribe, End, Batch, Source, Write, WriteXml, Ask, Poll, Deliver, Back, Lost, Crash, Fail, Stop, Calm, Show, Print}
-use Rattle.wef_source.proofs.Built.{SaysAbove, built_above}
+use Rattle.wef_building.proofs.Built.{SaysAbove, built_above}
 use Rattle.wef_source.proofs.InOrder.{alone_of_name}
 use Rattle.wef_source.specs.Answers.{waiting_for}
-use Rattle.wef_source.specs.Building.{built}
+use Rattle.wef_building.specs.Building.{built}
 use Rattle.wef_source.specs.Machine.{End as Memory}
 use Rattle.wef_source.specs.Machine.{acknowledged_in, adopted, asked, delivery_of, is_idle, is_spent, is_unreachable, lost_in, next_id, refused_in, sent as sent_by, start_of}
 use Rattle.wef_source.specs.Sessions.{acknowledged, is_named, is_outstanding, moved_by, sending, session_from, session_of, settled, waits_for, with_changed, with_channels, with_offered, with_offers, without}
 use Rattle.wef_source.specs.declared.messages.Delivery.{Delivery}
-use Rattle.wef_source.specs.declared.sessions.Outstanding.{Outstanding}
-use Rattle.wef_source.specs.declared.sessions.Session.{Session}
+use Rattle.wef_building.specs.declared.sessions.Outstanding.{Outstanding}
+use Rattle.wef_building.specs.declared.sessions.Session.{Session}
 use Rattle.wef_source_log.specs.Answers.{is_boot_full, next_text, start_effect, write_effect}
 use Rattle.wef_source_log.specs.LogWindow.{boot_of, start_changes}
 use Rattle.wef_source_log.specs.declared.faults.LogFault.{LogFault}

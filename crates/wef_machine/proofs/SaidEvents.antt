@@ -13,9 +13,9 @@ use Rattle.wef_event.specs.Events.{Event, is_event}
 use Rattle.wef_event.specs.Numbering.{NumberedEventsAreRead, numbered, numbered_text, text_or_nothing}
 use Rattle.wef_keeper.specs.Rows.{Rows}
 use Rattle.wef_query.specs.declared.QueryList.{QueryList}
-use Rattle.wef_source.specs.Building.{built, candidates_in, channel_candidates, fitting, has_room, item_of, room_of, session_channels, sized_item, unread}
-use Rattle.wef_source.specs.Selecting.{is_wanted}
-use Rattle.wef_source.specs.declared.sessions.Session.{Session}
+use Rattle.wef_building.specs.Building.{built, candidates_in, channel_candidates, fitting, has_room, item_of, room_of, session_channels, sized_item, unread}
+use Rattle.wef_building.specs.Selecting.{is_wanted}
+use Rattle.wef_building.specs.declared.sessions.Session.{Session}
 use Rattle.wef_source_log.specs.Histories.{AreEvents, Histories, History, extended, history, text_at}
 use Rattle.wef_source_log.specs.Laws.{ReadsWindow, numbered_from}
 use Rattle.wef_source_log.specs.LogWindow.{first_for, first_of, records_after}

@@ -27,11 +27,11 @@ use Rattle.wef_keeper.specs.Rows.{Rows, row_of}
 use Rattle.wef_keeper.specs.declared.keys.Cell.{Cell}
 use Rattle.wef_replay.proofs.GoodNames.{kept_channel}
 use Rattle.wef_replay.specs.Good.{is_channel, is_one}
-use Rattle.wef_source.specs.Building.{built}
+use Rattle.wef_building.specs.Building.{built}
 use Rattle.wef_source.specs.Machine.{End, delivery_of, is_spent, most_drawn, next_id, sent}
 use Rattle.wef_source.specs.declared.messages.Delivery.{Delivery}
 use Rattle.wef_source.specs.Sessions.{is_named, session_of}
-use Rattle.wef_source.specs.declared.sessions.Session.{Session}
+use Rattle.wef_building.specs.declared.sessions.Session.{Session}
 use Rattle.wef_source_log.proofs.Forming.{number_within}
 use Rattle.wef_source_log.specs.Forms as log
 use Rattle.wef_source_log.specs.Keys.{boot_key}

@@ -19,8 +19,8 @@ use Rattle.wef_keeper.specs.Rows.{Rows}
 use Rattle.wef_query.specs.Selected.{channels_of}
 use Rattle.wef_source.specs.Sessions.{acknowledged, first_where, is_outstanding, moved_by, placed, session_from, settled, waits_for, with_changed, with_channels, with_offered, with_offers, with_session, without}
 use Rattle.wef_source.specs.declared.messages.Delivery.{Delivery}
-use Rattle.wef_source.specs.declared.sessions.Outstanding.{Outstanding}
-use Rattle.wef_source.specs.declared.sessions.Session.{Session}
+use Rattle.wef_building.specs.declared.sessions.Outstanding.{Outstanding}
+use Rattle.wef_building.specs.declared.sessions.Session.{Session}
 use Rattle.wef_machine.specs.Kept.{AreTerms, IsAckKept, IsBehind, IsOffered, IsServed, WaitsFor}
 use Rattle.wef_machine.specs.Safe.{IsAcknowledged, WasSent}
 use Rattle.wef_machine.specs.declared.messages.Message.{Message}

@@ -32,15 +32,15 @@ use Rattle.wef_source_log.specs.LogWindow.{IsWindow, boot_of, capacity_of, last_
 use Rattle.wef_source_log.specs.declared.faults.LogFault.{LogFault}
 use Rattle.wef_source_log.specs.declared.faults.LogFault.TheVariants as log_faults
 use Rattle.wef_source.specs.Answers.{waiting_for}
-use Rattle.wef_source.specs.Building.{built}
-use Rattle.wef_source.specs.Fits.{Fits}
-use Rattle.wef_source.specs.Laws.{AreWithin}
+use Rattle.wef_building.specs.Building.{built}
+use Rattle.wef_building.specs.Fits.{Fits}
+use Rattle.wef_building.specs.Laws.{AreWithin}
 use Rattle.wef_source.specs.Machine.{End, acknowledged_in, adopted, asked, delivery_of, is_idle, is_spent, is_unreachable, lost_in, most_drawn, next_id, refused_in, sent, start_of}
 use Rattle.wef_source.proofs.InOrder.{acknowledged_name, changed_in_order, none_in_order, sending_name, settled_name, without_in_order}
 use Rattle.wef_source.proofs.Placements.{with_offers_in_order}
 use Rattle.wef_source.specs.Sessions.{acknowledged, is_named, names_of, sending, session_of, settled, waits_for, with_changed, without}
-use Rattle.wef_source.specs.declared.sessions.Outstanding.{Outstanding}
-use Rattle.wef_source.specs.declared.sessions.Session.{Session}
+use Rattle.wef_building.specs.declared.sessions.Outstanding.{Outstanding}
+use Rattle.wef_building.specs.declared.sessions.Session.{Session}
 use Rattle.wef_machine.specs.Arming.{armed_after, committed, fate, fate_of, is_done, is_stopped}
 use Rattle.wef_machine.specs.Deliveries.{acknowledged_by, after_ack, after_fault, after_offers, end_at, refused_by}
 use Rattle.wef_machine.specs.Kept.{IsAckKept, IsChannelKept, IsDelivery, IsEndKept, IsKept, IsOffered, IsPairKept, IsRunningKept, IsServed, IsSourceKept, WasDrawn, last_id}

@@ -30,9 +30,9 @@ use Rattle.wef_keeper.specs.declared.keys.Cell.{Cell}
 use Rattle.wef_keeper.specs.declared.keys.Depth.TheVariants.{Channel}
 use Rattle.wef_keeper.specs.declared.keys.Key.{Key}
 use Rattle.wef_query.specs.declared.QueryList.{QueryList}
-use Rattle.wef_source.specs.Building.{room_of}
-use Rattle.wef_source.specs.Fits.{FitsChannel, FitsUpTo, event_at, ranges_in}
-use Rattle.wef_source.specs.Wanted.{AreRising, EndBy, IsLost, Range, Settings, in_ranges, is_too_large}
+use Rattle.wef_building.specs.Building.{room_of}
+use Rattle.wef_building.specs.Fits.{FitsChannel, FitsUpTo, event_at, ranges_in}
+use Rattle.wef_building.specs.Wanted.{AreRising, EndBy, IsLost, Range, Settings, in_ranges, is_too_large}
 use Rattle.wef_source_log.specs.Histories.{History, history}
 use Rattle.wef_machine.specs.Laws.{FittingBatchesAreSafe}
 use Rattle.wef_machine.specs.Safe.{IsPairKey, IsPairSafe, IsUntouched, marks_of, range_of_row, settings_of, wanted_events}

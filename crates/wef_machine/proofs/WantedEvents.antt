@@ -13,7 +13,7 @@ use Rattle.std.specs.Ordering.{is_eq, nat_cmp}
 use Rattle.std.specs.Prelude.{T, slice_get}
 use Rattle.wef_event.specs.Events.{Event}
 use Rattle.wef_query.specs.declared.QueryList.{QueryList}
-use Rattle.wef_source.specs.Wanted.{Range, in_ranges, selected_at, selected_text, wanted}
+use Rattle.wef_building.specs.Wanted.{Range, in_ranges, selected_at, selected_text, wanted}
 use Rattle.wef_source_log.specs.Histories.{History, text_at}
 use Rattle.wef_machine.specs.Safe.{event_with, numbers_from, wanted_event, wanted_events}
 use Rattle.wef_machine.proofs.Numbered.{below, find_above, le_is, lt_is, no_tie_back, same_numbers}

@@ -25,11 +25,11 @@ use Rattle.wef_source_log.specs.Histories.{AreEvents, history}
 use Rattle.wef_source_log.specs.Forms as log
 use Rattle.wef_source_log.specs.LogWindow.{IsWindow, boot_of}
 use Rattle.wef_source.specs.Machine.{End, most_drawn}
-use Rattle.wef_source.specs.Fits.{Fits}
+use Rattle.wef_building.specs.Fits.{Fits}
 use Rattle.wef_source.specs.Sessions.{names_of}
 use Rattle.wef_source.specs.declared.messages.Delivery.{Delivery}
-use Rattle.wef_source.specs.declared.sessions.Outstanding.{Outstanding}
-use Rattle.wef_source.specs.declared.sessions.Session.{Session}
+use Rattle.wef_building.specs.declared.sessions.Outstanding.{Outstanding}
+use Rattle.wef_building.specs.declared.sessions.Session.{Session}
 use Rattle.wef_machine.specs.Safe.{IsAcknowledged, IsPairSafe, IsUntouched, WasSent, settings_of, subscription_at}
 use Rattle.wef_machine.specs.States.{Slot, Slots, State}
 use Rattle.wef_machine.specs.declared.messages.Message.{Message}

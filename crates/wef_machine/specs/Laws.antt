@@ -17,7 +17,7 @@ use Rattle.wef_eventing.specs.Addresses.{source_in, subscription_in}
 use Rattle.wef_eventing.specs.declared.subscriptions.Subscription.{Subscription}
 use Rattle.wef_keeper.specs.Rows.{Rows}
 use Rattle.wef_query.specs.declared.QueryList.{QueryList}
-use Rattle.wef_source.specs.Fits.{Fits}
+use Rattle.wef_building.specs.Fits.{Fits}
 use Rattle.wef_source.specs.declared.messages.Delivery.{Delivery}
 use Rattle.wef_source_log.specs.Histories.{Histories, history}
 use Rattle.wef_replay.specs.declared.lines.Line.{Line}

@@ -11,12 +11,12 @@ use Rattle.wef_eventing.specs.Addresses.{subscription_in}
 use Rattle.wef_eventing.specs.declared.offers.Offer.{Offer}
 use Rattle.wef_replay.specs.declared.lines.Line.{Line}
 use Rattle.wef_replay.specs.declared.lines.Line.TheVariants.{Deliver, Back}
-use Rattle.wef_source.specs.Fits.{event_at, ranges_in}
+use Rattle.wef_building.specs.Fits.{event_at, ranges_in}
 use Rattle.wef_source.specs.Machine.{End}
 use Rattle.wef_source.specs.Sessions.{is_named}
-use Rattle.wef_source.specs.Wanted.{in_ranges}
+use Rattle.wef_building.specs.Wanted.{in_ranges}
 use Rattle.wef_source.specs.declared.messages.Delivery.{Delivery}
-use Rattle.wef_source.specs.declared.sessions.Session.{Session}
+use Rattle.wef_building.specs.declared.sessions.Session.{Session}
 use Rattle.wef_machine.specs.Deliveries.{message_at, number_back}
 use Rattle.wef_machine.specs.Safe.{WasSent}
 use Rattle.wef_machine.specs.States.{Slot, State, slot_of, start}

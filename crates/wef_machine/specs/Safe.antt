@@ -25,7 +25,7 @@ use Rattle.wef_keeper.specs.declared.keys.Key.{Key}
 use Rattle.wef_keeper.specs.declared.keys.Row.{Row}
 use Rattle.wef_query.specs.declared.QueryList.{QueryList}
 use Rattle.wef_source_log.specs.Histories.{Histories, History, history}
-use Rattle.wef_source.specs.Wanted.{AreRising, EndBy, IsLost, Range, Settings, in_ranges, wanted}
+use Rattle.wef_building.specs.Wanted.{AreRising, EndBy, IsLost, Range, Settings, in_ranges, wanted}
 use Rattle.wef_source.specs.declared.messages.Delivery.{Delivery}
 use Rattle.wef_machine.specs.declared.messages.Message.{Message}
 use Rattle.wef_machine.specs.declared.messages.Message.TheVariants.{Ack, Events}

@@ -13,7 +13,7 @@ use Rattle.wef_source_log.specs.declared.faults.LogFault as the_log_fault
 use Rattle.wef_source_log.specs.declared.faults.LogFault.TheVariants as log_faults
 use Rattle.wef_source.specs.Machine.{End, asked, delivery_of, is_idle, is_spent, lost_in, next_id, sent, start_of}
 use Rattle.wef_source.specs.Sessions.{session_of}
-use Rattle.wef_source.specs.declared.sessions.Session.{Session}
+use Rattle.wef_building.specs.declared.sessions.Session.{Session}
 use Rattle.wef_machine.specs.Arming.{fate, is_kept}
 use Rattle.wef_machine.specs.Places.{Place, commits, new_place, opened, opening}
 use Rattle.wef_lines.specs.Printed.{name_line}

@@ -28,7 +28,7 @@ use Rattle.wef_source.specs.declared.messages.Moved as moved
 use Rattle.wef_source.specs.declared.messages.Moved.TheVariants as moves
 use Rattle.wef_source.specs.declared.messages.Reply as reply
 use Rattle.wef_source.specs.declared.messages.Reply.TheVariants as replies
-use Rattle.wef_source.specs.declared.sessions.Session.{Session}
+use Rattle.wef_building.specs.declared.sessions.Session.{Session}
 use Rattle.wef_places.proofs.Written.{opened_alike}
 use Rattle.wef_places.specs.Counted.{counted, is_open}
 use Rattle.wef_places.specs.Places.{UsedAs, end_in, running_with}

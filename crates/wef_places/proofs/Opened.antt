@@ -3,9 +3,9 @@ use Rattle.std.proofs.Common.{◌≡◌, ℕ, Bool, true, false, List, [], ◌�
 use Rattle.wef_source.specs.Answers.{RefusesLost}
 use Rattle.wef_source.specs.Machine.{End, lost_in}
 use Rattle.wef_source.specs.Sessions.{first_where, is_named, settled, with_changed}
-use Rattle.wef_source.specs.declared.faults.SourceFault.{SourceFault}
-use Rattle.wef_source.specs.declared.faults.SourceFault.TheVariants.{UnknownSubscription}
-use Rattle.wef_source.specs.declared.sessions.Session.{Session}
+use Rattle.wef_building.specs.declared.faults.SourceFault.{SourceFault}
+use Rattle.wef_building.specs.declared.faults.SourceFault.TheVariants.{UnknownSubscription}
+use Rattle.wef_building.specs.declared.sessions.Session.{Session}
 
 -- changing the first session that passes changes nothing where none does
 unchanged : (test : Session → Bool) (change : Session → Session) (ss : List Session) → first_where test ss ≡ None → with_changed test change ss ≡ ss

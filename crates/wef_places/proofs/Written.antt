@@ -10,9 +10,9 @@ use Rattle.wef_keeper.specs.Rows.{Rows}
 use Rattle.wef_keeper.specs.declared.keys.Change.{Change}
 use Rattle.wef_keeper.specs.declared.mem_keeper.MemKeeper.{MemKeeper}
 use Rattle.wef_source.specs.Calls as source
-use Rattle.wef_source.specs.Faults.{source_answer, source_store}
+use Rattle.wef_building.specs.Faults.{source_answer, source_store}
 use Rattle.wef_source.specs.Machine.{End, start_of}
-use Rattle.wef_source.specs.declared.faults.SourceFault.{SourceFault}
+use Rattle.wef_building.specs.declared.faults.SourceFault.{SourceFault}
 use Rattle.wef_source.specs.declared.source.SourceEnd.{SourceEnd}
 use Rattle.wef_source_log.specs.Answers as log
 use Rattle.wef_source_log.specs.Answers.{is_full, next_boot, next_number, next_text, write_effect}

@@ -1,6 +1,6 @@
 -- Which writes stand.
 use Rattle.std.specs.Prelude.{ℕ, Bool, true, false}
-use Rattle.wef_source.specs.declared.faults.SourceFault.{SourceFault}
+use Rattle.wef_building.specs.declared.faults.SourceFault.{SourceFault}
 use Rattle.wef_places.specs.declared.places.Called.{Called}
 use Rattle.wef_places.specs.declared.places.Called.TheVariants.{Done, Broken, Refused}
 

@@ -13,11 +13,11 @@ use Rattle.wef_source.specs.Answers.{waiting_for}
 use Rattle.wef_source.specs.Calls as source
 use Rattle.wef_source.specs.Machine.{End, asked, delivery_of, is_idle, is_spent, next_id, sent}
 use Rattle.wef_source.specs.Sessions.{session_of}
-use Rattle.wef_source.specs.declared.faults.SourceFault as the_fault
-use Rattle.wef_source.specs.declared.faults.SourceFault.TheVariants as faults
+use Rattle.wef_building.specs.declared.faults.SourceFault as the_fault
+use Rattle.wef_building.specs.declared.faults.SourceFault.TheVariants as faults
 use Rattle.wef_source.specs.declared.messages.Reply.{Reply}
 use Rattle.wef_source.specs.declared.messages.Reply.TheVariants as replies
-use Rattle.wef_source.specs.declared.sessions.Session.{Session}
+use Rattle.wef_building.specs.declared.sessions.Session.{Session}
 use Rattle.wef_source_log.specs.Answers.{next_number, next_text, write_effect}
 use Rattle.wef_source_log.specs.Forms.{AreFormed}
 use Rattle.wef_source_log.specs.Histories.{extended, history}

@@ -66,7 +66,7 @@ pub struct Origin {
 impl End for SourceEnd<MemKeeper> {
     ghost use Rattle.std.specs.Prelude.{refl};
     ghost use Rattle.wef_source.specs.Calls.{start_effect};
-    ghost use Rattle.wef_source.specs.Faults.{source_store};
+    ghost use Rattle.wef_building.specs.Faults.{source_store};
     ghost use Rattle.wef_source.specs.Machine.{start_of};
     ghost use Rattle.wef_source_log.specs.Answers.{next_boot};
     ghost use Rattle.wef_source_log.specs.Forms as forms;

@@ -14,8 +14,8 @@ use Rattle.wef_forwarding.specs.declared.forwarding.Exchange.TheVariants.{Nothin
 use Rattle.wef_keeper.specs.Rows.{Rows}
 use Rattle.wef_ports.specs.Telling as ports
 use Rattle.wef_source.specs.Machine.{End}
-use Rattle.wef_source.specs.declared.faults.SourceFault.{SourceFault}
-use Rattle.wef_source.specs.declared.faults.SourceFault.TheVariants as faults
+use Rattle.wef_building.specs.declared.faults.SourceFault.{SourceFault}
+use Rattle.wef_building.specs.declared.faults.SourceFault.TheVariants as faults
 use Rattle.wef_source.specs.declared.messages.Delivery.{Delivery}
 use Rattle.wef_source.specs.declared.messages.Reply.{Reply}
 use Rattle.wef_running.specs.ByRows.{FailedLinksAreCounted}

@@ -19,9 +19,9 @@ use Rattle.wef_keeper.specs.declared.keys.Change.{Change}
 use Rattle.wef_ports.specs.Telling as ports
 use Rattle.wef_source.specs.Answers.{RefusesStart}
 use Rattle.wef_source.specs.Calls.{start_effect}
-use Rattle.wef_source.specs.Faults.{source_answer, source_store}
+use Rattle.wef_building.specs.Faults.{source_answer, source_store}
 use Rattle.wef_source.specs.Machine.{End, start_of}
-use Rattle.wef_source.specs.declared.faults.SourceFault.{SourceFault}
+use Rattle.wef_building.specs.declared.faults.SourceFault.{SourceFault}
 use Rattle.wef_source_log.specs.Answers.{is_boot_full, next_boot}
 use Rattle.wef_source_log.specs.Forms.{AreFormed}
 use Rattle.wef_source_log.specs.LogWindow as log

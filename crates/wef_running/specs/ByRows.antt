@@ -28,9 +28,9 @@ use Rattle.wef_serving.specs.Turns.{Ends}
 use Rattle.wef_serving.specs.declared.ends.ConnectionEnd.{ConnectionEnd}
 use Rattle.wef_source.specs.Answers.{RefusesStart}
 use Rattle.wef_source.specs.Calls.{start_effect}
-use Rattle.wef_source.specs.Faults.{source_store}
+use Rattle.wef_building.specs.Faults.{source_store}
 use Rattle.wef_source.specs.Machine.{End, start_of}
-use Rattle.wef_source.specs.declared.faults.SourceFault.{SourceFault}
+use Rattle.wef_building.specs.declared.faults.SourceFault.{SourceFault}
 use Rattle.wef_source_log.specs.Answers.{next_boot}
 use Rattle.wef_source_log.specs.LogWindow as log
 

@@ -16,11 +16,11 @@ use Rattle.wef_keeper.specs.Keeping.{IsLawful, Store}
 use Rattle.wef_ports.specs.Telling as ports
 use Rattle.wef_source.specs.Answers.{RefusesStart}
 use Rattle.wef_source.specs.Calls.{start_effect}
-use Rattle.wef_source.specs.Faults.{source_store}
+use Rattle.wef_building.specs.Faults.{source_store}
 use Rattle.wef_source.specs.Machine.{End, start_of}
 use Rattle.wef_source.specs.Sessions.{names_of}
-use Rattle.wef_source.specs.declared.faults.SourceFault.{SourceFault}
-use Rattle.wef_source.specs.declared.faults.SourceFault.TheVariants as faults
+use Rattle.wef_building.specs.declared.faults.SourceFault.{SourceFault}
+use Rattle.wef_building.specs.declared.faults.SourceFault.TheVariants as faults
 use Rattle.wef_source_log.specs.Answers.{next_boot}
 use Rattle.wef_source_log.specs.Forms.{AreFormed}
 use Rattle.wef_commands.specs.Endings.{IsUnwritten, Told}

@@ -14,8 +14,8 @@ use Rattle.wef_source.specs.Serving.{AwaitBelow, AwaitsBelow}
 use Rattle.wef_source.specs.Sessions.{answered, moved_by, placed, sending, session_from, settled, with_changed, with_offered, with_offers, with_session, waits_for, without}
 use Rattle.wef_source.specs.declared.serving.Answer.{Answer}
 use Rattle.wef_source.specs.declared.serving.Answer.TheVariants.{Taken, Refused}
-use Rattle.wef_source.specs.declared.sessions.Outstanding.{Outstanding}
-use Rattle.wef_source.specs.declared.sessions.Session.{Session}
+use Rattle.wef_building.specs.declared.sessions.Outstanding.{Outstanding}
+use Rattle.wef_building.specs.declared.sessions.Session.{Session}
 
 -- ---- changes
 

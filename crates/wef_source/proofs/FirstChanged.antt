@@ -5,7 +5,7 @@ use Rattle.std.specs.List.{position}
 use Rattle.wef_query.specs.Order.{IsInOrder}
 use Rattle.wef_source.specs.Serving.{AreKept, CanBeServed}
 use Rattle.wef_source.specs.Sessions.{first_where, names_of, with_changed}
-use Rattle.wef_source.specs.declared.sessions.Session.{Session}
+use Rattle.wef_building.specs.declared.sessions.Session.{Session}
 use Rattle.wef_source.proofs.Served.{changed_served}
 use Rattle.wef_source.proofs.InOrder.{changed_in_order}
 use Rattle.wef_source.proofs.Places.{changed_at, changed_nowhere, first_nowhere, is_there, within_at}

@@ -20,8 +20,8 @@ use Rattle.wef_source_log.specs.Judged as judged
 use Rattle.wef_source_log.specs.declared.faults.LogFault.{LogFault}
 use Rattle.wef_source_log.specs.declared.faults.LogFault.TheVariants.{NoMemory, Failed, Full, TooLong}
 use Rattle.wef_source.specs.Calls.{JudgesStart, JudgesWrite}
-use Rattle.wef_source.specs.Faults.{source_answer, source_fault, source_store}
-use Rattle.wef_source.specs.declared.faults.SourceFault.{SourceFault}
+use Rattle.wef_building.specs.Faults.{source_answer, source_fault, source_store}
+use Rattle.wef_building.specs.declared.faults.SourceFault.{SourceFault}
 
 -- a fault of the store stays the same one
 pub one_store : (fault : LogFault) → log_store fault ≡ source_store (source_fault fault)

@@ -11,10 +11,10 @@ use Rattle.wef_query.specs.Order.{IsInOrder}
 use Rattle.wef_source.specs.Sessions.{acknowledged, answered, is_named, moved_by, names_of, sending, settled, with_changed, without}
 use Rattle.wef_source.specs.declared.serving.Answer.{Answer}
 use Rattle.wef_source.specs.declared.serving.Answer.TheVariants.{Taken, Refused}
-use Rattle.wef_source.specs.declared.sessions.Outstanding.{Outstanding}
-use Rattle.wef_source.specs.declared.sessions.Session.{Session}
+use Rattle.wef_building.specs.declared.sessions.Outstanding.{Outstanding}
+use Rattle.wef_building.specs.declared.sessions.Session.{Session}
 use Rattle.std.specs.Prelude.{Option}
-use Rattle.wef_source.proofs.Cases.{by_test, one_name, same_itself}
+use Rattle.wef_building.proofs.Cases.{by_test, one_name, same_itself}
 use Rattle.std.specs.declared.option.Option.TheVariants.{Some, None}
 
 pub settled_name : (s : Session) → (settled s).name ≡ s.name

@@ -16,7 +16,7 @@ use Rattle.wef_query.specs.Order.{IsInOrder}
 use Rattle.wef_source.specs.Placing.{one_further, place_by, place_in}
 use Rattle.wef_source.specs.Serving.{AreKept, CanBeServed}
 use Rattle.wef_source.specs.Sessions.{names_of, placed, session_from, with_offered, with_offers, with_session}
-use Rattle.wef_source.specs.declared.sessions.Session.{Session}
+use Rattle.wef_building.specs.declared.sessions.Session.{Session}
 
 -- the sessions with one more are those with it at this place
 abbrev IsPlaced : List Session → Session → Result ℕ ℕ → List Session → Type 0

@@ -4,7 +4,7 @@ use Rattle.std.specs.Prelude.{is_some}
 use Rattle.std.specs.List.{position, position_from, remove}
 use Rattle.std.proofs.lemmas.Iterator.Adapters.{position_from-zero}
 use Rattle.wef_source.specs.Sessions.{first_where, with_changed, without}
-use Rattle.wef_source.specs.declared.sessions.Session.{Session}
+use Rattle.wef_building.specs.declared.sessions.Session.{Session}
 
 -- the first that passes stands at a place
 record Placed (test : Session → Bool) (ss : List Session) (k : ℕ) : Type 0 where

@@ -1,5 +1,5 @@
 -- A poll of the session of a name.
-use Rattle.std.proofs.Common.{◌≡◌, ℕ, zero, suc, drop, ◌+◌, ◌<◌, true, false, List, [], ◌∷◌, get_or, length, set, refl, ap, sym, subst, ◌∙◌, Some, None}
+use Rattle.std.proofs.Common.{◌≡◌, ℕ, ◌+◌, ◌<◌, true, false, List, get_or, length, set, refl, ap, sym, subst, ◌∙◌, Some, None}
 use Rattle.std.specs.Prelude.{Option, Ok, Err, IfSome, is_none, is_some}
 use Rattle.std.specs.FinMap as map
 use Rattle.std.specs.List.{position}
@@ -11,29 +11,28 @@ use Rattle.wef_keeper.specs.Rows.{Rows}
 use Rattle.wef_source_log.specs.Forms.{AreFormed}
 use Rattle.wef_source.specs.Accounts.{PollAccount, PreparedAccount}
 use Rattle.wef_source.specs.Answers.{IsAddressed, IsReachOf, MayRefusePoll, Polls, PollsIn, RefusesPoll, Remembers, Sends, SendsAddressed, SendsFrom, SendsNumbered, SendsRemembered, WhereThere, may_send}
-use Rattle.wef_source.specs.Building.{session_channels}
-use Rattle.wef_source.specs.Faults.{source_store}
-use Rattle.wef_source.specs.Judged.{JudgesBatch, JudgesPoll}
+use Rattle.wef_building.specs.Building.{session_channels}
+use Rattle.wef_building.specs.Faults.{source_store}
+use Rattle.wef_building.specs.Judged.{JudgesBatch}
+use Rattle.wef_source.specs.Judged.{JudgesPoll}
 use Rattle.wef_source.specs.Machine.{End, is_idle, sent}
 use Rattle.wef_source.specs.Prepared.{Draws, MayRefuseToPrepare, Prepares, RefusesToPrepare}
-use Rattle.wef_source.specs.Serving.{AreKept, CanBeServed, ReadsAbove}
+use Rattle.wef_building.specs.Reading.{ReadsAbove}
+use Rattle.wef_source.specs.Serving.{AreKept, CanBeServed}
 use Rattle.wef_source.specs.Sessions.{is_named, sending, session_of, with_changed}
-use Rattle.wef_source.specs.declared.faults.SourceFault.{SourceFault}
-use Rattle.wef_source.specs.declared.faults.SourceFault.TheVariants.{NoMemory, Failed, Full, TooLong, NotAsked, UnknownSubscription, Spent}
+use Rattle.wef_building.specs.declared.faults.SourceFault.{SourceFault}
+use Rattle.wef_building.specs.declared.faults.SourceFault.TheVariants.{NoMemory, Failed, Full, TooLong, NotAsked, UnknownSubscription, Spent}
 use Rattle.wef_source.specs.declared.messages.Delivery.{Delivery}
 use Rattle.wef_source.specs.declared.messages.Poll.{Poll}
 use Rattle.wef_source.specs.declared.messages.Poll.TheVariants.{Send, Nothing}
-use Rattle.wef_source.specs.declared.sessions.Outstanding.{Outstanding}
-use Rattle.wef_source.specs.declared.sessions.Session.{Session}
-use Rattle.wef_batch.specs.WellFormed.{is_in}
-use Rattle.wef_base.specs.Names.{same}
-use Rattle.std.specs.Cmp.Lexicographic.{nat_list_eq_equiv}
+use Rattle.wef_building.specs.declared.sessions.Outstanding.{Outstanding}
+use Rattle.wef_building.specs.declared.sessions.Session.{Session}
 use Rattle.wef_source.proofs.Places.{first_at}
-use Rattle.wef_source.proofs.Served.{either, either_true, read_served, sending_served}
+use Rattle.wef_source.proofs.Served.{read_served, sending_served}
 use Rattle.wef_source.proofs.Remembered.{are_reaches, first_changed}
 use Rattle.wef_query.specs.Selected.{channels_of}
 use Rattle.wef_source.proofs.InOrder.{changed_in_order, sending_name}
-use Rattle.wef_source.proofs.Told.{any_told, if_told}
+use Rattle.wef_building.proofs.Told.{any_told, if_told}
 
 -- the session at the place at which a name is found
 pub session_at : (end : End) (u : List ℕ) (ss : List Session) (k : ℕ) (s : Session) → ss ≡ end.sessions → position (is_named u) ss ≡ Some k → s ≡ get_or ss k s → session_of end.sessions u ≡ Some s
@@ -129,13 +128,6 @@ may_send_there end u s found idle = ap may_send found ∙ none_free s.outstandin
 
 pub never_sends : (A : Type 0) (end : End) (u : List ℕ) → session_of end.sessions u ≡ None → may_send (session_of end.sessions u) ≡ true → A
 never_sends A end u none may = let bad : false ≡ true = sym (ap may_send none) ∙ may in cc
-
--- a channel of a list is in it
-pub item_in : (channels rest : List (List ℕ)) (index : ℕ) (c : List ℕ) → drop index channels ≡ c ∷ rest → is_in channels c ≡ true
-item_in [] rest zero c e = cc
-item_in [] rest (suc index) c e = cc
-item_in (d ∷ channels) rest zero c e = let same_one : d ≡ c = cc in either (same d c) (is_in channels c) (subst (λ (x : List ℕ). same x c ≡ true) (sym same_one) (nat_list_eq_equiv.refl c))
-item_in (d ∷ channels) rest (suc index) c e = either_true (same d c) (is_in channels c) (item_in channels rest index c e)
 
 -- sessions of which one sent its delivery
 pub sent_kept : (u : List ℕ) (now : ℕ) (ss : List Session) (k : ℕ) (s t : Session) (outstanding : Outstanding)

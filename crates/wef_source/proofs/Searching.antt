@@ -12,7 +12,7 @@ use Rattle.std.proofs.lemmas.List.Sorted.{searchable_from_sorted}
 use Rattle.wef_query.specs.Order.{IsInOrder}
 use Rattle.wef_source.specs.Placing.{one_further, place_by, place_in}
 use Rattle.wef_source.specs.Sessions.{names_of}
-use Rattle.wef_source.specs.declared.sessions.Session.{Session}
+use Rattle.wef_building.specs.declared.sessions.Session.{Session}
 use Rattle.wef_source.proofs.InOrder.{AllAbove}
 
 -- how a name compares with another, the other way round

@@ -21,29 +21,23 @@ use Rattle.wef_bookmark.proofs.Joining.{both, joined_has, order, raised_has}
 use Rattle.wef_eventing.specs.Sending.{IsServable}
 use Rattle.wef_eventing.specs.declared.offers.Subscribe.{Subscribe}
 use Rattle.wef_query.specs.Selected.{channels_of}
-use Rattle.wef_source.specs.Serving.{AreKept, HasAll, HasEach, CanBeServed, ReadsAbove}
+use Rattle.wef_building.specs.Reading.{ReadsAbove}
+use Rattle.wef_source.specs.Serving.{AreKept, HasAll, HasEach, CanBeServed}
+use Rattle.wef_building.proofs.Cases.{either, or_true}
 use Rattle.wef_source.proofs.InOrder.{none_in_order}
-use Rattle.wef_source.proofs.Remembered.{reads_nothing}
+use Rattle.wef_building.proofs.ReadAbove.{reads_nothing}
 use Rattle.wef_source.specs.Sessions.{acknowledged, answered, moved_by, sending, session_from, settled, with_channels}
 use Rattle.wef_source.specs.declared.serving.Answer.{Answer}
 use Rattle.wef_source.specs.declared.serving.Answer.TheVariants.{Taken, Refused}
-use Rattle.wef_source.specs.declared.sessions.Outstanding.{Outstanding}
-use Rattle.wef_source.specs.declared.sessions.Session.{Session}
-
-pub either_true : (a b : Bool) → b ≡ true → (a || b) ≡ true
-either_true true b e = refl
-either_true false b e = e
-
-pub either : (a b : Bool) → a ≡ true → (a || b) ≡ true
-either true b e = refl
-either false b e = cc
+use Rattle.wef_building.specs.declared.sessions.Outstanding.{Outstanding}
+use Rattle.wef_building.specs.declared.sessions.Session.{Session}
 
 -- what a bookmark has stays there when another one is joined
 pub joined_has_all : (p q to : Marks) → HasAll p q → HasAll (joined p to) q
 joined_has_all p q to has c there = joined_has p to c ∙ either _ _ (has c there)
 
 pub raised_has_all : (p q : Marks) (c : List ℕ) (n : ℕ) → HasAll p q → HasAll (raised p c n) q
-raised_has_all p q c n has d there = raised_has p c n d ∙ either_true _ _ (has d there)
+raised_has_all p q c n has d there = raised_has p c n d ∙ or_true _ _ (has d there)
 
 pub settled_served : (s : Session) → CanBeServed s → CanBeServed (settled s)
 settled_served s h = record { queried = h.queried; awaited = reads_nothing s.positions (channels_of s.query.items); notify_to = h.notify_to; identifier = h.identifier }
@@ -145,7 +139,7 @@ none_kept = record { served = λ k d below. absurd (omega arith); in_order = non
 
 channel_kept : (b : Marks) (cs : List (List ℕ)) (c : List ℕ) → is_some (map.get b c) ≡ true → is_some (map.get (with_channels b cs) c) ≡ true
 channel_kept b [] c there = there
-channel_kept b (x ∷ xs) c there = channel_kept (raised b x 0) xs c (raised_has b x 0 c ∙ either_true _ _ there)
+channel_kept b (x ∷ xs) c there = channel_kept (raised b x 0) xs c (raised_has b x 0 c ∙ or_true _ _ there)
 
 same_turned : (x c : List ℕ) → same x c ≡ true → same c x ≡ true
 same_turned x c e =

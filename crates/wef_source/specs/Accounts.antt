@@ -6,16 +6,17 @@ use Rattle.wef_keeper.specs.Calls.{Looks, fails}
 use Rattle.wef_keeper.specs.Keeping.{Store}
 use Rattle.wef_source_log.specs.Forms.{AreFormed}
 use Rattle.wef_source.specs.Answers.{IsAddressed, MayRefusePoll, Polls, RefusesPoll, Sends, SendsAddressed, SendsNumbered, SendsRemembered, may_send}
-use Rattle.wef_source.specs.Faults.{source_store}
-use Rattle.wef_source.specs.Judged.{JudgesBatch, JudgesPoll}
+use Rattle.wef_building.specs.Faults.{source_store}
+use Rattle.wef_building.specs.Judged.{JudgesBatch}
+use Rattle.wef_source.specs.Judged.{JudgesPoll}
 use Rattle.wef_source.specs.Machine.{End}
 use Rattle.wef_source.specs.Prepared.{MayDraw, MayRefuseToPrepare, Prepares, RefusesToPrepare}
 use Rattle.wef_source.specs.Sessions.{session_of}
-use Rattle.wef_source.specs.declared.faults.SourceFault.{SourceFault}
+use Rattle.wef_building.specs.declared.faults.SourceFault.{SourceFault}
 use Rattle.wef_source.specs.declared.messages.Delivery.{Delivery}
 use Rattle.wef_source.specs.declared.messages.Poll.{Poll}
-use Rattle.wef_source.specs.declared.sessions.Outstanding.{Outstanding}
-use Rattle.wef_source.specs.declared.sessions.Session.{Session}
+use Rattle.wef_building.specs.declared.sessions.Outstanding.{Outstanding}
+use Rattle.wef_building.specs.declared.sessions.Session.{Session}
 
 -- What a poll of the session of a name does at a moment: to what keeps the log, to its store, and to what is remembered.
 pub record PollAccount {L : Type 0} (log log' : L) (before after : Store) (end end' : End) (u : List ℕ) (now : ℕ) (result : Result Poll SourceFault) : Type 0 where

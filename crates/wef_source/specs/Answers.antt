@@ -11,11 +11,12 @@ use Rattle.wef_ids.specs.Ids.{ids_agree}
 use Rattle.wef_ids.specs.declared.MessageId.{MessageId}
 use Rattle.wef_eventing.specs.declared.offers.Offer.{Offer}
 use Rattle.wef_keeper.specs.Rows.{Rows}
-use Rattle.wef_source.specs.Building.{session_channels}
+use Rattle.wef_building.specs.Building.{session_channels}
+use Rattle.wef_building.specs.Refusals.{RefusesRead}
 use Rattle.wef_source.specs.Machine.{End, acknowledged_in, adopted, asked, delivery_of, is_idle, is_spent, lost_in, next_id, refused_in, sent}
 use Rattle.wef_source.specs.Sessions.{is_named, sending, session_of, waiting, with_changed}
-use Rattle.wef_source.specs.declared.faults.SourceFault.{SourceFault}
-use Rattle.wef_source.specs.declared.faults.SourceFault.TheVariants.{NoMemory, Failed, Full, TooLong, NotAsked, UnknownSubscription, Spent}
+use Rattle.wef_building.specs.declared.faults.SourceFault.{SourceFault}
+use Rattle.wef_building.specs.declared.faults.SourceFault.TheVariants.{NoMemory, Failed, Full, TooLong, NotAsked, UnknownSubscription, Spent}
 use Rattle.wef_source.specs.declared.messages.Delivery.{Delivery}
 use Rattle.wef_source.specs.declared.messages.Moved as moved
 use Rattle.wef_source.specs.declared.messages.Moved.TheVariants as moves
@@ -23,14 +24,8 @@ use Rattle.wef_source.specs.declared.messages.Poll as poll
 use Rattle.wef_source.specs.declared.messages.Poll.TheVariants as polls
 use Rattle.wef_source.specs.declared.messages.Reply as reply
 use Rattle.wef_source.specs.declared.messages.Reply.TheVariants as replies
-use Rattle.wef_source.specs.declared.sessions.Outstanding.{Outstanding}
-use Rattle.wef_source.specs.declared.sessions.Session.{Session}
-
--- a call that only reads the log is refused for want of memory, or where the store failed
-abbrev pub RefusesRead : SourceFault → Type 0
-RefusesRead NoMemory = Unit {0}
-RefusesRead Failed = Unit {0}
-RefusesRead _ = ⊥
+use Rattle.wef_building.specs.declared.sessions.Outstanding.{Outstanding}
+use Rattle.wef_building.specs.declared.sessions.Session.{Session}
 
 -- a start's refusals
 abbrev pub RefusesStart : SourceFault → Type 0
@@ -196,8 +191,3 @@ Loses end end' u = (is_some (session_of end.sessions u) ≡ true) × (end' ≡ l
 abbrev pub RefusesLost : SourceFault → End → List ℕ → Type 0
 RefusesLost UnknownSubscription end u = session_of end.sessions u ≡ None
 RefusesLost _ end u = ⊥
-
--- want of memory, and nothing else
-abbrev pub WantsMemory : SourceFault → Type 0
-WantsMemory NoMemory = Unit {0}
-WantsMemory _ = ⊥

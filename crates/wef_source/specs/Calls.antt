@@ -7,9 +7,9 @@ use Rattle.wef_source_log.specs.Answers as log
 use Rattle.wef_source_log.specs.Judged as judged
 use Rattle.wef_source_log.specs.declared.faults.LogFault.{LogFault}
 use Rattle.wef_source_log.specs.declared.faults.LogFault.TheVariants as faults
-use Rattle.wef_source.specs.Faults.{source_answer}
-use Rattle.wef_source.specs.declared.faults.SourceFault.{SourceFault}
-use Rattle.wef_source.specs.declared.faults.SourceFault.TheVariants.{Full, TooLong}
+use Rattle.wef_building.specs.Faults.{source_answer}
+use Rattle.wef_building.specs.declared.faults.SourceFault.{SourceFault}
+use Rattle.wef_building.specs.declared.faults.SourceFault.TheVariants.{Full, TooLong}
 
 -- a start
 abbrev pub start_effect : Rows → ℕ → Effect SourceFault

@@ -1,17 +1,10 @@
 pub mod Accounts
 pub mod Answers
-pub mod Building
 pub mod Calls
-pub mod Drafting
-pub mod Faults
-pub mod Fits
 pub mod Judged
-pub mod Laws
 pub mod Machine
 pub mod Placing
 pub mod Prepared
-pub mod Selecting
 pub mod Serving
 pub mod Sessions
 pub mod State
-pub mod Wanted

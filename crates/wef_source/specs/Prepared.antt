@@ -2,14 +2,14 @@
 use Rattle.std.specs.Prelude.{◌≡◌, true, false, is_some, Option, Some, None}
 use Rattle.wef_ids.specs.IdTexts.{id_of_value}
 use Rattle.wef_keeper.specs.Rows.{Rows}
-use Rattle.wef_source.specs.Building.{built, session_channels}
+use Rattle.wef_building.specs.Building.{built, session_channels}
 use Rattle.wef_source.specs.Machine.{End, delivery_of, is_idle, is_spent, next_id}
-use Rattle.wef_source.specs.Serving.{ReadsAbove}
-use Rattle.wef_source.specs.declared.faults.SourceFault.{SourceFault}
-use Rattle.wef_source.specs.declared.faults.SourceFault.TheVariants.{NoMemory, Failed, Spent}
+use Rattle.wef_building.specs.Reading.{ReadsAbove}
+use Rattle.wef_building.specs.declared.faults.SourceFault.{SourceFault}
+use Rattle.wef_building.specs.declared.faults.SourceFault.TheVariants.{NoMemory, Failed, Spent}
 use Rattle.wef_source.specs.declared.messages.Delivery.{Delivery}
-use Rattle.wef_source.specs.declared.sessions.Outstanding.{Outstanding}
-use Rattle.wef_source.specs.declared.sessions.Session.{Session}
+use Rattle.wef_building.specs.declared.sessions.Outstanding.{Outstanding}
+use Rattle.wef_building.specs.declared.sessions.Session.{Session}
 
 -- what waits for the answer to the delivery that a session sends next
 abbrev pub outstanding_of : Rows → End → Session → Outstanding

@@ -3,27 +3,20 @@ use Rattle.std.specs.Prelude.{◌≡◌, ℕ, ◌<◌, true, List, is_some, Opti
 use Rattle.std.specs.FinMap as map
 use Rattle.std.specs.List.{All, AllByRecursion}
 use Rattle.wef_batch.specs.WellFormed.{is_in}
-use Rattle.wef_bookmark.specs.Order.{Marks, number_at}
+use Rattle.wef_bookmark.specs.Order.{Marks}
 use Rattle.wef_eventing.specs.Addresses.{is_address}
 use Rattle.wef_query.specs.Order.{IsInOrder}
 use Rattle.wef_query.specs.Selected.{channels_of}
 use Rattle.wef_xml.specs.Good.{IsXmlText}
 use Rattle.wef_source.specs.Machine.{End, next_id}
 use Rattle.wef_source.specs.Sessions.{names_of}
-use Rattle.wef_source.specs.declared.sessions.Outstanding.{Outstanding}
-use Rattle.wef_source.specs.declared.sessions.Session.{Session}
+use Rattle.wef_building.specs.Reading.{ReadsAbove}
+use Rattle.wef_building.specs.declared.sessions.Outstanding.{Outstanding}
+use Rattle.wef_building.specs.declared.sessions.Session.{Session}
 
 -- a bookmark has each channel that another one has
 abbrev pub HasAll : Marks → Marks → Type 0
 HasAll positions to = (c : List ℕ) → is_some (map.get to c) ≡ true → is_some (map.get positions c) ≡ true
-
--- a number of one of these channels that is above its position
-abbrev pub IsReadAbove : Marks → List (List ℕ) → List ℕ → ℕ → Type 0
-IsReadAbove positions channels c n = (is_in channels c ≡ true) × (number_at positions c < n)
-
--- a bookmark has such numbers, and no others
-abbrev pub ReadsAbove : Marks → List (List ℕ) → Marks → Type 0
-ReadsAbove positions channels to = (c : List ℕ) → IfSome (map.get to c) (IsReadAbove positions channels c)
 
 -- a bookmark has each of these channels
 abbrev pub HasEach : Marks → List (List ℕ) → Type 0

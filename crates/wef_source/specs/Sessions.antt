@@ -12,8 +12,8 @@ use Rattle.wef_eventing.specs.declared.offers.Subscribe.{Subscribe}
 use Rattle.wef_query.specs.Selected.{channels_of}
 use Rattle.wef_source.specs.declared.serving.Answer.{Answer}
 use Rattle.wef_source.specs.declared.serving.Answer.TheVariants.{Taken, Refused}
-use Rattle.wef_source.specs.declared.sessions.Outstanding.{Outstanding}
-use Rattle.wef_source.specs.declared.sessions.Session.{Session}
+use Rattle.wef_building.specs.declared.sessions.Outstanding.{Outstanding}
+use Rattle.wef_building.specs.declared.sessions.Session.{Session}
 
 -- whether it is the session of a name
 abbrev pub is_named : List ℕ → Session → Bool

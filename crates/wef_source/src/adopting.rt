@@ -5,17 +5,16 @@ ghost use Rattle.wef_eventing.specs.Addresses.{subscription_in};
 ghost use Rattle.wef_eventing.specs.Sending.{AreServable, IsServable};
 ghost use Rattle.wef_query.specs.Order.{IsInOrder};
 ghost use Rattle.wef_query.specs.Selected.{channels_of};
-ghost use Rattle.wef_source.specs.Answers.{WantsMemory};
+ghost use Rattle.wef_building.specs.Refusals.{WantsMemory};
 ghost use Rattle.wef_source.specs.Placing as placing;
 ghost use Rattle.wef_source.specs.Serving.{AreKept, CanBeServed};
 ghost use Rattle.wef_source.specs.Sessions as spec;
 
-use crate::faults::SourceFault;
-use crate::sessions::{Session, copied_address};
 use std::alloc::{AllocError, Global};
 use wef_base::moments::Moment;
 use wef_base::{ChannelName, List, SubId};
 use wef_bookmark::Bookmark;
+use wef_building::{Session, SourceFault, copied_address};
 use wef_eventing::{Offer, Subscribe, subscription_in};
 use wef_query::{QueryList, channels};
 

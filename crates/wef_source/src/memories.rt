@@ -8,10 +8,11 @@ ghost use Rattle.wef_ids.specs.Ids.{ids_agree};
 ghost use Rattle.wef_keeper.specs.Access as access;
 ghost use Rattle.wef_keeper.specs.Calls.{fails};
 ghost use Rattle.wef_query.specs.Order.{IsInOrder};
+ghost use Rattle.wef_building.specs.Refusals.{WantsMemory};
 ghost use Rattle.wef_source.specs.Accounts.{PollAccount, PreparedAccount};
 ghost use Rattle.wef_source.specs.Answers as answers;
-ghost use Rattle.wef_source.specs.Faults.{source_store};
-ghost use Rattle.wef_source.specs.Judged.{JudgesBatch};
+ghost use Rattle.wef_building.specs.Faults.{source_store};
+ghost use Rattle.wef_building.specs.Judged.{JudgesBatch};
 ghost use Rattle.wef_source.specs.Machine as machine;
 ghost use Rattle.wef_source.specs.Prepared.{MayDraw, MayRefuseToPrepare, Prepares, RefusesToPrepare};
 ghost use Rattle.wef_source.specs.Serving.{HasKeptSessions};
@@ -19,17 +20,16 @@ ghost use Rattle.wef_source.specs.Sessions as the_sessions;
 ghost use Rattle.wef_source_log.specs.Forms.{AreFormed};
 
 use crate::adopting::sessions_of;
-use crate::building::built;
-use crate::faults::SourceFault;
 use crate::messages::{Delivery, Moved, Poll, Reply};
 use crate::serving::{Answer, answer_waiting, place_of_name, refuse_waiting, send, settle_named};
-use crate::sessions::{Outstanding, Session, copied_address};
 use std::alloc::{AllocError, Global};
 use std::marker::Model;
 use wef_base::moments::Moment;
 use wef_base::{List, SubId};
 use wef_batch::Batch;
 use wef_bookmark::Bookmark;
+use wef_building::building::built;
+use wef_building::{Outstanding, Session, SourceFault, copied_address};
 use wef_eventing::Offer;
 use wef_ids::{FaultName, MessageId};
 use wef_keeper::Keeper;
@@ -54,8 +54,8 @@ impl Model for Memory {
     ghost use Rattle.std.specs.Prelude.{ℕ, List, Option, refl};
     ghost use Rattle.wef_source.specs.Machine.{End};
     ghost use Rattle.wef_source.specs.Serving.{HasKeptSessions};
-    ghost use Rattle.wef_source.specs.contracts.sessions.Session as session;
-    ghost use Rattle.wef_source.specs.declared.sessions.Session.{Session};
+    ghost use Rattle.wef_building.specs.contracts.sessions.Session as session;
+    ghost use Rattle.wef_building.specs.declared.sessions.Session.{Session};
 
     ghost Value = { End };
 
@@ -139,7 +139,7 @@ impl Memory {
     pub fn sessions(&self) -> Result<List<SubId>, SourceFault>
         ensures ok { IfOk result (λ names. names ≡ the_sessions.names_of self.now.sessions) }
         ensures in_order { IfOk result IsInOrder }
-        ensures refusal { IfErr result answers.WantsMemory }
+        ensures refusal { IfErr result WantsMemory }
     {
         Ok(names_of(self.alloc, self.sessions.as_slice())?)
     }

@@ -7,10 +7,10 @@ ghost use Rattle.wef_source.specs.Machine.{is_unreachable};
 ghost use Rattle.wef_source.specs.Serving.{AreKept, HasAll, CanBeServed};
 ghost use Rattle.wef_source.specs.Sessions as spec;
 
-use crate::sessions::{Outstanding, Session};
 use wef_base::SubId;
 use wef_base::moments::Moment;
 use wef_bookmark::Bookmark;
+use wef_building::{Outstanding, Session};
 use wef_ids::FaultName;
 
 /// The place of the session of a name.

@@ -6,23 +6,24 @@ ghost use Rattle.wef_keeper.specs.Calls.{DoesWith, IsCall};
 ghost use Rattle.wef_keeper.specs.Keeping as keeping;
 ghost use Rattle.wef_keeper.specs.declared.keeping.Plan.TheVariants.{Done, Fails};
 ghost use Rattle.wef_query.specs.Order.{IsInOrder};
+ghost use Rattle.wef_building.specs.Refusals.{WantsMemory};
 ghost use Rattle.wef_source.specs.Accounts.{PollAccount};
 ghost use Rattle.wef_source.specs.Answers as answers;
 ghost use Rattle.wef_source.specs.Calls.{JudgesStart, JudgesWrite, start_effect, write_effect};
-ghost use Rattle.wef_source.specs.Faults.{source_answer, source_store};
+ghost use Rattle.wef_building.specs.Faults.{source_answer, source_store};
 ghost use Rattle.wef_source.specs.Machine as machine;
 ghost use Rattle.wef_source.specs.Serving.{HasKeptSessions};
 ghost use Rattle.wef_source.specs.Sessions as the_sessions;
 ghost use Rattle.wef_source_log.specs.Answers.{ExtendsHistory, next_boot, next_number};
 ghost use Rattle.wef_source_log.specs.Forms.{AreFormed};
 
-use crate::faults::SourceFault;
 use crate::memories::Memory;
 use crate::messages::{Moved, Poll, Reply};
 use std::alloc::Global;
 use std::marker::Model;
 use wef_base::moments::Moment;
 use wef_base::{List, SourceName, SubId};
+use wef_building::SourceFault;
 use wef_event::Event;
 use wef_eventing::Offer;
 use wef_ids::MessageId;
@@ -152,7 +153,7 @@ impl<K: Keeper> SourceEnd<K> {
     pub fn sessions(&self) -> Result<List<SubId>, SourceFault>
         ensures ok { IfOk result (λ names. names ≡ the_sessions.names_of self.now.memory.sessions) }
         ensures in_order { IfOk result IsInOrder }
-        ensures refusal { IfErr result answers.WantsMemory }
+        ensures refusal { IfErr result WantsMemory }
     {
         self.memory.sessions()
     }

@@ -22,7 +22,7 @@ use Rattle.wef_machine.specs.declared.messages.Message.TheVariants.{Ask, Events}
 use Rattle.wef_source.specs.Machine.{End}
 use Rattle.wef_source.specs.Sessions.{session_of}
 use Rattle.wef_source.specs.declared.messages.Delivery.{Delivery}
-use Rattle.wef_source.specs.declared.sessions.Session.{Session}
+use Rattle.wef_building.specs.declared.sessions.Session.{Session}
 use Rattle.wef_places.specs.Places.{UsedAs}
 use Rattle.wef_places.specs.Polls.{CanBeAskedAs, CanBeSentAs}
 use Rattle.wef_places.specs.Slots.{AsksAs, AsksBy, PollsAs, PollsIn}

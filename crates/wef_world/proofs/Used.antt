@@ -9,11 +9,11 @@ use Rattle.wef_ids.specs.IdTexts.{id_of_value}
 use Rattle.wef_ids.specs.declared.MessageId.{MessageId}
 use Rattle.wef_event.specs.Events.{Event}
 use Rattle.wef_keeper.specs.Calls.{Effect}
-use Rattle.wef_source.specs.Faults.{source_answer, source_fault}
+use Rattle.wef_building.specs.Faults.{source_answer, source_fault}
 use Rattle.wef_source.specs.Machine.{End, asked, delivery_of, is_spent, next_id, sent}
 use Rattle.wef_source.specs.Sessions.{session_of}
-use Rattle.wef_source.specs.declared.faults.SourceFault.{SourceFault}
-use Rattle.wef_source.specs.declared.sessions.Session.{Session}
+use Rattle.wef_building.specs.declared.faults.SourceFault.{SourceFault}
+use Rattle.wef_building.specs.declared.sessions.Session.{Session}
 use Rattle.wef_source_log.specs.Answers.{next_number, write_effect}
 use Rattle.wef_source_log.specs.declared.faults.LogFault as the_log_fault
 use Rattle.wef_source_log.specs.declared.faults.LogFault.TheVariants as logs

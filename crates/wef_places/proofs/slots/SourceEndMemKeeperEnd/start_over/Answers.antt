@@ -2,7 +2,7 @@ use Rattle.std.proofs.Common.{ℕ, subst}
 use Rattle.std.specs.Prelude.{Ok, Err, MatchResult}
 use Rattle.wef_keeper.specs.Calls.{IsCall}
 use Rattle.wef_source.specs.Calls.{start_effect}
-use Rattle.wef_source.specs.Faults.{source_store}
+use Rattle.wef_building.specs.Faults.{source_store}
 use Rattle.wef_source.specs.Machine.{start_of}
 use Rattle.wef_source_log.specs.Answers.{next_boot}
 use Rattle.wef_source_log.specs.Forms.{AreFormed}

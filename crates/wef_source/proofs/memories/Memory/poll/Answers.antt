@@ -9,20 +9,21 @@ use Rattle.wef_keeper.specs.Rows.{Rows}
 use Rattle.wef_query.specs.Selected.{channels_of}
 use Rattle.wef_source_log.specs.Forms.{AreFormed}
 use Rattle.wef_source.specs.Answers.{Polls, RefusesPoll}
-use Rattle.wef_source.specs.Faults.{source_store}
+use Rattle.wef_building.specs.Faults.{source_store}
 use Rattle.wef_source.specs.Machine.{End, is_spent, most_drawn, next_id}
 use Rattle.wef_source.specs.Prepared.{MayDraw, Prepares, RefusesToPrepare}
-use Rattle.wef_source.specs.Serving.{AwaitBelow, ReadsAbove}
+use Rattle.wef_building.specs.Reading.{ReadsAbove}
+use Rattle.wef_source.specs.Serving.{AwaitBelow}
 use Rattle.wef_source.specs.Sessions.{is_named, sending, session_of}
-use Rattle.wef_source.specs.declared.faults.SourceFault.TheVariants.{UnknownSubscription}
+use Rattle.wef_building.specs.declared.faults.SourceFault.TheVariants.{UnknownSubscription}
 use Rattle.wef_source.specs.declared.messages.Delivery.{Delivery}
 use Rattle.wef_source.specs.declared.messages.Poll.TheVariants.{Nothing, Send}
-use Rattle.wef_source.specs.declared.sessions.Outstanding.{Outstanding}
-use Rattle.wef_source.specs.declared.sessions.Session.{Session}
-use Rattle.wef_source.proofs.Cases.{le_fails}
+use Rattle.wef_building.specs.declared.sessions.Outstanding.{Outstanding}
+use Rattle.wef_building.specs.declared.sessions.Session.{Session}
+use Rattle.wef_building.proofs.Cases.{le_fails}
 use Rattle.wef_source.proofs.Places.{changed_at, first_nowhere, passes_at, same_session, within_at}
 use Rattle.wef_source.proofs.Polling.{answered, awaits, awaits_nothing, looks_refused, may_refuse, may_send_there, never_sends, polls_nothing, polls_send, refuses_poll, sends_addressed, sends_next, sends_nothing, sends_remembered, sent_kept, session_at}
-use Rattle.wef_source.proofs.Told.{any_told, if_told, opens_itself}
+use Rattle.wef_building.proofs.Told.{any_told, if_told, opens_itself}
 use Rattle.wef_source.proofs.DrawnIds.{sent_below}
 use Rattle.wef_source.proofs.memories.Memory.poll.Goals as goal
 

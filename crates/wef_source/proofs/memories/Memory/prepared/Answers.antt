@@ -3,9 +3,9 @@ use Rattle.std.proofs.lemmas.Result.{err_from_is_err_and}
 use Rattle.wef_keeper.proofs.Calls.{looked}
 use Rattle.wef_source_log.proofs.Looking.{not_looked}
 use Rattle.wef_source_log.specs.Forms.{AreFormed}
-use Rattle.wef_source.specs.Faults.{source_store}
+use Rattle.wef_building.specs.Faults.{source_store}
 use Rattle.wef_source.proofs.Handed.{looks_refused}
-use Rattle.wef_source.proofs.Told.{opens_itself}
+use Rattle.wef_building.proofs.Told.{opens_itself}
 use Rattle.wef_source.proofs.memories.Memory.prepared.Goals as goal
 
 pub returns-then-is_some : goal.returns-then-is_some

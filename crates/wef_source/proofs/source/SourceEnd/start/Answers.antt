@@ -5,9 +5,9 @@ use Rattle.wef_source_log.specs.Answers as log
 use Rattle.wef_source_log.specs.Forms.{AreFormed}
 use Rattle.wef_source_log.specs.Judged as log_judged
 use Rattle.wef_source.specs.Calls.{JudgesStart, start_effect}
-use Rattle.wef_source.specs.Faults.{source_store}
+use Rattle.wef_building.specs.Faults.{source_store}
 use Rattle.wef_source.specs.Machine.{End}
-use Rattle.wef_source.specs.declared.faults.SourceFault.{SourceFault}
+use Rattle.wef_building.specs.declared.faults.SourceFault.{SourceFault}
 use Rattle.wef_source.proofs.Handed.{handed, handed_with, start_judged}
 use Rattle.wef_source.proofs.source.SourceEnd.start.Goals as goal
 

@@ -8,8 +8,8 @@ use Rattle.wef_source_log.specs.Forms.{AreFormed}
 use Rattle.wef_source_log.specs.Judged as log_judged
 use Rattle.wef_source_log.specs.declared.faults.LogFault.{LogFault}
 use Rattle.wef_source.specs.Calls.{JudgesWrite, write_effect}
-use Rattle.wef_source.specs.Faults.{source_answer, source_store}
-use Rattle.wef_source.specs.declared.faults.SourceFault.{SourceFault}
+use Rattle.wef_building.specs.Faults.{source_answer, source_store}
+use Rattle.wef_building.specs.declared.faults.SourceFault.{SourceFault}
 use Rattle.wef_source.proofs.Handed.{handed, handed_with, if_handed, write_judged}
 use Rattle.wef_source.proofs.source.SourceEnd.write.Goals as goal
 

@@ -1,0 +1,15 @@
+pub mod Built
+pub mod Candidates
+pub mod Cases
+pub mod Channels
+pub mod Cuts
+pub mod Drafts
+pub mod Fitting
+pub mod Items
+pub mod Judging
+pub mod Numbered
+pub mod Reaches
+pub mod ReadAbove
+pub mod Rooms
+pub mod Sendable
+pub mod Told

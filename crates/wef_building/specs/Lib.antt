@@ -1,0 +1,10 @@
+pub mod Building
+pub mod Drafting
+pub mod Faults
+pub mod Fits
+pub mod Judged
+pub mod Laws
+pub mod Reading
+pub mod Refusals
+pub mod Selecting
+pub mod Wanted
