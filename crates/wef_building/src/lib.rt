@@ -11,4 +11,4 @@ pub mod laws;
 pub mod sessions;
 
 pub use faults::SourceFault;
-pub use sessions::{Outstanding, Session, copied_address};
+pub use sessions::{Lease, Outstanding, Session, copied, copied_address};

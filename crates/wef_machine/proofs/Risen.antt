@@ -6,7 +6,7 @@ use Rattle.std.proofs.lemmas.Option.{none-some, same_Some}
 use Rattle.std.specs.Prelude.{Option, Some, None, Ok, Err, is_some, Contains, ◌⊎◌}
 use Rattle.std.specs.Cmp.Lexicographic.{slice_cmp}
 use Rattle.std.specs.FinMap as finite
-use Rattle.std.specs.List.{AllByRecursion}
+use Rattle.std.specs.List.{AllByRecursion, filter}
 use Rattle.std.specs.Ordering.{nat_cmp}
 use Rattle.wef_batch.specs.declared.items.Batch as items
 use Rattle.wef_bookmark.specs.Order.{Marks, joined, number_at}
@@ -34,7 +34,7 @@ use Rattle.wef_source.specs.Answers.{waiting_for}
 use Rattle.wef_building.specs.Building.{built}
 use Rattle.wef_source.specs.Machine.{End as Memory}
 use Rattle.wef_source.specs.Machine.{acknowledged_in, adopted, asked, delivery_of, is_idle, is_spent, is_unreachable, lost_in, next_id, refused_in, sent as sent_by, start_of}
-use Rattle.wef_source.specs.Sessions.{acknowledged, is_named, is_outstanding, moved_by, sending, session_from, session_of, settled, waits_for, with_changed, with_channels, with_offered, with_offers, without}
+use Rattle.wef_source.specs.Sessions.{acknowledged, is_leased, is_named, is_outstanding, moved_by, sending, session_from, session_of, settled, waits_for, with_changed, with_channels, with_offered, with_offers, without}
 use Rattle.wef_source.specs.declared.messages.Delivery.{Delivery}
 use Rattle.wef_building.specs.declared.sessions.Outstanding.{Outstanding}
 use Rattle.wef_building.specs.declared.sessions.Session.{Session}
@@ -65,7 +65,7 @@ use Rattle.wef_machine.proofs.Moves.{are_one, from_mapped, put_there}
 use Rattle.wef_machine.proofs.Numbered.{lt_is, not_below}
 use Rattle.wef_machine.proofs.Offering.{BeginsAtRows, all_begin}
 use Rattle.wef_machine.proofs.Sent.{all_map, sent_by_number, sent_either}
-use Rattle.wef_machine.proofs.Sessions.{acknowledged_delivery, all_changed, all_with_session, all_without, equal_numbers, first_is, with_channels_number}
+use Rattle.wef_machine.proofs.Sessions.{acknowledged_delivery, all_changed, all_filtered, all_with_session, all_without, equal_numbers, first_is, with_channels_number}
 use Rattle.wef_machine.proofs.SourceSteps.{at_source_any, running_is, running_with, session_within, with_opened_kept}
 use Rattle.wef_machine.proofs.Steps.{of_declared, start_is_kept, steps_keep}
 
@@ -426,7 +426,9 @@ offers_stand lower past line s id relates given kept all delivers is =
     at_source_stands lower past line s (end_at s (λ end. after_offers end relates given moment)) kept all (λ now slot end kept_now still stands there runs.
     cond_both (ids_agree end.ask relates.value) (adopted end given moment) end (λ (after : Memory). Stands past line (with_end now s slot after))
     (λ asked_for. end_moves past line now s slot (adopted end given moment) stands
-    (offered_stand past line s moment [] given (all_begun past line s id relates given delivers is) tt))
+    (offered_stand past line s moment (filter is_leased end.sessions) given (all_begun past line s id relates given delivers is)
+    (all_filtered (λ (session : Session). HasRisen (line ∷ past) session.name s session.positions) is_leased end.sessions
+    (end_is (HasRisen (line ∷ past)) now s slot end stands.sessions there runs))))
     (λ other. same_end_stands past line now s slot end stands there runs))
 
 -- ---- the collector

@@ -4,7 +4,7 @@ use Rattle.std.proofs.lemmas.Option.{none-some, same_Some}
 use Rattle.std.proofs.lemmas.Bool.Decides.{nat_tests}
 use Rattle.std.specs.Prelude.{Option, Some, None, max}
 use Rattle.std.specs.Cmp.Lexicographic.{slice_cmp}
-use Rattle.std.specs.List.{AllByRecursion}
+use Rattle.std.specs.List.{AllByRecursion, filter}
 use Rattle.std.specs.Ordering.{nat_cmp}
 use Rattle.std.specs.declared.cmp.Ordering.{Ordering}
 use Rattle.std.specs.declared.cmp.Ordering.TheVariants.{Less, Equal, Greater}
@@ -45,6 +45,14 @@ all_without P test (s ∷ ss) all =
     elim (test s) as (λ t. AllByRecursion P (cond t ss (s ∷ without test ss))) [
       | true ↦ all.1
       | false ↦ (all.0, all_without P test ss all.1)
+    ]
+
+pub all_filtered : (P : Session → Type 0) (test : Session → Bool) (ss : List Session) → AllByRecursion P ss → AllByRecursion P (filter test ss)
+all_filtered P test [] all = tt
+all_filtered P test (s ∷ ss) all =
+    elim (test s) as (λ t. AllByRecursion P (cond t (s ∷ filter test ss) (filter test ss))) [
+      | true ↦ (all.0, all_filtered P test ss all.1)
+      | false ↦ all_filtered P test ss all.1
     ]
 
 all_placed : (P : Session → Type 0) (o : Ordering) (new s : Session) (ss rest : List Session) → P new → P s → AllByRecursion P ss → AllByRecursion P rest →

@@ -5,7 +5,7 @@ use Rattle.std.proofs.lemmas.Bool.{cond_both}
 use Rattle.std.proofs.lemmas.Bool.Decides.{nat_tests}
 use Rattle.std.specs.Prelude.{Option, Some, None, Ok, Err, is_none, is_some, unwrap_or}
 use Rattle.std.specs.FinMap as finite
-use Rattle.std.specs.List.{AllByRecursion}
+use Rattle.std.specs.List.{AllByRecursion, filter}
 use Rattle.std.specs.Option.{option_map}
 use Rattle.wef_batch.specs.WellFormed.{is_in}
 use Rattle.wef_collector.proofs.Hits.{one_name}
@@ -36,9 +36,9 @@ use Rattle.wef_building.specs.Building.{built}
 use Rattle.wef_building.specs.Fits.{Fits}
 use Rattle.wef_building.specs.Laws.{AreWithin}
 use Rattle.wef_source.specs.Machine.{End, acknowledged_in, adopted, asked, delivery_of, is_idle, is_spent, is_unreachable, lost_in, most_drawn, next_id, refused_in, sent, start_of}
-use Rattle.wef_source.proofs.InOrder.{acknowledged_name, changed_in_order, none_in_order, sending_name, settled_name, without_in_order}
+use Rattle.wef_source.proofs.InOrder.{acknowledged_name, changed_in_order, filter_in_order, none_in_order, sending_name, settled_name, without_in_order}
 use Rattle.wef_source.proofs.Placements.{with_offers_in_order}
-use Rattle.wef_source.specs.Sessions.{acknowledged, is_named, names_of, sending, session_of, settled, waits_for, with_changed, without}
+use Rattle.wef_source.specs.Sessions.{acknowledged, is_leased, is_named, names_of, sending, session_of, settled, waits_for, with_changed, without}
 use Rattle.wef_building.specs.declared.sessions.Outstanding.{Outstanding}
 use Rattle.wef_building.specs.declared.sessions.Session.{Session}
 use Rattle.wef_machine.specs.Arming.{armed_after, committed, fate, fate_of, is_done, is_stopped}
@@ -64,7 +64,7 @@ use Rattle.wef_machine.proofs.Moves.{are_one, declared_is, from_mapped, grown_pa
 use Rattle.wef_machine.proofs.SaidEvents.{built_said, numbered_said, written_events}
 use Rattle.wef_machine.proofs.Sent.{all_map, sent_before, sent_last}
 use Rattle.wef_machine.proofs.Takes.{untouched_bookmark}
-use Rattle.wef_machine.proofs.Sessions.{acknowledged_served, all_changed, all_first_changed, all_offered, all_without, first_is, first_passes, settled_served}
+use Rattle.wef_machine.proofs.Sessions.{acknowledged_served, all_changed, all_filtered, all_first_changed, all_offered, all_without, first_is, first_passes, settled_served}
 
 -- a source is as it should be, beside what the rows and the messages say
 abbrev IsKeptSlot : State → List ℕ → Slot → Type 0
@@ -585,7 +585,10 @@ pub offers_keep : Lower → (state : State) (s : List ℕ) (relates : MessageId)
 offers_keep lower state s relates given kept are = at_source_keeps lower state s (end_at s (λ end. after_offers end relates given state.moment)) kept (λ now slot end kept_now opened there runs.
     let are_now = subst (λ (rows : Rows). AllByRecursion (λ (offer : Offer). IsOffered rows s offer.subscribe) given) (sym opened.rows) are in
     cond_both (ids_agree end.ask relates.value) (adopted end given state.moment) end (λ (after : End). IsKept (with_end now s slot after))
-    (λ asked_for. kept_end now s slot end (adopted end given state.moment) kept_now there runs refl refl (with_offers_in_order state.moment [] given none_in_order) (all_offered now.collector.rows now.messages s state.moment [] given are_now tt))
+    (λ asked_for. kept_end now s slot end (adopted end given state.moment) kept_now there runs refl refl
+    (with_offers_in_order state.moment (filter is_leased end.sessions) given (filter_in_order is_leased end.sessions (end_in_order now s slot end kept_now there runs)))
+    (all_offered now.collector.rows now.messages s state.moment (filter is_leased end.sessions) given are_now
+    (all_filtered (IsServed now.collector.rows now.messages s) is_leased end.sessions (running_is now s slot end (kept_now.sources s slot there) runs).0.sessions)))
     (λ other. same_end now s slot end kept_now there runs))
 
 -- ---- a crash, and what is armed

@@ -18,7 +18,7 @@ use Rattle.wef_eventing.specs.Addresses.{source_in, subscription_in}
 use Rattle.wef_eventing.specs.declared.offers.Offer.{Offer}
 use Rattle.wef_keeper.specs.Calls.{Effect}
 use Rattle.wef_keeper.specs.Rows.{Rows}
-use Rattle.wef_source.specs.Answers.{waiting_for}
+use Rattle.wef_source.specs.Answers.{asked_for, waiting_for}
 use Rattle.wef_source.specs.Machine.{End, acknowledged_in, adopted, refused_in}
 use Rattle.wef_source.specs.declared.messages.Delivery.{Delivery}
 use Rattle.wef_machine.specs.Arming.{fate}
@@ -131,7 +131,7 @@ after_offers end relates given now = if ids_agree end.ask relates.value then ado
 
 abbrev pub offers_word : End → MessageId → List Offer → ℕ → List ℕ
 offers_word end relates given now =
-    if ids_agree end.ask relates.value then adopted_word (length (adopted end given now).sessions) else codes "not-asked"
+    if ids_agree end.ask relates.value then adopted_word (asked_for (adopted end given now).sessions) else codes "not-asked"
 
 -- a source takes an acknowledgement of an id
 abbrev pub acknowledged_by : End → Option ℕ → End

@@ -18,7 +18,7 @@ use Rattle.wef_machine.specs.Printed.{adopted_word}
 use Rattle.wef_machine.specs.Sources.{slot_opened}
 use Rattle.wef_machine.specs.States.{Slot}
 use Rattle.wef_machine.specs.declared.arming.Fate as the_fate
-use Rattle.wef_source.specs.Answers.{AnswersTo, waiting_for}
+use Rattle.wef_source.specs.Answers.{AnswersTo, asked_for, waiting_for}
 use Rattle.wef_source.specs.Calls as source
 use Rattle.wef_source.specs.Machine.{End, adopted, start_of}
 use Rattle.wef_source.specs.declared.source.SourceEnd.{SourceEnd}
@@ -90,11 +90,11 @@ offers_so : (heard : the_hears.Hears) (relates : MessageId) (offers : List Offer
     → HasHeard heard (after_offers end relates offers now) (offers_word end relates offers now) end'
 offers_so (hears.Adopted count) relates offers now end end' h = record {
   after = h.1 ∙ waited (ids_agree end.ask relates.value) (adopted end offers now) end h.0;
-  said = ap adopted_word h.2 ∙ waited (ids_agree end.ask relates.value) (adopted_word (length (adopted end offers now).sessions)) (codes "not-asked") h.0;
+  said = ap adopted_word h.2 ∙ waited (ids_agree end.ask relates.value) (adopted_word (asked_for (adopted end offers now).sessions)) (codes "not-asked") h.0;
 }
 offers_so hears.NotAsked relates offers now end end' h = record {
   after = h.1 ∙ sym (ap (λ t. cond t (adopted end offers now) end) h.0);
-  said = sym (ap (λ t. cond t (adopted_word (length (adopted end offers now).sessions)) (codes "not-asked")) h.0);
+  said = sym (ap (λ t. cond t (adopted_word (asked_for (adopted end offers now).sessions)) (codes "not-asked")) h.0);
 }
 offers_so hears.Moved relates offers now end end' h = absurd h
 offers_so hears.Refused relates offers now end end' h = absurd h

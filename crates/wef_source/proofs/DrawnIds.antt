@@ -1,6 +1,7 @@
 -- A session awaits at most the answer to an id that was drawn.
 use Rattle.std.proofs.Common.{ℕ, ◌<◌, ◌≤◌, Bool, true, false, cond, List, [], ◌∷◌, arith}
 use Rattle.std.specs.Cmp.Lexicographic.{slice_cmp}
+use Rattle.std.specs.List.{filter}
 use Rattle.std.specs.Ordering.{nat_cmp}
 use Rattle.std.specs.Prelude.{Option, Some, None}
 use Rattle.std.specs.declared.cmp.Ordering.{Ordering}
@@ -35,6 +36,14 @@ without_below next test (s ∷ ss) all = by (test s) (without_below next test ss
     by : (b : Bool) → AwaitBelow next (without test ss) → AwaitBelow next (cond b ss (s ∷ without test ss))
     by true more = all.1
     by false more = (all.0, more)
+
+pub filtered_below : (next : ℕ) (test : Session → Bool) (ss : List Session) → AwaitBelow next ss → AwaitBelow next (filter test ss)
+filtered_below next test [] all = tt
+filtered_below next test (s ∷ ss) all = by (test s) (filtered_below next test ss all.1)
+  where
+    by : (b : Bool) → AwaitBelow next (filter test ss) → AwaitBelow next (cond b (s ∷ filter test ss) (filter test ss))
+    by true more = (all.0, more)
+    by false more = more
 
 pub settled_below : (next : ℕ) (s : Session) → AwaitsBelow next s → AwaitsBelow next (settled s)
 settled_below next s below = tt

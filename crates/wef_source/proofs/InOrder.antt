@@ -70,6 +70,23 @@ without_in_order test (s ∷ ss) sorted =
       | false ↦ (without_above test s.name ss sorted.0, without_in_order test ss sorted.1)
     ]
 
+filter_above : (test : Session → Bool) (x : List ℕ) (ss : List Session) → AllAbove x ss → AllAbove x (filter test ss)
+filter_above test x [] above = tt
+filter_above test x (s ∷ ss) above =
+    elim (test s) as (λ t. AllAbove x (cond t (s ∷ filter test ss) (filter test ss))) [
+      | true ↦ (above.0, filter_above test x ss above.1)
+      | false ↦ filter_above test x ss above.1
+    ]
+
+pub filter_in_order : (test : Session → Bool) (ss : List Session) → IsInOrder (names_of ss) → IsInOrder (names_of (filter test ss))
+unfolding IsStrictlySortedBy
+filter_in_order test [] sorted = tt
+filter_in_order test (s ∷ ss) sorted =
+    elim (test s) as (λ t. IsInOrder (names_of (cond t (s ∷ filter test ss) (filter test ss)))) [
+      | true ↦ (filter_above test s.name ss sorted.0, filter_in_order test ss sorted.1)
+      | false ↦ filter_in_order test ss sorted.1
+    ]
+
 -- ---- each name is there once
 
 less_itself : (u : List ℕ) → slice_cmp nat_cmp u u ≡ Less → ⊥

@@ -3,8 +3,8 @@ use Rattle.std.proofs.Common.{◌≡◌, ℕ, ◌+◌, ◌<◌, ◌≤◌, Bool,
 use Rattle.std.specs.Prelude.{Option, T, is_some}
 use Rattle.std.specs.FinMap as map
 use Rattle.std.specs.FinMap.Entries.{below_all}
-use Rattle.std.specs.List.{All, AllByRecursion, remove}
-use Rattle.std.proofs.lemmas.List.Elements.{All-get_or, All-set}
+use Rattle.std.specs.List.{All, AllByRecursion, filter, remove}
+use Rattle.std.proofs.lemmas.List.Elements.{All-filter, All-get_or, All-set}
 use Rattle.std.proofs.lemmas.List.Edits.{get_or-remove_above, get_or-remove_below, length-remove}
 use Rattle.std.proofs.lemmas.Bool.{cases_lt}
 use Rattle.std.specs.Ordering.{eq_by_cmp, is_eq, is_lt, ordering_reverse}
@@ -24,7 +24,7 @@ use Rattle.wef_query.specs.Selected.{channels_of}
 use Rattle.wef_building.specs.Reading.{ReadsAbove}
 use Rattle.wef_source.specs.Serving.{AreKept, HasAll, HasEach, CanBeServed}
 use Rattle.wef_building.proofs.Cases.{either, or_true}
-use Rattle.wef_source.proofs.InOrder.{none_in_order}
+use Rattle.wef_source.proofs.InOrder.{filter_in_order, none_in_order}
 use Rattle.wef_building.proofs.ReadAbove.{reads_nothing}
 use Rattle.wef_source.specs.Sessions.{acknowledged, answered, moved_by, sending, session_from, settled, with_channels}
 use Rattle.wef_source.specs.declared.serving.Answer.{Answer}
@@ -133,6 +133,10 @@ within_from b (e ∷ es) kept found = ((kept e.0 e.1 (map.get-entries b e.0 ∙ 
 
 pub entries_within : (b : Marks) → AreEntries b → AllByRecursion IsWithin (map.entries b)
 entries_within b kept = within_from b (map.entries b) kept (are_found (map.entries b) (map.entries_sorted b))
+
+-- sessions of which only those are left that pass a test
+pub filtered_kept : (test : Session → Bool) (ss : List Session) → AreKept ss → AreKept (filter test ss)
+filtered_kept test ss kept = record { served = All-filter test CanBeServed ss kept.served; in_order = filter_in_order test ss kept.in_order }
 
 pub none_kept : AreKept []
 none_kept = record { served = λ k d below. absurd (omega arith); in_order = none_in_order }

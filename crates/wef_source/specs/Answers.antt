@@ -1,6 +1,7 @@
 -- What the calls of a source answer, by what it holds as the call begins.
 use Rattle.std.specs.Prelude.{◌≡◌, ℕ, ◌+◌, ◌<◌, Bool, true, false, List, length, is_none, is_some, Option, Some, None, IfSome}
 use Rattle.std.specs.FinMap as map
+use Rattle.std.specs.List.{filter}
 use Rattle.wef_batch.specs.Numbers.{AreNumbered}
 use Rattle.wef_batch.specs.Reach.{reach}
 use Rattle.wef_batch.specs.WellFormed.{is_in}
@@ -14,7 +15,7 @@ use Rattle.wef_keeper.specs.Rows.{Rows}
 use Rattle.wef_building.specs.Building.{session_channels}
 use Rattle.wef_building.specs.Refusals.{RefusesRead}
 use Rattle.wef_source.specs.Machine.{End, acknowledged_in, adopted, asked, delivery_of, is_idle, is_spent, lost_in, next_id, refused_in, sent}
-use Rattle.wef_source.specs.Sessions.{is_named, sending, session_of, waiting, with_changed}
+use Rattle.wef_source.specs.Sessions.{is_asked_for, is_named, sending, session_of, waiting, with_changed}
 use Rattle.wef_building.specs.declared.faults.SourceFault.{SourceFault}
 use Rattle.wef_building.specs.declared.faults.SourceFault.TheVariants.{NoMemory, Failed, Full, TooLong, NotAsked, UnknownSubscription, Spent}
 use Rattle.wef_source.specs.declared.messages.Delivery.{Delivery}
@@ -51,10 +52,14 @@ abbrev pub RefusesAsk : SourceFault → End → Type 0
 RefusesAsk NoMemory end = Unit {0}
 RefusesAsk fault end = IsSpent fault end
 
--- Offers are taken where they answer the ask.
+-- how many sessions a source asked for
+abbrev pub asked_for : List Session → ℕ
+asked_for ss = length (filter is_asked_for ss)
+
+-- Offers are taken where they answer the ask; those sessions are counted that they gave.
 abbrev pub Adopts : End → End → MessageId → List Offer → ℕ → ℕ → Type 0
 Adopts end end' relates offers now n =
-    (ids_agree end.ask relates.value ≡ true) × (end' ≡ adopted end offers now) × (n ≡ length (adopted end offers now).sessions)
+    (ids_agree end.ask relates.value ≡ true) × (end' ≡ adopted end offers now) × (n ≡ asked_for (adopted end offers now).sessions)
 
 -- `NotAsked` comes exactly where the offers don't answer the ask.
 abbrev pub RefusesAdopt : SourceFault → End → MessageId → Type 0

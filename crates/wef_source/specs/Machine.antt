@@ -1,12 +1,13 @@
 -- A source as a machine: what it holds, and what each call makes of it.
 use Rattle.std.specs.Prelude.{ℕ, ◌+◌, ◌*◌, ◌==◌, nat_le, Bool, true, false, List, [], length, is_some, Option, Some, None, if◌then◌else◌}
+use Rattle.std.specs.List.{filter}
 use Rattle.wef_eventing.specs.declared.offers.Offer.{Offer}
 use Rattle.wef_ids.specs.IdTexts.{id_of_value}
 use Rattle.wef_ids.specs.declared.FaultName.{FaultName}
 use Rattle.wef_ids.specs.declared.FaultName.TheVariants.{DestinationUnreachable}
 use Rattle.wef_keeper.specs.Rows.{Rows}
 use Rattle.wef_building.specs.Building.{built}
-use Rattle.wef_source.specs.Sessions.{acknowledged, is_named, sending, settled, waits_for, with_changed, with_offers, without}
+use Rattle.wef_source.specs.Sessions.{acknowledged, is_leased, is_named, sending, settled, waits_for, with_changed, with_offers, without}
 use Rattle.wef_source.specs.declared.messages.Delivery.{Delivery}
 use Rattle.wef_building.specs.declared.sessions.Session.{Session}
 
@@ -38,9 +39,9 @@ next_id end = end.boot * 18446744073709551616 + (end.drawn + 1)
 abbrev pub asked : End → End
 asked end = record end { drawn = end.drawn + 1; ask = Some (next_id end) }
 
--- a source that took offers at a moment: its sessions are those of the offers
+-- a source that took offers at a moment: its sessions are those that collectors began, and those of the offers
 abbrev pub adopted : End → List Offer → ℕ → End
-adopted end offers now = record end { ask = None; sessions = with_offers now [] offers }
+adopted end offers now = record end { ask = None; sessions = with_offers now (filter is_leased end.sessions) offers }
 
 -- whether a session has nothing to send: a reply is outstanding, or there is no item
 abbrev pub is_idle : Rows → Session → Bool

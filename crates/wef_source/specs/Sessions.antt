@@ -1,5 +1,5 @@
 -- The sessions of a source, in the order of their names, each name once.
-use Rattle.std.specs.Prelude.{ℕ, ◌==◌, Bool, false, List, [], ◌∷◌, map, Option, Some, None, if◌then◌else◌}
+use Rattle.std.specs.Prelude.{ℕ, ◌==◌, Bool, false, List, [], ◌∷◌, map, is_none, is_some, Option, Some, None, if◌then◌else◌}
 use Rattle.std.specs.Cmp.Lexicographic.{slice_cmp}
 use Rattle.std.specs.Ordering.{nat_cmp}
 use Rattle.std.specs.declared.cmp.Ordering.{Ordering}
@@ -18,6 +18,14 @@ use Rattle.wef_building.specs.declared.sessions.Session.{Session}
 -- whether it is the session of a name
 abbrev pub is_named : List ℕ → Session → Bool
 is_named u s = same s.name u
+
+-- whether a collector began the session
+abbrev pub is_leased : Session → Bool
+is_leased s = is_some s.lease
+
+-- whether its source asked for it
+abbrev pub is_asked_for : Session → Bool
+is_asked_for s = is_none s.lease
 
 -- whether what a session waits for is the answer to this id
 abbrev pub is_outstanding : ℕ → Option Outstanding → Bool
@@ -67,7 +75,7 @@ abbrev pub with_channels : Marks → List (List ℕ) → Marks
 with_channels b [] = b
 with_channels b (c ∷ cs) = with_channels (raised b c 0) cs
 
--- the session of a name that serves a subscription from where it was read, begun at a moment
+-- the session of a name that serves a subscription from where it was read, begun at a moment, for which its source asked
 abbrev pub session_from : ℕ → Subscribe → List ℕ → Session
 session_from now subscribe u = record {
   name = u;
@@ -80,6 +88,7 @@ session_from now subscribe u = record {
   positions = with_channels subscribe.from (channels_of subscribe.query.items);
   outstanding = None;
   last_sent = now;
+  lease = None;
 }
 
 -- the sessions with that of an offer, where its address leads to a subscription

@@ -1,11 +1,13 @@
 //! The sessions of offers.
 
-ghost use Rattle.std.specs.Prelude.{◌≡◌, [], IfOk, IfErr, OnOk};
+ghost use Rattle.std.specs.List.{filter};
+ghost use Rattle.std.specs.Prelude.{◌≡◌, IfOk, IfErr, OnOk};
 ghost use Rattle.wef_eventing.specs.Addresses.{subscription_in};
 ghost use Rattle.wef_eventing.specs.Sending.{AreServable, IsServable};
 ghost use Rattle.wef_query.specs.Order.{IsInOrder};
 ghost use Rattle.wef_query.specs.Selected.{channels_of};
 ghost use Rattle.wef_building.specs.Refusals.{WantsMemory};
+ghost use Rattle.wef_source.specs.Answers.{asked_for};
 ghost use Rattle.wef_source.specs.Placing as placing;
 ghost use Rattle.wef_source.specs.Serving.{AreKept, CanBeServed};
 ghost use Rattle.wef_source.specs.Sessions as spec;
@@ -18,22 +20,51 @@ use wef_building::{Session, SourceFault, copied_address};
 use wef_eventing::{Offer, Subscribe, subscription_in};
 use wef_query::{QueryList, channels};
 
-/// The sessions of offers, begun at a moment, in the order of their names.
+/// What offers make of sessions at a moment: copies of those that collectors began, and the offers', in the
+/// order of their names.
 pub fn sessions_of(
     alloc: Global,
+    sessions: &[Session],
     offers: &List<Offer>,
     now: Moment,
 ) -> Result<Vec<Session>, SourceFault>
-    requires { AreServable offers.now }
-    ensures ok { IfOk result (λ sessions. sessions.items ≡ spec.with_offers now [] offers.now) }
-    ensures kept { IfOk result (λ sessions. AreKept sessions.items) }
+    requires kept { AreKept sessions.now }
+    requires servable { AreServable offers.now }
+    ensures ok { IfOk result (λ made. made.items ≡ spec.with_offers now (filter spec.is_leased sessions.now) offers.now) }
+    ensures kept { IfOk result (λ made. AreKept made.items) }
     ensures refusal { IfErr result WantsMemory }
 {
-    let mut sessions = Vec::new(alloc);
+    let mut made = leased_of(alloc, sessions)?;
     for offer in offers.as_slice() {
-        take_offer(alloc, &mut sessions, &offer.subscribe, now)?;
+        take_offer(alloc, &mut made, &offer.subscribe, now)?;
     }
-    Ok(sessions)
+    Ok(made)
+}
+
+/// Copies of the sessions that collectors began.
+fn leased_of(alloc: Global, sessions: &[Session]) -> Result<Vec<Session>, AllocError>
+    ensures { IfOk result (λ copies. copies.items ≡ filter spec.is_leased sessions.now) }
+{
+    let mut copies = Vec::new(alloc);
+    for session in sessions {
+        if session.lease.is_some() {
+            copies.push(session.clone(alloc)?)?;
+        }
+    }
+    Ok(copies)
+}
+
+/// How many sessions their source asked for.
+pub fn asked_for(sessions: &[Session]) -> u64
+    ensures { result ≡ asked_for sessions.now }
+{
+    let mut count: u64 = 0;
+    for session in sessions {
+        if session.lease.is_none() {
+            count += 1;
+        }
+    }
+    count
 }
 
 /// Takes an offer's session, where its address leads to a subscription. After an error some of the
@@ -82,6 +113,7 @@ fn session_from(
         positions,
         outstanding: None,
         last_sent: now,
+        lease: None,
     })
 }
 

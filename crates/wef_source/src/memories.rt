@@ -19,7 +19,7 @@ ghost use Rattle.wef_source.specs.Serving.{HasKeptSessions};
 ghost use Rattle.wef_source.specs.Sessions as the_sessions;
 ghost use Rattle.wef_source_log.specs.Forms.{AreFormed};
 
-use crate::adopting::sessions_of;
+use crate::adopting::{asked_for, sessions_of};
 use crate::messages::{Delivery, Moved, Poll, Reply};
 use crate::serving::{Answer, answer_waiting, place_of_name, refuse_waiting, send, settle_named};
 use std::alloc::{AllocError, Global};
@@ -103,9 +103,10 @@ impl Memory {
         Ok(id)
     }
 
-    /// Takes the offers that answer the ask, at a moment: the sessions are theirs from now on, and begin where
-    /// the offers say. Of two offers of one name the later stands; one whose address leads to no subscription
-    /// is passed over. Answers how many sessions there are. The offers' batches have to go to addresses of HTTP, with
+    /// Takes the offers that answer the ask, at a moment: they give the sessions that the source asked for from now
+    /// on, which begin where the offers say. A session that a collector began stays, unless an offer has its name.
+    /// Of two offers of one name the later stands; one whose address leads to no subscription is passed over.
+    /// Answers how many sessions the source asked for. The offers' batches have to go to addresses of HTTP, with
     /// identifiers that XML allows.
     pub fn adopt(
         &mut self,
@@ -121,8 +122,8 @@ impl Memory {
         if !agree(self.ask, relates.value) {
             return Err(SourceFault::NotAsked);
         }
-        let sessions = sessions_of(self.alloc, offers, now)?;
-        let count = sessions.len() as u64;
+        let sessions = sessions_of(self.alloc, self.sessions.as_slice(), offers, now)?;
+        let count = asked_for(sessions.as_slice());
         self.sessions = sessions;
         self.ask = None;
         Ok(count)

@@ -122,9 +122,10 @@ impl<K: Keeper> SourceEnd<K> {
         self.memory.ask()
     }
 
-    /// Takes the offers that answer the ask, at a moment: the sessions are theirs from now on, and begin where
-    /// the offers say. Of two offers of one name the later stands; one whose address leads to no subscription
-    /// is passed over. Answers how many sessions there are. The offers' batches have to go to addresses of HTTP, with
+    /// Takes the offers that answer the ask, at a moment: they give the sessions that the source asked for from now
+    /// on, which begin where the offers say. A session that a collector began stays, unless an offer has its name.
+    /// Of two offers of one name the later stands; one whose address leads to no subscription is passed over.
+    /// Answers how many sessions the source asked for. The offers' batches have to go to addresses of HTTP, with
     /// identifiers that XML allows.
     pub fn adopt(
         &mut self,
