@@ -22,6 +22,8 @@ pub enum SourceFault {
     NotAsked,
     #[error("no such subscription")]
     UnknownSubscription,
+    #[error("the subscription has expired")]
+    Expired,
     #[error("no message numbers are left")]
     Spent,
 }

@@ -161,6 +161,7 @@ module _ (rows : Option Rows) (end end' : End) (u : List ℕ) (now : ℕ) (befor
   forward_drawn (Err fronts.NoMemory) exchange is forwards = absurd (unlike exchange fronts.NoMemory (sym is))
   forward_drawn (Err fronts.LinkFailed) exchange is forwards = absurd (unlike exchange fronts.LinkFailed (sym is))
   forward_drawn (Err (fronts.Source faults.UnknownSubscription)) exchange is forwards = let same : end'.drawn ≡ end.drawn = ap (λ (e : End). e.drawn) forwards.2 in omega (arith, same)
+  forward_drawn (Err (fronts.Source faults.Expired)) exchange is forwards = let same : end'.drawn ≡ end.drawn = ap (λ (e : End). e.drawn) forwards.2 in omega (arith, same)
   forward_drawn (Err (fronts.Source faults.NoMemory)) exchange is forwards = absurd forwards
   forward_drawn (Err (fronts.Source faults.Failed)) exchange is forwards = absurd (unlike exchange (fronts.Source faults.Failed) (sym is))
   forward_drawn (Err (fronts.Source faults.Full)) exchange is forwards = absurd forwards.0
@@ -229,6 +230,7 @@ module _ (out : Told) (ending : Ending) (writes : HasFailed out → ⊥) (sure :
   batch_so (Err (fronts.Source faults.TooLong)) fault rows end end' u now before after left same is forwards = absurd forwards.0
   batch_so (Err (fronts.Source faults.NotAsked)) fault rows end end' u now before after left same is forwards = absurd forwards.0
   batch_so (Err (fronts.Source faults.UnknownSubscription)) fault rows end end' u now before after left same is forwards = absurd (unlike Nothing fault same)
+  batch_so (Err (fronts.Source faults.Expired)) fault rows end end' u now before after left same is forwards = absurd (unlike Nothing fault same)
   batch_so (Err (fronts.Source faults.Spent)) fault rows end end' u now before after left same is forwards = absurd (left forwards.0.1)
 
   stops_so : (clock : Option ℕ) (o : Option (List ℕ)) (text : List ℕ) (before now : Running) → ((u : List ℕ) → o ≡ Some u → is_spent before.memory ≡ true → ⊥) → EndsBefore clock o text ending out before now → IsSo
@@ -256,6 +258,7 @@ module _ (out : Told) (ending : Ending) (writes : HasFailed out → ⊥) (sure :
   asked_so clock address s (fronts.Source faults.TooLong) before now left asked is = absurd asked.asked.0
   asked_so clock address s (fronts.Source faults.NotAsked) before now left asked is = absurd asked.asked.0
   asked_so clock address s (fronts.Source faults.UnknownSubscription) before now left asked is = absurd asked.asked.0
+  asked_so clock address s (fronts.Source faults.Expired) before now left asked is = absurd asked.asked.0
   asked_so clock address s (fronts.Source faults.Spent) before now left asked is = absurd (left asked.asked.0)
 
   asks_so : (clock : Option ℕ) (address s : List ℕ) (deliveries : ℕ) (before now : Running) → deliveries ≤ greatest_number → before.memory.drawn ≡ 0 → AsksAndSends clock address s deliveries ending out before now → IsSo

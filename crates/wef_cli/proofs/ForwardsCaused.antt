@@ -60,6 +60,7 @@ module _ (u : List ℕ) (moment : ℕ) (fault : FrontFault) (before now : Runnin
   batch_by (Err (fronts.Source faults.TooLong)) same forwards reads = absurd forwards.0
   batch_by (Err (fronts.Source faults.NotAsked)) same forwards reads = absurd forwards.0
   batch_by (Err (fronts.Source faults.UnknownSubscription)) same forwards reads = absurd (unlike Nothing fault same)
+  batch_by (Err (fronts.Source faults.Expired)) same forwards reads = absurd (unlike Nothing fault same)
   batch_by (Err (fronts.Source faults.Spent)) same forwards reads = absurd (told_so (fronts.Source faults.Spent) refl same)
 
 batch_caused : (clock : Option ℕ) (u : List ℕ) (fault : FrontFault) (before now : Running) → IsSent clock u (Err fault) before now → ends.StoreFailed ≡ front_ending fault
@@ -95,6 +96,7 @@ never_asked faults.Full end refuses is = refuses
 never_asked faults.TooLong end refuses is = refuses
 never_asked faults.NotAsked end refuses is = refuses
 never_asked faults.UnknownSubscription end refuses is = refuses
+never_asked faults.Expired end refuses is = refuses
 never_asked faults.Spent end refuses is = not_failed ends.Spent refl is
 
 -- an ask uses no store
@@ -107,6 +109,7 @@ ask_stored clock address s (fronts.Source faults.Full) before now asked is = nev
 ask_stored clock address s (fronts.Source faults.TooLong) before now asked is = never_asked faults.TooLong before.memory asked.asked.0 is
 ask_stored clock address s (fronts.Source faults.NotAsked) before now asked is = never_asked faults.NotAsked before.memory asked.asked.0 is
 ask_stored clock address s (fronts.Source faults.UnknownSubscription) before now asked is = never_asked faults.UnknownSubscription before.memory asked.asked.0 is
+ask_stored clock address s (fronts.Source faults.Expired) before now asked is = never_asked faults.Expired before.memory asked.asked.0 is
 ask_stored clock address s (fronts.Source faults.Spent) before now asked is = never_asked faults.Spent before.memory asked.asked.0 is
 
 from_caused : (clock : Option ℕ) (deliveries : ℕ) (out : Told) (before now : Running) → SendsFrom clock deliveries ends.StoreFailed out before now → Caused before.store now.store
@@ -128,6 +131,7 @@ start_caused before now faults.Full start refuses is = absurd (not_failed ends.F
 start_caused before now faults.TooLong start refuses is = absurd refuses
 start_caused before now faults.NotAsked start refuses is = absurd refuses
 start_caused before now faults.UnknownSubscription start refuses is = absurd refuses
+start_caused before now faults.Expired start refuses is = absurd refuses
 start_caused before now faults.Spent start refuses is = absurd refuses
 
 pub forwarding_caused : (address s : List ℕ) (deliveries : ℕ) (out : Told) (clock : Option ℕ) (link link' : ports.Told) (before now : Store)

@@ -1,13 +1,14 @@
 -- A delivery that a poll gave and that was exchanged, as forwarding answers it.
 use Rattle.std.proofs.Common.{◌≡◌, ℕ, Bool, true, false, List, refl, sym, subst, inl, inr}
-use Rattle.std.specs.Prelude.{Option, Some, None, Result, Ok, Err, IfSome, is_none}
+use Rattle.std.specs.Prelude.{Option, Some, None, Result, Ok, Err, IfSome, is_none, not}
 use Rattle.wef_keeper.specs.Calls.{fails}
 use Rattle.wef_keeper.specs.Rows.{Rows}
 use Rattle.wef_ports.specs.Telling.{Told}
 use Rattle.wef_source.specs.Answers.{MayRefusePoll, RefusesPoll, may_send}
+use Rattle.wef_building.proofs.Cases.{both_true}
 use Rattle.wef_building.specs.Faults.{source_store}
 use Rattle.wef_source.specs.Machine.{End}
-use Rattle.wef_source.specs.Sessions.{session_of}
+use Rattle.wef_source.specs.Sessions.{has_expired, session_of}
 use Rattle.wef_building.specs.declared.faults.SourceFault.{SourceFault}
 use Rattle.wef_building.specs.declared.faults.SourceFault.TheVariants as faults
 use Rattle.wef_source.specs.declared.messages.Delivery.{Delivery}
@@ -62,7 +63,7 @@ delivered_unread d u before after mid end (Err (Source fault)) delivered = absur
 -- ---- a poll that is refused
 
 module _ (end end' : End) (u : List ℕ) where
-  pub refused_forwards : (rows : Option Rows) (now : ℕ) (before after : Told) (refusal : SourceFault) → MayRefusePoll refusal end u → IfSome rows (λ rows. RefusesPoll refusal rows end u)
+  pub refused_forwards : (rows : Option Rows) (now : ℕ) (before after : Told) (refusal : SourceFault) → MayRefusePoll refusal end u now → IfSome rows (λ rows. RefusesPoll refusal rows end u now)
       → end' ≡ end → after ≡ before → Forwards rows end end' u now before after (Err (refused_by refusal))
   refused_forwards rows now before after faults.NoMemory may by_rows same idle = inl (may, by_rows, same, idle)
   refused_forwards rows now before after faults.Failed may by_rows same idle = (may, by_rows, same, idle)
@@ -70,25 +71,27 @@ module _ (end end' : End) (u : List ℕ) where
   refused_forwards rows now before after faults.TooLong may by_rows same idle = absurd may
   refused_forwards rows now before after faults.NotAsked may by_rows same idle = absurd may
   refused_forwards rows now before after faults.UnknownSubscription may by_rows same idle = (may, by_rows, same, idle)
+  refused_forwards rows now before after faults.Expired may by_rows same idle = (may, by_rows, same, idle)
   refused_forwards rows now before after faults.Spent may by_rows same idle = (may, by_rows, same, idle)
 
   -- where a session may send, it awaits nothing
-  may_send_awaits : (session : Option Session) → may_send session ≡ true → IfSome session (λ session. session.outstanding ≡ None)
-  may_send_awaits None may = tt
-  may_send_awaits (Some session) may = by session.outstanding may
+  may_send_awaits : (now : ℕ) (session : Option Session) → may_send now session ≡ true → IfSome session (λ session. session.outstanding ≡ None)
+  may_send_awaits now None may = tt
+  may_send_awaits now (Some session) may = by session.outstanding (both_true (not (has_expired now session)) (is_none session.outstanding) may).1
     where
       by : (o : Option Outstanding) → is_none o ≡ true → o ≡ None
       by None may = refl
       by (Some outstanding) may = cc
 
-  pub refused_settles : (refusal : SourceFault) → MayRefusePoll refusal end u → end' ≡ end → Settles end' u (Err (refused_by refusal))
-  refused_settles faults.NoMemory may same = subst (λ (e : End). AwaitsNothing e u) (sym same) (may_send_awaits (session_of end.sessions u) may)
-  refused_settles faults.Failed may same = tt
-  refused_settles faults.Full may same = tt
-  refused_settles faults.TooLong may same = tt
-  refused_settles faults.NotAsked may same = tt
-  refused_settles faults.UnknownSubscription may same = tt
-  refused_settles faults.Spent may same = tt
+  pub refused_settles : (now : ℕ) (refusal : SourceFault) → MayRefusePoll refusal end u now → end' ≡ end → Settles end' u (Err (refused_by refusal))
+  refused_settles now faults.NoMemory may same = subst (λ (e : End). AwaitsNothing e u) (sym same) (may_send_awaits now (session_of end.sessions u) may)
+  refused_settles now faults.Failed may same = tt
+  refused_settles now faults.Full may same = tt
+  refused_settles now faults.TooLong may same = tt
+  refused_settles now faults.NotAsked may same = tt
+  refused_settles now faults.UnknownSubscription may same = tt
+  refused_settles now faults.Expired may same = tt
+  refused_settles now faults.Spent may same = tt
 
 -- what it says of the store is what the poll says
 pub refused_reads : (refusal : SourceFault) → fails source_store (refusal_of (Err (refused_by refusal))) ≡ fails {T = Poll} source_store (Err refusal)
@@ -98,4 +101,5 @@ refused_reads faults.Full = refl
 refused_reads faults.TooLong = refl
 refused_reads faults.NotAsked = refl
 refused_reads faults.UnknownSubscription = refl
+refused_reads faults.Expired = refl
 refused_reads faults.Spent = refl

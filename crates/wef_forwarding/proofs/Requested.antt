@@ -64,4 +64,5 @@ not_asked host s end end' now before after faults.Full refuses same idle = (refu
 not_asked host s end end' now before after faults.TooLong refuses same idle = (refuses, same, idle)
 not_asked host s end end' now before after faults.NotAsked refuses same idle = (refuses, same, idle)
 not_asked host s end end' now before after faults.UnknownSubscription refuses same idle = (refuses, same, idle)
+not_asked host s end end' now before after faults.Expired refuses same idle = (refuses, same, idle)
 not_asked host s end end' now before after faults.Spent refuses same idle = (refuses, same, idle)

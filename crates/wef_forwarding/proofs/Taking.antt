@@ -15,7 +15,7 @@ use Rattle.wef_source.specs.Machine.{End, lost_in, next_id}
 use Rattle.wef_source.specs.Serving.{CanBeServed, HasKeptSessions}
 use Rattle.wef_source.specs.Sessions.{first_where, is_named, sending, session_of, settled, waits_for, with_changed}
 use Rattle.wef_building.specs.declared.faults.SourceFault.{SourceFault}
-use Rattle.wef_building.specs.declared.faults.SourceFault.TheVariants.{NoMemory, Failed, Full, TooLong, NotAsked, UnknownSubscription, Spent}
+use Rattle.wef_building.specs.declared.faults.SourceFault.TheVariants.{NoMemory, Failed, Full, TooLong, NotAsked, UnknownSubscription, Expired, Spent}
 use Rattle.wef_source.specs.declared.messages.Delivery.{Delivery}
 use Rattle.wef_source.specs.declared.messages.Moved.{Moved}
 use Rattle.wef_source.specs.declared.messages.Moved.TheVariants as moves
@@ -62,6 +62,7 @@ not_refused Full end id bad awaited = absurd bad
 not_refused TooLong end id bad awaited = absurd bad
 not_refused NotAsked end id bad awaited = nobody (waiting_for end id.value) bad awaited
 not_refused UnknownSubscription end id bad awaited = absurd bad
+not_refused Expired end id bad awaited = absurd bad
 not_refused Spent end id bad awaited = absurd bad
 
 -- ---- no reply
@@ -88,6 +89,7 @@ lost_nowhere Full end u bad = absurd bad
 lost_nowhere TooLong end u bad = absurd bad
 lost_nowhere NotAsked end u bad = absurd bad
 lost_nowhere UnknownSubscription end u none = ap (λ (ss : List Session). record end { sessions = ss }) (sym (none_changed (is_named u) settled end.sessions none))
+lost_nowhere Expired end u bad = absurd bad
 lost_nowhere Spent end u bad = absurd bad
 
 -- a session that gives up waits for nothing, whether it was there or not

@@ -77,18 +77,18 @@ abbrev pub Idles : Option Rows → End → End → List ℕ → ℕ → Told →
 Idles rows end end' u now before after = Polled rows end end' u now polls.Nothing × (after ≡ before)
 
 -- The poll was refused.
-abbrev pub RefusesToForward : SourceFault → Option Rows → End → End → List ℕ → Told → Told → Type 0
-RefusesToForward fault rows end end' u before after =
-    MayRefusePoll fault end u × IfSome rows (λ rows. RefusesPoll fault rows end u) × (end' ≡ end) × (after ≡ before)
+abbrev pub RefusesToForward : SourceFault → Option Rows → End → End → List ℕ → ℕ → Told → Told → Type 0
+RefusesToForward fault rows end end' u now before after =
+    MayRefusePoll fault end u now × IfSome rows (λ rows. RefusesPoll fault rows end u now) × (end' ≡ end) × (after ≡ before)
 
 -- What forwarding does to a source and a link, by its answer. Where memory was wanting, the poll was refused, or its delivery was
 -- exchanged.
 abbrev pub Forwards : Option Rows → End → End → List ℕ → ℕ → Told → Told → Result Exchange FrontFault → Type 0
 Forwards rows end end' u now before after (Ok Nothing) = Idles rows end end' u now before after
 Forwards rows end end' u now before after (Err (Source faults.NoMemory)) = ⊥
-Forwards rows end end' u now before after (Err (Source refusal)) = RefusesToForward refusal rows end end' u before after
+Forwards rows end end' u now before after (Err (Source refusal)) = RefusesToForward refusal rows end end' u now before after
 Forwards rows end end' u now before after (Err NoMemory) =
-    RefusesToForward faults.NoMemory rows end end' u before after ⊎ Delivers rows end end' u now before after (Err NoMemory)
+    RefusesToForward faults.NoMemory rows end end' u now before after ⊎ Delivers rows end end' u now before after (Err NoMemory)
 Forwards rows end end' u now before after result = Delivers rows end end' u now before after result
 
 -- ---- what is awaited

@@ -53,7 +53,7 @@ pub fn forward_once<L: Link, K: Keeper>(
     ensures settled { Settles source.new.memory sub.now result }
     ensures later { (L.told link.old).faults ≤ (L.told link.new).faults }
     ensures reads { OpensAndReads AreFormed (fails source_store (refusal_of result)) (K.store source.old.keeper) (K.store source.new.keeper) }
-    ensures untouched { may_send (session_of source.old.memory.sessions sub.now) ≡ false → source.new.keeper ≡ source.old.keeper }
+    ensures untouched { may_send now (session_of source.old.memory.sessions sub.now) ≡ false → source.new.keeper ≡ source.old.keeper }
     ensures name { source.new.name ≡ source.old.name }
 {
     source.sessions_are_kept();

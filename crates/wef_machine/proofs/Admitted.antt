@@ -21,7 +21,7 @@ use Rattle.wef_replay.specs.Good.{AreGood, Names, allows, has_end, is_among, is_
 use Rattle.wef_replay.specs.declared.lines.Line.{Line}
 use Rattle.wef_replay.specs.declared.lines.Line.TheVariants.{Subscribe, End, Batch, Source, Write, WriteXml, Ask, Poll, Deliver, Back, Lost, Crash, Fail, Stop, Calm, Show, Print}
 use Rattle.wef_source.specs.Machine as machine
-use Rattle.wef_source.specs.Sessions.{session_of}
+use Rattle.wef_source.specs.Sessions.{has_expired, session_of}
 use Rattle.wef_building.specs.declared.sessions.Session.{Session}
 use Rattle.wef_source_log.specs.Answers.{write_effect}
 use Rattle.wef_source_log.specs.declared.faults.LogFault.{LogFault}
@@ -122,8 +122,9 @@ keeps_poll s u now slot end there = by (session_of end.sessions u)
     by : (session : Option Session) → HasSameSources now (poll_in s now slot end session)
     by None = same_itself now
     by (Some session) =
-        same_either now (machine.is_idle slot.place.rows session) _ _ (same_itself now)
-        (same_either now (machine.is_spent end) _ _ (same_itself now) (same_message now _ _ (same_slot now s slot _ there)))
+        same_either now (has_expired now.moment session) _ _ (same_itself now)
+        (same_either now (machine.is_idle slot.place.rows session) _ _ (same_itself now)
+        (same_either now (machine.is_spent end) _ _ (same_itself now) (same_message now _ _ (same_slot now s slot _ there))))
 
 same_taken : (state : State) (message : Message) → HasSameSources state (taken_by state message)
 same_taken state (sent.Ask s id) = same_at_collector state (offers_at s id) (λ ids now. same_reply now now _ _ (same_itself now))

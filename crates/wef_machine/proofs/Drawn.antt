@@ -37,7 +37,7 @@ use Rattle.wef_replay_values.specs.declared.end_name.EndName.TheVariants as ends
 use Rattle.wef_replay.specs.declared.lines.Line.{Line}
 use Rattle.wef_replay.specs.declared.lines.Line.TheVariants.{Subscribe, End, Batch, Source, Write, WriteXml, Ask, Poll, Deliver, Back, Lost, Crash, Fail, Stop, Calm, Show, Print}
 use Rattle.wef_source.specs.Machine as machine
-use Rattle.wef_source.specs.Sessions.{session_of}
+use Rattle.wef_source.specs.Sessions.{has_expired, session_of}
 use Rattle.wef_source.specs.declared.messages.Delivery.{Delivery}
 use Rattle.wef_building.specs.declared.sessions.Session.{Session}
 use Rattle.wef_source_log.specs.Answers as log
@@ -350,7 +350,8 @@ poll_draws s u now slot end drawn = by_session (session_of end.sessions u)
     by_session : (session : Option Session) → Draws (poll_in s now slot end session)
     by_session None = drawn
     by_session (Some session) =
-        either_draws (machine.is_idle slot.place.rows session) _ _ drawn (either_draws (machine.is_spent end) _ _ drawn (sends now _ refl drawn))
+        either_draws (has_expired now.moment session) _ _ drawn
+        (either_draws (machine.is_idle slot.place.rows session) _ _ drawn (either_draws (machine.is_spent end) _ _ drawn (sends now _ refl drawn)))
 
 -- ---- lines
 

@@ -30,7 +30,7 @@ use Rattle.wef_replay_values.specs.declared.end_name.EndName.TheVariants as ends
 use Rattle.wef_replay.specs.declared.lines.Line.{Line}
 use Rattle.wef_replay.specs.declared.lines.Line.TheVariants.{Subscribe, End, Batch, Source, Write, WriteXml, Ask, Poll, Deliver, Back, Lost, Crash, Fail, Stop, Calm, Show, Print}
 use Rattle.wef_source.specs.Machine as machine
-use Rattle.wef_source.specs.Sessions.{session_of}
+use Rattle.wef_source.specs.Sessions.{has_expired, session_of}
 use Rattle.wef_source.specs.declared.messages.Delivery.{Delivery}
 use Rattle.wef_building.specs.declared.sessions.Session.{Session}
 use Rattle.wef_source_log.specs.Answers as log
@@ -164,7 +164,8 @@ poll_leaves s u now slot end = by (session_of end.sessions u)
     by : (session : Option Session) → Lasts now (poll_in s now slot end session)
     by None = as_it_is now
     by (Some session) =
-        either_lasts now (machine.is_idle slot.place.rows session) _ _ (as_it_is now) (either_lasts now (machine.is_spent end) _ _ (as_it_is now) (as_it_is now))
+        either_lasts now (has_expired now.moment session) _ _ (as_it_is now)
+        (either_lasts now (machine.is_idle slot.place.rows session) _ _ (as_it_is now) (either_lasts now (machine.is_spent end) _ _ (as_it_is now) (as_it_is now)))
 
 -- ---- lines
 

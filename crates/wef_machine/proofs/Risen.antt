@@ -34,7 +34,7 @@ use Rattle.wef_source.specs.Answers.{waiting_for}
 use Rattle.wef_building.specs.Building.{built}
 use Rattle.wef_source.specs.Machine.{End as Memory}
 use Rattle.wef_source.specs.Machine.{acknowledged_in, adopted, asked, delivery_of, is_idle, is_spent, is_unreachable, lost_in, next_id, refused_in, sent as sent_by, start_of}
-use Rattle.wef_source.specs.Sessions.{acknowledged, is_leased, is_named, is_outstanding, moved_by, sending, session_from, session_of, settled, waits_for, with_changed, with_channels, with_offered, with_offers, without}
+use Rattle.wef_source.specs.Sessions.{acknowledged, has_expired, is_leased, is_named, is_outstanding, moved_by, sending, session_from, session_of, settled, waits_for, with_changed, with_channels, with_offered, with_offers, without}
 use Rattle.wef_source.specs.declared.messages.Delivery.{Delivery}
 use Rattle.wef_building.specs.declared.sessions.Outstanding.{Outstanding}
 use Rattle.wef_building.specs.declared.sessions.Session.{Session}
@@ -278,8 +278,9 @@ poll_stands lower past line s u kept all = at_source_stands lower past line s (p
     by_session now slot end kept_now still stands there runs None found = stands
     by_session now slot end kept_now still stands there runs (Some session) found =
         let sends : State = with_message (with_end now s slot (sent_by slot.place.rows end session now.moment)) (sent.Events s (delivery_of slot.place.rows end session)) in
-        cond_both (is_idle slot.place.rows session) now (cond (is_spent end) now sends) (Stands past line) (λ idle. stands)
-        (λ some. cond_both (is_spent end) now sends (Stands past line) (λ spent. stands) (λ left. sent_stands lower past line now s u slot end session all kept_now still stands there runs found))
+        cond_both (has_expired now.moment session) now (cond (is_idle slot.place.rows session) now (cond (is_spent end) now sends)) (Stands past line) (λ over. stands)
+        (λ on. cond_both (is_idle slot.place.rows session) now (cond (is_spent end) now sends) (Stands past line) (λ idle. stands)
+        (λ some. cond_both (is_spent end) now sends (Stands past line) (λ spent. stands) (λ left. sent_stands lower past line now s u slot end session all kept_now still stands there runs found)))
 
 -- what ends a session's waiting leaves it where it stands
 settled_stand : (past : List Line) (line : Line) (now : State) (s : List ℕ) (slot : Slot) (end : Memory) (test : Session → Bool) → Stands past line now → slot_of now s ≡ Some slot → slot.place.memory ≡ Some end →

@@ -38,7 +38,7 @@ use Rattle.wef_building.specs.Laws.{AreWithin}
 use Rattle.wef_source.specs.Machine.{End, acknowledged_in, adopted, asked, delivery_of, is_idle, is_spent, is_unreachable, lost_in, most_drawn, next_id, refused_in, sent, start_of}
 use Rattle.wef_source.proofs.InOrder.{acknowledged_name, changed_in_order, filter_in_order, none_in_order, sending_name, settled_name, without_in_order}
 use Rattle.wef_source.proofs.Placements.{with_offers_in_order}
-use Rattle.wef_source.specs.Sessions.{acknowledged, is_leased, is_named, names_of, sending, session_of, settled, waits_for, with_changed, without}
+use Rattle.wef_source.specs.Sessions.{acknowledged, has_expired, is_leased, is_named, names_of, sending, session_of, settled, waits_for, with_changed, without}
 use Rattle.wef_building.specs.declared.sessions.Outstanding.{Outstanding}
 use Rattle.wef_building.specs.declared.sessions.Session.{Session}
 use Rattle.wef_machine.specs.Arming.{armed_after, committed, fate, fate_of, is_done, is_stopped}
@@ -516,7 +516,9 @@ poll_keeps lower state s u kept = at_source_keeps lower state s (poll_at s u) ke
     by_session : (now : State) (slot : Slot) (end : End) → IsKept now → slot_of now s ≡ Some slot → slot.place.memory ≡ Some end → (o : Option Session) → session_of end.sessions u ≡ o →
         IsKept (poll_in s now slot end o)
     by_session now slot end kept_now there runs None found = kept_now
-    by_session now slot end kept_now there runs (Some session) found = poll_session_keeps lower now s u slot end session kept_now there runs found
+    by_session now slot end kept_now there runs (Some session) found =
+        cond_both (has_expired now.moment session) now (poll_session s now slot end session) IsKept (λ over. kept_now)
+        (λ on. poll_session_keeps lower now s u slot end session kept_now there runs found)
 
 -- ---- what ends a session's waiting
 

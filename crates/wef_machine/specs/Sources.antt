@@ -12,7 +12,7 @@ use Rattle.wef_source_log.specs.LogWindow.{last_of}
 use Rattle.wef_source_log.specs.declared.faults.LogFault as the_log_fault
 use Rattle.wef_source_log.specs.declared.faults.LogFault.TheVariants as log_faults
 use Rattle.wef_source.specs.Machine.{End, asked, delivery_of, is_idle, is_spent, lost_in, next_id, sent, start_of}
-use Rattle.wef_source.specs.Sessions.{session_of}
+use Rattle.wef_source.specs.Sessions.{has_expired, session_of}
 use Rattle.wef_building.specs.declared.sessions.Session.{Session}
 use Rattle.wef_machine.specs.Arming.{fate, is_kept}
 use Rattle.wef_machine.specs.Places.{Place, commits, new_place, opened, opening}
@@ -121,7 +121,7 @@ poll_session s state slot end session =
 
 abbrev pub poll_in : List ℕ → State → Slot → End → Option Session → State
 poll_in s state slot end None = state
-poll_in s state slot end (Some session) = poll_session s state slot end session
+poll_in s state slot end (Some session) = if has_expired state.moment session then state else poll_session s state slot end session
 
 abbrev pub poll_at : List ℕ → List ℕ → State → Slot → End → State
 poll_at s u state slot end = poll_in s state slot end (session_of end.sessions u)
@@ -133,7 +133,8 @@ poll_session_text s u state slot end session =
 
 abbrev pub poll_text_in : List ℕ → List ℕ → State → Slot → End → Option Session → List ℕ
 poll_text_in s u state slot end None = pair_line (codes "unknown") s u
-poll_text_in s u state slot end (Some session) = poll_session_text s u state slot end session
+poll_text_in s u state slot end (Some session) =
+    if has_expired state.moment session then pair_line (codes "expired") s u else poll_session_text s u state slot end session
 
 abbrev pub poll_text : List ℕ → List ℕ → State → Slot → End → List ℕ
 poll_text s u state slot end = poll_text_in s u state slot end (session_of end.sessions u)

@@ -9,7 +9,7 @@ use Rattle.wef_machine.specs.declared.messages.Message.TheVariants.{Ask, Events}
 use Rattle.wef_places.specs.declared.places.Used.{Used}
 use Rattle.wef_places.specs.declared.places.Used.TheVariants.{Closed, Answered}
 use Rattle.wef_places.specs.declared.slots.Polled.{Polled}
-use Rattle.wef_places.specs.declared.slots.Polled.TheVariants.{Unknown, Nothing, Spent, Sent}
+use Rattle.wef_places.specs.declared.slots.Polled.TheVariants.{Unknown, Expired, Nothing, Spent, Sent}
 
 -- a world after an ask: it is sent, where an id was left
 abbrev pub with_asked : State → List ℕ → Used (Option MessageId) → State
@@ -32,6 +32,7 @@ with_polled state s _ = state
 abbrev pub polled_line : List ℕ → List ℕ → ℕ → Used Polled → List ℕ
 polled_line s u n (Closed how) = fate_line how s
 polled_line s u n (Answered Unknown) = pair_line (codes "unknown") s u
+polled_line s u n (Answered Expired) = pair_line (codes "expired") s u
 polled_line s u n (Answered Nothing) = pair_line (codes "nothing") s u
 polled_line s u n (Answered Spent) = name_line (codes "spent") s
 polled_line s u n (Answered (Sent delivery)) = sent_events_line n s u

@@ -12,7 +12,7 @@ use Rattle.wef_keeper.specs.Calls.{Effect}
 use Rattle.wef_source.specs.Answers.{waiting_for}
 use Rattle.wef_source.specs.Calls as source
 use Rattle.wef_source.specs.Machine.{End, asked, delivery_of, is_idle, is_spent, next_id, sent}
-use Rattle.wef_source.specs.Sessions.{session_of}
+use Rattle.wef_source.specs.Sessions.{has_expired, session_of}
 use Rattle.wef_building.specs.declared.faults.SourceFault as the_fault
 use Rattle.wef_building.specs.declared.faults.SourceFault.TheVariants as faults
 use Rattle.wef_source.specs.declared.messages.Reply.{Reply}
@@ -100,13 +100,15 @@ AsksBy slot slot' end (Some id) =
 abbrev pub AsksAs : Slot → Slot → Used (Option MessageId) → Type 0
 AsksAs slot slot' = Uses slot slot' (AsksBy (slot_opened slot) slot')
 
--- A session sends a delivery, unless it has nothing to send or no id is left.
+-- A session sends a delivery, unless it has expired, has nothing to send, or no id is left.
 abbrev pub PollsSession : Slot → Slot → End → Session → ℕ → Polled → Type 0
 PollsSession slot slot' end session now polled.Unknown = ⊥
-PollsSession slot slot' end session now polled.Nothing = (is_idle slot.place.rows session ≡ true) × (slot' ≡ slot)
-PollsSession slot slot' end session now polled.Spent = (is_idle slot.place.rows session ≡ false) × (is_spent end ≡ true) × (slot' ≡ slot)
+PollsSession slot slot' end session now polled.Expired = (has_expired now session ≡ true) × (slot' ≡ slot)
+PollsSession slot slot' end session now polled.Nothing = (has_expired now session ≡ false) × (is_idle slot.place.rows session ≡ true) × (slot' ≡ slot)
+PollsSession slot slot' end session now polled.Spent =
+    (has_expired now session ≡ false) × (is_idle slot.place.rows session ≡ false) × (is_spent end ≡ true) × (slot' ≡ slot)
 PollsSession slot slot' end session now (polled.Sent delivery) =
-    (is_idle slot.place.rows session ≡ false) × (is_spent end ≡ false) × (delivery ≡ delivery_of slot.place.rows end session)
+    (has_expired now session ≡ false) × (is_idle slot.place.rows session ≡ false) × (is_spent end ≡ false) × (delivery ≡ delivery_of slot.place.rows end session)
     × (slot' ≡ slot_with slot (remembering slot.place (sent slot.place.rows end session now)))
 
 abbrev pub PollsIn : Slot → Slot → End → Option Session → ℕ → Polled → Type 0

@@ -170,6 +170,8 @@ impl Model for Slot {
 pub enum Polled {
     /// No session has the name.
     Unknown,
+    /// The session's time is over.
+    Expired,
     /// The session has nothing to send.
     Nothing,
     /// No message numbers are left.
@@ -285,6 +287,7 @@ impl Slot {
             Ok(Poll::Send(delivery)) => Ok(Used::Answered(Polled::Sent(delivery))),
             Ok(Poll::Nothing) => Ok(Used::Answered(Polled::Nothing)),
             Err(SourceFault::UnknownSubscription) => Ok(Used::Answered(Polled::Unknown)),
+            Err(SourceFault::Expired) => Ok(Used::Answered(Polled::Expired)),
             Err(SourceFault::Spent) => Ok(Used::Answered(Polled::Spent)),
             Err(_) => Err(WorldFault::NoMemory),
         }

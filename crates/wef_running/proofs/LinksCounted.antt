@@ -30,6 +30,7 @@ of_source faults.Full is = cc
 of_source faults.TooLong is = cc
 of_source faults.NotAsked is = cc
 of_source faults.UnknownSubscription is = cc
+of_source faults.Expired is = cc
 of_source faults.Spent is = cc
 
 of_link : (fault : FrontFault) → ends.LinkFailed ≡ front_ending fault → fault ≡ fronts.LinkFailed
@@ -64,6 +65,7 @@ module _ (before now : ports.Told) where
   forwards_later rows end end' u moment (Err (fronts.Source faults.TooLong)) refuses = itself before now refuses.3
   forwards_later rows end end' u moment (Err (fronts.Source faults.NotAsked)) refuses = itself before now refuses.3
   forwards_later rows end end' u moment (Err (fronts.Source faults.UnknownSubscription)) refuses = itself before now refuses.3
+  forwards_later rows end end' u moment (Err (fronts.Source faults.Expired)) refuses = itself before now refuses.3
   forwards_later rows end end' u moment (Err (fronts.Source faults.Spent)) refuses = itself before now refuses.3
 
   -- one that failed in the link
@@ -86,6 +88,7 @@ which_answer (Err (fronts.Source faults.Full)) is = cc
 which_answer (Err (fronts.Source faults.TooLong)) is = cc
 which_answer (Err (fronts.Source faults.NotAsked)) is = cc
 which_answer (Err (fronts.Source faults.UnknownSubscription)) is = cc
+which_answer (Err (fronts.Source faults.Expired)) is = cc
 which_answer (Err (fronts.Source faults.Spent)) is = cc
 
 sent_rose : (clock : Option ℕ) (u : List ℕ) (before now : Running) → IsSent clock u (Err fronts.LinkFailed) before now → Rose before.link.faults now.link.faults

@@ -90,9 +90,10 @@ pub record Running : Type 0 where
 abbrev pub IsMoment : Option ℕ → ℕ → Type 0
 IsMoment clock now = IfSome clock (λ m. now ≡ m)
 
--- a session that isn't there has nothing to send
+-- a session that isn't there, or has expired, has nothing to send
 abbrev pub unless_gone : Result Exchange FrontFault → Result Exchange FrontFault
 unless_gone (Err (fronts.Source faults.UnknownSubscription)) = Ok Nothing
+unless_gone (Err (fronts.Source faults.Expired)) = Ok Nothing
 unless_gone result = result
 
 -- The next batch of the session of a name is forwarded, at a moment of the clock.

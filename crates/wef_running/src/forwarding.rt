@@ -189,12 +189,13 @@ fn send_next<K: Keeper, O: Sink, L: Link, C: Clock>(
     }
 }
 
-/// A session that isn't there has nothing to send.
+/// A session that isn't there, or has expired, has nothing to send.
 fn unless_gone(answer: Result<Exchange, FrontFault>) -> Result<Exchange, FrontFault>
     ensures { result ≡ spec.unless_gone answer }
 {
     match answer {
         Err(FrontFault::Source(SourceFault::UnknownSubscription)) => Ok(Exchange::Nothing),
+        Err(FrontFault::Source(SourceFault::Expired)) => Ok(Exchange::Nothing),
         Err(fault) => Err(fault),
         Ok(exchange) => Ok(exchange),
     }

@@ -1,5 +1,5 @@
 -- A session awaits at most the answer to an id that was drawn.
-use Rattle.std.proofs.Common.{ℕ, ◌<◌, ◌≤◌, Bool, true, false, cond, List, [], ◌∷◌, arith}
+use Rattle.std.proofs.Common.{◌≡◌, sym, subst, ℕ, ◌<◌, ◌≤◌, Bool, true, false, cond, List, [], ◌∷◌, arith}
 use Rattle.std.specs.Cmp.Lexicographic.{slice_cmp}
 use Rattle.std.specs.List.{filter}
 use Rattle.std.specs.Ordering.{nat_cmp}
@@ -12,7 +12,7 @@ use Rattle.wef_eventing.specs.declared.offers.Subscribe.{Subscribe}
 use Rattle.wef_ids.specs.declared.FaultName.{FaultName}
 use Rattle.wef_source.specs.Machine.{is_unreachable}
 use Rattle.wef_source.specs.Serving.{AwaitBelow, AwaitsBelow}
-use Rattle.wef_source.specs.Sessions.{answered, moved_by, placed, sending, session_from, settled, with_changed, with_offered, with_offers, with_session, waits_for, without}
+use Rattle.wef_source.specs.Sessions.{answered, moved_by, placed, prolonged, sending, session_from, settled, with_changed, with_offered, with_offers, with_session, waits_for, without}
 use Rattle.wef_source.specs.declared.serving.Answer.{Answer}
 use Rattle.wef_source.specs.declared.serving.Answer.TheVariants.{Taken, Refused}
 use Rattle.wef_building.specs.declared.sessions.Outstanding.{Outstanding}
@@ -29,7 +29,7 @@ changed_below next test change keeps (s ∷ ss) all = by (test s) (changed_below
     by true more = (keeps s all.0, all.1)
     by false more = (all.0, more)
 
-without_below : (next : ℕ) (test : Session → Bool) (ss : List Session) → AwaitBelow next ss → AwaitBelow next (without test ss)
+pub without_below : (next : ℕ) (test : Session → Bool) (ss : List Session) → AwaitBelow next ss → AwaitBelow next (without test ss)
 without_below next test [] all = tt
 without_below next test (s ∷ ss) all = by (test s) (without_below next test ss all.1)
   where
@@ -44,6 +44,9 @@ filtered_below next test (s ∷ ss) all = by (test s) (filtered_below next test 
     by : (b : Bool) → AwaitBelow next (filter test ss) → AwaitBelow next (cond b (s ∷ filter test ss) (filter test ss))
     by true more = (all.0, more)
     by false more = more
+
+pub prolonged_below : (next expiry : ℕ) (s : Session) → AwaitsBelow next s → AwaitsBelow next (prolonged expiry s)
+prolonged_below next expiry s below = below
 
 pub settled_below : (next : ℕ) (s : Session) → AwaitsBelow next s → AwaitsBelow next (settled s)
 settled_below next s below = tt
@@ -64,6 +67,10 @@ refused_below next id fault ss all = by (is_unreachable fault)
     by : (b : Bool) → AwaitBelow next (cond b (without (waits_for id) ss) (with_changed (waits_for id) settled ss))
     by true = without_below next (waits_for id) ss all
     by false = changed_below next (waits_for id) settled (settled_below next) ss all
+
+-- a session that awaits nothing awaits no id
+pub idle_below : (next : ℕ) (s : Session) → s.outstanding ≡ None → AwaitsBelow next s
+idle_below next s idle = subst (λ (o : Option Outstanding). AwaitsBelow next (record s { outstanding = o })) (sym idle) tt
 
 -- ---- the next id
 
@@ -87,7 +94,7 @@ placed_below next Less new s ss rest one all more = (one, all)
 placed_below next Equal new s ss rest one all more = (one, all.1)
 placed_below next Greater new s ss rest one all more = (all.0, more)
 
-with_below : (next : ℕ) (ss : List Session) (new : Session) → AwaitBelow next ss → AwaitsBelow next new → AwaitBelow next (with_session ss new)
+pub with_below : (next : ℕ) (ss : List Session) (new : Session) → AwaitBelow next ss → AwaitsBelow next new → AwaitBelow next (with_session ss new)
 with_below next [] new all one = (one, tt)
 with_below next (s ∷ ss) new all one = placed_below next (slice_cmp nat_cmp new.name s.name) new s ss (with_session ss new) one all (with_below next ss new all.1 one)
 

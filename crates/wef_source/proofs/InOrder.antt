@@ -8,7 +8,7 @@ use Rattle.std.specs.Ordering.{nat_cmp}
 use Rattle.std.specs.declared.cmp.Ordering.TheVariants.{Less, Equal}
 use Rattle.wef_base.specs.Names.{same}
 use Rattle.wef_query.specs.Order.{IsInOrder}
-use Rattle.wef_source.specs.Sessions.{acknowledged, answered, is_named, moved_by, names_of, sending, settled, with_changed, without}
+use Rattle.wef_source.specs.Sessions.{acknowledged, answered, is_named, moved_by, names_of, prolonged, sending, settled, with_changed, without}
 use Rattle.wef_source.specs.declared.serving.Answer.{Answer}
 use Rattle.wef_source.specs.declared.serving.Answer.TheVariants.{Taken, Refused}
 use Rattle.wef_building.specs.declared.sessions.Outstanding.{Outstanding}
@@ -19,6 +19,9 @@ use Rattle.std.specs.declared.option.Option.TheVariants.{Some, None}
 
 pub settled_name : (s : Session) → (settled s).name ≡ s.name
 settled_name s = refl
+
+pub prolonged_name : (expiry : ℕ) (s : Session) → (prolonged expiry s).name ≡ s.name
+prolonged_name expiry s = refl
 
 pub sending_name : (outstanding : Outstanding) (now : ℕ) (s : Session) → (sending outstanding now s).name ≡ s.name
 sending_name outstanding now s = refl

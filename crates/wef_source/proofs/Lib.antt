@@ -1,4 +1,5 @@
 pub mod DrawnIds
+pub mod EndNotes
 pub mod FirstChanged
 pub mod Handed
 pub mod InOrder

@@ -1,6 +1,6 @@
 -- A poll of the session of a name.
 use Rattle.std.proofs.Common.{◌≡◌, ℕ, ◌+◌, ◌<◌, true, false, List, get_or, length, set, refl, ap, sym, subst, ◌∙◌, Some, None}
-use Rattle.std.specs.Prelude.{Option, Ok, Err, IfSome, is_none, is_some}
+use Rattle.std.specs.Prelude.{Bool, Option, Ok, Err, IfSome, is_none, is_some, not, ◌&&◌}
 use Rattle.std.specs.FinMap as map
 use Rattle.std.specs.List.{position}
 use Rattle.std.proofs.lemmas.List.Elements.{All-set}
@@ -19,9 +19,9 @@ use Rattle.wef_source.specs.Machine.{End, is_idle, sent}
 use Rattle.wef_source.specs.Prepared.{Draws, MayRefuseToPrepare, Prepares, RefusesToPrepare}
 use Rattle.wef_building.specs.Reading.{ReadsAbove}
 use Rattle.wef_source.specs.Serving.{AreKept, CanBeServed}
-use Rattle.wef_source.specs.Sessions.{is_named, sending, session_of, with_changed}
+use Rattle.wef_source.specs.Sessions.{has_expired, is_named, sending, session_of, with_changed}
 use Rattle.wef_building.specs.declared.faults.SourceFault.{SourceFault}
-use Rattle.wef_building.specs.declared.faults.SourceFault.TheVariants.{NoMemory, Failed, Full, TooLong, NotAsked, UnknownSubscription, Spent}
+use Rattle.wef_building.specs.declared.faults.SourceFault.TheVariants.{NoMemory, Failed, Full, TooLong, NotAsked, UnknownSubscription, Expired, Spent}
 use Rattle.wef_source.specs.declared.messages.Delivery.{Delivery}
 use Rattle.wef_source.specs.declared.messages.Poll.{Poll}
 use Rattle.wef_source.specs.declared.messages.Poll.TheVariants.{Send, Nothing}
@@ -32,6 +32,7 @@ use Rattle.wef_source.proofs.Served.{read_served, sending_served}
 use Rattle.wef_source.proofs.Remembered.{are_reaches, first_changed}
 use Rattle.wef_query.specs.Selected.{channels_of}
 use Rattle.wef_source.proofs.InOrder.{changed_in_order, sending_name}
+use Rattle.wef_building.proofs.Cases.{both_true}
 use Rattle.wef_building.proofs.Told.{any_told, if_told}
 
 -- the session at the place at which a name is found
@@ -45,14 +46,15 @@ pub polls_judged : (told : Option Rows) (end : End) (u : List ℕ) (s : Session)
 polls_judged told end u s found = if_told (λ (rows : Rows). is_some s.outstanding ≡ false → JudgesBatch rows s) (λ (rows : Rows). JudgesPoll rows end u) told
     (λ rows judged. subst (λ o. WhereThere o (λ session. is_some session.outstanding ≡ false → JudgesBatch rows session)) (sym found) judged)
 
-pub refuses_poll : (rows : Rows) (end : End) (u : List ℕ) (s : Session) (fault : SourceFault) → session_of end.sessions u ≡ Some s → RefusesToPrepare rows end s fault → RefusesPoll fault rows end u
-refuses_poll rows end u s NoMemory found h = tt
-refuses_poll rows end u s Failed found h = tt
-refuses_poll rows end u s Full found h = absurd h
-refuses_poll rows end u s TooLong found h = absurd h
-refuses_poll rows end u s NotAsked found h = absurd h
-refuses_poll rows end u s UnknownSubscription found h = absurd h
-refuses_poll rows end u s Spent found h = (subst (λ o. WhereThere o (λ session. is_idle rows session ≡ false)) (sym found) h.0, h.1)
+pub refuses_poll : (rows : Rows) (end : End) (u : List ℕ) (s : Session) (now : ℕ) (fault : SourceFault) → session_of end.sessions u ≡ Some s → has_expired now s ≡ false → RefusesToPrepare rows end s fault → RefusesPoll fault rows end u now
+refuses_poll rows end u s now NoMemory found on h = tt
+refuses_poll rows end u s now Failed found on h = tt
+refuses_poll rows end u s now Full found on h = absurd h
+refuses_poll rows end u s now TooLong found on h = absurd h
+refuses_poll rows end u s now NotAsked found on h = absurd h
+refuses_poll rows end u s now UnknownSubscription found on h = absurd h
+refuses_poll rows end u s now Expired found on h = absurd h
+refuses_poll rows end u s now Spent found on h = (subst (λ o. WhereThere o (λ session. (has_expired now session ≡ false) × (is_idle rows session ≡ false))) (sym found) (on, h.0), h.1)
 
 -- a source that sent a delivery, where its session was changed by name
 pub polls_send : (rows : Rows) (before end : End) (u : List ℕ) (now : ℕ) (s : Session) (delivery : Delivery) (outstanding : Outstanding) (ss : List Session)
@@ -117,17 +119,29 @@ some_there : (outstanding : Option Outstanding) → is_none outstanding ≡ fals
 some_there None e = cc
 some_there (Some outstanding) e = refl
 
-pub awaits_nothing : (end : End) (u : List ℕ) (s : Session) → session_of end.sessions u ≡ Some s → may_send (session_of end.sessions u) ≡ true → is_some s.outstanding ≡ false
-awaits_nothing end u s found may = none_there s.outstanding (sym (ap may_send found) ∙ may)
+goes_on : (now : ℕ) (s : Session) → has_expired now s ≡ false → (not (has_expired now s) && is_none s.outstanding) ≡ is_none s.outstanding
+goes_on now s on = ap (λ e. not e && is_none s.outstanding) on
 
-pub awaits : (end : End) (u : List ℕ) (s : Session) → session_of end.sessions u ≡ Some s → may_send (session_of end.sessions u) ≡ false → is_some s.outstanding ≡ true
-awaits end u s found may = some_there s.outstanding (sym (ap may_send found) ∙ may)
+pub awaits_nothing : (end : End) (u : List ℕ) (now : ℕ) (s : Session) → session_of end.sessions u ≡ Some s → may_send now (session_of end.sessions u) ≡ true → is_some s.outstanding ≡ false
+awaits_nothing end u now s found may = none_there s.outstanding (both_true (not (has_expired now s)) (is_none s.outstanding) (sym (ap (may_send now) found) ∙ may)).1
 
-pub may_send_there : (end : End) (u : List ℕ) (s : Session) → session_of end.sessions u ≡ Some s → is_some s.outstanding ≡ false → may_send (session_of end.sessions u) ≡ true
-may_send_there end u s found idle = ap may_send found ∙ none_free s.outstanding idle
+pub awaits : (end : End) (u : List ℕ) (now : ℕ) (s : Session) → session_of end.sessions u ≡ Some s → has_expired now s ≡ false → may_send now (session_of end.sessions u) ≡ false → is_some s.outstanding ≡ true
+awaits end u now s found on may = some_there s.outstanding (sym (ap (may_send now) found ∙ goes_on now s on) ∙ may)
 
-pub never_sends : (A : Type 0) (end : End) (u : List ℕ) → session_of end.sessions u ≡ None → may_send (session_of end.sessions u) ≡ true → A
-never_sends A end u none may = let bad : false ≡ true = sym (ap may_send none) ∙ may in cc
+pub may_send_there : (end : End) (u : List ℕ) (now : ℕ) (s : Session) → session_of end.sessions u ≡ Some s → has_expired now s ≡ false → is_some s.outstanding ≡ false → may_send now (session_of end.sessions u) ≡ true
+may_send_there end u now s found on idle = ap (may_send now) found ∙ goes_on now s on ∙ none_free s.outstanding idle
+
+pub never_sends : (A : Type 0) (end : End) (u : List ℕ) (now : ℕ) → session_of end.sessions u ≡ None → may_send now (session_of end.sessions u) ≡ true → A
+never_sends A end u now none may = let bad : false ≡ true = sym (ap (may_send now) none) ∙ may in cc
+
+-- nor does a session that has expired
+pub expired_sends : (A : Type 0) (end : End) (u : List ℕ) (now : ℕ) (s : Session) → session_of end.sessions u ≡ Some s → has_expired now s ≡ true → may_send now (session_of end.sessions u) ≡ true → A
+expired_sends A end u now s found over may =
+    let bad : false ≡ true = sym (ap (may_send now) found ∙ ap (λ e. not e && is_none s.outstanding) over) ∙ may in
+    cc
+
+pub expired_there : (end : End) (u : List ℕ) (now : ℕ) (t : Bool) (s : Session) → session_of end.sessions u ≡ Some s → has_expired now s ≡ t → WhereThere (session_of end.sessions u) (λ session. has_expired now session ≡ t)
+expired_there end u now t s found is = subst (λ (o : Option Session). WhereThere o (λ session. has_expired now session ≡ t)) (sym found) is
 
 -- sessions of which one sent its delivery
 pub sent_kept : (u : List ℕ) (now : ℕ) (ss : List Session) (k : ℕ) (s t : Session) (outstanding : Outstanding)
@@ -141,14 +155,15 @@ sent_kept u now ss k s t outstanding kept within read reads made changed =
     }
 
 -- a poll that is refused while it prepares
-pub may_refuse : (end : End) (u : List ℕ) (fault : SourceFault) → may_send (session_of end.sessions u) ≡ true → MayRefuseToPrepare end fault → MayRefusePoll fault end u
-may_refuse end u NoMemory may h = may
-may_refuse end u Failed may h = may
-may_refuse end u Full may h = absurd h
-may_refuse end u TooLong may h = absurd h
-may_refuse end u NotAsked may h = absurd h
-may_refuse end u UnknownSubscription may h = absurd h
-may_refuse end u Spent may h = (may, h)
+pub may_refuse : (end : End) (u : List ℕ) (now : ℕ) (fault : SourceFault) → may_send now (session_of end.sessions u) ≡ true → MayRefuseToPrepare end fault → MayRefusePoll fault end u now
+may_refuse end u now NoMemory may h = may
+may_refuse end u now Failed may h = may
+may_refuse end u now Full may h = absurd h
+may_refuse end u now TooLong may h = absurd h
+may_refuse end u now NotAsked may h = absurd h
+may_refuse end u now UnknownSubscription may h = absurd h
+may_refuse end u now Expired may h = absurd h
+may_refuse end u now Spent may h = (may, h)
 
 -- ---- what a poll reads is what its session reads
 
@@ -160,9 +175,9 @@ looks_refused fault before now looks = record { opened = looks.opened; found = l
 
 -- the account of a poll that is answered, from that of what it prepared
 pub answered : {L : Type 0} (log log' : L) (before after : Store) (end end' : End) (u : List ℕ) (now : ℕ) (s : Session) (prepared : Option (Delivery × Outstanding)) (answer : Poll)
-    → session_of end.sessions u ≡ Some s → IfSome after.rows (λ rows. Polls rows end end' u now answer) → Sends end end' u now answer → SendsNumbered answer → SendsRemembered end end' u answer → SendsAddressed end u answer
+    → session_of end.sessions u ≡ Some s → has_expired now s ≡ false → IfSome after.rows (λ rows. Polls rows end end' u now answer) → Sends end end' u now answer → SendsNumbered answer → SendsRemembered end end' u answer → SendsAddressed end u answer
     → PreparedAccount log log' before after end s (Ok prepared) → PollAccount log log' before after end end' u now (Ok answer)
-answered log log' before after end end' u now s prepared answer found ok sends numbered remembered addressed account = record {
+answered log log' before after end end' u now s prepared answer found on ok sends numbered remembered addressed account = record {
   ok = ok;
   refusal = any_told (λ (rows : Rows). Unit {0}) after.rows (λ rows. tt);
   sends = sends;
@@ -172,7 +187,8 @@ answered log log' before after end end' u now s prepared answer found ok sends n
   judged = polls_judged after.rows end u s found account.judged;
   listed = tt;
   err = tt;
-  looks = λ may. looks_done prepared answer before after (account.looks (awaits_nothing end u s found may));
-  untouched = λ may. account.untouched (awaits end u s found may);
+  unexpired = expired_there end u now false s found on;
+  looks = λ may. looks_done prepared answer before after (account.looks (awaits_nothing end u now s found may));
+  untouched = λ may. account.untouched (awaits end u now s found on may);
   reads = account.reads;
 }

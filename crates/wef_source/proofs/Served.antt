@@ -1,6 +1,6 @@
 -- Positions that have each channel that may be moved.
 use Rattle.std.proofs.Common.{◌≡◌, ℕ, ◌+◌, ◌<◌, ◌≤◌, Bool, true, false, ◌||◌, List, [], ◌∷◌, length, get_or, set, refl, ap, sym, subst, ◌∙◌, cond, Some, None, arith, ⊎_elim}
-use Rattle.std.specs.Prelude.{Option, T, is_some}
+use Rattle.std.specs.Prelude.{IfSome, Option, T, is_some}
 use Rattle.std.specs.FinMap as map
 use Rattle.std.specs.FinMap.Entries.{below_all}
 use Rattle.std.specs.List.{All, AllByRecursion, filter, remove}
@@ -22,13 +22,14 @@ use Rattle.wef_eventing.specs.Sending.{IsServable}
 use Rattle.wef_eventing.specs.declared.offers.Subscribe.{Subscribe}
 use Rattle.wef_query.specs.Selected.{channels_of}
 use Rattle.wef_building.specs.Reading.{ReadsAbove}
-use Rattle.wef_source.specs.Serving.{AreKept, HasAll, HasEach, CanBeServed}
+use Rattle.wef_source.specs.Serving.{AreKept, CanBeServed, CanBeTold, HasAll, HasEach}
 use Rattle.wef_building.proofs.Cases.{either, or_true}
 use Rattle.wef_source.proofs.InOrder.{filter_in_order, none_in_order}
 use Rattle.wef_building.proofs.ReadAbove.{reads_nothing}
-use Rattle.wef_source.specs.Sessions.{acknowledged, answered, moved_by, sending, session_from, settled, with_channels}
+use Rattle.wef_source.specs.Sessions.{acknowledged, answered, moved_by, prolonged, sending, session_from, session_leased, settled, until, with_channels}
 use Rattle.wef_source.specs.declared.serving.Answer.{Answer}
 use Rattle.wef_source.specs.declared.serving.Answer.TheVariants.{Taken, Refused}
+use Rattle.wef_building.specs.declared.sessions.Lease.{Lease}
 use Rattle.wef_building.specs.declared.sessions.Outstanding.{Outstanding}
 use Rattle.wef_building.specs.declared.sessions.Session.{Session}
 
@@ -40,10 +41,10 @@ pub raised_has_all : (p q : Marks) (c : List ℕ) (n : ℕ) → HasAll p q → H
 raised_has_all p q c n has d there = raised_has p c n d ∙ or_true _ _ (has d there)
 
 pub settled_served : (s : Session) → CanBeServed s → CanBeServed (settled s)
-settled_served s h = record { queried = h.queried; awaited = reads_nothing s.positions (channels_of s.query.items); notify_to = h.notify_to; identifier = h.identifier }
+settled_served s h = record { queried = h.queried; awaited = reads_nothing s.positions (channels_of s.query.items); notify_to = h.notify_to; identifier = h.identifier; lease = h.lease }
 
 pub sending_served : (s : Session) (outstanding : Outstanding) (now : ℕ) → ReadsAbove s.positions (channels_of s.query.items) outstanding.to → CanBeServed s → CanBeServed (sending outstanding now s)
-sending_served s outstanding now reads h = record { queried = h.queried; awaited = reads; notify_to = h.notify_to; identifier = h.identifier }
+sending_served s outstanding now reads h = record { queried = h.queried; awaited = reads; notify_to = h.notify_to; identifier = h.identifier; lease = h.lease }
 
 pub acknowledged_served : (s : Session) → CanBeServed s → CanBeServed (acknowledged s)
 acknowledged_served s h = by s.outstanding
@@ -55,11 +56,19 @@ acknowledged_served s h = by s.outstanding
       awaited = reads_nothing (joined s.positions outstanding.to) (channels_of s.query.items);
       notify_to = h.notify_to;
       identifier = h.identifier;
+      lease = h.lease;
     }
 
 pub answered_served : (answer : Answer) (s : Session) → CanBeServed s → CanBeServed (answered answer s)
 answered_served Taken s h = acknowledged_served s h
 answered_served Refused s h = settled_served s h
+
+until_told : (expiry : ℕ) (o : Option Lease) → IfSome o CanBeTold → IfSome (until expiry o) CanBeTold
+until_told expiry None told = tt
+until_told expiry (Some lease) told = record { identifier = told.identifier; end_to = told.end_to }
+
+pub prolonged_served : (expiry : ℕ) (s : Session) → CanBeServed s → CanBeServed (prolonged expiry s)
+prolonged_served expiry s h = record { queried = h.queried; awaited = h.awaited; notify_to = h.notify_to; identifier = h.identifier; lease = until_told expiry s.lease h.lease }
 
 -- sessions of which one was changed in a way that keeps it served
 pub changed_served : (change : Session → Session) → ((s : Session) → CanBeServed s → CanBeServed (change s)) → (ss : List Session) (k : ℕ) (s t : Session)
@@ -167,4 +176,10 @@ begun_served now subscribe u servable =
       awaited = reads_nothing positions (channels_of subscribe.query.items);
       notify_to = servable.notify_to;
       identifier = servable.identifier;
+      lease = tt;
     }
+
+pub leased_served : (now : ℕ) (subscribe : Subscribe) (lease : Lease) (u : List ℕ) → IsServable subscribe → CanBeTold lease → CanBeServed (session_leased now subscribe lease u)
+leased_served now subscribe lease u servable told =
+    let begun = begun_served now subscribe u servable in
+    record { queried = begun.queried; awaited = begun.awaited; notify_to = begun.notify_to; identifier = begun.identifier; lease = told }

@@ -5,13 +5,13 @@ use Rattle.wef_keeper.specs.Access.{OpensAndReads}
 use Rattle.wef_keeper.specs.Calls.{Looks, fails}
 use Rattle.wef_keeper.specs.Keeping.{Store}
 use Rattle.wef_source_log.specs.Forms.{AreFormed}
-use Rattle.wef_source.specs.Answers.{IsAddressed, MayRefusePoll, Polls, RefusesPoll, Sends, SendsAddressed, SendsNumbered, SendsRemembered, may_send}
+use Rattle.wef_source.specs.Answers.{IsAddressed, MayRefusePoll, Polls, RefusesPoll, Sends, SendsAddressed, SendsNumbered, SendsRemembered, WhereThere, may_send}
 use Rattle.wef_building.specs.Faults.{source_store}
 use Rattle.wef_building.specs.Judged.{JudgesBatch}
 use Rattle.wef_source.specs.Judged.{JudgesPoll}
 use Rattle.wef_source.specs.Machine.{End}
 use Rattle.wef_source.specs.Prepared.{MayDraw, MayRefuseToPrepare, Prepares, RefusesToPrepare}
-use Rattle.wef_source.specs.Sessions.{session_of}
+use Rattle.wef_source.specs.Sessions.{has_expired, session_of}
 use Rattle.wef_building.specs.declared.faults.SourceFault.{SourceFault}
 use Rattle.wef_source.specs.declared.messages.Delivery.{Delivery}
 use Rattle.wef_source.specs.declared.messages.Poll.{Poll}
@@ -23,7 +23,7 @@ pub record PollAccount {L : Type 0} (log log' : L) (before after : Store) (end e
   -- by the rows: what the session sends, or that it has nothing to send
   pub ok : IfSome after.rows (λ rows. IfOk result (Polls rows end end' u now))
   -- by the rows: why it is refused
-  pub refusal : IfSome after.rows (λ rows. IfErr result (λ fault. RefusesPoll fault rows end u))
+  pub refusal : IfSome after.rows (λ rows. IfErr result (λ fault. RefusesPoll fault rows end u now))
   -- where a delivery is sent, it has the next id, and the session awaits the answer
   pub sends : IfOk result (Sends end end' u now)
   -- the numbers of the delivery are such as records have
@@ -35,13 +35,15 @@ pub record PollAccount {L : Type 0} (log log' : L) (before after : Store) (end e
   -- no row that the answer rests on was spoilt
   pub judged : IfSome after.rows (λ rows. OnOk result (JudgesPoll rows end u))
   -- why it is refused, as far as what is remembered shows it
-  pub listed : IfErr result (λ fault. MayRefusePoll fault end u)
+  pub listed : IfErr result (λ fault. MayRefusePoll fault end u now)
   -- a refused poll leaves what is remembered
   pub err : OnErr result (end' ≡ end)
-  -- where no answer is outstanding, the store is opened and read
-  pub looks : may_send (session_of end.sessions u) ≡ true → Looks source_store AreFormed result before after
+  -- it isn't answered where the session has expired
+  pub unexpired : IfOk result (λ answer. WhereThere (session_of end.sessions u) (λ session. has_expired now session ≡ false))
+  -- where the session goes on and no answer is outstanding, the store is opened and read
+  pub looks : may_send now (session_of end.sessions u) ≡ true → Looks source_store AreFormed result before after
   -- elsewhere the log is left alone
-  pub untouched : may_send (session_of end.sessions u) ≡ false → log' ≡ log
+  pub untouched : may_send now (session_of end.sessions u) ≡ false → log' ≡ log
   -- in both cases the store does no more than open and be read
   pub reads : OpensAndReads AreFormed (fails source_store result) before after
 

@@ -1,14 +1,18 @@
 -- A source as a machine: what it holds, and what each call makes of it.
-use Rattle.std.specs.Prelude.{ℕ, ◌+◌, ◌*◌, ◌==◌, nat_le, Bool, true, false, List, [], length, is_some, Option, Some, None, if◌then◌else◌}
+use Rattle.std.specs.Prelude.{ℕ, ◌+◌, ◌-◌, ◌*◌, ◌==◌, nat_le, Bool, true, false, List, [], ◌∷◌, ◌++◌, length, is_some, Option, Some, None, if◌then◌else◌}
 use Rattle.std.specs.List.{filter}
 use Rattle.wef_eventing.specs.declared.offers.Offer.{Offer}
-use Rattle.wef_ids.specs.IdTexts.{id_of_value}
+use Rattle.wef_eventing.specs.declared.offers.Subscribe.{Subscribe}
+use Rattle.wef_eventing.specs.declared.subscriptions.EndStatus.TheVariants.{SourceShuttingDown}
+use Rattle.wef_ids.specs.IdTexts.{id_of_value, id_text}
 use Rattle.wef_ids.specs.declared.FaultName.{FaultName}
 use Rattle.wef_ids.specs.declared.FaultName.TheVariants.{DestinationUnreachable}
 use Rattle.wef_keeper.specs.Rows.{Rows}
 use Rattle.wef_building.specs.Building.{built}
-use Rattle.wef_source.specs.Sessions.{acknowledged, is_leased, is_named, sending, settled, waits_for, with_changed, with_offers, without}
+use Rattle.wef_source.specs.Sessions.{acknowledged, is_asked_for, is_leased, is_leased_as, is_named, prolonged, sending, session_leased, settled, waits_for, with_changed, with_offers, with_session, without}
 use Rattle.wef_source.specs.declared.messages.Delivery.{Delivery}
+use Rattle.wef_source.specs.declared.messages.EndNote.{EndNote}
+use Rattle.wef_building.specs.declared.sessions.Lease.{Lease}
 use Rattle.wef_building.specs.declared.sessions.Session.{Session}
 
 -- What a source remembers while it runs: its boot number, how many ids it drew since that start, the id of the last
@@ -42,6 +46,58 @@ asked end = record end { drawn = end.drawn + 1; ask = Some (next_id end) }
 -- a source that took offers at a moment: its sessions are those that collectors began, and those of the offers
 abbrev pub adopted : End → List Offer → ℕ → End
 adopted end offers now = record end { ask = None; sessions = with_offers now (filter is_leased end.sessions) offers }
+
+-- a source that drew an id
+abbrev pub drawn_in : End → End
+drawn_in end = record end { drawn = end.drawn + 1 }
+
+-- how many ids it can still draw before its next start
+abbrev pub ids_left : End → ℕ
+ids_left end = most_drawn - end.drawn
+
+-- how long a session stands that a collector begins, in milliseconds: an hour where it doesn't say
+abbrev pub lease_time : Option ℕ → ℕ
+lease_time None = 3600000
+lease_time (Some n) = n
+
+-- the lease that is given at a moment: its identifier is an id's text
+abbrev pub lease_of : ℕ → Subscribe → ℕ → Lease
+lease_of id subscribe now = record { identifier = id_text id; expiry = now + lease_time subscribe.expires; end_to = subscribe.end_to }
+
+-- a source that accepted a subscription of a name at a moment: the session is named by the next id
+abbrev pub accepted : End → Subscribe → List ℕ → ℕ → End
+accepted end subscribe u now = record end { drawn = end.drawn + 1; sessions = with_session end.sessions (session_leased now subscribe (lease_of (next_id end) subscribe now) u) }
+
+-- a source whose session that a collector names so was renewed until then
+abbrev pub renewed_in : End → List ℕ → ℕ → End
+renewed_in end i expiry = record end { sessions = with_changed (is_leased_as i) (prolonged expiry) end.sessions }
+
+-- a source without the session that a collector names so
+abbrev pub cancelled_in : End → List ℕ → End
+cancelled_in end i = record end { sessions = without (is_leased_as i) end.sessions }
+
+-- the note of an end, where it is told
+abbrev pub note_to : ℕ → List ℕ → Option (List ℕ) → List EndNote
+note_to id identifier None = []
+note_to id identifier (Some end_to) = record { id = id_of_value id; end_to = end_to; identifier = identifier; status = SourceShuttingDown } ∷ []
+
+-- the note of the end of a session, which its collector is sent where it said where to
+abbrev pub note_of : ℕ → Option Lease → List EndNote
+note_of id None = []
+note_of id (Some lease) = note_to id lease.identifier lease.end_to
+
+-- the notes of the ends of sessions, each with the next id
+abbrev pub notes_of : ℕ → List Session → List EndNote
+notes_of id [] = []
+notes_of id (s ∷ ss) = note_of id s.lease ++ notes_of (id + length (note_of id s.lease)) ss
+
+-- the notes of a source that ends the sessions that collectors began
+abbrev pub end_notes : End → List EndNote
+end_notes end = notes_of (next_id end) end.sessions
+
+-- a source without these sessions
+abbrev pub shut_in : End → End
+shut_in end = record end { drawn = end.drawn + length (end_notes end); sessions = filter is_asked_for end.sessions }
 
 -- whether a session has nothing to send: a reply is outstanding, or there is no item
 abbrev pub is_idle : Rows → Session → Bool

@@ -1,15 +1,19 @@
 -- What a source keeps true of its sessions.
-use Rattle.std.specs.Prelude.{◌≡◌, ℕ, ◌<◌, true, List, is_some, Option, Some, None, IfSome}
+use Rattle.std.specs.Prelude.{◌≡◌, ℕ, ◌<◌, ◌≤◌, true, List, is_some, Option, Some, None, IfSome}
 use Rattle.std.specs.FinMap as map
 use Rattle.std.specs.List.{All, AllByRecursion}
 use Rattle.wef_batch.specs.WellFormed.{is_in}
 use Rattle.wef_bookmark.specs.Order.{Marks}
-use Rattle.wef_eventing.specs.Addresses.{is_address}
+use Rattle.wef_eventing.specs.Addresses.{is_address, subscription_in}
+use Rattle.wef_eventing.specs.Sending.{IsServable}
+use Rattle.wef_eventing.specs.declared.offers.Subscribe.{Subscribe}
 use Rattle.wef_query.specs.Order.{IsInOrder}
 use Rattle.wef_query.specs.Selected.{channels_of}
 use Rattle.wef_xml.specs.Good.{IsXmlText}
 use Rattle.wef_source.specs.Machine.{End, next_id}
 use Rattle.wef_source.specs.Sessions.{names_of}
+use Rattle.wef_source.specs.declared.messages.EndNote.{EndNote}
+use Rattle.wef_building.specs.declared.sessions.Lease.{Lease}
 use Rattle.wef_building.specs.Reading.{ReadsAbove}
 use Rattle.wef_building.specs.declared.sessions.Outstanding.{Outstanding}
 use Rattle.wef_building.specs.declared.sessions.Session.{Session}
@@ -27,13 +31,25 @@ abbrev pub awaited_to : Option Outstanding → Marks
 awaited_to None = map.empty
 awaited_to (Some outstanding) = outstanding.to
 
+-- A lease that a collector can be told of: its identifier is XML text, and where its end is told, that is an address of HTTP.
+pub record CanBeTold (lease : Lease) : Type 0 where
+  pub identifier : IsXmlText lease.identifier
+  pub end_to : IfSome lease.end_to (λ (a : List ℕ). is_address a ≡ true)
+
+-- A note whose texts can stand in a message: it goes to an address of HTTP, and names the session by XML text.
+pub record NoteCanBeSent (note : EndNote) : Type 0 where
+  pub end_to : is_address note.end_to ≡ true
+  pub identifier : IsXmlText note.identifier
+
 -- A session that can be served: its positions have the channels of its query, and the delivery whose answer is awaited reads
--- some of these above them; its batches go to an address of HTTP, and its identifier holds characters that XML allows.
+-- some of these above them; its batches go to an address of HTTP, and its identifier holds characters that XML allows; so it is
+-- with its lease.
 pub record CanBeServed (s : Session) : Type 0 where
   pub queried : HasEach s.positions (channels_of s.query.items)
   pub awaited : ReadsAbove s.positions (channels_of s.query.items) (awaited_to s.outstanding)
   pub notify_to : is_address s.notify_to ≡ true
   pub identifier : IfSome s.identifier IsXmlText
+  pub lease : IfSome s.lease CanBeTold
 
 -- Each session can be served, and the sessions are in the order of their names, each name once.
 pub record AreKept (ss : List Session) : Type 0 where
@@ -53,3 +69,15 @@ AwaitBelow next ss = AllByRecursion (AwaitsBelow next) ss
 pub record HasKeptSessions (end : End) : Type 0 where
   pub sessions : AreKept end.sessions
   pub drawn : AwaitBelow (next_id end) end.sessions
+
+-- the longest time for which a session stands without a renewal: 100,000 days
+abbrev pub longest_lease : ℕ
+longest_lease = 8640000000000
+
+-- A wish that can be accepted: it can be served and leads to a subscription, its end is told to an address of HTTP, and it stands
+-- for no longer than that.
+pub record CanBeAccepted (s : Subscribe) : Type 0 where
+  pub servable : IsServable s
+  pub leads : is_some (subscription_in s.notify_to) ≡ true
+  pub end_to : IfSome s.end_to (λ (a : List ℕ). is_address a ≡ true)
+  pub expires : IfSome s.expires (λ (n : ℕ). n ≤ longest_lease)

@@ -1,5 +1,5 @@
 -- The sessions of a source, in the order of their names, each name once.
-use Rattle.std.specs.Prelude.{ℕ, ◌==◌, Bool, false, List, [], ◌∷◌, map, is_none, is_some, Option, Some, None, if◌then◌else◌}
+use Rattle.std.specs.Prelude.{ℕ, ◌-◌, ◌==◌, nat_le, Bool, false, List, [], ◌∷◌, map, is_none, is_some, Option, Some, None, if◌then◌else◌}
 use Rattle.std.specs.Cmp.Lexicographic.{slice_cmp}
 use Rattle.std.specs.Ordering.{nat_cmp}
 use Rattle.std.specs.declared.cmp.Ordering.{Ordering}
@@ -12,6 +12,7 @@ use Rattle.wef_eventing.specs.declared.offers.Subscribe.{Subscribe}
 use Rattle.wef_query.specs.Selected.{channels_of}
 use Rattle.wef_source.specs.declared.serving.Answer.{Answer}
 use Rattle.wef_source.specs.declared.serving.Answer.TheVariants.{Taken, Refused}
+use Rattle.wef_building.specs.declared.sessions.Lease.{Lease}
 use Rattle.wef_building.specs.declared.sessions.Outstanding.{Outstanding}
 use Rattle.wef_building.specs.declared.sessions.Session.{Session}
 
@@ -26,6 +27,33 @@ is_leased s = is_some s.lease
 -- whether its source asked for it
 abbrev pub is_asked_for : Session → Bool
 is_asked_for s = is_none s.lease
+
+-- whether a lease is named so
+abbrev pub is_lease_of : List ℕ → Option Lease → Bool
+is_lease_of i None = false
+is_lease_of i (Some lease) = same lease.identifier i
+
+-- whether a collector began the session and names it so
+abbrev pub is_leased_as : List ℕ → Session → Bool
+is_leased_as i s = is_lease_of i s.lease
+
+-- whether a lease is over at a moment
+abbrev pub is_over : ℕ → Option Lease → Bool
+is_over now None = false
+is_over now (Some lease) = nat_le lease.expiry now
+
+-- whether a session has expired
+abbrev pub has_expired : ℕ → Session → Bool
+has_expired now s = is_over now s.lease
+
+-- how long a lease goes on
+abbrev pub left_of : ℕ → Option Lease → ℕ
+left_of now None = 0
+left_of now (Some lease) = lease.expiry - now
+
+-- how long a session stands from a moment on, where it isn't renewed
+abbrev pub time_left : ℕ → Session → ℕ
+time_left now s = left_of now s.lease
 
 -- whether what a session waits for is the answer to this id
 abbrev pub is_outstanding : ℕ → Option Outstanding → Bool
@@ -54,6 +82,10 @@ without test (s ∷ ss) = if test s then ss else s ∷ without test ss
 -- the session of a name
 abbrev pub session_of : List Session → List ℕ → Option Session
 session_of ss u = first_where (is_named u) ss
+
+-- the session that a collector began and names so
+abbrev pub leased_as : List Session → List ℕ → Option Session
+leased_as ss i = first_where (is_leased_as i) ss
 
 -- the session that waits for the answer to an id
 abbrev pub waiting : List Session → ℕ → Option Session
@@ -91,6 +123,10 @@ session_from now subscribe u = record {
   lease = None;
 }
 
+-- the session of a name that a collector begins
+abbrev pub session_leased : ℕ → Subscribe → Lease → List ℕ → Session
+session_leased now subscribe lease u = record (session_from now subscribe u) { lease = Some lease }
+
 -- the sessions with that of an offer, where its address leads to a subscription
 abbrev pub with_offered : ℕ → List Session → Subscribe → Option (List ℕ) → List Session
 with_offered now ss subscribe None = ss
@@ -105,6 +141,15 @@ with_offers now ss (offer ∷ offers) =
 -- a session whose delivery is on its way
 abbrev pub sending : Outstanding → ℕ → Session → Session
 sending outstanding now s = record s { outstanding = Some outstanding; last_sent = now }
+
+-- a lease until then
+abbrev pub until : ℕ → Option Lease → Option Lease
+until expiry None = None
+until expiry (Some lease) = Some (record lease { expiry = expiry })
+
+-- a session that was renewed until then
+abbrev pub prolonged : ℕ → Session → Session
+prolonged expiry s = record s { lease = until expiry s.lease }
 
 -- a session that waits for nothing
 abbrev pub settled : Session → Session

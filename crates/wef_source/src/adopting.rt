@@ -1,7 +1,7 @@
 //! The sessions of offers.
 
 ghost use Rattle.std.specs.List.{filter};
-ghost use Rattle.std.specs.Prelude.{◌≡◌, IfOk, IfErr, OnOk};
+ghost use Rattle.std.specs.Prelude.{◌≡◌, IfOk, IfErr, OnOk, OnErr};
 ghost use Rattle.wef_eventing.specs.Addresses.{subscription_in};
 ghost use Rattle.wef_eventing.specs.Sending.{AreServable, IsServable};
 ghost use Rattle.wef_query.specs.Order.{IsInOrder};
@@ -90,8 +90,8 @@ fn take_offer(
     Ok(())
 }
 
-/// The session of a name that serves a subscription, begun at a moment.
-fn session_from(
+/// The session of a name that serves a subscription, begun at a moment, for which its source asked.
+pub fn session_from(
     alloc: Global,
     subscribe: &Subscribe,
     name: SubId,
@@ -152,11 +152,12 @@ fn add_channels(positions: &mut Bookmark, channels: &[ChannelName]) -> Result<()
 }
 
 /// Puts a session at its place, in place of one of its name.
-fn put_session(sessions: &mut Vec<Session>, session: Session) -> Result<(), AllocError>
+pub fn put_session(sessions: &mut Vec<Session>, session: Session) -> Result<(), AllocError>
     requires kept { AreKept sessions.old.items }
     requires served { CanBeServed session }
     ensures ok { OnOk result (sessions.new.items ≡ spec.with_session sessions.old.items session) }
     ensures kept { OnOk result (AreKept sessions.new.items) }
+    ensures err { OnErr result (sessions.new.items ≡ sessions.old.items) }
 {
     match place_in(sessions.as_slice(), &session.name) {
         Ok(place) => sessions[place] = session,

@@ -1,13 +1,15 @@
 //! The source end: a log, and the sessions in which its events are sent.
 #![tactic(auto)]
 
+mod accepting;
 mod adopting;
+mod ending;
 pub mod memories;
 pub mod messages;
 mod serving;
 pub mod source;
 
 pub use memories::Memory;
-pub use messages::{Delivery, Moved, Poll, Reply};
+pub use messages::{Accepted, Delivery, EndNote, Moved, Poll, Reply};
 pub use source::SourceEnd;
-pub use wef_building::{Outstanding, Session, SourceFault};
+pub use wef_building::{Lease, Outstanding, Session, SourceFault};

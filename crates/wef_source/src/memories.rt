@@ -1,6 +1,7 @@
 //! What a source remembers while it runs. It is lost where the source ends.
 
-ghost use Rattle.std.specs.Prelude.{◌≡◌, false, true, is_some, IfOk, IfErr, IfSome, OnOk, OnErr};
+ghost use Rattle.std.specs.List.{AllByRecursion};
+ghost use Rattle.std.specs.Prelude.{◌≡◌, ◌+◌, ◌≤◌, length, false, true, is_some, IfOk, IfErr, IfSome, OnOk, OnErr};
 ghost use Rattle.wef_batch.specs.Numbers.{AreNumbered};
 ghost use Rattle.wef_eventing.specs.Sending.{AreServable};
 ghost use Rattle.wef_ids.specs.IdTexts.{id_of_value};
@@ -15,22 +16,27 @@ ghost use Rattle.wef_building.specs.Faults.{source_store};
 ghost use Rattle.wef_building.specs.Judged.{JudgesBatch};
 ghost use Rattle.wef_source.specs.Machine as machine;
 ghost use Rattle.wef_source.specs.Prepared.{MayDraw, MayRefuseToPrepare, Prepares, RefusesToPrepare};
-ghost use Rattle.wef_source.specs.Serving.{HasKeptSessions};
+ghost use Rattle.wef_source.specs.Serving.{CanBeAccepted, NoteCanBeSent, HasKeptSessions, longest_lease};
 ghost use Rattle.wef_source.specs.Sessions as the_sessions;
 ghost use Rattle.wef_source_log.specs.Forms.{AreFormed};
 
-use crate::adopting::{asked_for, sessions_of};
-use crate::messages::{Delivery, Moved, Poll, Reply};
-use crate::serving::{Answer, answer_waiting, place_of_name, refuse_waiting, send, settle_named};
+use crate::accepting::begun;
+use crate::adopting::{asked_for, put_session, sessions_of};
+use crate::ending::push_note;
+use crate::messages::{Accepted, Delivery, EndNote, Moved, Poll, Reply};
+use crate::serving::{
+    Answer, answer_waiting, end_all_leased, end_leased, has_expired, left_of_lease, place_of_name,
+    refuse_waiting, renew_leased, send, settle_named,
+};
 use std::alloc::{AllocError, Global};
 use std::marker::Model;
 use wef_base::moments::Moment;
-use wef_base::{List, SubId};
+use wef_base::{List, SubId, Text};
 use wef_batch::Batch;
 use wef_bookmark::Bookmark;
 use wef_building::building::built;
 use wef_building::{Outstanding, Session, SourceFault, copied_address};
-use wef_eventing::Offer;
+use wef_eventing::{Offer, Subscribe};
 use wef_ids::{FaultName, MessageId};
 use wef_keeper::Keeper;
 use wef_source_log::Log;
@@ -103,6 +109,25 @@ impl Memory {
         Ok(id)
     }
 
+    /// Draws the next id. Where there is no memory for its text it isn't drawn.
+    pub fn draw(&mut self) -> Result<MessageId, SourceFault>
+        ensures ok { IfOk result (answers.DrawsId self.old self.new) }
+        ensures refusal { IfErr result (λ fault. answers.RefusesAsk fault self.old) }
+        ensures err { OnErr result (self.new ≡ self.old) }
+    {
+        let value = self.next_id()?;
+        let id = MessageId::of_value(self.alloc, value)?;
+        self.drawn += 1;
+        Ok(id)
+    }
+
+    /// How many ids can still be drawn before the next start.
+    pub fn ids_left(&self) -> u64
+        ensures { result ≡ machine.ids_left self.now }
+    {
+        u64::MAX - self.drawn
+    }
+
     /// Takes the offers that answer the ask, at a moment: they give the sessions that the source asked for from now
     /// on, which begin where the offers say. A session that a collector began stays, unless an offer has its name.
     /// Of two offers of one name the later stands; one whose address leads to no subscription is passed over.
@@ -129,6 +154,79 @@ impl Memory {
         Ok(count)
     }
 
+    /// Accepts a collector's wish at a moment: its session begins where the wish says, in place of one of its name.
+    /// Answers the identifier by which the collector names the session, which is the text of an id that is drawn, and
+    /// how long it stands.
+    pub fn accept(&mut self, subscribe: &Subscribe, now: Moment) -> Result<Accepted, SourceFault>
+        requires { CanBeAccepted subscribe.now }
+        ensures ok { IfOk result (answers.Accepts self.old self.new subscribe.now now) }
+        ensures refusal { IfErr result (λ fault. answers.RefusesAsk fault self.old) }
+        ensures err { OnErr result (self.new ≡ self.old) }
+    {
+        let value = self.next_id()?;
+        let (session, accepted) = begun(self.alloc, value, subscribe, now)?;
+        put_session(&mut self.sessions, session)?;
+        self.drawn += 1;
+        Ok(accepted)
+    }
+
+    /// Has the session that a collector began and names so stand for so long from a moment on, in milliseconds, and
+    /// answers this. It takes no memory.
+    pub fn renew(
+        &mut self,
+        identifier: &Text,
+        expires: u64,
+        now: Moment,
+    ) -> Result<u64, SourceFault>
+        requires { expires ≤ longest_lease }
+        ensures ok { IfOk result (answers.Renews self.old self.new identifier.now expires now) }
+        ensures refusal { IfErr result (λ fault. answers.RefusesLeased fault self.old.sessions identifier.now now) }
+        ensures err { OnErr result (self.new ≡ self.old) }
+    {
+        renew_leased(
+            &mut self.sessions,
+            identifier,
+            now.milliseconds() + expires,
+            now,
+        )?;
+        Ok(expires)
+    }
+
+    /// How long the session stands from a moment on, in milliseconds, that a collector began and names so. It takes no
+    /// memory.
+    pub fn status(&self, identifier: &Text, now: Moment) -> Result<u64, SourceFault>
+        ensures ok { IfOk result (answers.TellsLeft self.now.sessions identifier.now now) }
+        ensures refusal { IfErr result (λ fault. answers.RefusesLeased fault self.now.sessions identifier.now now) }
+    {
+        left_of_lease(self.sessions.as_slice(), identifier, now)
+    }
+
+    /// Ends the session that a collector began and names so. It takes no memory.
+    pub fn cancel(&mut self, identifier: &Text) -> Result<(), SourceFault>
+        ensures ok { OnOk result (answers.Cancels self.old self.new identifier.now) }
+        ensures refusal { IfErr result (λ fault. answers.RefusesCancel fault self.old identifier.now) }
+        ensures err { OnErr result (self.new ≡ self.old) }
+    {
+        if !end_leased(&mut self.sessions, identifier) {
+            return Err(SourceFault::UnknownSubscription);
+        }
+        Ok(())
+    }
+
+    /// Ends the sessions that collectors began. Answers what is to be sent to those that are told of it, in the order
+    /// of the sessions' names.
+    pub fn shut(&mut self) -> Result<List<EndNote>, SourceFault>
+        ensures ok { IfOk result (answers.Shuts self.old self.new) }
+        ensures told { IfOk result (λ notes. AllByRecursion NoteCanBeSent notes) }
+        ensures refusal { IfErr result (λ fault. answers.RefusesShut fault self.old) }
+        ensures err { OnErr result (self.new ≡ self.old) }
+    {
+        let notes = self.end_notes()?;
+        self.drawn += notes.len() as u64;
+        end_all_leased(&mut self.sessions);
+        Ok(notes)
+    }
+
     /// What is remembered keeps this of its sessions.
     pub fn sessions_are_kept(&self)
         ensures { HasKeptSessions self.now }
@@ -145,8 +243,8 @@ impl Memory {
         Ok(names_of(self.alloc, self.sessions.as_slice())?)
     }
 
-    /// What a session has to send at a moment: a batch, unless the answer to one is outstanding or there is none.
-    /// The log is read only where no answer is outstanding.
+    /// What a session has to send at a moment, where its time isn't over: a batch, unless the answer to one is
+    /// outstanding or there is none. The log is read only where no answer is outstanding.
     pub fn poll<K: Keeper>(
         &mut self,
         log: &mut Log<K>,
@@ -158,6 +256,9 @@ impl Memory {
         let Some(place) = place_of_name(self.sessions.as_slice(), sub) else {
             return Err(SourceFault::UnknownSubscription);
         };
+        if has_expired(&self.sessions[place], now) {
+            return Err(SourceFault::Expired);
+        }
         let Some((delivery, outstanding)) = self.prepared(log, &self.sessions[place])? else {
             return Ok(Poll::Nothing);
         };
@@ -215,6 +316,26 @@ impl Memory {
             return Err(SourceFault::NotAsked);
         }
         Ok(Moved::Refused)
+    }
+
+    /// What is sent to the collectors that are told of their sessions' ends. Nothing that is remembered changes yet.
+    fn end_notes(&self) -> Result<List<EndNote>, SourceFault>
+        ensures notes { IfOk result (λ notes. notes ≡ machine.end_notes self.now) }
+        ensures bound { IfOk result (λ notes. self.now.drawn + length notes ≤ machine.most_drawn) }
+        ensures refusal { IfErr result (λ fault. answers.RefusesShut fault self.now) }
+    {
+        let mut notes = List::new(self.alloc);
+        let mut drawn = self.drawn;
+        for session in self.sessions.as_slice() {
+            push_note(
+                self.alloc,
+                self.boot,
+                &mut drawn,
+                &mut notes,
+                &session.lease,
+            )?;
+        }
+        Ok(notes)
     }
 
     /// What a session sends next, and what its answer will be awaited by. Nothing that is remembered

@@ -2,6 +2,7 @@
 
 use wef_base::Text;
 use wef_batch::Batch;
+use wef_eventing::EndStatus;
 use wef_ids::{FaultName, MessageId};
 
 /// A batch on its way to the collector.
@@ -23,6 +24,40 @@ impl Drop for Delivery {
                 notify_to: _,
                 identifier: _,
                 batch: _,
+            } => {}
+        }
+    }
+}
+
+/// What a collector is answered that began a session.
+#[derive(Debug, Drop)]
+pub struct Accepted {
+    /// What it names the session by.
+    pub identifier: Text,
+    /// How long the session stands, in milliseconds.
+    pub expires: u64,
+}
+
+/// What a collector is told of a session that it began, as its source ends it.
+#[derive(Debug)]
+pub struct EndNote {
+    pub id: MessageId,
+    /// Where it goes.
+    pub end_to: Text,
+    /// What the collector names the session by.
+    pub identifier: Text,
+    pub status: EndStatus,
+}
+
+/// One call for whoever lets a note go, whatever it holds.
+impl Drop for EndNote {
+    fn drop(self) {
+        match self {
+            EndNote {
+                id: _,
+                end_to: _,
+                identifier: _,
+                status: _,
             } => {}
         }
     }

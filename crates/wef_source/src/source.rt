@@ -1,5 +1,6 @@
 //! The source end.
 
+ghost use Rattle.std.specs.List.{AllByRecursion};
 ghost use Rattle.std.specs.Prelude.{◌≡◌, ◌≤◌, IfOk, IfErr, OnOk, OnErr, MatchResult};
 ghost use Rattle.wef_eventing.specs.Sending.{AreServable};
 ghost use Rattle.wef_keeper.specs.Calls.{DoesWith, IsCall};
@@ -12,20 +13,20 @@ ghost use Rattle.wef_source.specs.Answers as answers;
 ghost use Rattle.wef_source.specs.Calls.{JudgesStart, JudgesWrite, start_effect, write_effect};
 ghost use Rattle.wef_building.specs.Faults.{source_answer, source_store};
 ghost use Rattle.wef_source.specs.Machine as machine;
-ghost use Rattle.wef_source.specs.Serving.{HasKeptSessions};
+ghost use Rattle.wef_source.specs.Serving.{CanBeAccepted, NoteCanBeSent, HasKeptSessions, longest_lease};
 ghost use Rattle.wef_source.specs.Sessions as the_sessions;
 ghost use Rattle.wef_source_log.specs.Answers.{ExtendsHistory, next_boot, next_number};
 ghost use Rattle.wef_source_log.specs.Forms.{AreFormed};
 
 use crate::memories::Memory;
-use crate::messages::{Moved, Poll, Reply};
+use crate::messages::{Accepted, EndNote, Moved, Poll, Reply};
 use std::alloc::Global;
 use std::marker::Model;
 use wef_base::moments::Moment;
-use wef_base::{List, SourceName, SubId};
+use wef_base::{List, SourceName, SubId, Text};
 use wef_building::SourceFault;
 use wef_event::Event;
-use wef_eventing::Offer;
+use wef_eventing::{Offer, Subscribe};
 use wef_ids::MessageId;
 use wef_keeper::{Keeper, MemKeeper, Plan};
 use wef_source_log::{Log, LogFault};
@@ -122,6 +123,24 @@ impl<K: Keeper> SourceEnd<K> {
         self.memory.ask()
     }
 
+    /// Draws the next id. Where there is no memory for its text it isn't drawn.
+    pub fn draw(&mut self) -> Result<MessageId, SourceFault>
+        ensures ok { IfOk result (answers.DrawsId self.old.memory self.new.memory) }
+        ensures refusal { IfErr result (λ fault. answers.RefusesAsk fault self.old.memory) }
+        ensures err { OnErr result (self.new.memory ≡ self.old.memory) }
+        ensures keeper { self.new.keeper ≡ self.old.keeper }
+        ensures name { self.new.name ≡ self.old.name }
+    {
+        self.memory.draw()
+    }
+
+    /// How many ids can still be drawn before the next start.
+    pub fn ids_left(&self) -> u64
+        ensures { result ≡ machine.ids_left self.now.memory }
+    {
+        self.memory.ids_left()
+    }
+
     /// Takes the offers that answer the ask, at a moment: they give the sessions that the source asked for from now
     /// on, which begin where the offers say. A session that a collector began stays, unless an offer has its name.
     /// Of two offers of one name the later stands; one whose address leads to no subscription is passed over.
@@ -143,6 +162,71 @@ impl<K: Keeper> SourceEnd<K> {
         self.memory.adopt(relates, offers, now)
     }
 
+    /// Accepts a collector's wish at a moment: its session begins where the wish says, in place of one of its name.
+    /// Answers the identifier by which the collector names the session, which is the text of an id that is drawn, and
+    /// how long it stands.
+    pub fn accept(&mut self, subscribe: &Subscribe, now: Moment) -> Result<Accepted, SourceFault>
+        requires { CanBeAccepted subscribe.now }
+        ensures ok { IfOk result (answers.Accepts self.old.memory self.new.memory subscribe.now now) }
+        ensures refusal { IfErr result (λ fault. answers.RefusesAsk fault self.old.memory) }
+        ensures err { OnErr result (self.new.memory ≡ self.old.memory) }
+        ensures keeper { self.new.keeper ≡ self.old.keeper }
+        ensures name { self.new.name ≡ self.old.name }
+    {
+        self.memory.accept(subscribe, now)
+    }
+
+    /// Has the session that a collector began and names so stand for so long from a moment on, in milliseconds, and
+    /// answers this. It takes no memory.
+    pub fn renew(
+        &mut self,
+        identifier: &Text,
+        expires: u64,
+        now: Moment,
+    ) -> Result<u64, SourceFault>
+        requires { expires ≤ longest_lease }
+        ensures ok { IfOk result (answers.Renews self.old.memory self.new.memory identifier.now expires now) }
+        ensures refusal { IfErr result (λ fault. answers.RefusesLeased fault self.old.memory.sessions identifier.now now) }
+        ensures err { OnErr result (self.new.memory ≡ self.old.memory) }
+        ensures keeper { self.new.keeper ≡ self.old.keeper }
+        ensures name { self.new.name ≡ self.old.name }
+    {
+        self.memory.renew(identifier, expires, now)
+    }
+
+    /// How long the session stands from a moment on, in milliseconds, that a collector began and names so. It takes no
+    /// memory.
+    pub fn status(&self, identifier: &Text, now: Moment) -> Result<u64, SourceFault>
+        ensures ok { IfOk result (answers.TellsLeft self.now.memory.sessions identifier.now now) }
+        ensures refusal { IfErr result (λ fault. answers.RefusesLeased fault self.now.memory.sessions identifier.now now) }
+    {
+        self.memory.status(identifier, now)
+    }
+
+    /// Ends the session that a collector began and names so. It takes no memory.
+    pub fn cancel(&mut self, identifier: &Text) -> Result<(), SourceFault>
+        ensures ok { OnOk result (answers.Cancels self.old.memory self.new.memory identifier.now) }
+        ensures refusal { IfErr result (λ fault. answers.RefusesCancel fault self.old.memory identifier.now) }
+        ensures err { OnErr result (self.new.memory ≡ self.old.memory) }
+        ensures keeper { self.new.keeper ≡ self.old.keeper }
+        ensures name { self.new.name ≡ self.old.name }
+    {
+        self.memory.cancel(identifier)
+    }
+
+    /// Ends the sessions that collectors began. Answers what is to be sent to those that are told of it, in the order
+    /// of the sessions' names.
+    pub fn shut(&mut self) -> Result<List<EndNote>, SourceFault>
+        ensures ok { IfOk result (answers.Shuts self.old.memory self.new.memory) }
+        ensures told { IfOk result (λ notes. AllByRecursion NoteCanBeSent notes) }
+        ensures refusal { IfErr result (λ fault. answers.RefusesShut fault self.old.memory) }
+        ensures err { OnErr result (self.new.memory ≡ self.old.memory) }
+        ensures keeper { self.new.keeper ≡ self.old.keeper }
+        ensures name { self.new.name ≡ self.old.name }
+    {
+        self.memory.shut()
+    }
+
     /// What a source remembers keeps this of its sessions.
     pub fn sessions_are_kept(&self)
         ensures { HasKeptSessions self.now.memory }
@@ -159,8 +243,8 @@ impl<K: Keeper> SourceEnd<K> {
         self.memory.sessions()
     }
 
-    /// What a session has to send at a moment: a batch, unless the answer to one is outstanding or there is none.
-    /// The store is used only where no answer is outstanding.
+    /// What a session has to send at a moment, where its time isn't over: a batch, unless the answer to one is
+    /// outstanding or there is none. The store is used only where no answer is outstanding.
     pub fn poll(&mut self, sub: &SubId, now: Moment) -> Result<Poll, SourceFault>
         ensures account { PollAccount self.old.keeper self.new.keeper (K.store self.old.keeper) (K.store self.new.keeper) self.old.memory self.new.memory sub.now now result }
         ensures name { self.new.name ≡ self.old.name }

@@ -59,15 +59,17 @@ polled_can_be_sent before now s u slot slot' moment used is kept there polls =
     can_be_sent : (end : End) (session : Option Session) (answer : Polled) → IsKept (with_opened before s slot) → (slot_opened slot).place.memory ≡ Some end → session_of end.sessions u ≡ session
         → PollsIn (slot_opened slot) slot' end session moment answer → CanBeSentAs (Answered answer)
     can_be_sent end None polled.Unknown kept_so runs found answers = tt
+    can_be_sent end None polled.Expired kept_so runs found answers = tt
     can_be_sent end None polled.Nothing kept_so runs found answers = tt
     can_be_sent end None polled.Spent kept_so runs found answers = tt
     can_be_sent end None (polled.Sent delivery) kept_so runs found answers = absurd answers
     can_be_sent end (Some session) polled.Unknown kept_so runs found answers = tt
+    can_be_sent end (Some session) polled.Expired kept_so runs found answers = tt
     can_be_sent end (Some session) polled.Nothing kept_so runs found answers = tt
     can_be_sent end (Some session) polled.Spent kept_so runs found answers = tt
     can_be_sent end (Some session) (polled.Sent delivery) kept_so runs found answers =
-        subst CanBeSent (sym answers.2)
-        (delivery_can_be_sent (with_opened before s slot) s u (slot_opened slot) end session kept_so (slot_put before.sources s (slot_opened slot)) runs found answers.1)
+        subst CanBeSent (sym answers.3)
+        (delivery_can_be_sent (with_opened before s slot) s u (slot_opened slot) end session kept_so (slot_put before.sources s (slot_opened slot)) runs found answers.2)
 
     by : IsKept (with_opened before s slot) → (memory : Option End) → (slot_opened slot).place.memory ≡ memory → (used : Used Polled)
         → UsedAs (slot_opening slot) memory (slot' ≡ slot_opened slot) (λ (end : End). PollsIn (slot_opened slot) slot' end (session_of end.sessions u) moment) used → CanBeSentAs used

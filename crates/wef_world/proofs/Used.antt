@@ -155,16 +155,19 @@ asked_text state s slot slot' used there asks =
 polled_in : (state : State) (s : List ℕ) (slot slot' : Slot) (end : End) (session : Option Session) (answer : Polled) → PollsIn (slot_opened slot) slot' end session state.moment answer
     → with_polled (with_slot state s slot') s (Answered answer) ≡ poll_in s (with_opened state s slot) (slot_opened slot) end session
 polled_in state s slot slot' end None polled.Unknown h = ap (with_slot state s) h
+polled_in state s slot slot' end None polled.Expired h = absurd h
 polled_in state s slot slot' end None polled.Nothing h = absurd h
 polled_in state s slot slot' end None polled.Spent h = absurd h
 polled_in state s slot slot' end None (polled.Sent delivery) h = absurd h
 polled_in state s slot slot' end (Some session) polled.Unknown h = absurd h
-polled_in state s slot slot' end (Some session) polled.Nothing h = ap (with_slot state s) h.1 ∙ when_true _ _ _ h.0
-polled_in state s slot slot' end (Some session) polled.Spent h = ap (with_slot state s) h.2 ∙ when_true _ _ _ h.1 ∙ when_false _ _ _ h.0
+polled_in state s slot slot' end (Some session) polled.Expired h = ap (with_slot state s) h.1 ∙ when_true _ _ _ h.0
+polled_in state s slot slot' end (Some session) polled.Nothing h = ap (with_slot state s) h.2 ∙ when_true _ _ _ h.1 ∙ when_false _ _ _ h.0
+polled_in state s slot slot' end (Some session) polled.Spent h = ap (with_slot state s) h.3 ∙ when_true _ _ _ h.2 ∙ when_false _ _ _ h.1 ∙ when_false _ _ _ h.0
 polled_in state s slot slot' end (Some session) (polled.Sent delivery) h =
-    (λ i. with_message (with_slot state s (h.3 i)) (Events s (h.2 i)))
+    (λ i. with_message (with_slot state s (h.4 i)) (Events s (h.3 i)))
     ∙ sym (ap (λ (w : State). with_message w (Events s (delivery_of (slot_opened slot).place.rows end session)))
     (with_slot_twice state s (slot_opened slot) (slot_with (slot_opened slot) (remembering (slot_opened slot).place (sent (slot_opened slot).place.rows end session state.moment)))))
+    ∙ when_false _ _ _ h.2
     ∙ when_false _ _ _ h.1
     ∙ when_false _ _ _ h.0
 
@@ -183,13 +186,15 @@ polled_state state s u slot slot' used there polls =
 line_in : (state : State) (s u : List ℕ) (slot slot' : Slot) (end : End) (session : Option Session) (answer : Polled) → PollsIn slot slot' end session state.moment answer
     → polled_line s u (next_message state) (Answered answer) ≡ poll_text_in s u state slot end session
 line_in state s u slot slot' end None polled.Unknown h = refl
+line_in state s u slot slot' end None polled.Expired h = absurd h
 line_in state s u slot slot' end None polled.Nothing h = absurd h
 line_in state s u slot slot' end None polled.Spent h = absurd h
 line_in state s u slot slot' end None (polled.Sent delivery) h = absurd h
 line_in state s u slot slot' end (Some session) polled.Unknown h = absurd h
-line_in state s u slot slot' end (Some session) polled.Nothing h = when_true _ _ _ h.0
-line_in state s u slot slot' end (Some session) polled.Spent h = when_true _ _ _ h.1 ∙ when_false _ _ _ h.0
-line_in state s u slot slot' end (Some session) (polled.Sent delivery) h = when_false _ _ _ h.1 ∙ when_false _ _ _ h.0
+line_in state s u slot slot' end (Some session) polled.Expired h = when_true _ _ _ h.0
+line_in state s u slot slot' end (Some session) polled.Nothing h = when_true _ _ _ h.1 ∙ when_false _ _ _ h.0
+line_in state s u slot slot' end (Some session) polled.Spent h = when_true _ _ _ h.2 ∙ when_false _ _ _ h.1 ∙ when_false _ _ _ h.0
+line_in state s u slot slot' end (Some session) (polled.Sent delivery) h = when_false _ _ _ h.2 ∙ when_false _ _ _ h.1 ∙ when_false _ _ _ h.0
 
 pub polled_text : (state : State) (s u : List ℕ) (slot slot' : Slot) (used : Used Polled) → Some slot ≡ slot_of state s → PollsAs slot slot' u state.moment used
     → polled_line s u (next_message state) used ≡ print_at_source state s (closed_line s) (poll_text s u)

@@ -161,6 +161,7 @@ impl Ends {
         match polled {
             Used::Closed(fate) => Ok(fate_line(self.alloc, fate, name.as_str())?),
             Used::Answered(Polled::Unknown) => Ok(pair_line("unknown", name, named)?),
+            Used::Answered(Polled::Expired) => Ok(pair_line("expired", name, named)?),
             Used::Answered(Polled::Nothing) => Ok(pair_line("nothing", name, named)?),
             Used::Answered(Polled::Spent) => Ok(name_line("spent", name)?),
             Used::Answered(Polled::Sent(delivery)) => {

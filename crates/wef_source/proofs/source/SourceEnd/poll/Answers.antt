@@ -12,6 +12,7 @@ returns-clause-account g c = record {
   judged = search rules;
   listed = search rules;
   err = search rules;
+  unexpired = search rules;
   looks = search rules;
   untouched = search rules;
   reads = search rules;
