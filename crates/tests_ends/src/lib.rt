@@ -1,14 +1,17 @@
 //! Calls of both ends that no command makes or that come to limits: pages of held events, an event at its
-//! greatest length, the window of a log, how often a source was started, and numbers at their greatest.
+//! greatest length, the window of a log, how often a source was started, numbers at their greatest, and what a
+//! collector subscribes at a source.
 #![tactic(auto)]
 
 mod events;
 mod greatest;
+mod leases;
 mod lengths;
 mod logs;
 
 use events::push_events;
 use greatest::{push_greatest, push_spent};
+use leases::push_leases;
 use lengths::push_length;
 use logs::{push_starts, push_window};
 use std::alloc::AllocError;
@@ -30,6 +33,11 @@ pub fn push_answer(shown: &mut Text, task: &str, line: &str) -> Result<bool, All
         // What runs come to over a store whose log, or whose end, has one number at its greatest: `NUMBER: RUNS`,
         // NUMBER being `last number`, `source's boot` or `collector's boot`.
         "greatest" => push_greatest(shown, line),
+        // What a new source answers to these calls, one after the other, with `; ` between them: `accept NAME AT
+        // EXPIRES`, 0 for no expiry, and `told` behind it for a collector that is told of the end; `renew NUMBER
+        // EXPIRES AT`, `status NUMBER AT` and `cancel NUMBER`, of the session that is named by the id of this number;
+        // `offer NAME AT`, `poll NAME AT`, `shut`, and `ids`.
+        "leases" => push_leases(shown, line),
         // What is told where a source has no ids left.
         "spent" => push_spent(shown),
         _ => return Ok(false),
