@@ -91,6 +91,14 @@ fn push_fault(shown: &mut Text, fault: SourceFault) -> Result<(), AllocError> {
     }
 }
 
+/// The number that a call answers, or why it is refused.
+fn push_number(shown: &mut Text, answer: Result<u64, SourceFault>) -> Result<(), AllocError> {
+    match answer {
+        Ok(number) => shown.push_number(number),
+        Err(fault) => push_fault(shown, fault),
+    }
+}
+
 /// The answer to `accept NAME AT EXPIRES`, where EXPIRES is 0 for a wish that doesn't say it; the end is told
 /// where `told` stands behind that.
 fn push_accepted(
@@ -124,10 +132,7 @@ fn push_adopted(
     let Ok(id) = source.ask() else {
         return shown.push_str("spent");
     };
-    match source.adopt(&id, &offers, moment(at)) {
-        Ok(count) => shown.push_number(count),
-        Err(fault) => push_fault(shown, fault),
-    }
+    push_number(shown, source.adopt(&id, &offers, moment(at)))
 }
 
 /// The answer to `renew NUMBER EXPIRES AT`, of the session that is named by the id of that number.
@@ -140,10 +145,10 @@ fn push_renewed(
     let (expires, rest) = cut_number(rest);
     let (at, _) = cut_number(rest);
     let identifier = identifier(shown.alloc(), number)?;
-    match source.renew(&identifier, expires.min(LONGEST), moment(at)) {
-        Ok(expires) => shown.push_number(expires),
-        Err(fault) => push_fault(shown, fault),
-    }
+    push_number(
+        shown,
+        source.renew(&identifier, expires.min(LONGEST), moment(at)),
+    )
 }
 
 /// The answer to `status NUMBER AT`.
@@ -155,10 +160,7 @@ fn push_left(
     let (number, rest) = cut_number(line);
     let (at, _) = cut_number(rest);
     let identifier = identifier(shown.alloc(), number)?;
-    match source.status(&identifier, moment(at)) {
-        Ok(left) => shown.push_number(left),
-        Err(fault) => push_fault(shown, fault),
-    }
+    push_number(shown, source.status(&identifier, moment(at)))
 }
 
 /// The answer to `cancel NUMBER`.
