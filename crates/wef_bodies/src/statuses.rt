@@ -9,11 +9,14 @@ use std::alloc::{AllocError, Global};
 use wef_base::Text;
 use wef_eventing::EndStatus;
 
+/// The source couldn't deliver.
 pub const DELIVERY_FAILURE: &str = "http://schemas.xmlsoap.org/ws/2004/08/eventing/DeliveryFailure";
 
+/// The source is shutting down.
 pub const SOURCE_SHUTTING_DOWN: &str =
     "http://schemas.xmlsoap.org/ws/2004/08/eventing/SourceShuttingDown";
 
+/// The source ended it for another reason.
 pub const SOURCE_CANCELING: &str = "http://schemas.xmlsoap.org/ws/2004/08/eventing/SourceCanceling";
 
 /// The status that a text says.

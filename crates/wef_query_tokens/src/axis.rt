@@ -11,6 +11,7 @@ pub enum Axis {
 }
 
 impl Axis {
+    /// Whether it goes to the elements in a node: the other goes to the attributes of one.
     pub fn goes_to_children(self) -> bool
         ensures { result ≡ goes_to_children self }
     {
