@@ -10,7 +10,7 @@ use Rattle.wef_bookmark.proofs.Joining.{order}
 use Rattle.wef_bookmark.proofs.Kept.{empty_kept}
 use Rattle.wef_bookmark.specs.Nodes.{AreTexts}
 use Rattle.wef_bookmark.specs.Order.{Marks}
-use Rattle.wef_front.specs.Sending.{CanBeSent}
+use Rattle.wef_front_source.specs.Sending.{CanBeSent}
 use Rattle.wef_ids.specs.IdTexts.{id_of}
 use Rattle.wef_ids.specs.declared.MessageId.{MessageId}
 use Rattle.wef_xml.proofs.Ascii.{plain_text}

@@ -10,9 +10,9 @@ use Rattle.wef_forwarding.specs.declared.exchanges.FrontFault.{FrontFault}
 use Rattle.wef_forwarding.specs.declared.exchanges.FrontFault.TheVariants as fronts
 use Rattle.wef_forwarding.specs.declared.forwarding.Exchange.{Exchange}
 use Rattle.wef_forwarding.specs.declared.forwarding.Exchange.TheVariants.{Nothing, Acked, Refused, Lost}
-use Rattle.wef_front.specs.HeardReplies as heard
-use Rattle.wef_front.specs.declared.listening.Hears.{Hears}
-use Rattle.wef_front.specs.declared.listening.Hears.TheVariants as hears
+use Rattle.wef_front_source.specs.HeardReplies as heard
+use Rattle.wef_front_source.specs.declared.listening.Hears.{Hears}
+use Rattle.wef_front_source.specs.declared.listening.Hears.TheVariants as hears
 use Rattle.wef_keeper.specs.Calls.{Did, Makes}
 use Rattle.wef_keeper.specs.Keeping.{IsLawful, Store}
 use Rattle.wef_keeper.specs.Rows.{Rows}

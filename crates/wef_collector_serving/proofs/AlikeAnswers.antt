@@ -11,13 +11,13 @@ use Rattle.wef_collector_rows.specs.declared.faults.CollectorFault.TheVariants.{
 use Rattle.wef_collector_rows.specs.declared.standings.Standing.{Standing}
 use Rattle.wef_collector_rows.specs.declared.standings.Standing.TheVariants.{Unknown, Ended, Live}
 use Rattle.wef_front.proofs.OneIsHeard.{one_is_heard}
-use Rattle.wef_front.specs.Replies.{answer_of, ids_behind, rows_by}
-use Rattle.wef_front.specs.Steps.{batch_said, effect_in, said_by, said_where}
-use Rattle.wef_front.specs.declared.hearing.Asked.{Asked}
-use Rattle.wef_front.specs.declared.hearing.Asked.TheVariants.{Refused, Enumerate, Unread, Take}
-use Rattle.wef_front.specs.declared.hearing.Heard.{Heard}
-use Rattle.wef_front.specs.declared.saying.Said.{Said}
-use Rattle.wef_front.specs.declared.saying.Said.TheVariants.{Offers}
+use Rattle.wef_front_collector.specs.Replies.{answer_of, ids_behind, rows_by}
+use Rattle.wef_front_collector.specs.Steps.{batch_said, effect_in, said_by, said_where}
+use Rattle.wef_front_collector.specs.declared.hearing.Asked.{Asked}
+use Rattle.wef_front_collector.specs.declared.hearing.Asked.TheVariants.{Refused, Enumerate, Unread, Take}
+use Rattle.wef_front_collector.specs.declared.hearing.Heard.{Heard}
+use Rattle.wef_front_collector.specs.declared.saying.Said.{Said}
+use Rattle.wef_front_collector.specs.declared.saying.Said.TheVariants.{Offers}
 use Rattle.wef_http.specs.declared.messages.HttpRequest.{HttpRequest}
 use Rattle.wef_http_heads.specs.declared.answers.Answer.{Answer}
 use Rattle.wef_keeper.specs.Rows.{Rows}

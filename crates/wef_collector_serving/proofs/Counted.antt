@@ -4,12 +4,12 @@ use Rattle.std.specs.Prelude.{Option, Some, None, IfSome}
 use Rattle.wef_base.specs.Counts.{Rose}
 use Rattle.wef_collector_rows.specs.Forms.{AreFormed}
 use Rattle.wef_front.proofs.Causes.{internal_errors_have_a_cause}
-use Rattle.wef_front.specs.Replies.{IsUnanswered}
-use Rattle.wef_front.specs.Steps.{HasStepped, Steps}
-use Rattle.wef_front.specs.declared.hearing.Asked.{Asked}
-use Rattle.wef_front.specs.declared.hearing.Asked.TheVariants.{Refused, Enumerate, Unread, Take}
-use Rattle.wef_front.specs.declared.hearing.Heard.{Heard}
-use Rattle.wef_front.specs.declared.saying.Said.{Said}
+use Rattle.wef_front_collector.specs.Replies.{IsUnanswered}
+use Rattle.wef_front_collector.specs.Steps.{HasStepped, Steps}
+use Rattle.wef_front_collector.specs.declared.hearing.Asked.{Asked}
+use Rattle.wef_front_collector.specs.declared.hearing.Asked.TheVariants.{Refused, Enumerate, Unread, Take}
+use Rattle.wef_front_collector.specs.declared.hearing.Heard.{Heard}
+use Rattle.wef_front_collector.specs.declared.saying.Said.{Said}
 use Rattle.wef_http.specs.declared.messages.HttpRequest.{HttpRequest}
 use Rattle.wef_http_heads.specs.declared.answers.Answer.{Answer}
 use Rattle.wef_http_heads.specs.declared.targets.Side.{Side}

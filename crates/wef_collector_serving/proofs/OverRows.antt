@@ -21,12 +21,12 @@ use Rattle.wef_collector_rows.specs.declared.standings.Standing.{Standing}
 use Rattle.wef_collector_rows.specs.declared.standings.Standing.TheVariants as stands
 use Rattle.wef_eventing.specs.declared.subscriptions.Subscription.{Subscription}
 use Rattle.wef_front.proofs.Causes.{internal_errors_have_a_cause}
-use Rattle.wef_front.specs.Replies.{rows_by}
-use Rattle.wef_front.specs.Steps.{HasStepped, IsAnswered, IsFailure, Steps, batch_said, effect_in, fault_for, said_where, said_with}
-use Rattle.wef_front.specs.declared.hearing.Asked.{Asked}
-use Rattle.wef_front.specs.declared.hearing.Asked.TheVariants.{Refused, Enumerate, Unread, Take}
-use Rattle.wef_front.specs.declared.saying.Said.{Said}
-use Rattle.wef_front.specs.declared.saying.Said.TheVariants.{Ack, Quiet, Offers, Fault}
+use Rattle.wef_front_collector.specs.Replies.{rows_by}
+use Rattle.wef_front_collector.specs.Steps.{HasStepped, IsAnswered, IsFailure, Steps, batch_said, effect_in, fault_for, said_where, said_with}
+use Rattle.wef_front_collector.specs.declared.hearing.Asked.{Asked}
+use Rattle.wef_front_collector.specs.declared.hearing.Asked.TheVariants.{Refused, Enumerate, Unread, Take}
+use Rattle.wef_front_collector.specs.declared.saying.Said.{Said}
+use Rattle.wef_front_collector.specs.declared.saying.Said.TheVariants.{Ack, Quiet, Offers, Fault}
 use Rattle.wef_http.specs.Messages.{IsRequest}
 use Rattle.wef_http.specs.declared.messages.HttpRequest.{HttpRequest}
 use Rattle.wef_http_heads.specs.declared.answers.Answer.{Answer}

@@ -4,9 +4,9 @@ use Rattle.std.specs.Prelude.{Option, Result, IfErr, IfOk}
 use Rattle.std.specs.declared.result.Result.TheVariants.{Ok, Err}
 use Rattle.wef_base.specs.declared.tree.Charset.{Charset}
 use Rattle.wef_collector.specs.State.{CollectorState}
-use Rattle.wef_front.specs.Replies.{answer_of}
-use Rattle.wef_front.specs.declared.saying.Said.{Said}
-use Rattle.wef_front.specs.declared.saying.Said.TheVariants.{Ack, Quiet, Offers, Fault}
+use Rattle.wef_front_collector.specs.Replies.{answer_of}
+use Rattle.wef_front_collector.specs.declared.saying.Said.{Said}
+use Rattle.wef_front_collector.specs.declared.saying.Said.TheVariants.{Ack, Quiet, Offers, Fault}
 use Rattle.wef_http.specs.declared.messages.HttpRequest.{HttpRequest}
 use Rattle.wef_http_heads.specs.declared.answers.Answer.{Answer}
 use Rattle.wef_ids.specs.declared.MessageId.{MessageId}

@@ -1,9 +1,9 @@
 -- What a collector answers to the requests of a connection.
 use Rattle.std.specs.Prelude.{◌≡◌, ◌⊎◌, ℕ, Option}
 use Rattle.wef_collector.specs.State.{CollectorState}
-use Rattle.wef_front.specs.Heard.{Hears}
-use Rattle.wef_front.specs.Replies.{IsAnswer, IsUnanswered}
-use Rattle.wef_front.specs.declared.hearing.Heard.{Heard}
+use Rattle.wef_front_collector.specs.Heard.{Hears}
+use Rattle.wef_front_collector.specs.Replies.{IsAnswer, IsUnanswered}
+use Rattle.wef_front_collector.specs.declared.hearing.Heard.{Heard}
 use Rattle.wef_http.specs.declared.messages.HttpRequest.{HttpRequest}
 use Rattle.wef_http_heads.specs.declared.answers.Answer.{Answer}
 use Rattle.wef_http_heads.specs.declared.targets.Side.TheVariants.{Collector}

@@ -5,7 +5,7 @@ use Rattle.wef_collector.specs.Laws.{BookmarksRise}
 use Rattle.wef_collector_rows.specs.Forms.{AreFormed}
 use Rattle.wef_collector_serving.specs.Answers.{Answers, AnswersHeard, AnswersInTurn, Hearing, KnownCollector, Leaves}
 use Rattle.wef_collector_serving.specs.ByRows.{AnswersBy, AreGood, LeavesBy, kept_of}
-use Rattle.wef_front.specs.declared.saying.Said.TheVariants.{Fault}
+use Rattle.wef_front_collector.specs.declared.saying.Said.TheVariants.{Fault}
 use Rattle.wef_http.specs.declared.messages.HttpRequest.{HttpRequest}
 use Rattle.wef_http_heads.specs.declared.answers.Answer.{Answer}
 use Rattle.wef_http_heads.specs.declared.targets.Side.{Side}

@@ -6,7 +6,7 @@ use Rattle.std.specs.List.{AllByRecursion}
 use Rattle.std.specs.Prelude.{Option, Some, None, Result, Ok, Err, OnOk, OnErr, IfErr, IfSome, is_some}
 use Rattle.wef_bookmark.specs.Order.{Marks}
 use Rattle.wef_eventing.proofs.AddressTexts.{printed_text}
-use Rattle.wef_front.specs.Sending.{CanBeWritten}
+use Rattle.wef_front_source.specs.Sending.{CanBeWritten}
 use Rattle.wef_ids.proofs.PlainIds.{id_text_good}
 use Rattle.wef_ids.specs.IdTexts.{id_of_value}
 use Rattle.wef_ids.specs.declared.MessageId.{MessageId}

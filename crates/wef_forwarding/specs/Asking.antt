@@ -4,10 +4,10 @@ use Rattle.wef_forwarding.specs.Exchanges.{BrokeOff, WasMade}
 use Rattle.wef_forwarding.specs.declared.exchanges.FrontFault.{FrontFault}
 use Rattle.wef_forwarding.specs.declared.exchanges.FrontFault.TheVariants.{NoMemory, Source}
 use Rattle.wef_forwarding.specs.declared.exchanges.Request.{Request}
-use Rattle.wef_front.specs.HeardReplies.{HearsTold, offers_told, told}
-use Rattle.wef_front.specs.Sending.{enumerate_bytes}
-use Rattle.wef_front.specs.declared.listening.Hears.{Hears}
-use Rattle.wef_front.specs.declared.listening.Hears.TheVariants.{Adopted}
+use Rattle.wef_front_source.specs.HeardReplies.{HearsTold, offers_told, told}
+use Rattle.wef_front_source.specs.Sending.{enumerate_bytes}
+use Rattle.wef_front_source.specs.declared.listening.Hears.{Hears}
+use Rattle.wef_front_source.specs.declared.listening.Hears.TheVariants.{Adopted}
 use Rattle.wef_http_heads.specs.declared.targets.TheConstants.{MANAGER_PATH}
 use Rattle.wef_ids.specs.declared.MessageId.{MessageId}
 use Rattle.wef_ports.specs.Telling.{Told}

@@ -6,9 +6,9 @@ use Rattle.wef_forwarding.specs.Addresses.{authority_of, path_of}
 use Rattle.wef_forwarding.specs.declared.exchanges.FrontFault.{FrontFault}
 use Rattle.wef_forwarding.specs.declared.exchanges.FrontFault.TheVariants.{NoMemory, LinkFailed, Source}
 use Rattle.wef_forwarding.specs.declared.exchanges.Request.{Request}
-use Rattle.wef_front.specs.HeardReplies.{told}
-use Rattle.wef_front.specs.HeardReplies as heard
-use Rattle.wef_front.specs.Sending.{delivery_bytes}
+use Rattle.wef_front_source.specs.HeardReplies.{told}
+use Rattle.wef_front_source.specs.HeardReplies as heard
+use Rattle.wef_front_source.specs.Sending.{delivery_bytes}
 use Rattle.wef_http.specs.Messages.{IsResponse, RefusesResponse}
 use Rattle.wef_http_heads.specs.Laws.{IsByBytes}
 use Rattle.wef_http.specs.declared.messages.HttpResponse.{HttpResponse}

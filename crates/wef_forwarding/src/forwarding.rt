@@ -3,8 +3,8 @@
 ghost use Rattle.std.specs.Prelude.{◌≡◌, ◌≤◌, false, IfOk};
 ghost use Rattle.wef_forwarding.specs.Exchanges.{Replied, answer_to, request_of};
 ghost use Rattle.wef_forwarding.specs.Forwarding.{Forwards, IsAwaited, IsDelivered, Settles, answered_in, count_of, outcome_of, refusal_of};
-ghost use Rattle.wef_front.specs.HeardReplies.{told};
-ghost use Rattle.wef_front.specs.Sending.{CanBeWritten};
+ghost use Rattle.wef_front_source.specs.HeardReplies.{told};
+ghost use Rattle.wef_front_source.specs.Sending.{CanBeWritten};
 ghost use Rattle.wef_keeper.specs.Access.{OpensAndReads};
 ghost use Rattle.wef_keeper.specs.Calls.{fails};
 ghost use Rattle.wef_source.specs.Answers.{may_send};

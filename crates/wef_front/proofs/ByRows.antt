@@ -23,15 +23,15 @@ use Rattle.wef_collector_rows.specs.declared.faults.CollectorFault.{CollectorFau
 use Rattle.wef_collector_rows.specs.declared.faults.CollectorFault.TheVariants.{NoMemory, NoSubscription, Exists, Ended, NotWellFormed, TooMany, Failed, Full}
 use Rattle.wef_collector.specs.Calls.{Effect}
 use Rattle.wef_front.specs.Laws.{GoesByPlan, GoesByRows, HasFailed, IsReply, said_planned, tries_by}
-use Rattle.wef_front.specs.Replies.{IsAnswer, answer_of, ids_behind, rows_by}
-use Rattle.wef_front.proofs.SaidOfCalls.{offers_answered}
-use Rattle.wef_front.specs.Steps.{CallsFor, IsAnswered, SaysFor, batch_said, effect_in, fault_for, said_by, said_where}
+use Rattle.wef_front_collector.specs.Replies.{IsAnswer, answer_of, ids_behind, rows_by}
+use Rattle.wef_front_collector.proofs.SaidOfCalls.{offers_answered}
+use Rattle.wef_front_collector.specs.Steps.{CallsFor, IsAnswered, SaysFor, batch_said, effect_in, fault_for, said_by, said_where}
 use Rattle.wef_http_heads.specs.declared.answers.Answer.{Answer}
-use Rattle.wef_front.specs.declared.hearing.Asked.{Asked}
-use Rattle.wef_front.specs.declared.hearing.Asked.TheVariants.{Refused, Enumerate, Unread, Take}
-use Rattle.wef_front.specs.declared.hearing.Heard.{Heard}
-use Rattle.wef_front.specs.declared.saying.Said.{Said}
-use Rattle.wef_front.specs.declared.saying.Said.TheVariants.{Offers, Fault}
+use Rattle.wef_front_collector.specs.declared.hearing.Asked.{Asked}
+use Rattle.wef_front_collector.specs.declared.hearing.Asked.TheVariants.{Refused, Enumerate, Unread, Take}
+use Rattle.wef_front_collector.specs.declared.hearing.Heard.{Heard}
+use Rattle.wef_front_collector.specs.declared.saying.Said.{Said}
+use Rattle.wef_front_collector.specs.declared.saying.Said.TheVariants.{Offers, Fault}
 
 -- ---- a call, by the rows that it found
 

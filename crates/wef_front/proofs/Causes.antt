@@ -26,18 +26,19 @@ use Rattle.wef_collector.specs.Offers.{offers}
 use Rattle.wef_eventing.specs.declared.offers.Offer.{Offer}
 use Rattle.wef_bodies.specs.Reading.{has_enumerate}
 use Rattle.std.specs.Option.{option_and_then}
-use Rattle.wef_front.specs.Heard.{Hears, HearsRead, asked_at, asked_by, asked_of, batch_in, enumerate_asked, events_asked, is_elsewhere, is_nameless, manager_asked, named_asked}
-use Rattle.wef_front.specs.Replies.{IsAnswer}
-use Rattle.wef_front.proofs.SaidOfCalls.{offers_answered}
-use Rattle.wef_front.specs.Steps.{IsAnswered, SaysFor, Steps, batch_said, done_said, effect_in}
-use Rattle.wef_front.specs.declared.hearing.Asked.{Asked}
-use Rattle.wef_front.specs.declared.hearing.Asked.TheVariants.{Refused, Enumerate, Unread, Take}
+use Rattle.wef_front_collector.specs.Heard.{Hears, asked_at, asked_by, asked_of, batch_in, enumerate_asked, events_asked, heard_in, is_elsewhere, is_nameless, manager_asked, named_asked, unheard}
+use Rattle.wef_replies.specs.Refusals.{HearsRead}
+use Rattle.wef_front_collector.specs.Replies.{IsAnswer}
+use Rattle.wef_front_collector.proofs.SaidOfCalls.{offers_answered}
+use Rattle.wef_front_collector.specs.Steps.{IsAnswered, SaysFor, Steps, batch_said, done_said, effect_in}
+use Rattle.wef_front_collector.specs.declared.hearing.Asked.{Asked}
+use Rattle.wef_front_collector.specs.declared.hearing.Asked.TheVariants.{Refused, Enumerate, Unread, Take}
 use Rattle.wef_http_heads.specs.declared.answers.Answer.{Answer}
-use Rattle.wef_front.specs.declared.hearing.Heard.{Heard}
-use Rattle.wef_front.specs.declared.saying.Said.{Said}
+use Rattle.wef_front_collector.specs.declared.hearing.Heard.{Heard}
+use Rattle.wef_front_collector.specs.declared.saying.Said.{Said}
 use Rattle.wef_http_heads.specs.declared.targets.Target.{Target}
 use Rattle.wef_http_heads.specs.declared.targets.Target.TheVariants.{Manager, Delivery, Root}
-use Rattle.wef_front.specs.declared.saying.Said.TheVariants.{Offers, Fault}
+use Rattle.wef_front_collector.specs.declared.saying.Said.TheVariants.{Offers, Fault}
 
 abbrev is_internal : FaultName → Bool
 is_internal the.InternalError = true
@@ -100,7 +101,7 @@ of_other target (Err (envelope.MustUnderstand name)) = refl
 of_other target (Err (envelope.HeaderRequired name)) = refl
 of_other target (Err (envelope.RepeatedHeader name)) = refl
 
-read_other : (target : Target) (read : Result Element TreeFault) (heard : Heard) → HearsRead target read heard → IsOther heard.asked
+read_other : (target : Target) (read : Result Element TreeFault) (heard : Heard) → HearsRead (heard_in target) unheard read heard → IsOther heard.asked
 read_other target (Ok root) heard is = let P : Heard → Type 0 = λ h. IsOther h.asked in subst P (sym is) (of_other target (said root))
 read_other target (Err tree.NoMemory) heard is = absurd is
 read_other target (Err (tree.BadCharset at)) heard is = let P : Heard → Type 0 = λ h. IsOther h.asked in subst P (sym is) refl

@@ -1,7 +1,6 @@
 -- What a source sends, the collector hears.
 use Rattle.std.proofs.Common.{◌≡◌, ℕ, true, false, Bool, ◌&&◌, cond, List, [], ◌∷◌, refl, ap, sym, ◌∙◌}
 use Rattle.std.specs.Prelude.{Option, Some, None, Result, Ok, IfSome}
-use Rattle.std.specs.List.{AllByRecursion}
 use Rattle.std.specs.Option.{option_and_then}
 use Rattle.std.specs.Result.{result_ok}
 use Rattle.std.specs.FinMap as map
@@ -12,12 +11,8 @@ use Rattle.wef_base.specs.declared.tree.Charset.TheVariants.{Utf8}
 use Rattle.wef_base.specs.declared.tree.Element.{Element}
 use Rattle.wef_batch.proofs.WrittenGood as batch
 use Rattle.wef_batch.proofs.WrittenRead as again
-use Rattle.wef_batch.specs.Laws.{IsKept}
-use Rattle.wef_bookmark.specs.Entries.{AreEntries}
 use Rattle.wef_bookmark.specs.Nodes as nodes
-use Rattle.wef_bookmark.specs.Nodes.{AreTexts}
 use Rattle.wef_bookmark.specs.Order.{Marks}
-use Rattle.wef_bookmark.proofs.WrittenGood as bookmark
 use Rattle.wef_elements.specs.Children.{as_nodes}
 use Rattle.wef_elements.specs.Spaces.{management}
 use Rattle.wef_elements.specs.Texts.{only_text}
@@ -26,23 +21,22 @@ use Rattle.wef_envelope.specs.Headers.{header_of, name_of, space_of}
 use Rattle.wef_envelope.specs.Laws.{IsPlain, IsTrimmed}
 use Rattle.wef_envelope.specs.Spaces.{management as managed}
 use Rattle.wef_envelope.specs.Written.{written}
-use Rattle.wef_envelope.specs.declared.actions.TheConstants.{ANONYMOUS, ENUMERATE, EVENTS}
+use Rattle.wef_envelope.specs.declared.actions.TheConstants.{ENUMERATE, EVENTS}
 use Rattle.wef_envelope.specs.declared.envelopes.Envelope.{Envelope}
 use Rattle.wef_envelope.specs.declared.envelopes.EnvelopeFault.{EnvelopeFault}
 use Rattle.wef_envelope.specs.declared.headers.Header.TheVariants as the
 use Rattle.wef_envelope.proofs.Places.{named_is}
-use Rattle.wef_envelope.proofs.WrittenIsGood.{written_is_good}
 use Rattle.wef_envelope.proofs.WrittenIsRead.{written_id_is_found, written_is_read}
 use Rattle.wef_source.specs.declared.messages.Delivery as source
 use Rattle.wef_tree.proofs.BoundPrefixes.{same_self}
 use Rattle.wef_tree.proofs.SpellsAgain.{spells_again}
-use Rattle.wef_xml.specs.Good.{IsGoodTree, IsXmlText}
-use Rattle.wef_xml.proofs.Ascii.{plain_text}
-use Rattle.wef_front.proofs.Numbered.{plain_numbered}
+use Rattle.wef_xml.specs.Good.{IsGoodTree}
+use Rattle.wef_front_source.proofs.DeliveriesAreGood.{can_be_written, written_good}
 use Rattle.wef_front.proofs.RepliesAreHeard.{anonymous_trimmed, tree_again}
-use Rattle.wef_front.specs.Heard.{Hears, asked_by, asked_of, batch_in, delivery_asked, events_asked}
-use Rattle.wef_front.specs.Sending.{CanBeSent, CanBeWritten, DeliveriesAreRead, IsPlainText, delivery_by, delivery_bytes, delivery_envelope, delivery_said}
-use Rattle.wef_front.specs.declared.hearing.Asked.TheVariants.{Refused, Take}
+use Rattle.wef_front_collector.specs.Heard.{Hears, asked_by, asked_of, batch_in, delivery_asked, events_asked}
+use Rattle.wef_front_source.specs.Sending.{CanBeSent, IsPlainText, delivery_bytes, delivery_envelope}
+use Rattle.wef_front.specs.Sent.{DeliveriesAreRead, delivery_by, delivery_said}
+use Rattle.wef_front_collector.specs.declared.hearing.Asked.TheVariants.{Refused, Take}
 use Rattle.wef_http_heads.specs.declared.targets.Target.TheVariants.{Delivery}
 use Rattle.wef_ids.specs.declared.FaultName.TheVariants as fault
 
@@ -65,10 +59,6 @@ first_part : (o : Option (List ℕ)) → IfSome o IsPlainText → IfSome o IsTri
 first_part None plain = tt
 first_part (Some t) plain = plain.0
 
-other_part : (o : Option (List ℕ)) → IfSome o IsPlainText → IfSome o IsXmlText
-other_part None plain = tt
-other_part (Some t) plain = plain.1
-
 plain_delivery : (d : source.Delivery) → CanBeSent d → IsPlain (delivery_envelope d)
 plain_delivery d sent = record {
   to = sent.notify_to.0;
@@ -81,31 +71,6 @@ plain_delivery d sent = record {
   max_size = tt;
   identifier = first_part d.identifier sent.identifier;
   bookmark = bookmark_is d.batch.to;
-}
-
-pub written_good : (d : source.Delivery) → CanBeWritten d → AllByRecursion IsKept d.batch.items → AreEntries d.batch.to → AreTexts d.batch.to → IsGoodTree (written (delivery_envelope d))
-written_good d can kept entries names =
-    written_is_good (delivery_envelope d) 60 (record {
-      to = can.notify_to;
-      resource = tt;
-      reply_to = plain_text ANONYMOUS.now refl;
-      action = plain_text EVENTS.now refl;
-      id = can.id;
-      relates = tt;
-      machine = tt;
-      max_size = tt;
-      identifier = can.identifier;
-      bookmark = bookmark.written_is_good d.batch.to 59 entries names;
-      body = (batch.written_is_good d.batch.items 60 kept, tt);
-    })
-
--- what can be sent can be written
-pub can_be_written : (d : source.Delivery) → CanBeSent d → CanBeWritten d
-can_be_written d sent = record {
-  id = sent.id;
-  notify_to = sent.notify_to.1;
-  identifier = other_part d.identifier sent.identifier;
-  numbered = plain_numbered d.batch.items sent.plain;
 }
 
 delivery_good : (d : source.Delivery) → CanBeSent d → IsGoodTree (written (delivery_envelope d))

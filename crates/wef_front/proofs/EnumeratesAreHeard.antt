@@ -1,51 +1,39 @@
 -- What a source asks for its subscriptions with, the collector hears.
-use Rattle.std.proofs.Common.{◌≡◌, ℕ, true, false, Bool, ◌&&◌, cond, List, [], ◌∷◌, ◌++◌, codes, refl, ap, sym, ◌∙◌}
+use Rattle.std.proofs.Common.{◌≡◌, ℕ, true, false, Bool, ◌&&◌, cond, List, [], ◌∷◌, refl, ap, sym, ◌∙◌}
 use Rattle.std.specs.Prelude.{Some, Ok}
-use Rattle.std.specs.List.{list_all}
 use Rattle.std.specs.Option.{option_and_then}
 use Rattle.std.specs.Str.{IsUtf8, chars}
 use Rattle.std.proofs.Math.Utf8.{encode}
-use Rattle.std.proofs.lemmas.Bool.{and_from}
-use Rattle.std.proofs.lemmas.List.Folds.{list_all-append}
 use Rattle.wef_base.specs.Names.{source_name}
 use Rattle.wef_base.specs.declared.tree.Charset.TheVariants.{Utf8}
 use Rattle.wef_base.specs.declared.tree.Element.{Element}
 use Rattle.wef_bodies.proofs.GoodBodies.{enumerate_good as enumerate_good_element}
 use Rattle.wef_bodies.specs.Reading.{has_enumerate}
 use Rattle.wef_bodies.specs.Written.{enumerate_element}
-use Rattle.wef_elements.specs.Good.{AreGoodElements}
 use Rattle.wef_envelope.specs.Envelopes.{id_in, said}
 use Rattle.wef_envelope.specs.Laws.{IsPlain, IsSpelt, IsTrimmed}
 use Rattle.wef_envelope.specs.Spaces.{enumeration}
 use Rattle.wef_envelope.specs.Written.{written}
-use Rattle.wef_envelope.specs.declared.actions.TheConstants.{ANONYMOUS, ENUMERATE, SUBSCRIPTIONS}
+use Rattle.wef_envelope.specs.declared.actions.TheConstants.{ENUMERATE, SUBSCRIPTIONS}
 use Rattle.wef_envelope.specs.declared.envelopes.Envelope.{Envelope}
-use Rattle.wef_envelope.proofs.WrittenIsGood.{written_is_good}
 use Rattle.wef_envelope.proofs.WrittenIsRead.{written_id_is_found, written_is_read}
 use Rattle.wef_eventing.proofs.AddressTexts.{printed_text}
-use Rattle.wef_eventing.specs.Addresses.{IsHost, is_printed}
+use Rattle.wef_eventing.specs.Addresses.{IsHost}
 use Rattle.wef_ids.specs.declared.FaultName.TheVariants as fault
 use Rattle.wef_ids.specs.declared.MessageId.{MessageId}
 use Rattle.wef_tree.proofs.BoundPrefixes.{same_self}
 use Rattle.wef_tree.proofs.SpellsAgain.{spells_again}
-use Rattle.wef_xml.proofs.Ascii.{plain_text}
-use Rattle.wef_xml.specs.Good.{IsGoodTree, IsXmlText}
+use Rattle.wef_xml.specs.Good.{IsXmlText}
 use Rattle.wef_front.proofs.RepliesAreHeard.{anonymous_trimmed, tree_again}
-use Rattle.wef_front.proofs.SourceNames.{allowed_source, trimmed_source}
-use Rattle.wef_front.specs.Heard.{Hears, asked_by, asked_of, enumerate_asked, heard_in, named_asked}
-use Rattle.wef_front.specs.Sending.{EnumeratesAreRead, enumerate_bytes, enumerate_envelope, manager_address, wish_by}
-use Rattle.wef_front.specs.declared.hearing.Asked.TheVariants.{Enumerate, Refused}
+use Rattle.wef_front_source.proofs.EnumeratesAreGood.{enumerate_good, manager_printed}
+use Rattle.wef_front_source.proofs.SourceNames.{trimmed_source}
+use Rattle.wef_front_collector.specs.Heard.{Hears, asked_by, asked_of, enumerate_asked, heard_in, named_asked}
+use Rattle.wef_front.specs.Sent.{EnumeratesAreRead, wish_by}
+use Rattle.wef_front_source.specs.Sending.{enumerate_bytes, enumerate_envelope, manager_address}
+use Rattle.wef_front_collector.specs.declared.hearing.Asked.TheVariants.{Enumerate, Refused}
 use Rattle.wef_http_heads.specs.declared.targets.Target.TheVariants.{Manager}
-use Rattle.wef_http_heads.specs.declared.targets.TheConstants.{MANAGER_PATH}
 
 -- ---- the envelope
-
-joined : (cs ds : List ℕ) → list_all is_printed cs ≡ true → list_all is_printed ds ≡ true → list_all is_printed (cs ++ ds) ≡ true
-joined cs ds one other = list_all-append is_printed cs ds ∙ and_from _ _ one other
-
-manager_printed : (host : List ℕ) → list_all is_printed host ≡ true → list_all is_printed (manager_address host) ≡ true
-unfolding manager_address
-manager_printed host is = joined (codes "http://" ++ host) MANAGER_PATH.now (joined (codes "http://") host refl is) refl
 
 subscriptions_trimmed : IsTrimmed SUBSCRIPTIONS.now
 unfolding chars encode
@@ -68,23 +56,6 @@ plain_enumerate host s id is utf8 named spelt = record {
   identifier = tt;
   bookmark = tt;
 }
-
-pub enumerate_good : (host s : List ℕ) (id : MessageId) → IsHost host → IsUtf8 s → source_name s ≡ Some s → IsXmlText id.text → AreGoodElements (enumerate_element ∷ []) 62
-    → IsGoodTree (written (enumerate_envelope host s id))
-enumerate_good host s id is utf8 named allowed body =
-    written_is_good (enumerate_envelope host s id) 60 (record {
-      to = (printed_text (manager_address host) (manager_printed host is.1)).1;
-      resource = plain_text SUBSCRIPTIONS.now refl;
-      reply_to = plain_text ANONYMOUS.now refl;
-      action = plain_text ENUMERATE.now refl;
-      id = allowed;
-      relates = tt;
-      machine = allowed_source s utf8 named;
-      max_size = tt;
-      identifier = tt;
-      bookmark = tt;
-      body = body;
-    })
 
 -- ---- what it asks
 

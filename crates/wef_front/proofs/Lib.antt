@@ -1,15 +1,7 @@
 pub mod ByRows
 pub mod Causes
 pub mod DeliveriesAreHeard
-pub mod Draws
 pub mod EnumeratesAreHeard
-pub mod IdTexts
-pub mod Numbered
 pub mod OffersAreHeard
-pub mod OffersCanBeServed
 pub mod OneIsHeard
-pub mod ReadIsGood
-pub mod RepliesAreGood
 pub mod RepliesAreHeard
-pub mod SaidOfCalls
-pub mod SourceNames

@@ -32,12 +32,13 @@ use Rattle.wef_tree.proofs.BoundPrefixes.{same_self}
 use Rattle.wef_xml.proofs.Ascii.{plain_text}
 use Rattle.wef_xml.specs.Canonical.{canonical, encoded}
 use Rattle.wef_xml.specs.Good.{IsGoodTree, IsXmlText}
-use Rattle.wef_front.proofs.Draws.{drawn_texts}
-use Rattle.wef_front.proofs.RepliesAreGood.{reply_good}
+use Rattle.wef_front_collector.proofs.Draws.{drawn_texts}
+use Rattle.wef_replies.proofs.RepliesAreGood.{reply_good}
 use Rattle.wef_front.proofs.RepliesAreHeard.{reply_plain, reply_said, tree_again, tree_id, tree_told}
-use Rattle.wef_front.specs.HeardReplies.{Offered, fault_among, id_told, offers_told, offers_told_by, related, told, told_by, told_in}
+use Rattle.wef_front_source.specs.HeardReplies.{Offered, fault_among, id_told, offers_told, offers_told_by, related, told, told_by, told_in}
 use Rattle.wef_front.specs.Laws.{OffersAreHeard, OffersAreRead}
-use Rattle.wef_front.specs.Replies.{drawn_ids, ids_at, ids_nested_in, nested_ids, offers_envelope}
+use Rattle.wef_front_collector.specs.Replies.{drawn_ids, nested_ids, offers_envelope}
+use Rattle.wef_front.specs.Replies.{ids_at, ids_nested_in}
 
 response_trimmed : IsTrimmed ENUMERATE_RESPONSE.now
 unfolding chars encode

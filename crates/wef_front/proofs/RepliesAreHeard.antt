@@ -30,12 +30,15 @@ use Rattle.wef_tree_reading.specs.Documents.{tree_of}
 use Rattle.wef_tree_reading.proofs.Functions.{is_given}
 use Rattle.wef_xml.specs.Canonical.{canonical, encoded}
 use Rattle.wef_xml.specs.Good.{IsGoodTree, IsXmlText}
-use Rattle.wef_front.specs.HeardReplies.{fault_among, id_told, told, told_by, told_in}
+use Rattle.wef_front_source.specs.HeardReplies.{fault_among, id_told, told, told_by, told_in}
 use Rattle.wef_front.specs.Laws.{RepliesAreRead}
-use Rattle.wef_front.specs.Replies.{IsKnownReply, ack_envelope, answer_of, envelope_with, fault_envelope, reply_bytes}
-use Rattle.wef_front.specs.declared.saying.Said.TheVariants.{Ack, Fault as FaultSaid}
+use Rattle.wef_front.specs.Replies.{IsKnownReply, reply_bytes}
+use Rattle.wef_front_collector.specs.Replies.{ack_envelope, answer_of}
+use Rattle.wef_replies.specs.Replies.{envelope_with, fault_envelope}
+use Rattle.wef_front_collector.specs.declared.saying.Said.TheVariants.{Ack, Fault as FaultSaid}
 use Rattle.wef_ids.proofs.PlainIds.{id_text_good, id_text_trimmed}
-use Rattle.wef_front.proofs.RepliesAreGood.{ack_reply_good, fault_reply_good}
+use Rattle.wef_front_collector.proofs.AcksAreGood.{ack_reply_good}
+use Rattle.wef_replies.proofs.RepliesAreGood.{fault_reply_good}
 
 -- ---- envelopes
 

@@ -25,16 +25,17 @@ use Rattle.std.specs.List.{AllByRecursion}
 use Rattle.wef_source.specs.declared.messages.Reply as source
 use Rattle.wef_source.specs.declared.messages.Reply.TheVariants as replies
 use Rattle.wef_xml.specs.Good.{IsXmlText}
-use Rattle.wef_front.specs.Heard.{Hears}
-use Rattle.wef_front.specs.HeardReplies.{id_told, offers_told, told}
-use Rattle.wef_front.specs.Replies.{CanBeAnswered, IsAnswer, IsKnownReply, IsSpeltFor, answer_of, ids_behind, ids_nested_in, nested_ids, offers_bytes, reply, reply_bytes}
-use Rattle.wef_front.specs.Steps.{effect_in, said_by}
+use Rattle.wef_front_collector.specs.Heard.{Hears}
+use Rattle.wef_front_source.specs.HeardReplies.{id_told, offers_told, told}
+use Rattle.wef_front.specs.Replies.{CanBeAnswered, IsKnownReply, ids_nested_in, offers_bytes, reply_bytes}
+use Rattle.wef_front_collector.specs.Replies.{IsAnswer, IsSpeltFor, answer_of, ids_behind, nested_ids, reply}
+use Rattle.wef_front_collector.specs.Steps.{effect_in, said_by}
 use Rattle.wef_http_heads.specs.declared.answers.Answer.{Answer}
-use Rattle.wef_front.specs.declared.hearing.Asked.{Asked}
-use Rattle.wef_front.specs.declared.hearing.Asked.TheVariants.{Refused}
-use Rattle.wef_front.specs.declared.hearing.Heard.{Heard}
-use Rattle.wef_front.specs.declared.saying.Said.{Said}
-use Rattle.wef_front.specs.declared.saying.Said.TheVariants.{Ack, Fault, Offers}
+use Rattle.wef_front_collector.specs.declared.hearing.Asked.{Asked}
+use Rattle.wef_front_collector.specs.declared.hearing.Asked.TheVariants.{Refused}
+use Rattle.wef_front_collector.specs.declared.hearing.Heard.{Heard}
+use Rattle.wef_front_collector.specs.declared.saying.Said.{Said}
+use Rattle.wef_front_collector.specs.declared.saying.Said.TheVariants.{Ack, Fault, Offers}
 use Rattle.wef_http_heads.specs.declared.targets.Target.{Target}
 
 -- ---- by rows

@@ -1,7 +1,7 @@
 //! Laws of answers, each the contract of a function that does nothing.
 
 ghost use Rattle.wef_front.specs.Laws.{AnswersAreReplies, AnswersGoByPlan, DrawnIdsAreSpelt, InternalErrorsHaveACause, OffersAreHeard, OffersAreRead, OneIsHeard, RepliesAreHeard, RepliesAreRead};
-ghost use Rattle.wef_front.specs.Sending.{DeliveriesAreHeard, DeliveriesAreRead, EnumeratesAreHeard, EnumeratesAreRead};
+ghost use Rattle.wef_front.specs.Sent.{DeliveriesAreHeard, DeliveriesAreRead, EnumeratesAreHeard, EnumeratesAreRead};
 
 /// The collector answers what the rows that it finds give, and leaves what they give, unless its store
 /// fails. No answer takes more than one commit, and one that changes nothing takes none.

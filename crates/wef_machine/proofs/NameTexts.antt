@@ -1,7 +1,7 @@
 -- The names of subscriptions are texts that a header says as they are.
 use Rattle.std.proofs.Common.{◌≡◌, ℕ, true, List}
 use Rattle.wef_eventing.proofs.NameTexts.{allowed_name, trimmed_name}
-use Rattle.wef_front.specs.Sending.{IsPlainText}
+use Rattle.wef_front_source.specs.Sending.{IsPlainText}
 use Rattle.wef_replay.specs.Good.{is_subscription}
 use Rattle.wef_machine.proofs.Offering.{reads_subscription}
 

@@ -18,10 +18,11 @@ use Rattle.wef_batch.specs.declared.items.Item.TheVariants.{Event, Dropped, Loos
 use Rattle.wef_collector.specs.FormsStay.{IsSoundItem}
 use Rattle.wef_collector_rows.specs.Answers.{channels_read}
 use Rattle.wef_eventing.proofs.AddressTexts.{address_is_plain}
-use Rattle.wef_front.proofs.IdTexts.{id_spelt}
+use Rattle.wef_replies.proofs.IdTexts.{id_spelt}
 use Rattle.wef_ids.proofs.PlainIds.{id_text_good}
 use Rattle.wef_envelope.specs.Laws.{IsSpelt}
-use Rattle.wef_front.specs.Sending.{CanBeAsked, CanBeSent, IsPlainText}
+use Rattle.wef_front.specs.Sent.{CanBeAsked}
+use Rattle.wef_front_source.specs.Sending.{CanBeSent, IsPlainText}
 use Rattle.wef_ids.specs.IdTexts.{id_of_value}
 use Rattle.wef_keeper.specs.Rows.{Rows, row_of}
 use Rattle.wef_keeper.specs.declared.keys.Cell.{Cell}

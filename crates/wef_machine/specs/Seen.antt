@@ -1,7 +1,7 @@
 -- What a message says, as `deliver K seen` prints it before the message is delivered.
 use Rattle.std.specs.Prelude.{ℕ, Bool, List, [], Option, Some, None, if◌then◌else◌}
 use Rattle.wef_front.specs.Replies.{offers_bytes, reply_bytes}
-use Rattle.wef_front.specs.Sending.{delivery_bytes, enumerate_bytes}
+use Rattle.wef_front_source.specs.Sending.{delivery_bytes, enumerate_bytes}
 use Rattle.wef_source.specs.declared.messages.Reply.TheVariants as replies
 use Rattle.wef_machine.specs.Deliveries.{message_at}
 use Rattle.wef_machine.specs.Printed.{text_line}

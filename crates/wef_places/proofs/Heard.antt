@@ -3,9 +3,9 @@ use Rattle.std.proofs.Common.{◌≡◌, ℕ, List, Bool, true, cond, ap, subst,
 use Rattle.std.proofs.lemmas.Option.{none-some, same_Some}
 use Rattle.std.specs.Prelude.{Option, Some, None, codes, is_some, length}
 use Rattle.wef_eventing.specs.declared.offers.Offer.{Offer}
-use Rattle.wef_front.specs.HeardReplies.{HearsOffers, HearsReply, HearsTold, Offered, Told}
-use Rattle.wef_front.specs.declared.listening.Hears as the_hears
-use Rattle.wef_front.specs.declared.listening.Hears.TheVariants as hears
+use Rattle.wef_front_source.specs.HeardReplies.{HearsOffers, HearsReply, HearsTold, Offered, Told}
+use Rattle.wef_front_source.specs.declared.listening.Hears as the_hears
+use Rattle.wef_front_source.specs.declared.listening.Hears.TheVariants as hears
 use Rattle.wef_keeper.specs.Keeping.{raised}
 use Rattle.wef_keeper.specs.declared.mem_keeper.MemKeeper.{MemKeeper}
 use Rattle.wef_ids.specs.declared.FaultName.{FaultName}

@@ -1,6 +1,7 @@
 -- What becomes of what an ask or a poll found.
 use Rattle.std.specs.Prelude.{ℕ, List, Option, Some, None, codes}
-use Rattle.wef_front.specs.Sending.{CanBeAsked, CanBeSent}
+use Rattle.wef_front.specs.Sent.{CanBeAsked}
+use Rattle.wef_front_source.specs.Sending.{CanBeSent}
 use Rattle.wef_ids.specs.declared.MessageId.{MessageId}
 use Rattle.wef_lines.specs.Printed.{name_line}
 use Rattle.wef_machine.specs.Printed.{fate_line, pair_line, sent_ask_line, sent_events_line}

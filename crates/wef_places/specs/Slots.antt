@@ -5,9 +5,9 @@ use Rattle.wef_ids.specs.IdTexts.{id_of_value}
 use Rattle.wef_ids.specs.declared.MessageId.{MessageId}
 use Rattle.wef_event.specs.Events.{Event}
 use Rattle.wef_event.specs.Numbering.{numbered_text}
-use Rattle.wef_front.specs.HeardReplies.{Offered, Told}
-use Rattle.wef_front.specs.declared.listening.Hears as the_hears
-use Rattle.wef_front.specs.declared.listening.Hears.TheVariants as hears
+use Rattle.wef_front_source.specs.HeardReplies.{Offered, Told}
+use Rattle.wef_front_source.specs.declared.listening.Hears as the_hears
+use Rattle.wef_front_source.specs.declared.listening.Hears.TheVariants as hears
 use Rattle.wef_keeper.specs.Calls.{Effect}
 use Rattle.wef_source.specs.Answers.{waiting_for}
 use Rattle.wef_source.specs.Calls as source

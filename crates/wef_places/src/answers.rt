@@ -15,10 +15,10 @@ use wef_source::SourceEnd;
 pub trait Answers: Drop {
     ghost use Rattle.std.specs.Prelude.{◌≡◌, ◌⊎◌, ℕ, IfErr, IfOk, OnErr};
     ghost use Rattle.wef_eventing.specs.Addresses as addresses;
-    ghost use Rattle.wef_front.specs.Heard as hearing;
-    ghost use Rattle.wef_front.specs.HeardReplies.{HearsTold, offers_told, told};
-    ghost use Rattle.wef_front.specs.Replies.{IsAnswer, IsUnanswered};
-    ghost use Rattle.wef_front.specs.declared.hearing.Heard as heard;
+    ghost use Rattle.wef_front_collector.specs.Heard as hearing;
+    ghost use Rattle.wef_front_source.specs.HeardReplies.{HearsTold, offers_told, told};
+    ghost use Rattle.wef_front_collector.specs.Replies.{IsAnswer, IsUnanswered};
+    ghost use Rattle.wef_front_collector.specs.declared.hearing.Heard as heard;
     ghost use Rattle.wef_keeper.specs.Keeping.{raised};
 
     /// How many calls of its methods were made; at 2^64 - 1 it stays.

@@ -182,7 +182,7 @@ pub enum Polled {
 impl Slot {
     ghost use Rattle.std.specs.Prelude.{◌≡◌, ◌≤◌, ◌+◌, length, IfOk, OnOk};
     ghost use Rattle.wef_base.specs.declared.numbers.TheConstants.{MAX};
-    ghost use Rattle.wef_front.specs.HeardReplies.{offers_told, told};
+    ghost use Rattle.wef_front_source.specs.HeardReplies.{offers_told, told};
     ghost use Rattle.wef_machine.specs.Places as places;
     ghost use Rattle.wef_machine.specs.Sources.{declared_slot, slot_opened};
     ghost use Rattle.wef_machine.specs.States.{slot_with};

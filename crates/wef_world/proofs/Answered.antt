@@ -15,17 +15,18 @@ use Rattle.wef_eventing.specs.Addresses.{source_in, subscription_in}
 use Rattle.wef_ids.proofs.PlainIds.{id_text_good}
 use Rattle.wef_front.proofs.OneIsHeard.{delivery_heard_is}
 use Rattle.wef_front.proofs.RepliesAreHeard.{replies_are_read}
-use Rattle.wef_front.proofs.SaidOfCalls.{said_known}
-use Rattle.wef_front.specs.Heard.{Hears}
-use Rattle.wef_front.specs.Replies.{IsAnswer, IsKnownReply, IsSpeltFor, answer_of, ids_behind, reply_bytes}
-use Rattle.wef_front.specs.Sending.{CanBeSent, delivery_bytes}
-use Rattle.wef_front.specs.Steps.{IsAnswered, IsKnownSaid, Steps, done_said, fault_for, said_of}
+use Rattle.wef_front_collector.proofs.SaidOfCalls.{said_known}
+use Rattle.wef_front_collector.specs.Heard.{Hears}
+use Rattle.wef_front_collector.specs.Replies.{IsAnswer, IsSpeltFor, answer_of, ids_behind}
+use Rattle.wef_front.specs.Replies.{IsKnownReply, reply_bytes}
+use Rattle.wef_front_source.specs.Sending.{CanBeSent, delivery_bytes}
+use Rattle.wef_front_collector.specs.Steps.{IsAnswered, IsKnownSaid, Steps, done_said, fault_for, said_of}
 use Rattle.wef_http_heads.specs.declared.answers.Answer.{Answer}
-use Rattle.wef_front.specs.declared.hearing.Asked.{Asked}
-use Rattle.wef_front.specs.declared.hearing.Asked.TheVariants.{Take}
-use Rattle.wef_front.specs.declared.hearing.Heard.{Heard}
-use Rattle.wef_front.specs.declared.saying.Said as the_said
-use Rattle.wef_front.specs.declared.saying.Said.TheVariants as says
+use Rattle.wef_front_collector.specs.declared.hearing.Asked.{Asked}
+use Rattle.wef_front_collector.specs.declared.hearing.Asked.TheVariants.{Take}
+use Rattle.wef_front_collector.specs.declared.hearing.Heard.{Heard}
+use Rattle.wef_front_collector.specs.declared.saying.Said as the_said
+use Rattle.wef_front_collector.specs.declared.saying.Said.TheVariants as says
 use Rattle.wef_ids.specs.Ids.{next_id}
 use Rattle.wef_ids.specs.declared.FaultName.{FaultName}
 use Rattle.wef_ids.specs.declared.FaultName.TheVariants as names

@@ -14,14 +14,16 @@ use Rattle.wef_eventing.specs.declared.offers.Offer.{Offer}
 use Rattle.wef_front.proofs.EnumeratesAreHeard.{enumerates_are_heard}
 use Rattle.wef_front.proofs.OffersAreHeard.{offers_are_read}
 use Rattle.wef_front.proofs.OneIsHeard.{one_is_heard}
-use Rattle.wef_front.specs.Heard.{Hears}
-use Rattle.wef_front.specs.Replies.{CanBeAnswered, IsAnswer, IsSpeltFor, answer_of, ids_after, ids_behind, offers_bytes}
-use Rattle.wef_front.specs.Sending.{CanBeAsked, Wish, enumerate_bytes}
-use Rattle.wef_front.specs.Steps.{CallsFor, IsFailure, said_with}
+use Rattle.wef_front_collector.specs.Heard.{Hears}
+use Rattle.wef_front.specs.Replies.{CanBeAnswered, offers_bytes}
+use Rattle.wef_front_collector.specs.Replies.{IsAnswer, IsSpeltFor, answer_of, ids_after, ids_behind}
+use Rattle.wef_front.specs.Sent.{CanBeAsked, Wish}
+use Rattle.wef_front_source.specs.Sending.{enumerate_bytes}
+use Rattle.wef_front_collector.specs.Steps.{CallsFor, IsFailure, said_with}
 use Rattle.wef_http_heads.specs.declared.answers.Answer.{Answer}
-use Rattle.wef_front.specs.declared.hearing.Asked.TheVariants.{Enumerate}
-use Rattle.wef_front.specs.declared.hearing.Heard.{Heard}
-use Rattle.wef_front.specs.declared.saying.Said.TheVariants as says
+use Rattle.wef_front_collector.specs.declared.hearing.Asked.TheVariants.{Enumerate}
+use Rattle.wef_front_collector.specs.declared.hearing.Heard.{Heard}
+use Rattle.wef_front_collector.specs.declared.saying.Said.TheVariants as says
 use Rattle.wef_http_heads.specs.declared.targets.Target.TheVariants.{Manager}
 use Rattle.wef_ids.proofs.PlainIds.{id_text_good}
 use Rattle.wef_ids.specs.Ids.{next_id, with_drawn}

@@ -2,7 +2,8 @@
 -- to a subscription and a source.
 use Rattle.std.proofs.Common.{◌≡◌, ℕ, List, refl, sym, subst, ap, ◌∙◌}
 use Rattle.std.specs.Prelude.{Option, Some, None}
-use Rattle.wef_front.specs.Sending.{CanBeAsked, CanBeSent}
+use Rattle.wef_front.specs.Sent.{CanBeAsked}
+use Rattle.wef_front_source.specs.Sending.{CanBeSent}
 use Rattle.wef_ids.specs.declared.MessageId.{MessageId}
 use Rattle.wef_machine.proofs.CollectorSteps.{opened_kept}
 use Rattle.wef_machine.proofs.LowerFacts.{lower}

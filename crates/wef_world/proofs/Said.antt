@@ -7,9 +7,10 @@ use Rattle.wef_eventing.specs.declared.offers.Offer.{Offer}
 use Rattle.wef_front.proofs.EnumeratesAreHeard.{enumerates_are_read}
 use Rattle.wef_front.proofs.OffersAreHeard.{offers_are_read}
 use Rattle.wef_front.proofs.RepliesAreHeard.{replies_are_read}
-use Rattle.wef_front.specs.HeardReplies.{offers_told, told}
+use Rattle.wef_front_source.specs.HeardReplies.{offers_told, told}
 use Rattle.wef_front.specs.Replies.{CanBeAnswered, IsKnownReply, offers_bytes, reply_bytes}
-use Rattle.wef_front.specs.Sending.{CanBeAsked, CanBeSent, Wish, delivery_bytes, delivery_in, enumerate_bytes}
+use Rattle.wef_front.specs.Sent.{CanBeAsked, Wish, delivery_in}
+use Rattle.wef_front_source.specs.Sending.{CanBeSent, delivery_bytes, enumerate_bytes}
 use Rattle.wef_ids.specs.declared.MessageId.{MessageId}
 use Rattle.wef_source.specs.declared.messages.Delivery.{Delivery}
 use Rattle.wef_source.specs.declared.messages.Reply.{Reply}

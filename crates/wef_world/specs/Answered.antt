@@ -8,19 +8,19 @@ use Rattle.wef_bodies.specs.Laws.{IsPlainOffer, OfferCanStand}
 use Rattle.wef_collector.specs.Offers.{offers}
 use Rattle.wef_envelope.specs.Laws.{IsSpelt}
 use Rattle.wef_eventing.specs.declared.offers.Offer.{Offer}
-use Rattle.wef_front.specs.Sending.{CanBeAsked, Wish}
+use Rattle.wef_front.specs.Sent.{CanBeAsked, Wish}
 use Rattle.wef_keeper.specs.Rows.{Rows}
 use Rattle.wef_machine.specs.States.{host}
 use Rattle.wef_eventing.specs.Addresses.{source_in, subscription_in}
-use Rattle.wef_front.specs.HeardReplies.{Told, told}
-use Rattle.wef_front.specs.Replies.{IsSpeltFor, answer_of}
-use Rattle.wef_front.specs.Steps.{IsKnownSaid}
+use Rattle.wef_front_source.specs.HeardReplies.{Told, told}
+use Rattle.wef_front_collector.specs.Replies.{IsSpeltFor, answer_of}
+use Rattle.wef_front_collector.specs.Steps.{IsKnownSaid}
 use Rattle.wef_http_heads.specs.declared.answers.Answer.{Answer}
-use Rattle.wef_front.specs.declared.hearing.Asked as the_asked
-use Rattle.wef_front.specs.declared.hearing.Asked.TheVariants.{Refused, Take}
-use Rattle.wef_front.specs.declared.hearing.Heard.{Heard}
-use Rattle.wef_front.specs.declared.saying.Said.{Said}
-use Rattle.wef_front.specs.declared.saying.Said.TheVariants.{Offers}
+use Rattle.wef_front_collector.specs.declared.hearing.Asked as the_asked
+use Rattle.wef_front_collector.specs.declared.hearing.Asked.TheVariants.{Refused, Take}
+use Rattle.wef_front_collector.specs.declared.hearing.Heard.{Heard}
+use Rattle.wef_front_collector.specs.declared.saying.Said.{Said}
+use Rattle.wef_front_collector.specs.declared.saying.Said.TheVariants.{Offers}
 use Rattle.wef_http_heads.specs.declared.targets.Target as the_target
 use Rattle.wef_http_heads.specs.declared.targets.Target.TheVariants.{Delivery as Delivers}
 use Rattle.wef_ids.specs.declared.FaultName.TheVariants.{DestinationUnreachable}

@@ -4,9 +4,10 @@ use Rattle.wef_eventing.specs.declared.offers.Offer.{Offer}
 use Rattle.wef_machine.specs.States.{host}
 use Rattle.std.specs.FinMap as map
 use Rattle.wef_envelope.specs.Laws.{IsSpelt}
-use Rattle.wef_front.specs.HeardReplies.{Offered, Told, id_told, offers_told, told}
+use Rattle.wef_front_source.specs.HeardReplies.{Offered, Told, id_told, offers_told, told}
 use Rattle.wef_front.specs.Replies.{CanBeAnswered, IsKnownReply, offers_bytes, reply_bytes}
-use Rattle.wef_front.specs.Sending.{CanBeAsked, CanBeSent, Wish, delivery_bytes, delivery_in, enumerate_bytes, wish_in}
+use Rattle.wef_front.specs.Sent.{CanBeAsked, Wish, delivery_in, wish_in}
+use Rattle.wef_front_source.specs.Sending.{CanBeSent, delivery_bytes, enumerate_bytes}
 use Rattle.wef_ids.specs.declared.MessageId.{MessageId}
 use Rattle.wef_source.specs.declared.messages.Delivery.{Delivery}
 use Rattle.wef_source.specs.declared.messages.Reply as answer

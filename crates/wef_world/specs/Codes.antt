@@ -3,7 +3,7 @@ use Rattle.std.specs.Prelude.{ℕ, List, refl}
 use Rattle.std.specs.Coded.{Coded, code_by, coded_list, coded_ℕ, coded×}
 use Rattle.wef_eventing.specs.contracts.offers.Offer as offer
 use Rattle.wef_eventing.specs.declared.offers.Offer.{Offer}
-use Rattle.wef_front.specs.Sending.{Wish}
+use Rattle.wef_front.specs.Sent.{Wish}
 use Rattle.wef_ids.specs.contracts.MessageId as message_id
 use Rattle.wef_ids.specs.declared.MessageId.{MessageId}
 use Rattle.wef_source.specs.contracts.messages.Reply as answer

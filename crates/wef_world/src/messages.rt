@@ -2,9 +2,10 @@
 
 ghost use Rattle.std.specs.Prelude.{◌≡◌, ◌++◌, ℕ, None, Some, IfOk, OnOk};
 ghost use Rattle.wef_eventing.specs.Addresses.{IsHost};
-ghost use Rattle.wef_front.specs.HeardReplies.{offers_told, told};
+ghost use Rattle.wef_front_source.specs.HeardReplies.{offers_told, told};
 ghost use Rattle.wef_front.specs.Replies.{offers_bytes, reply_bytes};
-ghost use Rattle.wef_front.specs.Sending.{CanBeAsked, CanBeSent, delivery_bytes, enumerate_bytes};
+ghost use Rattle.wef_front.specs.Sent.{CanBeAsked};
+ghost use Rattle.wef_front_source.specs.Sending.{CanBeSent, delivery_bytes, enumerate_bytes};
 ghost use Rattle.wef_machine.specs.Seen as texts;
 ghost use Rattle.wef_machine.specs.States as states;
 ghost use Rattle.wef_world.specs.Bytes.{AreOffers, AreReply, answered, replied};
@@ -36,7 +37,7 @@ pub struct WishBytes {
 }
 
 impl Model for WishBytes {
-    ghost use Rattle.wef_front.specs.Sending.{Wish};
+    ghost use Rattle.wef_front.specs.Sent.{Wish};
     ghost use Rattle.wef_world.specs.Bytes.{AreWish, wish_said};
     ghost use Rattle.wef_world.specs.Codes.{coded_wish};
 
@@ -132,7 +133,7 @@ impl Model for DeliveryBytes {
 
 impl DeliveryBytes {
     /// Writes a delivery.
-    #[tactic(auto, using(crate::proofs::Said::written_delivery, crate::proofs::Said::written_says, wef_front::proofs::DeliveriesAreHeard::can_be_written))]
+    #[tactic(auto, using(crate::proofs::Said::written_delivery, crate::proofs::Said::written_says, wef_front_source::proofs::DeliveriesAreGood::can_be_written))]
     pub fn of(alloc: Global, delivery: &Delivery) -> Result<DeliveryBytes, AllocError>
         requires { CanBeSent delivery.now }
         ensures { IfOk result (λ sent. sent ≡ delivery.now) }

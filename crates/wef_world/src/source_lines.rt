@@ -2,7 +2,8 @@
 
 ghost use Rattle.std.specs.Prelude.{◌≡◌, [], IfOk, OnOk};
 ghost use Rattle.wef_event.specs.Unnumbered.{new_event};
-ghost use Rattle.wef_front.specs.Sending.{CanBeAsked, CanBeSent};
+ghost use Rattle.wef_front.specs.Sent.{CanBeAsked};
+ghost use Rattle.wef_front_source.specs.Sending.{CanBeSent};
 ghost use Rattle.wef_machine.specs.Kept.{IsKept};
 ghost use Rattle.wef_machine.specs.Sources as steps;
 ghost use Rattle.wef_machine.specs.States as states;

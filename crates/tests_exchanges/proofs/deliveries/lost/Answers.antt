@@ -1,7 +1,7 @@
 use Rattle.std.proofs.Common.{ap, ◌∙◌, ◌++◌, [], ◌∷◌}
 use Rattle.wef_batch.specs.declared.items.Item.TheVariants.{Loose}
 use Rattle.wef_ids.specs.IdTexts.{id_of}
-use Rattle.wef_front.proofs.DeliveriesAreHeard.{can_be_written}
+use Rattle.wef_front_source.proofs.DeliveriesAreGood.{can_be_written}
 use Rattle.tests_exchanges.proofs.Sendable.{sendable_is}
 use Rattle.tests_exchanges.proofs.deliveries.lost.Goals as goal
 

@@ -1,4 +1,4 @@
-use Rattle.wef_front.proofs.IdTexts.{id_spelt}
+use Rattle.wef_replies.proofs.IdTexts.{id_spelt}
 use Rattle.wef_ids.proofs.PlainIds.{id_text_good}
 use Rattle.wef_front.proofs.laws.drawn_ids_are_spelt.Goals as goal
 

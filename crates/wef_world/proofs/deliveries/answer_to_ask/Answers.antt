@@ -1,8 +1,8 @@
 use Rattle.std.proofs.Common.{ℕ, List, subst}
 use Rattle.wef_base.specs.declared.tree.Charset.TheVariants.{Utf8}
-use Rattle.wef_front.specs.Heard.{Hears}
-use Rattle.wef_front.specs.Replies.{IsAnswer}
-use Rattle.wef_front.specs.declared.hearing.Heard.{Heard}
+use Rattle.wef_front_collector.specs.Heard.{Hears}
+use Rattle.wef_front_collector.specs.Replies.{IsAnswer}
+use Rattle.wef_front_collector.specs.declared.hearing.Heard.{Heard}
 use Rattle.wef_http_heads.specs.declared.targets.Target.TheVariants.{Manager}
 use Rattle.wef_places.proofs.Settled.{told_by}
 use Rattle.wef_world.proofs.Asked.{ask_answered, wish_heard, wish_heard_is}

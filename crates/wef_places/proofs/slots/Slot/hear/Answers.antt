@@ -1,5 +1,5 @@
 use Rattle.std.proofs.Common.{◌≡◌, ap, subst, ◌∙◌}
-use Rattle.wef_front.specs.HeardReplies.{offers_told, told}
+use Rattle.wef_front_source.specs.HeardReplies.{offers_told, told}
 use Rattle.wef_machine.specs.Sources.{slot_opened, slot_opening}
 use Rattle.wef_machine.specs.States.{Slot}
 use Rattle.wef_places.proofs.Heard.{answers_so, changed_so, counts_so, heard_after, heard_says}

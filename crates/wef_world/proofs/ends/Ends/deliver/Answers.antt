@@ -1,6 +1,6 @@
 use Rattle.std.proofs.Common.{◌-◌, ◌==◌, List, ℕ, ap, subst, sym, ◌∙◌}
 use Rattle.std.specs.Prelude.{Option, Some, None, slice_get, if◌then◌else◌}
-use Rattle.wef_front.specs.HeardReplies.{Told, offers_told, told}
+use Rattle.wef_front_source.specs.HeardReplies.{Told, offers_told, told}
 use Rattle.wef_machine.specs.Deliveries.{end_at, source_text, took_text}
 use Rattle.wef_machine.specs.Printed.{took_line}
 use Rattle.wef_machine.specs.Sources.{at_source}

@@ -1,5 +1,5 @@
 use Rattle.std.proofs.Common.{subst}
-use Rattle.wef_front.specs.Sending.{CanBeSent}
+use Rattle.wef_front_source.specs.Sending.{CanBeSent}
 use Rattle.wef_world.proofs.Said.{kept_can_be_sent}
 use Rattle.wef_world.proofs.messages.DeliveryBytes.bytes.Goals as goal
 

@@ -1,5 +1,6 @@
 use Rattle.std.proofs.Common.{◌∙◌, ap, subst}
-use Rattle.wef_front.specs.Sending.{CanBeAsked, Wish, enumerate_bytes}
+use Rattle.wef_front.specs.Sent.{CanBeAsked, Wish}
+use Rattle.wef_front_source.specs.Sending.{enumerate_bytes}
 use Rattle.wef_machine.specs.States.{host}
 use Rattle.wef_world.proofs.Said.{kept_can_be_asked, kept_wish}
 use Rattle.wef_world.proofs.messages.WishBytes.bytes.Goals as goal

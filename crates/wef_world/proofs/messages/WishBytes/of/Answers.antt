@@ -1,5 +1,5 @@
 use Rattle.std.proofs.Common.{ℕ, List, ap, ◌∙◌}
-use Rattle.wef_front.specs.Sending.{enumerate_bytes}
+use Rattle.wef_front_source.specs.Sending.{enumerate_bytes}
 use Rattle.wef_world.proofs.Said.{wish_says}
 use Rattle.wef_world.proofs.messages.WishBytes.of.Goals as goal
 

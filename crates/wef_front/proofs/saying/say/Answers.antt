@@ -1,7 +1,0 @@
-use Rattle.wef_front.proofs.saying.say.Goals as goal
-
-pub returns-in-Take-clause-said : goal.returns-in-Take-clause-said
-returns-in-Take-clause-said g c = rw c.in-Take.is c.take.ensures.said
-
-pub returns-in-Take-clause-wants_memory : goal.returns-in-Take-clause-wants_memory
-returns-in-Take-clause-wants_memory g c = rw c.in-Take.is c.take.ensures.wants_memory

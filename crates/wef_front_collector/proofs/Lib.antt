@@ -1,0 +1,3 @@
+pub mod AcksAreGood
+pub mod Draws
+pub mod SaidOfCalls

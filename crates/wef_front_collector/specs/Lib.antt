@@ -1,0 +1,4 @@
+pub mod Heard
+pub mod Judged
+pub mod Replies
+pub mod Steps

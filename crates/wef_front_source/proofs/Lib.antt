@@ -1,0 +1,4 @@
+pub mod DeliveriesAreGood
+pub mod EnumeratesAreGood
+pub mod OffersCanBeServed
+pub mod SourceNames

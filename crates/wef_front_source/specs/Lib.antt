@@ -1,0 +1,2 @@
+pub mod HeardReplies
+pub mod Sending

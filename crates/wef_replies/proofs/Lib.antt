@@ -1,0 +1,5 @@
+pub mod IdTexts
+pub mod Numbered
+pub mod OneIsHeard
+pub mod ReadIsGood
+pub mod RepliesAreGood
