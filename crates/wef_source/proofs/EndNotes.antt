@@ -22,7 +22,7 @@ note_can id (Some lease) told = by lease.end_to told.end_to
   where
     by : (o : Option (List ℕ)) → IfSome o (λ (a : List ℕ). is_address a ≡ true) → AllByRecursion NoteCanBeSent (note_to id lease.identifier o)
     by None is = tt
-    by (Some a) is = (record { end_to = is; identifier = told.identifier }, tt)
+    by (Some a) is = (record { id = (id, refl); end_to = is; identifier = told.identifier; trimmed = told.trimmed }, tt)
 
 pub notes_can : (id : ℕ) (ss : List Session) → All CanBeServed ss → AllByRecursion NoteCanBeSent (notes_of id ss)
 notes_can id [] all = tt

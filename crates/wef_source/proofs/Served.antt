@@ -65,7 +65,7 @@ answered_served Refused s h = settled_served s h
 
 until_told : (expiry : ℕ) (o : Option Lease) → IfSome o CanBeTold → IfSome (until expiry o) CanBeTold
 until_told expiry None told = tt
-until_told expiry (Some lease) told = record { identifier = told.identifier; end_to = told.end_to }
+until_told expiry (Some lease) told = record { identifier = told.identifier; trimmed = told.trimmed; end_to = told.end_to }
 
 pub prolonged_served : (expiry : ℕ) (s : Session) → CanBeServed s → CanBeServed (prolonged expiry s)
 prolonged_served expiry s h = record { queried = h.queried; awaited = h.awaited; notify_to = h.notify_to; identifier = h.identifier; lease = until_told expiry s.lease h.lease }

@@ -2,11 +2,13 @@
 use Rattle.std.specs.Prelude.{◌≡◌, ℕ, ◌<◌, ◌≤◌, true, List, is_some, Option, Some, None, IfSome}
 use Rattle.std.specs.FinMap as map
 use Rattle.std.specs.List.{All, AllByRecursion}
+use Rattle.wef_base.specs.Names.{trimmed}
 use Rattle.wef_batch.specs.WellFormed.{is_in}
 use Rattle.wef_bookmark.specs.Order.{Marks}
 use Rattle.wef_eventing.specs.Addresses.{is_address, subscription_in}
 use Rattle.wef_eventing.specs.Sending.{IsServable}
 use Rattle.wef_eventing.specs.declared.offers.Subscribe.{Subscribe}
+use Rattle.wef_ids.specs.IdTexts.{id_of_value}
 use Rattle.wef_query.specs.Order.{IsInOrder}
 use Rattle.wef_query.specs.Selected.{channels_of}
 use Rattle.wef_xml.specs.Good.{IsXmlText}
@@ -31,15 +33,20 @@ abbrev pub awaited_to : Option Outstanding → Marks
 awaited_to None = map.empty
 awaited_to (Some outstanding) = outstanding.to
 
--- A lease that a collector can be told of: its identifier is XML text, and where its end is told, that is an address of HTTP.
+-- A lease that a collector can be told of: its identifier is XML text without spaces at its ends, and where its end is told, that
+-- is an address of HTTP.
 pub record CanBeTold (lease : Lease) : Type 0 where
   pub identifier : IsXmlText lease.identifier
+  pub trimmed : trimmed lease.identifier ≡ lease.identifier
   pub end_to : IfSome lease.end_to (λ (a : List ℕ). is_address a ≡ true)
 
--- A note whose texts can stand in a message: it goes to an address of HTTP, and names the session by XML text.
+-- A note whose texts can stand in a message and are read again: it has the id of a value, goes to an address of HTTP, and names
+-- the session by XML text without spaces at its ends.
 pub record NoteCanBeSent (note : EndNote) : Type 0 where
+  pub id : (value : ℕ) × (note.id ≡ id_of_value value)
   pub end_to : is_address note.end_to ≡ true
   pub identifier : IsXmlText note.identifier
+  pub trimmed : trimmed note.identifier ≡ note.identifier
 
 -- A session that can be served: its positions have the channels of its query, and the delivery whose answer is awaited reads
 -- some of these above them; its batches go to an address of HTTP, and its identifier holds characters that XML allows; so it is
