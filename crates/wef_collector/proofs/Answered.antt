@@ -3,7 +3,6 @@ use Rattle.std.proofs.Common.{◌≡◌, ℕ, List, subst, sym}
 use Rattle.std.specs.Prelude.{Option, Some, None, Result, Ok, Err, IfSome, OnOk}
 use Rattle.wef_batch.specs.declared.items.Batch.{Batch}
 use Rattle.wef_eventing.specs.declared.subscriptions.Subscription.{Subscription}
-use Rattle.wef_ids.specs.declared.ids.Ids.{Ids}
 use Rattle.wef_keeper.specs.Keeping.{Follows}
 use Rattle.wef_keeper.specs.Rows.{Rows, applied}
 use Rattle.wef_keeper.specs.declared.access.StoreFault.{StoreFault}
@@ -20,12 +19,13 @@ use Rattle.wef_collector_rows.specs.declared.standings.Standing.{Standing}
 use Rattle.wef_collector_rows.specs.declared.standings.Standing.TheVariants.{Live}
 use Rattle.wef_collector.specs.Judged.{AreReachedBy, AreReachedFormed, JudgesStart, JudgesTake}
 use Rattle.wef_collector.specs.Requests.{IsAllowed, Judges, Stands, effect_of}
+use Rattle.wef_collector.specs.declared.memories.Memory.{Memory}
 use Rattle.wef_collector.specs.declared.requests.Request.{Request}
 use Rattle.wef_collector.specs.declared.requests.Request.TheVariants.{Add, End, Take, TakeUnread}
 use Rattle.wef_collector.proofs.Live.{added_lives}
 
 -- nothing is said of the rows that a start has read, where its store refuses it
-pub no_start : (kind : StoreFault) (rows : Rows) → JudgesStart {T = Ids} (Err (collector_fault kind)) rows
+pub no_start : (kind : StoreFault) (rows : Rows) → JudgesStart {T = Memory} (Err (collector_fault kind)) rows
 no_start NoMemory rows = tt
 no_start Failed rows = tt
 

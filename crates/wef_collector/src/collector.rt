@@ -2,9 +2,10 @@
 
 ghost use Rattle.std.specs.Prelude.{◌≡◌, ◌≤◌, ◌++◌, true, take, Some, Ok, Err, IfOk, IfErr, IsErr, IfSome, OnOk, MatchResult};
 ghost use Rattle.wef_batch.specs.Numbers.{AreNumbered};
-ghost use Rattle.wef_collector.specs.Boots.{ids_begun};
+ghost use Rattle.wef_collector.specs.Boots.{memory_begun};
 ghost use Rattle.wef_collector.specs.Calls as calls;
 ghost use Rattle.wef_collector.specs.Judged as judged;
+ghost use Rattle.wef_collector.specs.Memories.{drawn_in};
 ghost use Rattle.wef_collector.specs.Offers.{CanAllBeOffered, offers};
 ghost use Rattle.wef_collector_reports.specs.Judged.{is_report_formed};
 ghost use Rattle.wef_collector_reports.specs.Listing.{listed};
@@ -22,11 +23,12 @@ ghost use Rattle.wef_documents.specs.Kept.{read_kept};
 ghost use Rattle.wef_documents.specs.Written.{document_text};
 ghost use Rattle.wef_eventing.specs.Addresses.{IsHost};
 ghost use Rattle.wef_ids.specs.IdTexts.{id_of_value};
-ghost use Rattle.wef_ids.specs.Ids.{next_id, with_drawn};
+ghost use Rattle.wef_ids.specs.Ids.{next_id};
 ghost use Rattle.wef_keeper.specs.Calls.{DoesWith, IsCall, Looks};
 ghost use Rattle.wef_keeper.specs.Keeping.{is_armed};
 ghost use Rattle.wef_keeper.specs.declared.keeping.Plan.TheVariants.{Done, Fails};
 
+use crate::memories::Memory;
 use crate::reading::{bookmark_in, held_in, list_in, offers_in, report_in, state_in};
 use crate::requests::{Request, answer, raise_boot};
 use std::alloc::Global;
@@ -39,7 +41,7 @@ use wef_collector_reports::listing::Listed;
 use wef_collector_rows::faults::CollectorFault;
 use wef_event::Event;
 use wef_eventing::{Offer, Subscription};
-use wef_ids::{Ids, MessageId};
+use wef_ids::MessageId;
 use wef_keeper::{Keeper, MemKeeper, Plan};
 
 /// Keeps subscriptions, and for each subscription and source the events that were delivered,
@@ -50,7 +52,7 @@ use wef_keeper::{Keeper, MemKeeper, Plan};
 #[derive(Drop)]
 pub struct Collector<K> {
     keeper: K,
-    ids: Ids,
+    memory: Memory,
     alloc: Global,
 }
 
@@ -58,31 +60,35 @@ impl<K> Model for Collector<K> {
     ghost use Rattle.std.specs.Coded.{code_by, coded×};
     ghost use Rattle.std.specs.Prelude.{refl};
     ghost use Rattle.wef_collector.specs.State.{CollectorState};
-    ghost use Rattle.wef_ids.specs.contracts.ids.Ids as the_ids;
-    ghost use Rattle.wef_ids.specs.declared.ids.Ids as drawn;
+    ghost use Rattle.wef_collector.specs.contracts.memories.Memory as the_memory;
+    ghost use Rattle.wef_collector.specs.declared.memories.Memory as remembered;
 
     ghost Value = { CollectorState K };
 
-    ghost coded = { code_by (K × drawn.Ids) (coded× K.code the_ids.the_row.coded)
-        (λ c. (c.keeper, c.ids)) (λ p. record { keeper = p.0; ids = p.1 }) (λ _. refl) };
+    ghost coded = { code_by (K × remembered.Memory) (coded× K.code the_memory.the_row.coded)
+        (λ c. (c.keeper, c.memory)) (λ p. record { keeper = p.0; memory = p.1 }) (λ _. refl) };
 
-    ghost view = { λ c. record { keeper = c.keeper; ids = c.ids } };
+    ghost view = { λ c. record { keeper = c.keeper; memory = c.memory } };
 }
 
 impl<K: Keeper> Collector<K> {
     /// A collector over what a keeper keeps. It raises the boot number by one, and draws its ids with
     /// the raised one. Where that is refused the keeper is handed back.
     pub fn start(alloc: Global, keeper: K) -> Result<Collector<K>, (K, CollectorFault)>
-        ensures ok { IfOk result (λ c. IsCall collector_store AreFormed calls.boot_effect ids_begun (Ok c.ids) (K.store keeper) (K.store c.keeper)) }
-        ensures refusal { IfErr result (λ refused. IsCall collector_store AreFormed calls.boot_effect ids_begun (Err refused.1) (K.store keeper) (K.store refused.0)) }
+        ensures ok { IfOk result (λ c. IsCall collector_store AreFormed calls.boot_effect memory_begun (Ok c.memory) (K.store keeper) (K.store c.keeper)) }
+        ensures refusal { IfErr result (λ refused. IsCall collector_store AreFormed calls.boot_effect memory_begun (Err refused.1) (K.store keeper) (K.store refused.0)) }
         ensures judged { MatchResult result
-            (λ c. DoesWith collector_store AreFormed calls.boot_effect ids_begun (λ answer found after. judged.JudgesStart answer found) (Ok c.ids) (K.store keeper) (K.store c.keeper))
-            (λ refused. DoesWith collector_store AreFormed calls.boot_effect ids_begun (λ answer found after. judged.JudgesStart answer found) (Err refused.1) (K.store keeper) (K.store refused.0)) }
+            (λ c. DoesWith collector_store AreFormed calls.boot_effect memory_begun (λ answer found after. judged.JudgesStart answer found) (Ok c.memory) (K.store keeper) (K.store c.keeper))
+            (λ refused. DoesWith collector_store AreFormed calls.boot_effect memory_begun (λ answer found after. judged.JudgesStart answer found) (Err refused.1) (K.store keeper) (K.store refused.0)) }
         ensures listed { IfErr result (λ refused. calls.OfStart refused.1) }
     {
         let mut keeper = keeper;
         match raise_boot(&mut keeper, alloc) {
-            Ok(ids) => Ok(Collector { keeper, ids, alloc }),
+            Ok(memory) => Ok(Collector {
+                keeper,
+                memory,
+                alloc,
+            }),
             Err(fault) => Err((keeper, fault)),
         }
     }
@@ -90,14 +96,14 @@ impl<K: Keeper> Collector<K> {
     /// Draws the id of a message that the collector sends. The store isn't asked. Where there is no
     /// memory for its text it isn't drawn.
     pub fn draw(&mut self) -> Result<MessageId, CollectorFault>
-        ensures id { IfOk result (λ id. id ≡ id_of_value (next_id self.old.ids)) }
-        ensures drawn { OnOk result (self.new.ids ≡ with_drawn 1 self.old.ids) }
-        ensures refusal { IfErr result (λ fault. (fault ≡ NoMemory) × (self.new.ids ≡ self.old.ids)) }
+        ensures id { IfOk result (λ id. id ≡ id_of_value (next_id self.old.memory.ids)) }
+        ensures drawn { OnOk result (self.new.memory ≡ drawn_in 1 self.old.memory) }
+        ensures refusal { IfErr result (λ fault. (fault ≡ NoMemory) × (self.new.memory ≡ self.old.memory)) }
         ensures keeper { self.new.keeper ≡ self.old.keeper }
     {
-        let mut ids = self.ids;
+        let mut ids = self.memory.ids;
         let id = MessageId::of_value(self.alloc, ids.draw())?;
-        self.ids = ids;
+        self.memory.ids = ids;
         Ok(id)
     }
 
@@ -107,7 +113,7 @@ impl<K: Keeper> Collector<K> {
     {
         let Collector {
             keeper,
-            ids: _,
+            memory: _,
             alloc: _,
         } = self;
         keeper
@@ -119,7 +125,7 @@ impl<K: Keeper> Collector<K> {
         ensures call { IsCall collector_store AreFormed (λ rows. calls.add_effect rows subscription.now) (λ _. tt) result (K.store self.old.keeper) (K.store self.new.keeper) }
         ensures judged { DoesWith collector_store AreFormed (λ rows. calls.add_effect rows subscription.now) (λ _. tt) (λ answer found after. judged.JudgesAdd answer found subscription.now.name) result (K.store self.old.keeper) (K.store self.new.keeper) }
         ensures listed { IfErr result calls.OfAdd }
-        ensures ids { self.new.ids ≡ self.old.ids }
+        ensures memory { self.new.memory ≡ self.old.memory }
         ensures live { OnOk result (IfSome (K.store self.new.keeper).rows (λ rows. standings.standing rows subscription.now.name ≡ Live subscription.now)) }
     {
         answer(&mut self.keeper, self.alloc, &Request::Add(subscription))
@@ -130,7 +136,7 @@ impl<K: Keeper> Collector<K> {
         ensures call { IsCall collector_store AreFormed (λ rows. calls.end_effect rows sub.now) (λ _. tt) result (K.store self.old.keeper) (K.store self.new.keeper) }
         ensures judged { DoesWith collector_store AreFormed (λ rows. calls.end_effect rows sub.now) (λ _. tt) (λ answer found after. JudgesName answer found sub.now) result (K.store self.old.keeper) (K.store self.new.keeper) }
         ensures listed { IfErr result calls.OfEnd }
-        ensures ids { self.new.ids ≡ self.old.ids }
+        ensures memory { self.new.memory ≡ self.old.memory }
     {
         answer(&mut self.keeper, self.alloc, &Request::End(sub))
     }
@@ -149,7 +155,7 @@ impl<K: Keeper> Collector<K> {
         ensures call { IsCall collector_store AreFormed (λ rows. calls.take_effect rows sub.now source.now batch.now now) (λ _. tt) result (K.store self.old.keeper) (K.store self.new.keeper) }
         ensures judged { DoesWith collector_store AreFormed (λ rows. calls.take_effect rows sub.now source.now batch.now now) (λ _. tt) (λ answer found after. judged.JudgesTake answer found sub.now source.now batch.now) result (K.store self.old.keeper) (K.store self.new.keeper) }
         ensures listed { IfErr result calls.OfTake }
-        ensures ids { self.new.ids ≡ self.old.ids }
+        ensures memory { self.new.memory ≡ self.old.memory }
     {
         let request = Request::Take {
             sub,
@@ -167,7 +173,7 @@ impl<K: Keeper> Collector<K> {
         ensures call { IsCall collector_store AreFormed (λ rows. calls.unread_effect rows sub.now) (λ _. tt) result (K.store self.old.keeper) (K.store self.new.keeper) }
         ensures judged { DoesWith collector_store AreFormed (λ rows. calls.unread_effect rows sub.now) (λ _. tt) (λ answer found after. JudgesName answer found sub.now) result (K.store self.old.keeper) (K.store self.new.keeper) }
         ensures listed { IfErr result calls.OfTake }
-        ensures ids { self.new.ids ≡ self.old.ids }
+        ensures memory { self.new.memory ≡ self.old.memory }
     {
         answer(&mut self.keeper, self.alloc, &Request::TakeUnread(sub))
     }
@@ -178,7 +184,7 @@ impl<K: Keeper> Collector<K> {
         ensures judged { IfSome (K.store self.new.keeper).rows (λ rows. JudgesName result rows sub.now) }
         ensures refusal { IfErr result (λ fault. answers.RefusesName fault (K.store self.new.keeper).rows sub.now) }
         ensures looks { Looks collector_store AreFormed result (K.store self.old.keeper) (K.store self.new.keeper) }
-        ensures ids { self.new.ids ≡ self.old.ids }
+        ensures memory { self.new.memory ≡ self.old.memory }
     {
         state_in(&mut self.keeper, sub)
     }
@@ -201,7 +207,7 @@ impl<K: Keeper> Collector<K> {
         ensures judged { IfSome (K.store self.new.keeper).rows (λ rows. JudgesName result rows sub.now × OnOk result (AreAllFormed (take max (held.held_rows rows sub.now source.now channel.now after)))) }
         ensures refusal { IfErr result (λ fault. answers.RefusesUnknown fault (K.store self.new.keeper).rows sub.now) }
         ensures looks { Looks collector_store AreFormed result (K.store self.old.keeper) (K.store self.new.keeper) }
-        ensures ids { self.new.ids ≡ self.old.ids }
+        ensures memory { self.new.memory ≡ self.old.memory }
     {
         held_in(&mut self.keeper, sub, source, channel, after, max)
     }
@@ -212,7 +218,7 @@ impl<K: Keeper> Collector<K> {
         ensures judged { IfSome (K.store self.new.keeper).rows (λ rows. OnOk result (AreAllFormed (standings.subscription_rows rows))) }
         ensures refusal { IfErr result answers.IsOfStore }
         ensures looks { Looks collector_store AreFormed result (K.store self.old.keeper) (K.store self.new.keeper) }
-        ensures ids { self.new.ids ≡ self.old.ids }
+        ensures memory { self.new.memory ≡ self.old.memory }
     {
         list_in(&mut self.keeper, self.alloc)
     }
@@ -231,7 +237,7 @@ impl<K: Keeper> Collector<K> {
         ensures refusal { IfErr result answers.IsOfStore }
         ensures call { IsCall collector_store AreFormed calls.no_effect (λ rows. offers rows source.now host.now) result (K.store self.old.keeper) (K.store self.new.keeper) }
         ensures looks { Looks collector_store AreFormed result (K.store self.old.keeper) (K.store self.new.keeper) }
-        ensures ids { self.new.ids ≡ self.old.ids }
+        ensures memory { self.new.memory ≡ self.old.memory }
     {
         offers_in(&mut self.keeper, self.alloc, source, host)
     }
@@ -243,7 +249,7 @@ impl<K: Keeper> Collector<K> {
         ensures judged { IfSome (K.store self.new.keeper).rows (λ rows. JudgesName result rows sub.now × OnOk result (AreAllFormed (bookmark_rows rows sub.now source.now))) }
         ensures refusal { IfErr result (λ fault. answers.RefusesUnknown fault (K.store self.new.keeper).rows sub.now) }
         ensures looks { Looks collector_store AreFormed result (K.store self.old.keeper) (K.store self.new.keeper) }
-        ensures ids { self.new.ids ≡ self.old.ids }
+        ensures memory { self.new.memory ≡ self.old.memory }
     {
         bookmark_in(&mut self.keeper, sub, source)
     }
@@ -254,7 +260,7 @@ impl<K: Keeper> Collector<K> {
         ensures judged { IfSome (K.store self.new.keeper).rows (λ rows. OnOk result (is_report_formed rows ≡ true)) }
         ensures refusal { IfErr result answers.IsOfStore }
         ensures looks { Looks collector_store AreFormed result (K.store self.old.keeper) (K.store self.new.keeper) }
-        ensures ids { self.new.ids ≡ self.old.ids }
+        ensures memory { self.new.memory ≡ self.old.memory }
     {
         report_in(&mut self.keeper, self.alloc)
     }

@@ -2,7 +2,7 @@
 
 ghost use Rattle.std.specs.Prelude.{◌≡◌, ◌≤◌, true, false, [], ◌∷◌, is_some, Some, Ok, IsErr, IfErr, IfOk, IfSome, OnOk};
 ghost use Rattle.wef_batch.specs.Numbers.{AreNumbered};
-ghost use Rattle.wef_collector.specs.Boots.{boot_of, ids_begun};
+ghost use Rattle.wef_collector.specs.Boots.{boot_of, memory_begun};
 ghost use Rattle.wef_collector.specs.Calls as calls;
 ghost use Rattle.wef_collector.specs.Judged as judged;
 ghost use Rattle.wef_collector.specs.Taken as taken;
@@ -20,6 +20,7 @@ ghost use Rattle.wef_keeper.specs.Calls.{Tells, TellsFault, fails};
 ghost use Rattle.wef_keeper.specs.Rows as the_rows;
 
 use crate::changes::{batch_changes, push_put};
+use crate::memories::Memory;
 use std::alloc::{AllocError, Global};
 use wef_base::moments::Moment;
 use wef_base::numbers::MAX;
@@ -32,7 +33,6 @@ use wef_collector_rows::numbers::number_at;
 use wef_collector_rows::standings::{live_in, subscription_cell};
 use wef_documents::{read_kept, write_document};
 use wef_eventing::Subscription;
-use wef_ids::Ids;
 use wef_keeper::forms::formed_page;
 use wef_keeper::{Cell, Changes, Depth, Keeper, Key, StoreFault};
 use wef_query::channels;
@@ -211,18 +211,18 @@ fn live_changes<K: Keeper>(
     Ok(batch_changes(keeper, sub, source, channels.as_slice(), batch, now)?)
 }
 
-/// What a start commits, and the ids that it begins with.
+/// What a start commits, and what the collector remembers then.
 #[derive(Drop)]
 pub struct Starting {
     pub changes: Changes<CollectorForm>,
-    pub ids: Ids,
+    pub memory: Memory,
 }
 
 /// The boot number rises by one, below the greatest.
 pub fn boot_changes<K: Keeper>(keeper: &mut K, alloc: Global) -> Result<Starting, CollectorFault>
     requires { access.IsReady (K.store keeper.old) }
     ensures effect { IfSome (K.store keeper.new).rows (λ rows. IfOk result (λ starting. calls.boot_effect rows ≡ Ok starting.changes)) }
-    ensures ids { IfSome (K.store keeper.new).rows (λ rows. IfOk result (λ starting. starting.ids ≡ ids_begun rows)) }
+    ensures memory { IfSome (K.store keeper.new).rows (λ rows. IfOk result (λ starting. starting.memory ≡ memory_begun rows)) }
     ensures refusal { IfSome (K.store keeper.new).rows (λ rows. IfErr result (λ fault. TellsFault (collector_store fault) fault (calls.boot_effect rows))) }
     ensures judged { IfSome (K.store keeper.new).rows (λ rows. judged.JudgesStart result rows) }
     ensures listed { IfErr result calls.OfStart }
@@ -235,7 +235,7 @@ pub fn boot_changes<K: Keeper>(keeper: &mut K, alloc: Global) -> Result<Starting
     let raised = boot + 1;
     Ok(Starting {
         changes: put_boot(alloc, raised)?,
-        ids: Ids::of_boot(raised),
+        memory: Memory::of_boot(raised),
     })
 }
 

@@ -1,7 +1,7 @@
 //! The calls that change what is kept: each opens the store, reads, and makes at most one commit.
 
 ghost use Rattle.std.specs.Prelude.{IfErr, IfSome, OnOk};
-ghost use Rattle.wef_collector.specs.Boots.{ids_begun};
+ghost use Rattle.wef_collector.specs.Boots.{memory_begun};
 ghost use Rattle.wef_collector.specs.Calls as calls;
 ghost use Rattle.wef_collector.specs.Judged as judged;
 ghost use Rattle.wef_collector.specs.Requests as spec;
@@ -11,6 +11,7 @@ ghost use Rattle.wef_keeper.specs.Access as access;
 ghost use Rattle.wef_keeper.specs.Calls.{DoesWith, IsCall, Tells, fails};
 
 use crate::effects::{add_changes, boot_changes, end_changes, take_changes, unread_changes};
+use crate::memories::Memory;
 use std::alloc::Global;
 use wef_base::moments::Moment;
 use wef_base::{SourceName, SubId};
@@ -18,7 +19,6 @@ use wef_batch::Batch;
 use wef_collector_rows::CollectorForm;
 use wef_collector_rows::faults::CollectorFault;
 use wef_eventing::Subscription;
-use wef_ids::Ids;
 use wef_keeper::access::{commit, open};
 use wef_keeper::{Changes, Keeper};
 
@@ -86,14 +86,14 @@ fn changes_of<K: Keeper>(
     }
 }
 
-/// Raises the boot number by one, and answers the ids that begin with it.
-pub fn raise_boot<K: Keeper>(keeper: &mut K, alloc: Global) -> Result<Ids, CollectorFault>
-    ensures call { IsCall collector_store AreFormed calls.boot_effect ids_begun result (K.store keeper.old) (K.store keeper.new) }
-    ensures judged { DoesWith collector_store AreFormed calls.boot_effect ids_begun (λ answer found after. judged.JudgesStart answer found) result (K.store keeper.old) (K.store keeper.new) }
+/// Raises the boot number by one, and answers the memory that begins with it.
+pub fn raise_boot<K: Keeper>(keeper: &mut K, alloc: Global) -> Result<Memory, CollectorFault>
+    ensures call { IsCall collector_store AreFormed calls.boot_effect memory_begun result (K.store keeper.old) (K.store keeper.new) }
+    ensures judged { DoesWith collector_store AreFormed calls.boot_effect memory_begun (λ answer found after. judged.JudgesStart answer found) result (K.store keeper.old) (K.store keeper.new) }
     ensures listed { IfErr result calls.OfStart }
 {
     open(keeper)?;
     let starting = boot_changes(keeper, alloc)?;
     commit(keeper, &starting.changes)?;
-    Ok(starting.ids)
+    Ok(starting.memory)
 }
