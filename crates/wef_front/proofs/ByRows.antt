@@ -4,7 +4,6 @@ use Rattle.std.specs.Prelude.{Option, Some, None, Ok, Err, IfSome, ◌⊎◌}
 use Rattle.wef_base.specs.declared.tree.Charset.{Charset}
 use Rattle.wef_ids.specs.declared.FaultName.TheVariants as the
 use Rattle.wef_ids.specs.declared.MessageId.{MessageId}
-use Rattle.wef_ids.specs.declared.ids.Ids.{Ids}
 use Rattle.wef_keeper.specs.Access.{From, HasCause, is_planned, plan_with, tries_with}
 use Rattle.wef_keeper.specs.Calls.{AnswersFault, FaultByTries, Makes, OnFaultImages, WhereMade}
 use Rattle.wef_keeper.specs.Keeping.{Store, outcome}
@@ -22,8 +21,9 @@ use Rattle.wef_collector_rows.specs.Forms.{AreFormed}
 use Rattle.wef_collector_rows.specs.declared.faults.CollectorFault.{CollectorFault}
 use Rattle.wef_collector_rows.specs.declared.faults.CollectorFault.TheVariants.{NoMemory, NoSubscription, Exists, Ended, NotWellFormed, TooMany, Failed, Full}
 use Rattle.wef_collector.specs.Calls.{Effect}
+use Rattle.wef_collector.specs.declared.memories.Memory.{Memory}
 use Rattle.wef_front.specs.Laws.{GoesByPlan, GoesByRows, HasFailed, IsReply, said_planned, tries_by}
-use Rattle.wef_front_collector.specs.Replies.{IsAnswer, answer_of, ids_behind, rows_by}
+use Rattle.wef_front_collector.specs.Replies.{IsAnswer, answer_of, memory_behind, rows_by}
 use Rattle.wef_front_collector.proofs.SaidOfCalls.{offers_answered}
 use Rattle.wef_front_collector.specs.Steps.{CallsFor, IsAnswered, SaysFor, batch_said, effect_in, fault_for, said_by, said_where}
 use Rattle.wef_http_heads.specs.declared.answers.Answer.{Answer}
@@ -85,52 +85,52 @@ module _ {T : Type 0} (tell : T → Said) (gives : Rows → T) (effect : Rows �
 
 -- as the answer to what was heard
 reply_goes :
-    {T : Type 0} (tell : T → Said) (gives : Rows → T) (host : List ℕ) (relates : Option MessageId) (asked : Asked) (charset : Charset) (moment : ℕ) (answer : Answer) (ids ids_now : Ids) (before now : Store) →
+    {T : Type 0} (tell : T → Said) (gives : Rows → T) (host : List ℕ) (relates : Option MessageId) (asked : Asked) (charset : Charset) (moment : ℕ) (answer : Answer) (memory memory_now : Memory) (before now : Store) →
     ((found : Rows) (e : Effect) → said_where tell (gives found) e ≡ said_by host asked found e) →
-    (is : IsAnswer host (record { relates = relates; asked = asked }) charset moment answer ids ids_now before now) →
+    (is : IsAnswer host (record { relates = relates; asked = asked }) charset moment answer memory memory_now before now) →
     SaysFor IsAnswered tell gives (effect_in asked moment) is.said before now →
     From before now (λ found after.
-    IsReply host (record { relates = relates; asked = asked }) charset moment answer ids ids_now before now found after
-    ⊎ HasFailed (record { relates = relates; asked = asked }) charset moment answer ids ids_now before now)
-reply_goes tell gives host relates asked charset moment answer ids ids_now before now same is says =
+    IsReply host (record { relates = relates; asked = asked }) charset moment answer memory memory_now before now found after
+    ⊎ HasFailed (record { relates = relates; asked = asked }) charset moment answer memory memory_now before now)
+reply_goes tell gives host relates asked charset moment answer memory memory_now before now same is says =
     let heard : Heard = record { relates = relates; asked = asked } in
-    from_weaker _ (λ found after. IsReply host heard charset moment answer ids ids_now before now found after ⊎ HasFailed heard charset moment answer ids ids_now before now) before now
+    from_weaker _ (λ found after. IsReply host heard charset moment answer memory memory_now before now found after ⊎ HasFailed heard charset moment answer memory memory_now before now) before now
     (λ found after either. elim either [
       | inl goes ↦ inl (let said = goes.0 ∙ same found (effect_in asked moment found) in record {
         reply = λ i. record {
-          answer = (is.written ∙ ap (answer_of ids charset relates) said) i;
+          answer = (is.written ∙ ap (answer_of memory.ids charset relates) said) i;
           rows = goes.1 i;
-          ids = (is.drawn ∙ ap (ids_behind ids) said) i;
+          memory = (is.drawn ∙ ap (memory_behind memory) said) i;
         };
         tries = goes.2;
       })
       | inr fails ↦ inr (record {
-        written = is.written ∙ ap (answer_of ids charset relates) fails.0;
-        drawn = is.drawn ∙ ap (ids_behind ids) fails.0;
+        written = is.written ∙ ap (answer_of memory.ids charset relates) fails.0;
+        drawn = is.drawn ∙ ap (memory_behind memory) fails.0;
         cause = fails.1;
         images = fails.2;
       })
     ]) (said_goes tell gives (effect_in asked moment) is.said before now says)
 
 replies_by :
-    (host : List ℕ) (relates : Option MessageId) (asked : Asked) (charset : Charset) (moment : ℕ) (answer : Answer) (ids ids_now : Ids) (before now : Store) →
-    IsAnswer host (record { relates = relates; asked = asked }) charset moment answer ids ids_now before now →
-    GoesByRows host asked (record { relates = relates; asked = asked }) charset moment answer ids ids_now before now
-replies_by host relates (Refused name) charset moment answer ids ids_now before now is =
+    (host : List ℕ) (relates : Option MessageId) (asked : Asked) (charset : Charset) (moment : ℕ) (answer : Answer) (memory memory_now : Memory) (before now : Store) →
+    IsAnswer host (record { relates = relates; asked = asked }) charset moment answer memory memory_now before now →
+    GoesByRows host asked (record { relates = relates; asked = asked }) charset moment answer memory memory_now before now
+replies_by host relates (Refused name) charset moment answer memory memory_now before now is =
     let stepped = is.stepped in
-    (is.written ∙ ap (answer_of ids charset relates) stepped.0, is.drawn ∙ ap (ids_behind ids) stepped.0, stepped.1)
-replies_by host relates (Enumerate s) charset moment answer ids ids_now before now is =
-    reply_goes Offers (λ rows. offers rows s host) host relates (Enumerate s) charset moment answer ids ids_now before now (λ found e. refl) is (offers_answered host s is.said before now is.stepped)
-replies_by host relates (Unread u) charset moment answer ids ids_now before now is =
-    reply_goes (batch_said false) (λ rows. tt) host relates (Unread u) charset moment answer ids ids_now before now (λ found e. refl) is is.stepped.0
-replies_by host relates (Take u s batch) charset moment answer ids ids_now before now is =
-    reply_goes (batch_said batch.ack_wanted) (λ rows. tt) host relates (Take u s batch) charset moment answer ids ids_now before now (λ found e. refl) is is.stepped
+    (is.written ∙ ap (answer_of memory.ids charset relates) stepped.0, is.drawn ∙ ap (memory_behind memory) stepped.0, stepped.1)
+replies_by host relates (Enumerate s) charset moment answer memory memory_now before now is =
+    reply_goes Offers (λ rows. offers rows s host) host relates (Enumerate s) charset moment answer memory memory_now before now (λ found e. refl) is (offers_answered host s is.said before now is.stepped)
+replies_by host relates (Unread u) charset moment answer memory memory_now before now is =
+    reply_goes (batch_said false) (λ rows. tt) host relates (Unread u) charset moment answer memory memory_now before now (λ found e. refl) is is.stepped.0
+replies_by host relates (Take u s batch) charset moment answer memory memory_now before now is =
+    reply_goes (batch_said batch.ack_wanted) (λ rows. tt) host relates (Take u s batch) charset moment answer memory memory_now before now (λ found e. refl) is is.stepped
 
 pub answers_are_replies :
-    (host : List ℕ) (heard : Heard) (charset : Charset) (moment : ℕ) (answer : Answer) (ids ids_now : Ids) (before now : Store) →
-    IsAnswer host heard charset moment answer ids ids_now before now →
-    GoesByRows host heard.asked heard charset moment answer ids ids_now before now
-answers_are_replies host heard charset moment answer ids ids_now before now is = replies_by host heard.relates heard.asked charset moment answer ids ids_now before now is
+    (host : List ℕ) (heard : Heard) (charset : Charset) (moment : ℕ) (answer : Answer) (memory memory_now : Memory) (before now : Store) →
+    IsAnswer host heard charset moment answer memory memory_now before now →
+    GoesByRows host heard.asked heard charset moment answer memory memory_now before now
+answers_are_replies host heard charset moment answer memory memory_now before now is = replies_by host heard.relates heard.asked charset moment answer memory memory_now before now is
 
 -- ---- an answer, by the plan
 
@@ -181,33 +181,33 @@ module _ {T : Type 0} (tell : T → Said) (gives : Rows → T) (host : List ℕ)
   said_by_plan said before now (Err Full, call, answered, is) = absurd answered
 
 answer_by_plan :
-    (host : List ℕ) (relates : Option MessageId) (asked : Asked) (charset : Charset) (moment : ℕ) (answer : Answer) (ids ids_now : Ids) (before now : Store) →
-    (is : IsAnswer host (record { relates = relates; asked = asked }) charset moment answer ids ids_now before now) →
+    (host : List ℕ) (relates : Option MessageId) (asked : Asked) (charset : Charset) (moment : ℕ) (answer : Answer) (memory memory_now : Memory) (before now : Store) →
+    (is : IsAnswer host (record { relates = relates; asked = asked }) charset moment answer memory memory_now before now) →
     From before now (λ found after. Planned host asked moment is.said before found) →
-    From before now (λ found after. IfSome before.plan (λ planned. AreFormed found → answer ≡ answer_of ids charset relates (said_planned planned host asked found (effect_in asked moment found))))
-answer_by_plan host relates asked charset moment answer ids ids_now before now is from =
+    From before now (λ found after. IfSome before.plan (λ planned. AreFormed found → answer ≡ answer_of memory.ids charset relates (said_planned planned host asked found (effect_in asked moment found))))
+answer_by_plan host relates asked charset moment answer memory memory_now before now is from =
     from_weaker (λ found after. Planned host asked moment is.said before found)
-    (λ found after. IfSome before.plan (λ planned. AreFormed found → answer ≡ answer_of ids charset relates (said_planned planned host asked found (effect_in asked moment found)))) before now
+    (λ found after. IfSome before.plan (λ planned. AreFormed found → answer ≡ answer_of memory.ids charset relates (said_planned planned host asked found (effect_in asked moment found)))) before now
     (λ found after goes. told_map before.plan (λ planned. AreFormed found → is.said ≡ said_planned planned host asked found (effect_in asked moment found)) _
-    (λ planned said formed. is.written ∙ ap (answer_of ids charset relates) (said formed)) goes) from
+    (λ planned said formed. is.written ∙ ap (answer_of memory.ids charset relates) (said formed)) goes) from
 
 plans_by :
-    (host : List ℕ) (relates : Option MessageId) (asked : Asked) (charset : Charset) (moment : ℕ) (answer : Answer) (ids ids_now : Ids) (before now : Store) →
-    IsAnswer host (record { relates = relates; asked = asked }) charset moment answer ids ids_now before now →
-    GoesByPlan host asked (record { relates = relates; asked = asked }) charset moment answer ids before now
-plans_by host relates (Refused name) charset moment answer ids ids_now before now is = tt
-plans_by host relates (Enumerate s) charset moment answer ids ids_now before now is =
-    answer_by_plan host relates (Enumerate s) charset moment answer ids ids_now before now is
+    (host : List ℕ) (relates : Option MessageId) (asked : Asked) (charset : Charset) (moment : ℕ) (answer : Answer) (memory memory_now : Memory) (before now : Store) →
+    IsAnswer host (record { relates = relates; asked = asked }) charset moment answer memory memory_now before now →
+    GoesByPlan host asked (record { relates = relates; asked = asked }) charset moment answer memory before now
+plans_by host relates (Refused name) charset moment answer memory memory_now before now is = tt
+plans_by host relates (Enumerate s) charset moment answer memory memory_now before now is =
+    answer_by_plan host relates (Enumerate s) charset moment answer memory memory_now before now is
     (said_by_plan Offers (λ rows. offers rows s host) host (Enumerate s) moment (λ found e. refl) is.said before now (offers_answered host s is.said before now is.stepped))
-plans_by host relates (Unread u) charset moment answer ids ids_now before now is =
-    answer_by_plan host relates (Unread u) charset moment answer ids ids_now before now is
+plans_by host relates (Unread u) charset moment answer memory memory_now before now is =
+    answer_by_plan host relates (Unread u) charset moment answer memory memory_now before now is
     (said_by_plan (batch_said false) (λ rows. tt) host (Unread u) moment (λ found e. refl) is.said before now is.stepped.0)
-plans_by host relates (Take u s batch) charset moment answer ids ids_now before now is =
-    answer_by_plan host relates (Take u s batch) charset moment answer ids ids_now before now is
+plans_by host relates (Take u s batch) charset moment answer memory memory_now before now is =
+    answer_by_plan host relates (Take u s batch) charset moment answer memory memory_now before now is
     (said_by_plan (batch_said batch.ack_wanted) (λ rows. tt) host (Take u s batch) moment (λ found e. refl) is.said before now is.stepped)
 
 pub answers_go_by_plan :
-    (host : List ℕ) (heard : Heard) (charset : Charset) (moment : ℕ) (answer : Answer) (ids ids_now : Ids) (before now : Store) →
-    IsAnswer host heard charset moment answer ids ids_now before now →
-    GoesByPlan host heard.asked heard charset moment answer ids before now
-answers_go_by_plan host heard charset moment answer ids ids_now before now is = plans_by host heard.relates heard.asked charset moment answer ids ids_now before now is
+    (host : List ℕ) (heard : Heard) (charset : Charset) (moment : ℕ) (answer : Answer) (memory memory_now : Memory) (before now : Store) →
+    IsAnswer host heard charset moment answer memory memory_now before now →
+    GoesByPlan host heard.asked heard charset moment answer memory before now
+answers_go_by_plan host heard charset moment answer memory memory_now before now is = plans_by host heard.relates heard.asked charset moment answer memory memory_now before now is

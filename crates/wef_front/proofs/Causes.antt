@@ -11,7 +11,7 @@ use Rattle.wef_envelope.specs.declared.envelopes.EnvelopeFault.{EnvelopeFault}
 use Rattle.wef_envelope.specs.declared.envelopes.EnvelopeFault.TheVariants as envelope
 use Rattle.wef_ids.specs.declared.FaultName.{FaultName}
 use Rattle.wef_ids.specs.declared.FaultName.TheVariants as the
-use Rattle.wef_ids.specs.declared.ids.Ids.{Ids}
+use Rattle.wef_collector.specs.declared.memories.Memory.{Memory}
 use Rattle.wef_base.specs.Names.{same, source_name, subscription_name}
 use Rattle.wef_envelope.specs.declared.actions.TheConstants.{ENUMERATE, EVENTS}
 use Rattle.wef_xml.specs.declared.faults.TreeFault.{TreeFault}
@@ -161,8 +161,8 @@ steps_cause host (Take u s batch) moment said before now other stepped internal 
     says_cause (batch_said batch.ack_wanted) (λ rows. tt) (effect_in (Take u s batch) moment) said before now (λ done. no_ack batch.ack_wanted) stepped internal
 
 pub internal_errors_have_a_cause :
-    (host : List ℕ) (target : Target) (charset charset_of_answer : Charset) (bytes : List ℕ) (heard : Heard) (moment : ℕ) (answer : Answer) (ids ids_now : Ids) (before now : Store) →
-    Hears target charset bytes heard → (is : IsAnswer host heard charset_of_answer moment answer ids ids_now before now) → is.said ≡ Fault the.InternalError →
+    (host : List ℕ) (target : Target) (charset charset_of_answer : Charset) (bytes : List ℕ) (heard : Heard) (moment : ℕ) (answer : Answer) (memory memory_now : Memory) (before now : Store) →
+    Hears target charset bytes heard → (is : IsAnswer host heard charset_of_answer moment answer memory memory_now before now) → is.said ≡ Fault the.InternalError →
     HasCause AreFormed true before now
-internal_errors_have_a_cause host target charset charset_of_answer bytes heard moment answer ids ids_now before now hears is internal =
+internal_errors_have_a_cause host target charset charset_of_answer bytes heard moment answer memory memory_now before now hears is internal =
     steps_cause host heard.asked moment is.said before now (read_other target hears.0 heard hears.2) is.stepped internal

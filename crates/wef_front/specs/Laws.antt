@@ -19,6 +19,7 @@ use Rattle.wef_keeper.specs.declared.access.StoreFault.TheVariants.{Failed}
 use Rattle.wef_keeper.specs.declared.keeping.Plan.{Plan}
 use Rattle.wef_collector_rows.specs.Forms.{AreFormed}
 use Rattle.wef_collector.specs.Calls.{Effect}
+use Rattle.wef_collector.specs.declared.memories.Memory.{Memory}
 use Rattle.wef_bodies.specs.Laws.{IsPlainOffer, OfferCanStand}
 use Rattle.wef_eventing.specs.declared.offers.Offer.{Offer}
 use Rattle.std.specs.List.{AllByRecursion}
@@ -28,7 +29,7 @@ use Rattle.wef_xml.specs.Good.{IsXmlText}
 use Rattle.wef_front_collector.specs.Heard.{Hears}
 use Rattle.wef_front_source.specs.HeardReplies.{id_told, offers_told, told}
 use Rattle.wef_front.specs.Replies.{CanBeAnswered, IsKnownReply, ids_nested_in, offers_bytes, reply_bytes}
-use Rattle.wef_front_collector.specs.Replies.{IsAnswer, IsSpeltFor, answer_of, ids_behind, nested_ids, reply}
+use Rattle.wef_front_collector.specs.Replies.{IsAnswer, IsSpeltFor, answer_of, memory_behind, nested_ids, reply}
 use Rattle.wef_front_collector.specs.Steps.{effect_in, said_by}
 use Rattle.wef_http_heads.specs.declared.answers.Answer.{Answer}
 use Rattle.wef_front_collector.specs.declared.hearing.Asked.{Asked}
@@ -46,35 +47,35 @@ tries_by (Ok changes) tries = tries_with changes tries
 tries_by (Err fault) tries = tries
 
 -- an answer is the reply to what was heard, and at most one commit began
-pub record IsReply (host : List ℕ) (heard : Heard) (charset : Charset) (moment : ℕ) (answer : Answer) (ids ids_now : Ids) (before now : Store) (found after : Rows) : Type 0 where
-  pub reply : record { answer = answer; rows = after; ids = ids_now } ≡ reply host heard charset moment ids found
+pub record IsReply (host : List ℕ) (heard : Heard) (charset : Charset) (moment : ℕ) (answer : Answer) (memory memory_now : Memory) (before now : Store) (found after : Rows) : Type 0 where
+  pub reply : record { answer = answer; rows = after; memory = memory_now } ≡ reply host heard charset moment memory found
   pub tries : now.tries ≡ tries_by (effect_in heard.asked moment found) before.tries
 
 -- An answer says that the store failed: the count of its faults rose, or rows aren't told or not of their form. An opening
 -- finds rows that one could find before, with what the message changes or without.
-pub record HasFailed (heard : Heard) (charset : Charset) (moment : ℕ) (answer : Answer) (ids ids_now : Ids) (before now : Store) : Type 0 where
-  pub written : answer ≡ answer_of ids charset heard.relates (Fault InternalError)
-  pub drawn : ids_now ≡ ids_behind ids (Fault InternalError)
+pub record HasFailed (heard : Heard) (charset : Charset) (moment : ℕ) (answer : Answer) (memory memory_now : Memory) (before now : Store) : Type 0 where
+  pub written : answer ≡ answer_of memory.ids charset heard.relates (Fault InternalError)
+  pub drawn : memory_now ≡ memory_behind memory (Fault InternalError)
   pub cause : HasCause AreFormed true before now
   pub images : OnFaultImages (Some Failed) (effect_in heard.asked moment) before now
 
 -- where nothing that is kept decides the answer, the store isn't asked
-abbrev pub IsAside : Heard → Charset → Answer → Ids → Ids → Store → Store → Said → Type 0
-IsAside heard charset answer ids ids_now before now said =
-    (answer ≡ answer_of ids charset heard.relates said) × (ids_now ≡ ids_behind ids said) × (now ≡ before)
+abbrev pub IsAside : Heard → Charset → Answer → Memory → Memory → Store → Store → Said → Type 0
+IsAside heard charset answer memory memory_now before now said =
+    (answer ≡ answer_of memory.ids charset heard.relates said) × (memory_now ≡ memory_behind memory said) × (now ≡ before)
 
 -- by what was heard
-abbrev pub GoesByRows : List ℕ → Asked → Heard → Charset → ℕ → Answer → Ids → Ids → Store → Store → Type 0
-GoesByRows host (Refused name) heard charset moment answer ids ids_now before now = IsAside heard charset answer ids ids_now before now (Fault name)
-GoesByRows host _ heard charset moment answer ids ids_now before now =
+abbrev pub GoesByRows : List ℕ → Asked → Heard → Charset → ℕ → Answer → Memory → Memory → Store → Store → Type 0
+GoesByRows host (Refused name) heard charset moment answer memory memory_now before now = IsAside heard charset answer memory memory_now before now (Fault name)
+GoesByRows host _ heard charset moment answer memory memory_now before now =
     From before now (λ found after.
-    IsReply host heard charset moment answer ids ids_now before now found after ⊎ HasFailed heard charset moment answer ids ids_now before now)
+    IsReply host heard charset moment answer memory memory_now before now found after ⊎ HasFailed heard charset moment answer memory memory_now before now)
 
 abbrev pub AnswersAreReplies : Type 0
 AnswersAreReplies =
-    (host : List ℕ) (heard : Heard) (charset : Charset) (moment : ℕ) (answer : Answer) (ids ids_now : Ids) (before now : Store) →
-    IsAnswer host heard charset moment answer ids ids_now before now →
-    GoesByRows host heard.asked heard charset moment answer ids ids_now before now
+    (host : List ℕ) (heard : Heard) (charset : Charset) (moment : ℕ) (answer : Answer) (memory memory_now : Memory) (before now : Store) →
+    IsAnswer host heard charset moment answer memory memory_now before now →
+    GoesByRows host heard.asked heard charset moment answer memory memory_now before now
 
 -- ---- by plan
 
@@ -84,17 +85,17 @@ said_planned planned host asked found (Ok changes) = if is_planned changes plann
 said_planned planned host asked found (Err fault) = said_by host asked found (Err fault)
 
 -- over rows of their form, and a store that tells its plan, the answer goes by it alone
-abbrev pub GoesByPlan : List ℕ → Asked → Heard → Charset → ℕ → Answer → Ids → Store → Store → Type 0
-GoesByPlan host (Refused name) heard charset moment answer ids before now = Unit {0}
-GoesByPlan host asked heard charset moment answer ids before now =
+abbrev pub GoesByPlan : List ℕ → Asked → Heard → Charset → ℕ → Answer → Memory → Store → Store → Type 0
+GoesByPlan host (Refused name) heard charset moment answer memory before now = Unit {0}
+GoesByPlan host asked heard charset moment answer memory before now =
     From before now (λ found after. IfSome before.plan (λ planned.
-    AreFormed found → answer ≡ answer_of ids charset heard.relates (said_planned planned host asked found (effect_in asked moment found))))
+    AreFormed found → answer ≡ answer_of memory.ids charset heard.relates (said_planned planned host asked found (effect_in asked moment found))))
 
 abbrev pub AnswersGoByPlan : Type 0
 AnswersGoByPlan =
-    (host : List ℕ) (heard : Heard) (charset : Charset) (moment : ℕ) (answer : Answer) (ids ids_now : Ids) (before now : Store) →
-    IsAnswer host heard charset moment answer ids ids_now before now →
-    GoesByPlan host heard.asked heard charset moment answer ids before now
+    (host : List ℕ) (heard : Heard) (charset : Charset) (moment : ℕ) (answer : Answer) (memory memory_now : Memory) (before now : Store) →
+    IsAnswer host heard charset moment answer memory memory_now before now →
+    GoesByPlan host heard.asked heard charset moment answer memory before now
 
 -- ---- what is heard
 
@@ -109,8 +110,8 @@ OneIsHeard =
 -- The collector says so only where the count of its store's faults rose, or its rows aren't told or not of their form.
 abbrev pub InternalErrorsHaveACause : Type 0
 InternalErrorsHaveACause =
-    (host : List ℕ) (target : Target) (charset charset_of_answer : Charset) (bytes : List ℕ) (heard : Heard) (moment : ℕ) (answer : Answer) (ids ids_now : Ids) (before now : Store) →
-    Hears target charset bytes heard → (is : IsAnswer host heard charset_of_answer moment answer ids ids_now before now) → is.said ≡ Fault InternalError →
+    (host : List ℕ) (target : Target) (charset charset_of_answer : Charset) (bytes : List ℕ) (heard : Heard) (moment : ℕ) (answer : Answer) (memory memory_now : Memory) (before now : Store) →
+    Hears target charset bytes heard → (is : IsAnswer host heard charset_of_answer moment answer memory memory_now before now) → is.said ≡ Fault InternalError →
     HasCause AreFormed true before now
 
 -- ---- ids

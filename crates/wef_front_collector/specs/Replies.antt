@@ -13,6 +13,7 @@ use Rattle.wef_ids.specs.declared.ids.Ids.{Ids}
 use Rattle.wef_keeper.specs.Keeping.{Store}
 use Rattle.wef_keeper.specs.Rows.{Rows, applied}
 use Rattle.wef_collector.specs.Calls.{Effect}
+use Rattle.wef_collector.specs.declared.memories.Memory.{Memory}
 use Rattle.wef_envelope.specs.declared.envelopes.Envelope.{Envelope}
 use Rattle.wef_replies.specs.Replies.{answer_with, envelope_with, fault_envelope}
 use Rattle.wef_front_collector.specs.Judged.{Judges}
@@ -56,9 +57,13 @@ draws_for Ack = 1
 draws_for (Offers list) = suc (length list)
 draws_for (Fault name) = 1
 
--- the ids behind it
-abbrev pub ids_behind : Ids → Said → Ids
-ids_behind ids said = ids_after (draws_for said) ids
+-- what a collector remembers behind so many draws, one after the other
+abbrev pub memory_after : ℕ → Memory → Memory
+memory_after draws memory = record memory { ids = ids_after draws memory.ids }
+
+-- what it remembers behind those for it
+abbrev pub memory_behind : Memory → Said → Memory
+memory_behind memory said = memory_after (draws_for said) memory
 
 -- where something is said under an id, that is the id of its text; so are those of the envelopes in offers
 abbrev pub IsSpeltFor : Ids → Said → Type 0
@@ -67,11 +72,11 @@ IsSpeltFor ids Ack = IsSpelt (id_of_value (next_id ids))
 IsSpeltFor ids (Offers list) = IsSpelt (id_of_value (next_id ids)) × AllByRecursion IsSpelt (nested_ids ids list)
 IsSpeltFor ids (Fault name) = IsSpelt (id_of_value (next_id ids))
 
--- What the collector answers, the rows that it leaves, and its ids then.
+-- What the collector answers, the rows that it leaves, and what it remembers then.
 pub record Reply : Type 0 where
   pub answer : Answer
   pub rows : Rows
-  pub ids : Ids
+  pub memory : Memory
 
 -- the rows with what a call changes, where it isn't refused
 abbrev pub rows_by : Effect → Rows → Rows
@@ -80,32 +85,32 @@ rows_by (Err fault) rows = rows
 
 -- The reply to what was heard at a moment, by the rows that the collector finds, where its store doesn't fail. Batches come to
 -- the host.
-abbrev pub reply : List ℕ → Heard → Charset → ℕ → Ids → Rows → Reply
-reply host heard charset moment ids rows = record {
-  answer = answer_of ids charset heard.relates (said_by host heard.asked rows (effect_in heard.asked moment rows));
+abbrev pub reply : List ℕ → Heard → Charset → ℕ → Memory → Rows → Reply
+reply host heard charset moment memory rows = record {
+  answer = answer_of memory.ids charset heard.relates (said_by host heard.asked rows (effect_in heard.asked moment rows));
   rows = rows_by (effect_in heard.asked moment rows) rows;
-  ids = ids_behind ids (said_by host heard.asked rows (effect_in heard.asked moment rows));
+  memory = memory_behind memory (said_by host heard.asked rows (effect_in heard.asked moment rows));
 }
 
 -- so many ids are drawn, or fewer
-abbrev pub MayHaveDrawn : ℕ → Ids → Ids → Type 0
-MayHaveDrawn most before now = (draws : ℕ) × (draws ≤ most) × (now ≡ ids_after draws before)
+abbrev pub MayHaveDrawn : ℕ → Memory → Memory → Type 0
+MayHaveDrawn most before now = (draws : ℕ) × (draws ≤ most) × (now ≡ memory_after draws before)
 
 -- An answer to what was heard at a moment: what the collector did with it, what it said, and how that is written.
-pub record IsAnswer (host : List ℕ) (heard : Heard) (charset : Charset) (moment : ℕ) (answer : Answer) (ids ids_now : Ids) (before now : Store) : Type 0 where
+pub record IsAnswer (host : List ℕ) (heard : Heard) (charset : Charset) (moment : ℕ) (answer : Answer) (memory memory_now : Memory) (before now : Store) : Type 0 where
   pub said : Said
   pub stepped : Steps host heard.asked moment said before now
   -- the rows that it read for that are of their form, unless it says that its store failed
   pub judged : Judges host heard.asked moment said before now
-  pub written : answer ≡ answer_of ids charset heard.relates said
-  pub spelt : IsSpeltFor ids said
-  pub drawn : ids_now ≡ ids_behind ids said
+  pub written : answer ≡ answer_of memory.ids charset heard.relates said
+  pub spelt : IsSpeltFor memory.ids said
+  pub drawn : memory_now ≡ memory_behind memory said
 
 -- what was said couldn't be written, and ids may be drawn for it
-abbrev pub IsUnwritten : List ℕ → Heard → ℕ → Ids → Ids → Store → Store → Type 0
-IsUnwritten host heard moment ids ids_now before now = (said : Said) × Steps host heard.asked moment said before now × MayHaveDrawn (draws_for said) ids ids_now
+abbrev pub IsUnwritten : List ℕ → Heard → ℕ → Memory → Memory → Store → Store → Type 0
+IsUnwritten host heard moment memory memory_now before now = (said : Said) × Steps host heard.asked moment said before now × MayHaveDrawn (draws_for said) memory memory_now
 
 -- Where there was no memory for the answer: the step of a message wanted it, and no id is drawn; or the answer did.
-abbrev pub IsUnanswered : List ℕ → Heard → ℕ → Ids → Ids → Store → Store → Type 0
-IsUnanswered host heard moment ids ids_now before now =
-    (HasStepped host heard.asked moment before now × (ids_now ≡ ids)) ⊎ IsUnwritten host heard moment ids ids_now before now
+abbrev pub IsUnanswered : List ℕ → Heard → ℕ → Memory → Memory → Store → Store → Type 0
+IsUnanswered host heard moment memory memory_now before now =
+    (HasStepped host heard.asked moment before now × (memory_now ≡ memory)) ⊎ IsUnwritten host heard moment memory memory_now before now

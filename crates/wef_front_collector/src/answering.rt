@@ -3,17 +3,18 @@
 ghost use Rattle.std.specs.List.{All, AllByRecursion};
 ghost use Rattle.std.specs.Prelude.{◌≡◌, ◌⊎◌, suc, length, option_copied, IfErr, IfOk, IfSome, OnErr, OnOk};
 ghost use Rattle.wef_bodies.specs.Laws.{IsXmlId};
+ghost use Rattle.wef_collector.specs.Memories.{drawn_in};
 ghost use Rattle.wef_collector.specs.Offers.{CanAllBeOffered};
 ghost use Rattle.wef_envelope.specs.Laws.{IsSpelt};
 ghost use Rattle.wef_eventing.specs.Addresses.{IsHost};
 ghost use Rattle.wef_eventing.specs.Sending.{CanBeOffered};
 ghost use Rattle.wef_front_collector.specs.Heard.{Hears, IsSound};
-ghost use Rattle.wef_front_collector.specs.Replies.{IsAnswer, IsUnanswered, IsSpeltFor, MayHaveDrawn, ack_envelope, answer_of, drawn_ids, draws_for, ids_after, ids_behind, offers_envelope};
+ghost use Rattle.wef_front_collector.specs.Replies.{IsAnswer, IsUnanswered, IsSpeltFor, MayHaveDrawn, ack_envelope, answer_of, drawn_ids, draws_for, memory_after, memory_behind, offers_envelope};
 ghost use Rattle.wef_replies.specs.Replies.{answer_with, envelope_with};
 ghost use Rattle.wef_front_collector.specs.Steps.{IsKnownSaid};
 ghost use Rattle.wef_front_collector.specs.declared.saying.Said.TheVariants.{Offers};
 ghost use Rattle.wef_ids.specs.IdTexts.{id_of_value};
-ghost use Rattle.wef_ids.specs.Ids.{next_id, with_drawn};
+ghost use Rattle.wef_ids.specs.Ids.{next_id};
 ghost use Rattle.wef_xml.specs.Good.{IsXmlText};
 
 use crate::hearing::{Heard, hear};
@@ -48,9 +49,9 @@ pub fn collector_answer<K: Keeper>(
 ) -> Result<Answer, AllocError>
     requires { IsHost host.now }
     ensures answer { IfOk result (λ answer. (heard : Heard) × Hears target.now charset body.now heard
-        × IsAnswer host.now heard charset now answer collector.old.ids collector.new.ids (K.store collector.old.keeper) (K.store collector.new.keeper)) }
+        × IsAnswer host.now heard charset now answer collector.old.memory collector.new.memory (K.store collector.old.keeper) (K.store collector.new.keeper)) }
     ensures wants_memory { IfErr result (λ _. (collector.new ≡ collector.old) ⊎ ((heard : Heard) × Hears target.now charset body.now heard
-        × IsUnanswered host.now heard now collector.old.ids collector.new.ids (K.store collector.old.keeper) (K.store collector.new.keeper))) }
+        × IsUnanswered host.now heard now collector.old.memory collector.new.memory (K.store collector.old.keeper) (K.store collector.new.keeper))) }
 {
     let heard = hear(alloc, target, charset, body.as_slice())?;
     answer_heard(alloc, collector, host, charset, &heard, now)
@@ -67,8 +68,8 @@ fn answer_heard<K: Keeper>(
 ) -> Result<Answer, AllocError>
     requires host { IsHost host.now }
     requires sound { IsSound heard.now }
-    ensures answer { IfOk result (λ answer. IsAnswer host.now heard.now charset now answer collector.old.ids collector.new.ids (K.store collector.old.keeper) (K.store collector.new.keeper)) }
-    ensures wants_memory { IfErr result (λ _. IsUnanswered host.now heard.now now collector.old.ids collector.new.ids (K.store collector.old.keeper) (K.store collector.new.keeper)) }
+    ensures answer { IfOk result (λ answer. IsAnswer host.now heard.now charset now answer collector.old.memory collector.new.memory (K.store collector.old.keeper) (K.store collector.new.keeper)) }
+    ensures wants_memory { IfErr result (λ _. IsUnanswered host.now heard.now now collector.old.memory collector.new.memory (K.store collector.old.keeper) (K.store collector.new.keeper)) }
 {
     let said = say(collector, host, &heard.asked, now)?;
     write_said(alloc, collector, charset, heard.relates.as_ref(), &said)
@@ -85,10 +86,10 @@ fn write_said<K: Keeper>(
 ) -> Result<Answer, AllocError>
     requires known { IsKnownSaid said.now }
     requires relates { IfSome (option_copied relates) (λ id. IsXmlText id.text) }
-    ensures answer { IfOk result (λ answer. answer ≡ answer_of collector.old.ids charset (option_copied relates.entry) said.now) }
-    ensures spelt { OnOk result (IsSpeltFor collector.old.ids said.now) }
-    ensures drawn { OnOk result (collector.new.ids ≡ ids_behind collector.old.ids said.now) }
-    ensures wants_memory { OnErr result (MayHaveDrawn (draws_for said.now) collector.old.ids collector.new.ids) }
+    ensures answer { IfOk result (λ answer. answer ≡ answer_of collector.old.memory.ids charset (option_copied relates.entry) said.now) }
+    ensures spelt { OnOk result (IsSpeltFor collector.old.memory.ids said.now) }
+    ensures drawn { OnOk result (collector.new.memory ≡ memory_behind collector.old.memory said.now) }
+    ensures wants_memory { OnErr result (MayHaveDrawn (draws_for said.now) collector.old.memory collector.new.memory) }
     ensures keeper { collector.new.keeper ≡ collector.old.keeper }
 {
     match said {
@@ -104,11 +105,11 @@ fn write_said<K: Keeper>(
 
 /// Draws the id of a message.
 fn draw<K: Keeper>(collector: &mut Collector<K>) -> Result<MessageId, AllocError>
-    ensures id { IfOk result (λ id. id ≡ id_of_value (next_id collector.old.ids)) }
+    ensures id { IfOk result (λ id. id ≡ id_of_value (next_id collector.old.memory.ids)) }
     ensures text { IfOk result IsXmlId }
-    ensures spelt { OnOk result (IsSpelt (id_of_value (next_id collector.old.ids))) }
-    ensures drawn { OnOk result (collector.new.ids ≡ with_drawn 1 collector.old.ids) }
-    ensures wants_memory { OnErr result (collector.new.ids ≡ collector.old.ids) }
+    ensures spelt { OnOk result (IsSpelt (id_of_value (next_id collector.old.memory.ids))) }
+    ensures drawn { OnOk result (collector.new.memory ≡ drawn_in 1 collector.old.memory) }
+    ensures wants_memory { OnErr result (collector.new.memory ≡ collector.old.memory) }
     ensures keeper { collector.new.keeper ≡ collector.old.keeper }
 {
     match collector.draw() {
@@ -127,10 +128,10 @@ fn answer_offers<K: Keeper>(
 ) -> Result<Answer, AllocError>
     requires offers { CanAllBeOffered offers.now }
     requires relates { IfSome (option_copied relates) (λ id. IsXmlText id.text) }
-    ensures answer { IfOk result (λ answer. answer ≡ answer_of collector.old.ids charset (option_copied relates.entry) (Offers offers.now)) }
-    ensures spelt { OnOk result (IsSpeltFor collector.old.ids (Offers offers.now)) }
-    ensures drawn { OnOk result (collector.new.ids ≡ ids_behind collector.old.ids (Offers offers.now)) }
-    ensures wants_memory { OnErr result (MayHaveDrawn (suc (length offers.now)) collector.old.ids collector.new.ids) }
+    ensures answer { IfOk result (λ answer. answer ≡ answer_of collector.old.memory.ids charset (option_copied relates.entry) (Offers offers.now)) }
+    ensures spelt { OnOk result (IsSpeltFor collector.old.memory.ids (Offers offers.now)) }
+    ensures drawn { OnOk result (collector.new.memory ≡ memory_behind collector.old.memory (Offers offers.now)) }
+    ensures wants_memory { OnErr result (MayHaveDrawn (suc (length offers.now)) collector.old.memory collector.new.memory) }
     ensures keeper { collector.new.keeper ≡ collector.old.keeper }
 {
     let id = draw(collector)?;
@@ -151,11 +152,11 @@ fn draw_for<K: Keeper>(
     collector: &mut Collector<K>,
     offers: &[Offer],
 ) -> Result<List<MessageId>, AllocError>
-    ensures ids { IfOk result (λ ids. ids ≡ drawn_ids (length offers.now) collector.old.ids) }
+    ensures ids { IfOk result (λ ids. ids ≡ drawn_ids (length offers.now) collector.old.memory.ids) }
     ensures spelt { IfOk result (AllByRecursion IsSpelt) }
     ensures texts { IfOk result (All IsXmlId) }
-    ensures drawn { OnOk result (collector.new.ids ≡ ids_after (length offers.now) collector.old.ids) }
-    ensures wants_memory { OnErr result (MayHaveDrawn (length offers.now) collector.old.ids collector.new.ids) }
+    ensures drawn { OnOk result (collector.new.memory ≡ memory_after (length offers.now) collector.old.memory) }
+    ensures wants_memory { OnErr result (MayHaveDrawn (length offers.now) collector.old.memory collector.new.memory) }
     ensures keeper { collector.new.keeper ≡ collector.old.keeper }
 {
     let mut ids = List::new(alloc);

@@ -48,7 +48,7 @@ pub fn say<K: Keeper>(
     ensures judged { IfOk result (λ said. Judges host.now asked.now now said (K.store collector.old.keeper) (K.store collector.new.keeper)) }
     ensures wants_memory { IfErr result (λ _. HasStepped host.now asked.now now (K.store collector.old.keeper) (K.store collector.new.keeper)) }
     ensures known { IfOk result IsKnownSaid }
-    ensures ids { collector.new.ids ≡ collector.old.ids }
+    ensures memory { collector.new.memory ≡ collector.old.memory }
 {
     match asked {
         Asked::Refused(name) => Ok(Said::Fault(name.clone()?)),
@@ -70,7 +70,7 @@ fn offer<K: Keeper>(
     ensures judged { IfOk result (λ said. JudgesOffers host.now source.now said (K.store collector.old.keeper) (K.store collector.new.keeper)) }
     ensures wants_memory { IfErr result (λ _. (done : Result (List TheOffer) fault.CollectorFault) × CallsFor (λ rows. offers rows source.now host.now) no_effect done (K.store collector.old.keeper) (K.store collector.new.keeper) × IfErr done IsOfStore) }
     ensures known { IfOk result IsKnownSaid }
-    ensures ids { collector.new.ids ≡ collector.old.ids }
+    ensures memory { collector.new.memory ≡ collector.old.memory }
 {
     said_of_offers(collector.offers(source, host))
 }
@@ -97,7 +97,7 @@ fn take_unread<K: Keeper>(collector: &mut Collector<K>, sub: &SubId) -> Result<S
     ensures judged { IfOk result (λ said. JudgesUnread sub.now said (K.store collector.old.keeper) (K.store collector.new.keeper)) }
     ensures wants_memory { IfErr result (λ _. (done : Result (Unit {0}) fault.CollectorFault) × Calls (λ rows. unread_effect rows sub.now) done (K.store collector.old.keeper) (K.store collector.new.keeper)) }
     ensures known { IfOk result IsKnownSaid }
-    ensures ids { collector.new.ids ≡ collector.old.ids }
+    ensures memory { collector.new.memory ≡ collector.old.memory }
 {
     said_of(false, collector.take_unread(sub))
 }
@@ -116,7 +116,7 @@ fn take<K: Keeper>(
     ensures judged { IfOk result (λ said. JudgesBatch sub.now source.now batch.now now said (K.store collector.old.keeper) (K.store collector.new.keeper)) }
     ensures wants_memory { IfErr result (λ _. (done : Result (Unit {0}) fault.CollectorFault) × Calls (λ rows. take_effect rows sub.now source.now batch.now now) done (K.store collector.old.keeper) (K.store collector.new.keeper)) }
     ensures known { IfOk result IsKnownSaid }
-    ensures ids { collector.new.ids ≡ collector.old.ids }
+    ensures memory { collector.new.memory ≡ collector.old.memory }
 {
     said_of(batch.ack_wanted, collector.take(sub, source, batch, now))
 }
