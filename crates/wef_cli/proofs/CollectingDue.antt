@@ -2,7 +2,7 @@
 use Rattle.std.proofs.Common.{◌≡◌, ◌∙◌, ℕ, suc, true, List, refl, inl, inr, arith}
 use Rattle.std.specs.Prelude.{◌⊎◌, Option, Some, Ok, Err}
 use Rattle.wef_base.specs.Counts.{Rose}
-use Rattle.wef_collector.specs.Boots.{ids_begun}
+use Rattle.wef_collector.specs.Boots.{memory_begun}
 use Rattle.wef_collector.specs.Calls.{boot_effect}
 use Rattle.wef_collector.specs.Laws.{BookmarksRise}
 use Rattle.wef_collector_rows.specs.Faults.{collector_store}
@@ -11,7 +11,7 @@ use Rattle.wef_collector_rows.specs.declared.faults.CollectorFault.{CollectorFau
 use Rattle.wef_collector_rows.specs.declared.faults.CollectorFault.TheVariants as faults
 use Rattle.wef_collector_serving.proofs.OverRows.{requests_go_by_rows, turns_open}
 use Rattle.wef_collector_serving.specs.Answers.{KnownCollector}
-use Rattle.wef_ids.specs.declared.ids.Ids.{Ids}
+use Rattle.wef_collector.specs.declared.memories.Memory.{Memory}
 use Rattle.wef_keeper.proofs.Going.{calm_rows}
 use Rattle.wef_keeper.specs.Calls.{Did}
 use Rattle.wef_keeper.specs.Keeping.{MayFind, Store}
@@ -59,17 +59,17 @@ module _ (out : Told) (before now : Store) (found after : Rows) (stand : Stand b
   unstarted_due faults.NoMemory ending sure start is = inr is
   unstarted_due faults.Failed ending sure start is = absurd (sure is)
   unstarted_due faults.Full ending sure start is =
-      let did = from_one before now found after (Did collector_store AreFormed boot_effect ids_begun (Err faults.Full) before now) stand known start.0.did in
+      let did = from_one before now found after (Did collector_store AreFormed boot_effect memory_begun (Err faults.Full) before now) stand known start.0.did in
       inl (is ∙ full_due found ends.Done (boot_full found did.answer.0))
   unstarted_due _ ending sure start is = absurd start.1
 
-  module _ (clock : Option ℕ) (f g : ports.Told) (front : Rose f.faults g.faults → ⊥) (mid : Store) (ids ids_now : Ids) (start : Starts (Ok ids) before mid) where
-    served_due : (address told : List ℕ) (count : ℕ) (ending : Ending) → ServingEnds clock told count ending out (with_address address f) (record { store = mid; ids = ids }) g (record { store = now; ids = ids_now })
+  module _ (clock : Option ℕ) (f g : ports.Told) (front : Rose f.faults g.faults → ⊥) (mid : Store) (memory memory_now : Memory) (start : Starts (Ok memory) before mid) where
+    served_due : (address told : List ℕ) (count : ℕ) (ending : Ending) → ServingEnds clock told count ending out (with_address address f) (record { store = mid; memory = memory }) g (record { store = now; memory = memory_now })
         → IsDue ending ⊎ (ending ≡ ends.NoMemory)
     served_due address told count ends.Done (es, long, are) =
         let first = found_before clock are.served start.0.ready.0 after may in
         let stood : mid.rows ≡ Some first.0 = calm_rows mid.rows mid.images first.0 start.2.both (start.2.only start.0.ready.1) first.1 in
-        inl (start_due found ends.Done ends.Done (could_start before mid ids found first.0 start stand stood) refl)
+        inl (start_due found ends.Done ends.Done (could_start before mid memory found first.0 start stand stood) refl)
     served_due address told count ends.ListeningFailed (es, below, h, are, refused, rose, refusals) = absurd (front (rose_by (failed_among es) f.faults g.faults rose))
     served_due address told count ends.NoMemory is = inr refl
     served_due address told count ends.OutputFailed is = absurd (writes is.0)
@@ -79,10 +79,10 @@ module _ (out : Told) (before now : Store) (found after : Rows) (stand : Stand b
       → CollectEnds address connections ending out clock f g before now → IsDue ending ⊎ (ending ≡ ends.NoMemory)
   collected_due address connections ending clock f g front sure (inl ((is, unwritten, same), unasked)) = inr is
   collected_due address connections ending clock f g front sure (inr (inl (fault, start, is, unwritten, unasked))) = unstarted_due fault ending sure start is
-  collected_due address connections ending clock f g front sure (inr (inr (mid, ids, ids_now, start, inl (is, refused, unwritten, same)))) = absurd (front refused.1.1)
-  collected_due address connections ending clock f g front sure (inr (inr (mid, ids, ids_now, start, inr (inl (is, failed, part, bound, same))))) = absurd (writes failed)
-  collected_due address connections ending clock f g front sure (inr (inr (mid, ids, ids_now, start, inr (inr served)))) =
-      served_due clock f g front mid ids ids_now start address (listening_line address) connections ending served
+  collected_due address connections ending clock f g front sure (inr (inr (mid, memory, memory_now, start, inl (is, refused, unwritten, same)))) = absurd (front refused.1.1)
+  collected_due address connections ending clock f g front sure (inr (inr (mid, memory, memory_now, start, inr (inl (is, failed, part, bound, same))))) = absurd (writes failed)
+  collected_due address connections ending clock f g front sure (inr (inr (mid, memory, memory_now, start, inr (inr served)))) =
+      served_due clock f g front mid memory memory_now start address (listening_line address) connections ending served
 
 pub with_says : (IsDue Says : Ending → Type 0) (ending : Ending) → Says ending → IsDue ending ⊎ (ending ≡ ends.NoMemory) → TellsDue IsDue Says ending
 with_says IsDue Says ending says (inl due) = inl (due, says)

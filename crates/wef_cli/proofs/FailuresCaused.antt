@@ -82,9 +82,9 @@ collect_caused : (address : List ℕ) (connections : ℕ) (out : Told) (clock : 
     → CollectEnds address connections ends.StoreFailed out clock f g before now → Caused before now
 collect_caused address connections out clock f g before now (inl ((is, unwritten, same), unasked)) = absurd (not_failed ends.NoMemory refl is)
 collect_caused address connections out clock f g before now (inr (inl (fault, start, is, unwritten, unasked))) = start_caused before now fault start is
-collect_caused address connections out clock f g before now (inr (inr (mid, ids, ids_now, start, inl (is, refused, unwritten, same)))) = absurd (not_failed ends.ListeningFailed refl is)
-collect_caused address connections out clock f g before now (inr (inr (mid, ids, ids_now, start, inr (inl (is, failed, part, bound, same))))) = absurd (not_failed ends.OutputFailed refl is)
-collect_caused address connections out clock f g before now (inr (inr (mid, ids, ids_now, start, inr (inr served)))) = absurd served
+collect_caused address connections out clock f g before now (inr (inr (mid, memory, memory_now, start, inl (is, refused, unwritten, same)))) = absurd (not_failed ends.ListeningFailed refl is)
+collect_caused address connections out clock f g before now (inr (inr (mid, memory, memory_now, start, inr (inl (is, failed, part, bound, same))))) = absurd (not_failed ends.OutputFailed refl is)
+collect_caused address connections out clock f g before now (inr (inr (mid, memory, memory_now, start, inr (inr served)))) = absurd served
 
 -- ---- writing
 

@@ -184,9 +184,9 @@ collect_formed : (address : List ℕ) (connections : ℕ) (out : Told) (clock : 
     → CollectEnds address connections ends.StoreFailed out clock f g before now → AreGood AreFormed now
 collect_formed address connections out clock f g before now found stand formed (inl ((is, unwritten, same), unasked)) = absurd (not_failed ends.NoMemory refl is)
 collect_formed address connections out clock f g before now found stand formed (inr (inl (fault, start, is, unwritten, unasked))) = good_first AreFormed before now found stand formed start.0.formed
-collect_formed address connections out clock f g before now found stand formed (inr (inr (mid, ids, ids_now, start, inl (is, refused, unwritten, same)))) = absurd (not_failed ends.ListeningFailed refl is)
-collect_formed address connections out clock f g before now found stand formed (inr (inr (mid, ids, ids_now, start, inr (inl (is, failed, part, bound, same))))) = absurd (not_failed ends.OutputFailed refl is)
-collect_formed address connections out clock f g before now found stand formed (inr (inr (mid, ids, ids_now, start, inr (inr served)))) = absurd served
+collect_formed address connections out clock f g before now found stand formed (inr (inr (mid, memory, memory_now, start, inl (is, refused, unwritten, same)))) = absurd (not_failed ends.ListeningFailed refl is)
+collect_formed address connections out clock f g before now found stand formed (inr (inr (mid, memory, memory_now, start, inr (inl (is, failed, part, bound, same))))) = absurd (not_failed ends.OutputFailed refl is)
+collect_formed address connections out clock f g before now found stand formed (inr (inr (mid, memory, memory_now, start, inr (inr served)))) = absurd served
 
 module _ (input out : Told) (peers : Peers) (before now : Store) (found : Rows) (stand : Stand before found) (lawful : IsLawful now) where
   run_formed : (command : Command) → AreFormedFor (Some command) found → RunEnds (Some command) ends.StoreFailed input out peers before now → AreGood (AreFormedFor (Some command)) now

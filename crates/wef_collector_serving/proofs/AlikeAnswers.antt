@@ -11,7 +11,7 @@ use Rattle.wef_collector_rows.specs.declared.faults.CollectorFault.TheVariants.{
 use Rattle.wef_collector_rows.specs.declared.standings.Standing.{Standing}
 use Rattle.wef_collector_rows.specs.declared.standings.Standing.TheVariants.{Unknown, Ended, Live}
 use Rattle.wef_front.proofs.OneIsHeard.{one_is_heard}
-use Rattle.wef_front_collector.specs.Replies.{answer_of, ids_behind, rows_by}
+use Rattle.wef_front_collector.specs.Replies.{answer_of, memory_behind, rows_by}
 use Rattle.wef_front_collector.specs.Steps.{batch_said, effect_in, said_by, said_where}
 use Rattle.wef_front_collector.specs.declared.hearing.Asked.{Asked}
 use Rattle.wef_front_collector.specs.declared.hearing.Asked.TheVariants.{Refused, Enumerate, Unread, Take}
@@ -86,19 +86,19 @@ calm_goes host asked moment said found left (inr (is, may)) none = let bad : 1 �
 pub record AreAnsweredAlike (answer other : Answer) (now then : Kept) : Type 0 where
   pub one : answer ≡ other
   pub rows : AreAlike now.rows then.rows
-  pub ids : now.ids ≡ then.ids
+  pub memory : now.memory ≡ then.memory
 
-module _ (final last : Rows) (request : HttpRequest) (now moment : ℕ) (answer other : Answer) (s t u v : Kept) (alike : AreAlike s.rows u.rows) (drawn : s.ids ≡ u.ids) (calm : t.errors ≡ s.errors) (calm_too : v.errors ≡ u.errors) where
+module _ (final last : Rows) (request : HttpRequest) (now moment : ℕ) (answer other : Answer) (s t u v : Kept) (alike : AreAlike s.rows u.rows) (drawn : s.memory ≡ u.memory) (calm : t.errors ≡ s.errors) (calm_too : v.errors ≡ u.errors) where
   heard_alike : (heard : Heard) → IsAnsweredBy final request.host heard request.charset now answer s t → IsAnsweredBy last request.host heard request.charset moment other u v → AreAnsweredAlike answer other t v
   heard_alike heard is also =
       let first = calm_goes request.host heard.asked now is.said s.rows t.rows is.goes (none_more (error_of is.said) s.errors t.errors is.counted calm) in
       let second = calm_goes request.host heard.asked moment also.said u.rows v.rows also.goes (none_more (error_of also.said) u.errors v.errors also.counted calm_too) in
       let said : is.said ≡ also.said = first.0 ∙ same_said request.host heard.asked now moment s.rows u.rows alike ∙ sym second.0 in
       record {
-        one = is.written ∙ (λ i. answer_of (drawn i) request.charset heard.relates (said i)) ∙ sym also.written;
+        one = is.written ∙ (λ i. answer_of (drawn i).ids request.charset heard.relates (said i)) ∙ sym also.written;
         rows = subst (λ (rows : Rows). AreAlike rows v.rows) (sym first.1)
             (subst (λ (rows : Rows). AreAlike (rows_by (effect_in heard.asked now s.rows) s.rows) rows) (sym second.1) (same_done heard.asked now moment s.rows u.rows alike));
-        ids = is.drawn ∙ (λ i. ids_behind (drawn i) (said i)) ∙ sym also.drawn;
+        memory = is.drawn ∙ (λ i. memory_behind (drawn i) (said i)) ∙ sym also.drawn;
       }
 
   pub answered_alike : AnswersBy final now s request answer t → AnswersBy last moment u request other v → AreAnsweredAlike answer other t v

@@ -140,12 +140,12 @@ module _ (side : Side) (bytes : List ℕ) where
     cut_end = second.ends ∙ ap ending cut;
   }
 
-  both_with_none : (s t u v : Kept) (one other : Outcome) → BeginsWithNone side bytes s one.sent t one.end → BeginsWithNone side bytes u other.sent v other.end → AreAlike s.rows u.rows → s.ids ≡ u.ids
+  both_with_none : (s t u v : Kept) (one other : Outcome) → BeginsWithNone side bytes s one.sent t one.end → BeginsWithNone side bytes u other.sent v other.end → AreAlike s.rows u.rows → s.memory ≡ u.memory
       → AreServedAlike side bytes one other t v
   both_with_none s t u v one other first second alike drawn = record {
     outcome = by (only_request.reason side bytes first.why second.why first.by_bytes second.by_bytes first.refused second.refused);
     rows = subst (λ (k : Kept). AreAlike k.rows v.rows) (sym first.unchanged) (subst (λ (k : Kept). AreAlike s.rows k.rows) (sym second.unchanged) alike);
-    ids = ap (λ (k : Kept). k.ids) first.unchanged ∙ drawn ∙ sym (ap (λ (k : Kept). k.ids) second.unchanged);
+    memory = ap (λ (k : Kept). k.memory) first.unchanged ∙ drawn ∙ sym (ap (λ (k : Kept). k.memory) second.unchanged);
   }
     where
       by : IsOneReason bytes first.why second.why → IsSameOutcome side bytes one other
@@ -171,7 +171,7 @@ record MeetsOne (Then : List ℕ → Kept → List ℕ → Kept → ConnectionEn
   more : List ℕ
   is_sent : sent ≡ response_to request answer ++ more
   rows : AreAlike t.rows mid.rows
-  ids : t.ids ≡ mid.ids
+  memory : t.memory ≡ mid.memory
   follows : ((request.keep ≡ false) × (more ≡ []) × (v ≡ mid) × (e ≡ over.Closed)) ⊎ ((request.keep ≡ true) × Then rest mid more v e × (v.errors ≡ mid.errors))
 
 module _ (side : Side) (clock other : Option ℕ) (final last : Rows) where
@@ -190,22 +190,22 @@ module _ (side : Side) (clock other : Option ℕ) (final last : Rows) where
   -- whatever serves the same bytes over rows that are alike does so alike
   abbrev IsMatched : List ℕ → Kept → List ℕ → Kept → ConnectionEnd → Type 0
   IsMatched bytes s sent t e =
-      (u v : Kept) (two : Outcome) → Second bytes u two.sent v two.end → (IsBroken two.end → ⊥) → AreAlike s.rows u.rows → s.ids ≡ u.ids → t.errors ≡ s.errors → v.errors ≡ u.errors
+      (u v : Kept) (two : Outcome) → Second bytes u two.sent v two.end → (IsBroken two.end → ⊥) → AreAlike s.rows u.rows → s.memory ≡ u.memory → t.errors ≡ s.errors → v.errors ≡ u.errors
       → AreServedAlike side bytes (record { sent = sent; end = e }) two t v
 
   answers_alike : (request : HttpRequest) (answer two : Answer) (s t u v : Kept) → AnswersAt clock (AnswersBy final) s request answer t → AnswersAt other (AnswersBy last) u request two v
-      → AreAlike s.rows u.rows → s.ids ≡ u.ids → t.errors ≡ s.errors → v.errors ≡ u.errors → AreAnsweredAlike answer two t v
+      → AreAlike s.rows u.rows → s.memory ≡ u.memory → t.errors ≡ s.errors → v.errors ≡ u.errors → AreAnsweredAlike answer two t v
   answers_alike request answer two s t u v (now, told, answers) (moment, told_too, also) alike drawn calm calm_too =
       answered_alike final last request now moment answer two s t u v alike drawn calm calm_too answers also
 
   -- the first begins with no request
-  none_first : (bytes : List ℕ) (s t u v : Kept) (one two : Outcome) → BeginsWithNone side bytes s one.sent t one.end → SecondBegins bytes u two.sent v two.end → AreAlike s.rows u.rows → s.ids ≡ u.ids → AreServedAlike side bytes one two t v
+  none_first : (bytes : List ℕ) (s t u v : Kept) (one two : Outcome) → BeginsWithNone side bytes s one.sent t one.end → SecondBegins bytes u two.sent v two.end → AreAlike s.rows u.rows → s.memory ≡ u.memory → AreServedAlike side bytes one two t v
   none_first bytes s t u v one two first (inl second) alike drawn = both_with_none side bytes s t u v one two first second alike drawn
   none_first bytes s t u v one two first (inr second) alike drawn = absurd (only_request.stands side bytes second.request second.rest first.why second.is first.refused first.by_bytes)
 
   -- the first begins with a request, so the second does
   module _ (bytes rest : List ℕ) (request : HttpRequest) (answer : Answer) (s t u v : Kept) (two : Outcome) (is : IsRequest side bytes request rest) (answers : AnswersAt clock (AnswersBy final) s request answer t)
-      (alike : AreAlike s.rows u.rows) (drawn : s.ids ≡ u.ids) (calm : t.errors ≡ s.errors) (calm_too : v.errors ≡ u.errors) where
+      (alike : AreAlike s.rows u.rows) (drawn : s.memory ≡ u.memory) (calm : t.errors ≡ s.errors) (calm_too : v.errors ≡ u.errors) where
     abbrev Follows : HttpRequest → List ℕ → Kept → List ℕ → Type 0
     Follows r xs mid more = ((r.keep ≡ false) × (more ≡ []) × (v ≡ mid) × (two.end ≡ over.Closed)) ⊎ ((r.keep ≡ true) × Second xs mid more v two.end)
 
@@ -218,7 +218,7 @@ module _ (side : Side) (clock other : Option ℕ) (final last : Rows) where
       more = more;
       is_sent = sent ∙ ap (λ (a : Answer). response_to request a ++ more) (sym same.one);
       rows = same.rows;
-      ids = same.ids;
+      memory = same.memory;
       follows = follows;
     }
 
@@ -252,7 +252,7 @@ module _ (side : Side) (clock other : Option ℕ) (final last : Rows) where
           record {
             outcome = inl (λ i. record { sent = sym sent i; end = sym closed i });
             rows = subst (λ (k : Kept). AreAlike t.rows k.rows) (sym same) met.rows;
-            ids = met.ids ∙ ap (λ (k : Kept). k.ids) (sym same);
+            memory = met.memory ∙ ap (λ (k : Kept). k.memory) (sym same);
           }
       by (inr (kept, served, calm)) = let bad : true ≡ false = sym kept ∙ keep in cc
 
@@ -265,12 +265,12 @@ module _ (side : Side) (clock other : Option ℕ) (final last : Rows) where
           → AreServedAlike side bytes (record { sent = response_to request answer ++ more; end = e }) two t v
       by (inl (shut, none, same, closed)) = let bad : true ≡ false = sym keep ∙ shut in cc
       by (inr (kept, served, calm_too)) =
-          let then_on = matched met.mid v (record { sent = met.more; end = two.end }) served unbroken met.rows met.ids calm calm_too in
+          let then_on = matched met.mid v (record { sent = met.more; end = two.end }) served unbroken met.rows met.memory calm calm_too in
           record {
             outcome = subst (IsSameOutcome side bytes (record { sent = response_to request answer ++ more; end = e })) (λ i. record { sent = sym met.is_sent i; end = two.end })
                 (same_behind side bytes rest (response_to request answer) request is keep (record { sent = more; end = e }) (record { sent = met.more; end = two.end }) then_on.outcome);
             rows = then_on.rows;
-            ids = then_on.ids;
+            memory = then_on.memory;
           }
 
   served_alike : {bytes : List ℕ} {s : Kept} {sent : List ℕ} {t : Kept} {e : ConnectionEnd} → First bytes s sent t e → (IsBroken e → ⊥) → IsMatched bytes s sent t e

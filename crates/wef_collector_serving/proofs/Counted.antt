@@ -2,6 +2,7 @@
 use Rattle.std.proofs.Common.{◌≡◌, ◌⊎◌, inl, inr, ℕ, ◌≤◌, List, ap, sym, refl, arith}
 use Rattle.std.specs.Prelude.{Option, Some, None, IfSome}
 use Rattle.wef_base.specs.Counts.{Rose}
+use Rattle.wef_collector.specs.declared.memories.Memory.{Memory}
 use Rattle.wef_collector_rows.specs.Forms.{AreFormed}
 use Rattle.wef_front.proofs.Causes.{internal_errors_have_a_cause}
 use Rattle.wef_front_collector.specs.Replies.{IsUnanswered}
@@ -13,7 +14,6 @@ use Rattle.wef_front_collector.specs.declared.saying.Said.{Said}
 use Rattle.wef_http.specs.declared.messages.HttpRequest.{HttpRequest}
 use Rattle.wef_http_heads.specs.declared.answers.Answer.{Answer}
 use Rattle.wef_http_heads.specs.declared.targets.Side.{Side}
-use Rattle.wef_ids.specs.declared.ids.Ids.{Ids}
 use Rattle.wef_keeper.specs.Keeping.{Store}
 use Rattle.wef_keeper.specs.Rows.{Rows}
 use Rattle.wef_serving.specs.Serving.{AnswersAt, LeavesAt}
@@ -39,9 +39,9 @@ stepped_counts host (Enumerate s) moment before now stepped = stepped.1.faults
 stepped_counts host (Unread u) moment before now stepped = stepped.1.faults
 stepped_counts host (Take u s batch) moment before now stepped = stepped.1.faults
 
-unanswered_counts : (host : List ℕ) (heard : Heard) (moment : ℕ) (ids ids_now : Ids) (before now : Store) → IsUnanswered host heard moment ids ids_now before now → before.faults ≤ now.faults
-unanswered_counts host heard moment ids ids_now before now (inl stepped) = stepped_counts host heard.asked moment before now stepped.0
-unanswered_counts host heard moment ids ids_now before now (inr unwritten) = steps_count host heard.asked moment unwritten.0 before now unwritten.1
+unanswered_counts : (host : List ℕ) (heard : Heard) (moment : ℕ) (memory memory_now : Memory) (before now : Store) → IsUnanswered host heard moment memory memory_now before now → before.faults ≤ now.faults
+unanswered_counts host heard moment memory memory_now before now (inl stepped) = stepped_counts host heard.asked moment before now stepped.0
+unanswered_counts host heard moment memory memory_now before now (inr unwritten) = steps_count host heard.asked moment unwritten.0 before now unwritten.1
 
 -- ---- counts
 
@@ -69,12 +69,12 @@ answer_counts moment s request answer t ((heard, hears, is), lawful) = steps_cou
 
 pub leaving_counts : (moment : ℕ) (s : KnownCollector) (request : HttpRequest) (t : KnownCollector) → Leaves moment s request t → s.store.faults ≤ t.store.faults
 leaving_counts moment s request t (inl is, lawful) = let e : s.store.faults ≡ t.store.faults = ap (λ (c : KnownCollector). c.store.faults) (sym is) in omega arith
-leaving_counts moment s request t (inr (heard, hears, is), lawful) = unanswered_counts request.host heard moment s.ids t.ids s.store t.store is
+leaving_counts moment s request t (inr (heard, hears, is), lawful) = unanswered_counts request.host heard moment s.memory t.memory s.store t.store is
 
 calm : (moment : ℕ) (s : KnownCollector) (request : HttpRequest) (answer : Answer) (t : KnownCollector)
     → Answers moment s request answer t → (Rose s.store.faults t.store.faults → ⊥) → AnswersCalmly moment s request answer t
 calm moment s request answer t ((heard, hears, is), lawful) never =
-    ((heard, hears, (is, λ internal. unsure (Rose s.store.faults t.store.faults) t.store.rows (internal_errors_have_a_cause request.host request.target request.charset request.charset request.body heard moment answer s.ids t.ids s.store t.store hears is internal refl) never)), lawful)
+    ((heard, hears, (is, λ internal. unsure (Rose s.store.faults t.store.faults) t.store.rows (internal_errors_have_a_cause request.host request.target request.charset request.charset request.body heard moment answer s.memory t.memory s.store t.store hears is internal refl) never)), lawful)
 
 module _ (side : Side) (clock : Option ℕ) where
   answered_counts : (s : KnownCollector) (request : HttpRequest) (answer : Answer) (t : KnownCollector) → AnswersAt clock Answers s request answer t → s.store.faults ≤ t.store.faults

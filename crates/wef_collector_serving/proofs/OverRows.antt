@@ -345,7 +345,7 @@ module _ (clock : Option ℕ) where
           good = good;
           counted = λ formed below. count_up is.said s.store.faults t.store.faults
               (λ internal. surely (Rose s.store.faults t.store.faults) t.store.rows t.store.images last lawful.both lawful.among found (good formed)
-              (internal_errors_have_a_cause request.host request.target request.charset request.charset request.body heard moment answer s.ids t.ids s.store t.store hears is internal refl))
+              (internal_errors_have_a_cause request.host request.target request.charset request.charset request.body heard moment answer s.memory t.memory s.store t.store hears is internal refl))
               (answer_counts moment s request answer t ((heard, hears, is), lawful)) below;
         };
         rises = leaving_rises heard.asked moment back.0 last (goes_leave request.host moment heard.asked is.said back.0 last back.2);
@@ -367,7 +367,7 @@ module _ (clock : Option ℕ) where
       record {
         first = back.0;
         found = back.1;
-        leaves = λ before. (moment, told, inr (heard, hears, record { rows = back.2; ids = (zero, same); errors = refl }));
+        leaves = λ before. (moment, told, inr (heard, hears, record { rows = back.2; memory = (zero, same); errors = refl }));
         counts = uncounted s t (stepped_open request.host moment heard.asked s.store t.store stepped opened) (stepped_good request.host moment heard.asked s.store t.store back.0 stepped back.1)
             (leaving_counts moment s request t (inr (heard, hears, inl (stepped, same)), lawful));
         rises = leaving_rises heard.asked moment back.0 last back.2;
@@ -377,7 +377,7 @@ module _ (clock : Option ℕ) where
       record {
         first = back.0;
         found = back.1;
-        leaves = λ before. (moment, told, inr (heard, hears, record { rows = goes_leave request.host moment heard.asked said back.0 last back.2; ids = (draws, drawn); errors = refl }));
+        leaves = λ before. (moment, told, inr (heard, hears, record { rows = goes_leave request.host moment heard.asked said back.0 last back.2; memory = (draws, drawn); errors = refl }));
         counts = uncounted s t (steps_open request.host moment heard.asked said s.store t.store stepped opened) (steps_good request.host moment heard.asked said s.store t.store back.0 stepped back.1)
             (leaving_counts moment s request t (inr (heard, hears, inr (said, stepped, (draws, few, drawn))), lawful));
         rises = leaving_rises heard.asked moment back.0 last (goes_leave request.host moment heard.asked said back.0 last back.2);

@@ -24,7 +24,7 @@ said_so ids charset relates (Fault name) = (refl, λ none. cc)
 pub can_be_written :
     {E : Type 0} (moment : ℕ) (s t : KnownCollector) (request : HttpRequest) (result : Result Answer E) →
     IfOk result (λ answer. Answers moment s request answer t) → IfOk result CanBeWritten
-can_be_written moment s t request (Ok answer) ((heard, hears, is), lawful) = subst CanBeWritten (sym is.written) (said_so s.ids request.charset heard.relates is.said)
+can_be_written moment s t request (Ok answer) ((heard, hears, is), lawful) = subst CanBeWritten (sym is.written) (said_so s.memory.ids request.charset heard.relates is.said)
 can_be_written moment s t request (Err wanting) answered = tt
 
 -- a collector that is as it was is known as it was

@@ -4,12 +4,13 @@ use Rattle.std.specs.List.{AllByRecursion}
 use Rattle.wef_base.specs.declared.tree.Charset.{Charset}
 use Rattle.wef_batch.specs.declared.items.Batch.{Batch}
 use Rattle.wef_collector.specs.Laws.{IsReached}
+use Rattle.wef_collector.specs.declared.memories.Memory.{Memory}
 use Rattle.wef_collector_rows.specs.Forms.{AreFormed}
 use Rattle.wef_collector_rows.specs.Standing.{standing}
 use Rattle.wef_collector_rows.specs.declared.standings.Standing.TheVariants.{Live}
 use Rattle.wef_collector_serving.specs.Answers.{Hearing, KnownCollector}
 use Rattle.wef_eventing.specs.declared.subscriptions.Subscription.{Subscription}
-use Rattle.wef_front_collector.specs.Replies.{answer_of, ids_after, ids_behind, rows_by}
+use Rattle.wef_front_collector.specs.Replies.{answer_of, memory_after, memory_behind, rows_by}
 use Rattle.wef_front_collector.specs.Steps.{effect_in, said_by}
 use Rattle.wef_front_collector.specs.declared.hearing.Asked.{Asked}
 use Rattle.wef_front_collector.specs.declared.hearing.Asked.TheVariants.{Take}
@@ -20,18 +21,17 @@ use Rattle.wef_http.specs.declared.messages.HttpRequest.{HttpRequest}
 use Rattle.wef_http_heads.specs.declared.answers.Answer.{Answer}
 use Rattle.wef_ids.specs.declared.FaultName.{FaultName}
 use Rattle.wef_ids.specs.declared.FaultName.TheVariants as the
-use Rattle.wef_ids.specs.declared.ids.Ids.{Ids}
 use Rattle.wef_keeper.specs.Calls.{MayLeave}
 use Rattle.wef_keeper.specs.Keeping.{Store}
 use Rattle.wef_keeper.specs.Rows.{Rows}
 
 -- ---- what is kept
 
--- What is kept of a collector between two requests: the rows that an opening of its store finds, the ids that it draws, and how
+-- What is kept of a collector between two requests: the rows that an opening of its store finds, what it remembers, and how
 -- many of its answers have said that the store failed.
 pub record Kept : Type 0 where
   pub rows : Rows
-  pub ids : Ids
+  pub memory : Memory
   pub errors : ℕ
 
 -- whatever an opening may find is of its form
@@ -39,7 +39,7 @@ abbrev pub AreGood : Store → Type 0
 AreGood store = IfSome store.images (AllByRecursion AreFormed)
 
 abbrev pub kept_of : Rows → KnownCollector → ℕ → Kept
-kept_of rows collector errors = record { rows = rows; ids = collector.ids; errors = errors }
+kept_of rows collector errors = record { rows = rows; memory = collector.memory; errors = errors }
 
 -- ---- answers
 
@@ -77,8 +77,8 @@ TakenWithin final _ said rows = Unit {0}
 pub record IsAnsweredBy (final : Rows) (host : List ℕ) (heard : Heard) (charset : Charset) (moment : ℕ) (answer : Answer) (before now : Kept) : Type 0 where
   pub said : Said
   pub goes : Goes host heard.asked moment said before.rows now.rows
-  pub written : answer ≡ answer_of before.ids charset heard.relates said
-  pub drawn : now.ids ≡ ids_behind before.ids said
+  pub written : answer ≡ answer_of before.memory.ids charset heard.relates said
+  pub drawn : now.memory ≡ memory_behind before.memory said
   pub counted : now.errors ≡ error_of said + before.errors
   pub within : TakenWithin final heard.asked said before.rows
 
@@ -89,7 +89,7 @@ AnswersBy final moment before request answer now = Hearing request (λ heard. Is
 -- There was no memory for the answer: the rows are as they were or with what the message changes, and some ids were drawn.
 pub record IsLeftBy (heard : Heard) (moment : ℕ) (before now : Kept) : Type 0 where
   pub rows : MayLeave (effect_in heard.asked moment) now.rows before.rows
-  pub ids : (draws : ℕ) × (now.ids ≡ ids_after draws before.ids)
+  pub memory : (draws : ℕ) × (now.memory ≡ memory_after draws before.memory)
   pub errors : now.errors ≡ before.errors
 
 abbrev pub LeavesBy : ℕ → Kept → HttpRequest → Kept → Type 0

@@ -71,10 +71,10 @@ pub record IsServedWell (side : Side) (clock : Option ℕ) (bytes : List ℕ) (f
 pub record AreServedAlike (side : Side) (bytes : List ℕ) (one other : Outcome) (now then : Kept) : Type 0 where
   pub outcome : IsSameOutcome side bytes one other
   pub rows : AreAlike now.rows then.rows
-  pub ids : now.ids ≡ then.ids
+  pub memory : now.memory ≡ then.memory
 
 -- Whatever two clocks tell, the same bytes over rows that are alike are served alike.
 abbrev pub ClocksDecideNothingElse : Type 0
 ClocksDecideNothingElse =
     (side : Side) (bytes : List ℕ) (clock other : Option ℕ) (final last : Rows) (s t u v : Kept) (one two : Outcome) →
-    IsServedWell side clock bytes final s one t → IsServedWell side other bytes last u two v → AreAlike s.rows u.rows → s.ids ≡ u.ids → AreServedAlike side bytes one two t v
+    IsServedWell side clock bytes final s one t → IsServedWell side other bytes last u two v → AreAlike s.rows u.rows → s.memory ≡ u.memory → AreServedAlike side bytes one two t v

@@ -22,8 +22,8 @@ pub fn connections_go_by_rows()
 {}
 
 /// Of a connection the clock decides the moments at which sources were heard, and nothing else: over rows
-/// that are alike, whatever two clocks tell, the same bytes are answered with the same bytes, under the
-/// same ids, and the rows then are alike. This holds where neither the store nor the port fails and memory
+/// that are alike, whatever two clocks tell, the same bytes are answered with the same bytes, with the
+/// same memory, and the rows then are alike. This holds where neither the store nor the port fails and memory
 /// isn't short. One choice is left, which no clock decides: a head that is cut off, and that nothing could
 /// make good, may be refused, or end the connection as one that was cut short.
 pub fn clocks_decide_nothing_else()

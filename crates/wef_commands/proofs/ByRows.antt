@@ -6,12 +6,12 @@ use Rattle.std.specs.Io.KnownBytes.{Appends}
 use Rattle.wef_base.specs.declared.numbers.TheConstants.{MAX}
 use Rattle.wef_documents.specs.Written.{document_text}
 use Rattle.wef_eventing.specs.declared.subscriptions.Subscription.{Subscription}
-use Rattle.wef_ids.specs.declared.ids.Ids.{Ids}
+use Rattle.wef_collector.specs.declared.memories.Memory.{Memory}
 use Rattle.wef_keeper.specs.Access.{AnyFound, From, IsReady}
 use Rattle.wef_keeper.specs.Calls.{Did, Makes}
 use Rattle.wef_keeper.specs.Keeping.{IsLawful, IsOneOf, Stays, StaysUntold, Store, WhereTold}
 use Rattle.wef_keeper.specs.Rows.{Rows}
-use Rattle.wef_collector.specs.Boots.{boot_of, ids_begun}
+use Rattle.wef_collector.specs.Boots.{boot_of, memory_begun}
 use Rattle.wef_collector.specs.Calls.{add_effect, boot_effect, end_by, end_effect}
 use Rattle.wef_collector.specs.Taken.{put}
 use Rattle.wef_collector.proofs.Live.{put_lives}
@@ -93,15 +93,15 @@ boot_full found is = by (nat_lt (boot_of found) MAX) is
     by true e = cc
     by false e = refl
 
-pub started_so : (before mid : Store) (ids : Ids) (found rows : Rows) → Starts (Ok ids) before mid → Stand before found → mid.rows ≡ Some rows → rows ≡ started found
-started_so before mid ids found rows start stand told =
-    let did = from_one before mid found rows (Did collector_store AreFormed boot_effect ids_begun (Ok ids) before mid) stand told start.0.did in
+pub started_so : (before mid : Store) (memory : Memory) (found rows : Rows) → Starts (Ok memory) before mid → Stand before found → mid.rows ≡ Some rows → rows ≡ started found
+started_so before mid memory found rows start stand told =
+    let did = from_one before mid found rows (Did collector_store AreFormed boot_effect memory_begun (Ok memory) before mid) stand told start.0.did in
     boot_made found rows did.answer.0
 
 -- and its boot number could rise
-pub could_start : (before mid : Store) (ids : Ids) (found rows : Rows) → Starts (Ok ids) before mid → Stand before found → mid.rows ≡ Some rows → can_start found ≡ true
-could_start before mid ids found rows start stand told =
-    let did = from_one before mid found rows (Did collector_store AreFormed boot_effect ids_begun (Ok ids) before mid) stand told start.0.did in
+pub could_start : (before mid : Store) (memory : Memory) (found rows : Rows) → Starts (Ok memory) before mid → Stand before found → mid.rows ≡ Some rows → can_start found ≡ true
+could_start before mid memory found rows start stand told =
+    let did = from_one before mid found rows (Did collector_store AreFormed boot_effect memory_begun (Ok memory) before mid) stand told start.0.did in
     boot_room found rows did.answer.0
 
 -- a start that is refused
@@ -111,7 +111,7 @@ start_by_rows : (Says : Ending → Rows → Rows → Type 0) → ((found after :
 start_by_rows Says wants fails full ending before now faults.NoMemory start is = λ found after stand told. subst (λ (e : Ending). Says e found after) (sym is) (wants found after)
 start_by_rows Says wants fails full ending before now faults.Failed start is = λ found after stand told. subst (λ (e : Ending). Says e found after) (sym is) (fails found after)
 start_by_rows Says wants fails full ending before now faults.Full start is = λ found after stand told.
-    let did = from_one before now found after (Did collector_store AreFormed boot_effect ids_begun (Err faults.Full) before now) stand told start.0.did in
+    let did = from_one before now found after (Did collector_store AreFormed boot_effect memory_begun (Err faults.Full) before now) stand told start.0.did in
     subst (λ (e : Ending). Says e found after) (sym is) (full found after (boot_full found did.answer.0) did.answer.1)
 start_by_rows Says wants fails full ending before now _ start is = absurd start.1
 
@@ -120,8 +120,8 @@ behind : (Call : Store → Store → Type 0) (Says : Rows → Rows → Type 0) (
     → ((found rows after : Rows) → Stand begun.mid rows → now.rows ≡ Some after → rows ≡ started found → can_start found ≡ true → Says found after) → OverRows Says before now
 behind Call Says before now begun untold says = λ found after stand told.
     let mid = mid_stands begun.mid now after begun.start.2 begun.start.0.ready untold told in
-    says found mid.0 after mid.1 told (started_so before begun.mid begun.ids found mid.0 begun.start stand mid.1.told)
-    (could_start before begun.mid begun.ids found mid.0 begun.start stand mid.1.told)
+    says found mid.0 after mid.1 told (started_so before begun.mid begun.memory found mid.0 begun.start stand mid.1.told)
+    (could_start before begun.mid begun.memory found mid.0 begun.start stand mid.1.told)
 
 -- ---- `add`
 

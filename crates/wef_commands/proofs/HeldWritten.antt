@@ -12,7 +12,7 @@ use Rattle.wef_collector_rows.specs.Keys.{subscription_key}
 use Rattle.wef_collector_rows.specs.Standing.{standing}
 use Rattle.wef_collector_rows.specs.declared.faults.CollectorFault.{CollectorFault}
 use Rattle.wef_collector_rows.specs.declared.faults.CollectorFault.TheVariants as faults
-use Rattle.wef_ids.specs.declared.ids.Ids.{Ids}
+use Rattle.wef_collector.specs.declared.memories.Memory.{Memory}
 use Rattle.wef_keeper.proofs.Told.{told_any, told_both}
 use Rattle.wef_keeper.specs.Access.{Reads}
 use Rattle.wef_keeper.specs.Calls.{fails}
@@ -71,6 +71,6 @@ not_known u s c faults.NoSubscription taken count before now reads refused judge
 not_known u s c _ taken count before now reads refused judged = absurd refused
 
 -- behind a start
-pub events_written : (u s c : List ℕ) (ending : Ending) (out : Told) (before mid now : Store) (ids : Ids) → Starts (Ok ids) before mid → WritesHeld u s c ending out mid now
+pub events_written : (u s c : List ℕ) (ending : Ending) (out : Told) (before mid now : Store) (memory : Memory) → Starts (Ok memory) before mid → WritesHeld u s c ending out mid now
     → EventsEnds u s c ending out before now
-events_written u s c ending out before mid now ids start call = inr (inr (record { mid = mid; ids = ids; start = start; call = call }))
+events_written u s c ending out before mid now memory start call = inr (inr (record { mid = mid; memory = memory; start = start; call = call }))

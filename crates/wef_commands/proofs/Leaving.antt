@@ -2,13 +2,13 @@
 use Rattle.std.proofs.Common.{◌≡◌, ◌⊎◌, inl, inr, ℕ, true, false, List, [], ◌∷◌, ◌++◌, ap, sym, refl, subst, ◌∙◌, append_assoc}
 use Rattle.std.specs.List.{AllByRecursion}
 use Rattle.std.specs.Prelude.{Option, Some, None, Result, Ok, Err, IfSome, is_some}
-use Rattle.wef_collector.specs.Boots.{ids_begun}
+use Rattle.wef_collector.specs.Boots.{memory_begun}
 use Rattle.wef_collector.specs.Calls.{add_effect, boot_effect, end_effect}
 use Rattle.wef_collector_rows.specs.Faults.{collector_store}
 use Rattle.wef_collector_rows.specs.Forms.{AreFormed}
 use Rattle.wef_collector_rows.specs.declared.faults.CollectorFault.{CollectorFault}
 use Rattle.wef_event.specs.Events.{Event}
-use Rattle.wef_ids.specs.declared.ids.Ids.{Ids}
+use Rattle.wef_collector.specs.declared.memories.Memory.{Memory}
 use Rattle.wef_keeper.proofs.Going.{calm_rows, goes_over, may_leave, one_of, told_before, which_found}
 use Rattle.wef_keeper.specs.Access.{HasOpened}
 use Rattle.wef_keeper.specs.Calls.{Effect, GoesOver, IsCall, MayLeave}
@@ -43,31 +43,31 @@ same_store before now found last same stand may =
 -- a start that was refused
 refused_start : (before now : Store) (fault : CollectorFault) (found last : Rows) → Starts (Err fault) before now → Stand before found → MayFind now last → StartsAtMost found last
 refused_start before now fault found last start stand may =
-    let back = which_found (λ rows. GoesOver collector_store boot_effect ids_begun (Err fault) rows last) before.images
-    (goes_over collector_store AreFormed boot_effect ids_begun before now last (Err fault) start.0 start.2 may) in
-    by (subst (λ (rows : Rows). MayLeave boot_effect last rows) (same_found before found back.0 stand back.1) (may_leave collector_store boot_effect ids_begun (Err fault) back.0 last back.2))
+    let back = which_found (λ rows. GoesOver collector_store boot_effect memory_begun (Err fault) rows last) before.images
+    (goes_over collector_store AreFormed boot_effect memory_begun before now last (Err fault) start.0 start.2 may) in
+    by (subst (λ (rows : Rows). MayLeave boot_effect last rows) (same_found before found back.0 stand back.1) (may_leave collector_store boot_effect memory_begun (Err fault) back.0 last back.2))
   where
     by : MayLeave boot_effect last found → StartsAtMost found last
     by (inl same) = inl same
     by (inr made) = inr (boot_made found last made)
 
 -- the rows of a collector that was started are those of the start
-begun_rows : (before mid : Store) (ids : Ids) (found rows : Rows) → Starts (Ok ids) before mid → Stand before found → MayFind mid rows → rows ≡ started found
-begun_rows before mid ids found rows start stand may =
-    started_so before mid ids found rows start stand (calm_rows mid.rows mid.images rows start.2.both (start.2.only start.0.ready.1) may)
+begun_rows : (before mid : Store) (memory : Memory) (found rows : Rows) → Starts (Ok memory) before mid → Stand before found → MayFind mid rows → rows ≡ started found
+begun_rows before mid memory found rows start stand may =
+    started_so before mid memory found rows start stand (calm_rows mid.rows mid.images rows start.2.both (start.2.only start.0.ready.1) may)
 
 -- ---- a call of the collector
 
-module _ (before mid now : Store) (ids : Ids) (found last : Rows) (start : Starts (Ok ids) before mid) (stand : Stand before found) (lawful : IsLawful now) (may : MayFind now last) where
+module _ (before mid now : Store) (memory : Memory) (found last : Rows) (start : Starts (Ok memory) before mid) (stand : Stand before found) (lawful : IsLawful now) (may : MayFind now last) where
   begun_leaves : {T : Type 0} (effect : Rows → Effect CollectorFault) (value : Rows → T) (result : Result T CollectorFault) → IsCall collector_store AreFormed effect value result mid now → MayLeave effect last (started found)
   begun_leaves effect value result call =
       let back = which_found (λ rows. GoesOver collector_store effect value result rows last) mid.images (goes_over collector_store AreFormed effect value mid now last result call lawful may) in
       let told = told_before mid now back.0 last lawful start.0.ready.0 call.untold may back.1 in
-      subst (λ (rows : Rows). MayLeave effect last rows) (begun_rows before mid ids found back.0 start stand told) (may_leave collector_store effect value result back.0 last back.2)
+      subst (λ (rows : Rows). MayLeave effect last rows) (begun_rows before mid memory found back.0 start stand told) (may_leave collector_store effect value result back.0 last back.2)
 
   -- and one that only reads
   looked_leaves : HasOpened mid now → last ≡ started found
-  looked_leaves opened = begun_rows before mid ids found last start stand (by mid.images now.images refl refl opened.0 may)
+  looked_leaves opened = begun_rows before mid memory found last start stand (by mid.images now.images refl refl opened.0 may)
     where
       by : (old all : Option (List Rows)) → mid.images ≡ old → now.images ≡ all → IfSome old (λ olds. IfSome all (AllByRecursion (IsOneOf olds))) → WhereTold all (λ images. IsOneOf images last) → WhereTold old (λ olds. IsOneOf olds last)
       by old None was is narrows may = absurd may
@@ -77,7 +77,7 @@ module _ (before mid now : Store) (ids : Ids) (found last : Rows) (start : Start
           let no : true ≡ false = sym (ap (λ (o : Option (List Rows)). is_some o) is) ∙ lawful.both ∙ rowless in cc
 
   read_leaves : Stays mid.images now.images → last ≡ started found
-  read_leaves stays = begun_rows before mid ids found last start stand (by now.images stays may)
+  read_leaves stays = begun_rows before mid memory found last start stand (by now.images stays may)
     where
       by : (all : Option (List Rows)) → IfSome all (λ told. mid.images ≡ Some told) → WhereTold all (λ images. IsOneOf images last) → MayFind mid last
       by None stays may = absurd may
@@ -94,39 +94,39 @@ add_leaves ending input out before now (inl (why, unwritten, same)) lawful found
 add_leaves ending input out before now (inr (s, document, again, inl (fault, start, is, unwritten))) lawful found last stand may =
     inr (s, document, at_most (λ rows. add_effect rows s) found last (refused_start before now fault found last start stand may))
 add_leaves ending input out before now (inr (s, document, again, inr (inl (fault, begun, is, unwritten)))) lawful found last stand may =
-    inr (s, document, inr (begun_leaves before begun.mid now begun.ids found last begun.start stand lawful may (λ rows. add_effect rows s) (λ _. tt) (Err fault) begun.call.0))
+    inr (s, document, inr (begun_leaves before begun.mid now begun.memory found last begun.start stand lawful may (λ rows. add_effect rows s) (λ _. tt) (Err fault) begun.call.0))
 add_leaves ending input out before now (inr (s, document, again, inr (inr (done, begun, wrote)))) lawful found last stand may =
-    inr (s, document, inr (begun_leaves before begun.mid now begun.ids found last begun.start stand lawful may (λ rows. add_effect rows s) (λ _. tt) (Ok done) begun.call.0))
+    inr (s, document, inr (begun_leaves before begun.mid now begun.memory found last begun.start stand lawful may (λ rows. add_effect rows s) (λ _. tt) (Ok done) begun.call.0))
 
 pub remove_leaves : RemoveLeaves
 remove_leaves u ending out before now (inl (is, unwritten, same)) lawful found last stand may = inl (same_store before now found last same stand may)
 remove_leaves u ending out before now (inr (inl (fault, start, is, unwritten))) lawful found last stand may = at_most (λ rows. end_effect rows u) found last (refused_start before now fault found last start stand may)
 remove_leaves u ending out before now (inr (inr (inl (fault, begun, is, unwritten)))) lawful found last stand may =
-    inr (begun_leaves before begun.mid now begun.ids found last begun.start stand lawful may (λ rows. end_effect rows u) (λ _. tt) (Err fault) begun.call.0)
+    inr (begun_leaves before begun.mid now begun.memory found last begun.start stand lawful may (λ rows. end_effect rows u) (λ _. tt) (Err fault) begun.call.0)
 remove_leaves u ending out before now (inr (inr (inr (done, begun, wrote)))) lawful found last stand may =
-    inr (begun_leaves before begun.mid now begun.ids found last begun.start stand lawful may (λ rows. end_effect rows u) (λ _. tt) (Ok done) begun.call.0)
+    inr (begun_leaves before begun.mid now begun.memory found last begun.start stand lawful may (λ rows. end_effect rows u) (λ _. tt) (Ok done) begun.call.0)
 
 pub readers_leave : ReadersLeave
 readers_leave = record {
   list = λ ending out before now ends. elim ends [
     | inl refused ↦ λ lawful found last stand may. refused_start before now refused.0 found last refused.1 stand may
     | inr behind ↦ elim behind [
-      | inl unread ↦ λ lawful found last stand may. inr (looked_leaves before unread.1.mid now unread.1.ids found last unread.1.start stand lawful may unread.1.call.0.opened.0)
-      | inr read ↦ λ lawful found last stand may. inr (looked_leaves before read.1.mid now read.1.ids found last read.1.start stand lawful may read.1.call.0.opened.0)
+      | inl unread ↦ λ lawful found last stand may. inr (looked_leaves before unread.1.mid now unread.1.memory found last unread.1.start stand lawful may unread.1.call.0.opened.0)
+      | inr read ↦ λ lawful found last stand may. inr (looked_leaves before read.1.mid now read.1.memory found last read.1.start stand lawful may read.1.call.0.opened.0)
     ]
   ];
   show = λ ending out before now ends. elim ends [
     | inl refused ↦ λ lawful found last stand may. refused_start before now refused.0 found last refused.1 stand may
     | inr behind ↦ elim behind [
-      | inl unread ↦ λ lawful found last stand may. inr (looked_leaves before unread.1.mid now unread.1.ids found last unread.1.start stand lawful may unread.1.call.0.opened.0)
-      | inr read ↦ λ lawful found last stand may. inr (looked_leaves before read.1.mid now read.1.ids found last read.1.start stand lawful may read.1.call.0.opened.0)
+      | inl unread ↦ λ lawful found last stand may. inr (looked_leaves before unread.1.mid now unread.1.memory found last unread.1.start stand lawful may unread.1.call.0.opened.0)
+      | inr read ↦ λ lawful found last stand may. inr (looked_leaves before read.1.mid now read.1.memory found last read.1.start stand lawful may read.1.call.0.opened.0)
     ]
   ];
   events = λ u s c ending out before now ends. elim ends [
     | inl undone ↦ λ lawful found last stand may. inl (same_store before now found last undone.2 stand may)
     | inr behind ↦ elim behind [
       | inl refused ↦ λ lawful found last stand may. refused_start before now refused.0 found last refused.1 stand may
-      | inr begun ↦ λ lawful found last stand may. inr (read_leaves before begun.mid now begun.ids found last begun.start stand lawful may begun.call.reads.0.2)
+      | inr begun ↦ λ lawful found last stand may. inr (read_leaves before begun.mid now begun.memory found last begun.start stand lawful may begun.call.reads.0.2)
     ]
   ];
 }

@@ -1,14 +1,14 @@
 -- How a command ends that makes one call of the collector, which is started first.
 use Rattle.std.specs.Prelude.{◌≡◌, ℕ, List, ◌⊎◌, Result, Ok, Err, IfErr}
 use Rattle.std.specs.Io.KnownBytes.{Appends}
-use Rattle.wef_collector.specs.Boots.{ids_begun}
+use Rattle.wef_collector.specs.Boots.{memory_begun}
 use Rattle.wef_collector.specs.Calls.{OfStart, boot_effect}
 use Rattle.wef_collector.specs.Judged.{JudgesStart}
 use Rattle.wef_collector_rows.specs.Faults.{collector_store}
 use Rattle.wef_collector_rows.specs.Forms.{AreFormed}
 use Rattle.wef_collector_rows.specs.declared.faults.CollectorFault.{CollectorFault}
 use Rattle.wef_collector_rows.specs.declared.faults.CollectorFault.TheVariants as faults
-use Rattle.wef_ids.specs.declared.ids.Ids.{Ids}
+use Rattle.wef_collector.specs.declared.memories.Memory.{Memory}
 use Rattle.wef_keeper.specs.Calls.{DoesWith, IsCall}
 use Rattle.wef_keeper.specs.Keeping.{IsLawful, Store}
 use Rattle.wef_commands.specs.Endings.{HasFailed, IsUnwritten, Told}
@@ -19,16 +19,16 @@ use Rattle.wef_commands.specs.declared.ending.Ending.TheVariants as ends
 
 -- what starting the collector does to its store: its boot number rises; the store has the laws of every keeper's; and the boot row
 -- that it has read is of its form, unless its store refuses it
-abbrev pub Starts : Result Ids CollectorFault → Store → Store → Type 0
+abbrev pub Starts : Result Memory CollectorFault → Store → Store → Type 0
 Starts done before now =
-    IsCall collector_store AreFormed boot_effect ids_begun done before now × IfErr done OfStart × IsLawful now
-    × DoesWith collector_store AreFormed boot_effect ids_begun (λ answer found after. JudgesStart answer found) done before now
+    IsCall collector_store AreFormed boot_effect memory_begun done before now × IfErr done OfStart × IsLawful now
+    × DoesWith collector_store AreFormed boot_effect memory_begun (λ answer found after. JudgesStart answer found) done before now
 
 -- A call of a collector that was started just before.
 pub record Started (Call : Store → Store → Type 0) (before now : Store) : Type 0 where
   pub mid : Store
-  pub ids : Ids
-  pub start : Starts (Ok ids) before mid
+  pub memory : Memory
+  pub start : Starts (Ok memory) before mid
   pub call : Call mid now
 
 -- the same of a call that names a subscription

@@ -2,7 +2,7 @@
 use Rattle.std.proofs.Common.{◌≡◌, inl, inr, ℕ, ◌+◌, ◌≤◌, true, List, [], ◌∷◌, ◌++◌, ap, sym, refl, subst, arith}
 use Rattle.std.specs.List.{AllByRecursion}
 use Rattle.std.specs.Prelude.{Option, Some, None, IfSome, Ok, Err}
-use Rattle.wef_collector.specs.Boots.{ids_begun}
+use Rattle.wef_collector.specs.Boots.{memory_begun}
 use Rattle.wef_collector.specs.Calls.{boot_effect}
 use Rattle.wef_collector.specs.Laws.{BookmarksRise}
 use Rattle.wef_collector_rows.specs.Faults.{collector_store}
@@ -24,7 +24,7 @@ use Rattle.wef_http.specs.declared.messages.HttpRequest.{HttpRequest}
 use Rattle.wef_http_heads.specs.declared.answers.Answer.{Answer}
 use Rattle.wef_http_heads.specs.declared.targets.Side.{Side}
 use Rattle.wef_http_heads.specs.declared.targets.Side.TheVariants.{Collector}
-use Rattle.wef_ids.specs.declared.ids.Ids.{Ids}
+use Rattle.wef_collector.specs.declared.memories.Memory.{Memory}
 use Rattle.wef_keeper.proofs.Going.{calm_rows, goes_over, which_found}
 use Rattle.wef_keeper.specs.Calls.{Did, GoesOver}
 use Rattle.wef_keeper.specs.Keeping.{IsOneOf, MayFind, Store, WhereTold}
@@ -246,32 +246,32 @@ still_found before now last same may = by before.images (subst (λ (store : Stor
 not_started : (ending : Ending) (out : Told) (f g : ports.Told) (before now : Store) (fault : CollectorFault) → Starts (Err fault) before now → ending ≡ store_ending fault → IsUnwritten out → g ≡ f
     → (found last : Rows) → Stand before found → MayFind now last → IsNotStarted ending out f g found last
 not_started ending out f g before now fault start is unwritten same found last stand may =
-    let back = which_found (λ rows. GoesOver collector_store boot_effect ids_begun (Err fault) rows last) before.images
-    (goes_over collector_store AreFormed boot_effect ids_begun before now last (Err fault) start.0 start.2 may) in
-    (unwritten, same, inr (fault, is, start.1, subst (λ (rows : Rows). GoesOver collector_store boot_effect ids_begun (Err fault) rows last) (only_found before found back.0 stand back.1) back.2))
+    let back = which_found (λ rows. GoesOver collector_store boot_effect memory_begun (Err fault) rows last) before.images
+    (goes_over collector_store AreFormed boot_effect memory_begun before now last (Err fault) start.0 start.2 may) in
+    (unwritten, same, inr (fault, is, start.1, subst (λ (rows : Rows). GoesOver collector_store boot_effect memory_begun (Err fault) rows last) (only_found before found back.0 stand back.1) back.2))
 
 -- rows of their form are so behind a start
-pub good_start : (before mid : Store) (ids : Ids) (found : Rows) → Starts (Ok ids) before mid → Stand before found → AreFormed found → AreGood mid
-good_start before mid ids found start stand formed =
+pub good_start : (before mid : Store) (memory : Memory) (found : Rows) → Starts (Ok memory) before mid → Stand before found → AreFormed found → AreGood mid
+good_start before mid memory found start stand formed =
     let stays = subst (λ (o : Option (List Rows)). IfSome o (λ old. AllByRecursion AreFormed old → IfSome mid.images (AllByRecursion AreFormed))) (image_of before found stand) start.0.formed in
     stays (formed, tt)
 
-was_started : (address : List ℕ) (count : ℕ) (ending : Ending) (out : Told) (clock : Option ℕ) (f g : ports.Told) (before mid now : Store) (ids ids_now : Ids) → Starts (Ok ids) before mid
-    → ListeningEnds clock address count ending out f (record { store = mid; ids = ids }) g (record { store = now; ids = ids_now })
+was_started : (address : List ℕ) (count : ℕ) (ending : Ending) (out : Told) (clock : Option ℕ) (f g : ports.Told) (before mid now : Store) (memory memory_now : Memory) → Starts (Ok memory) before mid
+    → ListeningEnds clock address count ending out f (record { store = mid; memory = memory }) g (record { store = now; memory = memory_now })
     → (found last : Rows) → Stand before found → MayFind now last → IsStarted address count ending out clock f g before now found last
-was_started address count ending out clock f g before mid now ids ids_now start listens found last stand may =
-    let back = listening_back clock last address count ending out f g (record { store = mid; ids = ids }) (record { store = now; ids = ids_now }) listens start.0.ready.0 may in
+was_started address count ending out clock f g before mid now memory memory_now start listens found last stand may =
+    let back = listening_back clock last address count ending out f g (record { store = mid; memory = memory }) (record { store = now; memory = memory_now }) listens start.0.ready.0 may in
     let told : mid.rows ≡ Some back.first = calm_rows mid.rows mid.images back.first start.2.both (start.2.only start.0.ready.1) back.found in
-    let rows : back.first ≡ started found = started_so before mid ids found back.first start stand told in
-    let did = from_one before mid found back.first (Did collector_store AreFormed boot_effect ids_begun (Ok ids) before mid) stand told start.0.did in
-    let kept : kept_of back.first (record { store = mid; ids = ids }) 0 ≡ begun found = λ i. record { rows = rows i; ids = did.answer.1 i; errors = 0 } in
+    let rows : back.first ≡ started found = started_so before mid memory found back.first start stand told in
+    let did = from_one before mid found back.first (Did collector_store AreFormed boot_effect memory_begun (Ok memory) before mid) stand told start.0.did in
+    let kept : kept_of back.first (record { store = mid; memory = memory }) 0 ≡ begun found = λ i. record { rows = rows i; memory = did.answer.1 i; errors = 0 } in
     record {
-      ids = ids_now;
+      memory = memory_now;
       errors = back.errors;
-      listens = subst (λ (k : Kept). ListeningEndsBy (AreServedBy last clock) address count ending out f k g (record { rows = last; ids = ids_now; errors = back.errors })) kept back.ends;
+      listens = subst (λ (k : Kept). ListeningEndsBy (AreServedBy last clock) address count ending out f k g (record { rows = last; memory = memory_now; errors = back.errors })) kept back.ends;
       counted = λ formed below.
           let later : before.faults ≤ mid.faults = start.0.faults in
-          let since : mid.faults + back.errors ≤ now.faults = back.counts.counted (good_start before mid ids found start stand formed) below in
+          let since : mid.faults + back.errors ≤ now.faults = back.counts.counted (good_start before mid memory found start stand formed) below in
           omega (arith, later, since);
     }
 
@@ -280,5 +280,5 @@ collects_by_rows address count ending out clock f g before now (inl ((is, unwrit
     inl (unwritten, front, inl (is, only_found before found last stand (still_found before now last same may)))
 collects_by_rows address count ending out clock f g before now (inr (inl (fault, start, is, unwritten, same))) = λ found last stand may.
     inl (not_started ending out f g before now fault start is unwritten same found last stand may)
-collects_by_rows address count ending out clock f g before now (inr (inr (mid, ids, ids_now, start, listens))) = λ found last stand may.
-    inr (was_started address count ending out clock f g before mid now ids ids_now start listens found last stand may)
+collects_by_rows address count ending out clock f g before now (inr (inr (mid, memory, memory_now, start, listens))) = λ found last stand may.
+    inr (was_started address count ending out clock f g before mid now memory memory_now start listens found last stand may)

@@ -7,7 +7,7 @@ use Rattle.std.specs.List.{AllByRecursion}
 use Rattle.std.specs.Option.{option_map}
 use Rattle.std.specs.Prelude.{Option, Some, None, Ok, is_some, min, unwrap_or}
 use Rattle.wef_base.specs.Counts.{Rose}
-use Rattle.wef_collector.specs.Boots.{boot_of, ids_begun}
+use Rattle.wef_collector.specs.Boots.{boot_of, memory_begun}
 use Rattle.wef_collector.specs.Calls.{boot_effect}
 use Rattle.wef_collector.specs.Taken.{put}
 use Rattle.wef_collector_rows.specs.Faults.{collector_store}
@@ -27,8 +27,8 @@ use Rattle.wef_commands.specs.Refusals.{store_ending}
 use Rattle.wef_commands.specs.declared.ending.Ending.TheVariants as ends
 use Rattle.wef_connections.specs.Opening.{first_of, next_connection, sent_in_each, with_address, with_last}
 use Rattle.wef_http_heads.specs.declared.targets.Side.TheVariants.{Collector}
-use Rattle.wef_ids.specs.Ids.{ids_of_boot}
-use Rattle.wef_ids.specs.declared.ids.Ids.{Ids}
+use Rattle.wef_collector.specs.Memories.{start_of}
+use Rattle.wef_collector.specs.declared.memories.Memory.{Memory}
 use Rattle.wef_keeper.proofs.Going.{calm_rows}
 use Rattle.wef_keeper.specs.Calls.{Did}
 use Rattle.wef_keeper.specs.Keeping.{Store}
@@ -177,8 +177,8 @@ module _ (clock other : Option ℕ) (final last : Rows) where
   chained : (e : ConnectionEnd) (es : List ConnectionEnd) (d : ConnectionEnd) (ds : List ConnectionEnd) (waiting earlier before : List (List ℕ)) (f h g f' h' g' : ports.Told) (k mid l n mid' m : Kept)
       (first : IsChain clock final waiting earlier f k (e ∷ es) g l) (second : IsChain other last waiting before f' n (d ∷ ds) g' m)
       (is : IsServedBy final clock f k h mid e) (more : AreServedBy final clock h mid es g l) (is' : IsServedBy last other f' n h' mid' d) (more' : AreServedBy last other h' mid' ds g' m)
-      → AreAlike k.rows n.rows → k.ids ≡ n.ids
-      → (AreAlike mid.rows mid'.rows → mid.ids ≡ mid'.ids
+      → AreAlike k.rows n.rows → k.memory ≡ n.memory
+      → (AreAlike mid.rows mid'.rows → mid.memory ≡ mid'.memory
       → ChainsAlike (drop 1 waiting) (earlier ++ sent_first clock final waiting earlier f h g k mid l e es first is more ∷ []) (before ++ sent_first other last waiting before f' h' g' n mid' m d ds second is' more' ∷ []) es ds g g' l m)
       → ChainsAlike waiting earlier before (e ∷ es) (d ∷ ds) g g' l m
   chained e es d ds waiting earlier before f h g f' h' g' k mid l n mid' m first second is more is' more' alike drawn goes_on =
@@ -188,7 +188,7 @@ module _ (clock other : Option ℕ) (final last : Rows) where
       (record { serves = one.2; whole = unbroken e first.tellable.0 first.unfailed.0; calm = calm_first clock final waiting earlier f h g k mid l e es first is more })
       (record { serves = two.2; whole = unbroken d second.tellable.0 second.unfailed.0; calm = calm_first other last waiting before f' h' g' n mid' m d ds second is' more' })
       alike drawn in
-      let then_on = goes_on here.rows here.ids in
+      let then_on = goes_on here.rows here.memory in
       record {
         ones = record { sent = one.0; end = e } ∷ then_on.ones;
         others = record { sent = two.0; end = d } ∷ then_on.others;
@@ -199,7 +199,7 @@ module _ (clock other : Option ℕ) (final last : Rows) where
       }
 
   chains_alike : (es ds : List ConnectionEnd) (waiting earlier before : List (List ℕ)) (f g f' g' : ports.Told) (k l n m : Kept) → length es ≡ length ds → IsChain clock final waiting earlier f k es g l → IsChain other last waiting before f' n ds g' m
-      → AreAlike k.rows n.rows → k.ids ≡ n.ids → ChainsAlike waiting earlier before es ds g g' l m
+      → AreAlike k.rows n.rows → k.memory ≡ n.memory → ChainsAlike waiting earlier before es ds g g' l m
   chains_alike [] [] waiting earlier before f g f' g' k l n m long first second alike drawn =
       let one = begins first.served in
       let two = begins second.served in
@@ -257,28 +257,28 @@ never_done Failed is = cc
 never_done Full is = cc
 
 module _ (address : List ℕ) (count : ℕ) (waiting earlier : List (List ℕ)) (run : Run) (well : IsDoneWell address count waiting earlier run) where
-  run_served : (mid : Store) (ids ids_now : Ids) → Starts (Ok ids) run.store mid → (es : List ConnectionEnd) → length es ≡ count
-      → AreTold (AreServed run.clock) (listening_line address) run.out (with_address address run.front) (record { store = mid; ids = ids }) es run.front_then (record { store = run.store_then; ids = ids_now })
+  run_served : (mid : Store) (memory memory_now : Memory) → Starts (Ok memory) run.store mid → (es : List ConnectionEnd) → length es ≡ count
+      → AreTold (AreServed run.clock) (listening_line address) run.out (with_address address run.front) (record { store = mid; memory = memory }) es run.front_then (record { store = run.store_then; memory = memory_now })
       → IsRunOver address count waiting earlier run
-  run_served mid ids ids_now start es long are =
+  run_served mid memory memory_now start es long are =
       let back = all_back run.last run.clock are.served start.0.ready.0 run.last well.behind (λ u s c. omega arith) in
       let told : mid.rows ≡ Some back.first = calm_rows mid.rows mid.images back.first start.2.both (start.2.only start.0.ready.1) back.found in
-      let rows : back.first ≡ started run.found = started_so run.store mid ids run.found back.first start well.stand told in
-      let did = from_one run.store mid run.found back.first (Did collector_store AreFormed boot_effect ids_begun (Ok ids) run.store mid) well.stand told start.0.did in
-      let kept : kept_of back.first (record { store = mid; ids = ids }) 0 ≡ begun run.found = λ i. record { rows = rows i; ids = did.answer.1 i; errors = 0 } in
+      let rows : back.first ≡ started run.found = started_so run.store mid memory run.found back.first start well.stand told in
+      let did = from_one run.store mid run.found back.first (Did collector_store AreFormed boot_effect memory_begun (Ok memory) run.store mid) well.stand told start.0.did in
+      let kept : kept_of back.first (record { store = mid; memory = memory }) 0 ≡ begun run.found = λ i. record { rows = rows i; memory = did.answer.1 i; errors = 0 } in
       let stayed = unrisen run.store.faults run.store_then.faults well.calm in
       let later : run.store.faults ≤ mid.faults = start.0.faults in
-      let since : mid.faults + back.errors ≤ run.store_then.faults = back.counts.counted (good_start run.store mid ids run.found start well.stand well.formed) stayed.1 in
+      let since : mid.faults + back.errors ≤ run.store_then.faults = back.counts.counted (good_start run.store mid memory run.found start well.stand well.formed) stayed.1 in
       let most : run.store_then.faults ≤ run.store.faults = stayed.0 in
       let none : back.errors + 0 ≡ 0 = omega (arith, later, since, most) in
       record {
         es = es;
         long = long;
         lines = are.lines;
-        kept = kept_of run.last (record { store = run.store_then; ids = ids_now }) (back.errors + 0);
+        kept = kept_of run.last (record { store = run.store_then; memory = memory_now }) (back.errors + 0);
         kept_rows = refl;
         chain = record {
-          served = subst (λ (k : Kept). AreServedBy run.last run.clock (with_address address run.front) k es run.front_then (kept_of run.last (record { store = run.store_then; ids = ids_now }) (back.errors + 0))) kept (back.served 0);
+          served = subst (λ (k : Kept). AreServedBy run.last run.clock (with_address address run.front) k es run.front_then (kept_of run.last (record { store = run.store_then; memory = memory_now }) (back.errors + 0))) kept (back.served 0);
           tells = record { coming = well.tells.coming; sent = well.tells.sent; sending = well.tells.sending };
           tellable = are.tellable;
           unfailed = none_failed are.served well.whole;
@@ -286,16 +286,16 @@ module _ (address : List ℕ) (count : ℕ) (waiting earlier : List (List ℕ)) 
         };
       }
 
-  run_listens : (mid : Store) (ids ids_now : Ids) → Starts (Ok ids) run.store mid
-      → ListeningEnds run.clock address count ends.Done run.out run.front (record { store = mid; ids = ids }) run.front_then (record { store = run.store_then; ids = ids_now }) → IsRunOver address count waiting earlier run
-  run_listens mid ids ids_now start (inl (is, refused, unwritten, same)) = let bad : ends.Done ≡ ends.ListeningFailed = is in cc
-  run_listens mid ids ids_now start (inr (inl (is, failed, part, front, same))) = let bad : ends.Done ≡ ends.OutputFailed = is in cc
-  run_listens mid ids ids_now start (inr (inr (es, long, are))) = run_served mid ids ids_now start es long are
+  run_listens : (mid : Store) (memory memory_now : Memory) → Starts (Ok memory) run.store mid
+      → ListeningEnds run.clock address count ends.Done run.out run.front (record { store = mid; memory = memory }) run.front_then (record { store = run.store_then; memory = memory_now }) → IsRunOver address count waiting earlier run
+  run_listens mid memory memory_now start (inl (is, refused, unwritten, same)) = let bad : ends.Done ≡ ends.ListeningFailed = is in cc
+  run_listens mid memory memory_now start (inr (inl (is, failed, part, front, same))) = let bad : ends.Done ≡ ends.OutputFailed = is in cc
+  run_listens mid memory memory_now start (inr (inr (es, long, are))) = run_served mid memory memory_now start es long are
 
   run_over : CollectEnds address count ends.Done run.out run.clock run.front run.front_then run.store run.store_then → IsRunOver address count waiting earlier run
   run_over (inl ((is, unwritten, same), front)) = let bad : ends.Done ≡ ends.NoMemory = is in cc
   run_over (inr (inl (fault, start, is, unwritten, same))) = absurd (never_done fault is)
-  run_over (inr (inr (mid, ids, ids_now, start, listens))) = run_listens mid ids ids_now start listens
+  run_over (inr (inr (mid, memory, memory_now, start, listens))) = run_listens mid memory memory_now start listens
 
 -- rows that are alike are so once the collector was started over them
 same_boot : (rows other : Rows) → AreAlike rows other → boot_of rows ≡ boot_of other
@@ -319,7 +319,7 @@ collects_alike address count waiting earlier before one other well well_too alik
     let second = run_over address count waiting before other well_too well_too.done in
     let both = chains_alike one.clock other.clock one.last other.last first.es second.es waiting earlier before (with_address address one.front) one.front_then (with_address address other.front) other.front_then
     (begun one.found) first.kept (begun other.found) second.kept (first.long ∙ sym second.long) first.chain second.chain (alike_started one.found other.found alike)
-    (ap (λ (boot : ℕ). ids_of_boot (boot + 1)) (same_boot one.found other.found alike)) in
+    (ap (λ (boot : ℕ). start_of (boot + 1)) (same_boot one.found other.found alike)) in
     record {
       ones = both.ones;
       others = both.others;

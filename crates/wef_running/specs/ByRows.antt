@@ -2,7 +2,7 @@
 -- The first part is of `collect`.
 use Rattle.std.specs.Prelude.{◌≡◌, ◌⊎◌, ℕ, ◌+◌, ◌<◌, ◌≤◌, List, [], ◌∷◌, Option, Some, Err}
 use Rattle.wef_base.specs.Counts.{Rose}
-use Rattle.wef_collector.specs.Boots.{ids_begun}
+use Rattle.wef_collector.specs.Boots.{memory_begun}
 use Rattle.wef_collector.specs.Calls.{OfStart, boot_effect}
 use Rattle.wef_collector_rows.specs.Faults.{collector_store}
 use Rattle.wef_collector_rows.specs.Forms.{AreFormed}
@@ -16,7 +16,7 @@ use Rattle.wef_commands.specs.declared.ending.Ending.TheVariants as ends
 use Rattle.wef_commands.specs.declared.writing.TheConstants.{LOG_CAPACITY}
 use Rattle.wef_connections.specs.Opening.{next_connection}
 use Rattle.wef_http_heads.specs.declared.targets.Side.TheVariants.{Collector}
-use Rattle.wef_ids.specs.declared.ids.Ids.{Ids}
+use Rattle.wef_collector.specs.declared.memories.Memory.{Memory}
 use Rattle.wef_keeper.specs.Calls.{GoesOver}
 use Rattle.wef_keeper.specs.Keeping.{MayFind, Store}
 use Rattle.wef_keeper.specs.Rows.{Rows}
@@ -53,18 +53,18 @@ abbrev pub IsNotStarted : Ending → Told → ports.Told → ports.Told → Rows
 IsNotStarted ending out f g found last =
     IsUnwritten out × (g ≡ f)
     × (((ending ≡ ends.NoMemory) × (last ≡ found))
-    ⊎ ((fault : CollectorFault) × (ending ≡ store_ending fault) × OfStart fault × GoesOver collector_store boot_effect ids_begun (Err fault) found last))
+    ⊎ ((fault : CollectorFault) × (ending ≡ store_ending fault) × OfStart fault × GoesOver collector_store boot_effect memory_begun (Err fault) found last))
 
 -- what is kept of a collector that was just started over rows
 abbrev pub begun : Rows → Kept
-begun found = record { rows = started found; ids = ids_begun found; errors = 0 }
+begun found = record { rows = started found; memory = memory_begun found; errors = 0 }
 
 -- The collector was started, and connections were served over the rows then; all that ends it is said as without rows. Over rows of
 -- their form its answers say that the store failed no more often than its faults were counted, as far as these can be.
 pub record IsStarted (address : List ℕ) (count : ℕ) (ending : Ending) (out : Told) (clock : Option ℕ) (f g : ports.Told) (before now : Store) (found last : Rows) : Type 0 where
-  pub ids : Ids
+  pub memory : Memory
   pub errors : ℕ
-  pub listens : ListeningEndsBy (AreServedBy last clock) address count ending out f (begun found) g (record { rows = last; ids = ids; errors = errors })
+  pub listens : ListeningEndsBy (AreServedBy last clock) address count ending out f (begun found) g (record { rows = last; memory = memory; errors = errors })
   pub counted : AreFormed found → now.faults < 18446744073709551615 → before.faults + errors ≤ now.faults
 
 -- What `collect` does to rows: an opening finds the last ones behind it.

@@ -8,7 +8,7 @@ use Rattle.wef_base.specs.Counts.{Rose}
 use Rattle.wef_collector_rows.specs.declared.faults.CollectorFault.{CollectorFault}
 use Rattle.wef_collector_serving.specs.Answers.{AnswersInTurn, EndsConnection, KnownCollector}
 use Rattle.wef_connections.specs.Opening.{OnlyFails, Rises, next_connection, with_address}
-use Rattle.wef_ids.specs.declared.ids.Ids.{Ids}
+use Rattle.wef_collector.specs.declared.memories.Memory.{Memory}
 use Rattle.wef_keeper.specs.Keeping.{Store}
 use Rattle.wef_ports.specs.Telling as ports
 use Rattle.wef_serving.specs.declared.ends.ConnectionEnd.{ConnectionEnd}
@@ -148,5 +148,5 @@ abbrev pub CollectEnds : List ℕ → ℕ → Ending → Told → Option ℕ →
 CollectEnds address count ending out clock f g before now =
     (IsUndone ending out before now × (g ≡ f))
     ⊎ (((fault : CollectorFault) × Starts (Err fault) before now × (ending ≡ store_ending fault) × IsUnwritten out × (g ≡ f))
-    ⊎ ((mid : Store) × (ids ids_now : Ids) × Starts (Ok ids) before mid
-    × ListeningEnds clock address count ending out f (record { store = mid; ids = ids }) g (record { store = now; ids = ids_now })))
+    ⊎ ((mid : Store) × (memory memory_now : Memory) × Starts (Ok memory) before mid
+    × ListeningEnds clock address count ending out f (record { store = mid; memory = memory }) g (record { store = now; memory = memory_now })))
