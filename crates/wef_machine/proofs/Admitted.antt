@@ -12,7 +12,7 @@ use Rattle.wef_event.specs.Events.{Event}
 use Rattle.wef_event.specs.Unnumbered.{new_event}
 use Rattle.wef_keeper.specs.Calls.{Effect}
 use Rattle.wef_collector.specs.Calls.{add_effect, end_effect}
-use Rattle.wef_ids.specs.declared.ids.Ids.{Ids}
+use Rattle.wef_collector.specs.declared.memories.Memory.{Memory}
 use Rattle.wef_query.specs.Order.{with_name}
 use Rattle.wef_replay_values.specs.declared.end_name.EndName.{EndName}
 use Rattle.wef_replay_values.specs.declared.end_name.EndName.TheVariants as ends
@@ -77,11 +77,11 @@ same_either old true x y hx hy = hx
 same_either old false x y hx hy = hy
 
 -- what is done at the collector declares nothing
-same_at_collector : (state : State) (change : Ids → State → State) → ((ids : Ids) (now : State) → HasSameSources now (change ids now)) → HasSameSources state (at_collector state change)
+same_at_collector : (state : State) (change : Memory → State → State) → ((memory : Memory) (now : State) → HasSameSources now (change memory now)) → HasSameSources state (at_collector state change)
 same_at_collector state change h =
     let opened_same = same_collector state state _ (same_itself state) in
     at_collector_any state change (HasSameSources state) opened_same
-    (λ ids runs. same_both state (collecting.with_opened state) (change ids (collecting.with_opened state)) opened_same (h ids (collecting.with_opened state)))
+    (λ memory runs. same_both state (collecting.with_opened state) (change memory (collecting.with_opened state)) opened_same (h memory (collecting.with_opened state)))
 
 same_reply : (old new : State) (count : ℕ) (message : Message) → HasSameSources old new → HasSameSources old (with_reply count new message)
 same_reply old new count message h = record { declared = h.declared; foreign = h.foreign }
@@ -127,10 +127,10 @@ keeps_poll s u now slot end there = by (session_of end.sessions u)
         (same_either now (machine.is_spent end) _ _ (same_itself now) (same_message now _ _ (same_slot now s slot _ there))))
 
 same_taken : (state : State) (message : Message) → HasSameSources state (taken_by state message)
-same_taken state (sent.Ask s id) = same_at_collector state (offers_at s id) (λ ids now. same_reply now now _ _ (same_itself now))
+same_taken state (sent.Ask s id) = same_at_collector state (offers_at s id) (λ memory now. same_reply now now _ _ (same_itself now))
 same_taken state (sent.Offers s id relates given) = same_at_source state s _ (keeps_end s (λ end. after_offers end relates given state.moment))
 same_taken state (sent.Events s delivery) =
-    same_at_collector state (events_at s delivery) (λ ids now. same_answer now _ (answer_with now (delivery_effect now.collector.rows delivery now.moment) s (reply_id ids) delivery)
+    same_at_collector state (events_at s delivery) (λ memory now. same_answer now _ (answer_with now (delivery_effect now.collector.rows delivery now.moment) s (reply_id memory) delivery)
     (same_collector now now _ (same_itself now)))
 same_taken state (sent.Ack s id relates) = same_at_source state s _ (keeps_end s (λ end. after_ack end relates))
 same_taken state (sent.Fault s id relates fault) = same_at_source state s _ (keeps_end s (λ end. after_fault end relates fault))
@@ -200,18 +200,18 @@ leaves_names : (line : Line) (state : State) (names : Names) → AreAlike (names
 leaves_names (Source s capacity) state names alike = record { declared = one_declared state names s _ alike; foreign = alike.foreign }
 leaves_names (Batch u s b) state names alike =
     same_names (with_foreign state s) (step (Batch u s b) state) (noted (Batch u s b) names)
-    (same_at_collector (with_foreign state s) (λ ids. batch_at u s b) (λ ids now. same_collector now now _ (same_itself now)))
+    (same_at_collector (with_foreign state s) (λ memory. batch_at u s b) (λ memory now. same_collector now now _ (same_itself now)))
     (record {
       declared = alike.declared;
       foreign = λ q. one_foreign state.foreign s q ∙ ap (λ (t : Bool). same q s || t) (alike.foreign q);
     })
 leaves_names (Subscribe u items bytes beat query) state names alike =
     same_names state (step (Subscribe u items bytes beat query) state) names
-    (same_at_collector state (λ ids. subscribe_at (subscription_of u items bytes beat query))
-    (λ ids now. same_collector now now (after_call now.collector (add_effect now.collector.rows (subscription_of u items bytes beat query))) (same_itself now))) alike
+    (same_at_collector state (λ memory. subscribe_at (subscription_of u items bytes beat query))
+    (λ memory now. same_collector now now (after_call now.collector (add_effect now.collector.rows (subscription_of u items bytes beat query))) (same_itself now))) alike
 leaves_names (End u) state names alike =
     same_names state (step (End u) state) names
-    (same_at_collector state (λ ids. ended_at u) (λ ids now. same_collector now now (after_call now.collector (end_effect now.collector.rows u)) (same_itself now))) alike
+    (same_at_collector state (λ memory. ended_at u) (λ memory now. same_collector now now (after_call now.collector (end_effect now.collector.rows u)) (same_itself now))) alike
 leaves_names (Write s plain) state names alike = same_names state (step (Write s plain) state) names (same_at_source state s (write_at s (new_event plain)) (keeps_write s (new_event plain))) alike
 leaves_names (WriteXml s event) state names alike = same_names state (step (WriteXml s event) state) names (same_at_source state s (write_at s event) (keeps_write s event)) alike
 leaves_names (Ask s) state names alike = same_names state (step (Ask s) state) names (same_at_source state s (ask_at s) (keeps_ask s)) alike
@@ -223,8 +223,8 @@ leaves_names (Crash end) state names alike = same_names state (step (Crash end) 
 leaves_names (Fail end after) state names alike = same_names state (step (Fail end after) state) names (same_armed state end _) alike
 leaves_names (Stop end after) state names alike = same_names state (step (Stop end after) state) names (same_armed state end _) alike
 leaves_names Calm state names alike = same_names state (step Calm state) names (same_calm state) alike
-leaves_names Show state names alike = same_names state (step Show state) names (same_at_collector state (λ ids. unchanged) (λ ids now. same_itself now)) alike
-leaves_names (Print u s c) state names alike = same_names state (step (Print u s c) state) names (same_at_collector state (λ ids. unchanged) (λ ids now. same_itself now)) alike
+leaves_names Show state names alike = same_names state (step Show state) names (same_at_collector state (λ memory. unchanged) (λ memory now. same_itself now)) alike
+leaves_names (Print u s c) state names alike = same_names state (step (Print u s c) state) names (same_at_collector state (λ memory. unchanged) (λ memory now. same_itself now)) alike
 
 -- ---- so each good line is admitted
 

@@ -12,7 +12,7 @@ use Rattle.wef_batch.specs.WellFormed.{is_in, is_well_formed}
 use Rattle.wef_batch.specs.declared.items.Batch.{Batch}
 use Rattle.wef_bookmark.specs.Order.{number_at}
 use Rattle.wef_collector.proofs.Hits.{not_both, one_name, same_self}
-use Rattle.wef_collector.specs.Boots.{boot_of}
+use Rattle.wef_collector.specs.Boots.{boot_of, memory_begun}
 use Rattle.wef_collector_rows.specs.Bookmarks.{bookmark_at, bookmark_of, has_channel, raised_by_rows}
 use Rattle.wef_collector_rows.specs.Answers.{added_rows, channels_read, ended_rows, is_there}
 use Rattle.wef_collector.specs.Calls.{Effect, boot_effect, end_by}
@@ -22,11 +22,10 @@ use Rattle.wef_collector.specs.Taken.{batch_changes, put, taken}
 use Rattle.wef_collector_rows.specs.declared.faults.CollectorFault.TheVariants as faults
 use Rattle.wef_collector_rows.specs.declared.standings.Standing as state_of
 use Rattle.wef_collector_rows.specs.declared.standings.Standing.TheVariants as stands
-use Rattle.wef_ids.specs.Ids.{ids_of_boot}
 use Rattle.wef_ids.specs.declared.FaultName.{FaultName}
 use Rattle.wef_ids.specs.declared.FaultName.TheVariants.{InvalidMessage, DestinationUnreachable, InternalError}
 use Rattle.wef_ids.specs.declared.MessageId.{MessageId}
-use Rattle.wef_ids.specs.declared.ids.Ids.{Ids}
+use Rattle.wef_collector.specs.declared.memories.Memory.{Memory}
 use Rattle.wef_documents.specs.Kept.{read_kept}
 use Rattle.wef_documents.specs.Written.{document_text}
 use Rattle.wef_eventing.specs.declared.subscriptions.Subscription.{Subscription}
@@ -106,19 +105,19 @@ booted_kept lower state kept room =
     (subst (λ (o : Option Subscription). IsPairKept state.collector.rows u s c o (slot_of state s)) (sym (subscription_by_booting state.collector.rows cell u)) (kept.pairs u s c apart)))
     kept.apart (keys_by_booting state.collector.rows cell kept.keys) (lower.formed_booted state.collector.rows room kept.formed)
 
-starts_kept : Lower → (state : State) (ids : Ids) → IsKept state → IsKept (with_collector state (starts state.collector ids (boot_effect state.collector.rows)))
-starts_kept lower state ids kept =
+starts_kept : Lower → (state : State) (memory : Memory) → IsKept state → IsKept (with_collector state (starts state.collector memory (boot_effect state.collector.rows)))
+starts_kept lower state memory kept =
     cond_both (nat_lt (boot_of state.collector.rows) 9223372036854775807) (Ok (put boot_key (boot_of state.collector.rows + 1) [] ∷ [])) (Err faults.Full)
-    (λ (effect : Effect). IsKept (with_collector state (starts state.collector ids effect)))
+    (λ (effect : Effect). IsKept (with_collector state (starts state.collector memory effect)))
     (λ room. called_kept state (put boot_key (boot_of state.collector.rows + 1) [] ∷ []) kept (booted_kept lower state kept room)) (λ full. kept)
 
 pub opened_kept : Lower → (state : State) → IsKept state → IsKept (with_opened state)
 opened_kept lower state kept = by_memory state.collector.memory
   where
-    by_memory : (memory : Option Ids) →
-        IsKept (with_collector state (opened_by state.collector (ids_of_boot (boot_of state.collector.rows + 1)) (boot_effect state.collector.rows) memory))
-    by_memory None = starts_kept lower state (ids_of_boot (boot_of state.collector.rows + 1)) kept
-    by_memory (Some ids) = kept
+    by_memory : (memory : Option Memory) →
+        IsKept (with_collector state (opened_by state.collector (memory_begun state.collector.rows) (boot_effect state.collector.rows) memory))
+    by_memory None = starts_kept lower state (memory_begun state.collector.rows) kept
+    by_memory (Some memory) = kept
 
 -- a boot number says nothing of a bookmark
 bookmark_by_booting : (rows : Rows) (cell : Cell) (u s : List ℕ) → bookmark_of (finite.insert rows boot_key cell) u s ≡ bookmark_of rows u s
@@ -135,14 +134,14 @@ bookmark_by_booting rows cell u s =
 pub opened_bookmark : (state : State) (u s : List ℕ) → bookmark_of (with_opened state).collector.rows u s ≡ bookmark_of state.collector.rows u s
 opened_bookmark state u s = by_memory state.collector.memory
   where
-    by_memory : (memory : Option Ids) →
-        bookmark_of (opened_by state.collector (ids_of_boot (boot_of state.collector.rows + 1)) (boot_effect state.collector.rows) memory).rows u s ≡ bookmark_of state.collector.rows u s
+    by_memory : (memory : Option Memory) →
+        bookmark_of (opened_by state.collector (memory_begun state.collector.rows) (boot_effect state.collector.rows) memory).rows u s ≡ bookmark_of state.collector.rows u s
     by_memory None =
         cond_both (nat_lt (boot_of state.collector.rows) 9223372036854775807) (Ok (put boot_key (boot_of state.collector.rows + 1) [] ∷ [])) (Err faults.Full)
-        (λ (effect : Effect). bookmark_of (starts state.collector (ids_of_boot (boot_of state.collector.rows + 1)) effect).rows u s ≡ bookmark_of state.collector.rows u s)
+        (λ (effect : Effect). bookmark_of (starts state.collector (memory_begun state.collector.rows) effect).rows u s ≡ bookmark_of state.collector.rows u s)
         (λ room. committed_both (λ (rows : Rows). bookmark_of rows u s ≡ bookmark_of state.collector.rows u s) state.collector.armed (put boot_key (boot_of state.collector.rows + 1) [] ∷ [])
         state.collector.rows refl (bookmark_by_booting state.collector.rows (record { value = boot_of state.collector.rows + 1; body = [] }) u s)) (λ full. refl)
-    by_memory (Some ids) = refl
+    by_memory (Some memory) = refl
 
 -- What an opening leaves as it is.
 pub record IsOpened (before after : State) : Type 0 where
@@ -151,20 +150,20 @@ pub record IsOpened (before after : State) : Type 0 where
   pub messages : after.messages ≡ before.messages
 
 -- what holds of the opened collector, and of what a line does there, holds of what the line does
-pub at_collector_any : (state : State) (change : Ids → State → State) (Q : State → Type 0) → Q (with_opened state) →
-    ((ids : Ids) → (with_opened state).collector.memory ≡ Some ids → Q (change ids (with_opened state))) → Q (at_collector state change)
+pub at_collector_any : (state : State) (change : Memory → State → State) (Q : State → Type 0) → Q (with_opened state) →
+    ((memory : Memory) → (with_opened state).collector.memory ≡ Some memory → Q (change memory (with_opened state))) → Q (at_collector state change)
 at_collector_any state change Q closed done = by_memory (collector_opened state.collector).memory refl
   where
-    by_memory : (memory : Option Ids) → (collector_opened state.collector).memory ≡ memory → Q (where_runs (with_opened state) memory change)
+    by_memory : (memory : Option Memory) → (collector_opened state.collector).memory ≡ memory → Q (where_runs (with_opened state) memory change)
     by_memory None runs = closed
-    by_memory (Some ids) runs = done ids runs
+    by_memory (Some memory) runs = done memory runs
 
 -- what a line does at the collector keeps all where it does so once the collector is open
-pub at_collector_keeps : Lower → (state : State) (change : Ids → State → State) → IsKept state →
-    ((now : State) (ids : Ids) → IsKept now → IsOpened state now → IsKept (change ids now)) → IsKept (at_collector state change)
+pub at_collector_keeps : Lower → (state : State) (change : Memory → State → State) → IsKept state →
+    ((now : State) (memory : Memory) → IsKept now → IsOpened state now → IsKept (change memory now)) → IsKept (at_collector state change)
 at_collector_keeps lower state change kept keeps =
     let open_kept = opened_kept lower state kept in
-    at_collector_any state change IsKept open_kept (λ ids runs. keeps (with_opened state) ids open_kept (record { foreign = refl; sources = refl; messages = refl }))
+    at_collector_any state change IsKept open_kept (λ memory runs. keeps (with_opened state) memory open_kept (record { foreign = refl; sources = refl; messages = refl }))
 
 -- ---- subscriptions
 
@@ -329,22 +328,22 @@ fault_kept state s id delivery fault kept = kept_reply state (Fault s id deliver
 abbrev delivered_changes : (state : State) (s : List ℕ) (slot : Slot) (delivery : Delivery) → IsDelivery state.collector.rows s slot delivery → List Change
 delivered_changes state s slot delivery is = batch_changes state.collector.rows is.u s (channels_read is.about) delivery.batch state.moment
 
-pub events_keep : Lower → (state : State) (s : List ℕ) (slot : Slot) (ids : Ids) (delivery : Delivery) → IsKept state → slot_of state s ≡ Some slot → WasSent state.messages (Events s delivery) →
-    IsDelivery state.collector.rows s slot delivery → IsKept (events_at s delivery ids state)
+pub events_keep : Lower → (state : State) (s : List ℕ) (slot : Slot) (memory : Memory) (delivery : Delivery) → IsKept state → slot_of state s ≡ Some slot → WasSent state.messages (Events s delivery) →
+    IsDelivery state.collector.rows s slot delivery → IsKept (events_at s delivery memory state)
 unfolding taken
-events_keep lower state s slot ids delivery kept there was is =
-    subst (λ (x : Option (List ℕ) × Option (List ℕ)). IsKept (events_by state (effect_at state.collector.rows x.0 x.1 delivery.batch state.moment) s (reply_id ids) delivery))
+events_keep lower state s slot memory delivery kept there was is =
+    subst (λ (x : Option (List ℕ) × Option (List ℕ)). IsKept (events_by state (effect_at state.collector.rows x.0 x.1 delivery.batch state.moment) s (reply_id memory) delivery))
     (λ i. (sym is.to_subscription i, sym is.to_source i)) (by_standing (standing state.collector.rows is.u) refl)
   where
     id : MessageId
-    id = reply_id ids
+    id = reply_id memory
 
     after : State
     after = with_collector state (commits state.collector (delivered_changes state s slot delivery is))
 
     by_fate : IsKept (with_collector state (commits state.collector (delivered_changes state s slot delivery is))) →
         (how : Fate) → fate state.collector.armed (delivered_changes state s slot delivery is) ≡ how →
-        IsKept (with_answer (with_collector state (commits state.collector (delivered_changes state s slot delivery is))) (answer_by how s (reply_id ids) delivery))
+        IsKept (with_answer (with_collector state (commits state.collector (delivered_changes state s slot delivery is))) (answer_by how s (reply_id memory) delivery))
     by_fate kept_after Done e =
         cond_both delivery.batch.ack_wanted (Some (Ack s id delivery.id)) None (λ (answer : Option Message). IsKept (with_answer after answer))
         (λ _. acked_kept state after s slot id delivery is was kept_after refl (done_leaves state.collector.armed (delivered_changes state s slot delivery is) state.collector.rows e)) (λ _. kept_after)
@@ -352,7 +351,7 @@ events_keep lower state s slot ids delivery kept there was is =
     by_fate kept_after Stopped e = kept_after
 
     by_form : standing state.collector.rows is.u ≡ stands.Live is.about →
-        IsKept (events_by state (batch_effect_by state.collector.rows is.u s delivery.batch state.moment (stands.Live is.about)) s (reply_id ids) delivery)
+        IsKept (events_by state (batch_effect_by state.collector.rows is.u s delivery.batch state.moment (stands.Live is.about)) s (reply_id memory) delivery)
     by_form live =
         let effect : BatchEffect = Ok (delivered_changes state s slot delivery is) in
         cond_both (is_well_formed (channels_read is.about) delivery.batch) effect (Err InvalidMessage) (λ (x : BatchEffect). IsKept (events_by state x s id delivery))
@@ -361,7 +360,7 @@ events_keep lower state s slot ids delivery kept there was is =
         (λ bad. fault_kept state s id delivery InvalidMessage kept)
 
     by_standing : (found : state_of.Standing) → standing state.collector.rows is.u ≡ found →
-        IsKept (events_by state (batch_effect_by state.collector.rows is.u s delivery.batch state.moment found) s (reply_id ids) delivery)
+        IsKept (events_by state (batch_effect_by state.collector.rows is.u s delivery.batch state.moment found) s (reply_id memory) delivery)
     by_standing stands.Unknown e = fault_kept state s id delivery DestinationUnreachable kept
     by_standing (stands.Ended about) e = fault_kept state s id delivery DestinationUnreachable kept
     by_standing (stands.Live about) e =

@@ -11,7 +11,7 @@ use Rattle.std.specs.Option.{option_map}
 use Rattle.wef_batch.specs.WellFormed.{is_well_formed}
 use Rattle.wef_batch.specs.declared.items.Batch as items
 use Rattle.wef_collector_rows.specs.Answers.{channels_read, is_there}
-use Rattle.wef_collector.specs.Boots.{boot_of}
+use Rattle.wef_collector.specs.Boots.{boot_of, memory_begun}
 use Rattle.wef_collector.specs.Calls.{Effect as CollectorEffect, add_effect, boot_effect, end_by, end_effect}
 use Rattle.wef_collector.specs.Offers.{offers}
 use Rattle.wef_collector_rows.specs.Keys.{boot_key, subscription_key}
@@ -20,9 +20,10 @@ use Rattle.wef_collector.specs.Taken.{batch_changes, put, taken}
 use Rattle.wef_collector_rows.specs.declared.faults.CollectorFault.TheVariants as faults
 use Rattle.wef_collector_rows.specs.declared.standings.Standing.{Standing}
 use Rattle.wef_collector_rows.specs.declared.standings.Standing.TheVariants as stands
-use Rattle.wef_ids.specs.Ids.{ids_of_boot, next_id, with_drawn}
+use Rattle.wef_ids.specs.Ids.{next_id}
 use Rattle.wef_ids.specs.declared.FaultName.TheVariants.{InternalError, InvalidMessage}
-use Rattle.wef_ids.specs.declared.ids.Ids.{Ids}
+use Rattle.wef_collector.specs.Memories.{drawn_in}
+use Rattle.wef_collector.specs.declared.memories.Memory.{Memory}
 use Rattle.wef_event.specs.Events.{Event}
 use Rattle.wef_event.specs.Unnumbered.{new_event}
 use Rattle.wef_eventing.specs.Addresses.{source_in, subscription_in}
@@ -74,17 +75,17 @@ request_ids_rise lower lines admitted = all_map IsKept (λ (state : State). AreI
 
 -- the greatest id that the collector drew, or may have drawn: where it runs, the last one since its start; else the last
 -- one that its boot number allows
-abbrev last_reply : Rows → Option Ids → ℕ
+abbrev last_reply : Rows → Option Memory → ℕ
 last_reply rows None = boot_of rows * 18446744073709551616 + machine.most_drawn
-last_reply rows (Some ids) = ids.boot * 18446744073709551616 + ids.drawn
+last_reply rows (Some memory) = memory.ids.boot * 18446744073709551616 + memory.ids.drawn
 
 -- a collector that runs has the ids of its kept boot number
-abbrev AtBoot : Rows → Option Ids → Type 0
+abbrev AtBoot : Rows → Option Memory → Type 0
 AtBoot rows None = Unit {0}
-AtBoot rows (Some ids) = (ids.boot ≡ boot_of rows) × (ids.drawn ≤ machine.most_drawn)
+AtBoot rows (Some memory) = (memory.ids.boot ≡ boot_of rows) × (memory.ids.drawn ≤ machine.most_drawn)
 
 -- Replies have ids in order, none above the collector's last one.
-record AreRepliesDrawn (rows : Rows) (memory : Option Ids) (messages : List Message) : Type 0 where
+record AreRepliesDrawn (rows : Rows) (memory : Option Memory) (messages : List Message) : Type 0 where
   pub order : AreInOrder IsReplyBefore messages
   pub below : (m : Message) (id : ℕ) → WasSent messages m → reply_of m ≡ Some id → id ≤ last_reply rows memory
   pub own : AtBoot rows memory
@@ -93,7 +94,7 @@ abbrev Draws : State → Type 0
 Draws state = AreRepliesDrawn state.collector.rows state.collector.memory state.messages
 
 -- the collector goes on to a last id that is no less
-goes_on : (rows rows' : Rows) (memory memory' : Option Ids) (messages : List Message) → AreRepliesDrawn rows memory messages → last_reply rows memory ≤ last_reply rows' memory' → AtBoot rows' memory' →
+goes_on : (rows rows' : Rows) (memory memory' : Option Memory) (messages : List Message) → AreRepliesDrawn rows memory messages → last_reply rows memory ≤ last_reply rows' memory' → AtBoot rows' memory' →
     AreRepliesDrawn rows' memory' messages
 goes_on rows rows' memory memory' messages drawn more own = record {
   order = drawn.order;
@@ -102,12 +103,12 @@ goes_on rows rows' memory memory' messages drawn more own = record {
 }
 
 -- a collector that stops may have drawn all ids of its boot number
-stops : (rows : Rows) (memory : Option Ids) → AtBoot rows memory → last_reply rows memory ≤ boot_of rows * 18446744073709551616 + machine.most_drawn
+stops : (rows : Rows) (memory : Option Memory) → AtBoot rows memory → last_reply rows memory ≤ boot_of rows * 18446744073709551616 + machine.most_drawn
 stops rows None own = omega arith
-stops rows (Some ids) own = subst (λ (b : ℕ). ids.boot * 18446744073709551616 + ids.drawn ≤ b * 18446744073709551616 + machine.most_drawn) own.0 (let most = own.1 in omega arith)
+stops rows (Some memory) own = subst (λ (b : ℕ). memory.ids.boot * 18446744073709551616 + memory.ids.drawn ≤ b * 18446744073709551616 + machine.most_drawn) own.0 (let most = own.1 in omega arith)
 
 -- a message is sent that is no reply
-no_reply : (rows : Rows) (memory : Option Ids) (messages : List Message) (m : Message) → reply_of m ≡ None → AreRepliesDrawn rows memory messages → AreRepliesDrawn rows memory (messages ++ m ∷ [])
+no_reply : (rows : Rows) (memory : Option Memory) (messages : List Message) (m : Message) → reply_of m ≡ None → AreRepliesDrawn rows memory messages → AreRepliesDrawn rows memory (messages ++ m ∷ [])
 no_reply rows memory messages m none drawn = record {
   order = ordered_with IsReplyBefore messages m drawn.order (λ n was first second e f. absurd (none-some second (sym none ∙ f)));
   below = λ n id was e. elim (sent_split messages m n was) [
@@ -136,22 +137,22 @@ drawn_more : (boot drawn count : ℕ) → 1 ≤ count → boot * 184467440737095
 drawn_more boot drawn count some = omega arith
 
 -- a reply is sent, for which ids are drawn
-reply_drawn : (rows : Rows) (ids : Ids) (messages : List Message) (m : Message) (count : ℕ) → 1 ≤ count → reply_of m ≡ Some (next_id ids) → AreRepliesDrawn rows (Some ids) messages →
-    AreRepliesDrawn rows (Some (with_drawn count ids)) (messages ++ m ∷ [])
-reply_drawn rows ids messages m count some is drawn =
-    let next = next_above ids.boot ids.drawn drawn.own.1 in
-    let more = drawn_more ids.boot ids.drawn count some in
+reply_drawn : (rows : Rows) (memory : Memory) (messages : List Message) (m : Message) (count : ℕ) → 1 ≤ count → reply_of m ≡ Some (next_id memory.ids) → AreRepliesDrawn rows (Some memory) messages →
+    AreRepliesDrawn rows (Some (drawn_in count memory)) (messages ++ m ∷ [])
+reply_drawn rows memory messages m count some is drawn =
+    let next = next_above memory.ids.boot memory.ids.drawn drawn.own.1 in
+    let more = drawn_more memory.ids.boot memory.ids.drawn count some in
     record {
       order = ordered_with IsReplyBefore messages m drawn.order (λ n was first second e f.
-          let at : second ≡ next_id ids = same_Some second (next_id ids) (sym f ∙ is) in
+          let at : second ≡ next_id memory.ids = same_Some second (next_id memory.ids) (sym f ∙ is) in
           let less = drawn.below n first was e in
           elim next [
             | inl above ↦ inl (subst (λ (k : ℕ). first < k) (sym at) (omega arith))
-            | inr last ↦ inr (ids.boot, at ∙ last)
+            | inr last ↦ inr (memory.ids.boot, at ∙ last)
           ]);
       below = λ n id was e. elim (sent_split messages m n was) [
         | inl before ↦ (let less = drawn.below n id before e in omega arith)
-        | inr same ↦ subst (λ (k : ℕ). k ≤ ids.boot * 18446744073709551616 + min (ids.drawn + count) machine.most_drawn) (same_Some (next_id ids) id (sym is ∙ ap reply_of same ∙ e)) more
+        | inr same ↦ subst (λ (k : ℕ). k ≤ memory.ids.boot * 18446744073709551616 + min (memory.ids.drawn + count) machine.most_drawn) (same_Some (next_id memory.ids) id (sym is ∙ ap reply_of same ∙ e)) more
       ];
       own = (drawn.own.0, omega arith);
     }
@@ -187,13 +188,13 @@ called state changes drawn same = by_stop (is_stopped (fate state.collector.arme
         (let less = stops state.collector.rows state.collector.memory drawn.own in
         subst (λ (b : ℕ). last_reply state.collector.rows state.collector.memory ≤ b * 18446744073709551616 + machine.most_drawn) (sym e) less) tt
 
-    running : (memory : Option Ids) → AreRepliesDrawn state.collector.rows memory state.messages → boot_of (committed state.collector.armed changes state.collector.rows) ≡ boot_of state.collector.rows →
+    running : (memory : Option Memory) → AreRepliesDrawn state.collector.rows memory state.messages → boot_of (committed state.collector.armed changes state.collector.rows) ≡ boot_of state.collector.rows →
         AreRepliesDrawn (committed state.collector.armed changes state.collector.rows) memory state.messages
     running None is e =
         goes_on state.collector.rows (committed state.collector.armed changes state.collector.rows) None None state.messages is
         (subst (λ (b : ℕ). boot_of state.collector.rows * 18446744073709551616 + machine.most_drawn ≤ b * 18446744073709551616 + machine.most_drawn) (sym e) (omega arith)) tt
-    running (Some ids) is e =
-        goes_on state.collector.rows (committed state.collector.armed changes state.collector.rows) (Some ids) (Some ids) state.messages is (omega arith) (is.own.0 ∙ sym e, is.own.1)
+    running (Some memory) is e =
+        goes_on state.collector.rows (committed state.collector.armed changes state.collector.rows) (Some memory) (Some memory) state.messages is (omega arith) (is.own.0 ∙ sym e, is.own.1)
 
     by_stop : (t : Bool) → AreRepliesDrawn (committed state.collector.armed changes state.collector.rows) (cond t None state.collector.memory) state.messages
     by_stop true = stopped boot_is
@@ -208,17 +209,17 @@ call_draws : {F : Type 0} (state : State) (effect : Effect F) → KeepsBoot stat
 call_draws state (Ok changes) same drawn = called state changes drawn same
 call_draws state (Err fault) same drawn = drawn
 
-started_draws : (state : State) (ids : Ids) → ids ≡ ids_of_boot (boot_of state.collector.rows + 1) → state.collector.memory ≡ None → Draws state →
-    Draws (with_collector state (starts state.collector ids (boot_effect state.collector.rows)))
-started_draws state ids is closed drawn =
+started_draws : (state : State) (memory : Memory) → memory ≡ memory_begun state.collector.rows → state.collector.memory ≡ None → Draws state →
+    Draws (with_collector state (starts state.collector memory (boot_effect state.collector.rows)))
+started_draws state memory is closed drawn =
     cond_both (nat_lt (boot_of state.collector.rows) 9223372036854775807) (Ok (put boot_key (boot_of state.collector.rows + 1) [] ∷ [])) (Err faults.Full)
-    (λ (effect : CollectorEffect). Draws (with_collector state (starts state.collector ids effect))) (λ room. by_fate (fate state.collector.armed (boot_changes state)) refl) (λ full. drawn)
+    (λ (effect : CollectorEffect). Draws (with_collector state (starts state.collector memory effect))) (λ room. by_fate (fate state.collector.armed (boot_changes state)) refl) (λ full. drawn)
   where
     boot_changes : State → List Change
     boot_changes now = put boot_key (boot_of now.collector.rows + 1) [] ∷ []
 
     none : AreRepliesDrawn state.collector.rows None state.messages
-    none = subst (λ (o : Option Ids). AreRepliesDrawn state.collector.rows o state.messages) closed drawn
+    none = subst (λ (o : Option Memory). AreRepliesDrawn state.collector.rows o state.messages) closed drawn
 
     one_more : boot_of (applied (put boot_key (boot_of state.collector.rows + 1) [] ∷ []) state.collector.rows) ≡ boot_of state.collector.rows + 1
     one_more = boot_by_booting state.collector.rows (record { value = boot_of state.collector.rows + 1; body = [] })
@@ -234,24 +235,24 @@ started_draws state ids is closed drawn =
         (omega arith) (omega (arith, one_more))
 
     by_fate : (how : Fate) → fate state.collector.armed (put boot_key (boot_of state.collector.rows + 1) [] ∷ []) ≡ how →
-        AreRepliesDrawn (committed state.collector.armed (put boot_key (boot_of state.collector.rows + 1) [] ∷ []) state.collector.rows) (cond (is_done how) (Some ids) None) state.messages
+        AreRepliesDrawn (committed state.collector.armed (put boot_key (boot_of state.collector.rows + 1) [] ∷ []) state.collector.rows) (cond (is_done how) (Some memory) None) state.messages
     by_fate Failed e = closed_still later
     by_fate Stopped e = closed_still later
     by_fate Done e =
         let changes : List Change = put boot_key (boot_of state.collector.rows + 1) [] ∷ [] in
         let boot : boot_of (committed state.collector.armed changes state.collector.rows) ≡ boot_of state.collector.rows + 1 =
         ap boot_of (done_leaves state.collector.armed changes state.collector.rows e) ∙ one_more in
-        subst (λ (x : Ids). AreRepliesDrawn (committed state.collector.armed changes state.collector.rows) (Some x) state.messages) (sym is)
-        (goes_on state.collector.rows (committed state.collector.armed changes state.collector.rows) None (Some (ids_of_boot (boot_of state.collector.rows + 1))) state.messages none
+        subst (λ (x : Memory). AreRepliesDrawn (committed state.collector.armed changes state.collector.rows) (Some x) state.messages) (sym is)
+        (goes_on state.collector.rows (committed state.collector.armed changes state.collector.rows) None (Some (memory_begun state.collector.rows)) state.messages none
         (omega arith) (sym boot, omega arith))
 
 opened_draws : (state : State) → Draws state → Draws (collecting.with_opened state)
 opened_draws state drawn = by_memory state.collector.memory refl
   where
-    by_memory : (memory : Option Ids) → state.collector.memory ≡ memory →
-        Draws (with_collector state (opened_by state.collector (ids_of_boot (boot_of state.collector.rows + 1)) (boot_effect state.collector.rows) memory))
-    by_memory (Some ids) e = drawn
-    by_memory None e = started_draws state (ids_of_boot (boot_of state.collector.rows + 1)) refl e drawn
+    by_memory : (memory : Option Memory) → state.collector.memory ≡ memory →
+        Draws (with_collector state (opened_by state.collector (memory_begun state.collector.rows) (boot_effect state.collector.rows) memory))
+    by_memory (Some memory) e = drawn
+    by_memory None e = started_draws state (memory_begun state.collector.rows) refl e drawn
 
 -- ---- what calls change
 
@@ -293,34 +294,34 @@ delivery_keeps rows delivery now = by_address (subscription_in delivery.notify_t
 
 -- ---- replies
 
-reply_draws : (now : State) (ids : Ids) (count : ℕ) (m : Message) → now.collector.memory ≡ Some ids → 1 ≤ count → reply_of m ≡ Some (next_id ids) → Draws now → Draws (with_reply count now m)
-reply_draws now ids count m runs some is drawn =
-    subst (λ (o : Option Ids). AreRepliesDrawn now.collector.rows (option_map (with_drawn count) o) (now.messages ++ m ∷ [])) (sym runs)
-    (reply_drawn now.collector.rows ids now.messages m count some is (subst (λ (o : Option Ids). AreRepliesDrawn now.collector.rows o now.messages) runs drawn))
+reply_draws : (now : State) (memory : Memory) (count : ℕ) (m : Message) → now.collector.memory ≡ Some memory → 1 ≤ count → reply_of m ≡ Some (next_id memory.ids) → Draws now → Draws (with_reply count now m)
+reply_draws now memory count m runs some is drawn =
+    subst (λ (o : Option Memory). AreRepliesDrawn now.collector.rows (option_map (drawn_in count) o) (now.messages ++ m ∷ [])) (sym runs)
+    (reply_drawn now.collector.rows memory now.messages m count some is (subst (λ (o : Option Memory). AreRepliesDrawn now.collector.rows o now.messages) runs drawn))
 
-events_draw : (now : State) (s : List ℕ) (delivery : Delivery) (ids : Ids) → now.collector.memory ≡ Some ids → Draws now → Draws (events_at s delivery ids now)
-events_draw now s delivery ids runs drawn = by_effect (delivery_effect now.collector.rows delivery now.moment) (delivery_keeps now.collector.rows delivery now.moment)
+events_draw : (now : State) (s : List ℕ) (delivery : Delivery) (memory : Memory) → now.collector.memory ≡ Some memory → Draws now → Draws (events_at s delivery memory now)
+events_draw now s delivery memory runs drawn = by_effect (delivery_effect now.collector.rows delivery now.moment) (delivery_keeps now.collector.rows delivery now.moment)
   where
     by_fate : (changes : List Change) → Draws (with_collector now (commits now.collector changes)) → (how : Fate) → fate now.collector.armed changes ≡ how →
-        Draws (with_answer (with_collector now (commits now.collector changes)) (answer_by how s (reply_id ids) delivery))
+        Draws (with_answer (with_collector now (commits now.collector changes)) (answer_by how s (reply_id memory) delivery))
     by_fate changes after Stopped e = after
     by_fate changes after Failed e =
-        reply_draws (with_collector now (commits now.collector changes)) ids 1 (sent.Fault s (reply_id ids) delivery.id InternalError)
+        reply_draws (with_collector now (commits now.collector changes)) memory 1 (sent.Fault s (reply_id memory) delivery.id InternalError)
         (ap (λ (f : Fate). cond (is_stopped f) None now.collector.memory) e ∙ runs) (omega arith) refl after
     by_fate changes after Done e =
         let new : State = with_collector now (commits now.collector changes) in
-        cond_both delivery.batch.ack_wanted (Some (sent.Ack s (reply_id ids) delivery.id)) None (λ (answer : Option Message). Draws (with_answer new answer))
-        (λ _. reply_draws new ids 1 (sent.Ack s (reply_id ids) delivery.id) (ap (λ (f : Fate). cond (is_stopped f) None now.collector.memory) e ∙ runs) (omega arith) refl after)
+        cond_both delivery.batch.ack_wanted (Some (sent.Ack s (reply_id memory) delivery.id)) None (λ (answer : Option Message). Draws (with_answer new answer))
+        (λ _. reply_draws new memory 1 (sent.Ack s (reply_id memory) delivery.id) (ap (λ (f : Fate). cond (is_stopped f) None now.collector.memory) e ∙ runs) (omega arith) refl after)
         (λ _. after)
 
-    by_effect : (effect : BatchEffect) → KeepsBoot now.collector.rows effect → Draws (events_by now effect s (reply_id ids) delivery)
-    by_effect (Err fault) same = reply_draws now ids 1 (sent.Fault s (reply_id ids) delivery.id fault) runs (omega arith) refl drawn
+    by_effect : (effect : BatchEffect) → KeepsBoot now.collector.rows effect → Draws (events_by now effect s (reply_id memory) delivery)
+    by_effect (Err fault) same = reply_draws now memory 1 (sent.Fault s (reply_id memory) delivery.id fault) runs (omega arith) refl drawn
     by_effect (Ok changes) same = by_fate changes (called now changes drawn same) (fate now.collector.armed changes) refl
 
-at_collector_draws : (state : State) (change : Ids → State → State) → Draws state → ((ids : Ids) (now : State) → now.collector.memory ≡ Some ids → Draws now → Draws (change ids now)) →
+at_collector_draws : (state : State) (change : Memory → State → State) → Draws state → ((memory : Memory) (now : State) → now.collector.memory ≡ Some memory → Draws now → Draws (change memory now)) →
     Draws (at_collector state change)
 at_collector_draws state change drawn holds =
-    at_collector_any state change Draws (opened_draws state drawn) (λ ids runs. holds ids (collecting.with_opened state) runs (opened_draws state drawn))
+    at_collector_any state change Draws (opened_draws state drawn) (λ memory runs. holds memory (collecting.with_opened state) runs (opened_draws state drawn))
 
 -- ---- sources, which draw no reply's id
 
@@ -356,10 +357,10 @@ poll_draws s u now slot end drawn = by_session (session_of end.sessions u)
 -- ---- lines
 
 taken_draws : (state : State) (m : Message) → Draws state → Draws (taken_by state m)
-taken_draws state (sent.Ask s id) drawn = at_collector_draws state (offers_at s id) drawn (λ ids now runs now_drawn.
-    reply_draws now ids (length (offers now.collector.rows s host) + 1) (sent.Offers s (reply_id ids) id (offers now.collector.rows s host)) runs (omega arith) refl now_drawn)
+taken_draws state (sent.Ask s id) drawn = at_collector_draws state (offers_at s id) drawn (λ memory now runs now_drawn.
+    reply_draws now memory (length (offers now.collector.rows s host) + 1) (sent.Offers s (reply_id memory) id (offers now.collector.rows s host)) runs (omega arith) refl now_drawn)
 taken_draws state (sent.Offers s id relates given) drawn = at_source_draws state s (end_at s (λ end. after_offers end relates given state.moment)) drawn (λ now slot end h. h)
-taken_draws state (sent.Events s delivery) drawn = at_collector_draws state (events_at s delivery) drawn (λ ids now runs now_drawn. events_draw now s delivery ids runs now_drawn)
+taken_draws state (sent.Events s delivery) drawn = at_collector_draws state (events_at s delivery) drawn (λ memory now runs now_drawn. events_draw now s delivery memory runs now_drawn)
 taken_draws state (sent.Ack s id relates) drawn = at_source_draws state s (end_at s (λ end. after_ack end relates)) drawn (λ now slot end h. h)
 taken_draws state (sent.Fault s id relates fault) drawn = at_source_draws state s (end_at s (λ end. after_fault end relates fault)) drawn (λ now slot end h. h)
 
@@ -382,13 +383,13 @@ arm_draws state (ends.Source s) armed drawn = declared_draws state s (λ place. 
 
 step_draws : (state : State) (line : Line) → Draws state → Draws (step line state)
 step_draws state (Subscribe u items bytes beat query) drawn =
-    at_collector_draws state (λ ids. subscribe_at (subscription_of u items bytes beat query)) drawn
-    (λ ids now runs now_drawn. call_draws now (add_effect now.collector.rows (subscription_of u items bytes beat query)) (adding_keeps now.collector.rows (subscription_of u items bytes beat query)) now_drawn)
+    at_collector_draws state (λ memory. subscribe_at (subscription_of u items bytes beat query)) drawn
+    (λ memory now runs now_drawn. call_draws now (add_effect now.collector.rows (subscription_of u items bytes beat query)) (adding_keeps now.collector.rows (subscription_of u items bytes beat query)) now_drawn)
 step_draws state (End u) drawn =
-    at_collector_draws state (λ ids. steps.end_at u) drawn (λ ids now runs now_drawn. call_draws now (end_effect now.collector.rows u) (ending_keeps now.collector.rows u) now_drawn)
+    at_collector_draws state (λ memory. steps.end_at u) drawn (λ memory now runs now_drawn. call_draws now (end_effect now.collector.rows u) (ending_keeps now.collector.rows u) now_drawn)
 step_draws state (Batch u s b) drawn =
-    at_collector_draws (with_foreign state s) (λ ids. batch_at u s b) drawn
-    (λ ids now runs now_drawn. call_draws now (batch_effect now.collector.rows u s b now.moment) (batch_keeps now.collector.rows u s b now.moment) now_drawn)
+    at_collector_draws (with_foreign state s) (λ memory. batch_at u s b) drawn
+    (λ memory now runs now_drawn. call_draws now (batch_effect now.collector.rows u s b now.moment) (batch_keeps now.collector.rows u s b now.moment) now_drawn)
 step_draws state (Source s capacity) drawn = drawn
 step_draws state (Write s plain) drawn = at_source_draws state s (write_at s (new_event plain)) drawn (write_draws s (new_event plain))
 step_draws state (WriteXml s event) drawn = at_source_draws state s (write_at s event) drawn (write_draws s event)
@@ -401,8 +402,8 @@ step_draws state (Crash end) drawn = crash_draws state end drawn
 step_draws state (Fail end after) drawn = arm_draws state end (record { after = after; stops = false }) drawn
 step_draws state (Stop end after) drawn = arm_draws state end (record { after = after; stops = true }) drawn
 step_draws state Calm drawn = drawn
-step_draws state Show drawn = at_collector_draws state (λ ids. unchanged) drawn (λ ids now runs now_drawn. now_drawn)
-step_draws state (Print u s c) drawn = at_collector_draws state (λ ids. unchanged) drawn (λ ids now runs now_drawn. now_drawn)
+step_draws state Show drawn = at_collector_draws state (λ memory. unchanged) drawn (λ memory now runs now_drawn. now_drawn)
+step_draws state (Print u s c) drawn = at_collector_draws state (λ memory. unchanged) drawn (λ memory now runs now_drawn. now_drawn)
 
 -- ---- schedules
 

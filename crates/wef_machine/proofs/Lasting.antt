@@ -6,7 +6,7 @@ use Rattle.std.specs.FinMap as finite
 use Rattle.wef_batch.specs.WellFormed.{is_well_formed}
 use Rattle.wef_batch.specs.declared.items.Batch as items
 use Rattle.wef_collector_rows.specs.Answers.{channels_read, is_there}
-use Rattle.wef_collector.specs.Boots.{boot_of}
+use Rattle.wef_collector.specs.Boots.{boot_of, memory_begun}
 use Rattle.wef_collector.specs.Calls.{Effect, boot_effect, end_by}
 use Rattle.wef_collector_rows.specs.Keys.{boot_key, subscription_key}
 use Rattle.wef_collector_rows.specs.Standing.{is_full, kept_body, standing}
@@ -14,9 +14,8 @@ use Rattle.wef_collector.specs.Taken.{batch_changes, put, taken}
 use Rattle.wef_collector_rows.specs.declared.faults.CollectorFault.TheVariants as faults
 use Rattle.wef_collector_rows.specs.declared.standings.Standing.{Standing}
 use Rattle.wef_collector_rows.specs.declared.standings.Standing.TheVariants as stands
-use Rattle.wef_ids.specs.Ids.{ids_of_boot}
 use Rattle.wef_ids.specs.declared.FaultName.TheVariants.{InvalidMessage}
-use Rattle.wef_ids.specs.declared.ids.Ids.{Ids}
+use Rattle.wef_collector.specs.declared.memories.Memory.{Memory}
 use Rattle.wef_event.specs.Events.{Event}
 use Rattle.wef_event.specs.Unnumbered.{new_event}
 use Rattle.wef_eventing.specs.Addresses.{source_in, subscription_in}
@@ -73,21 +72,21 @@ commit_lasts armed changes rows grows = committed_both (RowsGrow rows) armed cha
 opened_lasts : (state : State) → Lasts state (collecting.with_opened state)
 opened_lasts state = by_memory state.collector.memory
   where
-    fresh : Ids
-    fresh = ids_of_boot (boot_of state.collector.rows + 1)
+    fresh : Memory
+    fresh = memory_begun state.collector.rows
 
-    by_memory : (memory : Option Ids) → RowsGrow state.collector.rows (opened_by state.collector (ids_of_boot (boot_of state.collector.rows + 1)) (boot_effect state.collector.rows) memory).rows
-    by_memory (Some ids) = same_rows state.collector.rows
+    by_memory : (memory : Option Memory) → RowsGrow state.collector.rows (opened_by state.collector (memory_begun state.collector.rows) (boot_effect state.collector.rows) memory).rows
+    by_memory (Some memory) = same_rows state.collector.rows
     by_memory None =
         let rows = state.collector.rows in
         cond_both (nat_lt (boot_of rows) 9223372036854775807) (Ok (put boot_key (boot_of rows + 1) [] ∷ [])) (Err faults.Full) (λ (effect : Effect). RowsGrow rows (starts state.collector fresh effect).rows)
         (λ room. commit_lasts state.collector.armed (put boot_key (boot_of rows + 1) [] ∷ []) rows (booting_grows rows (record { value = boot_of rows + 1; body = [] }))) (λ full. same_rows rows)
 
-at_collector_lasts : (state : State) (change : Ids → State → State) → ((ids : Ids) (now : State) → Lasts now (change ids now)) → Lasts state (at_collector state change)
+at_collector_lasts : (state : State) (change : Memory → State → State) → ((memory : Memory) (now : State) → Lasts now (change memory now)) → Lasts state (at_collector state change)
 at_collector_lasts state change h =
     let open_state = collecting.with_opened state in
     at_collector_any state change (Lasts state) (opened_lasts state)
-    (λ ids runs. both state.collector.rows open_state.collector.rows (change ids open_state).collector.rows (opened_lasts state) (h ids open_state))
+    (λ memory runs. both state.collector.rows open_state.collector.rows (change memory open_state).collector.rows (opened_lasts state) (h memory open_state))
 
 subscribe_lasts : (about : Subscription) (state : State) → Lasts state (subscribe_at about state)
 subscribe_lasts about state =
@@ -125,10 +124,10 @@ answered : (old new : State) (answer : Option Message) → Lasts old new → Las
 answered old new None h = h
 answered old new (Some message) h = h
 
-events_last : (s : List ℕ) (delivery : Delivery) (ids : Ids) (state : State) → Lasts state (events_at s delivery ids state)
-events_last s delivery ids state =
+events_last : (s : List ℕ) (delivery : Delivery) (memory : Memory) (state : State) → Lasts state (events_at s delivery memory state)
+events_last s delivery memory state =
     answered state (with_call state (delivery_effect state.collector.rows delivery state.moment))
-    (answer_with state (delivery_effect state.collector.rows delivery state.moment) s (reply_id ids) delivery)
+    (answer_with state (delivery_effect state.collector.rows delivery state.moment) s (reply_id memory) delivery)
     (by (subscription_in delivery.notify_to) (source_in delivery.notify_to))
   where
     by : (u r : Option (List ℕ)) → Lasts state (with_call state (effect_at state.collector.rows u r delivery.batch state.moment))
@@ -170,7 +169,7 @@ poll_leaves s u now slot end = by (session_of end.sessions u)
 -- ---- lines
 
 taken_lasts : (state : State) (message : Message) → Lasts state (taken_by state message)
-taken_lasts state (sent.Ask s id) = at_collector_lasts state (offers_at s id) (λ ids now. as_it_is now)
+taken_lasts state (sent.Ask s id) = at_collector_lasts state (offers_at s id) (λ memory now. as_it_is now)
 taken_lasts state (sent.Offers s id relates given) = at_source_lasts state s (end_at s (λ end. after_offers end relates given state.moment)) (λ now slot end. as_it_is now)
 taken_lasts state (sent.Events s delivery) = at_collector_lasts state (events_at s delivery) (events_last s delivery)
 taken_lasts state (sent.Ack s id relates) = at_source_lasts state s (end_at s (λ end. after_ack end relates)) (λ now slot end. as_it_is now)
@@ -195,9 +194,9 @@ arm_lasts state (ends.Source s) armed = at_declared_lasts state s (λ place. arm
 
 lasts : (state : State) (line : Line) → Lasts state (step line state)
 lasts state (Subscribe u items bytes beat query) =
-    at_collector_lasts state (λ ids. subscribe_at (subscription_of u items bytes beat query)) (λ ids. subscribe_lasts (subscription_of u items bytes beat query))
-lasts state (End u) = at_collector_lasts state (λ ids. steps.end_at u) (λ ids. end_lasts u)
-lasts state (Batch u s b) = at_collector_lasts (with_foreign state s) (λ ids. batch_at u s b) (λ ids. batch_lasts u s b)
+    at_collector_lasts state (λ memory. subscribe_at (subscription_of u items bytes beat query)) (λ memory. subscribe_lasts (subscription_of u items bytes beat query))
+lasts state (End u) = at_collector_lasts state (λ memory. steps.end_at u) (λ memory. end_lasts u)
+lasts state (Batch u s b) = at_collector_lasts (with_foreign state s) (λ memory. batch_at u s b) (λ memory. batch_lasts u s b)
 lasts state (Source s capacity) = as_it_is state
 lasts state (Write s plain) = at_source_lasts state s (write_at s (new_event plain)) (write_leaves s (new_event plain))
 lasts state (WriteXml s event) = at_source_lasts state s (write_at s event) (write_leaves s event)
@@ -210,8 +209,8 @@ lasts state (Crash end) = crash_lasts state end
 lasts state (Fail end after) = arm_lasts state end (record { after = after; stops = false })
 lasts state (Stop end after) = arm_lasts state end (record { after = after; stops = true })
 lasts state Calm = as_it_is state
-lasts state Show = at_collector_lasts state (λ ids. unchanged) (λ ids now. as_it_is now)
-lasts state (Print u s c) = at_collector_lasts state (λ ids. unchanged) (λ ids now. as_it_is now)
+lasts state Show = at_collector_lasts state (λ memory. unchanged) (λ memory now. as_it_is now)
+lasts state (Print u s c) = at_collector_lasts state (λ memory. unchanged) (λ memory now. as_it_is now)
 
 pub subscriptions_stay : SubscriptionsStay
 subscriptions_stay state line u about e = (lasts state line).known u about e

@@ -17,7 +17,7 @@ use Rattle.wef_ids.specs.Ids.{ids_agree}
 use Rattle.wef_ids.specs.declared.FaultName.{FaultName}
 use Rattle.wef_ids.specs.declared.FaultName.TheVariants.{InternalError}
 use Rattle.wef_ids.specs.declared.MessageId.{MessageId}
-use Rattle.wef_ids.specs.declared.ids.Ids.{Ids}
+use Rattle.wef_collector.specs.declared.memories.Memory.{Memory as Remembered}
 use Rattle.wef_event.specs.Events.{Event}
 use Rattle.wef_event.specs.Unnumbered.{new_event}
 use Rattle.wef_eventing.specs.Addresses.{subscription_in}
@@ -440,31 +440,31 @@ reply_stands past line now count m stands is = message_moves past line (with_col
 asked_stands : Lower → (past : List Line) (line : Line) (s : List ℕ) (id : MessageId) → IsKept (state_after past) → Stands past line (state_after past) → WasSent (state_after past).messages (sent.Ask s id) →
     Stands past line (at_collector (state_after past) (offers_at s id))
 asked_stands lower past line s id kept stands was =
-    at_collector_any (state_after past) (offers_at s id) (Stands past line) stands (λ ids runs.
+    at_collector_any (state_after past) (offers_at s id) (Stands past line) stands (λ memory runs.
     let now = collecting.with_opened (state_after past) in
     let kept_now = collector_opened_kept lower (state_after past) kept in
-    of_declared (slot_of now s) (λ (slot : Slot). WasDrawn slot id.value) (Stands past line (offers_at s id ids now)) (kept_now.messages (sent.Ask s id) was) (λ slot there drawn.
-    reply_stands past line now (length (offers now.collector.rows s host) + 1) (sent.Offers s (reply_id ids) id (offers now.collector.rows s host)) stands
+    of_declared (slot_of now s) (λ (slot : Slot). WasDrawn slot id.value) (Stands past line (offers_at s id memory now)) (kept_now.messages (sent.Ask s id) was) (λ slot there drawn.
+    reply_stands past line now (length (offers now.collector.rows s host) + 1) (sent.Offers s (reply_id memory) id (offers now.collector.rows s host)) stands
     (all_map (BeginsAtRows now.collector.rows s) (BeginsAt (state_after past) s) (λ offer begins u leads. begins u leads ∙ opened_bookmark (state_after past) u s)
     (offers now.collector.rows s host) (all_begin now.collector.rows s host kept_now.keys (kept_now.sources s slot there).name))))
 
 events_stand : (past : List Line) (line : Line) (s : List ℕ) (delivery : Delivery) → Stands past line (state_after past) → Stands past line (at_collector (state_after past) (events_at s delivery))
 events_stand past line s delivery stands =
     at_collector_any (state_after past) (events_at s delivery) (Stands past line) stands
-    (λ ids runs. by_effect ids (delivery_effect (collecting.with_opened (state_after past)).collector.rows delivery (state_after past).moment))
+    (λ memory runs. by_effect memory (delivery_effect (collecting.with_opened (state_after past)).collector.rows delivery (state_after past).moment))
   where
-    by_fate : (ids : Ids) (new : State) → Stands past line new → (how : Fate) → Stands past line (with_answer new (answer_by how s (reply_id ids) delivery))
-    by_fate ids new now Stopped = now
-    by_fate ids new now Failed = reply_stands past line new 1 (sent.Fault s (reply_id ids) delivery.id InternalError) now tt
-    by_fate ids new now Done =
-        cond_both delivery.batch.ack_wanted (Some (sent.Ack s (reply_id ids) delivery.id)) None (λ (answer : Option Message). Stands past line (with_answer new answer))
-        (λ _. reply_stands past line new 1 (sent.Ack s (reply_id ids) delivery.id) now tt) (λ _. now)
+    by_fate : (memory : Remembered) (new : State) → Stands past line new → (how : Fate) → Stands past line (with_answer new (answer_by how s (reply_id memory) delivery))
+    by_fate memory new now Stopped = now
+    by_fate memory new now Failed = reply_stands past line new 1 (sent.Fault s (reply_id memory) delivery.id InternalError) now tt
+    by_fate memory new now Done =
+        cond_both delivery.batch.ack_wanted (Some (sent.Ack s (reply_id memory) delivery.id)) None (λ (answer : Option Message). Stands past line (with_answer new answer))
+        (λ _. reply_stands past line new 1 (sent.Ack s (reply_id memory) delivery.id) now tt) (λ _. now)
 
-    by_effect : (ids : Ids) (effect : BatchEffect) → Stands past line (events_by (collecting.with_opened (state_after past)) effect s (reply_id ids) delivery)
-    by_effect ids (Err fault) = reply_stands past line (collecting.with_opened (state_after past)) 1 (sent.Fault s (reply_id ids) delivery.id fault) stands tt
-    by_effect ids (Ok changes) =
+    by_effect : (memory : Remembered) (effect : BatchEffect) → Stands past line (events_by (collecting.with_opened (state_after past)) effect s (reply_id memory) delivery)
+    by_effect memory (Err fault) = reply_stands past line (collecting.with_opened (state_after past)) 1 (sent.Fault s (reply_id memory) delivery.id fault) stands tt
+    by_effect memory (Ok changes) =
         let opened = collecting.with_opened (state_after past) in
-        by_fate ids (with_collector opened (commits opened.collector changes)) stands (fate opened.collector.armed changes)
+        by_fate memory (with_collector opened (commits opened.collector changes)) stands (fate opened.collector.armed changes)
 
 -- ---- lines
 
@@ -516,9 +516,9 @@ calm_stands past line stands = record {
 step_stands : Lower → (past : List Line) (line l : Line) → IsKept (state_after past) → AreAllRisen past → Stands past line (state_after past) →
     delivered line (state_after past) ≡ delivered l (state_after past) → Stands past line (step l (state_after past))
 step_stands lower past line (Subscribe u items bytes beat query) kept all stands delivers =
-    at_collector_any (state_after past) (λ ids. subscribe_at (subscription_of u items bytes beat query)) (Stands past line) stands (λ ids runs. stands)
-step_stands lower past line (End u) kept all stands delivers = at_collector_any (state_after past) (λ ids. ended_at u) (Stands past line) stands (λ ids runs. stands)
-step_stands lower past line (Batch u s b) kept all stands delivers = at_collector_any (with_foreign (state_after past) s) (λ ids. batch_at u s b) (Stands past line) stands (λ ids runs. stands)
+    at_collector_any (state_after past) (λ memory. subscribe_at (subscription_of u items bytes beat query)) (Stands past line) stands (λ memory runs. stands)
+step_stands lower past line (End u) kept all stands delivers = at_collector_any (state_after past) (λ memory. ended_at u) (Stands past line) stands (λ memory runs. stands)
+step_stands lower past line (Batch u s b) kept all stands delivers = at_collector_any (with_foreign (state_after past) s) (λ memory. batch_at u s b) (Stands past line) stands (λ memory runs. stands)
 step_stands lower past line (Source s capacity) kept all stands delivers = slot_moves past line (state_after past) s (declared_slot capacity) stands tt
 step_stands lower past line (Write s plain) kept all stands delivers = write_stands lower past line s (new_event plain) kept all
 step_stands lower past line (WriteXml s event) kept all stands delivers = write_stands lower past line s event kept all
@@ -531,8 +531,8 @@ step_stands lower past line (Crash end) kept all stands delivers = crash_stands 
 step_stands lower past line (Fail end after) kept all stands delivers = arm_stands past line end (record { after = after; stops = false }) stands
 step_stands lower past line (Stop end after) kept all stands delivers = arm_stands past line end (record { after = after; stops = true }) stands
 step_stands lower past line Calm kept all stands delivers = calm_stands past line stands
-step_stands lower past line Show kept all stands delivers = at_collector_any (state_after past) (λ ids. unchanged) (Stands past line) stands (λ ids runs. stands)
-step_stands lower past line (Print u s c) kept all stands delivers = at_collector_any (state_after past) (λ ids. unchanged) (Stands past line) stands (λ ids runs. stands)
+step_stands lower past line Show kept all stands delivers = at_collector_any (state_after past) (λ memory. unchanged) (Stands past line) stands (λ memory runs. stands)
+step_stands lower past line (Print u s c) kept all stands delivers = at_collector_any (state_after past) (λ memory. unchanged) (Stands past line) stands (λ memory runs. stands)
 
 -- ---- schedules
 

@@ -76,15 +76,15 @@ of_declared None P Q holds gives = absurd holds
 of_declared (Some slot) P Q holds gives = gives slot refl holds
 
 taken_keeps : Lower → (state : State) (m : Message) → IsKept state → WasSent state.messages m → IsKept (taken_by state m)
-taken_keeps lower state (sent.Ask s id) kept was = at_collector_keeps lower state (offers_at s id) kept (λ now ids kept_now opened.
+taken_keeps lower state (sent.Ask s id) kept was = at_collector_keeps lower state (offers_at s id) kept (λ now memory kept_now opened.
     let was_now : WasSent now.messages (sent.Ask s id) = subst (λ (ms : List Message). WasSent ms (sent.Ask s id)) (sym opened.messages) was in
-    of_declared (slot_of now s) (λ (slot : Slot). WasDrawn slot id.value) (IsKept (offers_at s id ids now)) (kept_now.messages (sent.Ask s id) was_now) (λ slot there drawn.
-    kept_reply now (sent.Offers s (reply_id ids) id (offers now.collector.rows s host)) kept_now refl (all_offers now.collector.rows s host (omega arith, refl) kept_now.keys (kept_now.sources s slot there).name)))
+    of_declared (slot_of now s) (λ (slot : Slot). WasDrawn slot id.value) (IsKept (offers_at s id memory now)) (kept_now.messages (sent.Ask s id) was_now) (λ slot there drawn.
+    kept_reply now (sent.Offers s (reply_id memory) id (offers now.collector.rows s host)) kept_now refl (all_offers now.collector.rows s host (omega arith, refl) kept_now.keys (kept_now.sources s slot there).name)))
 taken_keeps lower state (sent.Offers s id relates given) kept was = offers_keep lower state s relates given kept (kept.messages (sent.Offers s id relates given) was)
-taken_keeps lower state (sent.Events s delivery) kept was = at_collector_keeps lower state (events_at s delivery) kept (λ now ids kept_now opened.
+taken_keeps lower state (sent.Events s delivery) kept was = at_collector_keeps lower state (events_at s delivery) kept (λ now memory kept_now opened.
     let was_now : WasSent now.messages (sent.Events s delivery) = subst (λ (ms : List Message). WasSent ms (sent.Events s delivery)) (sym opened.messages) was in
-    of_declared (slot_of now s) (λ (slot : Slot). IsDelivery now.collector.rows s slot delivery) (IsKept (events_at s delivery ids now)) (kept_now.messages (sent.Events s delivery) was_now)
-    (λ slot there is. events_keep lower now s slot ids delivery kept_now there was_now is))
+    of_declared (slot_of now s) (λ (slot : Slot). IsDelivery now.collector.rows s slot delivery) (IsKept (events_at s delivery memory now)) (kept_now.messages (sent.Events s delivery) was_now)
+    (λ slot there is. events_keep lower now s slot memory delivery kept_now there was_now is))
 taken_keeps lower state (sent.Ack s id relates) kept was = ack_keeps lower state s relates kept (kept.messages (sent.Ack s id relates) was)
 taken_keeps lower state (sent.Fault s id relates fault) kept was = fault_keeps lower state s relates fault kept
 
@@ -138,13 +138,13 @@ steps_keep lower state (Subscribe u items bytes beat query) kept good =
     let line = (and_parts (is_line (Subscribe u items bytes beat query)) true good).0 in
     let limits = and_parts (is_subscription u && are_limits items bytes beat) (are_queries query.items) line in
     let name = (and_parts (is_subscription u) (are_limits items bytes beat) limits.0).0 in
-    at_collector_keeps lower state (λ ids. subscribe_at (subscription_of u items bytes beat query)) kept (λ now ids kept_now opened.
+    at_collector_keeps lower state (λ memory. subscribe_at (subscription_of u items bytes beat query)) kept (λ now memory kept_now opened.
     subscribe_keeps lower now (subscription_of u items bytes beat query) kept_now name (subscription_again u items bytes beat query line))
-steps_keep lower state (End u) kept good = at_collector_keeps lower state (λ ids. end_at u) kept (λ now ids kept_now opened. end_keeps lower now u kept_now)
+steps_keep lower state (End u) kept good = at_collector_keeps lower state (λ memory. end_at u) kept (λ now memory kept_now opened. end_keeps lower now u kept_now)
 steps_keep lower state (Batch u s b) kept good =
     let parts = and_parts (is_line (Batch u s b)) (not (is_among (declared_names state) s)) good in
     let none = undeclared state s (not_true (is_among (declared_names state) s) parts.1) in
-    at_collector_keeps lower (with_foreign state s) (λ ids. batch_at u s b) (foreign_kept state s kept none) (λ now ids kept_now opened.
+    at_collector_keeps lower (with_foreign state s) (λ memory. batch_at u s b) (foreign_kept state s kept none) (λ now memory kept_now opened.
     batch_keeps lower now u s b kept_now (λ r apart. is_foreign state s r (subst (λ (names : List (List ℕ)). is_among names r ≡ false) opened.foreign apart))
     (names_source u s b parts.0) (sound_batch u s b parts.0))
 steps_keep lower state (Source s capacity) kept good =
@@ -166,8 +166,8 @@ steps_keep lower state (Crash end) kept good = crash_keeps_end state end kept
 steps_keep lower state (Fail end after) kept good = arm_keeps_end state end (record { after = after; stops = false }) kept
 steps_keep lower state (Stop end after) kept good = arm_keeps_end state end (record { after = after; stops = true }) kept
 steps_keep lower state Calm kept good = calm_keeps state kept
-steps_keep lower state Show kept good = at_collector_keeps lower state (λ ids. unchanged) kept (λ now ids kept_now opened. kept_now)
-steps_keep lower state (Print u s c) kept good = at_collector_keeps lower state (λ ids. unchanged) kept (λ now ids kept_now opened. kept_now)
+steps_keep lower state Show kept good = at_collector_keeps lower state (λ memory. unchanged) kept (λ now memory kept_now opened. kept_now)
+steps_keep lower state (Print u s c) kept good = at_collector_keeps lower state (λ memory. unchanged) kept (λ now memory kept_now opened. kept_now)
 
 -- ---- what is kept is safe
 

@@ -13,7 +13,7 @@ use Rattle.wef_ids.specs.Ids.{ids_agree}
 use Rattle.wef_ids.specs.declared.FaultName.{FaultName}
 use Rattle.wef_ids.specs.declared.FaultName.TheVariants.{InvalidMessage, DestinationUnreachable, InternalError}
 use Rattle.wef_ids.specs.declared.MessageId.{MessageId}
-use Rattle.wef_ids.specs.declared.ids.Ids.{Ids}
+use Rattle.wef_collector.specs.declared.memories.Memory.{Memory}
 use Rattle.wef_eventing.specs.Addresses.{source_in, subscription_in}
 use Rattle.wef_eventing.specs.declared.offers.Offer.{Offer}
 use Rattle.wef_keeper.specs.Calls.{Effect}
@@ -101,25 +101,25 @@ took_text k word (Some answer) j = answered_line k word j
 abbrev pub events_by : State → BatchEffect → List ℕ → MessageId → Delivery → State
 events_by state effect s id delivery = with_answer (with_call state effect) (answer_with state effect s id delivery)
 
-abbrev pub events_at : List ℕ → Delivery → Ids → State → State
-events_at s delivery ids state = events_by state (delivery_effect state.collector.rows delivery state.moment) s (reply_id ids) delivery
+abbrev pub events_at : List ℕ → Delivery → Memory → State → State
+events_at s delivery memory state = events_by state (delivery_effect state.collector.rows delivery state.moment) s (reply_id memory) delivery
 
 abbrev pub events_text_by : State → BatchEffect → ℕ → List ℕ → MessageId → Delivery → List ℕ
 events_text_by state effect k s id delivery =
     took_text k (answer_word state effect delivery.batch) (answer_with state effect s id delivery) (next_number state)
 
-abbrev pub events_text : ℕ → List ℕ → Delivery → Ids → State → List ℕ
-events_text k s delivery ids state = events_text_by state (delivery_effect state.collector.rows delivery state.moment) k s (reply_id ids) delivery
+abbrev pub events_text : ℕ → List ℕ → Delivery → Memory → State → List ℕ
+events_text k s delivery memory state = events_text_by state (delivery_effect state.collector.rows delivery state.moment) k s (reply_id memory) delivery
 
 -- an open collector takes an ask of a source: the answer has an id, and each of its offers one behind it
 abbrev pub offers_with : State → List ℕ → MessageId → MessageId → List Offer → State
 offers_with state s id relates given = with_reply (length given + 1) state (sent.Offers s id relates given)
 
-abbrev pub offers_at : List ℕ → MessageId → Ids → State → State
-offers_at s relates ids state = offers_with state s (reply_id ids) relates (offers state.collector.rows s host)
+abbrev pub offers_at : List ℕ → MessageId → Memory → State → State
+offers_at s relates memory state = offers_with state s (reply_id memory) relates (offers state.collector.rows s host)
 
-abbrev pub offers_text : ℕ → Ids → State → List ℕ
-offers_text k ids state = answered_line k (codes "offers") (next_number state)
+abbrev pub offers_text : ℕ → Memory → State → List ℕ
+offers_text k memory state = answered_line k (codes "offers") (next_number state)
 
 -- what is printed of message k where its end can't be opened
 abbrev pub closed_text : ℕ → Fate → List ℕ

@@ -3,7 +3,7 @@ use Rattle.std.specs.Prelude.{ℕ, ◌+◌, List, [], ◌∷◌, ◌++◌, lengt
 use Rattle.std.specs.Cmp.Lexicographic.{slice_cmp}
 use Rattle.std.specs.FinMap as finite
 use Rattle.std.specs.Ordering.{nat_cmp}
-use Rattle.wef_ids.specs.declared.ids.Ids.{Ids}
+use Rattle.wef_collector.specs.declared.memories.Memory.{Memory}
 use Rattle.wef_query.specs.Order.{with_name}
 use Rattle.wef_replay.specs.Good.{Names}
 use Rattle.wef_source.specs.Machine.{End}
@@ -25,9 +25,9 @@ pub record Slot : Type 0 where
 abbrev pub Slots : Type 0
 Slots = finite.FinMap (slice_cmp nat_cmp) Slot
 
--- the collector: while it runs it remembers the ids that it drew
+-- the collector, and what it remembers while it runs
 abbrev pub Collector : Type 0
-Collector = Place Ids
+Collector = Place Memory
 
 -- The collector; the names of the sources that `batch` lines gave, each once, in the order of their bytes; the declared
 -- sources; all messages that were ever sent, in that order; and the moment. A message's number is where it stands among

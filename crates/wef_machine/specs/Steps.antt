@@ -128,9 +128,9 @@ calm_step state = record state { collector = calmed state.collector; sources = c
 
 -- the state after a line
 abbrev pub step : Line → State → State
-step (Subscribe u items bytes beat query) state = at_collector state (λ ids. subscribe_at (subscription_of u items bytes beat query))
-step (End u) state = at_collector state (λ ids. end_at u)
-step (Batch u s b) state = at_collector (with_foreign state s) (λ ids. batch_at u s b)
+step (Subscribe u items bytes beat query) state = at_collector state (λ memory. subscribe_at (subscription_of u items bytes beat query))
+step (End u) state = at_collector state (λ memory. end_at u)
+step (Batch u s b) state = at_collector (with_foreign state s) (λ memory. batch_at u s b)
 step (Source s capacity) state = with_slot state s (declared_slot capacity)
 step (Write s plain) state = write_step state s (new_event plain)
 step (WriteXml s event) state = write_step state s event
@@ -143,8 +143,8 @@ step (Crash end) state = crash_step state end
 step (Fail end after) state = arm_step state end (record { after = after; stops = false })
 step (Stop end after) state = arm_step state end (record { after = after; stops = true })
 step Calm state = calm_step state
-step Show state = at_collector state (λ ids. unchanged)
-step (Print u s c) state = at_collector state (λ ids. unchanged)
+step Show state = at_collector state (λ memory. unchanged)
+step (Print u s c) state = at_collector state (λ memory. unchanged)
 
 -- what a line shows before it does anything: a message, where it asks for it
 abbrev pub seen_by : Line → State → List ℕ
@@ -153,9 +153,9 @@ seen_by line state = []
 
 -- what a line tells of what it does, by the state before it
 abbrev pub told_by : Line → State → List ℕ
-told_by (Subscribe u items bytes beat query) state = print_at_collector state closed_line (λ ids. subscribe_text (subscription_of u items bytes beat query))
-told_by (End u) state = print_at_collector state closed_line (λ ids. end_text u)
-told_by (Batch u s b) state = print_at_collector (with_foreign state s) (closed_batch u s) (λ ids. batch_line u s b)
+told_by (Subscribe u items bytes beat query) state = print_at_collector state closed_line (λ memory. subscribe_text (subscription_of u items bytes beat query))
+told_by (End u) state = print_at_collector state closed_line (λ memory. end_text u)
+told_by (Batch u s b) state = print_at_collector (with_foreign state s) (closed_batch u s) (λ memory. batch_line u s b)
 told_by (Source s capacity) state = []
 told_by (Write s plain) state = write_printed state s (new_event plain)
 told_by (WriteXml s event) state = write_printed state s event
@@ -168,8 +168,8 @@ told_by (Crash end) state = name_line (codes "crashed") (end_name end)
 told_by (Fail end after) state = []
 told_by (Stop end after) state = []
 told_by Calm state = []
-told_by Show state = print_at_collector state closed_line (λ ids. show_text)
-told_by (Print u s c) state = print_at_collector state closed_line (λ ids. print_text u s c)
+told_by Show state = print_at_collector state closed_line (λ memory. show_text)
+told_by (Print u s c) state = print_at_collector state closed_line (λ memory. print_text u s c)
 
 -- what it prints
 abbrev pub printed_by : Line → State → List ℕ
