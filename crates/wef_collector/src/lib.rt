@@ -5,7 +5,7 @@ mod changes;
 mod collector;
 mod effects;
 pub mod laws;
-mod memories;
+pub mod memories;
 mod offering;
 mod reading;
 mod requests;

@@ -3,14 +3,14 @@ use Rattle.std.proofs.Common.{◌≡◌, ℕ, ◌+◌, nat_lt, true, false, List
 use Rattle.std.proofs.lemmas.Bool.{cond_both}
 use Rattle.std.specs.Prelude.{Option, Some, None, Result, Ok, Err, OnOk}
 use Rattle.wef_collector.proofs.FormsStay.{forms_stay}
-use Rattle.wef_collector.specs.Boots.{boot_of, ids_begun}
+use Rattle.wef_collector.specs.Boots.{boot_of, memory_begun}
 use Rattle.wef_collector.specs.Calls.{boot_effect}
 use Rattle.wef_collector_rows.specs.Forms.{AreFormed}
 use Rattle.wef_collector_rows.specs.Keys.{boot_key}
 use Rattle.wef_collector.specs.Taken.{put}
 use Rattle.wef_collector_rows.specs.declared.faults.CollectorFault.{CollectorFault}
 use Rattle.wef_collector_rows.specs.declared.faults.CollectorFault.TheVariants.{Full}
-use Rattle.wef_ids.specs.declared.ids.Ids.{Ids}
+use Rattle.wef_collector.specs.declared.memories.Memory.{Memory}
 use Rattle.wef_keeper.specs.Calls.{Effect}
 use Rattle.wef_keeper.specs.Rows.{Rows, applied}
 use Rattle.wef_keeper.specs.declared.keys.Change.{Change}
@@ -42,11 +42,11 @@ booted_formed (Some a) rows room formed =
 pub opened_formed : (c : Collector) → AreFormed c.rows → AreFormed (collector_opened c).rows
 opened_formed c formed = by c.memory
   where
-    by : (memory : Option Ids) → AreFormed (opened_by c (ids_begun c.rows) (boot_effect c.rows) memory).rows
-    by (Some ids) = formed
+    by : (memory : Option Memory) → AreFormed (opened_by c (memory_begun c.rows) (boot_effect c.rows) memory).rows
+    by (Some memory) = formed
     by None =
         cond_both (nat_lt (boot_of c.rows) 9223372036854775807) (Ok (put boot_key (boot_of c.rows + 1) [] ∷ [])) (Err Full)
-        (λ (effect : Effect CollectorFault). AreFormed (starts c (ids_begun c.rows) effect).rows) (λ room. booted_formed c.armed c.rows room formed) (λ full. formed)
+        (λ (effect : Effect CollectorFault). AreFormed (starts c (memory_begun c.rows) effect).rows) (λ room. booted_formed c.armed c.rows room formed) (λ full. formed)
 
 pub opened_formed_on : {E : Type 0} (result : Result the_fate.Fate E) (c after : Collector) → OnOk result (after ≡ collector_opened c) → AreFormed c.rows → OnOk result (AreFormed after.rows)
 opened_formed_on (Ok how) c after is formed = subst (λ (x : Collector). AreFormed x.rows) (sym is) (opened_formed c formed)
@@ -56,13 +56,13 @@ opened_formed_on (Err fault) c after is formed = tt
 
 -- what a call leaves of the collector is what the line that makes it does
 pub called_state : {F : Type 0} (state : State) (effect : Rows → Effect F)
-    → with_collector state (called_at (collector_opened state.collector) effect) ≡ at_collector state (λ ids now. with_call now (effect now.collector.rows))
+    → with_collector state (called_at (collector_opened state.collector) effect) ≡ at_collector state (λ memory now. with_call now (effect now.collector.rows))
 called_state state effect = by (collector_opened state.collector).memory
   where
-    by : (memory : Option Ids) → with_collector state (called_where_runs (collector_opened state.collector) effect memory)
-        ≡ where_runs (with_opened state) memory (λ ids now. with_call now (effect now.collector.rows))
+    by : (memory : Option Memory) → with_collector state (called_where_runs (collector_opened state.collector) effect memory)
+        ≡ where_runs (with_opened state) memory (λ memory now. with_call now (effect now.collector.rows))
     by None = refl
-    by (Some ids) = refl
+    by (Some memory) = refl
 
 broken_text : (how : the_fate.Fate) (done : List ℕ) → is_done how ≡ false → fate_line how collector_name ≡ fate_text how collector_name done
 broken_text fates.Done done undone = cc
@@ -87,13 +87,13 @@ called_says armed done refused text says (Err fault) (Refused refuses) is = ap r
 pub called_prints : {F : Type 0} (state : State) (effect : Rows → Effect F) (done : List ℕ) (refused : F → List ℕ) (text : State → Effect F → List ℕ)
     → Says (collector_opened state.collector).armed done refused (text (with_opened state)) → (used : Used (Called Unit F))
     → CameTo (collector_opening state.collector) (collector_opened state.collector) effect (λ _. tt) used
-    → called_text done refused used ≡ print_at_collector state closed_line (λ ids now. text now (effect now.collector.rows))
+    → called_text done refused used ≡ print_at_collector state closed_line (λ memory now. text now (effect now.collector.rows))
 called_prints state effect done refused text says used came = by (collector_opened state.collector).memory used came
   where
-    by : (memory : Option Ids) (used : Used (Called Unit _))
-        → UsedAs (collector_opening state.collector) memory (Unit {0}) (λ ids. CalledAs (collector_opened state.collector).armed (effect (collector_opened state.collector).rows) tt) used
-        → called_text done refused used ≡ print_where_runs (with_opened state) memory (collector_opening state.collector) closed_line (λ ids now. text now (effect now.collector.rows))
+    by : (memory : Option Memory) (used : Used (Called Unit _))
+        → UsedAs (collector_opening state.collector) memory (Unit {0}) (λ memory. CalledAs (collector_opened state.collector).armed (effect (collector_opened state.collector).rows) tt) used
+        → called_text done refused used ≡ print_where_runs (with_opened state) memory (collector_opening state.collector) closed_line (λ memory now. text now (effect now.collector.rows))
     by None (Closed went) came = ap (λ (how : the_fate.Fate). fate_line how collector_name) came.0
     by None (Answered called) came = absurd came
-    by (Some ids) (Closed went) came = absurd came
-    by (Some ids) (Answered called) came = called_says (collector_opened state.collector).armed done refused (text (with_opened state)) says (effect (collector_opened state.collector).rows) called came
+    by (Some memory) (Closed went) came = absurd came
+    by (Some memory) (Answered called) came = called_says (collector_opened state.collector).armed done refused (text (with_opened state)) says (effect (collector_opened state.collector).rows) called came

@@ -16,7 +16,7 @@ use Rattle.wef_places.specs.declared.places.Used.TheVariants.{Closed, Answered}
 
 -- the collector as the machine has it
 abbrev pub collector_of : Placed (Collector MemKeeper) → machine.Collector
-collector_of placed = seen (λ (c : Collector MemKeeper). c.keeper) (λ (c : Collector MemKeeper). c.ids) placed
+collector_of placed = seen (λ (c : Collector MemKeeper). c.keeper) (λ (c : Collector MemKeeper). c.memory) placed
 
 -- what is printed of a call of the collector: one text where it is done, and one for each refusal
 abbrev pub called_text : {F : Type 0} → List ℕ → (F → List ℕ) → Used (Called Unit F) → List ℕ

@@ -36,9 +36,9 @@ pub trait Answers: Drop {
     ) -> Result<Answer, AllocError>
         requires host { addresses.IsHost host.now }
         ensures answer { IfOk result (λ answer. (said : heard.Heard) × hearing.Hears target.now charset body.now said
-            × IsAnswer host.now said charset now answer collector.old.ids collector.new.ids (⟦<MemKeeper as Keeper>⟧.store collector.old.keeper) (⟦<MemKeeper as Keeper>⟧.store collector.new.keeper)) }
+            × IsAnswer host.now said charset now answer collector.old.memory collector.new.memory (⟦<MemKeeper as Keeper>⟧.store collector.old.keeper) (⟦<MemKeeper as Keeper>⟧.store collector.new.keeper)) }
         ensures wants_memory { IfErr result (λ _. (collector.new ≡ collector.old) ⊎ ((said : heard.Heard) × hearing.Hears target.now charset body.now said
-            × IsUnanswered host.now said now collector.old.ids collector.new.ids (⟦<MemKeeper as Keeper>⟧.store collector.old.keeper) (⟦<MemKeeper as Keeper>⟧.store collector.new.keeper))) }
+            × IsUnanswered host.now said now collector.old.memory collector.new.memory (⟦<MemKeeper as Keeper>⟧.store collector.old.keeper) (⟦<MemKeeper as Keeper>⟧.store collector.new.keeper))) }
         ensures calls { calls self.new ≡ raised (calls self.old) };
 
     /// Hears the bytes of a reply to a source, in UTF-8. There may be no memory to read it.

@@ -14,9 +14,8 @@ use crate::places::{Called, End, Placed, Used};
 use std::alloc::Global;
 use wef_base::{Moment, SourceName, SubId};
 use wef_batch::Batch;
-use wef_collector::{Collector, CollectorFault};
+use wef_collector::{Collector, CollectorFault, Memory};
 use wef_eventing::Subscription;
-use wef_ids::Ids;
 use wef_keeper::{Keeper, MemKeeper, Plan, StoreFault};
 use wef_machine::Fate;
 
@@ -25,20 +24,20 @@ pub type CollectorPlace = Placed<Collector<MemKeeper>>;
 
 impl End for Collector<MemKeeper> {
     ghost use Rattle.std.specs.Prelude.{refl};
-    ghost use Rattle.wef_collector.specs.Boots.{ids_begun};
+    ghost use Rattle.wef_collector.specs.Boots.{memory_begun};
     ghost use Rattle.wef_collector.specs.Calls as calls;
     ghost use Rattle.wef_collector_rows.specs.Faults.{collector_store};
     ghost use Rattle.wef_collector_rows.specs.Forms as forms;
 
     type Origin = ();
 
-    type Memory = Ids;
+    type Memory = Memory;
 
     type Fault = CollectorFault;
 
     ghost keeper = { λ c. c.keeper };
 
-    ghost memory = { λ c. c.ids };
+    ghost memory = { λ c. c.memory };
 
     ghost with_plan = { λ c plan. record c { keeper = record c.keeper { plan = plan } } };
 
@@ -48,7 +47,7 @@ impl End for Collector<MemKeeper> {
 
     ghost start_effect = { λ _. calls.boot_effect };
 
-    ghost start_memory = { λ _. ids_begun };
+    ghost start_memory = { λ _. memory_begun };
 
     ghost plans_store = { λ _ _. refl };
 
@@ -133,7 +132,7 @@ pub fn make_call(
 fn answer_to(collector: &mut Collector<MemKeeper>, call: Call<'_>) -> Result<(), CollectorFault>
     requires { IsAllowed call }
     ensures call { IsCall collector_store forms.AreFormed (effect_of call.entry) (λ _. tt) result (⟦<MemKeeper as Keeper>⟧.store collector.old.keeper) (⟦<MemKeeper as Keeper>⟧.store collector.new.keeper) }
-    ensures ids { collector.new.ids ≡ collector.old.ids }
+    ensures memory { collector.new.memory ≡ collector.old.memory }
 {
     match call {
         Call::Add(subscription) => collector.add(subscription),

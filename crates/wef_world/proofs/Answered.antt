@@ -17,7 +17,7 @@ use Rattle.wef_front.proofs.OneIsHeard.{delivery_heard_is}
 use Rattle.wef_front.proofs.RepliesAreHeard.{replies_are_read}
 use Rattle.wef_front_collector.proofs.SaidOfCalls.{said_known}
 use Rattle.wef_front_collector.specs.Heard.{Hears}
-use Rattle.wef_front_collector.specs.Replies.{IsAnswer, IsSpeltFor, answer_of, ids_behind}
+use Rattle.wef_front_collector.specs.Replies.{IsAnswer, IsSpeltFor, answer_of, memory_behind}
 use Rattle.wef_front.specs.Replies.{IsKnownReply, reply_bytes}
 use Rattle.wef_front_source.specs.Sending.{CanBeSent, delivery_bytes}
 use Rattle.wef_front_collector.specs.Steps.{IsAnswered, IsKnownSaid, Steps, done_said, fault_for, said_of}
@@ -31,7 +31,7 @@ use Rattle.wef_ids.specs.Ids.{next_id}
 use Rattle.wef_ids.specs.declared.FaultName.{FaultName}
 use Rattle.wef_ids.specs.declared.FaultName.TheVariants as names
 use Rattle.wef_ids.specs.declared.MessageId.{MessageId}
-use Rattle.wef_ids.specs.declared.ids.Ids.{Ids}
+use Rattle.wef_collector.specs.declared.memories.Memory.{Memory}
 use Rattle.wef_keeper.specs.Rows.{Rows}
 use Rattle.wef_keeper.specs.Keeping.{Store, is_armed}
 use Rattle.wef_keeper.specs.declared.keys.Change.{Change}
@@ -89,12 +89,12 @@ no_status : (answer : Answer) (status : ℕ) → answer.status ≡ status → (a
 no_status answer status is not_quiet quiet = cc
 
 -- the bytes that are written for a reply are one
-reply_written : (bytes : List ℕ) (ids : Ids) (relates : MessageId) (reply : answer.Reply) → bytes ≡ reply_bytes (reply_id ids) relates reply → IsSpelt (reply_id ids) → IsSpelt relates → IsXmlText relates.text → IsKnownReply reply
+reply_written : (bytes : List ℕ) (memory : Memory) (relates : MessageId) (reply : answer.Reply) → bytes ≡ reply_bytes (reply_id memory) relates reply → IsSpelt (reply_id memory) → IsSpelt relates → IsXmlText relates.text → IsKnownReply reply
     → AreReply bytes
-reply_written bytes ids relates reply are spelt related text known = record {
-  said = record { id = reply_id ids; relates = relates; reply = reply };
+reply_written bytes memory relates reply are spelt related text known = record {
+  said = record { id = reply_id memory; relates = relates; reply = reply };
   id = spelt;
-  id_text = id_text_good (next_id ids);
+  id_text = id_text_good (next_id memory.ids);
   relates = related;
   relates_text = text;
   known = known;
@@ -108,85 +108,85 @@ written_reply answer is not_quiet = by is.said is.written is.spelt is.known is.o
     body : Answer → List ℕ
     body a = a.body
 
-    by : (said : the_said.Said) → answer ≡ answer_of is.ids Utf8 (Some is.relates) said → IsSpeltFor is.ids said → IsKnownSaid said → IsSaidToBatch said → AreReply answer.body
+    by : (said : the_said.Said) → answer ≡ answer_of is.memory.ids Utf8 (Some is.relates) said → IsSpeltFor is.memory.ids said → IsKnownSaid said → IsSaidToBatch said → AreReply answer.body
     by says.Quiet written spelt known of_batch = absurd (no_status answer 204 (ap (λ (a : Answer). a.status) written) not_quiet refl)
-    by says.Ack written spelt known of_batch = reply_written answer.body is.ids is.relates replies.Ack (ap body written) spelt is.relates_spelt is.relates_text tt
+    by says.Ack written spelt known of_batch = reply_written answer.body is.memory is.relates replies.Ack (ap body written) spelt is.relates_spelt is.relates_text tt
     by (says.Offers list) written spelt known of_batch = absurd of_batch
-    by (says.Fault name) written spelt known of_batch = reply_written answer.body is.ids is.relates (replies.Fault name) (ap body written) spelt is.relates_spelt is.relates_text known
+    by (says.Fault name) written spelt known of_batch = reply_written answer.body is.memory is.relates (replies.Fault name) (ap body written) spelt is.relates_spelt is.relates_text known
 
 -- ---- what is told
 
 -- a collector whose commit went so
-abbrev went : Rows → the_fate.Fate → Ids → Option Armed → machine.Collector
-went rows how ids armed = record { rows = rows; memory = if is_stopped how then None else Some ids; armed = armed }
+abbrev went : Rows → the_fate.Fate → Memory → Option Armed → machine.Collector
+went rows how memory armed = record { rows = rows; memory = if is_stopped how then None else Some memory; armed = armed }
 
 -- What the world makes of an answer is what became of the batch.
-record Tells (s : List ℕ) (d : Delivery) (ids ids_now : Ids) (rows : Rows) (armed : Option Armed) (how : the_fate.Fate) (answer : Answer) (taken : Used (Called Unit FaultName)) : Type 0 where
+record Tells (s : List ℕ) (d : Delivery) (memory memory_now : Memory) (rows : Rows) (armed : Option Armed) (how : the_fate.Fate) (answer : Answer) (taken : Used (Called Unit FaultName)) : Type 0 where
   word : (taken_by s how answer).word ≡ outcome_word taken d.batch
-  message : (taken_by s how answer).answer ≡ sent_by s d.id (reply_to taken d.batch) (went rows how ids armed).memory
-  left : went rows how ids_now armed ≡ drawn_for (reply_to taken d.batch) (went rows how ids armed)
+  message : (taken_by s how answer).answer ≡ sent_by s d.id (reply_to taken d.batch) (went rows how memory armed).memory
+  left : went rows how memory_now armed ≡ drawn_for (reply_to taken d.batch) (went rows how memory armed)
 
-module _ (s : List ℕ) (d : Delivery) (sent_so : CanBeSent d) (ids ids_now : Ids) (rows : Rows) (armed : Option Armed) (answer : Answer) where
-  quiet_tells : answer ≡ answer_of ids Utf8 (Some d.id) says.Quiet → ids_now ≡ ids_behind ids says.Quiet → d.batch.ack_wanted ≡ false → (done : Unit)
-      → Tells s d ids ids_now rows armed fates.Done answer (Answered (Done done))
+module _ (s : List ℕ) (d : Delivery) (sent_so : CanBeSent d) (memory memory_now : Memory) (rows : Rows) (armed : Option Armed) (answer : Answer) where
+  quiet_tells : answer ≡ answer_of memory.ids Utf8 (Some d.id) says.Quiet → memory_now ≡ memory_behind memory says.Quiet → d.batch.ack_wanted ≡ false → (done : Unit)
+      → Tells s d memory memory_now rows armed fates.Done answer (Answered (Done done))
   quiet_tells written drawn quiet done = record {
     word = ap answer_word written ∙ sym (ap (λ (b : Bool). cond b (codes "ack") (codes "quiet")) quiet);
-    message = ap (reply_in s) written ∙ sym (ap (λ (b : Bool). sent_by s d.id (cond b (Some replies.Ack) None) (Some ids)) quiet);
-    left = ap (λ (now : Ids). went rows fates.Done now armed) drawn ∙ sym (ap (λ (b : Bool). drawn_for (cond b (Some replies.Ack) None) (went rows fates.Done ids armed)) quiet);
+    message = ap (reply_in s) written ∙ sym (ap (λ (b : Bool). sent_by s d.id (cond b (Some replies.Ack) None) (Some memory)) quiet);
+    left = ap (λ (now : Memory). went rows fates.Done now armed) drawn ∙ sym (ap (λ (b : Bool). drawn_for (cond b (Some replies.Ack) None) (went rows fates.Done memory armed)) quiet);
   }
 
-  ack_tells : answer ≡ answer_of ids Utf8 (Some d.id) says.Ack → ids_now ≡ ids_behind ids says.Ack → IsSpelt (reply_id ids) → d.batch.ack_wanted ≡ true → (done : Unit)
-      → Tells s d ids ids_now rows armed fates.Done answer (Answered (Done done))
+  ack_tells : answer ≡ answer_of memory.ids Utf8 (Some d.id) says.Ack → memory_now ≡ memory_behind memory says.Ack → IsSpelt (reply_id memory) → d.batch.ack_wanted ≡ true → (done : Unit)
+      → Tells s d memory memory_now rows armed fates.Done answer (Answered (Done done))
   ack_tells written drawn spelt wanted done = record {
     word = ap answer_word written ∙ sym (ap (λ (b : Bool). cond b (codes "ack") (codes "quiet")) wanted);
-    message = ap (reply_in s) written ∙ ap (λ (said : Replied). Some (message_in s said)) (replied_is (reply_id ids) d.id replies.Ack spelt (id_text_good (next_id ids)) sent_so.spelt sent_so.id tt)
-        ∙ sym (ap (λ (b : Bool). sent_by s d.id (cond b (Some replies.Ack) None) (Some ids)) wanted);
-    left = ap (λ (now : Ids). went rows fates.Done now armed) drawn ∙ sym (ap (λ (b : Bool). drawn_for (cond b (Some replies.Ack) None) (went rows fates.Done ids armed)) wanted);
+    message = ap (reply_in s) written ∙ ap (λ (said : Replied). Some (message_in s said)) (replied_is (reply_id memory) d.id replies.Ack spelt (id_text_good (next_id memory.ids)) sent_so.spelt sent_so.id tt)
+        ∙ sym (ap (λ (b : Bool). sent_by s d.id (cond b (Some replies.Ack) None) (Some memory)) wanted);
+    left = ap (λ (now : Memory). went rows fates.Done now armed) drawn ∙ sym (ap (λ (b : Bool). drawn_for (cond b (Some replies.Ack) None) (went rows fates.Done memory armed)) wanted);
   }
 
   -- a fault that is told by its bytes
-  fault_said : (name : FaultName) → answer ≡ answer_of ids Utf8 (Some d.id) (says.Fault name) → IsSpelt (reply_id ids) → is_known name ≡ true → answer_word answer ≡ fault_answer name
+  fault_said : (name : FaultName) → answer ≡ answer_of memory.ids Utf8 (Some d.id) (says.Fault name) → IsSpelt (reply_id memory) → is_known name ≡ true → answer_word answer ≡ fault_answer name
   fault_said name written spelt known =
-      ap answer_word written ∙ ap fault_word (replies_are_read.told (reply_id ids) d.id (replies.Fault name) spelt (id_text_good (next_id ids)) sent_so.spelt sent_so.id known)
+      ap answer_word written ∙ ap fault_word (replies_are_read.told (reply_id memory) d.id (replies.Fault name) spelt (id_text_good (next_id memory.ids)) sent_so.spelt sent_so.id known)
 
-  fault_sent : (name : FaultName) → answer ≡ answer_of ids Utf8 (Some d.id) (says.Fault name) → IsSpelt (reply_id ids) → is_known name ≡ true
-      → reply_in s answer ≡ Some (sent.Fault s (reply_id ids) d.id name)
+  fault_sent : (name : FaultName) → answer ≡ answer_of memory.ids Utf8 (Some d.id) (says.Fault name) → IsSpelt (reply_id memory) → is_known name ≡ true
+      → reply_in s answer ≡ Some (sent.Fault s (reply_id memory) d.id name)
   fault_sent name written spelt known =
-      ap (reply_in s) written ∙ ap (λ (said : Replied). Some (message_in s said)) (replied_is (reply_id ids) d.id (replies.Fault name) spelt (id_text_good (next_id ids)) sent_so.spelt sent_so.id known)
+      ap (reply_in s) written ∙ ap (λ (said : Replied). Some (message_in s said)) (replied_is (reply_id memory) d.id (replies.Fault name) spelt (id_text_good (next_id memory.ids)) sent_so.spelt sent_so.id known)
 
-  refused_tells : (name : FaultName) → answer ≡ answer_of ids Utf8 (Some d.id) (says.Fault name) → ids_now ≡ ids_behind ids (says.Fault name) → IsSpelt (reply_id ids) → is_known name ≡ true
-      → Tells s d ids ids_now rows armed fates.Done answer (Answered (Refused name))
+  refused_tells : (name : FaultName) → answer ≡ answer_of memory.ids Utf8 (Some d.id) (says.Fault name) → memory_now ≡ memory_behind memory (says.Fault name) → IsSpelt (reply_id memory) → is_known name ≡ true
+      → Tells s d memory memory_now rows armed fates.Done answer (Answered (Refused name))
   refused_tells name written drawn spelt known = record {
     word = fault_said name written spelt known;
     message = fault_sent name written spelt known;
-    left = ap (λ (now : Ids). went rows fates.Done now armed) drawn;
+    left = ap (λ (now : Memory). went rows fates.Done now armed) drawn;
   }
 
-  broken_tells : (how : the_fate.Fate) → is_done how ≡ false → answer ≡ answer_of ids Utf8 (Some d.id) (says.Fault names.InternalError) → ids_now ≡ ids_behind ids (says.Fault names.InternalError)
-      → IsSpelt (reply_id ids) → Tells s d ids ids_now rows armed how answer (Answered (Broken how))
+  broken_tells : (how : the_fate.Fate) → is_done how ≡ false → answer ≡ answer_of memory.ids Utf8 (Some d.id) (says.Fault names.InternalError) → memory_now ≡ memory_behind memory (says.Fault names.InternalError)
+      → IsSpelt (reply_id memory) → Tells s d memory memory_now rows armed how answer (Answered (Broken how))
   broken_tells fates.Done undone written drawn spelt = cc
   broken_tells fates.Failed undone written drawn spelt = record {
     word = fault_said names.InternalError written spelt refl;
     message = fault_sent names.InternalError written spelt refl;
-    left = ap (λ (now : Ids). went rows fates.Failed now armed) drawn;
+    left = ap (λ (now : Memory). went rows fates.Failed now armed) drawn;
   }
   broken_tells fates.Stopped undone written drawn spelt = record { word = refl; message = refl; left = refl }
 
   -- what is told of a batch, by what the collector did with it
-  done_tells : (ack : Bool) → d.batch.ack_wanted ≡ ack → answer ≡ answer_of ids Utf8 (Some d.id) (done_said ack) → ids_now ≡ ids_behind ids (done_said ack) → IsSpeltFor ids (done_said ack) → (done : Unit)
-      → Tells s d ids ids_now rows armed fates.Done answer (Answered (Done done))
+  done_tells : (ack : Bool) → d.batch.ack_wanted ≡ ack → answer ≡ answer_of memory.ids Utf8 (Some d.id) (done_said ack) → memory_now ≡ memory_behind memory (done_said ack) → IsSpeltFor memory.ids (done_said ack) → (done : Unit)
+      → Tells s d memory memory_now rows armed fates.Done answer (Answered (Done done))
   done_tells true is written drawn spelt done = ack_tells written drawn spelt is done
   done_tells false is written drawn spelt done = quiet_tells written drawn is done
 
   refusal_tells : (fault : the_fault.CollectorFault) (how : the_fate.Fate) → IsAnswered fault → Goes {T = Unit {0}} collector_store (Err fault) how
-      → answer ≡ answer_of ids Utf8 (Some d.id) (says.Fault (fault_for fault)) → ids_now ≡ ids_behind ids (says.Fault (fault_for fault)) → IsSpelt (reply_id ids)
-      → Tells s d ids ids_now rows armed how answer (answered_batch (Answered (called_of collector_store (Err fault) how)))
+      → answer ≡ answer_of memory.ids Utf8 (Some d.id) (says.Fault (fault_for fault)) → memory_now ≡ memory_behind memory (says.Fault (fault_for fault)) → IsSpelt (reply_id memory)
+      → Tells s d memory memory_now rows armed how answer (answered_batch (Answered (called_of collector_store (Err fault) how)))
   refusal_tells faults.NoSubscription how answered goes written drawn spelt =
-      subst (λ (h : the_fate.Fate). Tells s d ids ids_now rows armed h answer (Answered (Refused names.DestinationUnreachable))) (sym goes) (refused_tells names.DestinationUnreachable written drawn spelt refl)
+      subst (λ (h : the_fate.Fate). Tells s d memory memory_now rows armed h answer (Answered (Refused names.DestinationUnreachable))) (sym goes) (refused_tells names.DestinationUnreachable written drawn spelt refl)
   refusal_tells faults.Ended how answered goes written drawn spelt =
-      subst (λ (h : the_fate.Fate). Tells s d ids ids_now rows armed h answer (Answered (Refused names.DestinationUnreachable))) (sym goes) (refused_tells names.DestinationUnreachable written drawn spelt refl)
+      subst (λ (h : the_fate.Fate). Tells s d memory memory_now rows armed h answer (Answered (Refused names.DestinationUnreachable))) (sym goes) (refused_tells names.DestinationUnreachable written drawn spelt refl)
   refusal_tells faults.NotWellFormed how answered goes written drawn spelt =
-      subst (λ (h : the_fate.Fate). Tells s d ids ids_now rows armed h answer (Answered (Refused names.InvalidMessage))) (sym goes) (refused_tells names.InvalidMessage written drawn spelt refl)
+      subst (λ (h : the_fate.Fate). Tells s d memory memory_now rows armed h answer (Answered (Refused names.InvalidMessage))) (sym goes) (refused_tells names.InvalidMessage written drawn spelt refl)
   refusal_tells faults.Failed how answered goes written drawn spelt = broken_tells how goes written drawn spelt
   refusal_tells faults.NoMemory how answered goes written drawn spelt = absurd answered
   refusal_tells faults.Exists how answered goes written drawn spelt = absurd answered
@@ -194,13 +194,13 @@ module _ (s : List ℕ) (d : Delivery) (sent_so : CanBeSent d) (ids ids_now : Id
   refusal_tells faults.Full how answered goes written drawn spelt = absurd answered
 
   batch_tells : (done : Result Unit the_fault.CollectorFault) (how : the_fate.Fate) → IfErr done IsAnswered → Goes collector_store done how
-      → (said : the_said.Said) → said ≡ said_of d.batch.ack_wanted done → answer ≡ answer_of ids Utf8 (Some d.id) said → ids_now ≡ ids_behind ids said → IsSpeltFor ids said
-      → Tells s d ids ids_now rows armed how answer (answered_batch (Answered (called_of collector_store done how)))
+      → (said : the_said.Said) → said ≡ said_of d.batch.ack_wanted done → answer ≡ answer_of memory.ids Utf8 (Some d.id) said → memory_now ≡ memory_behind memory said → IsSpeltFor memory.ids said
+      → Tells s d memory memory_now rows armed how answer (answered_batch (Answered (called_of collector_store done how)))
   batch_tells (Ok done) how answered goes said is written drawn spelt =
-      subst (λ (h : the_fate.Fate). Tells s d ids ids_now rows armed h answer (Answered (Done done))) (sym goes)
-      (done_tells d.batch.ack_wanted refl (written ∙ ap (answer_of ids Utf8 (Some d.id)) is) (drawn ∙ ap (ids_behind ids) is) (subst (IsSpeltFor ids) is spelt) done)
+      subst (λ (h : the_fate.Fate). Tells s d memory memory_now rows armed h answer (Answered (Done done))) (sym goes)
+      (done_tells d.batch.ack_wanted refl (written ∙ ap (answer_of memory.ids Utf8 (Some d.id)) is) (drawn ∙ ap (memory_behind memory) is) (subst (IsSpeltFor memory.ids) is spelt) done)
   batch_tells (Err fault) how answered goes said is written drawn spelt =
-      refusal_tells fault how answered goes (written ∙ ap (answer_of ids Utf8 (Some d.id)) is) (drawn ∙ ap (ids_behind ids) is) (subst (IsSpeltFor ids) is spelt)
+      refusal_tells fault how answered goes (written ∙ ap (answer_of memory.ids Utf8 (Some d.id)) is) (drawn ∙ ap (memory_behind memory) is) (subst (IsSpeltFor memory.ids) is spelt)
 
 -- ---- a delivery
 
@@ -222,11 +222,11 @@ said_to_batch false (Ok done) = tt
 said_to_batch ack (Err fault) = tt
 
 -- what the collector writes to a delivery
-pub answer_is_written : (d : Delivery) (now : ℕ) (answer : Answer) (ids ids_now : Ids) (before after : Store) → CanBeSent d → Leads d → IsAnswer host (heard_of d) Utf8 now answer ids ids_now before after → IsWritten answer
-answer_is_written d now answer ids ids_now before after sent_so leads is =
+pub answer_is_written : (d : Delivery) (now : ℕ) (answer : Answer) (memory memory_now : Memory) (before after : Store) → CanBeSent d → Leads d → IsAnswer host (heard_of d) Utf8 now answer memory memory_now before after → IsWritten answer
+answer_is_written d now answer memory memory_now before after sent_so leads is =
     let steps = subst (λ (asked : Asked). Steps host asked now is.said before after) (asked_is d leads) is.stepped in
     record {
-      ids = ids;
+      memory = memory;
       said = is.said;
       relates = d.id;
       written = is.written;
@@ -240,9 +240,9 @@ answer_is_written d now answer ids ids_now before after sent_so leads is =
 abbrev the_keeper : Collector MemKeeper → MemKeeper
 the_keeper c = c.keeper
 
--- the collector as the machine has it, but with ids that stay
-abbrev frozen : Ids → Placed (Collector MemKeeper) → machine.Collector
-frozen ids placed = seen the_keeper (λ (c : Collector MemKeeper). ids) placed
+-- the collector as the machine has it, but with a memory that stays
+abbrev frozen : Memory → Placed (Collector MemKeeper) → machine.Collector
+frozen memory placed = seen the_keeper (λ (c : Collector MemKeeper). memory) placed
 
 pub running_place : (place : Place (Collector MemKeeper)) (end : Collector MemKeeper) → Some end ≡ end_in place → place ≡ Running end
 running_place (Running own) end there = ap Running (same_end own end there)
@@ -256,7 +256,7 @@ running_place (Closed own) end there = absurd (none end there)
 
 pub delivery_answered : (c : machine.Collector) (placed left : Placed (Collector MemKeeper)) (end end' : Collector MemKeeper) (s : List ℕ) (d : Delivery) (now : ℕ) (answer : Answer) (how : the_fate.Fate) → CanBeSent d → Leads d
     → collector_of placed ≡ collector_opened c → Some end ≡ end_in placed.place → IsPlanned the_keeper placed → AreFormed (keeper_in the_keeper placed.place).rows
-    → IsAnswer host (heard_of d) Utf8 now answer end.ids end'.ids (told_by end.keeper) (told_by end'.keeper)
+    → IsAnswer host (heard_of d) Utf8 now answer end.memory end'.memory (told_by end.keeper) (told_by end'.keeper)
     → how ≡ fate_by (is_used_up the_keeper (running_with placed.armed end')) placed.armed → left ≡ settled the_keeper how (running_with placed.armed end')
     → (collector_of left ≡ events_left c s d now) × (taken_by s how answer ≡ events_of c s d now)
 delivery_answered c placed left end end' s d now answer how sent_so leads opened there planned formed is goes settles =
@@ -268,9 +268,9 @@ delivery_answered c placed left end end' s d now answer how sent_so leads opened
     let formed_so : AreFormed end.keeper.rows = subst (λ (p : Placed (Collector MemKeeper)). AreFormed (keeper_in the_keeper p.place).rows) runs formed in
     let settled_so = answered_settles Unit the_keeper collector_store AreFormed placed.armed end end' left how told goes settles effect (λ rows. tt) done formed_so steps.1 (no_want done steps.2) in
     let called = called_of collector_store done how in
-    let leaves_so = leaves the_keeper (λ (k : Collector MemKeeper). end.ids) collector_store AreFormed effect (λ rows. tt) placed end end' done left called there planned formed steps.1 refl settled_so.0 in
+    let leaves_so = leaves the_keeper (λ (k : Collector MemKeeper). end.memory) collector_store AreFormed effect (λ rows. tt) placed end end' done left called there planned formed steps.1 refl settled_so.0 in
     let o = collector_opened c in
-    let ready : frozen end.ids placed ≡ o = ap (frozen end.ids) runs ∙ sym (ap collector_of runs) ∙ opened in
+    let ready : frozen end.memory placed ≡ o = ap (frozen end.memory) runs ∙ sym (ap collector_of runs) ∙ opened in
     let alike : (λ rows. batch_effect rows leads.u leads.s d.batch now) ≡ (λ rows. delivery_effect rows d now) =
     sym (λ i rows. effect_at rows (leads.to_subscription i) (leads.to_source i) d.batch now) in
     let taken = answered_batch (Answered called) in
@@ -278,11 +278,11 @@ delivery_answered c placed left end end' s d now answer how sent_so leads opened
     let came_so = subst (λ (e : Rows → BatchEffect). CameTo (collector_opening c) o e (λ rows. tt) taken) alike (batch_came (collector_opening c) o leads.u leads.s d.batch now (Answered called) came) in
     let makes = delivery_makes c s d now taken came_so in
     let armed = if is_armed end'.keeper.plan then placed.armed else None in
-    let frozen_is : went end'.keeper.rows how end.ids armed ≡ called_at o (λ rows. delivery_effect rows d now) =
-    sym (settled_seen the_keeper (λ (k : Collector MemKeeper). end.ids) how placed.armed end') ∙ sym (ap (frozen end.ids) settles) ∙ leaves_so.seen_is ∙ ap (λ (p : machine.Collector). called_at p effect) ready
+    let frozen_is : went end'.keeper.rows how end.memory armed ≡ called_at o (λ rows. delivery_effect rows d now) =
+    sym (settled_seen the_keeper (λ (k : Collector MemKeeper). end.memory) how placed.armed end') ∙ sym (ap (frozen end.memory) settles) ∙ leaves_so.seen_is ∙ ap (λ (p : machine.Collector). called_at p effect) ready
     ∙ batch_left o leads.u leads.s d.batch now ∙ ap (called_at o) alike in
-    let tells = batch_tells s d sent_so end.ids end'.ids end'.keeper.rows armed answer done how steps.2 settled_so.1 is.said steps.3 is.written is.drawn is.spelt in (
-      ap collector_of settles ∙ settled_seen the_keeper (λ (k : Collector MemKeeper). k.ids) how placed.armed end' ∙ tells.left ∙ ap (drawn_for (reply_to taken d.batch)) frozen_is ∙ makes.left_is,
+    let tells = batch_tells s d sent_so end.memory end'.memory end'.keeper.rows armed answer done how steps.2 settled_so.1 is.said steps.3 is.written is.drawn is.spelt in (
+      ap collector_of settles ∙ settled_seen the_keeper (λ (k : Collector MemKeeper). k.memory) how placed.armed end' ∙ tells.left ∙ ap (drawn_for (reply_to taken d.batch)) frozen_is ∙ makes.left_is,
       λ i. record {
         word = (tells.word ∙ makes.word) i;
         answer = (tells.message ∙ ap (λ (p : machine.Collector). sent_by s d.id (reply_to taken d.batch) p.memory) frozen_is ∙ makes.answer) i;

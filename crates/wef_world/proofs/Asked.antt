@@ -3,7 +3,9 @@ use Rattle.std.proofs.Common.{◌≡◌, ℕ, zero, suc, ◌+◌, true, false, L
 use Rattle.std.specs.List.{AllByRecursion}
 use Rattle.std.specs.Prelude.{Some, Result, Ok, Err, IfErr, codes, min}
 use Rattle.wef_base.specs.declared.tree.Charset.TheVariants.{Utf8}
+use Rattle.wef_collector.specs.Memories.{drawn_in}
 use Rattle.wef_collector.specs.Calls.{no_effect}
+use Rattle.wef_collector.specs.declared.memories.Memory.{Memory}
 use Rattle.wef_collector.specs.Offers.{offers}
 use Rattle.wef_collector.specs.declared.collector.Collector.{Collector}
 use Rattle.wef_collector_rows.specs.Forms.{AreFormed}
@@ -16,7 +18,7 @@ use Rattle.wef_front.proofs.OffersAreHeard.{offers_are_read}
 use Rattle.wef_front.proofs.OneIsHeard.{one_is_heard}
 use Rattle.wef_front_collector.specs.Heard.{Hears}
 use Rattle.wef_front.specs.Replies.{CanBeAnswered, offers_bytes}
-use Rattle.wef_front_collector.specs.Replies.{IsAnswer, IsSpeltFor, answer_of, ids_after, ids_behind}
+use Rattle.wef_front_collector.specs.Replies.{IsAnswer, IsSpeltFor, answer_of, ids_after, memory_behind}
 use Rattle.wef_front.specs.Sent.{CanBeAsked, Wish}
 use Rattle.wef_front_source.specs.Sending.{enumerate_bytes}
 use Rattle.wef_front_collector.specs.Steps.{CallsFor, IsFailure, said_with}
@@ -80,25 +82,25 @@ drawn_at_once n ids =
 -- ---- what is offered
 
 -- What an ask left and gave.
-pub record Offered (wish : Wish) (ids ids_now : Ids) (rows rows_now : Rows) (answer : Answer) : Type 0 where
+pub record Offered (wish : Wish) (memory memory_now : Memory) (rows rows_now : Rows) (answer : Answer) : Type 0 where
   pub rows_stay : rows_now ≡ rows
-  pub ids_are : ids_now ≡ with_drawn (length (offers rows wish.source host) + 1) ids
-  pub gave : HasOffered wish ids (offers rows wish.source host) answer
+  pub memory_is : memory_now ≡ drawn_in (length (offers rows wish.source host) + 1) memory
+  pub gave : HasOffered wish memory (offers rows wish.source host) answer
 
 module _ (wish : Wish) (end end' : Collector MemKeeper) (now : ℕ) (answer : Answer) (can : CanBeAsked wish) (formed : AreFormed end.keeper.rows)
-    (is : IsAnswer host (wish_heard wish) Utf8 now answer end.ids end'.ids (told_by end.keeper) (told_by end'.keeper)) where
+    (is : IsAnswer host (wish_heard wish) Utf8 now answer end.memory end'.memory (told_by end.keeper) (told_by end'.keeper)) where
   by_done : (done : Result (List Offer) the_fault.CollectorFault) → CallsFor (λ rows. offers rows wish.source host) no_effect done (told_by end.keeper) (told_by end'.keeper) → IfErr done IsFailure
-      → is.said ≡ said_with says.Offers done → Offered wish end.ids end'.ids end.keeper.rows end'.keeper.rows answer
+      → is.said ≡ said_with says.Offers done → Offered wish end.memory end'.memory end.keeper.rows end'.keeper.rows answer
   by_done (Ok list) call answered said =
       let list_is : list ≡ offers end.keeper.rows wish.source host = call.did.answer.1 in
       let said_is : is.said ≡ says.Offers (offers end.keeper.rows wish.source host) = said ∙ ap says.Offers list_is in
       record {
         rows_stay = call.did.answer.0;
-        ids_are = is.drawn ∙ ap (ids_behind end.ids) said_is ∙ drawn_at_once (length (offers end.keeper.rows wish.source host)) end.ids;
+        memory_is = is.drawn ∙ ap (memory_behind end.memory) said_is ∙ (λ i. record end.memory { ids = drawn_at_once (length (offers end.keeper.rows wish.source host)) end.memory.ids i });
         gave = record {
           asked = can;
-          written = is.written ∙ ap (answer_of end.ids Utf8 (Some wish.id)) said_is;
-          spelt = subst (IsSpeltFor end.ids) said_is is.spelt;
+          written = is.written ∙ ap (answer_of end.memory.ids Utf8 (Some wish.id)) said_is;
+          spelt = subst (IsSpeltFor end.memory.ids) said_is is.spelt;
         };
       }
   by_done (Err faults.Failed) call answered said = let never : true ≡ false = (call.did.planned formed).0 in absurd (no never)
@@ -113,45 +115,45 @@ module _ (wish : Wish) (end end' : Collector MemKeeper) (now : ℕ) (answer : An
   by_done (Err faults.Ended) call answered said = absurd answered
   by_done (Err faults.NotWellFormed) call answered said = absurd answered
 
-  pub ask_answered : Offered wish end.ids end'.ids end.keeper.rows end'.keeper.rows answer
+  pub ask_answered : Offered wish end.memory end'.memory end.keeper.rows end'.keeper.rows answer
   ask_answered = by_done is.stepped.0 is.stepped.1 is.stepped.2 is.stepped.3
 
 -- ---- the message
 
 -- the bytes that are written for offers are those of an answer with offers
-can_be_answered : (wish : Wish) (ids : Ids) (rows : Rows) (answer : Answer) → HasOffered wish ids (offers rows wish.source host) answer → CanOffer rows wish.source
-    → CanBeAnswered (reply_id ids) wish.id (offers rows wish.source host)
-can_be_answered wish ids rows answer gave can = record {
+can_be_answered : (wish : Wish) (memory : Memory) (rows : Rows) (answer : Answer) → HasOffered wish memory (offers rows wish.source host) answer → CanOffer rows wish.source
+    → CanBeAnswered (reply_id memory) wish.id (offers rows wish.source host)
+can_be_answered wish memory rows answer gave can = record {
   id = gave.spelt.0;
-  id_text = id_text_good (next_id ids);
+  id_text = id_text_good (next_id memory.ids);
   relates = gave.asked.spelt;
   relates_text = gave.asked.id;
-  nested = subst (λ (nested : List MessageId). AllByRecursion IsSpelt nested) (sym (offers_are_read.nested ids (offers rows wish.source host))) gave.spelt.1;
+  nested = subst (λ (nested : List MessageId). AllByRecursion IsSpelt nested) (sym (offers_are_read.nested memory.ids (offers rows wish.source host))) gave.spelt.1;
   plain = can.0;
   stand = can.1;
 }
 
-bytes_of : (wish : Wish) (ids : Ids) (rows : Rows) (answer : Answer) → HasOffered wish ids (offers rows wish.source host) answer → answer.body ≡ offers_bytes (reply_id ids) wish.id (offers rows wish.source host)
-bytes_of wish ids rows answer gave = ap (λ (a : Answer). a.body) gave.written ∙ offers_are_read.written ids wish.id (offers rows wish.source host)
+bytes_of : (wish : Wish) (memory : Memory) (rows : Rows) (answer : Answer) → HasOffered wish memory (offers rows wish.source host) answer → answer.body ≡ offers_bytes (reply_id memory) wish.id (offers rows wish.source host)
+bytes_of wish memory rows answer gave = ap (λ (a : Answer). a.body) gave.written ∙ offers_are_read.written memory.ids wish.id (offers rows wish.source host)
 
-pub offers_written : (wish : Wish) (ids : Ids) (rows : Rows) (answer : Answer) → HasOffered wish ids (offers rows wish.source host) answer → CanOffer rows wish.source → AreOffers answer.body
-offers_written wish ids rows answer gave can = record {
-  said = record { id = reply_id ids; relates = wish.id; offers = offers rows wish.source host };
-  can_be_answered = can_be_answered wish ids rows answer gave can;
-  bytes_are = bytes_of wish ids rows answer gave;
+pub offers_written : (wish : Wish) (memory : Memory) (rows : Rows) (answer : Answer) → HasOffered wish memory (offers rows wish.source host) answer → CanOffer rows wish.source → AreOffers answer.body
+offers_written wish memory rows answer gave can = record {
+  said = record { id = reply_id memory; relates = wish.id; offers = offers rows wish.source host };
+  can_be_answered = can_be_answered wish memory rows answer gave can;
+  bytes_are = bytes_of wish memory rows answer gave;
 }
 
-pub offers_say : (wish : Wish) (ids : Ids) (rows : Rows) (answer : Answer) → HasOffered wish ids (offers rows wish.source host) answer → CanOffer rows wish.source
-    → answered answer.body ≡ record { id = reply_id ids; relates = wish.id; offers = offers rows wish.source host }
-offers_say wish ids rows answer gave can =
-    ap answered (bytes_of wish ids rows answer gave) ∙ answered_is (reply_id ids) wish.id (offers rows wish.source host) (can_be_answered wish ids rows answer gave can)
+pub offers_say : (wish : Wish) (memory : Memory) (rows : Rows) (answer : Answer) → HasOffered wish memory (offers rows wish.source host) answer → CanOffer rows wish.source
+    → answered answer.body ≡ record { id = reply_id memory; relates = wish.id; offers = offers rows wish.source host }
+offers_say wish memory rows answer gave can =
+    ap answered (bytes_of wish memory rows answer gave) ∙ answered_is (reply_id memory) wish.id (offers rows wish.source host) (can_be_answered wish memory rows answer gave can)
 
 -- ---- the collector in its place
 
 -- what is known of an opened collector that runs
 record Runs (c : machine.Collector) (end : Collector MemKeeper) : Type 0 where
   rows : end.keeper.rows ≡ (collector_opened c).rows
-  memory : Some end.ids ≡ (collector_opened c).memory
+  memory : Some end.memory ≡ (collector_opened c).memory
 
 runs_so : (c : machine.Collector) (placed : Placed (Collector MemKeeper)) (end : Collector MemKeeper) → collector_of placed ≡ collector_opened c → Some end ≡ end_in placed.place → Runs c end
 runs_so c placed end opened there =
@@ -166,15 +168,15 @@ can_offer : (c : machine.Collector) (end : Collector MemKeeper) (wish : Wish) (s
 can_offer c end wish s runs own can = subst (λ (p : Rows × List ℕ). CanOffer p.0 p.1) (sym (λ i. (runs.rows i, own i))) can
 
 pub ask_written : (c : machine.Collector) (placed : Placed (Collector MemKeeper)) (end : Collector MemKeeper) (wish : Wish) (s : List ℕ) (answer : Answer) → collector_of placed ≡ collector_opened c → Some end ≡ end_in placed.place
-    → wish.source ≡ s → CanOffer (collector_opened c).rows s → HasOffered wish end.ids (offers end.keeper.rows wish.source host) answer → AreOffers answer.body
+    → wish.source ≡ s → CanOffer (collector_opened c).rows s → HasOffered wish end.memory (offers end.keeper.rows wish.source host) answer → AreOffers answer.body
 ask_written c placed end wish s answer opened there own can gave =
-    offers_written wish end.ids end.keeper.rows answer gave (can_offer c end wish s (runs_so c placed end opened there) own can)
+    offers_written wish end.memory end.keeper.rows answer gave (can_offer c end wish s (runs_so c placed end opened there) own can)
 
 pub ask_taken : (c : machine.Collector) (placed : Placed (Collector MemKeeper)) (end : Collector MemKeeper) (wish : Wish) (s : List ℕ) (answer : Answer) (word : List ℕ) (message : Message) → collector_of placed ≡ collector_opened c
-    → Some end ≡ end_in placed.place → wish.source ≡ s → CanOffer (collector_opened c).rows s → HasOffered wish end.ids (offers end.keeper.rows wish.source host) answer → word ≡ codes "offers"
+    → Some end ≡ end_in placed.place → wish.source ≡ s → CanOffer (collector_opened c).rows s → HasOffered wish end.memory (offers end.keeper.rows wish.source host) answer → word ≡ codes "offers"
     → message ≡ offers_message s (answered answer.body) → ◌≡◌ {A = Taken} (record { word = word; answer = Some message }) (asked_of c s wish.id)
 ask_taken c placed end wish s answer word message opened there own can gave said is =
     let runs = runs_so c placed end opened there in
-    let says = offers_say wish end.ids end.keeper.rows answer gave (can_offer c end wish s runs own can) in
-    (λ i. record { word = said i; answer = Some ((is ∙ ap (offers_message s) says ∙ (λ j. sent.Offers s (reply_id end.ids) wish.id (offers (runs.rows j) (own j) host))) i) })
+    let says = offers_say wish end.memory end.keeper.rows answer gave (can_offer c end wish s runs own can) in
+    (λ i. record { word = said i; answer = Some ((is ∙ ap (offers_message s) says ∙ (λ j. sent.Offers s (reply_id end.memory) wish.id (offers (runs.rows j) (own j) host))) i) })
     ∙ ap (asked_by c s wish.id) runs.memory

@@ -25,7 +25,7 @@ use Rattle.wef_http_heads.specs.declared.targets.Target as the_target
 use Rattle.wef_http_heads.specs.declared.targets.Target.TheVariants.{Delivery as Delivers}
 use Rattle.wef_ids.specs.declared.FaultName.TheVariants.{DestinationUnreachable}
 use Rattle.wef_ids.specs.declared.MessageId.{MessageId}
-use Rattle.wef_ids.specs.declared.ids.Ids.{Ids}
+use Rattle.wef_collector.specs.declared.memories.Memory.{Memory}
 use Rattle.wef_machine.specs.Printed.{fault_answer}
 use Rattle.wef_machine.specs.declared.arming.Fate as the_fate
 use Rattle.wef_machine.specs.declared.arming.Fate.TheVariants as fates
@@ -72,11 +72,11 @@ heard_of delivery = record { relates = Some delivery.id; asked = asked_at (subsc
 abbrev pub CanOffer : Rows → List ℕ → Type 0
 CanOffer rows s = AllByRecursion IsPlainOffer (offers rows s host) × AllByRecursion OfferCanStand (offers rows s host)
 
--- An answer is what is written of offers, under the next id of some ids, to a wish.
-pub record HasOffered (wish : Wish) (ids : Ids) (list : List Offer) (answer : Answer) : Type 0 where
+-- An answer is what is written of offers, under the next id of some memory, to a wish.
+pub record HasOffered (wish : Wish) (memory : Memory) (list : List Offer) (answer : Answer) : Type 0 where
   pub asked : CanBeAsked wish
-  pub written : answer ≡ answer_of ids Utf8 (Some wish.id) (Offers list)
-  pub spelt : IsSpeltFor ids (Offers list)
+  pub written : answer ≡ answer_of memory.ids Utf8 (Some wish.id) (Offers list)
+  pub spelt : IsSpeltFor memory.ids (Offers list)
 
 -- ---- what is answered
 
@@ -85,13 +85,13 @@ abbrev pub IsSaidToBatch : Said → Type 0
 IsSaidToBatch (Offers list) = ⊥
 IsSaidToBatch _ = Unit {0}
 
--- An answer is what is written, under the next id of some ids, of what was said to a batch.
+-- An answer is what is written, under the next id of some memory, of what was said to a batch.
 pub record IsWritten (answer : Answer) : Type 0 where
-  pub ids : Ids
+  pub memory : Memory
   pub said : Said
   pub relates : MessageId
-  pub written : answer ≡ answer_of ids Utf8 (Some relates) said
-  pub spelt : IsSpeltFor ids said
+  pub written : answer ≡ answer_of memory.ids Utf8 (Some relates) said
+  pub spelt : IsSpeltFor memory.ids said
   pub known : IsKnownSaid said
   pub of_batch : IsSaidToBatch said
   pub relates_spelt : IsSpelt relates

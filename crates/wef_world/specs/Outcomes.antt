@@ -7,7 +7,7 @@ use Rattle.wef_collector_rows.specs.declared.faults.CollectorFault.TheVariants.{
 use Rattle.wef_ids.specs.declared.FaultName.{FaultName}
 use Rattle.wef_ids.specs.declared.FaultName.TheVariants.{InvalidMessage, DestinationUnreachable, InternalError}
 use Rattle.wef_ids.specs.declared.MessageId.{MessageId}
-use Rattle.wef_ids.specs.declared.ids.Ids.{Ids}
+use Rattle.wef_collector.specs.declared.memories.Memory.{Memory}
 use Rattle.wef_machine.specs.Arming.{fate}
 use Rattle.wef_machine.specs.Collecting.{collector_opened, collector_opening, draws, reply_id}
 use Rattle.wef_machine.specs.Deliveries.{BatchEffect, answer_by, batch_word, delivery_effect}
@@ -63,10 +63,10 @@ reply_to (Answered (Broken how)) batch = broken_reply how
 reply_to (Answered (Refused fault)) batch = Some (replies.Fault fault)
 
 -- a collector that runs sends it, with an id that it draws for it
-abbrev pub sent_by : List ℕ → MessageId → Option Reply → Option Ids → Option Message
+abbrev pub sent_by : List ℕ → MessageId → Option Reply → Option Memory → Option Message
 sent_by s relates None memory = None
 sent_by s relates (Some reply) None = None
-sent_by s relates (Some reply) (Some ids) = Some (reply_message s (reply_id ids) relates reply)
+sent_by s relates (Some reply) (Some memory) = Some (reply_message s (reply_id memory) relates reply)
 
 abbrev pub drawn_for : {A : Type 0} → Option A → Collector → Collector
 drawn_for None c = c
@@ -77,16 +77,16 @@ abbrev pub closed_of : the_fate.Fate → Taken
 closed_of how = record { word = fate_word how; answer = None }
 
 -- what the collector makes of an ask, and is then
-abbrev pub asked_by : Collector → List ℕ → MessageId → Option Ids → Taken
+abbrev pub asked_by : Collector → List ℕ → MessageId → Option Memory → Taken
 asked_by c s id None = closed_of (collector_opening c)
-asked_by c s id (Some ids) = record { word = codes "offers"; answer = Some (sent.Offers s (reply_id ids) id (offers (collector_opened c).rows s host)) }
+asked_by c s id (Some memory) = record { word = codes "offers"; answer = Some (sent.Offers s (reply_id memory) id (offers (collector_opened c).rows s host)) }
 
 abbrev pub asked_of : Collector → List ℕ → MessageId → Taken
 asked_of c s id = asked_by c s id (collector_opened c).memory
 
-abbrev pub asked_left_by : Collector → List ℕ → Option Ids → Collector
+abbrev pub asked_left_by : Collector → List ℕ → Option Memory → Collector
 asked_left_by c s None = collector_opened c
-asked_left_by c s (Some ids) = draws (length (offers (collector_opened c).rows s host) + 1) (collector_opened c)
+asked_left_by c s (Some memory) = draws (length (offers (collector_opened c).rows s host) + 1) (collector_opened c)
 
 abbrev pub asked_left : Collector → List ℕ → Collector
 asked_left c s = asked_left_by c s (collector_opened c).memory
@@ -101,17 +101,17 @@ answer_for c (Ok changes) s id delivery = answer_by (fate c.armed changes) s id 
 answer_for c (Err fault) s id delivery = Some (sent.Fault s id delivery.id fault)
 
 -- what the collector makes of a delivery with this effect, by how its opening went, and is then
-abbrev pub events_by : the_fate.Fate → Collector → List ℕ → Delivery → BatchEffect → Option Ids → Taken
+abbrev pub events_by : the_fate.Fate → Collector → List ℕ → Delivery → BatchEffect → Option Memory → Taken
 events_by how c s delivery effect None = closed_of how
-events_by how c s delivery effect (Some ids) = record { word = word_for c effect delivery.batch; answer = answer_for c effect s (reply_id ids) delivery }
+events_by how c s delivery effect (Some memory) = record { word = word_for c effect delivery.batch; answer = answer_for c effect s (reply_id memory) delivery }
 
 abbrev pub events_of : Collector → List ℕ → Delivery → ℕ → Taken
 events_of c s delivery now =
     events_by (collector_opening c) (collector_opened c) s delivery (delivery_effect (collector_opened c).rows delivery now) (collector_opened c).memory
 
-abbrev pub events_left_by : Collector → List ℕ → Delivery → BatchEffect → Option Ids → Collector
+abbrev pub events_left_by : Collector → List ℕ → Delivery → BatchEffect → Option Memory → Collector
 events_left_by c s delivery effect None = c
-events_left_by c s delivery effect (Some ids) = drawn_for (answer_for c effect s (reply_id ids) delivery) (after_call c effect)
+events_left_by c s delivery effect (Some memory) = drawn_for (answer_for c effect s (reply_id memory) delivery) (after_call c effect)
 
 abbrev pub events_left : Collector → List ℕ → Delivery → ℕ → Collector
 events_left c s delivery now =

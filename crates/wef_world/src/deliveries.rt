@@ -5,12 +5,12 @@ ghost use Rattle.std.specs.Option.{option_copied};
 ghost use Rattle.std.specs.Prelude.{◌≡◌, ◌+◌, ◌-◌, ◌==◌, length, slice_get, Some, if◌then◌else◌, IfOk, OnOk};
 ghost use Rattle.wef_base.specs.declared.tree.Charset.TheVariants.{Utf8};
 ghost use Rattle.wef_batch.specs.Numbers.{AreNumbered};
+ghost use Rattle.wef_collector.specs.Memories.{drawn_in};
 ghost use Rattle.wef_collector.specs.Offers.{offers};
 ghost use Rattle.wef_collector_rows.specs.Forms.{AreFormed};
 ghost use Rattle.wef_front_source.specs.HeardReplies.{offers_told, told};
 ghost use Rattle.wef_front_collector.specs.Replies.{IsAnswer};
 ghost use Rattle.wef_front_source.specs.Sending.{CanBeSent};
-ghost use Rattle.wef_ids.specs.Ids.{with_drawn};
 ghost use Rattle.wef_keeper.specs.Keeping.{raised};
 ghost use Rattle.wef_machine.specs.Collecting as collecting;
 ghost use Rattle.wef_machine.specs.Deliveries as steps;
@@ -192,8 +192,8 @@ fn answer_to_ask<A: Answers>(
 ) -> Result<Answer, WorldFault>
     requires { AreFormed collector.old.keeper.rows }
     ensures rows { OnOk result (collector.new.keeper.rows ≡ collector.old.keeper.rows) }
-    ensures ids { OnOk result (collector.new.ids ≡ with_drawn (length (offers collector.old.keeper.rows wish.now.source states.host) + 1) collector.old.ids) }
-    ensures answer { IfOk result (answered.HasOffered wish.now collector.old.ids (offers collector.old.keeper.rows wish.now.source states.host)) }
+    ensures memory { OnOk result (collector.new.memory ≡ drawn_in (length (offers collector.old.keeper.rows wish.now.source states.host) + 1) collector.old.memory) }
+    ensures answer { IfOk result (answered.HasOffered wish.now collector.old.memory (offers collector.old.keeper.rows wish.now.source states.host)) }
     ensures calls { OnOk result (A.calls answers.new ≡ raised (A.calls answers.old)) }
 {
     let host = host(alloc)?;
@@ -254,7 +254,7 @@ fn answer_to_delivery<A: Answers>(
     now: Moment,
 ) -> Result<Answer, WorldFault>
     requires { answered.Leads delivery.now }
-    ensures answer { IfOk result (λ answer. IsAnswer states.host (answered.heard_of delivery.now) Utf8 now answer collector.old.ids collector.new.ids (⟦<MemKeeper as Keeper>⟧.store collector.old.keeper) (⟦<MemKeeper as Keeper>⟧.store collector.new.keeper)) }
+    ensures answer { IfOk result (λ answer. IsAnswer states.host (answered.heard_of delivery.now) Utf8 now answer collector.old.memory collector.new.memory (⟦<MemKeeper as Keeper>⟧.store collector.old.keeper) (⟦<MemKeeper as Keeper>⟧.store collector.new.keeper)) }
     ensures sent { OnOk result (CanBeSent delivery.now) }
     ensures calls { OnOk result (A.calls answers.new ≡ raised (A.calls answers.old)) }
 {

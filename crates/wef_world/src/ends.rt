@@ -54,7 +54,7 @@ impl Model for Ends {
     ghost use Rattle.std.specs.Coded.{code_by, coded_ℕ, coded_list, coded×};
     ghost use Rattle.std.specs.FinMap as map;
     ghost use Rattle.std.specs.Prelude.{ℕ, List, refl};
-    ghost use Rattle.wef_ids.specs.contracts.ids.Ids as ids;
+    ghost use Rattle.wef_collector.specs.contracts.memories.Memory as memory;
     ghost use Rattle.wef_machine.specs.States.{Collector, Slots, State};
     ghost use Rattle.wef_machine.specs.contracts.messages.Message as message;
     ghost use Rattle.wef_machine.specs.declared.messages.Message.{Message};
@@ -64,7 +64,7 @@ impl Model for Ends {
     ghost Value = { State };
 
     ghost coded = { code_by ((Collector × List (List ℕ)) × (Slots × (List Message × ℕ)))
-        (coded× (coded× (coded_place ids.the_row.coded) (coded_list (coded_list coded_ℕ)))
+        (coded× (coded× (coded_place memory.the_row.coded) (coded_list (coded_list coded_ℕ)))
         (coded× (map.code (coded_list coded_ℕ) slot.the_row.coded) (coded× (coded_list message.the_row.coded) coded_ℕ)))
         (λ s. ((s.collector, s.foreign), (s.sources, (s.messages, s.moment))))
         (λ p. record { collector = p.0.0; foreign = p.0.1; sources = p.1.0; messages = p.1.1.0; moment = p.1.1.1 }) (λ _. refl) };
@@ -193,8 +193,8 @@ impl Ends {
     ) -> Result<Text, WorldFault>
         requires formed { AreFormed self.old.collector.rows }
         requires back { made.ReadsBack (steps.subscription_of sub.now items bytes beat query.now) }
-        ensures state { OnOk result (self.new ≡ collecting.at_collector self.old (λ ids. steps.subscribe_at (steps.subscription_of sub.now items bytes beat query.now))) }
-        ensures printed { IfOk result (λ text. text ≡ collecting.print_at_collector self.old steps.closed_line (λ ids. steps.subscribe_text (steps.subscription_of sub.now items bytes beat query.now))) }
+        ensures state { OnOk result (self.new ≡ collecting.at_collector self.old (λ memory. steps.subscribe_at (steps.subscription_of sub.now items bytes beat query.now))) }
+        ensures printed { IfOk result (λ text. text ≡ collecting.print_at_collector self.old steps.closed_line (λ memory. steps.subscribe_text (steps.subscription_of sub.now items bytes beat query.now))) }
     {
         let subscription = subscription_of(self.alloc, sub, items, bytes, beat, query)?;
         let call = Call::Add(&subscription);
@@ -205,8 +205,8 @@ impl Ends {
 
     fn end(&mut self, sub: &SubId) -> Result<Text, WorldFault>
         requires formed { AreFormed self.old.collector.rows }
-        ensures state { OnOk result (self.new ≡ collecting.at_collector self.old (λ ids. steps.end_at sub.now)) }
-        ensures printed { IfOk result (λ text. text ≡ collecting.print_at_collector self.old steps.closed_line (λ ids. steps.end_text sub.now)) }
+        ensures state { OnOk result (self.new ≡ collecting.at_collector self.old (λ memory. steps.end_at sub.now)) }
+        ensures printed { IfOk result (λ text. text ≡ collecting.print_at_collector self.old steps.closed_line (λ memory. steps.end_text sub.now)) }
     {
         let ended = collecting::make_call(&mut self.collector, self.alloc, Call::End(sub))?;
         Ok(ended_line(self.alloc, sub.as_text(), ended)?)
@@ -215,9 +215,9 @@ impl Ends {
     fn take(&mut self, sub: &SubId, source: &SourceName, batch: &Batch) -> Result<Text, WorldFault>
         requires formed { AreFormed self.old.collector.rows }
         requires numbered { AreNumbered batch.now.items }
-        ensures state { OnOk result (self.new ≡ collecting.at_collector (states.with_foreign self.old source.now) (λ ids. steps.batch_at sub.now source.now batch.now)) }
+        ensures state { OnOk result (self.new ≡ collecting.at_collector (states.with_foreign self.old source.now) (λ memory. steps.batch_at sub.now source.now batch.now)) }
         ensures printed { IfOk result (λ text. text
-            ≡ collecting.print_at_collector (states.with_foreign self.old source.now) (steps.closed_batch sub.now source.now) (λ ids. steps.batch_line sub.now source.now batch.now)) }
+            ≡ collecting.print_at_collector (states.with_foreign self.old source.now) (steps.closed_batch sub.now source.now) (λ memory. steps.batch_line sub.now source.now batch.now)) }
     {
         self.note_foreign(source)?;
         let (alloc, now) = (self.alloc, self.moment);
@@ -236,8 +236,8 @@ impl Ends {
 
     fn show(&mut self) -> Result<Text, WorldFault>
         requires formed { AreFormed self.old.collector.rows }
-        ensures state { OnOk result (self.new ≡ collecting.at_collector self.old (λ ids. steps.unchanged)) }
-        ensures printed { IfOk result (λ text. text ≡ collecting.print_at_collector self.old steps.closed_line (λ ids. steps.show_text)) }
+        ensures state { OnOk result (self.new ≡ collecting.at_collector self.old (λ memory. steps.unchanged)) }
+        ensures printed { IfOk result (λ text. text ≡ collecting.print_at_collector self.old steps.closed_line (λ memory. steps.show_text)) }
     {
         let fate = collecting::open(&mut self.collector, self.alloc)?;
         let Some(collector) = self.collector.running() else {
@@ -256,8 +256,8 @@ impl Ends {
         channel: &ChannelName,
     ) -> Result<Text, WorldFault>
         requires formed { AreFormed self.old.collector.rows }
-        ensures state { OnOk result (self.new ≡ collecting.at_collector self.old (λ ids. steps.unchanged)) }
-        ensures printed { IfOk result (λ text. text ≡ collecting.print_at_collector self.old steps.closed_line (λ ids. steps.print_text sub.now source.now channel.now)) }
+        ensures state { OnOk result (self.new ≡ collecting.at_collector self.old (λ memory. steps.unchanged)) }
+        ensures printed { IfOk result (λ text. text ≡ collecting.print_at_collector self.old steps.closed_line (λ memory. steps.print_text sub.now source.now channel.now)) }
     {
         let fate = collecting::open(&mut self.collector, self.alloc)?;
         let Some(collector) = self.collector.running() else {

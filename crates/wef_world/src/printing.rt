@@ -200,7 +200,7 @@ pub fn held_text(
 ) -> Result<Text, CollectorFault>
     requires formed { AreFormed collector.old.keeper.rows }
     ensures rows { collector.new.keeper.rows ≡ collector.old.keeper.rows }
-    ensures ids { collector.new.ids ≡ collector.old.ids }
+    ensures memory { collector.new.memory ≡ collector.old.memory }
     ensures known { OnOk result (answers.is_known (standing collector.old.keeper.rows sub.now) ≡ true) }
     ensures text { IfOk result (λ text. text ≡ events_text (held_after collector.old.keeper.rows sub.now source.now channel.now 0)) }
     ensures refusal { IfErr result (λ fault. answers.RefusesUnknown fault (Some collector.old.keeper.rows) sub.now) }

@@ -6,7 +6,7 @@ use Rattle.wef_world.proofs.deliveries.take_delivery.Goals as goal
 
 pub taken_by-requires : goal.taken_by-requires
 taken_by-requires g c =
-    answer_is_written c.args.delivery.now c.args.now c.in_ok-answer.answer c.in-Some.running.now.ids c.answer_to_delivery.new.collector.ids (told_by c.in-Some.running.now.keeper)
+    answer_is_written c.args.delivery.now c.args.now c.in_ok-answer.answer c.in-Some.running.now.memory c.answer_to_delivery.new.collector.memory (told_by c.in-Some.running.now.keeper)
     (told_by c.answer_to_delivery.new.collector.keeper) c.in_ok-answer.ensures.sent c.requires.leads c.in_ok-answer.ensures.answer
 
 pub returns-clause-collector : goal.returns-clause-collector

@@ -7,7 +7,7 @@ use Rattle.wef_world.proofs.printing.held_text.Given as goal
 abbrev pub invariant-loop-text : goal.invariant-loop-text
 invariant-loop-text l = record {
   rows : l.collector.keeper.rows ≡ l.initial.collector.keeper.rows;
-  ids : l.collector.ids ≡ l.initial.collector.ids;
+  memory : l.collector.memory ≡ l.initial.collector.memory;
   done : l.text ++ flat_map event_line (held_after l.collector.keeper.rows l.sub l.source l.channel l.after)
       ≡ flat_map event_line (held_after l.collector.keeper.rows l.sub l.source l.channel 0);
 }

@@ -16,4 +16,4 @@ returns-clause-printed c =
     let before : State = the_view c.self.inside in
     c.in_ok-ended_line.ensures ∙ ap (λ (name : List ℕ). ended_text name c.in_ok-ended.ended) c.as_text.ensures.value
     ∙ called_prints before (λ rows. end_effect rows u) (name_line (codes "ended") u) (end_refused u) (λ (now : State). end_text_by now u) (λ changes. refl, λ fault. refl) c.in_ok-ended.ended c.in_ok-ended.ensures.called
-    ∙ ap (λ (state : State). print_at_collector state closed_line (λ ids. end_text u)) c.self.view_is
+    ∙ ap (λ (state : State). print_at_collector state closed_line (λ memory. end_text u)) c.self.view_is

@@ -19,5 +19,5 @@ returns-clause-printed c =
     c.in_ok-added_line.ensures ∙ ap (λ (name : List ℕ). added_text name c.in_ok-added.field-0) c.as_text.ensures.value
     ∙ called_prints before (λ rows. add_effect rows given) (name_line (codes "added") u) (subscribe_refused u) (λ (now : State). subscribe_text_by now u) (λ changes. refl, λ fault. refl)
     c.in_ok-added.field-0 c.in_ok-added.ensures.called
-    ∙ ap (λ (state : State). print_at_collector state closed_line (λ ids now. subscribe_text_by now u (add_effect now.collector.rows given))) c.self.view_is
-    ∙ ap (λ (s : Subscription). print_at_collector c.args.self.now closed_line (λ ids now. subscribe_text_by now u (add_effect now.collector.rows s))) c.in_ok-subscription.ensures
+    ∙ ap (λ (state : State). print_at_collector state closed_line (λ memory now. subscribe_text_by now u (add_effect now.collector.rows given))) c.self.view_is
+    ∙ ap (λ (s : Subscription). print_at_collector c.args.self.now closed_line (λ memory now. subscribe_text_by now u (add_effect now.collector.rows s))) c.in_ok-subscription.ensures

@@ -12,4 +12,4 @@ returns-clause-printed c =
     let s = c.args.source.now in
     let batch = c.args.batch.now in
     c.in_ok-batch_line.ensures ∙ ap (batch_text u s) (c.as_str.ensures ∙ c.in_ok-word.ensures) ∙ batch_says _ u s batch c.in_ok-taken.taken c.in_ok-taken.ensures.outcome
-    ∙ ap (λ (state : State). print_at_collector state (closed_batch u s) (λ ids. batch_line u s batch)) (c.self.view_is ∙ c.in_ok-note_foreign.ensures)
+    ∙ ap (λ (state : State). print_at_collector state (closed_batch u s) (λ memory. batch_line u s batch)) (c.self.view_is ∙ c.in_ok-note_foreign.ensures)
