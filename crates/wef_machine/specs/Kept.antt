@@ -190,7 +190,7 @@ pub record IsRowKey (key : Key) : Type 0 where
   pub bookmark : key.kind ≡ 2 → key.number ≡ 0
 
 -- What is kept of a world, by the rows that stand in the collector's store, the names of foreign sources, the declared
--- sources, all messages that were ever sent, and the moment. Whether the collector runs, which ids it drew, and what is
+-- sources, all messages that were ever sent, and the moment. Whether the collector runs, what it remembers, and what is
 -- armed, says nothing of it.
 pub record IsWorldKept (rows : Rows) (foreign : List (List ℕ)) (slots : Slots) (all : List Message) (moment : ℕ) : Type 0 where
   -- of every source that no `batch` line named, what is kept is safe; nothing is kept of what isn't there
