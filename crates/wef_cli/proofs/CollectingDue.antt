@@ -5,13 +5,13 @@ use Rattle.wef_base.specs.Counts.{Rose}
 use Rattle.wef_collector.specs.Boots.{memory_begun}
 use Rattle.wef_collector.specs.Calls.{boot_effect}
 use Rattle.wef_collector.specs.Laws.{BookmarksRise}
+use Rattle.wef_collector.specs.declared.memories.Memory.{Memory}
 use Rattle.wef_collector_rows.specs.Faults.{collector_store}
 use Rattle.wef_collector_rows.specs.Forms.{AreFormed}
 use Rattle.wef_collector_rows.specs.declared.faults.CollectorFault.{CollectorFault}
 use Rattle.wef_collector_rows.specs.declared.faults.CollectorFault.TheVariants as faults
 use Rattle.wef_collector_serving.proofs.OverRows.{requests_go_by_rows, turns_open}
 use Rattle.wef_collector_serving.specs.Answers.{KnownCollector}
-use Rattle.wef_collector.specs.declared.memories.Memory.{Memory}
 use Rattle.wef_keeper.proofs.Going.{calm_rows}
 use Rattle.wef_keeper.specs.Calls.{Did}
 use Rattle.wef_keeper.specs.Keeping.{MayFind, Store}

@@ -6,7 +6,6 @@ use Rattle.std.specs.Io.KnownBytes.{Appends}
 use Rattle.wef_base.specs.declared.numbers.TheConstants.{MAX}
 use Rattle.wef_documents.specs.Written.{document_text}
 use Rattle.wef_eventing.specs.declared.subscriptions.Subscription.{Subscription}
-use Rattle.wef_collector.specs.declared.memories.Memory.{Memory}
 use Rattle.wef_keeper.specs.Access.{AnyFound, From, IsReady}
 use Rattle.wef_keeper.specs.Calls.{Did, Makes}
 use Rattle.wef_keeper.specs.Keeping.{IsLawful, IsOneOf, Stays, StaysUntold, Store, WhereTold}
@@ -14,6 +13,7 @@ use Rattle.wef_keeper.specs.Rows.{Rows}
 use Rattle.wef_collector.specs.Boots.{boot_of, memory_begun}
 use Rattle.wef_collector.specs.Calls.{add_effect, boot_effect, end_by, end_effect}
 use Rattle.wef_collector.specs.Taken.{put}
+use Rattle.wef_collector.specs.declared.memories.Memory.{Memory}
 use Rattle.wef_collector.proofs.Live.{put_lives}
 use Rattle.wef_collector_reports.specs.Listing.{listed}
 use Rattle.wef_collector_reports.specs.Report.{report}

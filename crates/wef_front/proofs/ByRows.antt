@@ -16,12 +16,12 @@ use Rattle.wef_keeper.specs.declared.keys.Change.{Change}
 use Rattle.wef_keeper.proofs.Calls.{from_weaker}
 use Rattle.wef_keeper.proofs.Told.{told_any, told_map}
 use Rattle.wef_collector.specs.Offers.{offers}
+use Rattle.wef_collector.specs.declared.memories.Memory.{Memory}
 use Rattle.wef_collector_rows.specs.Faults.{collector_store}
 use Rattle.wef_collector_rows.specs.Forms.{AreFormed}
 use Rattle.wef_collector_rows.specs.declared.faults.CollectorFault.{CollectorFault}
 use Rattle.wef_collector_rows.specs.declared.faults.CollectorFault.TheVariants.{NoMemory, NoSubscription, Exists, Ended, NotWellFormed, TooMany, Failed, Full}
 use Rattle.wef_collector.specs.Calls.{Effect}
-use Rattle.wef_collector.specs.declared.memories.Memory.{Memory}
 use Rattle.wef_front.specs.Laws.{GoesByPlan, GoesByRows, HasFailed, IsReply, said_planned, tries_by}
 use Rattle.wef_front_collector.specs.Replies.{IsAnswer, answer_of, memory_behind, rows_by}
 use Rattle.wef_front_collector.proofs.SaidOfCalls.{offers_answered}

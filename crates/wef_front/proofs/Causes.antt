@@ -11,7 +11,6 @@ use Rattle.wef_envelope.specs.declared.envelopes.EnvelopeFault.{EnvelopeFault}
 use Rattle.wef_envelope.specs.declared.envelopes.EnvelopeFault.TheVariants as envelope
 use Rattle.wef_ids.specs.declared.FaultName.{FaultName}
 use Rattle.wef_ids.specs.declared.FaultName.TheVariants as the
-use Rattle.wef_collector.specs.declared.memories.Memory.{Memory}
 use Rattle.wef_base.specs.Names.{same, source_name, subscription_name}
 use Rattle.wef_envelope.specs.declared.actions.TheConstants.{ENUMERATE, EVENTS}
 use Rattle.wef_xml.specs.declared.faults.TreeFault.{TreeFault}
@@ -23,6 +22,7 @@ use Rattle.wef_collector_rows.specs.Forms.{AreFormed}
 use Rattle.wef_collector_rows.specs.declared.faults.CollectorFault.TheVariants.{NoMemory, NoSubscription, Exists, Ended, NotWellFormed, TooMany, Failed, Full}
 use Rattle.wef_collector.specs.Calls.{Effect, no_effect}
 use Rattle.wef_collector.specs.Offers.{offers}
+use Rattle.wef_collector.specs.declared.memories.Memory.{Memory}
 use Rattle.wef_eventing.specs.declared.offers.Offer.{Offer}
 use Rattle.wef_bodies.specs.Reading.{has_enumerate}
 use Rattle.std.specs.Option.{option_and_then}

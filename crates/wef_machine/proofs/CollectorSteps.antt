@@ -13,6 +13,7 @@ use Rattle.wef_batch.specs.declared.items.Batch.{Batch}
 use Rattle.wef_bookmark.specs.Order.{number_at}
 use Rattle.wef_collector.proofs.Hits.{not_both, one_name, same_self}
 use Rattle.wef_collector.specs.Boots.{boot_of, memory_begun}
+use Rattle.wef_collector.specs.declared.memories.Memory.{Memory}
 use Rattle.wef_collector_rows.specs.Bookmarks.{bookmark_at, bookmark_of, has_channel, raised_by_rows}
 use Rattle.wef_collector_rows.specs.Answers.{added_rows, channels_read, ended_rows, is_there}
 use Rattle.wef_collector.specs.Calls.{Effect, boot_effect, end_by}
@@ -25,7 +26,6 @@ use Rattle.wef_collector_rows.specs.declared.standings.Standing.TheVariants as s
 use Rattle.wef_ids.specs.declared.FaultName.{FaultName}
 use Rattle.wef_ids.specs.declared.FaultName.TheVariants.{InvalidMessage, DestinationUnreachable, InternalError}
 use Rattle.wef_ids.specs.declared.MessageId.{MessageId}
-use Rattle.wef_collector.specs.declared.memories.Memory.{Memory}
 use Rattle.wef_documents.specs.Kept.{read_kept}
 use Rattle.wef_documents.specs.Written.{document_text}
 use Rattle.wef_eventing.specs.declared.subscriptions.Subscription.{Subscription}

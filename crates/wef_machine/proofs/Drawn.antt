@@ -13,7 +13,9 @@ use Rattle.wef_batch.specs.declared.items.Batch as items
 use Rattle.wef_collector_rows.specs.Answers.{channels_read, is_there}
 use Rattle.wef_collector.specs.Boots.{boot_of, memory_begun}
 use Rattle.wef_collector.specs.Calls.{Effect as CollectorEffect, add_effect, boot_effect, end_by, end_effect}
+use Rattle.wef_collector.specs.Memories.{drawn_in}
 use Rattle.wef_collector.specs.Offers.{offers}
+use Rattle.wef_collector.specs.declared.memories.Memory.{Memory}
 use Rattle.wef_collector_rows.specs.Keys.{boot_key, subscription_key}
 use Rattle.wef_collector_rows.specs.Standing.{is_full, kept_body, standing}
 use Rattle.wef_collector.specs.Taken.{batch_changes, put, taken}
@@ -22,8 +24,6 @@ use Rattle.wef_collector_rows.specs.declared.standings.Standing.{Standing}
 use Rattle.wef_collector_rows.specs.declared.standings.Standing.TheVariants as stands
 use Rattle.wef_ids.specs.Ids.{next_id}
 use Rattle.wef_ids.specs.declared.FaultName.TheVariants.{InternalError, InvalidMessage}
-use Rattle.wef_collector.specs.Memories.{drawn_in}
-use Rattle.wef_collector.specs.declared.memories.Memory.{Memory}
 use Rattle.wef_event.specs.Events.{Event}
 use Rattle.wef_event.specs.Unnumbered.{new_event}
 use Rattle.wef_eventing.specs.Addresses.{source_in, subscription_in}

@@ -8,6 +8,7 @@ use Rattle.wef_batch.specs.declared.items.Batch as items
 use Rattle.wef_collector_rows.specs.Answers.{channels_read, is_there}
 use Rattle.wef_collector.specs.Boots.{boot_of, memory_begun}
 use Rattle.wef_collector.specs.Calls.{Effect, boot_effect, end_by}
+use Rattle.wef_collector.specs.declared.memories.Memory.{Memory}
 use Rattle.wef_collector_rows.specs.Keys.{boot_key, subscription_key}
 use Rattle.wef_collector_rows.specs.Standing.{is_full, kept_body, standing}
 use Rattle.wef_collector.specs.Taken.{batch_changes, put, taken}
@@ -15,7 +16,6 @@ use Rattle.wef_collector_rows.specs.declared.faults.CollectorFault.TheVariants a
 use Rattle.wef_collector_rows.specs.declared.standings.Standing.{Standing}
 use Rattle.wef_collector_rows.specs.declared.standings.Standing.TheVariants as stands
 use Rattle.wef_ids.specs.declared.FaultName.TheVariants.{InvalidMessage}
-use Rattle.wef_collector.specs.declared.memories.Memory.{Memory}
 use Rattle.wef_event.specs.Events.{Event}
 use Rattle.wef_event.specs.Unnumbered.{new_event}
 use Rattle.wef_eventing.specs.Addresses.{source_in, subscription_in}

@@ -12,12 +12,12 @@ use Rattle.wef_batch.specs.declared.items.Batch as items
 use Rattle.wef_bookmark.specs.Order.{Marks, joined, number_at}
 use Rattle.wef_collector.proofs.Hits.{not_both}
 use Rattle.wef_collector.specs.Offers.{offers}
+use Rattle.wef_collector.specs.declared.memories.Memory.{Memory as Remembered}
 use Rattle.wef_ids.specs.IdTexts.{id_of_value}
 use Rattle.wef_ids.specs.Ids.{ids_agree}
 use Rattle.wef_ids.specs.declared.FaultName.{FaultName}
 use Rattle.wef_ids.specs.declared.FaultName.TheVariants.{InternalError}
 use Rattle.wef_ids.specs.declared.MessageId.{MessageId}
-use Rattle.wef_collector.specs.declared.memories.Memory.{Memory as Remembered}
 use Rattle.wef_event.specs.Events.{Event}
 use Rattle.wef_event.specs.Unnumbered.{new_event}
 use Rattle.wef_eventing.specs.Addresses.{subscription_in}

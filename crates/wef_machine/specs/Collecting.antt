@@ -3,10 +3,10 @@ use Rattle.std.specs.Prelude.{ℕ, List, Option, Some, None}
 use Rattle.std.specs.Option.{option_map}
 use Rattle.wef_collector.specs.Boots.{memory_begun}
 use Rattle.wef_collector.specs.Calls.{boot_effect}
-use Rattle.wef_ids.specs.IdTexts.{id_of_value}
-use Rattle.wef_ids.specs.Ids.{next_id}
 use Rattle.wef_collector.specs.Memories.{drawn_in}
 use Rattle.wef_collector.specs.declared.memories.Memory.{Memory}
+use Rattle.wef_ids.specs.IdTexts.{id_of_value}
+use Rattle.wef_ids.specs.Ids.{next_id}
 use Rattle.wef_ids.specs.declared.MessageId.{MessageId}
 use Rattle.wef_keeper.specs.Calls.{Effect}
 use Rattle.wef_machine.specs.Places.{after_call, opened, opening}

@@ -5,6 +5,7 @@ use Rattle.wef_batch.specs.declared.items.Batch.{Batch}
 use Rattle.wef_batch.specs.WellFormed.{is_well_formed}
 use Rattle.wef_collector_rows.specs.Answers.{channels_read}
 use Rattle.wef_collector.specs.Offers.{offers}
+use Rattle.wef_collector.specs.declared.memories.Memory.{Memory}
 use Rattle.wef_collector_rows.specs.Standing.{standing}
 use Rattle.wef_collector.specs.Taken.{batch_changes}
 use Rattle.wef_collector_rows.specs.declared.standings.Standing as state_of
@@ -13,7 +14,6 @@ use Rattle.wef_ids.specs.Ids.{ids_agree}
 use Rattle.wef_ids.specs.declared.FaultName.{FaultName}
 use Rattle.wef_ids.specs.declared.FaultName.TheVariants.{InvalidMessage, DestinationUnreachable, InternalError}
 use Rattle.wef_ids.specs.declared.MessageId.{MessageId}
-use Rattle.wef_collector.specs.declared.memories.Memory.{Memory}
 use Rattle.wef_eventing.specs.Addresses.{source_in, subscription_in}
 use Rattle.wef_eventing.specs.declared.offers.Offer.{Offer}
 use Rattle.wef_keeper.specs.Calls.{Effect}

@@ -9,7 +9,9 @@ use Rattle.std.specs.Prelude.{Option, Some, None, Ok, is_some, min, unwrap_or}
 use Rattle.wef_base.specs.Counts.{Rose}
 use Rattle.wef_collector.specs.Boots.{boot_of, memory_begun}
 use Rattle.wef_collector.specs.Calls.{boot_effect}
+use Rattle.wef_collector.specs.Memories.{start_of}
 use Rattle.wef_collector.specs.Taken.{put}
+use Rattle.wef_collector.specs.declared.memories.Memory.{Memory}
 use Rattle.wef_collector_rows.specs.Faults.{collector_store}
 use Rattle.wef_collector_rows.specs.Forms.{AreFormed}
 use Rattle.wef_collector_rows.specs.Keys.{boot_key}
@@ -27,8 +29,6 @@ use Rattle.wef_commands.specs.Refusals.{store_ending}
 use Rattle.wef_commands.specs.declared.ending.Ending.TheVariants as ends
 use Rattle.wef_connections.specs.Opening.{first_of, next_connection, sent_in_each, with_address, with_last}
 use Rattle.wef_http_heads.specs.declared.targets.Side.TheVariants.{Collector}
-use Rattle.wef_collector.specs.Memories.{start_of}
-use Rattle.wef_collector.specs.declared.memories.Memory.{Memory}
 use Rattle.wef_keeper.proofs.Going.{calm_rows}
 use Rattle.wef_keeper.specs.Calls.{Did}
 use Rattle.wef_keeper.specs.Keeping.{Store}

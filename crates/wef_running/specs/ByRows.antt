@@ -4,6 +4,7 @@ use Rattle.std.specs.Prelude.{◌≡◌, ◌⊎◌, ℕ, ◌+◌, ◌<◌, ◌�
 use Rattle.wef_base.specs.Counts.{Rose}
 use Rattle.wef_collector.specs.Boots.{memory_begun}
 use Rattle.wef_collector.specs.Calls.{OfStart, boot_effect}
+use Rattle.wef_collector.specs.declared.memories.Memory.{Memory}
 use Rattle.wef_collector_rows.specs.Faults.{collector_store}
 use Rattle.wef_collector_rows.specs.Forms.{AreFormed}
 use Rattle.wef_collector_rows.specs.declared.faults.CollectorFault.{CollectorFault}
@@ -16,7 +17,6 @@ use Rattle.wef_commands.specs.declared.ending.Ending.TheVariants as ends
 use Rattle.wef_commands.specs.declared.writing.TheConstants.{LOG_CAPACITY}
 use Rattle.wef_connections.specs.Opening.{next_connection}
 use Rattle.wef_http_heads.specs.declared.targets.Side.TheVariants.{Collector}
-use Rattle.wef_collector.specs.declared.memories.Memory.{Memory}
 use Rattle.wef_keeper.specs.Calls.{GoesOver}
 use Rattle.wef_keeper.specs.Keeping.{MayFind, Store}
 use Rattle.wef_keeper.specs.Rows.{Rows}

@@ -3,11 +3,11 @@ use Rattle.std.proofs.Common.{◌≡◌, ℕ, zero, suc, ◌+◌, true, false, L
 use Rattle.std.specs.List.{AllByRecursion}
 use Rattle.std.specs.Prelude.{Some, Result, Ok, Err, IfErr, codes, min}
 use Rattle.wef_base.specs.declared.tree.Charset.TheVariants.{Utf8}
-use Rattle.wef_collector.specs.Memories.{drawn_in}
 use Rattle.wef_collector.specs.Calls.{no_effect}
-use Rattle.wef_collector.specs.declared.memories.Memory.{Memory}
+use Rattle.wef_collector.specs.Memories.{drawn_in}
 use Rattle.wef_collector.specs.Offers.{offers}
 use Rattle.wef_collector.specs.declared.collector.Collector.{Collector}
+use Rattle.wef_collector.specs.declared.memories.Memory.{Memory}
 use Rattle.wef_collector_rows.specs.Forms.{AreFormed}
 use Rattle.wef_collector_rows.specs.declared.faults.CollectorFault as the_fault
 use Rattle.wef_collector_rows.specs.declared.faults.CollectorFault.TheVariants as faults

@@ -6,6 +6,7 @@ use Rattle.wef_batch.specs.declared.items.Batch.{Batch}
 use Rattle.std.specs.List.{AllByRecursion}
 use Rattle.wef_bodies.specs.Laws.{IsPlainOffer, OfferCanStand}
 use Rattle.wef_collector.specs.Offers.{offers}
+use Rattle.wef_collector.specs.declared.memories.Memory.{Memory}
 use Rattle.wef_envelope.specs.Laws.{IsSpelt}
 use Rattle.wef_eventing.specs.declared.offers.Offer.{Offer}
 use Rattle.wef_front.specs.Sent.{CanBeAsked, Wish}
@@ -25,7 +26,6 @@ use Rattle.wef_http_heads.specs.declared.targets.Target as the_target
 use Rattle.wef_http_heads.specs.declared.targets.Target.TheVariants.{Delivery as Delivers}
 use Rattle.wef_ids.specs.declared.FaultName.TheVariants.{DestinationUnreachable}
 use Rattle.wef_ids.specs.declared.MessageId.{MessageId}
-use Rattle.wef_collector.specs.declared.memories.Memory.{Memory}
 use Rattle.wef_machine.specs.Printed.{fault_answer}
 use Rattle.wef_machine.specs.declared.arming.Fate as the_fate
 use Rattle.wef_machine.specs.declared.arming.Fate.TheVariants as fates
