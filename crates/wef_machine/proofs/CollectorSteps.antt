@@ -307,9 +307,13 @@ acked_kept state after s slot id delivery is was kept same_messages left =
     kept_reply after (Ack s id delivery.id) kept refl
     (subst (λ (x : Rows × List Message). IsAckKept x.0 (x.1 ++ Ack s id delivery.id ∷ []) s delivery.id) (λ i. (sym left i, sym same_messages i)) (record {
       is = record {
-        delivery = delivery;
+        message = Events s delivery;
         was_sent = sent_before state.messages (Ack s id delivery.id) (Events s delivery) was;
+        of_source = refl;
         id = refl;
+        address = delivery.notify_to;
+        to = delivery.batch.to;
+        reads = refl;
         u = is.u;
         about = is.about;
         known = subscription_by_taking state.collector.rows is.u s channels delivery.batch state.moment is.u ∙ is.known;

@@ -23,7 +23,7 @@ use Rattle.wef_building.specs.declared.sessions.Session.{Session}
 use Rattle.wef_machine.specs.Kept.{AreTerms, IsAckKept, IsBehind, IsDelivery, IsMessageKept, IsOffered, IsRunningKept, IsServed, IsSourceKept, WaitsFor, WasDrawn, WhereDeclared, last_id}
 use Rattle.wef_machine.specs.Laws.{FittingRises}
 use Rattle.wef_collector.specs.Laws.{IsReached}
-use Rattle.wef_machine.specs.Safe.{WasSent, subscription_at}
+use Rattle.wef_machine.specs.Safe.{IsReachedBy, WasSent, subscription_at}
 use Rattle.wef_machine.specs.States.{Slot, Slots}
 use Rattle.wef_machine.specs.declared.messages.Message.{Message}
 use Rattle.wef_machine.specs.declared.messages.Message.TheVariants.{Ask, Offers, Events, Ack, Fault}
@@ -126,6 +126,14 @@ reached_grows : (rows rows' : Rows) (u s : List ℕ) (about : Subscription) (bat
 reached_grows rows rows' u s about batch grows within c t listed reached =
     let more = grows.bookmarks u s c in let less = within c t listed reached in omega arith
 
+-- what a message reads stays kept
+reached_by_grows : (rows rows' : Rows) (u s : List ℕ) (about : Subscription) (m : Message) → RowsGrow rows rows' → IsReachedBy rows u s about m → IsReachedBy rows' u s about m
+reached_by_grows rows rows' u s about (Ask r id) grows within = tt
+reached_by_grows rows rows' u s about (Offers r id relates offers) grows within = tt
+reached_by_grows rows rows' u s about (Events r delivery) grows within = reached_grows rows rows' u s about delivery.batch grows within
+reached_by_grows rows rows' u s about (Ack r id relates) grows within = tt
+reached_by_grows rows rows' u s about (Fault r id relates fault) grows within = tt
+
 pub terms_grow : (rows rows' : Rows) (u s address : List ℕ) (identifier : Option (List ℕ)) (query : QueryList) (max_items max_bytes : ℕ) → RowsGrow rows rows' →
     AreTerms rows u s address identifier query max_items max_bytes → AreTerms rows' u s address identifier query max_items max_bytes
 terms_grow rows rows' u s address identifier query max_items max_bytes grows terms = record {
@@ -213,17 +221,21 @@ acknowledged_grows rows rows' messages messages' s relates grows more kept =
     let is = kept.is in
     record {
       is = record {
-        delivery = is.delivery;
+        message = is.message;
         was_sent = more _ is.was_sent;
+        of_source = is.of_source;
         id = is.id;
+        address = is.address;
+        to = is.to;
+        reads = is.reads;
         u = is.u;
         about = is.about;
         known = grows.known is.u is.about is.known;
         to_subscription = is.to_subscription;
         to_source = is.to_source;
-        reached = reached_grows rows rows' is.u s is.about is.delivery.batch grows is.reached;
+        reached = reached_by_grows rows rows' is.u s is.about is.message grows is.reached;
       };
-      behind = behind_grows rows rows' is.u s is.delivery.batch.to grows kept.behind;
+      behind = behind_grows rows rows' is.u s is.to grows kept.behind;
     }
 
 -- a fact of a declared source that stays while the source grows

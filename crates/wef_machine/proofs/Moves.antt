@@ -18,8 +18,8 @@ use Rattle.wef_keeper.specs.declared.keys.Cell.{Cell}
 use Rattle.wef_keeper.specs.declared.keys.Key.{Key}
 use Rattle.wef_replay.specs.Good.{is_among}
 use Rattle.wef_source_log.specs.Histories.{history}
-use Rattle.wef_machine.specs.Kept.{AreInOrder, IsChannelKept, IsDelivery, IsDrawnBefore, IsKept, IsMessageKept, IsPairKept, IsRowKey, IsSourceKept, IsWorldKept, WasDrawn, WhereDeclared, last_id, request_id, source_of}
-use Rattle.wef_machine.specs.Safe.{IsPairSafe, IsUntouched, WasSent, settings_of, subscription_at}
+use Rattle.wef_machine.specs.Kept.{AreInOrder, IsChannelKept, IsDelivery, IsDrawnBefore, IsKept, IsMessageKept, IsPairKept, IsRowKey, IsSourceKept, IsWorldKept, WasDrawn, WhereDeclared, last_id, request_id}
+use Rattle.wef_machine.specs.Safe.{IsPairSafe, IsUntouched, WasSent, settings_of, source_of, subscription_at}
 use Rattle.wef_machine.specs.States.{Slot, Slots, State, slot_of, with_message, with_slot}
 use Rattle.wef_collector_rows.specs.Forms.{AreFormed}
 use Rattle.wef_machine.specs.declared.messages.Message.{Message}

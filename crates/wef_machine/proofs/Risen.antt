@@ -49,7 +49,7 @@ use Rattle.wef_machine.specs.Deliveries.{BatchEffect, acknowledged_by, after_ack
 use Rattle.wef_machine.specs.Kept.{IsAckKept, IsKept, IsServed, WaitsFor, WasDrawn}
 use Rattle.wef_machine.specs.Places.{Place, armed_with, commits, crashed, opened_by, starts}
 use Rattle.wef_machine.specs.Rising.{AreAllRisen, BeginsAt, HasBegun, HasRisen, IsAbove, IsAlone, IsMessageRisen, IsSentRisen, SessionsRise, StandsAt, delivered, pasts_from, state_after}
-use Rattle.wef_machine.specs.Safe.{WasSent}
+use Rattle.wef_machine.specs.Safe.{WasSent, own_id, read_by, source_of}
 use Rattle.wef_machine.specs.Sources.{ask_at, ask_step, at_declared, at_source, declared_slot, lost_at, lost_step, poll_at, poll_in, poll_step, slot_opened, slot_written, with_opened, write_at, write_by, write_step}
 use Rattle.wef_machine.specs.States.{Slot, Slots, State, calmed_slot, host, slot_of, slot_with, with_collector, with_end, with_foreign, with_message, with_slot}
 use Rattle.wef_machine.specs.Steps.{AreAdmitted, arm_step, batch_at, calm_step, crash_step, end_at as ended_at, step, subscribe_at, subscription_of, unchanged}
@@ -65,7 +65,7 @@ use Rattle.wef_machine.proofs.Moves.{are_one, from_mapped, put_there}
 use Rattle.wef_machine.proofs.Numbered.{lt_is, not_below}
 use Rattle.wef_machine.proofs.Offering.{BeginsAtRows, all_begin}
 use Rattle.wef_machine.proofs.Sent.{all_map, sent_by_number, sent_either}
-use Rattle.wef_machine.proofs.Sessions.{acknowledged_delivery, all_changed, all_filtered, all_with_session, all_without, equal_numbers, first_is, with_channels_number}
+use Rattle.wef_machine.proofs.Sessions.{acknowledged_message, all_changed, all_filtered, all_with_session, all_without, equal_numbers, first_is, with_channels_number}
 use Rattle.wef_machine.proofs.SourceSteps.{at_source_any, running_is, running_with, session_within, with_opened_kept}
 use Rattle.wef_machine.proofs.Steps.{of_declared, start_is_kept, steps_keep}
 
@@ -342,26 +342,35 @@ acknowledged_risen past line now s reply relates id session all kept same delive
     is : IsAckKept now.collector.rows now.messages s relates
     is = kept.messages (sent.Ack s reply relates) was
 
-    by_outstanding : (o : Option Outstanding) → is_outstanding id o ≡ true → WaitsFor now.messages s session.notify_to o →
-        HasRisen (line ∷ past) (moved_by o session).name s (moved_by o session).positions
-    by_outstanding None passes waited = stays past line all session.name s session.positions both.1
-    by_outstanding (Some outstanding) passes waited =
-        let own : outstanding.id ≡ id = equal_numbers outstanding.id id passes in
-        let one = acknowledged_delivery now.collector.rows now.messages s relates id outstanding.id waited.0 (are_one now.messages kept.requests) is.is waited.1 waited.2 own at in
-        let own_id : relates ≡ waited.0.id = is.is.id ∙ ap (λ (d : Delivery). d.id) (sym one) in
+    by_message : (m : Message) (to : Marks) → WasSent now.messages m → source_of m ≡ s → relates ≡ own_id m → read_by m ≡ Some (session.notify_to, to) →
+        HasRisen (line ∷ past) session.name s (joined session.positions to)
+    by_message (sent.Ask r i) to was_sent from own reads = absurd (none-some (session.notify_to, to) reads)
+    by_message (sent.Offers r i related given) to was_sent from own reads = absurd (none-some (session.notify_to, to) reads)
+    by_message (sent.Events r delivery) to was_sent from own reads =
+        let both_same = same_Some (delivery.notify_to, delivery.batch.to) (session.notify_to, to) reads in
         inr (
           session.positions,
           both.1,
           all.sessions session.name s session.positions both.1,
           inr (record {
-            delivery = waited.0;
-            was_sent = subst (λ (ms : List Message). WasSent ms (sent.Events s waited.0)) same waited.1;
-            to_subscription = ap subscription_in waited.3 ∙ both.0.terms.to_subscription;
+            delivery = delivery;
+            was_sent = subst (λ (x : List Message × List ℕ). WasSent x.0 (sent.Events x.1 delivery)) (λ i. (same i, from i)) was_sent;
+            to_subscription = ap (λ (x : List ℕ × Marks). subscription_in x.0) both_same ∙ both.0.terms.to_subscription;
             reply = reply;
-            delivers = delivers ∙ ap (λ (x : MessageId). Some (sent.Ack s reply x)) own_id;
-            is_there = ap (joined session.positions) waited.4;
+            delivers = delivers ∙ ap (λ (x : MessageId). Some (sent.Ack s reply x)) own;
+            is_there = ap (λ (x : List ℕ × Marks). joined session.positions x.1) (sym both_same);
           }),
         )
+    by_message (sent.Ack r i related) to was_sent from own reads = absurd (none-some (session.notify_to, to) reads)
+    by_message (sent.Fault r i related fault) to was_sent from own reads = absurd (none-some (session.notify_to, to) reads)
+
+    by_outstanding : (o : Option Outstanding) → is_outstanding id o ≡ true → WaitsFor now.messages s session.notify_to o →
+        HasRisen (line ∷ past) (moved_by o session).name s (moved_by o session).positions
+    by_outstanding None passes waited = stays past line all session.name s session.positions both.1
+    by_outstanding (Some outstanding) passes waited =
+        let own : outstanding.id ≡ id = equal_numbers outstanding.id id passes in
+        let one = acknowledged_message now.collector.rows now.messages s relates id outstanding.id waited.0 (are_one now.messages kept.requests) is.is waited.1 waited.2 waited.3 own at in
+        by_message waited.0 outstanding.to waited.1 waited.2 (is.is.id ∙ ap own_id (sym one)) waited.4
 
 ack_stands : Lower → (past : List Line) (line : Line) (s : List ℕ) (reply relates : MessageId) → IsKept (state_after past) → AreAllRisen past →
     delivered line (state_after past) ≡ Some (sent.Ack s reply relates) → WasSent (state_after past).messages (sent.Ack s reply relates) →

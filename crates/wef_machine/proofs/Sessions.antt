@@ -18,13 +18,12 @@ use Rattle.wef_eventing.specs.declared.offers.Subscribe.{Subscribe}
 use Rattle.wef_keeper.specs.Rows.{Rows}
 use Rattle.wef_query.specs.Selected.{channels_of}
 use Rattle.wef_source.specs.Sessions.{acknowledged, first_where, is_outstanding, moved_by, placed, session_from, settled, waits_for, with_changed, with_channels, with_offered, with_offers, with_session, without}
-use Rattle.wef_source.specs.declared.messages.Delivery.{Delivery}
 use Rattle.wef_building.specs.declared.sessions.Outstanding.{Outstanding}
 use Rattle.wef_building.specs.declared.sessions.Session.{Session}
-use Rattle.wef_machine.specs.Kept.{AreTerms, IsAckKept, IsBehind, IsOffered, IsServed, WaitsFor}
-use Rattle.wef_machine.specs.Safe.{IsAcknowledged, WasSent}
+use Rattle.wef_machine.specs.Kept.{AreTerms, IsAckKept, IsBehind, IsOffered, IsServed, WaitsFor, request_id}
+use Rattle.wef_machine.specs.Safe.{IsAcknowledged, WasSent, own_id, read_by, source_of}
 use Rattle.wef_machine.specs.declared.messages.Message.{Message}
-use Rattle.wef_machine.specs.declared.messages.Message.TheVariants.{Events}
+use Rattle.wef_machine.specs.declared.messages.Message.TheVariants.{Ask, Offers, Events, Ack, Fault}
 use Rattle.wef_machine.proofs.Moves.{AreOne}
 use Rattle.wef_machine.proofs.Sent.{all_map}
 
@@ -142,9 +141,6 @@ settled_served rows messages s session served = record { terms = served.terms; p
 pub equal_numbers : (a b : ℕ) → a == b ≡ true → a ≡ b
 equal_numbers a b e = grind (arith, nat_tests, e)
 
-one_delivery : (s : List ℕ) (a b : Delivery) → ◌≡◌ {A = Message} (Events s a) (Events s b) → a ≡ b
-one_delivery s a b e = cc
-
 false_true : false ≡ true → ⊥
 false_true e = cc
 
@@ -155,12 +151,20 @@ joined_behind rows u s a b behind more c =
     let second = more c in
     omega arith
 
--- the delivery that a session waits for is the one that an acknowledgement of its id is for
-pub acknowledged_delivery : (rows : Rows) (messages : List Message) (s : List ℕ) (relates : MessageId) (id own : ℕ) (delivery : Delivery) → AreOne messages → (is : IsAcknowledged rows messages s relates) →
-    WasSent messages (Events s delivery) → delivery.id.value ≡ Some own → own ≡ id → relates.value ≡ Some id → delivery ≡ is.delivery
-acknowledged_delivery rows messages s relates id own delivery one is was drawn same at =
-    one_delivery s delivery is.delivery
-    (one (Events s delivery) (Events s is.delivery) id was is.was_sent refl (drawn ∙ ap Some same) (ap (λ (i : MessageId). i.value) (sym is.id) ∙ at))
+-- what a session sends is a request
+session_requests : (m : Message) (reads : List ℕ × Marks) → read_by m ≡ Some reads → request_id m ≡ (own_id m).value
+session_requests (Ask s id) reads e = absurd (none-some reads e)
+session_requests (Offers s id relates offers) reads e = absurd (none-some reads e)
+session_requests (Events s delivery) reads e = refl
+session_requests (Ack s id relates) reads e = absurd (none-some reads e)
+session_requests (Fault s id relates fault) reads e = absurd (none-some reads e)
+
+-- the message that a session waits for is the one that an acknowledgement of its id is for
+pub acknowledged_message : (rows : Rows) (messages : List Message) (s : List ℕ) (relates : MessageId) (id own : ℕ) (m : Message) → AreOne messages → (is : IsAcknowledged rows messages s relates) →
+    WasSent messages m → source_of m ≡ s → request_id m ≡ Some own → own ≡ id → relates.value ≡ Some id → m ≡ is.message
+acknowledged_message rows messages s relates id own m one is was from drawn same at =
+    one m is.message id was is.was_sent (from ∙ sym is.of_source) (drawn ∙ ap Some same)
+    (session_requests is.message (is.address, is.to) is.reads ∙ ap (λ (i : MessageId). i.value) (sym is.id) ∙ at)
 
 -- an acknowledgement of what a session waits for moves it no further than what is kept
 pub acknowledged_served : (rows : Rows) (messages : List Message) (s : List ℕ) (relates : MessageId) (id : ℕ) (session : Session) → AreOne messages →
@@ -173,9 +177,10 @@ acknowledged_served rows messages s relates id session one kept at waits served 
     by_outstanding (Some outstanding) passes waited =
         let is = kept.is in
         let own : outstanding.id ≡ id = equal_numbers outstanding.id id passes in
-        let delivery : waited.0 ≡ is.delivery = acknowledged_delivery rows messages s relates id outstanding.id waited.0 one is waited.1 waited.2 own at in
-        let leads = ap (λ (d : Delivery). subscription_in d.notify_to) (sym delivery) ∙ ap subscription_in waited.3 ∙ served.terms.to_subscription in
-        let to : is.delivery.batch.to ≡ outstanding.to = ap (λ (d : Delivery). d.batch.to) (sym delivery) ∙ sym waited.4 in
+        let message : waited.0 ≡ is.message = acknowledged_message rows messages s relates id outstanding.id waited.0 one is waited.1 waited.2 waited.3 own at in
+        let reads = same_Some (is.address, is.to) (session.notify_to, outstanding.to) (sym is.reads ∙ ap read_by (sym message) ∙ waited.4) in
+        let to : is.to ≡ outstanding.to = ap (λ (x : List ℕ × Marks). x.1) reads in
+        let leads = ap (λ (x : List ℕ × Marks). subscription_in x.0) reads ∙ served.terms.to_subscription in
         let path : is.u ≡ session.name = same_Some is.u session.name (sym is.to_subscription ∙ leads) in
         record {
           terms = served.terms;

@@ -489,7 +489,7 @@ sent_kept lower state s slot end session kept there runs left found =
     let awaited : Outstanding = record { id = next_id end; to = (built slot.place.rows session).to } in
     let later = served_grows state.collector.rows state.collector.rows state.messages messages s session (same_rows state.collector.rows) (sent_before state.messages m) served in
     let waits : IsServed state.collector.rows messages s (sending awaited state.moment session) =
-    record { terms = later.terms; positions = later.positions; outstanding = (delivery, sent_last state.messages m, refl, refl, refl) } in
+    record { terms = later.terms; positions = later.positions; outstanding = (m, sent_last state.messages m, refl, refl, refl) } in
     kept_draw state s slot new m (next_id end) kept there (draws slot end after runs refl refl)
     (source_with_end state.collector.rows state.messages messages s slot after source is.0.boot is.1 (below_most end.drawn left)
     (changed_in_order (is_named session.name) (sending awaited state.moment) (sending_name awaited state.moment) end.sessions is.0.in_order)

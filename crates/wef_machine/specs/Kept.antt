@@ -30,7 +30,7 @@ use Rattle.wef_source.specs.Sessions.{names_of}
 use Rattle.wef_source.specs.declared.messages.Delivery.{Delivery}
 use Rattle.wef_building.specs.declared.sessions.Outstanding.{Outstanding}
 use Rattle.wef_building.specs.declared.sessions.Session.{Session}
-use Rattle.wef_machine.specs.Safe.{IsAcknowledged, IsPairSafe, IsUntouched, WasSent, settings_of, subscription_at}
+use Rattle.wef_machine.specs.Safe.{IsAcknowledged, IsPairSafe, IsUntouched, WasSent, read_by, settings_of, source_of, subscription_at}
 use Rattle.wef_machine.specs.States.{Slot, Slots, State}
 use Rattle.wef_machine.specs.declared.messages.Message.{Message}
 use Rattle.wef_machine.specs.declared.messages.Message.TheVariants.{Ask, Offers, Events, Ack, Fault}
@@ -68,13 +68,20 @@ pub record IsOffered (rows : Rows) (s : List ℕ) (subscribe : Subscribe) : Type
   pub terms : AreTerms rows u s subscribe.notify_to subscribe.identifier subscribe.query subscribe.max_items subscribe.max_bytes
   pub from : IsBehind rows u s subscribe.from
 
--- What a session waits for is the answer to a delivery of its source on its path, and what it remembers of it is how
--- far that batch reads.
+-- the value of a request's id; an answer is no request
+abbrev pub request_id : Message → Option ℕ
+request_id (Ask s id) = id.value
+request_id (Offers s id relates offers) = None
+request_id (Events s delivery) = delivery.id.value
+request_id (Ack s id relates) = None
+request_id (Fault s id relates fault) = None
+
+-- What a session waits for is the answer to a message that its source sent on its path, and what it remembers of it is
+-- how far that message reads.
 abbrev pub WaitsFor : List Message → List ℕ → List ℕ → Option Outstanding → Type 0
 WaitsFor messages s address None = Unit {0}
 WaitsFor messages s address (Some outstanding) =
-    (delivery : Delivery) × WasSent messages (Events s delivery) × (delivery.id.value ≡ Some outstanding.id) × (delivery.notify_to ≡ address)
-    × (outstanding.to ≡ delivery.batch.to)
+    (m : Message) × WasSent messages m × (source_of m ≡ s) × (request_id m ≡ Some outstanding.id) × (read_by m ≡ Some (address, outstanding.to))
 
 -- A session of a source has the terms of the subscription of its name, and is at most at what is kept of it.
 pub record IsServed (rows : Rows) (messages : List Message) (s : List ℕ) (session : Session) : Type 0 where
@@ -132,10 +139,11 @@ pub record IsDelivery (rows : Rows) (s : List ℕ) (slot : Slot) (delivery : Del
   pub sound : IsSoundBatch delivery.batch
   pub drawn : WasDrawn slot delivery.id.value
 
--- What is acknowledged is kept; and in no channel, of the subscription or not, is the batch's bookmark further than that.
+-- What is acknowledged is kept; and in no channel, of the subscription or not, is the bookmark up to which it reads further
+-- than that.
 pub record IsAckKept (rows : Rows) (messages : List Message) (s : List ℕ) (relates : MessageId) : Type 0 where
   pub is : IsAcknowledged rows messages s relates
-  pub behind : IsBehind rows is.u s is.delivery.batch.to
+  pub behind : IsBehind rows is.u s is.to
 
 -- What is true of a message that was ever sent. A fault says nothing that could do harm.
 abbrev pub IsMessageKept : Rows → Slots → List Message → Message → Type 0
@@ -144,22 +152,6 @@ IsMessageKept rows sources messages (Offers s id relates offers) = AllByRecursio
 IsMessageKept rows sources messages (Events s delivery) = WhereDeclared (finite.get sources s) (λ slot. IsDelivery rows s slot delivery)
 IsMessageKept rows sources messages (Ack s id relates) = IsAckKept rows messages s relates
 IsMessageKept rows sources messages (Fault s id relates fault) = Unit {0}
-
--- the source that a message is of or for
-abbrev pub source_of : Message → List ℕ
-source_of (Ask s id) = s
-source_of (Offers s id relates offers) = s
-source_of (Events s delivery) = s
-source_of (Ack s id relates) = s
-source_of (Fault s id relates fault) = s
-
--- the value of a request's id; an answer is no request
-abbrev pub request_id : Message → Option ℕ
-request_id (Ask s id) = id.value
-request_id (Offers s id relates offers) = None
-request_id (Events s delivery) = delivery.id.value
-request_id (Ack s id relates) = None
-request_id (Fault s id relates fault) = None
 
 -- a relation of each message to each that was sent after it
 abbrev pub AreInOrder : (Message → Message → Type 0) → List Message → Type 0

@@ -9,6 +9,7 @@ use Rattle.wef_collector.specs.Laws.{IsReached}
 use Rattle.wef_batch.specs.Reach.{reach}
 use Rattle.wef_batch.specs.WellFormed.{is_in}
 use Rattle.wef_batch.specs.declared.items.Batch.{Batch}
+use Rattle.wef_bookmark.specs.Order.{Marks}
 use Rattle.wef_collector_rows.specs.Answers.{channels_read}
 use Rattle.wef_collector_rows.specs.Bookmarks.{bookmark_at}
 use Rattle.wef_collector_rows.specs.Held.{held_after, mark_rows}
@@ -26,9 +27,8 @@ use Rattle.wef_keeper.specs.declared.keys.Row.{Row}
 use Rattle.wef_query.specs.declared.QueryList.{QueryList}
 use Rattle.wef_source_log.specs.Histories.{Histories, History, history}
 use Rattle.wef_building.specs.Wanted.{AreRising, EndBy, IsLost, Range, Settings, in_ranges, wanted}
-use Rattle.wef_source.specs.declared.messages.Delivery.{Delivery}
 use Rattle.wef_machine.specs.declared.messages.Message.{Message}
-use Rattle.wef_machine.specs.declared.messages.Message.TheVariants.{Ack, Events}
+use Rattle.wef_machine.specs.declared.messages.Message.TheVariants.{Ask, Offers, Events, Ack, Fault}
 
 -- the subscription of a name, live or ended
 abbrev pub about_of : state_of.Standing → Option Subscription
@@ -99,18 +99,55 @@ abbrev pub WasSent : List Message → Message → Type 0
 WasSent [] m = ⊥
 WasSent (sent ∷ messages) m = (sent ≡ m) ⊎ WasSent messages m
 
+-- the source that a message is of or for
+abbrev pub source_of : Message → List ℕ
+source_of (Ask s id) = s
+source_of (Offers s id relates offers) = s
+source_of (Events s delivery) = s
+source_of (Ack s id relates) = s
+source_of (Fault s id relates fault) = s
+
+-- a message's own id
+abbrev pub own_id : Message → MessageId
+own_id (Ask s id) = id
+own_id (Offers s id relates offers) = id
+own_id (Events s delivery) = delivery.id
+own_id (Ack s id relates) = id
+own_id (Fault s id relates fault) = id
+
+-- the address that a message goes to, and the bookmark up to which it reads, where it is one that a session sends
+abbrev pub read_by : Message → Option (List ℕ × Marks)
+read_by (Ask s id) = None
+read_by (Offers s id relates offers) = None
+read_by (Events s delivery) = Some (delivery.notify_to, delivery.batch.to)
+read_by (Ack s id relates) = None
+read_by (Fault s id relates fault) = None
+
+-- all that the batch of a message reads of a subscription's channels is kept; a message without one reads nothing
+abbrev pub IsReachedBy : Rows → List ℕ → List ℕ → Subscription → Message → Type 0
+IsReachedBy rows u s about (Ask r id) = Unit {0}
+IsReachedBy rows u s about (Offers r id relates offers) = Unit {0}
+IsReachedBy rows u s about (Events r delivery) = IsReached rows u s about delivery.batch
+IsReachedBy rows u s about (Ack r id relates) = Unit {0}
+IsReachedBy rows u s about (Fault r id relates fault) = Unit {0}
+
 -- An acknowledgement of an id is for a delivery that its source sent, to a subscription that is there, live or ended, and
 -- all that the batch reads of the subscription's channels is kept.
 pub record IsAcknowledged (rows : Rows) (messages : List Message) (s : List ℕ) (relates : MessageId) : Type 0 where
-  pub delivery : Delivery
-  pub was_sent : WasSent messages (Events s delivery)
-  pub id : relates ≡ delivery.id
+  -- the delivery: a message that reads up to a bookmark
+  pub message : Message
+  pub was_sent : WasSent messages message
+  pub of_source : source_of message ≡ s
+  pub id : relates ≡ own_id message
+  pub address : List ℕ
+  pub to : Marks
+  pub reads : read_by message ≡ Some (address, to)
   pub u : List ℕ
   pub about : Subscription
   pub known : subscription_at rows u ≡ Some about
-  pub to_subscription : subscription_in delivery.notify_to ≡ Some u
-  pub to_source : source_in delivery.notify_to ≡ Some s
-  pub reached : IsReached rows u s about delivery.batch
+  pub to_subscription : subscription_in address ≡ Some u
+  pub to_source : source_in address ≡ Some s
+  pub reached : IsReachedBy rows u s about message
 
 -- A source as the promise sees it: how many records of a channel its log keeps, and all that it ever wrote.
 pub record Written : Type 0 where
