@@ -221,9 +221,10 @@ leads_back rows s host good l is =
     let back = addresses_read_back host l.subscription.name s name.0 name.1 source.0 source.1 in
     (back.0, back.1)
 
--- all that is offered to a source is offered well
-pub all_offers : (rows : Rows) (s host : List ℕ) → IsHost host → AreRowKeys rows → is_source s ≡ true → AllByRecursion (λ (offer : Offer). IsOffered rows s offer.subscribe) (offers rows s host)
-all_offers rows s host is_host keys good = all_made rows s host (λ (offer : Offer). IsOffered rows s offer.subscribe) keys (λ l is.
+-- what the offer of a listed subscription says has the terms of that subscription
+pub made_is_offered : (rows : Rows) (s host : List ℕ) → IsHost host → AreRowKeys rows → is_source s ≡ true → (l : Listed) → IsListed rows l →
+    IsOffered rows s (offer_made rows s host l.subscription).subscribe
+made_is_offered rows s host is_host keys good l is =
     let back = leads_back rows s host good l is in
     record {
       u = l.subscription.name;
@@ -241,7 +242,11 @@ all_offers rows s host is_host keys good = all_made rows s host (λ (offer : Off
         max_bytes_is = refl;
       };
       from = bookmark_behind rows l.subscription.name s keys;
-    })
+    }
+
+-- all that is offered to a source is offered well
+pub all_offers : (rows : Rows) (s host : List ℕ) → IsHost host → AreRowKeys rows → is_source s ≡ true → AllByRecursion (λ (offer : Offer). IsOffered rows s offer.subscribe) (offers rows s host)
+all_offers rows s host is_host keys good = all_made rows s host (λ (offer : Offer). IsOffered rows s offer.subscribe) keys (made_is_offered rows s host is_host keys good)
 
 -- an offer begins at the bookmark that the rows have
 abbrev pub BeginsAtRows : Rows → List ℕ → Offer → Type 0
