@@ -1,12 +1,10 @@
 -- What the collector does keeps what is kept: it is opened, subscriptions begin and end, and batches come; also where a
 -- commit fails, whatever it leaves.
-use Rattle.std.proofs.Common.{◌≡◌, ◌≢◌, ℕ, ◌+◌, ◌≤◌, Bool, true, false, ◌&&◌, cond, List, [], ◌∷◌, ◌++◌, refl, ap, sym, ◌∙◌, subst, nat_eq, nat_lt, arith}
-use Rattle.std.proofs.lemmas.Bool.{and_parts, cond_both, eqb-true}
+use Rattle.std.proofs.Common.{◌≡◌, ◌≢◌, ℕ, ◌+◌, ◌≤◌, Bool, true, false, ◌&&◌, cond, List, [], ◌∷◌, ◌++◌, refl, ap, sym, ◌∙◌, subst, nat_lt}
+use Rattle.std.proofs.lemmas.Bool.{and_parts, cond_both}
 use Rattle.std.proofs.lemmas.Option.{none-some, same_Some}
 use Rattle.std.specs.Prelude.{Option, Some, None, Ok, Err}
-use Rattle.std.specs.Cmp.Lexicographic.{pointwise}
 use Rattle.std.specs.FinMap as finite
-use Rattle.std.specs.List.{filter}
 use Rattle.wef_base.specs.Names.{same}
 use Rattle.wef_batch.specs.WellFormed.{is_in, is_well_formed}
 use Rattle.wef_batch.specs.declared.items.Batch.{Batch}
@@ -14,10 +12,10 @@ use Rattle.wef_bookmark.specs.Order.{number_at}
 use Rattle.wef_collector.proofs.Hits.{not_both, one_name, same_self}
 use Rattle.wef_collector.specs.Boots.{boot_of, memory_begun}
 use Rattle.wef_collector.specs.declared.memories.Memory.{Memory}
-use Rattle.wef_collector_rows.specs.Bookmarks.{bookmark_at, bookmark_of, has_channel, raised_by_rows}
+use Rattle.wef_collector_rows.specs.Bookmarks.{bookmark_at, bookmark_of}
 use Rattle.wef_collector_rows.specs.Answers.{added_rows, channels_read, ended_rows, is_there}
 use Rattle.wef_collector.specs.Calls.{Effect, boot_effect, end_by}
-use Rattle.wef_collector_rows.specs.Keys.{bookmark_key, boot_key, subscription_key}
+use Rattle.wef_collector_rows.specs.Keys.{boot_key, subscription_key}
 use Rattle.wef_collector_rows.specs.Standing.{is_full, kept_body, standing}
 use Rattle.wef_collector.specs.Taken.{batch_changes, put, taken}
 use Rattle.wef_collector_rows.specs.declared.faults.CollectorFault.TheVariants as faults
@@ -29,19 +27,15 @@ use Rattle.wef_ids.specs.declared.MessageId.{MessageId}
 use Rattle.wef_documents.specs.Kept.{read_kept}
 use Rattle.wef_documents.specs.Written.{document_text}
 use Rattle.wef_eventing.specs.declared.subscriptions.Subscription.{Subscription}
-use Rattle.wef_keeper.proofs.Sections.{same_under}
-use Rattle.wef_keeper.specs.Rows.{Rows, applied, key_cmp_total}
-use Rattle.wef_keeper.specs.declared.keys.Cell.{Cell}
+use Rattle.wef_keeper.specs.Rows.{Rows, applied}
 use Rattle.wef_keeper.specs.declared.keys.Change.{Change}
-use Rattle.wef_keeper.specs.declared.keys.Depth.TheVariants.{Source}
-use Rattle.wef_keeper.specs.declared.keys.Row.{Row}
 use Rattle.wef_replay.specs.Good.{is_among, is_source, is_subscription}
 use Rattle.wef_source_log.specs.Histories.{history}
 use Rattle.wef_source.specs.declared.messages.Delivery.{Delivery}
 use Rattle.wef_machine.specs.Arming.{committed, fate}
 use Rattle.wef_machine.specs.Collecting.{at_collector, collector_opened, reply_id, where_runs, with_call, with_opened, with_reply}
 use Rattle.wef_machine.specs.Deliveries.{BatchEffect, answer_by, batch_effect_by, effect_at, events_at, events_by, with_answer}
-use Rattle.wef_machine.specs.Kept.{IsAckKept, IsChannelKept, IsDelivery, IsKept, IsPairKept, IsWorldKept}
+use Rattle.wef_machine.specs.Kept.{IsAckKept, IsChannelKept, IsDelivery, IsKept, IsPairKept}
 use Rattle.wef_machine.specs.Places.{commits, opened_by, starts}
 use Rattle.wef_machine.specs.Safe.{IsPairSafe, IsUntouched, WasSent, about_of, settings_of, subscription_at}
 use Rattle.wef_machine.specs.States.{Slot, State, slot_of, with_collector, with_foreign}
@@ -52,21 +46,18 @@ use Rattle.wef_machine.specs.declared.arming.Fate.TheVariants.{Done, Failed, Sto
 use Rattle.wef_machine.specs.declared.messages.Message.{Message}
 use Rattle.wef_machine.specs.declared.messages.Message.TheVariants.{Ack, Events, Fault}
 use Rattle.wef_query.specs.Order.{with_name}
+use Rattle.wef_machine.proofs.Aside.{KeptWith, booted_aside, bookmark_of_aside, kept_aside}
 use Rattle.wef_machine.proofs.Growing.{same_rows}
 use Rattle.wef_collector.specs.FormsStay.{IsSoundBatch}
 use Rattle.wef_machine.proofs.Lower.{Lower}
 use Rattle.wef_machine.proofs.Moves.{alike_pair, kept_reply, kept_rows, untouched_pair}
 use Rattle.wef_machine.proofs.Names.{among_with, not_among_with}
-use Rattle.wef_machine.proofs.RowMoves.{adding_grows, booting_grows, ending_grows, keys_by_adding, keys_by_booting, keys_by_ending, keys_by_taking, subscription_by_adding, subscription_by_booting, subscription_by_ending, subscription_by_taking, taking_covers, taking_grows, taking_reaches, unknown}
+use Rattle.wef_machine.proofs.RowMoves.{adding_grows, ending_grows, keys_by_adding, keys_by_ending, keys_by_taking, subscription_by_adding, subscription_by_ending, subscription_by_taking, taking_covers, taking_grows, taking_reaches, unknown}
 use Rattle.wef_machine.proofs.Sent.{sent_before}
-use Rattle.wef_machine.proofs.Takes.{adding_spares, booting_spares, ending_spares, fitting_batches_are_safe, is_served, kind_apart, taking_spares, taking_spares_source, untouched_alike}
+use Rattle.wef_machine.proofs.Takes.{adding_spares, ending_spares, fitting_batches_are_safe, is_served, taking_spares, taking_spares_source, untouched_alike}
 
 other_name : (a b : List ℕ) → same a b ≡ false → a ≢ b
 other_name a b other e = not_both (subst (λ (x : List ℕ). same a x ≡ true) e (same_self a)) other
-
--- a world is kept with other rows
-abbrev KeptWith : State → Rows → Type 0
-KeptWith state rows = IsWorldKept rows state.foreign state.sources state.messages state.moment
 
 -- ---- commits
 
@@ -97,13 +88,8 @@ boot_changes rows = put boot_key (boot_of rows + 1) [] ∷ []
 booted_kept : Lower → (state : State) → IsKept state → nat_lt (boot_of state.collector.rows) 9223372036854775807 ≡ true →
     KeptWith state (applied (put boot_key (boot_of state.collector.rows + 1) [] ∷ []) state.collector.rows)
 booted_kept lower state kept room =
-    let cell : Cell = record { value = boot_of state.collector.rows + 1; body = [] } in
-    let rows : Rows = finite.insert state.collector.rows boot_key cell in
-    kept_rows state rows state.foreign kept (booting_grows state.collector.rows cell)
-    (λ u s c apart.
-    alike_pair rows state.collector.rows u s c (subscription_at rows u) (slot_of state s) (booting_spares state.collector.rows cell u s c)
-    (subst (λ (o : Option Subscription). IsPairKept state.collector.rows u s c o (slot_of state s)) (sym (subscription_by_booting state.collector.rows cell u)) (kept.pairs u s c apart)))
-    kept.apart (keys_by_booting state.collector.rows cell kept.keys) (lower.formed_booted state.collector.rows room kept.formed)
+    let boot = boot_of state.collector.rows + 1 in
+    kept_aside state (applied (put boot_key boot [] ∷ []) state.collector.rows) kept (booted_aside state.collector.rows boot) (lower.formed_booted state.collector.rows room kept.formed)
 
 starts_kept : Lower → (state : State) (memory : Memory) → IsKept state → IsKept (with_collector state (starts state.collector memory (boot_effect state.collector.rows)))
 starts_kept lower state memory kept =
@@ -119,17 +105,6 @@ opened_kept lower state kept = by_memory state.collector.memory
     by_memory None = starts_kept lower state (memory_begun state.collector.rows) kept
     by_memory (Some memory) = kept
 
--- a boot number says nothing of a bookmark
-bookmark_by_booting : (rows : Rows) (cell : Cell) (u s : List ℕ) → bookmark_of (finite.insert rows boot_key cell) u s ≡ bookmark_of rows u s
-bookmark_by_booting rows cell u s =
-    ap (λ (found : List Row). raised_by_rows finite.empty (filter has_channel found)) (same_under Source (bookmark_key u s []) (finite.insert rows boot_key cell) rows (λ q is.
-    let outer = and_parts (nat_eq 2 q.kind && pointwise nat_eq u q.sub) (pointwise nat_eq s q.source) is in
-    let kind = eqb-true 2 q.kind (and_parts (nat_eq 2 q.kind) (pointwise nat_eq u q.sub) outer.0).0 in
-    finite.get-insert key_cmp_total rows boot_key cell q ∙ ap (λ (t : Bool). cond t (Some cell) (finite.get rows q)) (kind_apart q boot_key (λ own. apart q.kind kind own))))
-  where
-    apart : (k : ℕ) → 2 ≡ k → k ≡ 8 → ⊥
-    apart k two eight = omega arith
-
 -- an opening leaves each bookmark as it is
 pub opened_bookmark : (state : State) (u s : List ℕ) → bookmark_of (with_opened state).collector.rows u s ≡ bookmark_of state.collector.rows u s
 opened_bookmark state u s = by_memory state.collector.memory
@@ -140,7 +115,9 @@ opened_bookmark state u s = by_memory state.collector.memory
         cond_both (nat_lt (boot_of state.collector.rows) 9223372036854775807) (Ok (put boot_key (boot_of state.collector.rows + 1) [] ∷ [])) (Err faults.Full)
         (λ (effect : Effect). bookmark_of (starts state.collector (memory_begun state.collector.rows) effect).rows u s ≡ bookmark_of state.collector.rows u s)
         (λ room. committed_both (λ (rows : Rows). bookmark_of rows u s ≡ bookmark_of state.collector.rows u s) state.collector.armed (put boot_key (boot_of state.collector.rows + 1) [] ∷ [])
-        state.collector.rows refl (bookmark_by_booting state.collector.rows (record { value = boot_of state.collector.rows + 1; body = [] }) u s)) (λ full. refl)
+        state.collector.rows refl
+        (bookmark_of_aside (applied (put boot_key (boot_of state.collector.rows + 1) [] ∷ []) state.collector.rows) state.collector.rows u s (booted_aside state.collector.rows (boot_of state.collector.rows + 1))))
+        (λ full. refl)
     by_memory (Some memory) = refl
 
 -- What an opening leaves as it is.

@@ -47,10 +47,11 @@ use Rattle.wef_machine.specs.Steps.{arm_step, batch_at, crash_step, step, subscr
 use Rattle.wef_machine.specs.declared.arming.Armed.{Armed}
 use Rattle.wef_machine.specs.declared.messages.Message.{Message}
 use Rattle.wef_machine.specs.declared.messages.Message.TheVariants as sent
+use Rattle.wef_machine.proofs.Aside.{booted_aside, grows_aside}
 use Rattle.wef_machine.proofs.CollectorSteps.{at_collector_any, committed_both}
 use Rattle.wef_machine.proofs.Growing.{RowsGrow, same_rows}
 use Rattle.wef_machine.proofs.SourceSteps.{at_source_any}
-use Rattle.wef_machine.proofs.RowMoves.{adding_grows, booting_grows, ending_grows, taking_grows}
+use Rattle.wef_machine.proofs.RowMoves.{adding_grows, ending_grows, taking_grows}
 
 abbrev Lasts : State → State → Type 0
 Lasts old new = RowsGrow old.collector.rows new.collector.rows
@@ -80,7 +81,7 @@ opened_lasts state = by_memory state.collector.memory
     by_memory None =
         let rows = state.collector.rows in
         cond_both (nat_lt (boot_of rows) 9223372036854775807) (Ok (put boot_key (boot_of rows + 1) [] ∷ [])) (Err faults.Full) (λ (effect : Effect). RowsGrow rows (starts state.collector fresh effect).rows)
-        (λ room. commit_lasts state.collector.armed (put boot_key (boot_of rows + 1) [] ∷ []) rows (booting_grows rows (record { value = boot_of rows + 1; body = [] }))) (λ full. same_rows rows)
+        (λ room. commit_lasts state.collector.armed (put boot_key (boot_of rows + 1) [] ∷ []) rows (grows_aside (applied (put boot_key (boot_of rows + 1) [] ∷ []) rows) rows (booted_aside rows (boot_of rows + 1)))) (λ full. same_rows rows)
 
 at_collector_lasts : (state : State) (change : Memory → State → State) → ((memory : Memory) (now : State) → Lasts now (change memory now)) → Lasts state (at_collector state change)
 at_collector_lasts state change h =

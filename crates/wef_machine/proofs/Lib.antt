@@ -1,4 +1,5 @@
 pub mod Admitted
+pub mod Aside
 pub mod CollectorSteps
 pub mod Declared
 pub mod Drawn

@@ -15,7 +15,7 @@ use Rattle.wef_collector.proofs.Hits.{hits, not_both, one_key, one_name, refuted
 use Rattle.wef_collector.proofs.Moving.{bookmark_by_taking}
 use Rattle.wef_collector_rows.specs.Answers.{added_rows, ended_rows, is_there}
 use Rattle.wef_collector_rows.specs.Bookmarks.{bookmark_at}
-use Rattle.wef_collector_rows.specs.Keys.{bookmark_key, boot_key, heard_key, held_key, loose_key, mark_key, subscription_key}
+use Rattle.wef_collector_rows.specs.Keys.{bookmark_key, heard_key, held_key, loose_key, mark_key, subscription_key}
 use Rattle.wef_collector.specs.Laws.{moved}
 use Rattle.wef_collector_rows.specs.Standing.{standing, standing_of}
 use Rattle.wef_collector.specs.Taken.{taken}
@@ -29,7 +29,7 @@ use Rattle.wef_machine.specs.Kept.{IsBehind, IsRowKey}
 use Rattle.wef_machine.specs.Safe.{about_of, subscription_at}
 use Rattle.wef_machine.proofs.Growing.{RowsGrow}
 use Rattle.wef_machine.proofs.Spared.{IsMissed, spared}
-use Rattle.wef_machine.proofs.Takes.{adding_spares, bookmark_alike, booting_spares, kind_apart, standing_by_booting, bookmark_moved, ending_spares, others_by_adding, others_by_ending, standing_by_ending, standing_by_taking}
+use Rattle.wef_machine.proofs.Takes.{adding_spares, bookmark_alike, kind_apart, bookmark_moved, ending_spares, others_by_adding, others_by_ending, standing_by_ending, standing_by_taking}
 
 abbrev pub AreRowKeys : Rows → Type 0
 AreRowKeys rows = (key : Key) (cell : Cell) → finite.get rows key ≡ Some cell → IsRowKey key
@@ -172,21 +172,3 @@ known_name rows u about keys known = by_cell (finite.get rows (subscription_key 
 
 pub keys_by_ending : (rows : Rows) (u : List ℕ) (about : Subscription) → standing rows u ≡ is.Live about → AreRowKeys rows → AreRowKeys (ended_rows rows u)
 keys_by_ending rows u about live keys = keys_with rows u _ (known_name rows u about keys (ap about_of live)) keys
-
--- ---- a start
-
-boot_row_key : IsRowKey boot_key
-boot_row_key = record { name = λ kind. absurd (omega arith); subscription = λ kind. absurd (omega arith); bookmark = λ kind. absurd (omega arith) }
-
-pub keys_by_booting : (rows : Rows) (cell : Cell) → AreRowKeys rows → AreRowKeys (finite.insert rows boot_key cell)
-keys_by_booting rows cell keys key found e =
-    row_there rows boot_key cell key (λ (o : Option Cell). o ≡ Some found → IsRowKey key) (λ is put. subst IsRowKey (sym is) boot_row_key) (keys key found) e
-
-pub subscription_by_booting : (rows : Rows) (cell : Cell) (v : List ℕ) → subscription_at (finite.insert rows boot_key cell) v ≡ subscription_at rows v
-subscription_by_booting rows cell v = ap about_of (standing_by_booting rows cell v)
-
-pub booting_grows : (rows : Rows) (cell : Cell) → RowsGrow rows (finite.insert rows boot_key cell)
-booting_grows rows cell = record {
-  known = λ v about e. subscription_by_booting rows cell v ∙ e;
-  bookmarks = λ v s c. let same_number = bookmark_alike (finite.insert rows boot_key cell) rows v s c (booting_spares rows cell v s c) in omega arith;
-}

@@ -12,7 +12,7 @@ use Rattle.wef_bookmark.specs.Order.{number_at}
 use Rattle.wef_collector_rows.specs.Answers.{added_rows, channels_read, ended_rows}
 use Rattle.wef_collector_rows.specs.Bookmarks.{bookmark_at}
 use Rattle.wef_collector_rows.specs.Held.{event_of_row, held_after}
-use Rattle.wef_collector_rows.specs.Keys.{bookmark_key, boot_key, heard_key, held_key, key, loose_key, mark_key, subscription_key}
+use Rattle.wef_collector_rows.specs.Keys.{bookmark_key, heard_key, held_key, key, loose_key, mark_key, subscription_key}
 use Rattle.wef_collector.specs.Laws.{moved}
 use Rattle.wef_collector_rows.specs.Standing.{kept_body, standing, standing_by, standing_of}
 use Rattle.wef_collector.specs.Taken.{reach_changes, taken}
@@ -187,14 +187,6 @@ putting_spares rows k cell u s c other q is =
 -- a row of a subscription says nothing of a pair
 subscribing_spares : (rows : Rows) (v : List ℕ) (cell : Cell) (u s c : List ℕ) → SameRows (finite.insert rows (subscription_key v) cell) rows u s c
 subscribing_spares rows v cell u s c = putting_spares rows (subscription_key v) cell u s c (λ q is same_kind. unlike 1 q.kind (let least = is.least in omega arith) (sym same_kind))
-
--- nor does a boot number
-pub booting_spares : (rows : Rows) (cell : Cell) (u s c : List ℕ) → SameRows (finite.insert rows boot_key cell) rows u s c
-booting_spares rows cell u s c = putting_spares rows boot_key cell u s c (λ q is same_kind. unlike q.kind 8 (let most = is.greatest in omega arith) same_kind)
-
--- nor of a subscription
-pub standing_by_booting : (rows : Rows) (cell : Cell) (v : List ℕ) → standing (finite.insert rows boot_key cell) v ≡ standing rows v
-standing_by_booting rows cell v = ap (standing_of v) (finite.get-insert key_cmp_total rows boot_key cell (subscription_key v))
 
 -- what stands for a subscription once its row is put
 put_own : (rows : Rows) (v : List ℕ) (cell : Cell) → standing (finite.insert rows (subscription_key v) cell) v ≡ standing_of v (Some cell)

@@ -15,9 +15,11 @@ use Rattle.wef_eventing.specs.Addresses.{IsHost, delivery_address, source_in, su
 use Rattle.wef_eventing.specs.declared.offers.Offer.{Offer}
 use Rattle.wef_eventing.specs.declared.offers.Subscribe.{Subscribe}
 use Rattle.wef_eventing.specs.declared.subscriptions.Subscription.{Subscription}
+use Rattle.wef_keeper.specs.Kinds.{number_of}
 use Rattle.wef_keeper.specs.Rows.{Rows}
 use Rattle.wef_keeper.specs.declared.keys.Cell.{Cell}
 use Rattle.wef_keeper.specs.declared.keys.Key.{Key}
+use Rattle.wef_keeper.specs.declared.kinds.RowKind.TheVariants as kinds
 use Rattle.wef_query.specs.Order.{IsInOrder}
 use Rattle.wef_query.specs.declared.QueryList.{QueryList}
 use Rattle.wef_replay.specs.Good.{is_among, is_source, is_subscription}
@@ -177,9 +179,9 @@ IsPairKept rows u s c (Some about) (Some slot) = IsChannelKept rows u s c about 
 -- The key of a row that keeps a subscription has a name such as a reader gives, and no other part; that of a bookmark has
 -- no number.
 pub record IsRowKey (key : Key) : Type 0 where
-  pub name : key.kind ≡ 1 → is_subscription key.sub ≡ true
-  pub subscription : key.kind ≡ 1 → key ≡ subscription_key key.sub
-  pub bookmark : key.kind ≡ 2 → key.number ≡ 0
+  pub name : key.kind ≡ number_of kinds.Subscription → is_subscription key.sub ≡ true
+  pub subscription : key.kind ≡ number_of kinds.Subscription → key ≡ subscription_key key.sub
+  pub bookmark : key.kind ≡ number_of kinds.Bookmark → key.number ≡ 0
 
 -- What is kept of a world, by the rows that stand in the collector's store, the names of foreign sources, the declared
 -- sources, all messages that were ever sent, and the moment. Whether the collector runs, what it remembers, and what is

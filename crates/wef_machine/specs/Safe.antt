@@ -21,9 +21,11 @@ use Rattle.wef_ids.specs.declared.MessageId.{MessageId}
 use Rattle.wef_event.specs.Events.{Event}
 use Rattle.wef_eventing.specs.Addresses.{source_in, subscription_in}
 use Rattle.wef_eventing.specs.declared.subscriptions.Subscription.{Subscription}
+use Rattle.wef_keeper.specs.Kinds.{number_of}
 use Rattle.wef_keeper.specs.Rows.{Rows}
 use Rattle.wef_keeper.specs.declared.keys.Key.{Key}
 use Rattle.wef_keeper.specs.declared.keys.Row.{Row}
+use Rattle.wef_keeper.specs.declared.kinds.RowKind.TheVariants as kinds
 use Rattle.wef_query.specs.declared.QueryList.{QueryList}
 use Rattle.wef_source_log.specs.Histories.{Histories, History, history}
 use Rattle.wef_building.specs.Wanted.{AreRising, EndBy, IsLost, Range, Settings, in_ranges, wanted}
@@ -84,8 +86,8 @@ pub record IsPairSafe (rows : Rows) (u s c : List ℕ) (start : ℕ) (settings :
 -- A key is one of those at which what is kept of a source's channel for a subscription stands: its bookmark, events, marks
 -- and counts of loose records.
 pub record IsPairKey (u s c : List ℕ) (key : Key) : Type 0 where
-  pub least : 2 ≤ key.kind
-  pub greatest : key.kind ≤ 5
+  pub least : number_of kinds.Bookmark ≤ key.kind
+  pub greatest : key.kind ≤ number_of kinds.Loose
   pub sub : key.sub ≡ u
   pub source : key.source ≡ s
   pub channel : key.channel ≡ c
