@@ -242,12 +242,12 @@ kept_slot state s old new kept there grows source = kept_source state s new stat
 below_fresh : (first last id : ℕ) → first ≤ last → last < id → first < id
 below_fresh first last id h k = omega arith
 
--- a declared source draws an id, and sends its request
-pub kept_draw : (state : State) (s : List ℕ) (old new : Slot) (m : Message) (id : ℕ) → IsKept state → slot_of state s ≡ Some old → SlotGrows old new →
+-- a declared source goes on, and sends a message that stands behind those before it
+kept_sent : (state : State) (s : List ℕ) (old new : Slot) (m : Message) → IsKept state → slot_of state s ≡ Some old → SlotGrows old new →
     IsSourceKept state.collector.rows (state.messages ++ m ∷ []) s new →
     IsMessageKept state.collector.rows (finite.insert state.sources s new) (state.messages ++ m ∷ []) m →
-    source_of m ≡ s → request_id m ≡ Some id → last_id old old.place.memory < id → IsKept (with_message (with_slot state s new) m)
-kept_draw state s old new m id kept there grows source is from drawn fresh = kept_source state s new (state.messages ++ m ∷ []) kept (record {
+    ((n : Message) → WasSent state.messages n → IsDrawnBefore n m) → IsKept (with_message (with_slot state s new) m)
+kept_sent state s old new m kept there grows source is behind = kept_source state s new (state.messages ++ m ∷ []) kept (record {
   apart = kept.apart s old there;
   pairs = λ u c. grown_pair state.collector.rows u s c (subscription_at state.collector.rows u) old new grows
       (subst (λ (o : Option Slot). IsPairKept state.collector.rows u s c (subscription_at state.collector.rows u) o) there (kept.pairs u s c (kept.apart s old there)));
@@ -258,15 +258,33 @@ kept_draw state s old new m id kept there grows source is from drawn fresh = kep
     | inl before ↦ inl before
     | inr e ↦ inr (subst (IsMessageKept state.collector.rows (finite.insert state.sources s new) (state.messages ++ m ∷ [])) e is)
   ];
-  order = ordered_with IsDrawnBefore state.messages m kept.requests (λ n was first second same e f.
-      let at : second ≡ id = same_Some second id (sym f ∙ drawn) in
-      let before = declared_at (finite.get state.sources (source_of n)) old (λ slot. WasDrawn slot (Some first))
-      (ap (finite.get state.sources) (same ∙ from) ∙ there) (drawn_before state.collector.rows state.sources state.messages n first (kept.messages n was) e) in
-      subst (λ (k : ℕ). first < k) (sym at) (below_fresh first (last_id old old.place.memory) id before fresh));
+  order = ordered_with IsDrawnBefore state.messages m kept.requests behind;
 })
+
+-- a declared source draws an id, and sends its request
+pub kept_draw : (state : State) (s : List ℕ) (old new : Slot) (m : Message) (id : ℕ) → IsKept state → slot_of state s ≡ Some old → SlotGrows old new →
+    IsSourceKept state.collector.rows (state.messages ++ m ∷ []) s new →
+    IsMessageKept state.collector.rows (finite.insert state.sources s new) (state.messages ++ m ∷ []) m →
+    source_of m ≡ s → request_id m ≡ Some id → last_id old old.place.memory < id → IsKept (with_message (with_slot state s new) m)
+kept_draw state s old new m id kept there grows source is from drawn fresh = kept_sent state s old new m kept there grows source is (λ n was first second same e f.
+    let at : second ≡ id = same_Some second id (sym f ∙ drawn) in
+    let before = declared_at (finite.get state.sources (source_of n)) old (λ slot. WasDrawn slot (Some first))
+    (ap (finite.get state.sources) (same ∙ from) ∙ there) (drawn_before state.collector.rows state.sources state.messages n first (kept.messages n was) e) in
+    subst (λ (k : ℕ). first < k) (sym at) (below_fresh first (last_id old old.place.memory) id before fresh))
 
 none_is : (o : Option ℕ) (id : ℕ) → o ≡ None → o ≡ Some id → ⊥
 none_is o id e f = none-some id (sym e ∙ f)
+
+-- what is no request stands behind every message
+no_request : (m n : Message) → request_id m ≡ None → IsDrawnBefore n m
+no_request m n none first second same e f = absurd (none_is (request_id m) second none f)
+
+-- A declared source goes on, and sends a message that is no request: it answers one of the collector's, and may have drawn
+-- ids for it. No source is asked anything yet, so nothing uses this.
+pub kept_answer : (state : State) (s : List ℕ) (old new : Slot) (m : Message) → IsKept state → slot_of state s ≡ Some old → SlotGrows old new →
+    IsSourceKept state.collector.rows (state.messages ++ m ∷ []) s new → request_id m ≡ None →
+    IsMessageKept state.collector.rows (finite.insert state.sources s new) (state.messages ++ m ∷ []) m → IsKept (with_message (with_slot state s new) m)
+kept_answer state s old new m kept there grows source none is = kept_sent state s old new m kept there grows source is (λ n was. no_request m n none)
 
 -- a message is sent that is no request
 pub kept_reply : (state : State) (m : Message) → IsKept state → request_id m ≡ None →
@@ -283,6 +301,6 @@ kept_reply state m kept none is = record {
         (same_sources state.sources) (sent_before state.messages m) (kept.messages n before)
     | inr e ↦ subst (IsMessageKept state.collector.rows state.sources (state.messages ++ m ∷ [])) e is
   ];
-  requests = ordered_with IsDrawnBefore state.messages m kept.requests (λ n was first second same e f. absurd (none_is (request_id m) second none f));
+  requests = ordered_with IsDrawnBefore state.messages m kept.requests (λ n was. no_request m n none);
   soon = kept.soon;
 }

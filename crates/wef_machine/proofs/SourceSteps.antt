@@ -246,21 +246,20 @@ source_with_end rows messages messages' s slot end kept boot some drawn in_order
   running = (record { boot = boot; drawn = drawn; in_order = in_order; sessions = sessions }, some);
 }
 
--- an end of the same start, which drew no more
+-- an end of the same start, which may have drawn more
 kept_end : (state : State) (s : List ℕ) (slot : Slot) (end new : End) → IsKept state → slot_of state s ≡ Some slot → slot.place.memory ≡ Some end → new.boot ≡ end.boot →
-    new.drawn ≡ end.drawn → IsInOrder (names_of new.sessions) → AllByRecursion (IsServed state.collector.rows state.messages s) new.sessions → IsKept (with_end state s slot new)
-kept_end state s slot end new kept there runs same_boot same_drawn in_order sessions =
+    end.drawn ≤ new.drawn → new.drawn ≤ most_drawn → IsInOrder (names_of new.sessions) → AllByRecursion (IsServed state.collector.rows state.messages s) new.sessions → IsKept (with_end state s slot new)
+kept_end state s slot end new kept there runs same_boot more most in_order sessions =
     let source = kept.sources s slot there in
     let is = running_is state s slot end source runs in
-    let bound = is.0.drawn in
     let some = is.1 in
     kept_slot state s slot (running_with slot new) kept there
     (record {
       capacity = refl;
       histories = same_histories slot.histories;
-      drawn = subst (λ (o : Option End). last_id slot o ≤ new.boot * 18446744073709551616 + new.drawn) (sym runs) (omega (arith, same_boot, same_drawn));
+      drawn = subst (λ (o : Option End). last_id slot o ≤ new.boot * 18446744073709551616 + new.drawn) (sym runs) (omega (arith, same_boot));
     })
-    (source_with_end state.collector.rows state.messages state.messages s slot new source (same_boot ∙ is.0.boot) (omega (arith, same_boot)) (omega (arith, same_drawn)) in_order sessions)
+    (source_with_end state.collector.rows state.messages state.messages s slot new source (same_boot ∙ is.0.boot) (omega (arith, same_boot)) most in_order sessions)
 
 -- ---- writing
 
@@ -522,6 +521,10 @@ poll_keeps lower state s u kept = at_source_keeps lower state s (poll_at s u) ke
 
 -- ---- what ends a session's waiting
 
+-- what a source drew is at most the most that it may
+end_within : (state : State) (s : List ℕ) (slot : Slot) (end : End) → IsKept state → slot_of state s ≡ Some slot → slot.place.memory ≡ Some end → end.drawn ≤ most_drawn
+end_within state s slot end kept there runs = (running_is state s slot end (kept.sources s slot there) runs).0.drawn
+
 -- what a source remembers is in order
 end_in_order : (state : State) (s : List ℕ) (slot : Slot) (end : End) → IsKept state → slot_of state s ≡ Some slot → slot.place.memory ≡ Some end → IsInOrder (names_of end.sessions)
 end_in_order state s slot end kept there runs = (running_is state s slot end (kept.sources s slot there) runs).0.in_order
@@ -535,17 +538,17 @@ settled_kept state s slot end test kept there runs =
 same_end : (state : State) (s : List ℕ) (slot : Slot) (end : End) → IsKept state → slot_of state s ≡ Some slot → slot.place.memory ≡ Some end → IsKept (with_end state s slot end)
 same_end state s slot end kept there runs =
     let is = running_is state s slot end (kept.sources s slot there) runs in
-    kept_end state s slot end end kept there runs refl refl is.0.in_order is.0.sessions
+    kept_end state s slot end end kept there runs refl (omega arith) is.0.drawn is.0.in_order is.0.sessions
 
 pub lost_keeps : Lower → (state : State) (s u : List ℕ) → IsKept state → IsKept (lost_step state s u)
 lost_keeps lower state s u kept = at_source_keeps lower state s (lost_at s u) kept (λ now slot end kept_now opened there runs.
-    kept_end now s slot end (lost_in end u) kept_now there runs refl refl
+    kept_end now s slot end (lost_in end u) kept_now there runs refl (omega arith) (end_within now s slot end kept_now there runs)
     (changed_in_order (is_named u) settled settled_name end.sessions (end_in_order now s slot end kept_now there runs)) (settled_kept now s slot end (is_named u) kept_now there runs))
 
 refused_kept : (state : State) (s : List ℕ) (slot : Slot) (end : End) (id : ℕ) (fault : FaultName) → IsKept state → slot_of state s ≡ Some slot → slot.place.memory ≡ Some end →
     IsKept (with_end state s slot (refused_in end id fault))
 refused_kept state s slot end id fault kept there runs =
-    kept_end state s slot end (refused_in end id fault) kept there runs refl refl
+    kept_end state s slot end (refused_in end id fault) kept there runs refl (omega arith) (end_within state s slot end kept there runs)
     (cond_both (is_unreachable fault) (without (waits_for id) end.sessions) (with_changed (waits_for id) settled end.sessions) (λ (ss : List Session). IsInOrder (names_of ss))
     (λ gone. without_in_order (waits_for id) end.sessions (end_in_order state s slot end kept there runs))
     (λ stays. changed_in_order (waits_for id) settled settled_name end.sessions (end_in_order state s slot end kept there runs)))
@@ -576,7 +579,7 @@ ack_keeps lower state s relates kept is = at_source_keeps lower state s (end_at 
         (o : Option ℕ) → relates.value ≡ o → IsKept (with_end now s slot (acknowledged_by end o))
     by_id now slot end kept_now is_now there runs None at = same_end now s slot end kept_now there runs
     by_id now slot end kept_now is_now there runs (Some id) at =
-        kept_end now s slot end (acknowledged_in end id) kept_now there runs refl refl
+        kept_end now s slot end (acknowledged_in end id) kept_now there runs refl (omega arith) (end_within now s slot end kept_now there runs)
         (changed_in_order (waits_for id) acknowledged acknowledged_name end.sessions (end_in_order now s slot end kept_now there runs))
         (all_changed (IsServed now.collector.rows now.messages s) (waits_for id) acknowledged
         (λ session waits. acknowledged_served now.collector.rows now.messages s relates id session (are_one now.messages kept_now.requests) is_now at waits) end.sessions
@@ -587,7 +590,7 @@ pub offers_keep : Lower → (state : State) (s : List ℕ) (relates : MessageId)
 offers_keep lower state s relates given kept are = at_source_keeps lower state s (end_at s (λ end. after_offers end relates given state.moment)) kept (λ now slot end kept_now opened there runs.
     let are_now = subst (λ (rows : Rows). AllByRecursion (λ (offer : Offer). IsOffered rows s offer.subscribe) given) (sym opened.rows) are in
     cond_both (ids_agree end.ask relates.value) (adopted end given state.moment) end (λ (after : End). IsKept (with_end now s slot after))
-    (λ asked_for. kept_end now s slot end (adopted end given state.moment) kept_now there runs refl refl
+    (λ asked_for. kept_end now s slot end (adopted end given state.moment) kept_now there runs refl (omega arith) (end_within now s slot end kept_now there runs)
     (with_offers_in_order state.moment (filter is_leased end.sessions) given (filter_in_order is_leased end.sessions (end_in_order now s slot end kept_now there runs)))
     (all_offered now.collector.rows now.messages s state.moment (filter is_leased end.sessions) given are_now
     (all_filtered (IsServed now.collector.rows now.messages s) is_leased end.sessions (running_is now s slot end (kept_now.sources s slot there) runs).0.sessions)))
