@@ -1,5 +1,6 @@
 -- The form of the collector's rows, by their kind. A row that is read and isn't of its form counts as a failed call.
 use Rattle.std.specs.Prelude.{◌≡◌, ℕ, ◌==◌, nat_le, Bool, true, false, ◌&&◌, List, length, Option, Some, None, is_some, if◌then◌else◌}
+use Rattle.wef_base.specs.Characters.{is_xml_text}
 use Rattle.wef_base.specs.Names.{channel_name, source_name, subscription_name}
 use Rattle.wef_base.specs.Numbers.{plain_number}
 use Rattle.wef_base.specs.declared.moments.TheConstants.{LAST_MOMENT}
@@ -11,7 +12,7 @@ use Rattle.wef_keeper.specs.Kinds.{number_of}
 use Rattle.wef_keeper.specs.Rows.{Rows}
 use Rattle.wef_keeper.specs.declared.keys.Key.{Key}
 use Rattle.wef_keeper.specs.declared.keys.Row.{Row}
-use Rattle.wef_keeper.specs.declared.kinds.RowKind.TheVariants.{Bookmark, CollectorBoot, Heard, Held, Loose, Mark, Subscription}
+use Rattle.wef_keeper.specs.declared.kinds.RowKind.TheVariants.{Bookmark, CollectorBoot, Heard, Held, Lease, Loose, Mark, Subscription}
 use Rattle.wef_collector_rows.specs.Bookmarks.{is_one}
 
 abbrev pub is_empty : List ℕ → Bool
@@ -79,6 +80,10 @@ is_loose_row row =
 unfoldable pub is_heard_row : Row → Bool
 is_heard_row row = names_source row.key && is_empty row.key.channel && row.key.number == 0 && is_moment row.value && is_empty row.body
 
+-- it may end after the last moment; its body is the identifier that the source gave, which XML allows
+unfoldable pub is_lease_row : Row → Bool
+is_lease_row row = names_source row.key && is_empty row.key.channel && row.key.number == 0 && is_number row.value && is_xml_text row.body
+
 unfoldable pub is_boot_row : Row → Bool
 is_boot_row row =
     is_empty row.key.sub && is_empty row.key.source && is_empty row.key.channel && row.key.number == 0 && is_number row.value && is_empty row.body
@@ -92,7 +97,8 @@ is_formed row =
     if row.key.kind == number_of Mark then is_mark_row row else
     if row.key.kind == number_of Loose then is_loose_row row else
     if row.key.kind == number_of Heard then is_heard_row row else
-    if row.key.kind == number_of CollectorBoot then is_boot_row row else true
+    if row.key.kind == number_of CollectorBoot then is_boot_row row else
+    if row.key.kind == number_of Lease then is_lease_row row else true
 
 -- each row that stands is of its form
 abbrev pub AreFormed : Rows → Type 0

@@ -7,6 +7,7 @@ ghost use Rattle.wef_collector_rows.specs.Held.{own_event};
 ghost use Rattle.wef_documents.specs.Kept as kept;
 
 use std::alloc::AllocError;
+use wef_base::characters::is_xml_text;
 use wef_base::moments::LAST_MOMENT;
 use wef_base::numbers::{MAX, read_plain_number};
 use wef_base::{ChannelName, SourceName, SubId, Text};
@@ -48,6 +49,8 @@ pub fn is_formed(row: &Row) -> Result<bool, AllocError>
         is_heard(row)
     } else if kind == RowKind::CollectorBoot.number() {
         Ok(is_boot(row))
+    } else if kind == RowKind::Lease.number() {
+        is_lease(row)
     } else {
         Ok(true)
     }
@@ -162,6 +165,19 @@ fn is_heard(row: &Row) -> Result<bool, AllocError>
         return Ok(false);
     }
     Ok(row.value <= LAST_MOMENT && row.body.is_empty())
+}
+
+#[tactic(auto, unfolding(crate::specs::Forms::is_lease_row))]
+fn is_lease(row: &Row) -> Result<bool, AllocError>
+    ensures { IfOk result (λ formed. formed ≡ spec.is_lease_row row.now) }
+{
+    if !names_source(&row.key)? {
+        return Ok(false);
+    }
+    if !row.key.channel.is_empty() || row.key.number != 0 || row.value > MAX {
+        return Ok(false);
+    }
+    is_xml_text(&row.body)
 }
 
 #[tactic(auto, unfolding(crate::specs::Forms::is_boot_row))]

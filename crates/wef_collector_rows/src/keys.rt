@@ -108,6 +108,21 @@ pub fn all_heard_start(sub: &Text) -> Result<Key, AllocError>
     heard_key(sub, &none)
 }
 
+/// The key of how long a source goes on sending that was asked for its events.
+pub fn lease_key(sub: &Text, source: &Text) -> Result<Key, AllocError>
+    ensures { IfOk result (λ key. key ≡ keys.lease_key sub.now source.now) }
+{
+    let none = Text::new(sub.alloc());
+    channel_key(RowKind::Lease, sub, source, &none, 0)
+}
+
+/// The key in front of all of these.
+pub fn leases_start(alloc: Global) -> Key
+    ensures { result ≡ keys.lease_key [] [] }
+{
+    only_kind(alloc, RowKind::Lease)
+}
+
 fn channel_key(
     kind: RowKind,
     sub: &Text,
