@@ -12,6 +12,8 @@ use Rattle.wef_collector_rows.specs.Keys.{subscription_key}
 use Rattle.wef_collector_reports.specs.Listing.{listed}
 use Rattle.wef_collector_rows.specs.Standing.{standing}
 use Rattle.wef_collector.specs.Taken.{taken}
+use Rattle.wef_keeper.specs.Kinds.{number_of}
+use Rattle.wef_keeper.specs.declared.kinds.RowKind.TheVariants as kinds
 use Rattle.wef_collector_reports.specs.declared.listing.Listed.{Listed}
 use Rattle.wef_collector_rows.specs.declared.standings.Standing.{Standing}
 use Rattle.wef_collector_rows.specs.declared.standings.Standing.TheVariants.{Ended, Live}
@@ -21,9 +23,9 @@ pub record IsOwnKey (key : Key) : Type 0 where
   pub own : key ≡ subscription_key key.sub
   pub reads_back : subscription_name key.sub ≡ Some key.sub
 
--- Each row of kind 1 stands at the key of a subscription whose name reads back as itself.
+-- Each row of a subscription stands at its key, and the name there reads back as itself.
 abbrev pub HaveOwnKeys : Rows → Type 0
-HaveOwnKeys rows = (key : Key) → key.kind ≡ 1 → is_some (map.get rows key) ≡ true → IsOwnKey key
+HaveOwnKeys rows = (key : Key) → key.kind ≡ number_of kinds.Subscription → is_some (map.get rows key) ≡ true → IsOwnKey key
 
 -- how a listed subscription stands
 abbrev pub standing_as : Listed → Standing
