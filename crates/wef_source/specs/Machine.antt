@@ -1,5 +1,5 @@
 -- A source as a machine: what it holds, and what each call makes of it.
-use Rattle.std.specs.Prelude.{ℕ, ◌+◌, ◌-◌, ◌*◌, ◌==◌, nat_le, Bool, true, false, List, [], ◌∷◌, ◌++◌, length, is_some, Option, Some, None, if◌then◌else◌}
+use Rattle.std.specs.Prelude.{ℕ, ◌+◌, ◌-◌, ◌*◌, ◌==◌, max, nat_le, Bool, true, false, List, [], ◌∷◌, ◌++◌, length, is_some, Option, Some, None, if◌then◌else◌}
 use Rattle.std.specs.List.{filter}
 use Rattle.wef_eventing.specs.declared.offers.Offer.{Offer}
 use Rattle.wef_eventing.specs.declared.offers.Subscribe.{Subscribe}
@@ -54,6 +54,10 @@ drawn_in end = record end { drawn = end.drawn + 1 }
 -- how many ids it can still draw before its next start
 abbrev pub ids_left : End → ℕ
 ids_left end = most_drawn - end.drawn
+
+-- a source that has at most so many ids left
+abbrev pub with_ids_left : ℕ → End → End
+with_ids_left left end = record end { drawn = max end.drawn (most_drawn - left) }
 
 -- how long a session stands that a collector begins, in milliseconds: an hour where it doesn't say
 abbrev pub lease_time : Option ℕ → ℕ

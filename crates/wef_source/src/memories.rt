@@ -128,6 +128,13 @@ impl Memory {
         u64::MAX - self.drawn
     }
 
+    /// Spends ids until at most so many are left.
+    pub fn spend_ids(&mut self, left: u64)
+        ensures { self.new ≡ machine.with_ids_left left self.old }
+    {
+        self.drawn = self.drawn.max(u64::MAX - left);
+    }
+
     /// Takes the offers that answer the ask, at a moment: they give the sessions that the source asked for from now
     /// on, which begin where the offers say. A session that a collector began stays, unless an offer has its name.
     /// Of two offers of one name the later stands; one whose address leads to no subscription is passed over.

@@ -288,6 +288,13 @@ impl<K: Keeper> SourceEnd<K> {
 }
 
 impl SourceEnd<MemKeeper> {
+    /// Spends ids until at most so many are left.
+    pub fn spend_ids(&mut self, left: u64)
+        ensures { self.new ≡ record self.old { memory = machine.with_ids_left left self.old.memory } }
+    {
+        self.memory.spend_ids(left);
+    }
+
     /// Plans the next commit of the store.
     pub fn arrange(&mut self, plan: Plan)
         ensures { self.new ≡ record self.old { keeper = record self.old.keeper { plan = plan } } }
