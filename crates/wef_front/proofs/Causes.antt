@@ -26,7 +26,8 @@ use Rattle.wef_collector.specs.declared.memories.Memory.{Memory}
 use Rattle.wef_eventing.specs.declared.offers.Offer.{Offer}
 use Rattle.wef_bodies.specs.Reading.{has_enumerate}
 use Rattle.std.specs.Option.{option_and_then}
-use Rattle.wef_front_collector.specs.Heard.{Hears, asked_at, asked_by, asked_of, batch_in, enumerate_asked, events_asked, heard_in, is_elsewhere, is_nameless, manager_asked, named_asked, unheard}
+use Rattle.wef_replies.specs.Refusals.{is_nameless}
+use Rattle.wef_front_collector.specs.Heard.{Hears, asked_at, asked_by, asked_of, batch_in, enumerate_asked, events_asked, heard_in, is_elsewhere, manager_asked, named_asked, unheard}
 use Rattle.wef_replies.specs.Refusals.{HearsRead}
 use Rattle.wef_front_collector.specs.Replies.{IsAnswer}
 use Rattle.wef_front_collector.proofs.SaidOfCalls.{offers_answered}

@@ -1,7 +1,9 @@
 pub mod ByRows
 pub mod Causes
 pub mod DeliveriesAreHeard
+pub mod EndsAreRead
 pub mod EnumeratesAreHeard
 pub mod OffersAreHeard
 pub mod OneIsHeard
 pub mod RepliesAreHeard
+pub mod Requests

@@ -1,3 +1,5 @@
+pub mod Ends
 pub mod Laws
 pub mod Replies
+pub mod Requests
 pub mod Sent

@@ -1,6 +1,8 @@
 //! Laws of answers, each the contract of a function that does nothing.
 
+ghost use Rattle.wef_front.specs.Ends.{EndsAreRead};
 ghost use Rattle.wef_front.specs.Laws.{AnswersAreReplies, AnswersGoByPlan, DrawnIdsAreSpelt, InternalErrorsHaveACause, OffersAreHeard, OffersAreRead, OneIsHeard, RepliesAreHeard, RepliesAreRead};
+ghost use Rattle.wef_front.specs.Requests.{InternalErrorsWantIds, OneRequestIsHeard};
 ghost use Rattle.wef_front.specs.Sent.{DeliveriesAreHeard, DeliveriesAreRead, EnumeratesAreHeard, EnumeratesAreRead};
 
 /// The collector answers what the rows that it finds give, and leaves what they give, unless its store
@@ -70,4 +72,20 @@ pub fn one_is_heard()
 /// An id that an end draws is that of its text, which can be written.
 pub fn drawn_ids_are_spelt()
     ensures { DrawnIdsAreSpelt }
+{}
+
+/// What a source sends of the end of a session, a collector reads as it was meant: the id, where it goes, which
+/// session it is about, and why it ended. So it is with all that `shut` gives.
+pub fn ends_are_read()
+    ensures { EndsAreRead }
+{}
+
+/// A source hears no two things in the same bytes at a moment.
+pub fn one_request_is_heard()
+    ensures { OneRequestIsHeard }
+{}
+
+/// A source says `InternalError` only where it can't draw all the ids that an answer takes.
+pub fn internal_errors_want_ids()
+    ensures { InternalErrorsWantIds }
 {}

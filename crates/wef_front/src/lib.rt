@@ -4,5 +4,7 @@
 pub mod laws;
 
 pub use wef_front_collector::collector_answer;
-pub use wef_front_source::{Hears, read_reply, source_hears, write_delivery, write_enumerate};
+pub use wef_front_source::{
+    Hears, read_reply, source_answer, source_hears, write_delivery, write_end, write_enumerate,
+};
 pub use wef_http_heads::{Answer, Target};

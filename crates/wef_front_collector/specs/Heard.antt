@@ -1,7 +1,7 @@
 -- What a message asks of the collector, by where it came to and by its tree; or why it is refused, where nothing that is kept
 -- decides that.
 use Rattle.std.specs.Option.{option_and_then}
-use Rattle.std.specs.Prelude.{◌≡◌, ℕ, Bool, true, false, ◌&&◌, not, is_some, IfSome, List, Option, Some, None, Result, if◌then◌else◌}
+use Rattle.std.specs.Prelude.{◌≡◌, ℕ, Bool, true, false, not, IfSome, List, Option, Some, None, Result, if◌then◌else◌}
 use Rattle.std.specs.declared.result.Result.TheVariants.{Ok, Err}
 use Rattle.wef_base.specs.Names.{same, source_name, subscription_name}
 use Rattle.wef_base.specs.declared.tree.Charset.{Charset}
@@ -19,7 +19,7 @@ use Rattle.wef_envelope.specs.declared.envelopes.EnvelopeFault.{EnvelopeFault}
 use Rattle.wef_ids.specs.declared.FaultName.{FaultName}
 use Rattle.wef_ids.specs.declared.FaultName.TheVariants as the
 use Rattle.wef_ids.specs.declared.MessageId.{MessageId}
-use Rattle.wef_replies.specs.Refusals.{HearsBytes, envelope_refused}
+use Rattle.wef_replies.specs.Refusals.{HearsBytes, envelope_refused, is_nameless}
 use Rattle.wef_xml.specs.Good.{IsXmlText}
 use Rattle.wef_front_collector.specs.declared.hearing.Asked.{Asked}
 use Rattle.wef_front_collector.specs.declared.hearing.Asked.TheVariants.{Refused, Enumerate, Unread, Take}
@@ -60,10 +60,6 @@ enumerate_asked e =
     else (if has_enumerate e.body then named_asked (option_and_then source_name e.machine) else Refused the.InvalidMessage)
 
 -- ---- actions
-
--- whether an envelope asks for the subscriptions of a source, and doesn't name it
-abbrev pub is_nameless : Envelope → Bool
-is_nameless e = same e.action ENUMERATE.now && not (is_some e.machine)
 
 -- what an envelope asks where a source delivers, by its action
 abbrev pub delivery_asked : List ℕ → List ℕ → Envelope → Asked

@@ -6,7 +6,7 @@ ghost use Rattle.wef_base.specs.Names.{source_name, subscription_name};
 ghost use Rattle.wef_batch.specs.Numbers.{AreNumbered};
 ghost use Rattle.wef_batch.specs.Reading.{AreGoodTrees, AreToldTrees, Reads};
 ghost use Rattle.wef_envelope.specs.Envelopes.{said};
-ghost use Rattle.wef_front_collector.specs.Heard.{Hears, IsSound, IsSoundAsk, asked_by, asked_of, batch_in, delivery_asked, enumerate_asked, events_asked, heard_in, is_elsewhere, is_nameless, manager_asked, unheard};
+ghost use Rattle.wef_front_collector.specs.Heard.{Hears, IsSound, IsSoundAsk, asked_by, asked_of, batch_in, delivery_asked, enumerate_asked, events_asked, heard_in, is_elsewhere, manager_asked, unheard};
 ghost use Rattle.wef_xml.specs.Good.{IsGoodTree};
 ghost use Rattle.wef_xml.specs.Told.{IsTold};
 
@@ -17,7 +17,7 @@ use wef_bodies::has_enumerate;
 use wef_envelope::actions::{ENUMERATE, EVENTS, SUBSCRIPTIONS};
 use wef_envelope::{Envelope, FaultName, MessageId, from_node, id_in};
 use wef_http_heads::Target;
-use wef_replies::{envelope_refused, tree_refused};
+use wef_replies::{envelope_refused, is_nameless, tree_refused};
 use wef_tree::read_told_tree;
 
 /// What a message asks.
@@ -83,7 +83,7 @@ fn heard_in(target: &Target, told: bool, root: &Element) -> Result<Heard, AllocE
     Ok(Heard { relates, asked })
 }
 
-#[tactic(auto, using(wef_replies::proofs::ReadIsGood::body_is_good))]
+#[tactic(auto, using(wef_replies::proofs::ReadIsGood::body_is_good, wef_replies::proofs::Refused::said_is))]
 fn asked_in(target: &Target, told: bool, root: &Element) -> Result<Asked, AllocError>
     requires good { IsGoodTree root.now }
     requires told { IsTold told root.now }
@@ -111,13 +111,6 @@ fn asked_by(target: &Target, told: bool, envelope: &Envelope) -> Result<Asked, A
         Target::Delivery { sub, source } => delivery_asked(sub, source, told, envelope),
         Target::Root => Ok(Asked::Refused(FaultName::ActionNotSupported)),
     }
-}
-
-/// Whether an envelope asks for the subscriptions of a source that it doesn't name.
-fn is_nameless(envelope: &Envelope) -> bool
-    ensures { result ≡ is_nameless envelope.now }
-{
-    envelope.action.as_str() == ENUMERATE && envelope.machine.is_none()
 }
 
 /// What an envelope asks of the collector itself.

@@ -1,2 +1,5 @@
+pub mod Heard
 pub mod HeardReplies
+pub mod Replies
 pub mod Sending
+pub mod Steps

@@ -1,7 +1,7 @@
 -- What a source sends, as it is written.
 use Rattle.std.specs.Prelude.{ℕ, false, List, [], ◌∷◌, ◌++◌, codes, Some, None, IfSome}
 use Rattle.std.specs.List.{AllByRecursion}
-use Rattle.wef_bodies.specs.Written.{enumerate_element}
+use Rattle.wef_bodies.specs.Written.{ended_element, enumerate_element}
 use Rattle.wef_ids.specs.declared.MessageId.{MessageId}
 use Rattle.wef_base.specs.declared.tree.Charset.TheVariants.{Utf8}
 use Rattle.wef_batch.specs.Elements.{batch_element}
@@ -11,9 +11,10 @@ use Rattle.wef_bookmark.specs.Entries.{AreEntries}
 use Rattle.wef_bookmark.specs.Nodes.{AreTexts, bookmark_element}
 use Rattle.wef_envelope.specs.Laws.{IsSpelt, IsTrimmed}
 use Rattle.wef_envelope.specs.Written.{written}
-use Rattle.wef_envelope.specs.declared.actions.TheConstants.{ANONYMOUS, ENUMERATE, EVENTS, SUBSCRIPTIONS}
+use Rattle.wef_envelope.specs.declared.actions.TheConstants.{ANONYMOUS, ENUMERATE, EVENTS, SUBSCRIPTIONS, SUBSCRIPTION_END}
 use Rattle.wef_envelope.specs.declared.envelopes.Envelope.{Envelope}
 use Rattle.wef_source.specs.declared.messages.Delivery as source
+use Rattle.wef_source.specs.declared.messages.EndNote.{EndNote}
 use Rattle.wef_xml.specs.Canonical.{canonical, encoded}
 use Rattle.wef_xml.specs.Good.{IsXmlText}
 use Rattle.wef_http_heads.specs.declared.targets.TheConstants.{MANAGER_PATH}
@@ -91,3 +92,25 @@ pub record CanBeWritten (d : source.Delivery) : Type 0 where
   pub notify_to : IsXmlText d.notify_to
   pub identifier : IfSome d.identifier IsXmlText
   pub numbered : AreNumbered d.batch.items
+
+-- ---- the end of a session
+
+-- the envelope in which a collector is told that a session ended (WS-Eventing, 3.5): it goes where the collector wants to be told
+abbrev pub end_envelope : EndNote → Envelope
+end_envelope note = record {
+  to = Some note.end_to;
+  resource = None;
+  reply_to = Some ANONYMOUS.now;
+  action = SUBSCRIPTION_END.now;
+  id = note.id;
+  relates = None;
+  machine = None;
+  max_size = None;
+  identifier = None;
+  bookmark = None;
+  ack_wanted = false;
+  body = ended_element note.identifier note.status ∷ [];
+}
+
+abbrev pub end_bytes : EndNote → List ℕ
+end_bytes note = encoded Utf8 (canonical (written (end_envelope note)))

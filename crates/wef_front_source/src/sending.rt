@@ -1,4 +1,4 @@
-//! The bytes of what a source sends: its wish for subscriptions, and its deliveries.
+//! The bytes of what a source sends: its wish for subscriptions, its deliveries, and the ends of sessions.
 
 ghost use Rattle.std.specs.List.{AllByRecursion};
 ghost use Rattle.std.specs.Prelude.{◌≡◌, true, option_copied, Some, IfOk};
@@ -9,7 +9,8 @@ ghost use Rattle.wef_batch.specs.Laws.{IsKept};
 ghost use Rattle.wef_envelope.specs.Written.{written};
 ghost use Rattle.wef_event.specs.Events.{HasTree};
 ghost use Rattle.wef_eventing.specs.Addresses.{IsHost};
-ghost use Rattle.wef_front_source.specs.Sending.{CanBeWritten, delivery_bytes, delivery_envelope, enumerate_bytes, enumerate_envelope, manager_address};
+ghost use Rattle.wef_front_source.specs.Sending.{CanBeWritten, delivery_bytes, delivery_envelope, end_bytes, end_envelope, enumerate_bytes, enumerate_envelope, manager_address};
+ghost use Rattle.wef_source.specs.Serving.{NoteCanBeSent};
 ghost use Rattle.wef_xml.specs.Canonical.{canonical, encoded};
 ghost use Rattle.wef_xml.specs.Good.{IsGoodTree, IsXmlText};
 
@@ -17,11 +18,11 @@ use std::alloc::{AllocError, Global};
 use wef_base::{Bytes, ChannelName, Charset, SourceName, Text};
 use wef_batch::{Item, write_batch};
 use wef_bodies::{Body, write_body};
-use wef_envelope::actions::{ANONYMOUS, ENUMERATE, EVENTS, SUBSCRIPTIONS};
+use wef_envelope::actions::{ANONYMOUS, ENUMERATE, EVENTS, SUBSCRIPTION_END, SUBSCRIPTIONS};
 use wef_envelope::{Envelope, MessageId, to_node};
 use wef_event::Event;
 use wef_http_heads::MANAGER_PATH;
-use wef_source::Delivery;
+use wef_source::{Delivery, EndNote};
 use wef_subscribes::wishes::marked_names_are_kept;
 use wef_tree::write_tree;
 
@@ -51,6 +52,31 @@ pub fn write_enumerate(
 {
     let envelope = enumerate_envelope(alloc, host, source, id)?;
     write_envelope(alloc, &envelope)
+}
+
+/// Writes in UTF-8 what tells a collector that a session ended which it began, as the message
+/// SubscriptionEnd (WS-Eventing, 3.5).
+pub fn write_end(alloc: Global, note: &EndNote) -> Result<Bytes, AllocError>
+    requires { NoteCanBeSent note.now }
+    ensures { IfOk result (λ bytes. bytes ≡ end_bytes note.now) }
+{
+    let envelope = end_envelope(alloc, note)?;
+    write_envelope(alloc, &envelope)
+}
+
+fn end_envelope(alloc: Global, note: &EndNote) -> Result<Envelope, AllocError>
+    ensures { IfOk result (λ envelope. envelope ≡ end_envelope note.now) }
+{
+    let to = note.end_to.clone()?;
+    let action = Text::from_str(alloc, SUBSCRIPTION_END)?;
+    let ended = Body::Ended {
+        identifier: note.identifier.clone()?,
+        status: note.status,
+    };
+    let body = write_body(alloc, &ended)?;
+    let mut envelope = Envelope::new(to, action, note.id.clone()?, body);
+    envelope.reply_to = Some(Text::from_str(alloc, ANONYMOUS)?);
+    Ok(envelope)
 }
 
 fn enumerate_envelope(

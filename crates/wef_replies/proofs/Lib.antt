@@ -2,4 +2,5 @@ pub mod IdTexts
 pub mod Numbered
 pub mod OneIsHeard
 pub mod ReadIsGood
+pub mod Refused
 pub mod RepliesAreGood

@@ -1,8 +1,11 @@
 -- How a message is refused that can't be read.
-use Rattle.std.specs.Prelude.{◌≡◌, ℕ, List, Option, Some, None, Result}
+use Rattle.std.specs.Prelude.{◌≡◌, ℕ, Bool, ◌&&◌, not, is_some, List, Option, Some, None, Result}
 use Rattle.std.specs.declared.result.Result.TheVariants.{Ok, Err}
+use Rattle.wef_base.specs.Names.{same}
 use Rattle.wef_base.specs.declared.tree.Charset.{Charset}
 use Rattle.wef_base.specs.declared.tree.Element.{Element}
+use Rattle.wef_envelope.specs.declared.actions.TheConstants.{ENUMERATE}
+use Rattle.wef_envelope.specs.declared.envelopes.Envelope.{Envelope}
 use Rattle.wef_envelope.specs.declared.envelopes.EnvelopeFault.{EnvelopeFault}
 use Rattle.wef_envelope.specs.declared.envelopes.EnvelopeFault.TheVariants as envelope
 use Rattle.wef_ids.specs.declared.FaultName.{FaultName}
@@ -18,6 +21,15 @@ envelope_refused envelope.NotSoap = the.InvalidMessage
 envelope_refused (envelope.MustUnderstand name) = the.MustUnderstand
 envelope_refused (envelope.HeaderRequired name) = the.MessageInformationHeaderRequired
 envelope_refused (envelope.RepeatedHeader name) = the.InvalidMessage
+
+-- a fault that a tree has, and no want of memory
+abbrev pub IsOfTree : EnvelopeFault → Type 0
+IsOfTree envelope.NoMemory = ⊥
+IsOfTree _ = Unit {0}
+
+-- whether an envelope asks for the subscriptions of a source, and doesn't name it
+abbrev pub is_nameless : Envelope → Bool
+is_nameless e = same e.action ENUMERATE.now && not (is_some e.machine)
 
 -- what is answered where a document is no tree, by the first piece that isn't good; want of memory isn't answered
 abbrev pub tree_refused : TreeFault → Option FaultName

@@ -5,5 +5,5 @@
 pub mod refusals;
 pub mod replies;
 
-pub use refusals::{envelope_refused, tree_refused};
+pub use refusals::{envelope_refused, is_nameless, tree_refused};
 pub use replies::{envelope_with, write_answer, write_fault};

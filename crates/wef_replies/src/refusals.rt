@@ -2,10 +2,11 @@
 
 ghost use Rattle.std.specs.Prelude.{◌≡◌, true, Some, IfOk};
 ghost use Rattle.wef_envelope.specs.Faults.{is_known};
-ghost use Rattle.wef_replies.specs.Refusals.{envelope_refused, tree_refused};
+ghost use Rattle.wef_replies.specs.Refusals.{IsOfTree, envelope_refused, is_nameless, tree_refused};
 
 use std::alloc::AllocError;
-use wef_envelope::{EnvelopeFault, FaultName};
+use wef_envelope::actions::ENUMERATE;
+use wef_envelope::{Envelope, EnvelopeFault, FaultName};
 use wef_tree::TreeFault;
 
 /// The fault that answers a document that is no tree. Want of memory isn't answered.
@@ -23,6 +24,7 @@ pub fn tree_refused(fault: &TreeFault) -> Result<FaultName, AllocError>
 /// The fault that answers a tree that says no envelope. Want of memory isn't answered.
 pub fn envelope_refused(fault: &EnvelopeFault) -> Result<FaultName, AllocError>
     ensures name { IfOk result (λ name. name ≡ envelope_refused fault.now) }
+    ensures told { IfOk result (λ _. IsOfTree fault.now) }
     ensures known { IfOk result (λ name. is_known name ≡ true) }
 {
     match fault {
@@ -33,4 +35,11 @@ pub fn envelope_refused(fault: &EnvelopeFault) -> Result<FaultName, AllocError>
         EnvelopeFault::MustUnderstand { .. } => Ok(FaultName::MustUnderstand),
         EnvelopeFault::HeaderRequired { .. } => Ok(FaultName::MessageInformationHeaderRequired),
     }
+}
+
+/// Whether an envelope asks for the subscriptions of a source that it doesn't name.
+pub fn is_nameless(envelope: &Envelope) -> bool
+    ensures { result ≡ is_nameless envelope.now }
+{
+    envelope.action.as_str() == ENUMERATE && envelope.machine.is_none()
 }
