@@ -1,4 +1,4 @@
-//! Requests that a collector answers, and replies that a source hears; connections that are served for a
+//! Requests that a collector answers, and that a source answers; replies that a source hears; connections that are served for a
 //! collector; and a source that asks for its subscriptions and forwards a batch: what comes of each, and
 //! what is kept behind it.
 //!
@@ -18,6 +18,7 @@ mod deliveries;
 mod envelopes;
 mod forwarding;
 mod hearing;
+mod managing;
 pub mod numbered;
 pub mod replies;
 mod requests;
@@ -33,6 +34,8 @@ pub fn push_answer(shown: &mut Text, task: &str, line: &str) -> Result<bool, All
         asking::push_asked(shown, &way, line)?;
     } else if let Some(way) = hearing::way_of(task) {
         hearing::push_heard(shown, way, line)?;
+    } else if let Some(way) = managing::way_of(task) {
+        managing::push_managed(shown, way, line)?;
     } else if let Some(way) = forwarding::way_of(task) {
         forwarding::push_forwarded(shown, way, line)?;
     } else {
