@@ -1,0 +1,3 @@
+pub mod AnswersAreRead
+pub mod RequestsAreGood
+pub mod RequestsAreHeard

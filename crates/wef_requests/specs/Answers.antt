@@ -1,0 +1,47 @@
+-- A source's answer to a request, as a collector reads it.
+use Rattle.std.specs.Prelude.{◌≡◌, ℕ, List, Option, Some, None, Result, Ok}
+use Rattle.std.specs.Option.{option_and_then}
+use Rattle.wef_base.specs.declared.tree.Charset.TheVariants.{Utf8}
+use Rattle.wef_bodies.specs.Laws.{CanBeWritten, IsPlainBody}
+use Rattle.wef_bodies.specs.Reading.{body_in}
+use Rattle.wef_bodies.specs.declared.bodies.Body.{Body}
+use Rattle.wef_bodies.specs.declared.bodies.Body.TheVariants as body
+use Rattle.wef_envelope.specs.Laws.{IsSpelt}
+use Rattle.wef_envelope.specs.declared.envelopes.Envelope.{Envelope}
+use Rattle.wef_front.specs.Sent.{envelope_in}
+use Rattle.wef_front_source.specs.Replies.{answer_of}
+use Rattle.wef_front_source.specs.declared.saying.Said.TheVariants.{Done}
+use Rattle.wef_ids.specs.declared.MessageId.{MessageId}
+use Rattle.wef_source.specs.Machine.{End}
+use Rattle.wef_subscribes.specs.declared.faults.BodyFault.{BodyFault}
+use Rattle.wef_xml.specs.Good.{IsXmlText}
+
+-- what an answer says, and the message that it answers
+abbrev pub Answered : Type 0
+Answered = MessageId × Body
+
+abbrev pub answer_by : Option MessageId → Result Body BodyFault → Option Answered
+answer_by (Some relates) (Ok said) = Some (relates, said)
+answer_by _ _ = None
+
+abbrev pub answer_said : ℕ → Envelope → Option Answered
+answer_said now e = answer_by e.relates (body_in now e)
+
+-- what bytes in UTF-8 say, at a moment in milliseconds since 1970
+abbrev pub answer_in : ℕ → List ℕ → Option Answered
+answer_in now bytes = option_and_then (answer_said now) (envelope_in bytes)
+
+-- what a source answers to a request that is done
+abbrev pub IsAnswering : Body → Type 0
+IsAnswering (body.Subscribed identifier expires) = Unit {0}
+IsAnswering (body.Renewed expires) = Unit {0}
+IsAnswering (body.StatusIs expires) = Unit {0}
+IsAnswering body.Unsubscribed = Unit {0}
+IsAnswering _ = ⊥
+
+-- What a source answers to a request that is done, a collector reads as it was meant: the same, as the answer to the same message.
+-- Its body must read back, and the message's id be that of its text, which XML allows.
+abbrev pub AnswersAreRead : Type 0
+AnswersAreRead =
+    (now : ℕ) (end : End) (relates : MessageId) (said : Body) → IsAnswering said → CanBeWritten said → IsPlainBody said → IsSpelt relates → IsXmlText relates.text →
+    answer_in now (answer_of end Utf8 (Some relates) (Done said)).body ≡ Some (relates, said)

@@ -1,0 +1,16 @@
+//! Laws of requests, each the contract of a function that does nothing.
+
+ghost use Rattle.wef_requests.specs.Answers.{AnswersAreRead};
+ghost use Rattle.wef_requests.specs.Requests.{RequestsAreHeard};
+
+/// What a collector asks a source for, the source hears: the same wish, or the same of the session that is named, with the
+/// request's id, where it can be written and read again.
+pub fn requests_are_heard()
+    ensures { RequestsAreHeard }
+{}
+
+/// What a source answers to a request that is done, a collector reads as it was meant: the same, as the answer to the
+/// same message.
+pub fn answers_are_read()
+    ensures { AnswersAreRead }
+{}
