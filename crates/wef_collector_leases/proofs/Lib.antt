@@ -1,1 +1,3 @@
+mod InOrder
 mod LeaseRows
+mod Places

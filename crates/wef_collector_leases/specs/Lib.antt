@@ -1,3 +1,4 @@
 pub mod Changes
 pub mod Due
 pub mod Leases
+pub mod Waiting

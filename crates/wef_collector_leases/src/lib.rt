@@ -6,5 +6,7 @@
 pub mod changes;
 pub mod due;
 pub mod leases;
+pub mod waiting;
 
 pub use leases::{Lease, Wants};
+pub use waiting::{Waiting, WaitingList};
