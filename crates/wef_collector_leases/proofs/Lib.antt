@@ -1,3 +1,4 @@
+mod FirstDue
 mod InOrder
 mod LeaseRows
 mod Places

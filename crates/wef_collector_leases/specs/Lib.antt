@@ -1,4 +1,6 @@
 pub mod Changes
 pub mod Due
+pub mod Judged
 pub mod Leases
+pub mod Next
 pub mod Waiting

@@ -6,7 +6,9 @@
 pub mod changes;
 pub mod due;
 pub mod leases;
+pub mod next;
 pub mod waiting;
 
 pub use leases::{Lease, Wants};
+pub use next::Due;
 pub use waiting::{Waiting, WaitingList};
