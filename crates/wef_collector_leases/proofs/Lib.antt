@@ -1,4 +1,5 @@
 mod FirstDue
 mod InOrder
 mod LeaseRows
+mod NextIsFirst
 mod Places

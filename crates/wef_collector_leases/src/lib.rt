@@ -5,6 +5,7 @@
 
 pub mod changes;
 pub mod due;
+pub mod laws;
 pub mod leases;
 pub mod next;
 pub mod waiting;
