@@ -1,3 +1,4 @@
+mod Allowed
 mod FirstDue
 mod InOrder
 mod LeaseRows

@@ -10,6 +10,8 @@ use Rattle.wef_keeper.specs.Rows.{Rows}
 use Rattle.wef_keeper.specs.Sections.{rows_under}
 use Rattle.wef_collector_rows.specs.Keys.{lease_key}
 use Rattle.wef_collector_leases.specs.declared.leases.Lease.{Lease}
+use Rattle.wef_collector_leases.specs.declared.leases.Wants.{Wants}
+use Rattle.wef_collector_leases.specs.declared.leases.Wants.TheVariants.{Subscribes, Renews, Unsubscribes}
 
 abbrev pub lease_of : Cell → Lease
 lease_of cell = record { identifier = cell.body; expiry = cell.value }
@@ -28,3 +30,9 @@ lease_rows rows = rows_under Kind (lease_key [] []) rows
 -- its identifier holds characters that XML allows
 abbrev pub IsXmlLease : Lease → Type 0
 IsXmlLease lease = is_xml_text lease.identifier ≡ true
+
+-- and so does that of a wish
+abbrev pub IsXmlWish : Wants → Type 0
+IsXmlWish Subscribes = Unit {0}
+IsXmlWish (Renews identifier) = is_xml_text identifier ≡ true
+IsXmlWish (Unsubscribes identifier) = is_xml_text identifier ≡ true

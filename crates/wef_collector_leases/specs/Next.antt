@@ -13,7 +13,7 @@ use Rattle.wef_keeper.specs.declared.keys.Row.{Row}
 use Rattle.wef_collector_reports.specs.Listing.{listed, listed_of}
 use Rattle.wef_collector_reports.specs.declared.listing.Listed.{Listed}
 use Rattle.wef_collector_leases.specs.Due.{due_for}
-use Rattle.wef_collector_leases.specs.Leases.{lease_at}
+use Rattle.wef_collector_leases.specs.Leases.{IsXmlWish, lease_at}
 use Rattle.wef_collector_leases.specs.Waiting.{is_waiting}
 use Rattle.wef_collector_leases.specs.declared.leases.Wants.{Wants}
 use Rattle.wef_collector_leases.specs.declared.next.Due.{Due}
@@ -82,3 +82,11 @@ due_of_row rows waiting now row = option_and_then (due_of rows waiting now) (lis
 abbrev pub first_of_rows : Rows → List Waiting → ℕ → List Row → Option Due
 first_of_rows rows waiting now [] = None
 first_of_rows rows waiting now (row ∷ more) = or_next (due_of_row rows waiting now row) (first_of_rows rows waiting now more)
+
+-- ---- an identifier that is handed on holds characters that XML allows
+
+abbrev pub IsXmlDueSource : DueSource → Type 0
+IsXmlDueSource due = IsXmlWish due.wants
+
+abbrev pub IsXmlDue : Due → Type 0
+IsXmlDue due = IsXmlWish due.wants

@@ -46,6 +46,7 @@ pub fn next_due<K: Keeper>(
 ) -> Result<Option<Due>, StoreFault>
     requires { access.IsReady (K.store keeper.old) }
     ensures due { IfSome (K.store keeper.new).rows (λ rows. IfOk result (λ due. due ≡ spec.next_due rows waiting.now now)) }
+    ensures allowed { IfOk result (λ due. IfSome due spec.IsXmlDue) }
     ensures judged { IfSome (K.store keeper.new).rows (λ rows. OnOk result (judged.JudgesNext rows waiting.now now)) }
     ensures reads { access.Reads AreFormed (access.fails result) (K.store keeper.old) (K.store keeper.new) }
 {
@@ -62,6 +63,7 @@ fn first_due<K: Keeper>(
 ) -> Result<Option<Due>, StoreFault>
     requires { access.IsReady (K.store keeper.old) }
     ensures due { IfSome (K.store keeper.new).rows (λ rows. IfOk result (λ due. due ≡ spec.first_of_rows rows waiting.now now subscriptions.now)) }
+    ensures allowed { IfOk result (λ due. IfSome due spec.IsXmlDue) }
     ensures judged { IfSome (K.store keeper.new).rows (λ rows. OnOk result (judged.AreJudgedUntil rows waiting.now now subscriptions.now)) }
     ensures reads { access.Reads AreFormed (access.fails result) (K.store keeper.old) (K.store keeper.new) }
 {
@@ -82,6 +84,7 @@ fn due_of_row<K: Keeper>(
 ) -> Result<Option<Due>, StoreFault>
     requires { access.IsReady (K.store keeper.old) }
     ensures due { IfSome (K.store keeper.new).rows (λ rows. IfOk result (λ due. due ≡ spec.due_of_row rows waiting.now now row.now)) }
+    ensures allowed { IfOk result (λ due. IfSome due spec.IsXmlDue) }
     ensures judged { IfSome (K.store keeper.new).rows (λ rows. OnOk result (judged.IsRowJudged rows waiting.now row.now)) }
     ensures reads { access.Reads AreFormed (access.fails result) (K.store keeper.old) (K.store keeper.new) }
 {
@@ -116,6 +119,7 @@ fn due_of<K: Keeper>(
 ) -> Result<Option<Due>, StoreFault>
     requires { access.IsReady (K.store keeper.old) }
     ensures due { IfSome (K.store keeper.new).rows (λ rows. IfOk result (λ due. due ≡ spec.due_of rows waiting.now now listed)) }
+    ensures allowed { IfOk result (λ due. IfSome due spec.IsXmlDue) }
     ensures judged { IfSome (K.store keeper.new).rows (λ rows. OnOk result (judged.IsJudged rows waiting.now listed)) }
     ensures reads { access.Reads AreFormed (access.fails result) (K.store keeper.old) (K.store keeper.new) }
 {
@@ -157,6 +161,7 @@ fn least_due<K: Keeper>(
 ) -> Result<Option<DueSource>, StoreFault>
     requires { access.IsReady (K.store keeper.old) }
     ensures due { IfSome (K.store keeper.new).rows (λ rows. IfOk result (λ due. due ≡ spec.least_due rows waiting.now now listed.now None listed.now.subscription.sources)) }
+    ensures allowed { IfOk result (λ due. IfSome due spec.IsXmlDueSource) }
     ensures judged { IfSome (K.store keeper.new).rows (λ rows. OnOk result (judged.AreAsked rows waiting.now listed.now.subscription.name listed.now.subscription.sources)) }
     ensures reads { access.Reads AreFormed (access.fails result) (K.store keeper.old) (K.store keeper.new) }
 {
@@ -201,6 +206,7 @@ fn due_at<K: Keeper>(
 ) -> Result<Option<DueSource>, StoreFault>
     requires { access.IsReady (K.store keeper.old) }
     ensures due { IfSome (K.store keeper.new).rows (λ rows. IfOk result (λ due. due ≡ spec.due_at rows waiting.now now listed.now source.now)) }
+    ensures allowed { IfOk result (λ due. IfSome due spec.IsXmlDueSource) }
     ensures judged { IfSome (K.store keeper.new).rows (λ rows. OnOk result (judged.IsAsked rows waiting.now listed.now.subscription.name source.now)) }
     ensures reads { access.Reads AreFormed (access.fails result) (K.store keeper.old) (K.store keeper.new) }
 {
