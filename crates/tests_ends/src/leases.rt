@@ -44,12 +44,12 @@ fn push_steps(
 }
 
 /// A word, and what stands behind it.
-fn cut(line: &str) -> (&str, &str) {
+pub(crate) fn cut(line: &str) -> (&str, &str) {
     line.split_once(' ').unwrap_or((line, ""))
 }
 
 /// The number that begins a line, and what stands behind it.
-fn cut_number(line: &str) -> (u64, &str) {
+pub(crate) fn cut_number(line: &str) -> (u64, &str) {
     let (word, rest) = cut(line);
     (word.parse().unwrap_or(0), rest)
 }
@@ -72,7 +72,8 @@ fn push_step(
     }
 }
 
-fn moment(milliseconds: u64) -> Moment {
+/// The moment of so many milliseconds.
+pub(crate) fn moment(milliseconds: u64) -> Moment {
     Moment::of(milliseconds).unwrap_or(Moment::first())
 }
 

@@ -1,6 +1,6 @@
 //! Calls of both ends that no command makes or that come to limits: pages of held events, an event at its
-//! greatest length, the window of a log, how often a source was started, numbers at their greatest, and what a
-//! collector subscribes at a source.
+//! greatest length, the window of a log, how often a source was started, numbers at their greatest, what a
+//! collector subscribes at a source, and which source a collector is to ask next.
 #![tactic(auto)]
 
 mod events;
@@ -8,12 +8,14 @@ mod greatest;
 mod leases;
 mod lengths;
 mod logs;
+mod pairs;
 
 use events::push_events;
 use greatest::{push_greatest, push_spent};
 use leases::push_leases;
 use lengths::push_length;
 use logs::{push_starts, push_window};
+use pairs::push_pairs;
 use std::alloc::AllocError;
 use wef_base::Text;
 
@@ -38,6 +40,11 @@ pub fn push_answer(shown: &mut Text, task: &str, line: &str) -> Result<bool, All
         // EXPIRES AT`, `status NUMBER AT` and `cancel NUMBER`, of the session that is named by the id of this number;
         // `offer NAME AT`, `poll NAME AT`, `shut`, and `ids`.
         "leases" => push_leases(shown, line),
+        // What the collector is to ask for next, wherever one of these steps asks, with `; ` between them: `live NAME
+        // SECONDS SOURCES` and `ended ..` put a subscription that the collector begins, which a renewal prolongs by so
+        // many seconds, and `offered ..` one that sources begin; `lease NAME SOURCE END IDENTIFIER` puts a lease, `wait
+        // NAME SOURCE` a request that waits; `due AT` asks.
+        "pairs" => push_pairs(shown, line),
         // What is told where a source has no ids left.
         "spent" => push_spent(shown),
         _ => return Ok(false),
