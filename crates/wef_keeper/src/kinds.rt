@@ -26,7 +26,7 @@ pub enum RowKind {
     Heard,
     /// How long a source that was asked for its events goes on sending them, by subscription and source.
     /// The value is the moment at which that ends, as in `Heard`, the body the identifier that the source
-    /// gave. Set aside: no row has it yet.
+    /// gave.
     Lease,
     /// The collector's boot number, the value.
     CollectorBoot,
