@@ -4,7 +4,7 @@ use Rattle.wef_keeper.specs.Calls.{OfStore}
 use Rattle.wef_keeper.specs.declared.access.StoreFault.{StoreFault}
 use Rattle.wef_keeper.specs.declared.access.StoreFault.TheVariants as store
 use Rattle.wef_collector_rows.specs.declared.faults.CollectorFault.{CollectorFault}
-use Rattle.wef_collector_rows.specs.declared.faults.CollectorFault.TheVariants.{NoMemory, NoSubscription, Exists, Ended, NotWellFormed, TooMany, Failed, Full}
+use Rattle.wef_collector_rows.specs.declared.faults.CollectorFault.TheVariants.{NoMemory, NoSubscription, Exists, Ended, NotWellFormed, NotAsked, TooMany, Failed, Full}
 
 -- a store's refusal, as the collector hands it on
 abbrev pub collector_fault : StoreFault → CollectorFault
@@ -18,6 +18,7 @@ collector_store NoSubscription = None
 collector_store Exists = None
 collector_store Ended = None
 collector_store NotWellFormed = None
+collector_store NotAsked = None
 collector_store TooMany = None
 collector_store Failed = Some store.Failed
 collector_store Full = None

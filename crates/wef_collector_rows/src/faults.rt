@@ -17,6 +17,8 @@ pub enum CollectorFault {
     Ended,
     #[error("the batch is not well-formed")]
     NotWellFormed,
+    #[error("no request waits for this answer")]
+    NotAsked,
     #[error("there are too many subscriptions")]
     TooMany,
     /// After a commit there is doubt, which the next call ends.

@@ -41,6 +41,7 @@ named_ending u faults.NoMemory = ends.NoMemory
 named_ending u faults.Full = ends.Full
 named_ending u faults.Failed = ends.StoreFailed
 named_ending u faults.NotWellFormed = ends.StoreFailed
+named_ending u faults.NotAsked = ends.StoreFailed
 
 -- the text of what is done is written, or the output failed
 abbrev pub WroteOut : List ℕ → Ending → Told → Type 0

@@ -47,5 +47,6 @@ pub fn named_ending(name: SubId, fault: CollectorFault) -> Ending
         CollectorFault::Full => Ending::Full,
         CollectorFault::Failed => Ending::StoreFailed,
         CollectorFault::NotWellFormed => Ending::StoreFailed,
+        CollectorFault::NotAsked => Ending::StoreFailed,
     }
 }

@@ -16,7 +16,7 @@ use Rattle.wef_collector_rows.specs.Faults.{collector_store}
 use Rattle.wef_collector_rows.specs.Forms.{AreFormed}
 use Rattle.wef_collector_rows.specs.Keys.{boot_key}
 use Rattle.wef_collector_rows.specs.declared.faults.CollectorFault.{CollectorFault}
-use Rattle.wef_collector_rows.specs.declared.faults.CollectorFault.TheVariants.{NoMemory, NoSubscription, Exists, Ended, NotWellFormed, TooMany, Failed, Full}
+use Rattle.wef_collector_rows.specs.declared.faults.CollectorFault.TheVariants.{NoMemory, NoSubscription, Exists, Ended, NotWellFormed, NotAsked, TooMany, Failed, Full}
 use Rattle.wef_collector_serving.proofs.AlikeConnections.{clocks_decide_nothing_else, turns_raise}
 use Rattle.wef_collector_serving.proofs.AlikeRows.{alike_applied, unheard_same}
 use Rattle.wef_collector_serving.specs.Answers.{KnownCollector}
@@ -252,6 +252,7 @@ never_done NoSubscription is = cc
 never_done Exists is = cc
 never_done Ended is = cc
 never_done NotWellFormed is = cc
+never_done NotAsked is = cc
 never_done TooMany is = cc
 never_done Failed is = cc
 never_done Full is = cc

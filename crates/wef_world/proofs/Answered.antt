@@ -190,6 +190,7 @@ module _ (s : List ℕ) (d : Delivery) (sent_so : CanBeSent d) (memory memory_no
   refusal_tells faults.Failed how answered goes written drawn spelt = broken_tells how goes written drawn spelt
   refusal_tells faults.NoMemory how answered goes written drawn spelt = absurd answered
   refusal_tells faults.Exists how answered goes written drawn spelt = absurd answered
+  refusal_tells faults.NotAsked how answered goes written drawn spelt = absurd answered
   refusal_tells faults.TooMany how answered goes written drawn spelt = absurd answered
   refusal_tells faults.Full how answered goes written drawn spelt = absurd answered
 
@@ -213,6 +214,7 @@ no_want (Err faults.NotWellFormed) answered = tt
 no_want (Err faults.Failed) answered = tt
 no_want (Err faults.NoMemory) answered = absurd answered
 no_want (Err faults.Exists) answered = tt
+no_want (Err faults.NotAsked) answered = tt
 no_want (Err faults.TooMany) answered = tt
 no_want (Err faults.Full) answered = tt
 

@@ -114,6 +114,7 @@ module _ (wish : Wish) (end end' : Collector MemKeeper) (now : ℕ) (answer : An
   by_done (Err faults.NoSubscription) call answered said = absurd answered
   by_done (Err faults.Ended) call answered said = absurd answered
   by_done (Err faults.NotWellFormed) call answered said = absurd answered
+  by_done (Err faults.NotAsked) call answered said = absurd answered
 
   pub ask_answered : Offered wish end.memory end'.memory end.keeper.rows end'.keeper.rows answer
   ask_answered = by_done is.stepped.0 is.stepped.1 is.stepped.2 is.stepped.3
