@@ -56,7 +56,7 @@ elements_read now body.GetStatus is = ap (λ o. and_then (needed (BadBody the.Ge
 elements_read now (body.StatusIs expires) is = ap (λ r. and_then r (λ found. Ok (body.StatusIs found))) (left_again the.GetStatusResponse (codes "GetStatusResponse") now expires (status_found expires) is)
 elements_read now body.Unsubscribe is = ap (λ o. and_then (needed (BadBody the.Unsubscribe) o) (λ e. Ok body.Unsubscribe)) unsubscribe_found
 elements_read now body.Unsubscribed is = refl
-elements_read now (body.Ended identifier status) is = ended_again identifier status is
+elements_read now (body.Ended identifier status) is = ap (λ r. and_then r (λ ended. Ok (body.Ended ended.0 ended.1))) (ended_again identifier status is)
 
 pub body_again : (now : ℕ) (b : Body) (e : Envelope) → IsPlainBody b → e.action ≡ action_of b → e.body ≡ body_elements b → body_in now e ≡ Ok b
 body_again now b e is action elements = (λ i. by_action now (action i) (elements i)) ∙ elements_read now b is

@@ -116,9 +116,9 @@ status_there identifier s =
     ∙ ap (λ text. needed (BadBody the.Status) (status_of text)) (said_again eventing (codes "Status") (status_text s) (status_trimmed s))
     ∙ ap (needed (BadBody the.Status)) (status_again s)
 
-pub ended_again : (identifier : List ℕ) (s : EndStatus) → IsTrimmed identifier → ended_in (ended_element identifier s ∷ []) ≡ Ok (body.Ended identifier s)
+pub ended_again : (identifier : List ℕ) (s : EndStatus) → IsTrimmed identifier → ended_in (ended_element identifier s ∷ []) ≡ Ok (identifier, s)
 ended_again identifier s is =
     let managed = managed_again (codes "SubscriptionEnd") identifier (status_element s ∷ []) is in
     let why = status_there identifier s in
     ap (λ o. and_then (needed (BadBody the.SubscriptionEnd) o) (λ e. ended_of e)) (ended_found identifier s)
-    ∙ (λ i. and_then (managed i) (λ named. and_then (why i) (λ found. Ok (body.Ended named found))))
+    ∙ (λ i. and_then (managed i) (λ named. and_then (why i) (λ found. Ok (named, found))))

@@ -63,12 +63,15 @@ subscribed_in now elements = and_then (root_in the.SubscribeResponse (codes "Sub
 abbrev pub status_in : Element → Result EndStatus BodyFault
 status_in e = needed (BadBody the.Status) (option_and_then (λ (status : Element). status_of (said_in status)) (in_eventing (codes "Status") e))
 
--- that it has ended
-abbrev pub ended_of : Element → Result Body BodyFault
+-- which one has ended, and why
+abbrev pub Ended : Type 0
+Ended = List ℕ × EndStatus
+
+abbrev pub ended_of : Element → Result Ended BodyFault
 ended_of e =
     and_then (managed_in e) (λ identifier.
     and_then (status_in e) (λ status.
-    Ok (body.Ended identifier status)))
+    Ok (identifier, status)))
 
-abbrev pub ended_in : List Element → Result Body BodyFault
+abbrev pub ended_in : List Element → Result Ended BodyFault
 ended_in elements = and_then (root_in the.SubscriptionEnd (codes "SubscriptionEnd") elements) (λ e. ended_of e)

@@ -40,7 +40,7 @@ told_in now action elements =
     else (if same renew_response action then and_then (left_in the.RenewResponse (codes "RenewResponse") now elements) (λ expires. Ok (body.Renewed expires))
     else (if same get_status_response action then and_then (left_in the.GetStatusResponse (codes "GetStatusResponse") now elements) (λ expires. Ok (body.StatusIs expires))
     else (if same unsubscribe_response action then Ok body.Unsubscribed
-    else (if same subscription_end action then ended_in elements
+    else (if same subscription_end action then and_then (ended_in elements) (λ ended. Ok (body.Ended ended.0 ended.1))
     else asked_in now action elements))))
 
 -- The body of an envelope, at a moment in milliseconds since 1970. Another action than these eleven has none.

@@ -103,19 +103,19 @@ fn subscribed_of(element: &Element, now: Moment) -> Result<Body, BodyFault>
     })
 }
 
-/// That a subscription has ended.
-pub(crate) fn ended_in(elements: &[Element]) -> Result<Body, BodyFault>
+/// Reads which subscription has ended and why, from the elements of a Body.
+pub fn read_end(elements: &[Element]) -> Result<(Text, EndStatus), BodyFault>
     ensures { Reads result (ended_in elements.now) }
 {
     ended_of(root_in(Part::SubscriptionEnd, "SubscriptionEnd", elements)?)
 }
 
-fn ended_of(element: &Element) -> Result<Body, BodyFault>
+fn ended_of(element: &Element) -> Result<(Text, EndStatus), BodyFault>
     ensures { Reads result (ended_of element.now) }
 {
     let identifier = managed_in(element)?;
     let status = status_in(element)?;
-    Ok(Body::Ended { identifier, status })
+    Ok((identifier, status))
 }
 
 /// Why a subscription has ended.

@@ -13,6 +13,7 @@ pub mod telling;
 pub mod writing;
 
 pub use bodies::Body;
+pub use leases::read_end;
 pub use offers::read_offers;
 pub use reading::{has_enumerate, read_body};
 pub use wef_subscribes::{BodyFault, Part};

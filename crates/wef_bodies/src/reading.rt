@@ -8,7 +8,7 @@ ghost use Rattle.wef_subscribes.specs.Steps.{Reads};
 
 use crate::bodies::Body;
 use crate::children::enumeration_of;
-use crate::leases::{ended_in, left_in, renew_in, root_in, subscribed_in};
+use crate::leases::{left_in, read_end, renew_in, root_in, subscribed_in};
 use crate::offers::read_offers;
 use wef_base::{Element, Moment};
 use wef_envelope::Envelope;
@@ -59,7 +59,8 @@ fn told_in(action: &str, elements: &[Element], now: Moment) -> Result<Body, Body
         return Ok(Body::Unsubscribed);
     }
     if is_subscription_end(action) {
-        return ended_in(elements);
+        let (identifier, status) = read_end(elements)?;
+        return Ok(Body::Ended { identifier, status });
     }
     asked_in(action, elements, now)
 }
