@@ -9,7 +9,6 @@ use Rattle.wef_bodies.specs.Offers.{bad_offer, is_offer, of_offer, offer_of, off
 use Rattle.wef_bodies.specs.Spaces.{subscribe}
 use Rattle.wef_subscribes.specs.Steps.{needed}
 use Rattle.wef_subscribes.specs.Subscribes.{in_management, subscribe_in}
-use Rattle.wef_subscribes.specs.Spaces.{batches}
 use Rattle.wef_subscribes.specs.declared.faults.BodyFault.{BodyFault}
 use Rattle.wef_subscribes.specs.declared.faults.BodyFault.TheVariants.{BadBody}
 use Rattle.wef_subscribes.specs.declared.faults.Part.TheVariants as the
@@ -24,8 +23,9 @@ use Rattle.wef_eventing.specs.Sending.{AreServable, IsServable}
 use Rattle.wef_eventing.specs.declared.offers.Offer.{Offer}
 use Rattle.wef_eventing.specs.declared.offers.Subscribe.{Subscribe}
 use Rattle.wef_xml.specs.Good.{IsGoodElement, IsGoodTree}
-use Rattle.wef_front_source.proofs.WishesCanBeAccepted.{first_so, goes_on, needed_so, trees_good, wish_so}
+use Rattle.wef_front_source.proofs.WishesCanBeAccepted.{wish_so}
 use Rattle.wef_source.specs.Serving.{CanBeAccepted}
+use Rattle.wef_replies.proofs.LeasesRead.{first_so, goes_on, needed_so, trees_good}
 use Rattle.wef_replies.proofs.ReadIsGood.{body_is_good}
 
 -- ---- an offer

@@ -1,15 +1,13 @@
 -- What the bytes of a reply say to a source.
-use Rattle.std.specs.Prelude.{◌≡◌, ℕ, false, List, [], ◌∷◌, Option, Some, None, Result, Ok, Err, if◌then◌else◌}
-use Rattle.std.specs.Option.{option_and_then, option_map, option_or}
+use Rattle.std.specs.Prelude.{◌≡◌, ℕ, false, List, Option, Some, None, Result, Ok, Err, if◌then◌else◌}
+use Rattle.std.specs.Option.{option_and_then, option_map}
 use Rattle.wef_base.specs.Names.{same}
 use Rattle.wef_base.specs.declared.tree.Charset.TheVariants.{Utf8}
 use Rattle.wef_base.specs.declared.tree.Element.{Element}
 use Rattle.wef_envelope.specs.Envelopes.{id_in, said}
-use Rattle.wef_envelope.specs.Faults.{fault_in}
 use Rattle.wef_envelope.specs.declared.actions.TheConstants.{ACK, ENUMERATE_RESPONSE}
 use Rattle.wef_envelope.specs.declared.envelopes.Envelope.{Envelope}
 use Rattle.wef_envelope.specs.declared.envelopes.EnvelopeFault.{EnvelopeFault}
-use Rattle.wef_envelope.specs.declared.faults.Fault.{Fault}
 use Rattle.wef_ids.specs.Ids.{ids_agree}
 use Rattle.wef_ids.specs.declared.MessageId.{MessageId}
 use Rattle.wef_bodies.specs.Offers.{offers_in}
@@ -20,22 +18,14 @@ use Rattle.wef_source.specs.Machine.{End}
 use Rattle.wef_source.specs.declared.messages.Moved.TheVariants as moved
 use Rattle.wef_source.specs.declared.messages.Reply as reply
 use Rattle.wef_source.specs.declared.messages.Reply.TheVariants as replies
+use Rattle.wef_replies.specs.Faults.{fault_among}
 use Rattle.wef_tree_reading.specs.Documents.{tree_of}
 use Rattle.wef_front_source.specs.declared.listening.Hears.{Hears}
 use Rattle.wef_front_source.specs.declared.listening.Hears.TheVariants.{Adopted, Moved, Refused, NotAsked, Unreadable}
 
--- the fault that an element is
-abbrev pub fault_of : Element → Option reply.Reply
-fault_of e = option_map (λ (f : Fault). replies.Fault f.name) (fault_in e)
-
--- the first in a Body
-abbrev pub fault_among : List Element → Option reply.Reply
-fault_among [] = None
-fault_among (e ∷ es) = option_or (fault_of e) (fault_among es)
-
 -- the reply that an envelope is: an acknowledgement by its action, or else a fault
 abbrev pub reply_in : Envelope → Option reply.Reply
-reply_in e = if same e.action ACK.now then Some replies.Ack else fault_among e.body
+reply_in e = if same e.action ACK.now then Some replies.Ack else option_map replies.Fault (fault_among e.body)
 
 -- what a reply answers, and how
 abbrev pub Told : Type 0

@@ -14,7 +14,7 @@ ghost use Rattle.wef_xml.specs.Good.{IsXmlText};
 use crate::hearing::{Heard, hear};
 use crate::saying::{Said, say};
 use std::alloc::{AllocError, Global};
-use wef_base::{Bytes, Charset, Moment, Text};
+use wef_base::{Bytes, Charset, Moment};
 use wef_bodies::{Body, write_body};
 use wef_envelope::{FaultName, MessageId};
 use wef_http_heads::Answer;

@@ -6,7 +6,7 @@ ghost use Rattle.wef_batch.specs.Reading.{AreGoodTrees};
 ghost use Rattle.wef_bodies.specs.Offers.{offers_in};
 ghost use Rattle.wef_envelope.specs.Envelopes.{said};
 ghost use Rattle.wef_eventing.specs.Sending.{AreServable};
-ghost use Rattle.wef_front_source.specs.HeardReplies.{HearsOffers, HearsReply, HearsTold, fault_among, fault_of, offers_told, offers_told_by, offers_told_in, related, reply_in, told, told_by, told_in};
+ghost use Rattle.wef_front_source.specs.HeardReplies.{HearsOffers, HearsReply, HearsTold, offers_told, offers_told_by, offers_told_in, related, reply_in, told, told_by, told_in};
 ghost use Rattle.wef_xml.specs.Good.{IsGoodTree};
 
 use std::alloc::{AllocError, Global};
@@ -14,9 +14,10 @@ use wef_base::moments::Moment;
 use wef_base::{Bytes, Charset, Element, List};
 use wef_bodies::{BodyFault, read_offers};
 use wef_envelope::actions::{ACK, ENUMERATE_RESPONSE};
-use wef_envelope::{Envelope, EnvelopeFault, MessageId, from_node, read_fault};
+use wef_envelope::{Envelope, EnvelopeFault, MessageId, from_node};
 use wef_eventing::Offer;
 use wef_keeper::Keeper;
+use wef_replies::fault_among;
 use wef_source::{Moved, Reply, SourceEnd, SourceFault};
 use wef_tree::{TreeFault, read_tree};
 
@@ -195,28 +196,9 @@ fn reply_in(envelope: &Envelope) -> Result<Option<Reply>, AllocError>
     if envelope.action.as_str() == ACK {
         return Ok(Some(Reply::Ack));
     }
-    fault_among(envelope.body.as_slice())
-}
-
-/// The first of the elements of a Body that is a fault.
-fn fault_among(body: &[Element]) -> Result<Option<Reply>, AllocError>
-    ensures { IfOk result (λ reply. reply ≡ fault_among body.now) }
-{
-    for element in body {
-        if let Some(reply) = fault_of(element)? {
-            return Ok(Some(reply));
-        }
-    }
-    Ok(None)
-}
-
-fn fault_of(element: &Element) -> Result<Option<Reply>, AllocError>
-    ensures { IfOk result (λ reply. reply ≡ fault_of element.now) }
-{
-    match &read_fault(element) {
-        Ok(fault) => Ok(Some(Reply::Fault(fault.name.clone()?))),
-        Err(EnvelopeFault::NoMemory) => Err(AllocError),
-        Err(_) => Ok(None),
+    match fault_among(envelope.body.as_slice())? {
+        Some(name) => Ok(Some(Reply::Fault(name))),
+        None => Ok(None),
     }
 }
 

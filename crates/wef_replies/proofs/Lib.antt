@@ -1,4 +1,5 @@
 pub mod IdTexts
+pub mod LeasesRead
 pub mod Numbered
 pub mod OneIsHeard
 pub mod ReadIsGood

@@ -1,7 +1,8 @@
 //! Why a message can't be read, as the fault that is answered. Both ends refuse such a message alike.
 
-ghost use Rattle.std.specs.Prelude.{◌≡◌, true, Some, IfOk};
+ghost use Rattle.std.specs.Prelude.{◌≡◌, true, Some, None, IfErr, IfOk};
 ghost use Rattle.wef_envelope.specs.Faults.{is_known};
+ghost use Rattle.wef_envelope.specs.declared.envelopes.EnvelopeFault.TheVariants.{NoMemory};
 ghost use Rattle.wef_replies.specs.Refusals.{IsOfTree, envelope_refused, is_nameless, tree_refused};
 
 use std::alloc::AllocError;
@@ -12,6 +13,7 @@ use wef_tree::TreeFault;
 /// The fault that answers a document that is no tree. Want of memory isn't answered.
 pub fn tree_refused(fault: &TreeFault) -> Result<FaultName, AllocError>
     ensures name { IfOk result (λ name. tree_refused fault.now ≡ Some name) }
+    ensures wants_memory { IfErr result (λ _. tree_refused fault.now ≡ None) }
     ensures known { IfOk result (λ name. is_known name ≡ true) }
 {
     match fault {
@@ -25,6 +27,7 @@ pub fn tree_refused(fault: &TreeFault) -> Result<FaultName, AllocError>
 pub fn envelope_refused(fault: &EnvelopeFault) -> Result<FaultName, AllocError>
     ensures name { IfOk result (λ name. name ≡ envelope_refused fault.now) }
     ensures told { IfOk result (λ _. IsOfTree fault.now) }
+    ensures wants_memory { IfErr result (λ _. fault.now ≡ NoMemory) }
     ensures known { IfOk result (λ name. is_known name ≡ true) }
 {
     match fault {
