@@ -1,12 +1,14 @@
 -- Requests that wait stay in order.
-use Rattle.std.proofs.Common.{◌≡◌, ℕ, cond, true, false, List, [], ◌∷◌, refl, ap, ◌∙◌}
+use Rattle.std.proofs.Common.{◌≡◌, ℕ, cond, true, false, List, [], ◌∷◌, refl, ap, ◌∙◌, sym, subst}
+use Rattle.std.specs.Prelude.{Option, Some, None, IfSome}
 use Rattle.std.specs.Cmp.{IsTotalOrder, on_total, then_total}
 use Rattle.std.specs.Cmp.Lexicographic.{nat_list_cmp_total}
 use Rattle.std.specs.List.{AllByRecursion}
 use Rattle.std.specs.List.Sorted.{IsStrictlySortedBy}
 use Rattle.std.specs.Ordering.{ordering_reverse}
 use Rattle.std.specs.declared.cmp.Ordering.TheVariants.{Less, Equal, Greater}
-use Rattle.wef_collector_leases.specs.Waiting.{AreInOrder, has_id, pair_cmp, placed, with_waiting, without_first}
+use Rattle.wef_collector_leases.specs.Leases.{IsXmlWish}
+use Rattle.wef_collector_leases.specs.Waiting.{AreInOrder, AreXmlWishes, first_of, has_id, pair_cmp, placed, with_waiting, without_first}
 use Rattle.wef_collector_leases.specs.declared.waiting.Waiting.{Waiting}
 
 pair_total : IsTotalOrder pair_cmp
@@ -63,3 +65,33 @@ left_in_order id (w ∷ ws) sorted =
       | true ↦ sorted.1
       | false ↦ (left_above id w ws sorted.0, left_in_order id ws sorted.1)
     ]
+
+-- ---- the wishes of those that wait
+
+pub put_wishes : (new : Waiting) (ws : List Waiting) → IsXmlWish new.wants → AreXmlWishes ws → AreXmlWishes (with_waiting ws new)
+put_wishes new [] wish wishes = (wish, tt)
+put_wishes new (w ∷ ws) wish wishes =
+    elim (pair_cmp new w) as (λ r. AreXmlWishes (placed r new w ws (with_waiting ws new))) [
+      | Less ↦ (wish, wishes)
+      | Equal ↦ (wish, wishes.1)
+      | Greater ↦ (wishes.0, put_wishes new ws wish wishes.1)
+    ]
+
+pub left_wishes : (id : ℕ) (ws : List Waiting) → AreXmlWishes ws → AreXmlWishes (without_first id ws)
+left_wishes id [] wishes = tt
+left_wishes id (w ∷ ws) wishes =
+    elim (has_id id w) as (λ t. AreXmlWishes (cond t ws (w ∷ without_first id ws))) [
+      | true ↦ wishes.1
+      | false ↦ (wishes.0, left_wishes id ws wishes.1)
+    ]
+
+pub first_wish : (id : ℕ) (ws : List Waiting) (found : Option Waiting) → found ≡ first_of id ws → AreXmlWishes ws → IfSome found (λ (w : Waiting). IsXmlWish w.wants)
+first_wish id ws found is wishes = subst (λ (o : Option Waiting). IfSome o (λ (w : Waiting). IsXmlWish w.wants)) (sym is) (by ws wishes)
+  where
+    by : (ws : List Waiting) → AreXmlWishes ws → IfSome (first_of id ws) (λ (w : Waiting). IsXmlWish w.wants)
+    by [] wishes = tt
+    by (w ∷ ws) wishes =
+        elim (has_id id w) as (λ t. IfSome (cond t (Some w) (first_of id ws)) (λ (w : Waiting). IsXmlWish w.wants)) [
+          | true ↦ wishes.0
+          | false ↦ by ws wishes.1
+        ]

@@ -11,9 +11,11 @@ use Rattle.wef_base.specs.declared.numbers.TheConstants.{MAX}
 use Rattle.wef_keeper.specs.Rows.{Rows, row_of}
 use Rattle.wef_keeper.specs.declared.keys.Cell.{Cell}
 use Rattle.wef_keeper.specs.declared.keys.Key.{Key}
+use Rattle.wef_xml.specs.Good.{IsXmlText}
 use Rattle.wef_collector_rows.specs.Bookmarks.{is_one}
 use Rattle.wef_collector_rows.specs.Forms.{AreFormed, is_formed, is_lease_row, names_source}
 use Rattle.wef_collector_rows.specs.Keys.{lease_key}
+use Rattle.wef_collector_leases.proofs.Texts.{passes_of}
 
 -- a lease's row of its form has an identifier that XML allows
 identifier_allowed : (u s : List ℕ) (cell : Cell) → is_formed (row_of (lease_key u s, cell)) ≡ true → is_xml_text cell.body ≡ true
@@ -32,11 +34,11 @@ le_tested : (n m : ℕ) → n ≤ m → nat_le n m ≡ true
 le_tested n m h = grind (arith, nat_tests)
 
 -- a lease that may be kept, of names that read back, makes a row of its form
-pub lease_row : (u s body : List ℕ) (expiry : ℕ) (key : Key) → key ≡ lease_key u s → subscription_name u ≡ Some u → source_name s ≡ Some s → expiry ≤ MAX → is_xml_text body ≡ true
+pub lease_row : (u s body : List ℕ) (expiry : ℕ) (key : Key) → key ≡ lease_key u s → subscription_name u ≡ Some u → source_name s ≡ Some s → expiry ≤ MAX → IsXmlText body
     → is_formed (record { key = key; value = expiry; body = body }) ≡ true
 unfolding is_formed is_lease_row
 lease_row u s body expiry key is sub source within allowed =
     let name : is_one u (subscription_name u) ≡ true = ap (is_one u) sub ∙ nat_list_eq_equiv.refl u in
     let from : is_one s (source_name s) ≡ true = ap (is_one s) source ∙ nat_list_eq_equiv.refl s in
     subst (λ (k : Key). is_formed (record { key = k; value = expiry; body = body }) ≡ true) (sym is)
-    (λ i. (name i && from i) && true && true && le_tested expiry MAX within i && allowed i)
+    (λ i. (name i && from i) && true && true && le_tested expiry MAX within i && passes_of body allowed i)

@@ -1,16 +1,25 @@
--- Which source is the next that is to be asked for something, said without how it is found.
-use Rattle.std.specs.Prelude.{◌≡◌, ℕ, true, false, ◌⊎◌, List, [], ◌∷◌, Option, Some, None}
+-- Which source is the next that is to be asked for something, said without how it is found; and what lies in rows after changes of
+-- leases.
+use Rattle.std.specs.Prelude.{◌≡◌, ℕ, ◌<◌, nat_eq, Bool, true, false, ◌⊎◌, List, [], ◌∷◌, length, Option, Some, None, if◌then◌else◌}
 use Rattle.std.specs.Cmp.Lexicographic.{slice_cmp}
 use Rattle.std.specs.List.{AllByRecursion}
-use Rattle.std.specs.Ordering.{nat_cmp, is_lt}
+use Rattle.std.specs.FinMap as map
+use Rattle.std.specs.Ordering.{eq_by_cmp, nat_cmp, is_lt}
+use Rattle.wef_base.specs.Names.{same}
 use Rattle.wef_eventing.specs.declared.subscriptions.SourceAt.{SourceAt}
-use Rattle.wef_keeper.specs.Rows.{Rows}
+use Rattle.wef_keeper.specs.Kinds.{number_of}
+use Rattle.wef_keeper.specs.Rows.{Rows, applied, key_cmp}
+use Rattle.wef_keeper.specs.declared.keys.Key.{Key}
+use Rattle.wef_keeper.specs.declared.kinds.RowKind.TheVariants as kinds
+use Rattle.wef_collector_rows.specs.Keys.{lease_key}
 use Rattle.wef_collector_reports.specs.Listing.{listed}
 use Rattle.wef_collector_reports.specs.declared.listing.Listed.{Listed}
+use Rattle.wef_collector_leases.specs.Changes.{clear_lease, end_lease, release_changes, replace_lease}
 use Rattle.wef_collector_leases.specs.Due.{due_for}
 use Rattle.wef_collector_leases.specs.Leases.{lease_at}
 use Rattle.wef_collector_leases.specs.Next.{begins_here, next_due}
 use Rattle.wef_collector_leases.specs.Waiting.{is_waiting}
+use Rattle.wef_collector_leases.specs.declared.leases.Lease.{Lease}
 use Rattle.wef_collector_leases.specs.declared.leases.Wants.{Wants}
 use Rattle.wef_collector_leases.specs.declared.next.Due.{Due}
 use Rattle.wef_collector_leases.specs.declared.waiting.Waiting.{Waiting}
@@ -57,3 +66,29 @@ IsNextOf rows waiting now (l ∷ ls) (Some due) = IsFirstOf rows waiting now l d
 -- The next is the first by the names of the subscription and then of the source.
 abbrev pub NextIsFirst : Type 0
 NextIsFirst = (rows : Rows) (waiting : List Waiting) (now : ℕ) → IsNextOf rows waiting now (listed rows) (next_due rows waiting now)
+
+-- ---- what lies in rows
+
+-- no lease where it is of the session that is named so
+abbrev pub unless_named : List ℕ → Option Lease → Option Lease
+unless_named identifier None = None
+unless_named identifier (Some kept) = if same kept.identifier identifier then None else Some kept
+
+-- whether a key is that of the lease of a subscription and a source
+abbrev pub is_its_key : List ℕ → List ℕ → Key → Bool
+is_its_key u s key = eq_by_cmp key_cmp (lease_key u s) key
+
+abbrev pub Stays : Rows → Rows → Key → Type 0
+Stays before after key = map.get after key ≡ map.get before key
+
+-- A lease that is put is the one that is kept, one that ends isn't kept, and each other row stays. Where all end, none of a name is
+-- kept, and each row of another kind stays.
+pub record LeasesAreChanged : Type 0 where
+  pub replaced : (rows : Rows) (u s : List ℕ) (lease : Lease) → lease_at (applied (replace_lease rows u s lease) rows) u s ≡ Some lease
+  pub cleared : (rows : Rows) (u s : List ℕ) → lease_at (applied (clear_lease rows u s) rows) u s ≡ None
+  pub ended : (rows : Rows) (u s identifier : List ℕ) → lease_at (applied (end_lease rows u s identifier) rows) u s ≡ unless_named identifier (lease_at rows u s)
+  pub others_replaced : (rows : Rows) (u s : List ℕ) (lease : Lease) (key : Key) → is_its_key u s key ≡ false → Stays rows (applied (replace_lease rows u s lease) rows) key
+  pub others_cleared : (rows : Rows) (u s : List ℕ) (key : Key) → is_its_key u s key ≡ false → Stays rows (applied (clear_lease rows u s) rows) key
+  pub others_ended : (rows : Rows) (u s identifier : List ℕ) (key : Key) → is_its_key u s key ≡ false → Stays rows (applied (end_lease rows u s identifier) rows) key
+  pub released : (rows : Rows) (u s : List ℕ) → 0 < length u → lease_at (applied (release_changes rows) rows) u s ≡ None
+  pub others_released : (rows : Rows) (key : Key) → nat_eq (number_of kinds.Lease) key.kind ≡ false → Stays rows (applied (release_changes rows) rows) key

@@ -1,13 +1,13 @@
 -- How long a source goes on sending that the collector asked for its events.
-use Rattle.std.specs.Prelude.{◌≡◌, ℕ, true, List, [], Option, Some}
+use Rattle.std.specs.Prelude.{ℕ, List, [], Option, Some}
 use Rattle.std.specs.FinMap as map
 use Rattle.std.specs.Option.{option_map}
-use Rattle.wef_base.specs.Characters.{is_xml_text}
 use Rattle.wef_keeper.specs.declared.keys.Cell.{Cell}
 use Rattle.wef_keeper.specs.declared.keys.Depth.TheVariants.{Kind}
 use Rattle.wef_keeper.specs.declared.keys.Row.{Row}
 use Rattle.wef_keeper.specs.Rows.{Rows}
 use Rattle.wef_keeper.specs.Sections.{rows_under}
+use Rattle.wef_xml.specs.Good.{IsXmlText}
 use Rattle.wef_collector_rows.specs.Keys.{lease_key}
 use Rattle.wef_collector_leases.specs.declared.leases.Lease.{Lease}
 use Rattle.wef_collector_leases.specs.declared.leases.Wants.{Wants}
@@ -29,10 +29,10 @@ lease_rows rows = rows_under Kind (lease_key [] []) rows
 
 -- its identifier holds characters that XML allows
 abbrev pub IsXmlLease : Lease → Type 0
-IsXmlLease lease = is_xml_text lease.identifier ≡ true
+IsXmlLease lease = IsXmlText lease.identifier
 
 -- and so does that of a wish
 abbrev pub IsXmlWish : Wants → Type 0
 IsXmlWish Subscribes = Unit {0}
-IsXmlWish (Renews identifier) = is_xml_text identifier ≡ true
-IsXmlWish (Unsubscribes identifier) = is_xml_text identifier ≡ true
+IsXmlWish (Renews identifier) = IsXmlText identifier
+IsXmlWish (Unsubscribes identifier) = IsXmlText identifier

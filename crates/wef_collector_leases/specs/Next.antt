@@ -4,6 +4,7 @@ use Rattle.std.specs.Prelude.{ℕ, Bool, true, false, List, [], ◌∷◌, Optio
 use Rattle.std.specs.Cmp.Lexicographic.{slice_cmp}
 use Rattle.std.specs.Option.{option_and_then}
 use Rattle.std.specs.Ordering.{nat_cmp, is_lt}
+use Rattle.wef_documents.specs.Laws.{HasXmlAddress, HasXmlTexts}
 use Rattle.wef_eventing.specs.declared.subscriptions.SourceAt.{SourceAt}
 use Rattle.wef_eventing.specs.declared.subscriptions.SubKind.{SubKind}
 use Rattle.wef_eventing.specs.declared.subscriptions.SubKind.TheVariants.{BySource, ByCollector}
@@ -83,10 +84,13 @@ abbrev pub first_of_rows : Rows → List Waiting → ℕ → List Row → Option
 first_of_rows rows waiting now [] = None
 first_of_rows rows waiting now (row ∷ more) = or_next (due_of_row rows waiting now row) (first_of_rows rows waiting now more)
 
--- ---- an identifier that is handed on holds characters that XML allows
+-- ---- texts that are handed on hold characters that XML allows
 
-abbrev pub IsXmlDueSource : DueSource → Type 0
-IsXmlDueSource due = IsXmlWish due.wants
+pub record IsXmlDueSource (due : DueSource) : Type 0 where
+  pub wants : IsXmlWish due.wants
+  pub source : HasXmlAddress due.source
 
-abbrev pub IsXmlDue : Due → Type 0
-IsXmlDue due = IsXmlWish due.wants
+pub record IsXmlDue (due : Due) : Type 0 where
+  pub wants : IsXmlWish due.wants
+  pub source : HasXmlAddress due.source
+  pub subscription : HasXmlTexts due.subscription

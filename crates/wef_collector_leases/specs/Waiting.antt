@@ -1,17 +1,22 @@
 -- Requests that wait for their answers, at most one for a subscription and a source.
 use Rattle.std.specs.Prelude.{ℕ, ◌==◌, cond, Bool, ◌&&◌, List, [], ◌∷◌, Option}
 use Rattle.std.specs.Cmp.Lexicographic.{slice_cmp}
-use Rattle.std.specs.List.{find, list_any}
+use Rattle.std.specs.List.{AllByRecursion, find, list_any}
 use Rattle.std.specs.List.Sorted.{IsStrictlySortedBy}
 use Rattle.std.specs.Ordering.{nat_cmp, on, then_cmp, is_le}
 use Rattle.std.specs.declared.cmp.Ordering.{Ordering}
 use Rattle.std.specs.declared.cmp.Ordering.TheVariants.{Less, Equal, Greater}
 use Rattle.wef_base.specs.Names.{same}
+use Rattle.wef_collector_leases.specs.Leases.{IsXmlWish}
 use Rattle.wef_collector_leases.specs.declared.waiting.Waiting.{Waiting}
 
 -- requests go by the bytes of the subscription's name, and then by those of the source's
 abbrev pub pair_cmp : Waiting → Waiting → Ordering
 pair_cmp = then_cmp (on (λ w. w.sub) (slice_cmp nat_cmp)) (on (λ w. w.source) (slice_cmp nat_cmp))
+
+-- each wish has an identifier that XML allows
+abbrev pub AreXmlWishes : List Waiting → Type 0
+AreXmlWishes waiting = AllByRecursion (λ (w : Waiting). IsXmlWish w.wants) waiting
 
 -- each pair of a subscription and a source is below the next one
 abbrev pub AreInOrder : List Waiting → Type 0

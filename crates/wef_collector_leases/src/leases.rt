@@ -66,11 +66,14 @@ pub fn read_lease<K: Keeper>(
 }
 
 /// The lease that stands at a key. It fails where it isn't of its form.
+#[tactic(auto, using(crate::proofs::Texts::allowed_of))]
 fn lease_of(cell: Cell) -> Result<Option<Lease>, StoreFault>
     ensures lease { IfOk result (λ lease. lease ≡ spec.some_lease cell) }
     ensures allowed { IfOk result (λ lease. IfSome lease spec.IsXmlLease) }
     ensures failed { access.fails result ≡ true → characters.is_xml_text cell.body ≡ false }
 {
+    // The text is asked for since it says that it is UTF-8.
+    let _text = cell.body.as_str();
     if !is_xml_text(&cell.body)? {
         return Err(StoreFault::Failed);
     }

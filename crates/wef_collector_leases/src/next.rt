@@ -7,6 +7,7 @@ ghost use Rattle.wef_collector_reports.specs.Listing as listing;
 ghost use Rattle.wef_collector_rows.specs.Forms.{AreFormed};
 ghost use Rattle.wef_collector_rows.specs.Judged.{AreAllFormed};
 ghost use Rattle.wef_collector_rows.specs.Standing.{subscription_rows};
+ghost use Rattle.wef_documents.specs.Laws.{HasXmlAddress, HasXmlTexts};
 ghost use Rattle.wef_keeper.specs.Access as access;
 
 use crate::due::due_for;
@@ -37,7 +38,8 @@ pub struct DueSource {
 
 /// The first subscription that the collector begins, by the bytes of its name, and the first of its
 /// sources so, for which no request waits and one is due; and what is wanted of the source. None
-/// where there is none.
+/// where there is none. The rows of the subscriptions are read at once, which are a page at most, and
+/// then the lease of one source after the other, up to those of the first subscription that has one.
 pub fn next_due<K: Keeper>(
     keeper: &mut K,
     alloc: Global,
@@ -95,8 +97,10 @@ fn due_of_row<K: Keeper>(
 }
 
 /// The subscription of a row, as lists have it.
+#[tactic(auto, using(crate::proofs::Allowed::listed_allowed))]
 fn listed_of(row: &Row) -> Result<Option<Listed>, AllocError>
-    ensures { IfOk result (λ listed. listed ≡ listing.listed_of row.now) }
+    ensures listed { IfOk result (λ listed. listed ≡ listing.listed_of row.now) }
+    ensures texts { IfOk result (λ listed. IfSome listed (λ l. HasXmlTexts l.subscription)) }
 {
     let Some(name) = SubId::named(&row.key.sub)? else {
         return Ok(None);
@@ -117,7 +121,8 @@ fn due_of<K: Keeper>(
     waiting: &WaitingList,
     now: Moment,
 ) -> Result<Option<Due>, StoreFault>
-    requires { access.IsReady (K.store keeper.old) }
+    requires texts { HasXmlTexts listed.subscription }
+    requires ready { access.IsReady (K.store keeper.old) }
     ensures due { IfSome (K.store keeper.new).rows (λ rows. IfOk result (λ due. due ≡ spec.due_of rows waiting.now now listed)) }
     ensures allowed { IfOk result (λ due. IfSome due spec.IsXmlDue) }
     ensures judged { IfSome (K.store keeper.new).rows (λ rows. OnOk result (judged.IsJudged rows waiting.now listed)) }
@@ -139,8 +144,12 @@ fn begins_here(kind: SubKind) -> bool
     }
 }
 
+#[tactic(auto, using(crate::proofs::Allowed::due_allowed))]
 fn due_with(subscription: Subscription, found: Option<DueSource>) -> Option<Due>
-    ensures { result ≡ spec.due_with subscription found }
+    requires texts { HasXmlTexts subscription }
+    requires found { IfSome found spec.IsXmlDueSource }
+    ensures due { result ≡ spec.due_with subscription found }
+    ensures allowed { IfSome result spec.IsXmlDue }
 {
     match found {
         Some(found) => Some(Due {
@@ -159,7 +168,8 @@ fn least_due<K: Keeper>(
     waiting: &WaitingList,
     now: Moment,
 ) -> Result<Option<DueSource>, StoreFault>
-    requires { access.IsReady (K.store keeper.old) }
+    requires texts { HasXmlTexts listed.now.subscription }
+    requires ready { access.IsReady (K.store keeper.old) }
     ensures due { IfSome (K.store keeper.new).rows (λ rows. IfOk result (λ due. due ≡ spec.least_due rows waiting.now now listed.now None listed.now.subscription.sources)) }
     ensures allowed { IfOk result (λ due. IfSome due spec.IsXmlDueSource) }
     ensures judged { IfSome (K.store keeper.new).rows (λ rows. OnOk result (judged.AreAsked rows waiting.now listed.now.subscription.name listed.now.subscription.sources)) }
@@ -204,7 +214,8 @@ fn due_at<K: Keeper>(
     waiting: &WaitingList,
     now: Moment,
 ) -> Result<Option<DueSource>, StoreFault>
-    requires { access.IsReady (K.store keeper.old) }
+    requires texts { HasXmlAddress source.now }
+    requires ready { access.IsReady (K.store keeper.old) }
     ensures due { IfSome (K.store keeper.new).rows (λ rows. IfOk result (λ due. due ≡ spec.due_at rows waiting.now now listed.now source.now)) }
     ensures allowed { IfOk result (λ due. IfSome due spec.IsXmlDueSource) }
     ensures judged { IfSome (K.store keeper.new).rows (λ rows. OnOk result (judged.IsAsked rows waiting.now listed.now.subscription.name source.now)) }

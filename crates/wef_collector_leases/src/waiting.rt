@@ -3,7 +3,8 @@
 ghost use Rattle.std.specs.List.{find, position};
 ghost use Rattle.std.specs.Option.{option_copied};
 ghost use Rattle.std.specs.Ordering.{is_le};
-ghost use Rattle.std.specs.Prelude.{◌≡◌, [], OnOk, OnErr};
+ghost use Rattle.std.specs.Prelude.{◌≡◌, [], IfSome, OnOk, OnErr};
+ghost use Rattle.wef_collector_leases.specs.Leases.{IsXmlWish};
 ghost use Rattle.wef_collector_leases.specs.Waiting as spec;
 
 use crate::leases::Wants;
@@ -32,7 +33,7 @@ pub struct WaitingList {
 impl Model for WaitingList {
     ghost use Rattle.std.specs.Coded.{coded_list};
     ghost use Rattle.std.specs.Prelude.{List};
-    ghost use Rattle.wef_collector_leases.specs.Waiting.{AreInOrder};
+    ghost use Rattle.wef_collector_leases.specs.Waiting.{AreInOrder, AreXmlWishes};
     ghost use Rattle.wef_collector_leases.specs.contracts.waiting.Waiting as waiting;
     ghost use Rattle.wef_collector_leases.specs.declared.waiting.Waiting as the_waiting;
 
@@ -42,7 +43,7 @@ impl Model for WaitingList {
 
     ghost view = { λ l. l.items.items };
 
-    ghost invariant = { λ l. AreInOrder l.items.items };
+    ghost invariant = { λ l. AreInOrder l.items.items × AreXmlWishes l.items.items };
 }
 
 impl WaitingList {
@@ -59,6 +60,7 @@ impl WaitingList {
     pub fn as_slice(&self) -> &[Waiting]
         ensures value { result.now ≡ self.now }
         ensures in_order { spec.AreInOrder self.now }
+        ensures wishes { spec.AreXmlWishes self.now }
     {
         self.items.as_slice()
     }
@@ -71,14 +73,17 @@ impl WaitingList {
     }
 
     /// The first that has an id.
+    #[tactic(auto, using(crate::proofs::InOrder::first_wish))]
     pub fn first_of(&self, id: u128) -> Option<&Waiting>
-        ensures { option_copied result ≡ spec.first_of id self.now }
+        ensures first { option_copied result ≡ spec.first_of id self.now }
+        ensures wish { IfSome (option_copied result) (λ waiting. IsXmlWish waiting.wants) }
     {
         first_of(self.items.as_slice(), id)
     }
 
     /// Puts a request at its place, in place of one for its subscription and source.
     pub fn put(&mut self, new: Waiting) -> Result<(), AllocError>
+        requires { IsXmlWish new.wants }
         ensures ok { OnOk result (self.new ≡ spec.with_waiting self.old new) }
         ensures err { OnErr result (self.new ≡ self.old) }
     {
@@ -134,9 +139,12 @@ fn place_for(items: &[Waiting], new: &Waiting) -> Option<usize>
 }
 
 fn put_waiting(items: &mut Vec<Waiting>, new: Waiting) -> Result<(), AllocError>
-    requires { spec.AreInOrder items.old.items }
+    requires in_order { spec.AreInOrder items.old.items }
+    requires wishes { spec.AreXmlWishes items.old.items }
+    requires wish { IsXmlWish new.wants }
     ensures ok { OnOk result (items.new.items ≡ spec.with_waiting items.old.items new) }
     ensures in_order { OnOk result (spec.AreInOrder items.new.items) }
+    ensures wishes { OnOk result (spec.AreXmlWishes items.new.items) }
     ensures err { OnErr result (items.new.items ≡ items.old.items) }
 {
     let Some(place) = place_for(items.as_slice(), &new) else {
@@ -152,10 +160,12 @@ fn put_waiting(items: &mut Vec<Waiting>, new: Waiting) -> Result<(), AllocError>
 }
 
 fn take_waiting(items: &mut Vec<Waiting>, id: u128) -> Option<Waiting>
-    requires { spec.AreInOrder items.old.items }
+    requires in_order { spec.AreInOrder items.old.items }
+    requires wishes { spec.AreXmlWishes items.old.items }
     ensures taken { result ≡ spec.first_of id items.old.items }
     ensures left { items.new.items ≡ spec.without_first id items.old.items }
     ensures in_order { spec.AreInOrder items.new.items }
+    ensures wishes { spec.AreXmlWishes items.new.items }
 {
     let Some(place) = place_of(items.as_slice(), id) else {
         return None;

@@ -1,7 +1,7 @@
 use Rattle.std.proofs.Common.{◌≡◌, ◌∙◌, sym, subst, Some, None}
 use Rattle.std.specs.List.{position}
-use Rattle.wef_collector_leases.specs.Waiting.{AreInOrder, has_id}
-use Rattle.wef_collector_leases.proofs.InOrder.{left_in_order}
+use Rattle.wef_collector_leases.specs.Waiting.{AreInOrder, AreXmlWishes, has_id}
+use Rattle.wef_collector_leases.proofs.InOrder.{left_in_order, left_wishes}
 use Rattle.wef_collector_leases.proofs.Places.{all_left, left_at, none_taken, taken_at}
 use Rattle.wef_collector_leases.proofs.waiting.take_waiting.Goals as goal
 
@@ -26,4 +26,7 @@ returns-clause-left c =
     c.remove.ensures.items ∙ left_at c.args.id c.args.items.now.items c.in-Some.place at
 
 pub returns-clause-in_order : goal.returns-clause-in_order
-returns-clause-in_order c = subst AreInOrder (sym (returns-clause-left c)) (left_in_order c.args.id c.args.items.now.items c.requires)
+returns-clause-in_order c = subst AreInOrder (sym (returns-clause-left c)) (left_in_order c.args.id c.args.items.now.items c.requires.in_order)
+
+pub returns-clause-wishes : goal.returns-clause-wishes
+returns-clause-wishes c = subst AreXmlWishes (sym (returns-clause-left c)) (left_wishes c.args.id c.args.items.now.items c.requires.wishes)
