@@ -1,4 +1,4 @@
-pub mod Answered
+pub mod CallsAnswered
 pub mod Batches
 pub mod FormedRows
 pub mod FormsStay
@@ -11,4 +11,5 @@ pub mod OwnKeys
 pub mod Pages
 pub mod Shown
 pub mod Taking
+pub mod Valued
 pub mod Whole

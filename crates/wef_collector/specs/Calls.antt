@@ -9,13 +9,14 @@ use Rattle.wef_eventing.specs.declared.subscriptions.Subscription.{Subscription}
 use Rattle.wef_keeper.specs.Calls as keeper
 use Rattle.wef_keeper.specs.Rows.{Rows}
 use Rattle.wef_keeper.specs.declared.keys.Change.{Change}
-use Rattle.wef_collector_rows.specs.Answers.{IsOfStore, channels_read, is_there}
+use Rattle.wef_collector_rows.specs.Answers.{IsOfStore, channels_read, is_known, is_there}
+use Rattle.wef_collector_leases.specs.Changes.{end_lease, release_changes}
 use Rattle.wef_collector.specs.Boots.{boot_of}
 use Rattle.wef_collector_rows.specs.Keys.{boot_key, subscription_key}
 use Rattle.wef_collector_rows.specs.Standing.{is_full, kept_body, standing}
 use Rattle.wef_collector.specs.Taken.{batch_changes, put}
 use Rattle.wef_collector_rows.specs.declared.faults.CollectorFault.{CollectorFault}
-use Rattle.wef_collector_rows.specs.declared.faults.CollectorFault.TheVariants.{NoSubscription, Exists, Ended, NotWellFormed, TooMany, Full}
+use Rattle.wef_collector_rows.specs.declared.faults.CollectorFault.TheVariants.{NoSubscription, Exists, Ended, NotWellFormed, NotAsked, TooMany, Full}
 use Rattle.wef_collector_rows.specs.declared.standings.Standing as state
 use Rattle.wef_collector_rows.specs.declared.standings.Standing.TheVariants as is
 
@@ -68,6 +69,18 @@ unread_by (is.Live subscription) = Err NotWellFormed
 abbrev pub unread_effect : Rows → List ℕ → Effect
 unread_effect rows u = unread_by (standing rows u)
 
+-- all leases end
+abbrev pub release_effect : Rows → Effect
+release_effect rows = Ok (release_changes rows)
+
+-- the lease of a source ends that names its session so; also where the subscription has ended
+abbrev pub source_ended_effect : Rows → List ℕ → List ℕ → List ℕ → Effect
+source_ended_effect rows u s identifier = if is_known (standing rows u) then Ok (end_lease rows u s identifier) else Err NoSubscription
+
+-- the end of a session that couldn't be read is refused as one that isn't well-formed
+abbrev pub unread_end_effect : Rows → List ℕ → Effect
+unread_end_effect rows u = if is_known (standing rows u) then Err NotWellFormed else Err NoSubscription
+
 -- the boot number rises by one, below the greatest
 abbrev pub boot_effect : Rows → Effect
 boot_effect rows =
@@ -91,3 +104,15 @@ OfEnd fault = IsOfStore fault
 abbrev pub OfTake : CollectorFault → Type 0
 OfTake NotWellFormed = Unit {0}
 OfTake fault = OfEnd fault
+
+abbrev pub OfKnown : CollectorFault → Type 0
+OfKnown NoSubscription = Unit {0}
+OfKnown fault = IsOfStore fault
+
+abbrev pub OfUnreadEnd : CollectorFault → Type 0
+OfUnreadEnd NotWellFormed = Unit {0}
+OfUnreadEnd fault = OfKnown fault
+
+abbrev pub OfResponse : CollectorFault → Type 0
+OfResponse NotAsked = Unit {0}
+OfResponse fault = IsOfStore fault

@@ -5,6 +5,7 @@ use Rattle.wef_bookmark.specs.Order.{Marks}
 use Rattle.wef_eventing.specs.Addresses.{delivery_address}
 use Rattle.wef_eventing.specs.Sending.{CanBeOffered}
 use Rattle.wef_eventing.specs.declared.offers.Offer.{Offer}
+use Rattle.wef_eventing.specs.declared.offers.Subscribe.{Subscribe}
 use Rattle.wef_eventing.specs.declared.subscriptions.SubKind.{SubKind}
 use Rattle.wef_eventing.specs.declared.subscriptions.SubKind.TheVariants.{BySource, ByCollector}
 use Rattle.wef_eventing.specs.declared.subscriptions.Subscription.{Subscription}
@@ -23,22 +24,26 @@ begins_at_sources ByCollector = false
 abbrev pub is_offered : Listed → Bool
 is_offered l = l.live && begins_at_sources l.subscription.kind
 
--- an offer of a subscription to a source: its version as the text of an id, and a wish for the events above a bookmark,
--- at the address of both at the host
+-- a wish of a subscription for the events of a source above a bookmark, at the address of both at the host, and for how long if
+-- that is said
+abbrev pub subscribe_from : Marks → List ℕ → List ℕ → Subscription → Option ℕ → Subscribe
+subscribe_from from s host subscription expires = record {
+  notify_to = delivery_address host subscription.name s;
+  end_to = Some (delivery_address host subscription.name s);
+  identifier = Some subscription.name;
+  query = subscription.query;
+  max_items = subscription.max_items;
+  max_bytes = subscription.max_bytes;
+  heartbeat = subscription.heartbeat;
+  expires = expires;
+  from = from;
+}
+
+-- an offer of a subscription to a source: its version as the text of an id, and such a wish, which doesn't say for how long
 abbrev pub offer_from : Marks → List ℕ → List ℕ → Subscription → Offer
 offer_from from s host subscription = record {
   version = id_text subscription.version;
-  subscribe = record {
-    notify_to = delivery_address host subscription.name s;
-    end_to = Some (delivery_address host subscription.name s);
-    identifier = Some subscription.name;
-    query = subscription.query;
-    max_items = subscription.max_items;
-    max_bytes = subscription.max_bytes;
-    heartbeat = subscription.heartbeat;
-    expires = None;
-    from = from;
-  };
+  subscribe = subscribe_from from s host subscription None;
 }
 
 -- it goes on from the bookmark that is kept

@@ -2,11 +2,13 @@
 
 ghost use Rattle.std.specs.Prelude.{◌≡◌, ◌≤◌, ◌++◌, true, take, Some, Ok, Err, IfOk, IfErr, IsErr, IfSome, OnOk, MatchResult};
 ghost use Rattle.wef_batch.specs.Numbers.{AreNumbered};
+ghost use Rattle.wef_collector.specs.Asking.{CanBeRequested, next_request};
 ghost use Rattle.wef_collector.specs.Boots.{memory_begun};
 ghost use Rattle.wef_collector.specs.Calls as calls;
 ghost use Rattle.wef_collector.specs.Judged as judged;
-ghost use Rattle.wef_collector.specs.Memories.{drawn_in};
+ghost use Rattle.wef_collector.specs.Memories as memories;
 ghost use Rattle.wef_collector.specs.Offers.{CanAllBeOffered, offers};
+ghost use Rattle.wef_collector.specs.Responses.{CanBeTaken, answered_of, waiting_effect};
 ghost use Rattle.wef_collector_reports.specs.Judged.{is_report_formed};
 ghost use Rattle.wef_collector_reports.specs.Listing.{listed};
 ghost use Rattle.wef_collector_reports.specs.Report.{report};
@@ -28,9 +30,11 @@ ghost use Rattle.wef_keeper.specs.Calls.{DoesWith, IsCall, Looks};
 ghost use Rattle.wef_keeper.specs.Keeping.{is_armed};
 ghost use Rattle.wef_keeper.specs.declared.keeping.Plan.TheVariants.{Done, Fails};
 
+use crate::asking::Request;
+use crate::calling::{Call, answer, raise_boot, respond};
 use crate::memories::Memory;
-use crate::reading::{bookmark_in, held_in, list_in, offers_in, report_in, state_in};
-use crate::requests::{Request, answer, raise_boot};
+use crate::reading::{bookmark_in, held_in, list_in, offers_in, report_in, request_in, state_in};
+use crate::responses::{Answered, Response};
 use std::alloc::Global;
 use std::marker::Model;
 use wef_base::moments::Moment;
@@ -97,7 +101,7 @@ impl<K: Keeper> Collector<K> {
     /// memory for its text it isn't drawn.
     pub fn draw(&mut self) -> Result<MessageId, CollectorFault>
         ensures id { IfOk result (λ id. id ≡ id_of_value (next_id self.old.memory.ids)) }
-        ensures drawn { OnOk result (self.new.memory ≡ drawn_in 1 self.old.memory) }
+        ensures drawn { OnOk result (self.new.memory ≡ memories.drawn_in 1 self.old.memory) }
         ensures refusal { IfErr result (λ fault. (fault ≡ NoMemory) × (self.new.memory ≡ self.old.memory)) }
         ensures keeper { self.new.keeper ≡ self.old.keeper }
     {
@@ -128,7 +132,7 @@ impl<K: Keeper> Collector<K> {
         ensures memory { self.new.memory ≡ self.old.memory }
         ensures live { OnOk result (IfSome (K.store self.new.keeper).rows (λ rows. standings.standing rows subscription.now.name ≡ Live subscription.now)) }
     {
-        answer(&mut self.keeper, self.alloc, &Request::Add(subscription))
+        answer(&mut self.keeper, self.alloc, &Call::Add(subscription))
     }
 
     /// Ends a subscription. What was kept for it stays.
@@ -138,7 +142,7 @@ impl<K: Keeper> Collector<K> {
         ensures listed { IfErr result calls.OfEnd }
         ensures memory { self.new.memory ≡ self.old.memory }
     {
-        answer(&mut self.keeper, self.alloc, &Request::End(sub))
+        answer(&mut self.keeper, self.alloc, &Call::End(sub))
     }
 
     /// Takes a batch of a source for a subscription: holds the events above the bookmark, keeps
@@ -157,13 +161,13 @@ impl<K: Keeper> Collector<K> {
         ensures listed { IfErr result calls.OfTake }
         ensures memory { self.new.memory ≡ self.old.memory }
     {
-        let request = Request::Take {
+        let call = Call::Take {
             sub,
             source,
             batch,
             now,
         };
-        answer(&mut self.keeper, self.alloc, &request)
+        answer(&mut self.keeper, self.alloc, &call)
     }
 
     /// Takes a batch for a subscription that couldn't be read: it is refused as one that isn't
@@ -175,7 +179,108 @@ impl<K: Keeper> Collector<K> {
         ensures listed { IfErr result calls.OfTake }
         ensures memory { self.new.memory ≡ self.old.memory }
     {
-        answer(&mut self.keeper, self.alloc, &Request::TakeUnread(sub))
+        answer(&mut self.keeper, self.alloc, &Call::TakeUnread(sub))
+    }
+
+    /// The next request to a source of a subscription that the collector begins: the first for which
+    /// none waits and something is due, by the bytes of the subscription's name and then of the
+    /// source's. It waits for its answer from then on. A live subscription subscribes where the source
+    /// has no lease or its time is over, and renews it where half of the time is over for which it
+    /// stands; one that has ended unsubscribes where there is a lease. Events come to the host.
+    pub fn next_request(
+        &mut self,
+        host: &Text,
+        now: Moment,
+    ) -> Result<Option<Request>, CollectorFault>
+        ensures ok { IfSome (K.store self.new.keeper).rows (λ rows. IfOk result (λ asked. asked ≡ next_request rows self.old.memory.waiting self.old.memory.ids host.now now)) }
+        ensures judged { IfSome (K.store self.new.keeper).rows (λ rows. OnOk result (judged.JudgesRequest rows self.old.memory.waiting now)) }
+        ensures texts { IsHost host.now → IfOk result (λ asked. IfSome asked CanBeRequested) }
+        ensures refusal { IfErr result answers.IsOfStore }
+        ensures call { IsCall collector_store AreFormed calls.no_effect (λ rows. next_request rows self.old.memory.waiting self.old.memory.ids host.now now) result (K.store self.old.keeper) (K.store self.new.keeper) }
+        ensures looks { Looks collector_store AreFormed result (K.store self.old.keeper) (K.store self.new.keeper) }
+        ensures memory { self.new.memory ≡ memories.memory_asked result self.old.memory }
+    {
+        request_in(&mut self.keeper, self.alloc, &mut self.memory, host, now)
+    }
+
+    /// Takes what a source answers to a request that waits; of two requests under one id the first is
+    /// meant, in the order in which they are asked. A lease is put or ended, and the request waits no
+    /// longer, also where the store fails. `NotAsked` where none waits, or it is no answer to that.
+    pub fn on_response(
+        &mut self,
+        relates: &MessageId,
+        response: &Response,
+        now: Moment,
+    ) -> Result<Answered, CollectorFault>
+        requires taken { CanBeTaken response.now }
+        ensures call { IsCall collector_store AreFormed (λ rows. waiting_effect (memories.waiting_for self.old.memory relates.now.value) response.now now rows) (λ _. answered_of response.now) result (K.store self.old.keeper) (K.store self.new.keeper) }
+        ensures judged { DoesWith collector_store AreFormed (λ rows. waiting_effect (memories.waiting_for self.old.memory relates.now.value) response.now now rows) (λ _. answered_of response.now)
+            (λ answer found after. judged.JudgesResponse answer found (memories.waiting_for self.old.memory relates.now.value) response.now now) result (K.store self.old.keeper) (K.store self.new.keeper) }
+        ensures listed { IfErr result calls.OfResponse }
+        ensures memory { self.new.memory ≡ memories.memory_answered result relates.now.value self.old.memory }
+    {
+        let answered = respond(
+            &mut self.keeper,
+            self.alloc,
+            self.memory.waiting_for(relates.value),
+            response,
+            now,
+        );
+        self.memory.answer(relates.value, &answered);
+        answered
+    }
+
+    /// No request waits any more: no answer is taken that comes. It takes no memory.
+    pub fn forget(&mut self)
+        ensures memory { self.new.memory ≡ memories.forgotten self.old.memory }
+        ensures keeper { self.new.keeper ≡ self.old.keeper }
+    {
+        self.memory.forget();
+    }
+
+    /// Ends all leases in one commit, and forgets the requests that wait.
+    pub fn release(&mut self) -> Result<(), CollectorFault>
+        ensures call { IsCall collector_store AreFormed calls.release_effect (λ _. tt) result (K.store self.old.keeper) (K.store self.new.keeper) }
+        ensures judged { DoesWith collector_store AreFormed calls.release_effect (λ _. tt) (λ answer found after. judged.JudgesRelease answer found) result (K.store self.old.keeper) (K.store self.new.keeper) }
+        ensures listed { IfErr result answers.IsOfStore }
+        ensures memory { self.new.memory ≡ memories.memory_released result self.old.memory }
+    {
+        let done = answer(&mut self.keeper, self.alloc, &Call::Release);
+        self.memory.release(&done);
+        done
+    }
+
+    /// Ends the lease of a source that has ended the session which it names so; also of a subscription
+    /// that has ended. Another lease stays.
+    pub fn source_ended(
+        &mut self,
+        sub: &SubId,
+        source: &SourceName,
+        identifier: &Text,
+    ) -> Result<(), CollectorFault>
+        ensures call { IsCall collector_store AreFormed (λ rows. calls.source_ended_effect rows sub.now source.now identifier.now) (λ _. tt) result (K.store self.old.keeper) (K.store self.new.keeper) }
+        ensures judged { DoesWith collector_store AreFormed (λ rows. calls.source_ended_effect rows sub.now source.now identifier.now) (λ _. tt) (λ answer found after. judged.JudgesSourceEnded answer found sub.now source.now) result (K.store self.old.keeper) (K.store self.new.keeper) }
+        ensures listed { IfErr result calls.OfKnown }
+        ensures memory { self.new.memory ≡ self.old.memory }
+    {
+        let call = Call::SourceEnded {
+            sub,
+            source,
+            identifier,
+        };
+        answer(&mut self.keeper, self.alloc, &call)
+    }
+
+    /// Takes the end of a session for a subscription that couldn't be read: it is refused as one that
+    /// isn't well-formed, and no commit is made.
+    pub fn source_ended_unread(&mut self, sub: &SubId) -> Result<(), CollectorFault>
+        ensures refused { IsErr result }
+        ensures call { IsCall collector_store AreFormed (λ rows. calls.unread_end_effect rows sub.now) (λ _. tt) result (K.store self.old.keeper) (K.store self.new.keeper) }
+        ensures judged { DoesWith collector_store AreFormed (λ rows. calls.unread_end_effect rows sub.now) (λ _. tt) (λ answer found after. JudgesName answer found sub.now) result (K.store self.old.keeper) (K.store self.new.keeper) }
+        ensures listed { IfErr result calls.OfUnreadEnd }
+        ensures memory { self.new.memory ≡ self.old.memory }
+    {
+        answer(&mut self.keeper, self.alloc, &Call::EndUnread(sub))
     }
 
     /// A live subscription.

@@ -235,7 +235,7 @@ pub fn boot_changes<K: Keeper>(keeper: &mut K, alloc: Global) -> Result<Starting
     let raised = boot + 1;
     Ok(Starting {
         changes: put_boot(alloc, raised)?,
-        memory: Memory::of_boot(raised),
+        memory: Memory::of_boot(alloc, raised),
     })
 }
 

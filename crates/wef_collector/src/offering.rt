@@ -9,7 +9,7 @@ ghost use Rattle.wef_collector_rows.specs.Bookmarks.{bookmark_rows};
 ghost use Rattle.wef_collector_rows.specs.Forms.{AreFormed};
 ghost use Rattle.wef_collector_rows.specs.Judged.{AreAllFormed};
 ghost use Rattle.wef_eventing.specs.Addresses.{IsHost};
-ghost use Rattle.wef_eventing.specs.Sending.{AreXmlQueries, CanBeOffered};
+ghost use Rattle.wef_eventing.specs.Sending.{AreXmlQueries, CanBeOffered, HasXmlTexts};
 ghost use Rattle.wef_keeper.specs.Access as access;
 ghost use Rattle.wef_xml.specs.Good.{IsXmlText};
 
@@ -127,21 +127,37 @@ fn offer_from(
     ensures offer { IfOk result (λ offer. offer ≡ spec.offer_from from source.now host.now subscription.now) }
     ensures texts { IsHost host.now → IfOk result CanBeOffered }
 {
-    let name = &subscription.name;
-    let address = delivery_address(host, name, source)?;
     Ok(Offer {
         version: id_text(host.alloc(), u128::from(subscription.version))?,
-        subscribe: Subscribe {
-            end_to: Some(address.clone()?),
-            notify_to: address,
-            identifier: Some(text_of(name)?),
-            query: subscription.query.clone(host.alloc())?,
-            max_items: subscription.max_items,
-            max_bytes: subscription.max_bytes,
-            heartbeat: subscription.heartbeat,
-            expires: None,
-            from,
-        },
+        subscribe: subscribe_from(from, source, host, subscription, None)?,
+    })
+}
+
+/// A wish of a subscription for the events of a source above a bookmark, at the address of both at the
+/// host, and for how long if that is said.
+pub(crate) fn subscribe_from(
+    from: Bookmark,
+    source: &SourceName,
+    host: &Text,
+    subscription: &Subscription,
+    expires: Option<u64>,
+) -> Result<Subscribe, AllocError>
+    requires { AreXmlQueries subscription.now.query.items }
+    ensures subscribe { IfOk result (λ subscribe. subscribe ≡ spec.subscribe_from from source.now host.now subscription.now expires) }
+    ensures texts { IsHost host.now → IfOk result HasXmlTexts }
+{
+    let name = &subscription.name;
+    let address = delivery_address(host, name, source)?;
+    Ok(Subscribe {
+        end_to: Some(address.clone()?),
+        notify_to: address,
+        identifier: Some(text_of(name)?),
+        query: subscription.query.clone(host.alloc())?,
+        max_items: subscription.max_items,
+        max_bytes: subscription.max_bytes,
+        heartbeat: subscription.heartbeat,
+        expires,
+        from,
     })
 }
 

@@ -1,8 +1,10 @@
 //! The calls that only read: each opens the store, and tests each row that it reads.
 
 ghost use Rattle.std.specs.Prelude.{◌≡◌, ◌≤◌, ◌++◌, true, take, IfOk, IfErr, IfSome, OnOk};
+ghost use Rattle.wef_collector.specs.Asking.{CanBeRequested, next_request};
 ghost use Rattle.wef_collector.specs.Calls.{no_effect};
 ghost use Rattle.wef_collector.specs.Judged as judged;
+ghost use Rattle.wef_collector.specs.Memories.{memory_asked};
 ghost use Rattle.wef_collector.specs.Offers.{CanAllBeOffered, offers};
 ghost use Rattle.wef_collector_reports.specs.Judged.{is_report_formed};
 ghost use Rattle.wef_collector_reports.specs.Listing.{listed};
@@ -18,8 +20,11 @@ ghost use Rattle.wef_collector_rows.specs.declared.standings.Standing.TheVariant
 ghost use Rattle.wef_eventing.specs.Addresses.{IsHost};
 ghost use Rattle.wef_keeper.specs.Calls.{IsCall, Looks};
 
+use crate::asking::{Request, ask_next};
+use crate::memories::Memory;
 use crate::offering::offers_to;
 use std::alloc::Global;
+use wef_base::moments::Moment;
 use wef_base::{ChannelName, List, SourceName, SubId, Text};
 use wef_bookmark::Bookmark;
 use wef_collector_reports::held::held_page;
@@ -101,6 +106,28 @@ pub fn offers_in<K: Keeper>(
 {
     open(keeper)?;
     Ok(offers_to(keeper, alloc, source, host)?)
+}
+
+/// The next request to a source of a subscription that the collector begins, for which an answer is
+/// waited from then on. Events come to the host.
+#[tactic(auto, using(wef_keeper::proofs::Calls::looks_by))]
+pub fn request_in<K: Keeper>(
+    keeper: &mut K,
+    alloc: Global,
+    memory: &mut Memory,
+    host: &Text,
+    now: Moment,
+) -> Result<Option<Request>, CollectorFault>
+    ensures ok { IfSome (K.store keeper.new).rows (λ rows. IfOk result (λ asked. asked ≡ next_request rows memory.old.waiting memory.old.ids host.now now)) }
+    ensures judged { IfSome (K.store keeper.new).rows (λ rows. OnOk result (judged.JudgesRequest rows memory.old.waiting now)) }
+    ensures texts { IsHost host.now → IfOk result (λ asked. IfSome asked CanBeRequested) }
+    ensures refusal { IfErr result answers.IsOfStore }
+    ensures call { IsCall collector_store AreFormed no_effect (λ rows. next_request rows memory.old.waiting memory.old.ids host.now now) result (K.store keeper.old) (K.store keeper.new) }
+    ensures looks { Looks collector_store AreFormed result (K.store keeper.old) (K.store keeper.new) }
+    ensures memory { memory.new ≡ memory_asked result memory.old }
+{
+    open(keeper)?;
+    Ok(ask_next(keeper, alloc, memory, host, now)?)
 }
 
 /// How far a source was served for a subscription; also for one that has ended.

@@ -8,7 +8,7 @@ use Rattle.wef_collector_rows.specs.Keys.{subscription_key}
 use Rattle.wef_collector_rows.specs.Standing.{standing}
 use Rattle.wef_collector_rows.specs.declared.standings.Standing.{Standing}
 use Rattle.wef_collector_rows.specs.declared.standings.Standing.TheVariants.{Live}
-use Rattle.wef_collector.proofs.Answered.{take_judged}
+use Rattle.wef_collector.proofs.CallsAnswered.{take_judged}
 use Rattle.wef_collector.proofs.effects.take_changes.Goals as goal
 
 pub returns-clause-effect : goal.returns-clause-effect

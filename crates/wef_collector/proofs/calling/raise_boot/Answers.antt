@@ -6,11 +6,11 @@ use Rattle.wef_keeper.proofs.StayFormed.{applied_formed}
 use Rattle.wef_collector.specs.Boots.{memory_begun}
 use Rattle.wef_collector.specs.Calls.{boot_effect}
 use Rattle.wef_collector.specs.Judged.{JudgesStart}
-use Rattle.wef_collector.proofs.Answered.{no_start}
+use Rattle.wef_collector.proofs.CallsAnswered.{no_start}
 use Rattle.wef_collector_rows.specs.Faults.{collector_fault, collector_store}
 use Rattle.wef_collector_rows.specs.Forms.{AreFormed, is_formed}
 use Rattle.wef_collector.proofs.OfStore.{of_collector_fault}
-use Rattle.wef_collector.proofs.requests.raise_boot.Goals as goal
+use Rattle.wef_collector.proofs.calling.raise_boot.Goals as goal
 
 pub returns-in_err-open-clause-call : goal.returns-in_err-open-clause-call
 returns-in_err-open-clause-call g c =
