@@ -3,25 +3,28 @@ use Rattle.std.proofs.Common.{◌≡◌, inl, inr, ℕ, ◌+◌, Bool, true, fal
 use Rattle.std.specs.Prelude.{Ok, Err}
 use Rattle.wef_batch.specs.WellFormed.{is_well_formed}
 use Rattle.wef_batch.specs.declared.items.Batch.{Batch}
-use Rattle.wef_collector.specs.Calls.{take_by, unread_by}
+use Rattle.wef_collector.specs.Calls.{source_ended_effect, take_by, unread_by}
 use Rattle.wef_collector.specs.Taken.{batch_changes}
-use Rattle.wef_collector_rows.specs.Answers.{channels_read}
+use Rattle.wef_collector_leases.specs.Changes.{end_lease}
+use Rattle.wef_collector_rows.specs.Answers.{channels_read, is_known}
 use Rattle.wef_collector_rows.specs.Standing.{standing}
-use Rattle.wef_collector_rows.specs.declared.faults.CollectorFault.TheVariants.{NotWellFormed}
+use Rattle.wef_collector_rows.specs.declared.faults.CollectorFault.TheVariants.{NoSubscription, NotWellFormed}
 use Rattle.wef_collector_rows.specs.declared.standings.Standing.{Standing}
 use Rattle.wef_collector_rows.specs.declared.standings.Standing.TheVariants.{Unknown, Ended, Live}
 use Rattle.wef_front.proofs.OneIsHeard.{one_is_heard}
 use Rattle.wef_front_collector.specs.Replies.{answer_of, memory_behind, rows_by}
 use Rattle.wef_front_collector.specs.Steps.{batch_said, effect_in, said_by, said_where}
 use Rattle.wef_front_collector.specs.declared.hearing.Asked.{Asked}
-use Rattle.wef_front_collector.specs.declared.hearing.Asked.TheVariants.{Refused, Enumerate, Unread, Take}
+use Rattle.wef_front_collector.specs.declared.hearing.Asked.TheVariants as asks
+use Rattle.wef_front_collector.specs.declared.hearing.Asked.TheVariants.{Refused, Enumerate, Unread, Take, UnreadEnd}
 use Rattle.wef_front_collector.specs.declared.hearing.Heard.{Heard}
 use Rattle.wef_front_collector.specs.declared.saying.Said.{Said}
 use Rattle.wef_front_collector.specs.declared.saying.Said.TheVariants.{Offers}
 use Rattle.wef_http.specs.declared.messages.HttpRequest.{HttpRequest}
 use Rattle.wef_http_heads.specs.declared.answers.Answer.{Answer}
 use Rattle.wef_keeper.specs.Rows.{Rows}
-use Rattle.wef_collector_serving.proofs.AlikeRows.{alike_taken, same_offers, same_standing}
+use Rattle.wef_keeper.specs.declared.keys.Change.{Change}
+use Rattle.wef_collector_serving.proofs.AlikeRows.{alike_ended, alike_taken, same_offers, same_standing}
 use Rattle.wef_collector_serving.specs.ByRows.{AnswersBy, Goes, IsAnsweredBy, Kept, error_of}
 use Rattle.wef_collector_serving.specs.Clocks.{AreAlike}
 
@@ -38,12 +41,21 @@ module _ (rows other : Rows) (u s : List ℕ) (batch : Batch) (now moment : ℕ)
       by true = refl
       by false = refl
 
+ended_said : (b : Bool) (changes others : List Change) → said_where (batch_said false) tt (cond b (Ok changes) (Err NoSubscription)) ≡ said_where (batch_said false) tt (cond b (Ok others) (Err NoSubscription))
+ended_said true changes others = refl
+ended_said false changes others = refl
+
 same_said : (host : List ℕ) (asked : Asked) (now moment : ℕ) (rows other : Rows) → AreAlike rows other → said_by host asked rows (effect_in asked now rows) ≡ said_by host asked other (effect_in asked moment other)
 same_said host (Refused name) now moment rows other alike = refl
 same_said host (Enumerate s) now moment rows other alike = ap Offers (same_offers rows other alike s host)
 same_said host (Unread u) now moment rows other alike = ap (λ (o : Standing). said_where (batch_said false) tt (unread_by o)) (same_standing rows other alike u)
 same_said host (Take u s batch) now moment rows other alike =
     take_said rows other u s batch now moment (standing rows u) ∙ ap (λ (o : Standing). said_where (batch_said batch.ack_wanted) tt (take_by o other u s batch moment)) (same_standing rows other alike u)
+same_said host (UnreadEnd u) now moment rows other alike =
+    ap (λ (o : Standing). said_where (batch_said false) tt (cond (is_known o) (Err NotWellFormed) (Err NoSubscription))) (same_standing rows other alike u)
+same_said host (asks.Ended u s identifier) now moment rows other alike =
+    ended_said (is_known (standing rows u)) (end_lease rows u s identifier) (end_lease other u s identifier)
+    ∙ ap (λ (o : Standing). said_where (batch_said false) tt (cond (is_known o) (Ok (end_lease other u s identifier)) (Err NoSubscription))) (same_standing rows other alike u)
 
 -- ---- what is done
 
@@ -62,6 +74,17 @@ take_alike rows other alike u s batch now moment (Live about) = by (is_well_form
     by true = alike_taken rows other alike u s (channels_read about) batch now moment
     by false = alike
 
+unread_end_alike : (rows other : Rows) → AreAlike rows other → (b c : Bool) → AreAlike (rows_by (cond b (Err NotWellFormed) (Err NoSubscription)) rows) (rows_by (cond c (Err NotWellFormed) (Err NoSubscription)) other)
+unread_end_alike rows other alike true true = alike
+unread_end_alike rows other alike true false = alike
+unread_end_alike rows other alike false true = alike
+unread_end_alike rows other alike false false = alike
+
+ended_alike : (rows other : Rows) → AreAlike rows other → (u s identifier : List ℕ) (b : Bool)
+    → AreAlike (rows_by (cond b (Ok (end_lease rows u s identifier)) (Err NoSubscription)) rows) (rows_by (cond b (Ok (end_lease other u s identifier)) (Err NoSubscription)) other)
+ended_alike rows other alike u s identifier true = alike_ended rows other alike u s identifier
+ended_alike rows other alike u s identifier false = alike
+
 same_done : (asked : Asked) (now moment : ℕ) (rows other : Rows) → AreAlike rows other → AreAlike (rows_by (effect_in asked now rows) rows) (rows_by (effect_in asked moment other) other)
 same_done (Refused name) now moment rows other alike = alike
 same_done (Enumerate s) now moment rows other alike = alike
@@ -70,6 +93,10 @@ same_done (Unread u) now moment rows other alike =
 same_done (Take u s batch) now moment rows other alike =
     subst (λ (o : Standing). AreAlike (rows_by (take_by (standing rows u) rows u s batch now) rows) (rows_by (take_by o other u s batch moment) other)) (same_standing rows other alike u)
     (take_alike rows other alike u s batch now moment (standing rows u))
+same_done (UnreadEnd u) now moment rows other alike = unread_end_alike rows other alike (is_known (standing rows u)) (is_known (standing other u))
+same_done (asks.Ended u s identifier) now moment rows other alike =
+    subst (λ (o : Standing). AreAlike (rows_by (source_ended_effect rows u s identifier) rows) (rows_by (cond (is_known o) (Ok (end_lease other u s identifier)) (Err NoSubscription)) other))
+    (same_standing rows other alike u) (ended_alike rows other alike u s identifier (is_known (standing rows u)))
 
 -- ---- an answer
 

@@ -1,4 +1,5 @@
--- Rows that are alike are read alike, and stay so under what a batch changes, at whatever moment it comes.
+-- Rows that are alike are read alike, and stay so under what a batch changes, at whatever moment it comes, and under the end of a
+-- lease.
 use Rattle.std.proofs.Common.{◌≡◌, ℕ, ◌+◌, ◌==◌, Bool, true, false, ◌&&◌, ◌||◌, cond, List, [], ◌∷◌, ◌++◌, refl, ap, sym, subst, ◌∙◌, nat_eq, nat_lt, if◌then◌else◌}
 use Rattle.std.proofs.lemmas.Bool.{and_parts, eqb-true}
 use Rattle.std.specs.Cmp.Lexicographic.{pointwise}
@@ -15,10 +16,13 @@ use Rattle.wef_batch.specs.declared.items.Item.TheVariants.{Event, Dropped, Loos
 use Rattle.wef_collector.proofs.Hits.{found-append, found_if_other, hits, not_both, one_key, refuted}
 use Rattle.wef_collector.specs.Offers.{is_offered, offer_from, offers}
 use Rattle.wef_collector.specs.Taken.{batch_changes, channel_changes, heard_changes, is_later, item_changes, loose_changes, move_changes, put, reach_changes}
+use Rattle.wef_collector_leases.specs.Changes.{delete_named, end_lease}
+use Rattle.wef_collector_leases.specs.Leases.{lease_at, lease_of}
+use Rattle.wef_collector_leases.specs.declared.leases.Lease.{Lease}
 use Rattle.wef_collector_reports.specs.Listing.{listed_of}
 use Rattle.wef_collector_reports.specs.declared.listing.Listed.{Listed}
 use Rattle.wef_collector_rows.specs.Bookmarks.{bookmark_at, bookmark_of, has_channel, raised_by_rows}
-use Rattle.wef_collector_rows.specs.Keys.{bookmark_key, heard_key, held_key, loose_key, mark_key, subscription_key}
+use Rattle.wef_collector_rows.specs.Keys.{bookmark_key, heard_key, held_key, lease_key, loose_key, mark_key, subscription_key}
 use Rattle.wef_collector_rows.specs.Standing.{standing, standing_of}
 use Rattle.wef_keeper.proofs.Sections.{same_under}
 use Rattle.wef_keeper.specs.Kinds.{number_of}
@@ -85,6 +89,9 @@ same_bookmark rows other alike u s c = ap (λ (found : Option Cell). unwrap_or (
 
 same_marks : (rows other : Rows) → AreAlike rows other → (u s : List ℕ) → bookmark_of rows u s ≡ bookmark_of other u s
 same_marks rows other alike u s = ap (λ (found : List Row). raised_by_rows finite.empty (filter has_channel found)) (same_section Source (bookmark_key u s []) rows other alike refl)
+
+same_lease : (rows other : Rows) → AreAlike rows other → (u s : List ℕ) → lease_at rows u s ≡ lease_at other u s
+same_lease rows other alike u s = ap (option_map lease_of) (unheard_same rows other alike (lease_key u s) refl)
 
 pub same_standing : (rows other : Rows) → AreAlike rows other → (u : List ℕ) → standing rows u ≡ standing other u
 same_standing rows other alike u = ap (standing_of u) (unheard_same rows other alike (subscription_key u) refl)
@@ -201,3 +208,10 @@ alike_taken rows other alike u s channels batch now moment = λ q.
     (alike_heard rows other u s now moment q (found_after changes q (finite.get rows q)) (found_after changes q (finite.get other q))
     (alike_found (q.kind == number_of Heard) changes q (finite.get rows q) (finite.get other q) (alike q))
     (stays_there rows u s changes (channels_keep rows u s batch channels) q) (stays_there other u s changes (channels_keep rows u s batch channels) q))
+
+-- ---- the end of a lease
+
+pub alike_ended : (rows other : Rows) → AreAlike rows other → (u s identifier : List ℕ) → AreAlike (applied (end_lease rows u s identifier) rows) (applied (end_lease other u s identifier) other)
+alike_ended rows other alike u s identifier =
+    subst (λ (kept : Option Lease). AreAlike (applied (end_lease rows u s identifier) rows) (applied (delete_named u s identifier kept) other)) (same_lease rows other alike u s)
+    (alike_applied (end_lease rows u s identifier) rows other alike)

@@ -8,7 +8,8 @@ use Rattle.wef_front.proofs.Causes.{internal_errors_have_a_cause}
 use Rattle.wef_front_collector.specs.Replies.{IsUnanswered}
 use Rattle.wef_front_collector.specs.Steps.{HasStepped, Steps}
 use Rattle.wef_front_collector.specs.declared.hearing.Asked.{Asked}
-use Rattle.wef_front_collector.specs.declared.hearing.Asked.TheVariants.{Refused, Enumerate, Unread, Take}
+use Rattle.wef_front_collector.specs.declared.hearing.Asked.TheVariants as asks
+use Rattle.wef_front_collector.specs.declared.hearing.Asked.TheVariants.{Refused, Enumerate, Unread, Take, UnreadEnd}
 use Rattle.wef_front_collector.specs.declared.hearing.Heard.{Heard}
 use Rattle.wef_front_collector.specs.declared.saying.Said.{Said}
 use Rattle.wef_http.specs.declared.messages.HttpRequest.{HttpRequest}
@@ -32,12 +33,16 @@ steps_count host (Refused name) moment said before now stepped = untouched befor
 steps_count host (Enumerate s) moment said before now stepped = stepped.1.faults
 steps_count host (Unread u) moment said before now stepped = stepped.0.1.faults
 steps_count host (Take u s batch) moment said before now stepped = stepped.1.faults
+steps_count host (UnreadEnd u) moment said before now stepped = stepped.0.1.faults
+steps_count host (asks.Ended u s identifier) moment said before now stepped = stepped.1.faults
 
 stepped_counts : (host : List ℕ) (asked : Asked) (moment : ℕ) (before now : Store) → HasStepped host asked moment before now → before.faults ≤ now.faults
 stepped_counts host (Refused name) moment before now stepped = untouched before now stepped
 stepped_counts host (Enumerate s) moment before now stepped = stepped.1.faults
 stepped_counts host (Unread u) moment before now stepped = stepped.1.faults
 stepped_counts host (Take u s batch) moment before now stepped = stepped.1.faults
+stepped_counts host (UnreadEnd u) moment before now stepped = stepped.1.faults
+stepped_counts host (asks.Ended u s identifier) moment before now stepped = stepped.1.faults
 
 unanswered_counts : (host : List ℕ) (heard : Heard) (moment : ℕ) (memory memory_now : Memory) (before now : Store) → IsUnanswered host heard moment memory memory_now before now → before.faults ≤ now.faults
 unanswered_counts host heard moment memory memory_now before now (inl stepped) = stepped_counts host heard.asked moment before now stepped.0

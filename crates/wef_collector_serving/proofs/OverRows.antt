@@ -1,21 +1,29 @@
 -- Connections over rows: from any of those that an opening may find behind them, back to those that stood before.
 use Rattle.std.proofs.Common.{◌≡◌, ◌⊎◌, inl, inr, ℕ, zero, ◌+◌, ◌<◌, ◌≤◌, max, Bool, true, false, cond, List, [], ◌∷◌, ◌++◌, ap, sym, refl, subst, ◌∙◌, arith}
+use Rattle.std.specs.FinMap as finite
 use Rattle.std.specs.List.{AllByRecursion}
-use Rattle.std.specs.Prelude.{Option, Some, None, IfSome, IfErr, Result, Ok, Err, is_some}
+use Rattle.std.specs.Option.{option_map}
+use Rattle.std.specs.Prelude.{Option, Some, None, IfSome, IfErr, Result, Ok, Err, is_some, unwrap_or}
 use Rattle.wef_base.specs.Counts.{Rose}
+use Rattle.wef_base.specs.Names as names
 use Rattle.wef_batch.specs.WellFormed.{is_well_formed}
 use Rattle.wef_batch.specs.declared.items.Batch.{Batch}
 use Rattle.wef_collector.proofs.Batches.{bookmark_moves, bookmark_never_falls}
+use Rattle.wef_collector.proofs.Hits.{found_if_other, hits}
 use Rattle.wef_collector.specs.Calls.{Effect, no_effect, take_by, take_effect, unread_by}
 use Rattle.wef_collector.specs.Laws.{BookmarksRise, IsReached, moved}
 use Rattle.wef_collector.specs.Offers.{offers}
 use Rattle.wef_collector.specs.Taken.{batch_changes, taken}
-use Rattle.wef_collector_rows.specs.Answers.{channels_read}
+use Rattle.wef_collector_rows.specs.Answers.{channels_read, is_known}
 use Rattle.wef_collector_rows.specs.Bookmarks.{bookmark_at}
+use Rattle.wef_collector_leases.specs.Changes.{delete_lease, delete_named, end_lease}
+use Rattle.wef_collector_leases.specs.Leases.{lease_at}
+use Rattle.wef_collector_leases.specs.declared.leases.Lease.{Lease}
 use Rattle.wef_collector_rows.specs.Faults.{collector_store}
+use Rattle.wef_collector_rows.specs.Keys.{bookmark_key, lease_key}
 use Rattle.wef_collector_rows.specs.Forms.{AreFormed}
 use Rattle.wef_collector_rows.specs.declared.faults.CollectorFault.{CollectorFault}
-use Rattle.wef_collector_rows.specs.declared.faults.CollectorFault.TheVariants.{NoMemory, NoSubscription, Exists, Ended, NotWellFormed, TooMany, Failed, Full}
+use Rattle.wef_collector_rows.specs.declared.faults.CollectorFault.TheVariants.{NoMemory, NoSubscription, Exists, Ended, NotWellFormed, NotAsked, TooMany, Failed, Full}
 use Rattle.wef_collector_rows.specs.Standing.{standing}
 use Rattle.wef_collector_rows.specs.declared.standings.Standing.{Standing}
 use Rattle.wef_collector_rows.specs.declared.standings.Standing.TheVariants as stands
@@ -24,7 +32,8 @@ use Rattle.wef_front.proofs.Causes.{internal_errors_have_a_cause}
 use Rattle.wef_front_collector.specs.Replies.{rows_by}
 use Rattle.wef_front_collector.specs.Steps.{HasStepped, IsAnswered, IsFailure, Steps, batch_said, effect_in, fault_for, said_where, said_with}
 use Rattle.wef_front_collector.specs.declared.hearing.Asked.{Asked}
-use Rattle.wef_front_collector.specs.declared.hearing.Asked.TheVariants.{Refused, Enumerate, Unread, Take}
+use Rattle.wef_front_collector.specs.declared.hearing.Asked.TheVariants as asks
+use Rattle.wef_front_collector.specs.declared.hearing.Asked.TheVariants.{Refused, Enumerate, Unread, Take, UnreadEnd}
 use Rattle.wef_front_collector.specs.declared.saying.Said.{Said}
 use Rattle.wef_front_collector.specs.declared.saying.Said.TheVariants.{Ack, Quiet, Offers, Fault}
 use Rattle.wef_http.specs.Messages.{IsRequest}
@@ -37,7 +46,10 @@ use Rattle.wef_keeper.proofs.Going.{goes_over, may_leave, one_of, told_before, w
 use Rattle.wef_keeper.specs.Calls.{GoesOver, IsCall, Makes, MayLeave}
 use Rattle.wef_keeper.specs.Forms.{StayFormed}
 use Rattle.wef_keeper.specs.Keeping.{IsLawful, IsOneOf, MayFind, Store, WhereTold}
-use Rattle.wef_keeper.specs.Rows.{Rows, applied}
+use Rattle.wef_keeper.specs.Laws.{get-applied}
+use Rattle.wef_keeper.specs.Rows.{Rows, applied, found_after}
+use Rattle.wef_keeper.specs.declared.keys.Cell.{Cell}
+use Rattle.wef_keeper.specs.declared.keys.Key.{Key}
 use Rattle.wef_serving.specs.Serving.{AnswersAt, LeavesAt, RespondsInTurn, Serves, response_to}
 use Rattle.wef_serving.specs.Serving.{finishes, cuts, refuses, closes, goes_on, breaks, refuses_part, answers_part, leaves, to_none, to_one_more}
 use Rattle.wef_serving.specs.declared.ends.ConnectionEnd.{ConnectionEnd}
@@ -75,6 +87,7 @@ module _ {T : Type 0} (tell : T → Said) (gives : Rows → T) (effect : Rows �
   call_goes (Err NoMemory) answered is goes = absurd answered
   call_goes (Err Exists) answered is goes = absurd answered
   call_goes (Err TooMany) answered is goes = absurd answered
+  call_goes (Err NotAsked) answered is goes = absurd answered
   call_goes (Err Full) answered is goes = absurd answered
 
 module _ {T : Type 0} (tell : T → Said) (gives : Rows → T) (effect : Rows → Effect) (done : Result T CollectorFault) (s t : Store) (last : Rows)
@@ -98,6 +111,7 @@ failures_answered (Err Exists) failure = absurd failure
 failures_answered (Err Ended) failure = absurd failure
 failures_answered (Err NotWellFormed) failure = absurd failure
 failures_answered (Err TooMany) failure = absurd failure
+failures_answered (Err NotAsked) failure = absurd failure
 failures_answered (Err Full) failure = absurd failure
 
 -- ---- what was heard
@@ -112,6 +126,10 @@ module _ (host : List ℕ) (moment : ℕ) where
       call_back (batch_said false) (λ _. tt) (effect_in (Unread u) moment) done s t last call lawful opened found said answered is
   steps_back (Take u name batch) said s t last (done, call, answered, is) lawful opened found =
       call_back (batch_said batch.ack_wanted) (λ _. tt) (effect_in (Take u name batch) moment) done s t last call lawful opened found said answered is
+  steps_back (UnreadEnd u) said s t last ((done, call, answered, is), fault) lawful opened found =
+      call_back (batch_said false) (λ _. tt) (effect_in (UnreadEnd u) moment) done s t last call lawful opened found said answered is
+  steps_back (asks.Ended u name identifier) said s t last (done, call, answered, is) lawful opened found =
+      call_back (batch_said false) (λ _. tt) (effect_in (asks.Ended u name identifier) moment) done s t last call lawful opened found said answered is
 
   stepped_back : (asked : Asked) (s t : Store) (last : Rows) → HasStepped host asked moment s t → IsLawful t → s.opened ≡ true → MayFind t last
       → (first : Rows) × MayFind s first × MayLeave (effect_in asked moment) last first
@@ -119,6 +137,9 @@ module _ (host : List ℕ) (moment : ℕ) where
   stepped_back (Enumerate name) s t last (done, call, refusal) lawful opened found = leave_back Offers (λ rows. offers rows name host) no_effect done s t last call lawful opened found
   stepped_back (Unread u) s t last (done, call) lawful opened found = leave_back (batch_said false) (λ _. tt) (effect_in (Unread u) moment) done s t last call lawful opened found
   stepped_back (Take u name batch) s t last (done, call) lawful opened found = leave_back (batch_said batch.ack_wanted) (λ _. tt) (effect_in (Take u name batch) moment) done s t last call lawful opened found
+  stepped_back (UnreadEnd u) s t last (done, call) lawful opened found = leave_back (batch_said false) (λ _. tt) (effect_in (UnreadEnd u) moment) done s t last call lawful opened found
+  stepped_back (asks.Ended u name identifier) s t last (done, call) lawful opened found =
+      leave_back (batch_said false) (λ _. tt) (effect_in (asks.Ended u name identifier) moment) done s t last call lawful opened found
 
   -- what goes by rows leaves them as they were or with what it changes
   goes_leave : (asked : Asked) (said : Said) (found left : Rows) → Goes host asked moment said found left → MayLeave (effect_in asked moment) left found
@@ -136,12 +157,16 @@ module _ (host : List ℕ) (moment : ℕ) where
   steps_open (Enumerate name) said s t stepped opened = stepped.1.opened opened
   steps_open (Unread u) said s t stepped opened = stepped.0.1.opened opened
   steps_open (Take u name batch) said s t stepped opened = stepped.1.opened opened
+  steps_open (UnreadEnd u) said s t stepped opened = stepped.0.1.opened opened
+  steps_open (asks.Ended u name identifier) said s t stepped opened = stepped.1.opened opened
 
   stepped_open : (asked : Asked) (s t : Store) → HasStepped host asked moment s t → s.opened ≡ true → t.opened ≡ true
   stepped_open (Refused name) s t same opened = ap (λ (x : Store). x.opened) same ∙ opened
   stepped_open (Enumerate name) s t stepped opened = stepped.1.opened opened
   stepped_open (Unread u) s t stepped opened = stepped.1.opened opened
   stepped_open (Take u name batch) s t stepped opened = stepped.1.opened opened
+  stepped_open (UnreadEnd u) s t stepped opened = stepped.1.opened opened
+  stepped_open (asks.Ended u name identifier) s t stepped opened = stepped.1.opened opened
 
   good_then : (s t : Store) (first : Rows) → MayFind s first → StayFormed AreFormed s t → AreGood s → AreGood t
   good_then s t first found formed good = by s.images found formed good
@@ -156,12 +181,16 @@ module _ (host : List ℕ) (moment : ℕ) where
   steps_good (Enumerate name) said s t first stepped found good = good_then s t first found stepped.1.formed good
   steps_good (Unread u) said s t first stepped found good = good_then s t first found stepped.0.1.formed good
   steps_good (Take u name batch) said s t first stepped found good = good_then s t first found stepped.1.formed good
+  steps_good (UnreadEnd u) said s t first stepped found good = good_then s t first found stepped.0.1.formed good
+  steps_good (asks.Ended u name identifier) said s t first stepped found good = good_then s t first found stepped.1.formed good
 
   stepped_good : (asked : Asked) (s t : Store) (first : Rows) → HasStepped host asked moment s t → MayFind s first → AreGood s → AreGood t
   stepped_good (Refused name) s t first same found good = subst AreGood (sym same) good
   stepped_good (Enumerate name) s t first stepped found good = good_then s t first found stepped.1.formed good
   stepped_good (Unread u) s t first stepped found good = good_then s t first found stepped.1.formed good
   stepped_good (Take u name batch) s t first stepped found good = good_then s t first found stepped.1.formed good
+  stepped_good (UnreadEnd u) s t first stepped found good = good_then s t first found stepped.1.formed good
+  stepped_good (asks.Ended u name identifier) s t first stepped found good = good_then s t first found stepped.1.formed good
 
 -- ---- bookmarks
 
@@ -187,6 +216,20 @@ taking_reaches found left u s about batch moment is =
     bookmark_moves found u s (channels_read about) ((batch, moment) ∷ []) c listed ∙ ap (moved (bookmark_at found u s c)) reached in
     omega arith)
 
+-- the end of a lease changes no row of another key
+others_stay : (q : Key) (u s identifier : List ℕ) (kept : Option Lease) (cell : Option Cell) → hits (lease_key u s) q ≡ false → found_after (delete_named u s identifier kept) q cell ≡ cell
+others_stay q u s identifier None cell other = refl
+others_stay q u s identifier (Some kept) cell other = found_if_other (names.same kept.identifier identifier) (delete_lease u s) q cell other
+
+-- so it moves none
+ending_rises : (found left : Rows) (u s identifier : List ℕ) → left ≡ applied (end_lease found u s identifier) found → BookmarksRise found left
+ending_rises found left u s identifier is = λ v r c.
+    let q = bookmark_key v r c in
+    let stays = get-applied (end_lease found u s identifier) found q ∙ others_stay q u s identifier (lease_at found u s) (finite.get found q) refl in
+    let same : bookmark_at left v r c ≡ bookmark_at found v r c =
+    ap (λ (rows : Rows). bookmark_at rows v r c) is ∙ ap (λ (cell : Option Cell). unwrap_or (option_map (λ (x : Cell). x.value) cell) 0) stays in
+    omega arith
+
 effect_rises : (asked : Asked) (moment : ℕ) (found left : Rows) → RisesBy found left (effect_in asked moment found)
 effect_rises (Refused name) moment found left = λ made. nothing_rises found left made
 effect_rises (Enumerate name) moment found left = λ made. nothing_rises found left made
@@ -206,6 +249,16 @@ effect_rises (Take u s batch) moment found left = by (standing found u)
     by stands.Unknown = λ made. absurd made
     by (stands.Ended about) = λ made. absurd made
     by (stands.Live about) = by_form about (is_well_formed (channels_read about) batch)
+effect_rises (UnreadEnd u) moment found left = by (is_known (standing found u))
+  where
+    by : (known : Bool) → RisesBy found left (cond known (Err NotWellFormed) (Err NoSubscription))
+    by true = λ made. absurd made
+    by false = λ made. absurd made
+effect_rises (asks.Ended u s identifier) moment found left = by (is_known (standing found u))
+  where
+    by : (known : Bool) → RisesBy found left (cond known (Ok (end_lease found u s identifier)) (Err NoSubscription))
+    by true = λ made. ending_rises found left u s identifier made
+    by false = λ made. absurd made
 
 leaving_rises : (asked : Asked) (moment : ℕ) (found left : Rows) → MayLeave (effect_in asked moment) left found → BookmarksRise found left
 leaving_rises asked moment found left (inl same) = nothing_rises found left same
@@ -231,6 +284,8 @@ untaken final rows (Take u s batch) Ack faulty = absurd faulty
 untaken final rows (Take u s batch) Quiet faulty = absurd faulty
 untaken final rows (Take u s batch) (Offers list) faulty = tt
 untaken final rows (Take u s batch) (Fault name) faulty = tt
+untaken final rows (UnreadEnd u) said faulty = tt
+untaken final rows (asks.Ended u s identifier) said faulty = tt
 
 within_so : (final rows : Rows) (u s : List ℕ) (batch : Batch) (said : Said) → LiesWithin final rows u s batch → TakenWithin final (Take u s batch) said rows
 within_so final rows u s batch Ack lies = lies
@@ -267,6 +322,8 @@ module _ (final found left : Rows) (rises : BookmarksRise left final) where
   goes_within host (Enumerate name) moment said (inl (is, same)) = tt
   goes_within host (Unread u) moment said (inl (is, same)) = tt
   goes_within host (Take u s batch) moment said (inl (is, same)) = batch_within u s batch moment said is same
+  goes_within host (UnreadEnd u) moment said (inl (is, same)) = tt
+  goes_within host (asks.Ended u s identifier) moment said (inl (is, same)) = tt
 
 -- ---- how often the store failed
 

@@ -20,7 +20,7 @@ use Rattle.wef_collector.specs.declared.memories.Memory.{Memory}
 use Rattle.wef_collector_rows.specs.Faults.{collector_store}
 use Rattle.wef_collector_rows.specs.Forms.{AreFormed}
 use Rattle.wef_collector_rows.specs.declared.faults.CollectorFault.{CollectorFault}
-use Rattle.wef_collector_rows.specs.declared.faults.CollectorFault.TheVariants.{NoMemory, NoSubscription, Exists, Ended, NotWellFormed, TooMany, Failed, Full}
+use Rattle.wef_collector_rows.specs.declared.faults.CollectorFault.TheVariants.{NoMemory, NoSubscription, Exists, Ended, NotWellFormed, NotAsked, TooMany, Failed, Full}
 use Rattle.wef_collector.specs.Calls.{Effect}
 use Rattle.wef_front.specs.Laws.{GoesByPlan, GoesByRows, HasFailed, IsReply, said_planned, tries_by}
 use Rattle.wef_front_collector.specs.Replies.{IsAnswer, answer_of, memory_behind, rows_by}
@@ -28,7 +28,8 @@ use Rattle.wef_front_collector.proofs.SaidOfCalls.{offers_answered}
 use Rattle.wef_front_collector.specs.Steps.{CallsFor, IsAnswered, SaysFor, batch_said, effect_in, fault_for, said_by, said_where}
 use Rattle.wef_http_heads.specs.declared.answers.Answer.{Answer}
 use Rattle.wef_front_collector.specs.declared.hearing.Asked.{Asked}
-use Rattle.wef_front_collector.specs.declared.hearing.Asked.TheVariants.{Refused, Enumerate, Unread, Take}
+use Rattle.wef_front_collector.specs.declared.hearing.Asked.TheVariants as asks
+use Rattle.wef_front_collector.specs.declared.hearing.Asked.TheVariants.{Refused, Enumerate, Unread, Take, UnreadEnd}
 use Rattle.wef_front_collector.specs.declared.hearing.Heard.{Heard}
 use Rattle.wef_front_collector.specs.declared.saying.Said.{Said}
 use Rattle.wef_front_collector.specs.declared.saying.Said.TheVariants.{Offers, Fault}
@@ -79,6 +80,7 @@ module _ {T : Type 0} (tell : T → Said) (gives : Rows → T) (effect : Rows �
   said_goes (Err NoMemory, call, answered, is) = absurd answered
   said_goes (Err Exists, call, answered, is) = absurd answered
   said_goes (Err TooMany, call, answered, is) = absurd answered
+  said_goes (Err NotAsked, call, answered, is) = absurd answered
   said_goes (Err Full, call, answered, is) = absurd answered
 
 -- ---- an answer, by the rows
@@ -125,6 +127,10 @@ replies_by host relates (Unread u) charset moment answer memory memory_now befor
     reply_goes (batch_said false) (λ rows. tt) host relates (Unread u) charset moment answer memory memory_now before now (λ found e. refl) is is.stepped.0
 replies_by host relates (Take u s batch) charset moment answer memory memory_now before now is =
     reply_goes (batch_said batch.ack_wanted) (λ rows. tt) host relates (Take u s batch) charset moment answer memory memory_now before now (λ found e. refl) is is.stepped
+replies_by host relates (UnreadEnd u) charset moment answer memory memory_now before now is =
+    reply_goes (batch_said false) (λ rows. tt) host relates (UnreadEnd u) charset moment answer memory memory_now before now (λ found e. refl) is is.stepped.0
+replies_by host relates (asks.Ended u s identifier) charset moment answer memory memory_now before now is =
+    reply_goes (batch_said false) (λ rows. tt) host relates (asks.Ended u s identifier) charset moment answer memory memory_now before now (λ found e. refl) is is.stepped
 
 pub answers_are_replies :
     (host : List ℕ) (heard : Heard) (charset : Charset) (moment : ℕ) (answer : Answer) (memory memory_now : Memory) (before now : Store) →
@@ -178,6 +184,7 @@ module _ {T : Type 0} (tell : T → Said) (gives : Rows → T) (host : List ℕ)
   said_by_plan said before now (Err NoMemory, call, answered, is) = absurd answered
   said_by_plan said before now (Err Exists, call, answered, is) = absurd answered
   said_by_plan said before now (Err TooMany, call, answered, is) = absurd answered
+  said_by_plan said before now (Err NotAsked, call, answered, is) = absurd answered
   said_by_plan said before now (Err Full, call, answered, is) = absurd answered
 
 answer_by_plan :
@@ -205,6 +212,12 @@ plans_by host relates (Unread u) charset moment answer memory memory_now before 
 plans_by host relates (Take u s batch) charset moment answer memory memory_now before now is =
     answer_by_plan host relates (Take u s batch) charset moment answer memory memory_now before now is
     (said_by_plan (batch_said batch.ack_wanted) (λ rows. tt) host (Take u s batch) moment (λ found e. refl) is.said before now is.stepped)
+plans_by host relates (UnreadEnd u) charset moment answer memory memory_now before now is =
+    answer_by_plan host relates (UnreadEnd u) charset moment answer memory memory_now before now is
+    (said_by_plan (batch_said false) (λ rows. tt) host (UnreadEnd u) moment (λ found e. refl) is.said before now is.stepped.0)
+plans_by host relates (asks.Ended u s identifier) charset moment answer memory memory_now before now is =
+    answer_by_plan host relates (asks.Ended u s identifier) charset moment answer memory memory_now before now is
+    (said_by_plan (batch_said false) (λ rows. tt) host (asks.Ended u s identifier) moment (λ found e. refl) is.said before now is.stepped)
 
 pub answers_go_by_plan :
     (host : List ℕ) (heard : Heard) (charset : Charset) (moment : ℕ) (answer : Answer) (memory memory_now : Memory) (before now : Store) →

@@ -12,28 +12,32 @@ use Rattle.wef_envelope.specs.declared.envelopes.EnvelopeFault.TheVariants as en
 use Rattle.wef_ids.specs.declared.FaultName.{FaultName}
 use Rattle.wef_ids.specs.declared.FaultName.TheVariants as the
 use Rattle.wef_base.specs.Names.{same, source_name, subscription_name}
-use Rattle.wef_envelope.specs.declared.actions.TheConstants.{ENUMERATE, EVENTS}
+use Rattle.wef_envelope.specs.declared.actions.TheConstants.{ENUMERATE, EVENTS, SUBSCRIPTION_END}
 use Rattle.wef_xml.specs.declared.faults.TreeFault.{TreeFault}
 use Rattle.wef_xml.specs.declared.faults.TreeFault.TheVariants as tree
 use Rattle.wef_keeper.specs.Access.{HasCause}
 use Rattle.wef_keeper.specs.Keeping.{Store}
 use Rattle.wef_keeper.specs.Rows.{Rows}
 use Rattle.wef_collector_rows.specs.Forms.{AreFormed}
-use Rattle.wef_collector_rows.specs.declared.faults.CollectorFault.TheVariants.{NoMemory, NoSubscription, Exists, Ended, NotWellFormed, TooMany, Failed, Full}
+use Rattle.wef_collector_rows.specs.declared.faults.CollectorFault.TheVariants.{NoMemory, NoSubscription, Exists, Ended, NotWellFormed, NotAsked, TooMany, Failed, Full}
 use Rattle.wef_collector.specs.Calls.{Effect, no_effect}
 use Rattle.wef_collector.specs.Offers.{offers}
 use Rattle.wef_collector.specs.declared.memories.Memory.{Memory}
 use Rattle.wef_eventing.specs.declared.offers.Offer.{Offer}
+use Rattle.wef_bodies.specs.Leases as leases
+use Rattle.wef_bodies.specs.Leases.{ended_in}
 use Rattle.wef_bodies.specs.Reading.{has_enumerate}
+use Rattle.wef_subscribes.specs.declared.faults.BodyFault.{BodyFault}
 use Rattle.std.specs.Option.{option_and_then}
 use Rattle.wef_replies.specs.Refusals.{is_nameless}
-use Rattle.wef_front_collector.specs.Heard.{Hears, asked_at, asked_by, asked_of, batch_in, enumerate_asked, events_asked, heard_in, is_elsewhere, manager_asked, named_asked, unheard}
+use Rattle.wef_front_collector.specs.Heard.{Hears, asked_at, asked_by, asked_of, batch_in, end_asked, enumerate_asked, events_asked, heard_in, is_elsewhere, manager_asked, named_asked, unheard}
 use Rattle.wef_replies.specs.Refusals.{HearsRead}
 use Rattle.wef_front_collector.specs.Replies.{IsAnswer}
 use Rattle.wef_front_collector.proofs.SaidOfCalls.{offers_answered}
 use Rattle.wef_front_collector.specs.Steps.{IsAnswered, SaysFor, Steps, batch_said, done_said, effect_in}
 use Rattle.wef_front_collector.specs.declared.hearing.Asked.{Asked}
-use Rattle.wef_front_collector.specs.declared.hearing.Asked.TheVariants.{Refused, Enumerate, Unread, Take}
+use Rattle.wef_front_collector.specs.declared.hearing.Asked.TheVariants as asks
+use Rattle.wef_front_collector.specs.declared.hearing.Asked.TheVariants.{Refused, Enumerate, Unread, Take, UnreadEnd}
 use Rattle.wef_http_heads.specs.declared.answers.Answer.{Answer}
 use Rattle.wef_front_collector.specs.declared.hearing.Heard.{Heard}
 use Rattle.wef_front_collector.specs.declared.saying.Said.{Said}
@@ -52,12 +56,20 @@ IsOther (Refused name) = is_internal name ≡ false
 IsOther (Enumerate s) = Unit {0}
 IsOther (Unread u) = Unit {0}
 IsOther (Take u s batch) = Unit {0}
+IsOther (UnreadEnd u) = Unit {0}
+IsOther (asks.Ended u s identifier) = Unit {0}
 
 events_other : (sub source : Option (List ℕ)) (batch : Result Batch BatchFault) → IsOther (events_asked sub source batch)
 events_other None source batch = refl
 events_other (Some u) None batch = tt
 events_other (Some u) (Some s) (Err fault) = tt
 events_other (Some u) (Some s) (Ok batch) = tt
+
+end_other : (sub source : Option (List ℕ)) (end : Result leases.Ended BodyFault) → IsOther (end_asked sub source end)
+end_other None source end = refl
+end_other (Some u) None end = tt
+end_other (Some u) (Some s) (Err fault) = tt
+end_other (Some u) (Some s) (Ok end) = tt
 
 named_other : (source : Option (List ℕ)) → IsOther (named_asked source)
 named_other None = refl
@@ -81,11 +93,13 @@ manager_other e = by (same e.action ENUMERATE.now)
 at_other : (target : Target) (e : Envelope) → IsOther (asked_at target e)
 at_other Manager e = manager_other e
 at_other Root e = refl
-at_other (Delivery sub source) e = by (same e.action EVENTS.now)
+at_other (Delivery sub source) e = by (same e.action EVENTS.now) (same e.action SUBSCRIPTION_END.now)
   where
-    by : (batch : Bool) → IsOther (cond batch (events_asked (subscription_name sub) (source_name source) (batch_in e)) (Refused the.ActionNotSupported))
-    by true = events_other (subscription_name sub) (source_name source) (batch_in e)
-    by false = refl
+    by : (batch end : Bool) → IsOther (cond batch (events_asked (subscription_name sub) (source_name source) (batch_in e))
+        (cond end (end_asked (subscription_name sub) (source_name source) (ended_in e.body)) (Refused the.ActionNotSupported)))
+    by true end = events_other (subscription_name sub) (source_name source) (batch_in e)
+    by false true = end_other (subscription_name sub) (source_name source) (ended_in e.body)
+    by false false = refl
 
 by_other : (target : Target) (e : Envelope) → IsOther (asked_by target e)
 by_other target e = by (is_nameless e)
@@ -133,6 +147,7 @@ says_cause tell gives effect said before now other (Err Failed, call, answered, 
 says_cause tell gives effect said before now other (Err NoMemory, call, answered, is) internal = absurd answered
 says_cause tell gives effect said before now other (Err Exists, call, answered, is) internal = absurd answered
 says_cause tell gives effect said before now other (Err TooMany, call, answered, is) internal = absurd answered
+says_cause tell gives effect said before now other (Err NotAsked, call, answered, is) internal = absurd answered
 says_cause tell gives effect said before now other (Err Full, call, answered, is) internal = absurd answered
 
 name_internal : (name : FaultName) → is_internal name ≡ false → Fault name ≡ Fault the.InternalError → ⊥
@@ -160,6 +175,10 @@ steps_cause host (Unread u) moment said before now other stepped internal =
     says_cause (batch_said false) (λ rows. tt) (effect_in (Unread u) moment) said before now (λ done. no_ack false) stepped.0 internal
 steps_cause host (Take u s batch) moment said before now other stepped internal =
     says_cause (batch_said batch.ack_wanted) (λ rows. tt) (effect_in (Take u s batch) moment) said before now (λ done. no_ack batch.ack_wanted) stepped internal
+steps_cause host (UnreadEnd u) moment said before now other stepped internal =
+    says_cause (batch_said false) (λ rows. tt) (effect_in (UnreadEnd u) moment) said before now (λ done. no_ack false) stepped.0 internal
+steps_cause host (asks.Ended u s identifier) moment said before now other stepped internal =
+    says_cause (batch_said false) (λ rows. tt) (effect_in (asks.Ended u s identifier) moment) said before now (λ done. no_ack false) stepped internal
 
 pub internal_errors_have_a_cause :
     (host : List ℕ) (target : Target) (charset charset_of_answer : Charset) (bytes : List ℕ) (heard : Heard) (moment : ℕ) (answer : Answer) (memory memory_now : Memory) (before now : Store) →

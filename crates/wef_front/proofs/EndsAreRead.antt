@@ -35,7 +35,7 @@ end_trimmed : IsTrimmed SUBSCRIPTION_END.now
 unfolding chars encode
 end_trimmed = refl
 
-plain_end : (note : EndNote) → NoteCanBeSent note → IsSpelt note.id → IsPlain (end_envelope note)
+pub plain_end : (note : EndNote) → NoteCanBeSent note → IsSpelt note.id → IsPlain (end_envelope note)
 plain_end note can spelt = record {
   to = (address_text note.end_to can.end_to).0;
   resource = tt;

@@ -1,6 +1,7 @@
 pub mod ByRows
 pub mod Causes
 pub mod DeliveriesAreHeard
+pub mod EndsAreHeard
 pub mod EndsAreRead
 pub mod EnumeratesAreHeard
 pub mod OffersAreHeard

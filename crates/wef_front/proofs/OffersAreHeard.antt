@@ -2,7 +2,7 @@
 use Rattle.std.proofs.Common.{◌≡◌, ℕ, zero, suc, ◌+◌, ◌*◌, ◌/◌, ◌%◌, false, Bool, cond, List, [], ◌∷◌, length, refl, ap, sym, ◌∙◌, arith}
 use Rattle.std.specs.Prelude.{Option, Some, None, Result, min, unwrap_or}
 use Rattle.std.specs.List.{AllByRecursion}
-use Rattle.std.specs.Option.{option_and_then}
+use Rattle.std.specs.Option.{option_and_then, option_map}
 use Rattle.std.specs.Result.{result_ok}
 use Rattle.std.specs.Str.{chars}
 use Rattle.std.proofs.Math.Utf8.{encode}
@@ -24,6 +24,7 @@ use Rattle.wef_envelope.specs.declared.actions.TheConstants.{ACK, ENUMERATE_RESP
 use Rattle.wef_eventing.specs.declared.offers.Offer.{Offer}
 use Rattle.wef_ids.specs.IdTexts.{id_of_value}
 use Rattle.wef_ids.specs.Ids.{next_id, with_drawn}
+use Rattle.wef_ids.specs.declared.FaultName.{FaultName}
 use Rattle.wef_ids.specs.declared.MessageId.{MessageId}
 use Rattle.wef_ids.specs.declared.ids.Ids.{Ids}
 use Rattle.wef_ids.proofs.PlainIds.{id_text_good, id_text_trimmed}
@@ -33,9 +34,10 @@ use Rattle.wef_xml.proofs.Ascii.{plain_text}
 use Rattle.wef_xml.specs.Canonical.{canonical, encoded}
 use Rattle.wef_xml.specs.Good.{IsGoodTree, IsXmlText}
 use Rattle.wef_front_collector.proofs.Draws.{drawn_texts}
+use Rattle.wef_replies.specs.Faults.{fault_among}
 use Rattle.wef_replies.proofs.RepliesAreGood.{reply_good}
 use Rattle.wef_front.proofs.RepliesAreHeard.{reply_plain, reply_said, tree_again, tree_id, tree_told}
-use Rattle.wef_front_source.specs.HeardReplies.{Offered, fault_among, id_told, offers_told, offers_told_by, related, told, told_by, told_in}
+use Rattle.wef_front_source.specs.HeardReplies.{Offered, id_told, offers_told, offers_told_by, related, told, told_by, told_in}
 use Rattle.wef_front.specs.Laws.{OffersAreHeard, OffersAreRead}
 use Rattle.wef_front_collector.specs.Replies.{drawn_ids, nested_ids, offers_envelope}
 use Rattle.wef_front.specs.Replies.{ids_at, ids_nested_in}
@@ -76,8 +78,8 @@ none_told id nested relates list trimmed allowed spelt related texts stand =
     let body : List Element = offers_element nested list ∷ [] in
     tree_told (written (offers_envelope id nested (Some relates) list)) (offers_root id nested relates list allowed related texts stand)
     ∙ ap told_by (reply_said ENUMERATE_RESPONSE.now body id.text relates response_trimmed trimmed spelt)
-    ∙ ap (λ (b : Bool). told_in (Some relates) (cond b (Some replies.Ack) (fault_among body))) no_ack
-    ∙ ap (told_in (Some relates)) (no_fault nested list)
+    ∙ ap (λ (b : Bool). told_in (Some relates) (cond b (Some replies.Ack) (option_map replies.Fault (fault_among body)))) no_ack
+    ∙ ap (λ (o : Option FaultName). told_in (Some relates) (option_map replies.Fault o)) (no_fault nested list)
 
 -- they tell the offers
 all_told : (now : ℕ) (id : MessageId) (nested : List MessageId) (relates : MessageId) (list : List Offer) → IsTrimmed id.text → IsXmlText id.text → IsSpelt relates → IsXmlText relates.text → AllByRecursion IsXmlId nested

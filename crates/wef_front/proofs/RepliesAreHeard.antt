@@ -30,10 +30,11 @@ use Rattle.wef_tree_reading.specs.Documents.{tree_of}
 use Rattle.wef_tree_reading.proofs.Functions.{is_given}
 use Rattle.wef_xml.specs.Canonical.{canonical, encoded}
 use Rattle.wef_xml.specs.Good.{IsGoodTree, IsXmlText}
-use Rattle.wef_front_source.specs.HeardReplies.{fault_among, id_told, told, told_by, told_in}
+use Rattle.wef_front_source.specs.HeardReplies.{id_told, told, told_by, told_in}
 use Rattle.wef_front.specs.Laws.{RepliesAreRead}
 use Rattle.wef_front.specs.Replies.{IsKnownReply, reply_bytes}
 use Rattle.wef_front_collector.specs.Replies.{ack_envelope, answer_of}
+use Rattle.wef_replies.specs.Faults.{fault_among}
 use Rattle.wef_replies.specs.Replies.{envelope_with, fault_envelope}
 use Rattle.wef_front_collector.specs.declared.saying.Said.TheVariants.{Ack, Fault as FaultSaid}
 use Rattle.wef_ids.proofs.PlainIds.{id_text_good, id_text_trimmed}
@@ -43,10 +44,10 @@ use Rattle.wef_replies.proofs.RepliesAreGood.{fault_reply_good}
 -- ---- envelopes
 
 -- no space is trimmed off the action of a fault, and none has that of an acknowledgement
-abbrev IsFaultAction : List ℕ → Type 0
+abbrev pub IsFaultAction : List ℕ → Type 0
 IsFaultAction action = IsTrimmed action × (same action ACK.now ≡ false)
 
-fault_action : (standard : Option Standard) → IsFaultAction (action_by standard)
+pub fault_action : (standard : Option Standard) → IsFaultAction (action_by standard)
 unfolding chars encode
 fault_action (Some the.Soap) = (refl, refl)
 fault_action (Some the.Addressing) = (refl, refl)
@@ -103,8 +104,8 @@ fault_told name id relates known trimmed allowed spelt related =
     let body : List Element = fault_tree (fault_of name) ∷ [] in
     tree_told (written (fault_envelope name id (Some relates))) (fault_reply_good name id (Some relates) known allowed related)
     ∙ ap told_by (reply_said (action_of name) body id.text relates (fault_action (standard_of name)).0 trimmed spelt)
-    ∙ ap (λ b. told_in (Some relates) (cond b (Some replies.Ack) (fault_among body))) (fault_action (standard_of name)).1
-    ∙ ap (λ (o : Option Fault). told_in (Some relates) (option_or (option_map (λ (f : Fault). replies.Fault f.name) o) None)) (faults_are_read name known)
+    ∙ ap (λ b. told_in (Some relates) (cond b (Some replies.Ack) (option_map replies.Fault (fault_among body)))) (fault_action (standard_of name)).1
+    ∙ ap (λ (o : Option Fault). told_in (Some relates) (option_map replies.Fault (option_or (option_map (λ (f : Fault). f.name) o) None))) (faults_are_read name known)
 
 pub acks_are_heard : (ids : Ids) (relates : MessageId) → IsSpelt relates → IsXmlText relates.text
     → told (answer_of ids Utf8 (Some relates) Ack).body ≡ Some (relates, replies.Ack)

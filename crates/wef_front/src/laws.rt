@@ -1,6 +1,6 @@
 //! Laws of answers, each the contract of a function that does nothing.
 
-ghost use Rattle.wef_front.specs.Ends.{EndsAreRead};
+ghost use Rattle.wef_front.specs.Ends.{EndsAreHeard, EndsAreRead};
 ghost use Rattle.wef_front.specs.Laws.{AnswersAreReplies, AnswersGoByPlan, DrawnIdsAreSpelt, InternalErrorsHaveACause, OffersAreHeard, OffersAreRead, OneIsHeard, RepliesAreHeard, RepliesAreRead};
 ghost use Rattle.wef_front.specs.Requests.{InternalErrorsWantIds, OneRequestIsHeard};
 ghost use Rattle.wef_front.specs.Sent.{DeliveriesAreHeard, DeliveriesAreRead, EnumeratesAreHeard, EnumeratesAreRead};
@@ -72,6 +72,13 @@ pub fn one_is_heard()
 /// An id that an end draws is that of its text, which can be written.
 pub fn drawn_ids_are_spelt()
     ensures { DrawnIdsAreSpelt }
+{}
+
+/// What a source sends of the end of a session, the collector hears: the end of the subscription and the source
+/// of the path, by the identifier of the session, and its id. So it does where the note goes to the address that
+/// a collector wishes for.
+pub fn ends_are_heard()
+    ensures { EndsAreHeard }
 {}
 
 /// What a source sends of the end of a session, a collector reads as it was meant: the id, where it goes, which

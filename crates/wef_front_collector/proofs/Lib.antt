@@ -1,3 +1,5 @@
 pub mod AcksAreGood
 pub mod Draws
+pub mod ResponsesCanBeTaken
+pub mod ResponsesHeard
 pub mod SaidOfCalls

@@ -9,16 +9,16 @@ use Rattle.wef_keeper.specs.Calls.{Answers, Did, DidWith, DoesWith}
 use Rattle.wef_keeper.specs.Keeping.{Store}
 use Rattle.wef_keeper.specs.Rows.{Rows}
 use Rattle.wef_collector_rows.specs.declared.faults.CollectorFault.{CollectorFault}
-use Rattle.wef_collector_rows.specs.declared.faults.CollectorFault.TheVariants.{NoMemory, NoSubscription, Exists, Ended, NotWellFormed, TooMany, Failed, Full}
+use Rattle.wef_collector_rows.specs.declared.faults.CollectorFault.TheVariants.{NoMemory, NoSubscription, Exists, Ended, NotWellFormed, NotAsked, TooMany, Failed, Full}
 use Rattle.wef_batch.specs.declared.items.Batch.{Batch}
-use Rattle.wef_collector.specs.Calls.{Effect, OfTake, no_effect, take_effect, unread_effect}
-use Rattle.wef_collector.specs.Judged.{AreOffersJudged, JudgesTake}
+use Rattle.wef_collector.specs.Calls.{Effect, OfKnown, OfTake, OfUnreadEnd, no_effect, source_ended_effect, take_effect, unread_effect, unread_end_effect}
+use Rattle.wef_collector.specs.Judged.{AreOffersJudged, JudgesSourceEnded, JudgesTake}
 use Rattle.wef_collector_rows.specs.Answers.{IsOfStore}
 use Rattle.wef_collector_rows.specs.Faults.{collector_store}
 use Rattle.wef_collector_rows.specs.Forms.{AreFormed}
 use Rattle.wef_collector_rows.specs.Judged.{JudgesName}
 use Rattle.wef_envelope.specs.Faults.{is_known}
-use Rattle.wef_front_collector.specs.Judged.{JudgesBatch, JudgesCall, JudgesOffers, JudgesUnread}
+use Rattle.wef_front_collector.specs.Judged.{JudgesBatch, JudgesCall, JudgesEnd, JudgesOffers, JudgesUnread, JudgesUnreadEnd}
 use Rattle.wef_front_collector.specs.Steps.{Calls, CallsFor, IsAnswered, IsFailure, IsFault, IsKnownSaid, Says, SaysFor, SaysOffers, batch_said, fault_for, said_of, said_with}
 use Rattle.wef_front_collector.specs.declared.saying.Said.TheVariants.{Offers}
 use Rattle.wef_collector.specs.Offers.{CanAllBeOffered, offers}
@@ -85,6 +85,20 @@ pub unread_judged :
 unread_judged u done result before now does is =
     judged_so (batch_said false) (λ _. tt) (λ rows. unread_effect rows u) (λ answer found. JudgesName answer found u) done result before now does is
 
+pub unread_end_judged :
+    {E : Type 0} (u : List ℕ) (done : Result (Unit {0}) CollectorFault) (result : Result Said E) (before now : Store) →
+    DoesWith collector_store AreFormed (λ rows. unread_end_effect rows u) (λ _. tt) (λ answer found after. JudgesName answer found u) done before now →
+    IfOk result (λ said. said ≡ said_of false done) → IfOk result (λ said. JudgesUnreadEnd u said before now)
+unread_end_judged u done result before now does is =
+    judged_so (batch_said false) (λ _. tt) (λ rows. unread_end_effect rows u) (λ answer found. JudgesName answer found u) done result before now does is
+
+pub end_judged :
+    {E : Type 0} (u s identifier : List ℕ) (done : Result (Unit {0}) CollectorFault) (result : Result Said E) (before now : Store) →
+    DoesWith collector_store AreFormed (λ rows. source_ended_effect rows u s identifier) (λ _. tt) (λ answer found after. JudgesSourceEnded answer found u s) done before now →
+    IfOk result (λ said. said ≡ said_of false done) → IfOk result (λ said. JudgesEnd u s identifier said before now)
+end_judged u s identifier done result before now does is =
+    judged_so (batch_said false) (λ _. tt) (λ rows. source_ended_effect rows u s identifier) (λ answer found. JudgesSourceEnded answer found u s) done result before now does is
+
 -- a call that only reads leaves the rows that it found, so what was judged of these is a fact of those
 kept_judged : (s : List ℕ) (gives : Rows → List Offer) (done : Result (List Offer) CollectorFault) (found after : Rows) → Answers collector_store done (gives found) (no_effect found) found after
     → OnOk done (AreOffersJudged after s) → OnOk done (AreOffersJudged found s)
@@ -146,6 +160,7 @@ offers_answered host s said before now (Err Exists, call, answered, is) = absurd
 offers_answered host s said before now (Err Ended, call, answered, is) = absurd answered
 offers_answered host s said before now (Err NotWellFormed, call, answered, is) = absurd answered
 offers_answered host s said before now (Err TooMany, call, answered, is) = absurd answered
+offers_answered host s said before now (Err NotAsked, call, answered, is) = absurd answered
 offers_answered host s said before now (Err Full, call, answered, is) = absurd answered
 
 -- a refusal of the store that is answered says that the store failed
@@ -158,6 +173,7 @@ store_failed Exists (Ok said) of answered = absurd of
 store_failed Ended (Ok said) of answered = absurd of
 store_failed NotWellFormed (Ok said) of answered = absurd of
 store_failed TooMany (Ok said) of answered = absurd of
+store_failed NotAsked (Ok said) of answered = absurd of
 store_failed Full (Ok said) of answered = absurd of
 
 -- a call that only reads is refused by its store alone, as one that takes a batch may be
@@ -169,4 +185,37 @@ store_taken Ended of = absurd of
 store_taken NotWellFormed of = absurd of
 store_taken TooMany of = absurd of
 store_taken Failed of = tt
+store_taken NotAsked of = absurd of
 store_taken Full of = absurd of
+
+-- what refuses the end of a subscription may refuse a batch
+known_so : (fault : CollectorFault) → OfKnown fault → OfTake fault
+known_so NoMemory of = tt
+known_so NoSubscription of = tt
+known_so Exists of = absurd of
+known_so Ended of = tt
+known_so NotWellFormed of = tt
+known_so NotAsked of = absurd of
+known_so TooMany of = absurd of
+known_so Failed of = tt
+known_so Full of = absurd of
+
+pub known_taken : (done : Result (Unit {0}) CollectorFault) → IfErr done OfKnown → IfErr done OfTake
+known_taken (Ok done) of = tt
+known_taken (Err fault) of = known_so fault of
+
+-- and so may what refuses one that couldn't be read
+unread_so : (fault : CollectorFault) → OfUnreadEnd fault → OfTake fault
+unread_so NoMemory of = tt
+unread_so NoSubscription of = tt
+unread_so Exists of = absurd of
+unread_so Ended of = tt
+unread_so NotWellFormed of = tt
+unread_so NotAsked of = absurd of
+unread_so TooMany of = absurd of
+unread_so Failed of = tt
+unread_so Full of = absurd of
+
+pub unread_end_taken : (done : Result (Unit {0}) CollectorFault) → IfErr done OfUnreadEnd → IfErr done OfTake
+unread_end_taken (Ok done) of = tt
+unread_end_taken (Err fault) of = unread_so fault of

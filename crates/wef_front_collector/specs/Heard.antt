@@ -12,17 +12,20 @@ use Rattle.wef_batch.specs.declared.items.Batch.{Batch}
 use Rattle.wef_batch.specs.declared.reading.BatchFault.{BatchFault}
 use Rattle.wef_envelope.specs.Envelopes.{id_in, said}
 use Rattle.wef_envelope.specs.Faults.{is_known}
+use Rattle.wef_bodies.specs.Leases.{Ended, ended_in}
 use Rattle.wef_bodies.specs.Reading.{has_enumerate}
-use Rattle.wef_envelope.specs.declared.actions.TheConstants.{ENUMERATE, EVENTS, SUBSCRIPTIONS}
+use Rattle.wef_envelope.specs.declared.actions.TheConstants.{ENUMERATE, EVENTS, SUBSCRIPTION_END, SUBSCRIPTIONS}
 use Rattle.wef_envelope.specs.declared.envelopes.Envelope.{Envelope}
 use Rattle.wef_envelope.specs.declared.envelopes.EnvelopeFault.{EnvelopeFault}
 use Rattle.wef_ids.specs.declared.FaultName.{FaultName}
 use Rattle.wef_ids.specs.declared.FaultName.TheVariants as the
 use Rattle.wef_ids.specs.declared.MessageId.{MessageId}
 use Rattle.wef_replies.specs.Refusals.{HearsBytes, envelope_refused, is_nameless}
+use Rattle.wef_subscribes.specs.declared.faults.BodyFault.{BodyFault}
 use Rattle.wef_xml.specs.Good.{IsXmlText}
 use Rattle.wef_front_collector.specs.declared.hearing.Asked.{Asked}
-use Rattle.wef_front_collector.specs.declared.hearing.Asked.TheVariants.{Refused, Enumerate, Unread, Take}
+use Rattle.wef_front_collector.specs.declared.hearing.Asked.TheVariants as asked
+use Rattle.wef_front_collector.specs.declared.hearing.Asked.TheVariants.{Refused, Enumerate, Unread, Take, UnreadEnd}
 use Rattle.wef_front_collector.specs.declared.hearing.Heard.{Heard}
 use Rattle.wef_http_heads.specs.declared.targets.Target.{Target}
 use Rattle.wef_http_heads.specs.declared.targets.Target.TheVariants.{Manager, Delivery, Root}
@@ -40,6 +43,16 @@ events_asked (Some u) (Some s) (Ok batch) = Take u s batch
 -- the batch that an envelope says
 abbrev pub batch_in : Envelope → Result Batch BatchFault
 batch_in e = batch_of e.bookmark e.ack_wanted e.body
+
+-- ---- ends of subscriptions
+
+-- the end of a subscription that the collector began, by the identifier that it has at the source; told from no source's name,
+-- or in a body that isn't good, it is refused by the subscription that it is about
+abbrev pub end_asked : Option (List ℕ) → Option (List ℕ) → Result Ended BodyFault → Asked
+end_asked None source end = Refused the.DestinationUnreachable
+end_asked (Some u) None end = UnreadEnd u
+end_asked (Some u) (Some s) (Err fault) = UnreadEnd u
+end_asked (Some u) (Some s) (Ok end) = asked.Ended u s end.0
 
 -- ---- subscriptions
 
@@ -64,7 +77,8 @@ enumerate_asked e =
 -- what an envelope asks where a source delivers, by its action
 abbrev pub delivery_asked : List ℕ → List ℕ → Envelope → Asked
 delivery_asked sub source e =
-    if same e.action EVENTS.now then events_asked (subscription_name sub) (source_name source) (batch_in e) else Refused the.ActionNotSupported
+    if same e.action EVENTS.now then events_asked (subscription_name sub) (source_name source) (batch_in e)
+    else (if same e.action SUBSCRIPTION_END.now then end_asked (subscription_name sub) (source_name source) (ended_in e.body) else Refused the.ActionNotSupported)
 
 -- what an envelope asks of the collector itself, by its action
 abbrev pub manager_asked : Envelope → Asked
@@ -105,6 +119,8 @@ IsSoundAsk (Refused name) = is_known name ≡ true
 IsSoundAsk (Enumerate s) = Unit {0}
 IsSoundAsk (Unread u) = Unit {0}
 IsSoundAsk (Take u s batch) = AreNumbered batch.items
+IsSoundAsk (UnreadEnd u) = Unit {0}
+IsSoundAsk (asked.Ended u s identifier) = Unit {0}
 
 -- and the id that the answer relates to can be written
 pub record IsSound (heard : Heard) : Type 0 where

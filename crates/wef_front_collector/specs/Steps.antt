@@ -10,19 +10,20 @@ use Rattle.wef_collector_rows.specs.Answers.{IsOfStore}
 use Rattle.wef_collector_rows.specs.Faults.{collector_store}
 use Rattle.wef_collector_rows.specs.Forms.{AreFormed}
 use Rattle.wef_collector_rows.specs.declared.faults.CollectorFault.{CollectorFault}
-use Rattle.wef_collector_rows.specs.declared.faults.CollectorFault.TheVariants.{NoMemory, NoSubscription, Exists, Ended, NotWellFormed, TooMany, Failed, Full}
-use Rattle.wef_collector.specs.Calls.{Effect, no_effect, take_effect, unread_effect}
+use Rattle.wef_collector_rows.specs.declared.faults.CollectorFault.TheVariants.{NoMemory, NoSubscription, Exists, Ended, NotWellFormed, NotAsked, TooMany, Failed, Full}
+use Rattle.wef_collector.specs.Calls.{Effect, no_effect, source_ended_effect, take_effect, unread_effect, unread_end_effect}
 use Rattle.wef_collector.specs.Offers.{CanAllBeOffered, offers}
 use Rattle.wef_eventing.specs.declared.offers.Offer.{Offer}
 use Rattle.wef_front_collector.specs.declared.hearing.Asked.{Asked}
-use Rattle.wef_front_collector.specs.declared.hearing.Asked.TheVariants.{Refused, Enumerate, Unread, Take}
+use Rattle.wef_front_collector.specs.declared.hearing.Asked.TheVariants as asked
+use Rattle.wef_front_collector.specs.declared.hearing.Asked.TheVariants.{Refused, Enumerate, Unread, Take, UnreadEnd}
 use Rattle.wef_front_collector.specs.declared.saying.Said.{Said}
 use Rattle.wef_front_collector.specs.declared.saying.Said.TheVariants.{Ack, Quiet, Offers, Fault}
 
 -- ---- what is said
 
--- The fault that a refusal of the collector is answered with: the subscription isn't there, or no longer; the batch isn't
--- well-formed; all else is the collector's own trouble.
+-- The fault that a refusal of the collector is answered with: the subscription isn't there, or no longer; the batch or the end
+-- isn't well-formed; all else is the collector's own trouble.
 abbrev pub fault_for : CollectorFault → FaultName
 fault_for NoSubscription = the.DestinationUnreachable
 fault_for Ended = the.DestinationUnreachable
@@ -31,6 +32,7 @@ fault_for NoMemory = the.InternalError
 fault_for Failed = the.InternalError
 fault_for Exists = the.InternalError
 fault_for TooMany = the.InternalError
+fault_for NotAsked = the.InternalError
 fault_for Full = the.InternalError
 
 -- a batch that was taken is acknowledged where its source wants that
@@ -47,7 +49,7 @@ abbrev pub said_where : {T : Type 0} → (T → Said) → T → Effect → Said
 said_where tell given (Ok changes) = tell given
 said_where tell given (Err fault) = Fault (fault_for fault)
 
--- of a batch that was taken
+-- of a batch that was taken; an end that was heard is none that is acknowledged
 abbrev pub batch_said : Bool → Unit {0} → Said
 batch_said ack done = done_said ack
 
@@ -60,6 +62,8 @@ effect_in (Refused name) moment rows = Ok []
 effect_in (Enumerate s) moment rows = no_effect rows
 effect_in (Unread u) moment rows = unread_effect rows u
 effect_in (Take u s batch) moment rows = take_effect rows u s batch moment
+effect_in (UnreadEnd u) moment rows = unread_end_effect rows u
+effect_in (asked.Ended u s identifier) moment rows = source_ended_effect rows u s identifier
 
 -- what it says where it does this with the rows that it found, and its store doesn't fail; batches come to the host
 abbrev pub said_by : List ℕ → Asked → Rows → Effect → Said
@@ -67,6 +71,8 @@ said_by host (Refused name) found effect = Fault name
 said_by host (Enumerate s) found effect = said_where Offers (offers found s host) effect
 said_by host (Unread u) found effect = said_where (batch_said false) tt effect
 said_by host (Take u s batch) found effect = said_where (batch_said batch.ack_wanted) tt effect
+said_by host (UnreadEnd u) found effect = said_where (batch_said false) tt effect
+said_by host (asked.Ended u s identifier) found effect = said_where (batch_said false) tt effect
 
 -- ---- what is done
 
@@ -74,11 +80,11 @@ said_by host (Take u s batch) found effect = said_where (batch_said batch.ack_wa
 abbrev pub CallsFor : {T : Type 0} → (Rows → T) → (Rows → Effect) → Result T CollectorFault → Store → Store → Type 0
 CallsFor gives effect done before now = IsCall collector_store AreFormed effect gives done before now
 
--- one that takes a batch gives nothing
+-- one that takes a batch or hears of an end gives nothing
 abbrev pub Calls : (Rows → Effect) → Result (Unit {0}) CollectorFault → Store → Store → Type 0
 Calls effect done before now = CallsFor (λ _. tt) effect done before now
 
--- the refusals that are answered: those of a batch, but for want of memory
+-- the refusals that are answered: those of a batch, of which those of an end are some, but for want of memory
 abbrev pub IsAnswered : CollectorFault → Type 0
 IsAnswered NoSubscription = Unit {0}
 IsAnswered Ended = Unit {0}
@@ -96,7 +102,7 @@ abbrev pub SaysFor : {T : Type 0} → (CollectorFault → Type 0) → (T → Sai
 SaysFor {T = T} Refuses tell gives effect said before now =
     (done : Result T CollectorFault) × CallsFor gives effect done before now × IfErr done Refuses × (said ≡ said_with tell done)
 
--- of a batch
+-- of a batch, or of an end
 abbrev pub Says : Bool → (Rows → Effect) → Said → Store → Store → Type 0
 Says ack effect said before now = SaysFor IsAnswered (batch_said ack) (λ _. tt) effect said before now
 
@@ -115,6 +121,8 @@ Steps host (Refused name) moment said before now = (said ≡ Fault name) × (now
 Steps host (Enumerate s) moment said before now = SaysOffers host s said before now
 Steps host (Unread u) moment said before now = Says false (effect_in (Unread u) moment) said before now × IsFault said
 Steps host (Take u s batch) moment said before now = Says batch.ack_wanted (effect_in (Take u s batch) moment) said before now
+Steps host (UnreadEnd u) moment said before now = Says false (effect_in (UnreadEnd u) moment) said before now × IsFault said
+Steps host (asked.Ended u s identifier) moment said before now = Says false (effect_in (asked.Ended u s identifier) moment) said before now
 
 -- What it has done where there was no memory for the answer: its step whole, or nothing.
 abbrev pub HasStepped : List ℕ → Asked → ℕ → Store → Store → Type 0
@@ -123,6 +131,8 @@ HasStepped host (Enumerate s) moment before now =
     (done : Result (List Offer) CollectorFault) × CallsFor (λ rows. offers rows s host) no_effect done before now × IfErr done IsOfStore
 HasStepped host (Unread u) moment before now = (done : Result (Unit {0}) CollectorFault) × Calls (effect_in (Unread u) moment) done before now
 HasStepped host (Take u s batch) moment before now = (done : Result (Unit {0}) CollectorFault) × Calls (effect_in (Take u s batch) moment) done before now
+HasStepped host (UnreadEnd u) moment before now = (done : Result (Unit {0}) CollectorFault) × Calls (effect_in (UnreadEnd u) moment) done before now
+HasStepped host (asked.Ended u s identifier) moment before now = (done : Result (Unit {0}) CollectorFault) × Calls (effect_in (asked.Ended u s identifier) moment) done before now
 
 -- a fault that is said has a name of the table, and the texts of offers can stand in a message
 abbrev pub IsKnownSaid : Said → Type 0

@@ -35,7 +35,7 @@ use wef_replies::{envelope_with, write_answer, write_fault};
 /// sender doesn't want to be told, or 500 with a fault, which is the profile's status for all of
 /// them. It is written in the charset of the request. The collector itself takes Enumerate
 /// (WS-Enumeration, 3.1), and what a source delivers for a subscription are batches (WS-Management,
-/// 10.2.9). `host` is the one that the request names: batches for what is offered come to it. Where
+/// 10.2.9), and that it has ended one that the collector began (WS-Eventing, 3.5). `host` is the one that the request names: batches for what is offered come to it. Where
 /// there is no memory for the answer, what the message asks is done or it isn't, and ids may be drawn,
 /// no more than the answer would have.
 pub fn collector_answer<K: Keeper>(

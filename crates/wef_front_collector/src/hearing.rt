@@ -5,16 +5,17 @@ ghost use Rattle.std.specs.Prelude.{◌≡◌, option_copied, IfOk};
 ghost use Rattle.wef_base.specs.Names.{source_name, subscription_name};
 ghost use Rattle.wef_batch.specs.Numbers.{AreNumbered};
 ghost use Rattle.wef_batch.specs.Reading.{AreGoodTrees, AreToldTrees, Reads};
+ghost use Rattle.wef_bodies.specs.Leases.{ended_in};
 ghost use Rattle.wef_envelope.specs.Envelopes.{said};
-ghost use Rattle.wef_front_collector.specs.Heard.{Hears, IsSound, IsSoundAsk, asked_by, asked_of, batch_in, delivery_asked, enumerate_asked, events_asked, heard_in, is_elsewhere, manager_asked, unheard};
+ghost use Rattle.wef_front_collector.specs.Heard.{Hears, IsSound, IsSoundAsk, asked_by, asked_of, batch_in, delivery_asked, end_asked, enumerate_asked, events_asked, heard_in, is_elsewhere, manager_asked, unheard};
 ghost use Rattle.wef_xml.specs.Good.{IsGoodTree};
 ghost use Rattle.wef_xml.specs.Told.{IsTold};
 
 use std::alloc::{AllocError, Global};
 use wef_base::{Charset, Element, SourceName, SubId, Text};
 use wef_batch::{Batch, BatchFault, read_batch};
-use wef_bodies::has_enumerate;
-use wef_envelope::actions::{ENUMERATE, EVENTS, SUBSCRIPTIONS};
+use wef_bodies::{BodyFault, has_enumerate, read_end};
+use wef_envelope::actions::{ENUMERATE, EVENTS, SUBSCRIPTION_END, SUBSCRIPTIONS};
 use wef_envelope::{Envelope, FaultName, MessageId, from_node, id_in};
 use wef_http_heads::Target;
 use wef_replies::{envelope_refused, is_nameless, tree_refused};
@@ -34,6 +35,14 @@ pub enum Asked {
         sub: SubId,
         source: SourceName,
         batch: Batch,
+    },
+    /// The end of a subscription that can't be read.
+    UnreadEnd(SubId),
+    /// A source has ended a subscription, which has an identifier there.
+    Ended {
+        sub: SubId,
+        source: SourceName,
+        identifier: Text,
     },
 }
 
@@ -176,6 +185,9 @@ fn delivery_asked(
     if envelope.action.as_str() == EVENTS {
         return events_asked(sub, source, told, envelope);
     }
+    if envelope.action.as_str() == SUBSCRIPTION_END {
+        return end_asked(sub, source, envelope);
+    }
     Ok(Asked::Refused(FaultName::ActionNotSupported))
 }
 
@@ -219,4 +231,26 @@ fn batch_in(told: bool, envelope: &Envelope) -> Result<Batch, BatchFault>
         told,
         envelope.body.as_slice(),
     )
+}
+
+/// What the end of a subscription asks that came to the path of a subscription and a source.
+fn end_asked(sub: &Text, source: &Text, envelope: &Envelope) -> Result<Asked, AllocError>
+    ensures asked { IfOk result (λ asked. asked ≡ end_asked (subscription_name sub.now) (source_name source.now) (ended_in envelope.now.body)) }
+    ensures sound { IfOk result IsSoundAsk }
+{
+    let Some(sub) = SubId::named(sub)? else {
+        return Ok(Asked::Refused(FaultName::DestinationUnreachable));
+    };
+    let Some(source) = SourceName::named(source)? else {
+        return Ok(Asked::UnreadEnd(sub));
+    };
+    match read_end(envelope.body.as_slice()) {
+        Ok((identifier, _)) => Ok(Asked::Ended {
+            sub,
+            source,
+            identifier,
+        }),
+        Err(BodyFault::NoMemory) => Err(AllocError),
+        Err(_) => Ok(Asked::UnreadEnd(sub)),
+    }
 }

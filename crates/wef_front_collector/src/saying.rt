@@ -2,14 +2,14 @@
 
 ghost use Rattle.std.specs.Prelude.{◌≡◌, false, List, Result, IfErr, IfOk};
 ghost use Rattle.wef_batch.specs.Numbers.{AreNumbered};
-ghost use Rattle.wef_collector.specs.Calls.{OfTake, no_effect, take_effect, unread_effect};
+ghost use Rattle.wef_collector.specs.Calls.{OfTake, no_effect, source_ended_effect, take_effect, unread_effect, unread_end_effect};
 ghost use Rattle.wef_collector.specs.Offers.{CanAllBeOffered, offers};
 ghost use Rattle.wef_collector_rows.specs.Answers.{IsOfStore};
 ghost use Rattle.wef_collector_rows.specs.declared.faults.CollectorFault as fault;
 ghost use Rattle.wef_eventing.specs.Addresses.{IsHost};
 ghost use Rattle.wef_eventing.specs.declared.offers.Offer.{Offer as TheOffer};
 ghost use Rattle.wef_front_collector.specs.Heard.{IsSoundAsk};
-ghost use Rattle.wef_front_collector.specs.Judged.{Judges, JudgesBatch, JudgesOffers, JudgesUnread};
+ghost use Rattle.wef_front_collector.specs.Judged.{Judges, JudgesBatch, JudgesEnd, JudgesOffers, JudgesUnread, JudgesUnreadEnd};
 ghost use Rattle.wef_front_collector.specs.Steps.{Calls, CallsFor, HasStepped, IsAnswered, IsFailure, IsFault, IsKnownSaid, Says, SaysOffers, Steps, fault_for, said_of, said_with};
 ghost use Rattle.wef_front_collector.specs.declared.saying.Said.TheVariants.{Fault, Offers};
 
@@ -28,7 +28,7 @@ use wef_keeper::Keeper;
 pub enum Said {
     /// A batch was taken, and its source wants to be told.
     Ack,
-    /// A batch was taken.
+    /// A batch was taken, or it was heard that a subscription has ended.
     Quiet,
     /// The subscriptions of a source.
     Offers(List<Offer>),
@@ -55,6 +55,12 @@ pub fn say<K: Keeper>(
         Asked::Enumerate(source) => offer(collector, source, host),
         Asked::Unread(sub) => take_unread(collector, sub),
         Asked::Take { sub, source, batch } => take(collector, sub, source, batch, now),
+        Asked::UnreadEnd(sub) => source_ended_unread(collector, sub),
+        Asked::Ended {
+            sub,
+            source,
+            identifier,
+        } => source_ended(collector, sub, source, identifier),
     }
 }
 
@@ -121,7 +127,39 @@ fn take<K: Keeper>(
     said_of(batch.ack_wanted, collector.take(sub, source, batch, now))
 }
 
-/// What is said of how a batch was taken. Want of memory isn't answered.
+/// Hears that a subscription has ended, where that couldn't be read.
+#[tactic(auto, using(crate::proofs::SaidOfCalls::unread_of, crate::proofs::SaidOfCalls::unread_end_judged, crate::proofs::SaidOfCalls::unread_end_taken))]
+fn source_ended_unread<K: Keeper>(
+    collector: &mut Collector<K>,
+    sub: &SubId,
+) -> Result<Said, AllocError>
+    ensures said { IfOk result (λ said. Says false (λ rows. unread_end_effect rows sub.now) said (K.store collector.old.keeper) (K.store collector.new.keeper) × IsFault said) }
+    ensures judged { IfOk result (λ said. JudgesUnreadEnd sub.now said (K.store collector.old.keeper) (K.store collector.new.keeper)) }
+    ensures wants_memory { IfErr result (λ _. (done : Result (Unit {0}) fault.CollectorFault) × Calls (λ rows. unread_end_effect rows sub.now) done (K.store collector.old.keeper) (K.store collector.new.keeper)) }
+    ensures known { IfOk result IsKnownSaid }
+    ensures memory { collector.new.memory ≡ collector.old.memory }
+{
+    said_of(false, collector.source_ended_unread(sub))
+}
+
+/// Hears that a source has ended a subscription.
+#[tactic(auto, using(crate::proofs::SaidOfCalls::says_of, crate::proofs::SaidOfCalls::end_judged, crate::proofs::SaidOfCalls::known_taken))]
+fn source_ended<K: Keeper>(
+    collector: &mut Collector<K>,
+    sub: &SubId,
+    source: &SourceName,
+    identifier: &Text,
+) -> Result<Said, AllocError>
+    ensures said { IfOk result (λ said. Says false (λ rows. source_ended_effect rows sub.now source.now identifier.now) said (K.store collector.old.keeper) (K.store collector.new.keeper)) }
+    ensures judged { IfOk result (λ said. JudgesEnd sub.now source.now identifier.now said (K.store collector.old.keeper) (K.store collector.new.keeper)) }
+    ensures wants_memory { IfErr result (λ _. (done : Result (Unit {0}) fault.CollectorFault) × Calls (λ rows. source_ended_effect rows sub.now source.now identifier.now) done (K.store collector.old.keeper) (K.store collector.new.keeper)) }
+    ensures known { IfOk result IsKnownSaid }
+    ensures memory { collector.new.memory ≡ collector.old.memory }
+{
+    said_of(false, collector.source_ended(sub, source, identifier))
+}
+
+/// What is said of how a batch was taken or an end was heard. Want of memory isn't answered.
 fn said_of(ack: bool, done: Result<(), CollectorFault>) -> Result<Said, AllocError>
     requires { IfErr done OfTake }
     ensures answered { IfOk result (λ said. IfErr done IsAnswered) }
