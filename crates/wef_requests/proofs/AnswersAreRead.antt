@@ -1,5 +1,5 @@
 -- What a source answers to a request that is done, a collector reads as it was meant.
-use Rattle.std.proofs.Common.{◌≡◌, codes, refl, ap, ◌∙◌}
+use Rattle.std.proofs.Common.{codes, refl, ap, ◌∙◌}
 use Rattle.std.proofs.Math.Utf8.{encode}
 use Rattle.std.specs.Option.{option_and_then}
 use Rattle.std.specs.Prelude.{Option, Some, Result}
@@ -31,7 +31,7 @@ use Rattle.wef_xml.proofs.Ascii.{plain_name}
 use Rattle.wef_xml.specs.Good.{IsGoodTree}
 use Rattle.wef_requests.specs.Answers.{AnswersAreRead, IsAnswering, answer_by, answer_said}
 
-elements_good : (b : Body) → IsAnswering b → CanBeWritten b → AreGoodElements (body_elements b) 62
+pub elements_good : (b : Body) → IsAnswering b → CanBeWritten b → AreGoodElements (body_elements b) 62
 elements_good (body.Subscribed identifier expires) is can = (subscribed_good identifier expires 58 can, tt)
 elements_good (body.Renewed expires) is can = (lease_good (codes "RenewResponse") expires 60 (plain_name (codes "RenewResponse") refl), tt)
 elements_good (body.StatusIs expires) is can = (lease_good (codes "GetStatusResponse") expires 60 (plain_name (codes "GetStatusResponse") refl), tt)
@@ -44,7 +44,7 @@ elements_good body.GetStatus is can = absurd is
 elements_good body.Unsubscribe is can = absurd is
 elements_good (body.Ended identifier status) is can = absurd is
 
-action_trimmed : (b : Body) → IsAnswering b → IsTrimmed (action_of b)
+pub action_trimmed : (b : Body) → IsAnswering b → IsTrimmed (action_of b)
 unfolding chars encode subscribe_response renew_response get_status_response unsubscribe_response
 action_trimmed (body.Subscribed identifier expires) is = refl
 action_trimmed (body.Renewed expires) is = refl

@@ -1,3 +1,4 @@
+pub mod AnswersAreHeard
 pub mod AnswersAreRead
 pub mod RequestsAreGood
 pub mod RequestsAreHeard

@@ -1,30 +1,41 @@
 -- The trees of requests are good.
-use Rattle.std.proofs.Common.{◌≡◌, ℕ, true, List, ◌++◌, codes, refl, ◌∙◌}
+use Rattle.std.proofs.Common.{◌≡◌, ℕ, List, ◌++◌, codes, refl, ap, sym, append_assoc, ◌∙◌}
 use Rattle.std.proofs.lemmas.Bool.{and_from}
 use Rattle.std.proofs.lemmas.List.Folds.{list_all-append}
-use Rattle.std.specs.List.{list_all}
+use Rattle.std.proofs.lemmas.Str.{encodes-append}
 use Rattle.std.specs.Prelude.{IfSome}
+use lib.Utf8.{encode}
+use Rattle.wef_base.proofs.Trimmed.{without_end_other}
+use Rattle.wef_base.specs.Characters.{is_xml_char}
+use Rattle.wef_base.specs.Names.{without_end}
 use Rattle.wef_base.specs.declared.tree.Element.{Element}
 use Rattle.wef_bodies.specs.declared.bodies.Body.{Body}
 use Rattle.wef_bodies.specs.declared.bodies.Body.TheVariants as body
+use Rattle.wef_collector.specs.Asking.{CanBeRequested}
+use Rattle.wef_collector.specs.declared.asking.Request.{Request}
+use Rattle.wef_documents.proofs.TrimmedTexts.{IsTrim, trim_allowed}
 use Rattle.wef_elements.specs.Good.{AreGoodElements}
 use Rattle.wef_envelope.specs.Written.{written}
 use Rattle.wef_envelope.specs.declared.actions.TheConstants.{ANONYMOUS, EVENT_LOG}
 use Rattle.wef_envelope.proofs.WrittenIsGood.{written_is_good}
-use Rattle.wef_eventing.proofs.AddressTexts.{printed_text}
-use Rattle.wef_eventing.specs.Addresses.{is_printed}
 use Rattle.wef_front_source.proofs.Texts.{action_good}
 use Rattle.wef_xml.proofs.Ascii.{plain_text}
 use Rattle.wef_xml.specs.Good.{IsGoodTree, IsXmlText}
-use Rattle.wef_requests.specs.Requests.{CanBeRequested, envelope_with, resource_of, source_address}
-use Rattle.wef_requests.specs.declared.requests.Request.{Request}
+use Rattle.wef_requests.specs.Requests.{envelope_with, resource_of, source_address}
 
-joined : (cs ds : List ℕ) → list_all is_printed cs ≡ true → list_all is_printed ds ≡ true → list_all is_printed (cs ++ ds) ≡ true
-joined cs ds one other = list_all-append is_printed cs ds ∙ and_from _ _ one other
-
-pub address_printed : (at : List ℕ) → list_all is_printed at ≡ true → list_all is_printed (source_address at) ≡ true
-unfolding source_address
-address_printed at is = joined (codes "http://" ++ at) (codes "/wsman") (joined (codes "http://") at refl is) refl
+-- where a source takes requests is a text without spaces at its ends, whatever its address has
+pub address_trim : (at : List ℕ) → IsXmlText at → IsTrim (source_address at)
+unfolding source_address encode
+address_trim at allowed =
+    let cs = allowed.characters in
+    let parted : codes "http://" ++ cs ++ codes "/wsman" ≡ (codes "http://" ++ cs ++ codes "/wsma") ++ codes "n" = sym (append_assoc (codes "http://") (cs ++ codes "/wsma") (codes "n") ∙ ap (λ t. codes "http://" ++ t) (append_assoc cs (codes "/wsma") (codes "n"))) in
+    record {
+      characters = codes "http://" ++ cs ++ codes "/wsman";
+      spelt = ap (λ t. codes "http://" ++ t ++ codes "/wsman") allowed.spelt ∙ ap (λ t. codes "http://" ++ t) (sym (encodes-append cs (codes "/wsman")));
+      allowed = list_all-append is_xml_char cs (codes "/wsman") ∙ and_from _ _ allowed.allowed refl;
+      start = refl;
+      end = ap without_end parted ∙ without_end_other (codes "http://" ++ cs ++ codes "/wsma") 110 refl ∙ sym parted;
+    }
 
 resource_good : (b : Body) → IfSome (resource_of b) IsXmlText
 resource_good body.Enumerate = tt
@@ -42,7 +53,7 @@ resource_good (body.Ended identifier status) = tt
 pub request_good : (r : Request) (elements : List Element) → CanBeRequested r → AreGoodElements elements 62 → IsGoodTree (written (envelope_with r elements))
 request_good r elements can good =
     written_is_good (envelope_with r elements) 60 (record {
-      to = (printed_text (source_address r.address) (address_printed r.address can.address.1)).1;
+      to = trim_allowed (source_address r.source.address) (address_trim r.source.address can.address);
       resource = resource_good r.body;
       reply_to = plain_text ANONYMOUS.now refl;
       action = action_good r.body;

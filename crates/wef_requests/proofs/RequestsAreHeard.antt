@@ -12,6 +12,9 @@ use Rattle.wef_bodies.specs.Spaces.{get_status, renew, subscribe, unsubscribe}
 use Rattle.wef_bodies.specs.Written.{body_elements}
 use Rattle.wef_bodies.specs.declared.bodies.Body.{Body}
 use Rattle.wef_bodies.specs.declared.bodies.Body.TheVariants as body
+use Rattle.wef_collector.specs.Asking.{CanBeRequested}
+use Rattle.wef_collector.specs.declared.asking.Request.{Request}
+use Rattle.wef_documents.proofs.TrimmedTexts.{trim_stays}
 use Rattle.wef_elements.specs.Good.{AreGoodElements}
 use Rattle.wef_envelope.specs.Envelopes.{id_in, said}
 use Rattle.wef_envelope.specs.Laws.{IsPlain, IsTrimmed}
@@ -19,16 +22,14 @@ use Rattle.wef_envelope.specs.Written.{written}
 use Rattle.wef_envelope.specs.declared.actions.TheConstants.{EVENT_LOG}
 use Rattle.wef_envelope.specs.declared.envelopes.Envelope.{Envelope}
 use Rattle.wef_envelope.proofs.WrittenIsRead.{written_id_is_found, written_is_read}
-use Rattle.wef_eventing.proofs.AddressTexts.{printed_text}
 use Rattle.wef_front.proofs.RepliesAreHeard.{anonymous_trimmed}
 use Rattle.wef_front_source.specs.Heard.{asked_by, asked_of, manage_asked, wanted_in, wish_asked}
 use Rattle.wef_subscribes.proofs.GoodSubscribes.{subscribe_good}
 use Rattle.wef_subscribes.proofs.SubscribesAgain.{subscribe_again}
 use Rattle.wef_tree.proofs.SpellsAgain.{spells_again}
 use Rattle.wef_xml.proofs.Ascii.{plain_name}
-use Rattle.wef_requests.proofs.RequestsAreGood.{address_printed, request_good}
-use Rattle.wef_requests.specs.Requests.{CanBeRequested, IsAsking, IsKeptBody, IsPlainRequest, RequestsAreHeard, meant, request_envelope, resource_of, source_address}
-use Rattle.wef_requests.specs.declared.requests.Request.{Request}
+use Rattle.wef_requests.proofs.RequestsAreGood.{address_trim, request_good}
+use Rattle.wef_requests.specs.Requests.{IsAsking, IsKeptBody, IsPlainRequest, RequestsAreHeard, meant, request_envelope, resource_of, source_address}
 
 -- ---- the envelope
 
@@ -78,7 +79,7 @@ resource_trimmed (body.Ended identifier status) asks = absurd asks
 
 plain_request : (r : Request) → CanBeRequested r → IsPlainRequest r → IsAsking r.body → IsPlain (request_envelope r)
 plain_request r can plain asks = record {
-  to = (printed_text (source_address r.address) (address_printed r.address can.address.1)).0;
+  to = trim_stays (source_address r.source.address) (address_trim r.source.address can.address);
   resource = resource_trimmed r.body asks;
   reply_to = anonymous_trimmed;
   action = action_trimmed r.body asks;

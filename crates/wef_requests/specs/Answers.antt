@@ -1,16 +1,21 @@
 -- A source's answer to a request, as a collector reads it.
-use Rattle.std.specs.Prelude.{◌≡◌, ℕ, List, Option, Some, None, Result, Ok}
+use Rattle.std.specs.Prelude.{◌≡◌, ℕ, true, List, Option, Some, None, Result, Ok}
 use Rattle.std.specs.Option.{option_and_then}
 use Rattle.wef_base.specs.declared.tree.Charset.TheVariants.{Utf8}
 use Rattle.wef_bodies.specs.Laws.{CanBeWritten, IsPlainBody}
 use Rattle.wef_bodies.specs.Reading.{body_in}
 use Rattle.wef_bodies.specs.declared.bodies.Body.{Body}
 use Rattle.wef_bodies.specs.declared.bodies.Body.TheVariants as body
+use Rattle.wef_collector.specs.declared.responses.Response.TheVariants as response
+use Rattle.wef_envelope.specs.Faults.{is_known}
 use Rattle.wef_envelope.specs.Laws.{IsSpelt}
 use Rattle.wef_envelope.specs.declared.envelopes.Envelope.{Envelope}
 use Rattle.wef_front.specs.Sent.{envelope_in}
+use Rattle.wef_front_collector.specs.HeardResponses.{response_of, response_told, told_in}
 use Rattle.wef_front_source.specs.Replies.{answer_of}
-use Rattle.wef_front_source.specs.declared.saying.Said.TheVariants.{Done}
+use Rattle.wef_front_source.specs.declared.saying.Said.TheVariants.{Done, Fault, Spent}
+use Rattle.wef_ids.specs.declared.FaultName.{FaultName}
+use Rattle.wef_ids.specs.declared.FaultName.TheVariants.{InternalError}
 use Rattle.wef_ids.specs.declared.MessageId.{MessageId}
 use Rattle.wef_source.specs.Machine.{End}
 use Rattle.wef_subscribes.specs.declared.faults.BodyFault.{BodyFault}
@@ -45,3 +50,16 @@ abbrev pub AnswersAreRead : Type 0
 AnswersAreRead =
     (now : ℕ) (end : End) (relates : MessageId) (said : Body) → IsAnswering said → CanBeWritten said → IsPlainBody said → IsSpelt relates → IsXmlText relates.text →
     answer_in now (answer_of end Utf8 (Some relates) (Done said)).body ≡ Some (relates, said)
+
+-- What a source answers, the collector hears as it was meant: what is done, where the collector asks that, and each fault that has
+-- a name of the table, also where the source can't draw its ids.
+pub record AnswersAreHeard : Type 0 where
+  pub done :
+      (now : ℕ) (end : End) (relates : MessageId) (said : Body) → IsAnswering said → CanBeWritten said → IsPlainBody said → IsSpelt relates → IsXmlText relates.text →
+      response_told now (answer_of end Utf8 (Some relates) (Done said)).body ≡ told_in (Some relates) (response_of said)
+  pub faults :
+      (now : ℕ) (end : End) (relates : MessageId) (name : FaultName) → is_known name ≡ true → IsSpelt relates → IsXmlText relates.text →
+      response_told now (answer_of end Utf8 (Some relates) (Fault name)).body ≡ Some (relates, response.Fault name)
+  pub spent :
+      (now : ℕ) (end : End) (relates : MessageId) → IsSpelt relates → IsXmlText relates.text →
+      response_told now (answer_of end Utf8 (Some relates) Spent).body ≡ Some (relates, response.Fault InternalError)

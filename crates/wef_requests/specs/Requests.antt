@@ -2,15 +2,16 @@
 use Rattle.std.specs.Prelude.{ℕ, false, List, ◌++◌, codes, Option, Some, None, IfSome}
 use Rattle.wef_base.specs.declared.tree.Charset.TheVariants.{Utf8}
 use Rattle.wef_base.specs.declared.tree.Element.{Element}
-use Rattle.wef_bodies.specs.Laws.{CanBeWritten, IsPlainBody, action_of}
+use Rattle.wef_bodies.specs.Laws.{IsPlainBody, action_of}
 use Rattle.wef_bodies.specs.Written.{body_elements}
 use Rattle.wef_bodies.specs.declared.bodies.Body.{Body}
 use Rattle.wef_bodies.specs.declared.bodies.Body.TheVariants as body
+use Rattle.wef_collector.specs.Asking.{CanBeRequested}
+use Rattle.wef_collector.specs.declared.asking.Request.{Request}
 use Rattle.wef_envelope.specs.Laws.{IsSpelt, IsTrimmed}
 use Rattle.wef_envelope.specs.Written.{written}
 use Rattle.wef_envelope.specs.declared.actions.TheConstants.{ANONYMOUS, EVENT_LOG}
 use Rattle.wef_envelope.specs.declared.envelopes.Envelope.{Envelope}
-use Rattle.wef_eventing.specs.Addresses.{IsHost}
 use Rattle.wef_front_source.specs.Heard.{Hears, manage_asked}
 use Rattle.wef_front_source.specs.declared.hearing.Asked.{Asked}
 use Rattle.wef_front_source.specs.declared.hearing.Asked.TheVariants.{Begin, Refused}
@@ -18,8 +19,6 @@ use Rattle.wef_front_source.specs.declared.hearing.Wants.TheVariants as wants
 use Rattle.wef_ids.specs.declared.FaultName.TheVariants.{ActionNotSupported}
 use Rattle.wef_subscribes.specs.Laws.{IsKeptSubscribe}
 use Rattle.wef_xml.specs.Canonical.{canonical, encoded}
-use Rattle.wef_xml.specs.Good.{IsXmlText}
-use Rattle.wef_requests.specs.declared.requests.Request.{Request}
 
 -- where a source at an address takes requests
 unfoldable pub source_address : List ℕ → List ℕ
@@ -33,7 +32,7 @@ resource_of _ = None
 -- the envelope of a request, with the elements of its body
 abbrev pub envelope_with : Request → List Element → Envelope
 envelope_with r elements = record {
-  to = Some (source_address r.address);
+  to = Some (source_address r.source.address);
   resource = resource_of r.body;
   reply_to = Some ANONYMOUS.now;
   action = action_of r.body;
@@ -52,13 +51,6 @@ request_envelope r = envelope_with r (body_elements r.body)
 
 abbrev pub request_bytes : Request → List ℕ
 request_bytes r = encoded Utf8 (canonical (written (request_envelope r)))
-
--- A request that can be written: its address is a host, and its texts hold characters that XML allows.
-pub record CanBeRequested (r : Request) : Type 0 where
-  pub address : IsHost r.address
-  pub id : IsXmlText r.id.text
-  pub identifier : IfSome r.identifier IsXmlText
-  pub body : CanBeWritten r.body
 
 -- what a collector asks for
 abbrev pub IsAsking : Body → Type 0

@@ -1,6 +1,6 @@
 //! Laws of requests, each the contract of a function that does nothing.
 
-ghost use Rattle.wef_requests.specs.Answers.{AnswersAreRead};
+ghost use Rattle.wef_requests.specs.Answers.{AnswersAreHeard, AnswersAreRead};
 ghost use Rattle.wef_requests.specs.Requests.{RequestsAreHeard};
 
 /// What a collector asks a source for, the source hears: the same wish, or the same of the session that is named, with the
@@ -13,4 +13,10 @@ pub fn requests_are_heard()
 /// same message.
 pub fn answers_are_read()
     ensures { AnswersAreRead }
+{}
+
+/// What a source answers to a request, the collector hears as it was meant: what is done, where the collector asks that,
+/// and each fault that has a name of the table, as the answer to the same message.
+pub fn answers_are_heard()
+    ensures { AnswersAreHeard }
 {}

@@ -5,4 +5,4 @@
 pub mod laws;
 pub mod requests;
 
-pub use requests::{Request, write_request};
+pub use requests::write_request;

@@ -2,28 +2,19 @@
 
 ghost use Rattle.std.specs.Prelude.{◌≡◌, option_copied, IfOk};
 ghost use Rattle.wef_base.specs.declared.tree.Charset.TheVariants.{Utf8};
+ghost use Rattle.wef_collector.specs.Asking.{CanBeRequested};
 ghost use Rattle.wef_envelope.specs.Written.{written};
-ghost use Rattle.wef_requests.specs.Requests.{CanBeRequested, envelope_with, request_bytes, resource_of, source_address};
+ghost use Rattle.wef_requests.specs.Requests.{envelope_with, request_bytes, resource_of, source_address};
 ghost use Rattle.wef_xml.specs.Canonical.{canonical, encoded};
 ghost use Rattle.wef_xml.specs.Good.{IsGoodTree};
 
 use std::alloc::{AllocError, Global};
 use wef_base::{Bytes, Charset, Element, List, Text};
 use wef_bodies::{Body, write_body};
+use wef_collector::Request;
 use wef_envelope::actions::{ANONYMOUS, EVENT_LOG};
-use wef_envelope::{Envelope, MessageId, to_node};
+use wef_envelope::{Envelope, to_node};
 use wef_tree::write_tree;
-
-/// A request of a collector to a source: a Subscribe, a Renew, a GetStatus or an Unsubscribe (WS-Eventing, 3.1 to 3.4).
-#[derive(Debug, Drop)]
-pub struct Request {
-    pub id: MessageId,
-    /// Where the source listens: a host, and a port behind a colon.
-    pub address: Text,
-    /// What the source named the session by, where the request is about one.
-    pub identifier: Option<Text>,
-    pub body: Body,
-}
 
 /// Writes a request in UTF-8. It goes to the path `/wsman` of the source; a Subscribe asks for the resource that the logs
 /// of a machine are.
@@ -55,7 +46,7 @@ fn envelope_with(
 ) -> Result<Envelope, AllocError>
     ensures { IfOk result (λ envelope. envelope ≡ envelope_with request.now body) }
 {
-    let to = source_address(alloc, &request.address)?;
+    let to = source_address(alloc, &request.source.address)?;
     let action = Text::from_str(alloc, request.body.action())?;
     let mut envelope = Envelope::new(to, action, request.id.clone()?, body);
     envelope.resource = resource_of(alloc, &request.body)?;
