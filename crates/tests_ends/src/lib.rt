@@ -1,8 +1,9 @@
 //! Calls of both ends that no command makes or that come to limits: pages of held events, an event at its
 //! greatest length, the window of a log, how often a source was started, numbers at their greatest, what a
-//! collector subscribes at a source, and which source a collector is to ask next.
+//! collector subscribes at a source, which source a collector is to ask next, and what it asks.
 #![tactic(auto)]
 
+mod asking;
 mod events;
 mod greatest;
 mod leases;
@@ -10,6 +11,7 @@ mod lengths;
 mod logs;
 mod pairs;
 
+use asking::push_asked;
 use events::push_events;
 use greatest::{push_greatest, push_spent};
 use leases::push_leases;
@@ -45,6 +47,14 @@ pub fn push_answer(shown: &mut Text, task: &str, line: &str) -> Result<bool, All
         // many seconds, and `offered ..` one that sources begin; `lease NAME SOURCE END IDENTIFIER` puts a lease, `wait
         // NAME SOURCE` a request that waits; `due AT` asks.
         "pairs" => push_pairs(shown, line),
+        // What a new collector asks of sources and answers to these calls, one after the other, with `; ` between them:
+        // `live NAME SECONDS SOURCES` adds a subscription that it begins, and `end NAME` ends it; `ask AT` is the next
+        // request with the number of its id, and `bytes AT` its text; `subscribed NUMBER AT EXPIRES N`, of a session that
+        // is named by the id of number N, `renewed NUMBER AT EXPIRES`, `unsubscribed NUMBER AT` and `refused NUMBER AT`
+        // are answers to the request whose id has this number; `gone NAME SOURCE IDENTIFIER` is the end of a session that
+        // its source tells; `forget`, `release`; `fail before` and `fail after` make the next commit fail, without its
+        // changes or with them.
+        "asks" => push_asked(shown, line),
         // What is told where a source has no ids left.
         "spent" => push_spent(shown),
         _ => return Ok(false),

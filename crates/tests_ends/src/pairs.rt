@@ -59,14 +59,14 @@ fn put(
     }
 }
 
-fn subscription(alloc: Global, name: &str) -> Result<SubId, AllocError> {
+pub(crate) fn subscription(alloc: Global, name: &str) -> Result<SubId, AllocError> {
     match SubId::named(&Text::from_str(alloc, name)?)? {
         Some(sub) => Ok(sub),
         None => Err(AllocError),
     }
 }
 
-fn source(alloc: Global, name: &str) -> Result<SourceName, AllocError> {
+pub(crate) fn source(alloc: Global, name: &str) -> Result<SourceName, AllocError> {
     match SourceName::named(&Text::from_str(alloc, name)?)? {
         Some(source) => Ok(source),
         None => Err(AllocError),
@@ -104,7 +104,7 @@ fn done(keeper: &mut MemKeeper, changes: &List<Change>) -> Result<(), AllocError
 }
 
 /// A document of Windows for a subscription.
-fn document(
+pub(crate) fn document(
     alloc: Global,
     name: &str,
     kind: &str,
