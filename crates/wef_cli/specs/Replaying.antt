@@ -7,7 +7,7 @@ use Rattle.wef_replay.specs.Schedule.{schedule_of}
 use Rattle.wef_replay.specs.declared.lines.Line.{Line}
 use Rattle.wef_replay.specs.declared.schedule.ScheduleFault as fault
 use Rattle.wef_replay.specs.declared.schedule.ScheduleFault.TheVariants as faults
-use Rattle.wef_machine.specs.Laws.{AreKept, AreSafe}
+use Rattle.wef_safety.specs.Laws.{AreKept, AreSafe}
 use Rattle.wef_machine.specs.Steps.{trail}
 use Rattle.wef_commands.specs.Endings.{HasFailed, IsUnwritten, Told}
 use Rattle.wef_commands.specs.Streams.{WritesPart}

@@ -5,7 +5,7 @@ ghost use Rattle.std.specs.Prelude.{◌≡◌, ◌++◌, ◌≤◌, true, IfErr,
 ghost use Rattle.wef_base.specs.Counts.{Rose};
 ghost use Rattle.wef_cli.specs.Replaying.{StopsRun};
 ghost use Rattle.wef_commands.specs.Streams.{IsWrittenUpTo, WritesPart};
-ghost use Rattle.wef_machine.specs.Laws.{AreKept, AreSafe};
+ghost use Rattle.wef_safety.specs.Laws.{AreKept, AreSafe};
 ghost use Rattle.wef_machine.specs.States.{start};
 ghost use Rattle.wef_machine.specs.Steps.{AreAdmitted, admits, printed_by, step, trail, trail_from};
 ghost use Rattle.wef_replay.specs.Good.{AreGood, no_names};

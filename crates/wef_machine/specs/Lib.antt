@@ -1,14 +1,8 @@
-pub mod Admitting
 pub mod Arming
 pub mod Collecting
 pub mod Deliveries
-pub mod Drawing
-pub mod Kept
-pub mod Laws
 pub mod Places
 pub mod Printed
-pub mod Rising
-pub mod Safe
 pub mod Seen
 pub mod Sources
 pub mod States

@@ -60,10 +60,10 @@ use Rattle.wef_places.specs.declared.places.Place.TheVariants.{Running, Closed}
 use Rattle.wef_places.specs.declared.places.Placed.{Placed}
 use Rattle.wef_places.specs.declared.places.Used.{Used}
 use Rattle.wef_places.specs.declared.places.Used.TheVariants.{Answered}
-use Rattle.wef_world.proofs.Said.{replied_is}
+use Rattle.wef_messages.proofs.Said.{replied_is}
 use Rattle.wef_world.proofs.Takings.{batch_came, batch_left, delivery_makes}
 use Rattle.wef_world.specs.Answered.{IsSaidToBatch, IsWritten, Leads, answer_word, asked_at, fault_word, heard_of, message_in, name_or_none, reply_in, taken_by, target_of}
-use Rattle.wef_world.specs.Bytes.{AreReply, Replied}
+use Rattle.wef_messages.specs.Bytes.{AreReply, Replied}
 use Rattle.wef_world.specs.Outcomes.{answered_batch, drawn_for, events_left, events_of, outcome_word, reply_to, sent_by}
 
 -- ---- what is heard

@@ -43,10 +43,10 @@ use Rattle.wef_places.specs.Collected.{collector_of}
 use Rattle.wef_places.specs.Places.{end_in, running_with}
 use Rattle.wef_places.specs.declared.places.Placed.{Placed}
 use Rattle.wef_world.proofs.Answered.{running_place}
-use Rattle.wef_world.proofs.Said.{answered_is}
+use Rattle.wef_messages.proofs.Said.{answered_is}
 use Rattle.wef_world.specs.Answered.{CanOffer, HasOffered}
-use Rattle.wef_world.specs.Bytes.{AreOffers, answered}
-use Rattle.wef_world.specs.Messages.{offers_message}
+use Rattle.wef_messages.specs.Bytes.{AreOffers, answered}
+use Rattle.wef_messages.specs.Messages.{offers_message}
 use Rattle.wef_world.specs.Outcomes.{asked_by, asked_of}
 use Rattle.wef_world.specs.declared.deliveries.Taken.{Taken}
 

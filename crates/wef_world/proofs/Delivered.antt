@@ -11,7 +11,7 @@ use Rattle.wef_source.specs.declared.messages.Reply as answer
 use Rattle.wef_source.specs.declared.messages.Reply.TheVariants as answers
 use Rattle.wef_places.specs.Counted.{is_heard, is_heard_at, is_open_at}
 use Rattle.wef_places.specs.Slots.{after_reply, reply_word}
-use Rattle.wef_world.specs.Messages.{reply_message}
+use Rattle.wef_messages.specs.Messages.{reply_message}
 
 pub delivers : (before now : State) (k : ℕ) (message : Message) → message_at before k ≡ Some message → before ≡ now → taken_by before message ≡ deliver_step now k
 delivers before now k message found is = sym (ap (deliver_message before) found) ∙ ap (λ (state : State). deliver_step state k) is

@@ -5,18 +5,18 @@ use Rattle.std.specs.Prelude.{Option, Some, None}
 use Rattle.wef_front.specs.Sent.{CanBeAsked}
 use Rattle.wef_front_source.specs.Sending.{CanBeSent}
 use Rattle.wef_ids.specs.declared.MessageId.{MessageId}
-use Rattle.wef_machine.proofs.CollectorSteps.{opened_kept}
-use Rattle.wef_machine.proofs.LowerFacts.{lower}
-use Rattle.wef_machine.proofs.Moves.{slot_put}
-use Rattle.wef_machine.proofs.Offering.{reads_source, reads_subscription}
-use Rattle.wef_machine.proofs.RowMoves.{known_name}
-use Rattle.wef_machine.proofs.Offerable.{kept_offers_can_be_sent}
-use Rattle.wef_machine.proofs.Sendable.{ask_can_be_sent, delivery_can_be_sent}
+use Rattle.wef_safety.proofs.CollectorSteps.{opened_kept}
+use Rattle.wef_safety.proofs.LowerFacts.{lower}
+use Rattle.wef_safety.proofs.Moves.{slot_put}
+use Rattle.wef_safety.proofs.Offering.{reads_source, reads_subscription}
+use Rattle.wef_safety.proofs.RowMoves.{known_name}
+use Rattle.wef_safety.proofs.Offerable.{kept_offers_can_be_sent}
+use Rattle.wef_safety.proofs.Sendable.{ask_can_be_sent, delivery_can_be_sent}
 use Rattle.wef_machine.specs.Collecting.{collector_opened, with_opened as collected}
-use Rattle.wef_machine.proofs.Sent.{sent_by_number}
-use Rattle.wef_machine.proofs.SourceSteps.{with_opened_kept}
+use Rattle.wef_safety.proofs.Sent.{sent_by_number}
+use Rattle.wef_safety.proofs.SourceSteps.{with_opened_kept}
 use Rattle.wef_machine.specs.Deliveries.{message_at}
-use Rattle.wef_machine.specs.Kept.{IsDelivery, IsKept, WasDrawn, WhereDeclared}
+use Rattle.wef_safety.specs.Kept.{IsDelivery, IsKept, WasDrawn, WhereDeclared}
 use Rattle.wef_machine.specs.Sources.{slot_opened, slot_opening, with_opened}
 use Rattle.wef_machine.specs.States.{Slot, State, slot_of}
 use Rattle.wef_machine.specs.declared.messages.Message.TheVariants.{Ask, Events}

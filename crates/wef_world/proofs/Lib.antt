@@ -3,6 +3,5 @@ pub mod Asked
 pub mod Delivered
 pub mod Kept
 pub mod Ready
-pub mod Said
 pub mod Takings
 pub mod Used

@@ -2,9 +2,9 @@
 use Rattle.std.proofs.Common.{◌≡◌, ℕ, List, refl, subst, sym}
 use Rattle.std.specs.Prelude.{Option, Some, None}
 use Rattle.wef_source_log.specs.Forms.{AreFormed}
-use Rattle.wef_machine.proofs.LowerFacts.{lower}
-use Rattle.wef_machine.proofs.SourceSteps.{opened_kept}
-use Rattle.wef_machine.specs.Kept.{IsKept}
+use Rattle.wef_safety.proofs.LowerFacts.{lower}
+use Rattle.wef_safety.proofs.SourceSteps.{opened_kept}
+use Rattle.wef_safety.specs.Kept.{IsKept}
 use Rattle.wef_machine.specs.Sources.{slot_opened}
 use Rattle.wef_machine.specs.States.{Slot, State, slot_of}
 use Rattle.wef_places.specs.Slots.{IsFormedAt, IsReady}

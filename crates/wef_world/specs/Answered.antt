@@ -33,8 +33,8 @@ use Rattle.wef_machine.specs.declared.messages.Message.{Message}
 use Rattle.wef_source.specs.declared.messages.Delivery.{Delivery}
 use Rattle.wef_source.specs.declared.messages.Reply.TheVariants as replies
 use Rattle.wef_xml.specs.Good.{IsXmlText}
-use Rattle.wef_world.specs.Bytes.{Replied, replied}
-use Rattle.wef_world.specs.Messages.{reply_message}
+use Rattle.wef_messages.specs.Bytes.{Replied, replied}
+use Rattle.wef_messages.specs.Messages.{reply_message}
 use Rattle.wef_world.specs.declared.deliveries.Taken.{Taken}
 
 -- ---- what is heard

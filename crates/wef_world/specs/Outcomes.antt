@@ -25,7 +25,7 @@ use Rattle.wef_places.specs.declared.places.Called.{Called}
 use Rattle.wef_places.specs.declared.places.Called.TheVariants.{Done, Broken, Refused}
 use Rattle.wef_places.specs.declared.places.Used.{Used}
 use Rattle.wef_places.specs.declared.places.Used.TheVariants.{Closed, Answered}
-use Rattle.wef_world.specs.Messages.{reply_message}
+use Rattle.wef_messages.specs.Messages.{reply_message}
 use Rattle.wef_world.specs.declared.deliveries.Taken.{Taken}
 
 -- the fault that answers a batch which the collector refuses

@@ -14,7 +14,7 @@ ghost use Rattle.wef_front_source.specs.Sending.{CanBeSent};
 ghost use Rattle.wef_keeper.specs.Keeping.{raised};
 ghost use Rattle.wef_machine.specs.Collecting as collecting;
 ghost use Rattle.wef_machine.specs.Deliveries as steps;
-ghost use Rattle.wef_machine.specs.Kept.{IsKept};
+ghost use Rattle.wef_safety.specs.Kept.{IsKept};
 ghost use Rattle.wef_machine.specs.Printed as texts;
 ghost use Rattle.wef_machine.specs.Seen.{message_line, seen_line};
 ghost use Rattle.wef_machine.specs.States as states;
@@ -23,15 +23,11 @@ ghost use Rattle.wef_places.specs.Counted as counts;
 ghost use Rattle.wef_places.specs.Places as places;
 ghost use Rattle.wef_places.specs.Slots as slots;
 ghost use Rattle.wef_world.specs.Answered as answered;
-ghost use Rattle.wef_world.specs.Bytes.{AreOffers, answered as answered_in};
-ghost use Rattle.wef_world.specs.Messages.{offers_message};
+ghost use Rattle.wef_messages.specs.Bytes.{AreOffers, answered as answered_in};
+ghost use Rattle.wef_messages.specs.Messages.{offers_message};
 ghost use Rattle.wef_world.specs.Outcomes as outcomes;
 
 use crate::ends::Ends;
-use crate::messages::{Content, DeliveryBytes, OffersBytes, ReplyBytes, Sent, WishBytes, host};
-use crate::printing::{
-    adopted_word, answered_line, fate_word, fault_answer, no_message_line, took_line,
-};
 use std::alloc::{AllocError, Global};
 use wef_base::{Bytes, Charset, Moment, SourceName, SubId, Text};
 use wef_batch::Batch;
@@ -41,10 +37,16 @@ use wef_front::{Answer, Hears, Target, read_reply};
 use wef_ids::{FaultName, MessageId};
 use wef_keeper::{Keeper, MemKeeper};
 use wef_machine::Fate;
+use wef_messages::messages::{
+    Content, DeliveryBytes, OffersBytes, ReplyBytes, Sent, WishBytes, host,
+};
 use wef_places::collecting::{self, Call, CollectorPlace};
 use wef_places::places::{Called, Used};
 use wef_places::sources::Sources;
 use wef_places::{Answers, WorldFault};
+use wef_printing::printing::{
+    adopted_word, answered_line, fate_word, fault_answer, no_message_line, took_line,
+};
 use wef_source::Reply;
 
 /// What became of a batch that was given to the collector.

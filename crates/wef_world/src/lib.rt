@@ -3,8 +3,6 @@
 
 pub mod deliveries;
 mod ends;
-pub mod messages;
-mod printing;
 mod source_lines;
 mod world;
 

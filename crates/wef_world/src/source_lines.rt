@@ -4,7 +4,7 @@ ghost use Rattle.std.specs.Prelude.{◌≡◌, [], IfOk, OnOk};
 ghost use Rattle.wef_event.specs.Unnumbered.{new_event};
 ghost use Rattle.wef_front.specs.Sent.{CanBeAsked};
 ghost use Rattle.wef_front_source.specs.Sending.{CanBeSent};
-ghost use Rattle.wef_machine.specs.Kept.{IsKept};
+ghost use Rattle.wef_safety.specs.Kept.{IsKept};
 ghost use Rattle.wef_machine.specs.Sources as steps;
 ghost use Rattle.wef_machine.specs.States as states;
 ghost use Rattle.wef_machine.specs.declared.messages.Message.TheVariants.{Ask, Events};
@@ -12,16 +12,16 @@ ghost use Rattle.wef_places.specs.Polls as polls;
 ghost use Rattle.wef_places.specs.Slots as slots;
 
 use crate::ends::Ends;
-use crate::messages::{Content, DeliveryBytes, Sent, WishBytes};
-use crate::printing::{fate_line, pair_line, sent_ask_line, sent_events_line, wrote_line};
 use std::alloc::AllocError;
 use wef_base::{SourceName, SubId, Text};
 use wef_event::{Event, PlainEvent};
 use wef_ids::MessageId;
 use wef_lines::name_line;
+use wef_messages::messages::{Content, DeliveryBytes, Sent, WishBytes};
 use wef_places::WorldFault;
 use wef_places::places::{Called, Used};
 use wef_places::slots::{Capacity, Polled, Slot};
+use wef_printing::printing::{fate_line, pair_line, sent_ask_line, sent_events_line, wrote_line};
 use wef_source::{Delivery, SourceFault};
 
 impl Ends {

@@ -1,7 +1,7 @@
 //! A world: the ends that a schedule moves, in a state that is kept.
 
 ghost use Rattle.std.specs.Prelude.{◌≡◌, ◌++◌, true, OnOk, OnErr};
-ghost use Rattle.wef_machine.specs.Kept.{IsKept};
+ghost use Rattle.wef_safety.specs.Kept.{IsKept};
 ghost use Rattle.wef_machine.specs.States as states;
 ghost use Rattle.wef_machine.specs.Steps as steps;
 ghost use Rattle.wef_places.specs.Counted.{counted, hears_by};
@@ -24,7 +24,7 @@ pub struct Held {
 }
 
 impl Model for Held {
-    ghost use Rattle.wef_machine.specs.Kept.{IsKept};
+    ghost use Rattle.wef_safety.specs.Kept.{IsKept};
     ghost use Rattle.wef_machine.specs.States.{State, held};
     ghost use Rattle.wef_world.specs.contracts.ends.Ends as the_ends;
 

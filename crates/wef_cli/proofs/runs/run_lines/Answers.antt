@@ -1,5 +1,5 @@
-use Rattle.wef_machine.proofs.Admitted.{good_lines}
-use Rattle.wef_machine.proofs.Schedules.{schedules_are_kept, schedules_are_safe}
+use Rattle.wef_promises.proofs.Admitted.{good_lines}
+use Rattle.wef_safety.proofs.Schedules.{schedules_are_kept, schedules_are_safe}
 use Rattle.wef_cli.proofs.runs.run_lines.Goals as goal
 
 pub run_anew-requires : goal.run_anew-requires

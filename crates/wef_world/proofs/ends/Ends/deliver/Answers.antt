@@ -13,7 +13,7 @@ use Rattle.wef_world.proofs.Kept.{ask_can_be_answered, delivery_leads}
 use Rattle.wef_world.proofs.Takings.{asked_state, asked_text, events_state, events_text}
 use Rattle.wef_world.proofs.Used.{done_as, given_state, given_text, said_as, where_ok}
 use Rattle.wef_world.proofs.ends.Ends.deliver.Goals as goal
-use Rattle.wef_world.specs.Messages.{IsOf, message_of}
+use Rattle.wef_messages.specs.Messages.{IsOf, message_of}
 use Rattle.wef_world.specs.Outcomes.{with_told}
 use Rattle.wef_world.specs.contracts.ends.Ends.{the_view}
 

@@ -2,7 +2,7 @@ use Rattle.std.proofs.Common.{◌≡◌, true, subst, sym}
 use Rattle.std.proofs.lemmas.Bool.{and_parts}
 use Rattle.wef_batch.specs.Numbers.{AreNumbered}
 use Rattle.wef_batch.specs.declared.items.Batch.{Batch as TheBatch}
-use Rattle.wef_machine.proofs.GoodLines.{subscription_again, numbered_batch}
+use Rattle.wef_safety.proofs.GoodLines.{subscription_again, numbered_batch}
 use Rattle.wef_machine.specs.States.{names_of}
 use Rattle.wef_machine.specs.Steps.{admits}
 use Rattle.wef_replay.specs.Good.{allows, is_line}

@@ -1,8 +1,8 @@
 use Rattle.std.proofs.Common.{◌≡◌, true, subst, sym}
-use Rattle.wef_machine.specs.Kept.{IsKept}
+use Rattle.wef_safety.specs.Kept.{IsKept}
 use Rattle.wef_machine.specs.States.{held}
 use Rattle.wef_machine.specs.Steps.{admits}
-use Rattle.wef_machine.proofs.Schedules.{start_is_kept, steps_keep}
+use Rattle.wef_safety.proofs.Schedules.{start_is_kept, steps_keep}
 use Rattle.wef_world.proofs.world.Held.apply.Goals as goal
 
 -- a world that lost its ends is as new

@@ -1,6 +1,6 @@
 use Rattle.std.proofs.Common.{subst, sym}
-use Rattle.wef_machine.specs.Kept.{IsKept}
-use Rattle.wef_machine.proofs.Schedules.{start_is_kept}
+use Rattle.wef_safety.specs.Kept.{IsKept}
+use Rattle.wef_safety.proofs.Schedules.{start_is_kept}
 use Rattle.wef_world.proofs.world.Held.new.Goals as goal
 
 pub invariant_of-result : goal.invariant_of-result

@@ -1,5 +1,0 @@
-use Rattle.wef_machine.proofs.Growing.{fitting_rises}
-use Rattle.wef_machine.proofs.laws.fitting_rises.Goals as goal
-
-pub returns : goal.returns
-returns c = fitting_rises

@@ -1,5 +1,0 @@
-use Rattle.wef_machine.proofs.Admitted.{good_lines}
-use Rattle.wef_machine.proofs.laws.good_lines_are_admitted.Goals as goal
-
-pub returns : goal.returns
-returns c = good_lines

@@ -1,5 +1,0 @@
-use Rattle.wef_machine.proofs.Schedules.{schedules_are_kept, schedules_are_safe}
-use Rattle.wef_machine.proofs.laws.law_safe.Goals as goal
-
-pub returns : goal.returns
-returns c = record { kept = schedules_are_kept; safe = schedules_are_safe }

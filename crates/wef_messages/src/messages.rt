@@ -1,0 +1,276 @@
+//! Messages as a world keeps them: each is its bytes, and no value beside them.
+
+ghost use Rattle.std.specs.Prelude.{◌≡◌, ◌++◌, ℕ, None, Some, IfOk, OnOk};
+ghost use Rattle.wef_eventing.specs.Addresses.{IsHost};
+ghost use Rattle.wef_front_source.specs.HeardReplies.{offers_told, told};
+ghost use Rattle.wef_front.specs.Replies.{offers_bytes, reply_bytes};
+ghost use Rattle.wef_front.specs.Sent.{CanBeAsked};
+ghost use Rattle.wef_front_source.specs.Sending.{CanBeSent, delivery_bytes, enumerate_bytes};
+ghost use Rattle.wef_machine.specs.Seen as texts;
+ghost use Rattle.wef_machine.specs.States as states;
+ghost use Rattle.wef_messages.specs.Bytes.{AreOffers, AreReply, answered, replied};
+ghost use Rattle.wef_messages.specs.Messages.{IsOf, message_of};
+
+use std::alloc::{AllocError, Global};
+use std::marker::Model;
+use wef_base::{Bytes, SourceName, Text};
+use wef_front::{write_delivery, write_enumerate};
+use wef_ids::MessageId;
+use wef_machine::Message;
+use wef_source::{Delivery, Reply};
+
+/// Where sources find the collector.
+const HOST: &str = "collector:5985";
+
+/// The collector's host.
+pub fn host(alloc: Global) -> Result<Text, AllocError>
+    ensures value { IfOk result (λ host. host ≡ states.host) }
+    ensures is_one { IfOk result IsHost }
+{
+    Text::from_str(alloc, HOST)
+}
+
+/// A source's wish for its subscriptions as its bytes.
+#[derive(Drop)]
+pub struct WishBytes {
+    bytes: Bytes,
+}
+
+impl Model for WishBytes {
+    ghost use Rattle.wef_front.specs.Sent.{Wish};
+    ghost use Rattle.wef_messages.specs.Bytes.{AreWish, wish_said};
+    ghost use Rattle.wef_messages.specs.Codes.{coded_wish};
+
+    ghost Value = { Wish };
+
+    ghost coded = { coded_wish };
+
+    ghost view = { λ w. wish_said w.bytes };
+
+    ghost invariant = { λ w. AreWish w.bytes };
+}
+
+impl WishBytes {
+    /// Writes the wish of a source, under an id, to the collector at its host.
+    #[tactic(auto, using(crate::proofs::Said::written_wish))]
+    pub fn of(alloc: Global, source: &SourceName, id: &MessageId) -> Result<WishBytes, AllocError>
+        requires { CanBeAsked (record { source = source.now; id = id.now }) }
+        ensures { IfOk result (λ wish. wish ≡ record { source = source.now; id = id.now }) }
+    {
+        let host = host(alloc)?;
+        Ok(WishBytes {
+            bytes: write_enumerate(alloc, &host, source, id)?,
+        })
+    }
+
+    /// Its bytes, in UTF-8.
+    pub fn bytes(&self) -> &Bytes
+        ensures value { result.now ≡ enumerate_bytes states.host self.now.source self.now.id }
+        ensures asked { CanBeAsked self.now }
+    {
+        &self.bytes
+    }
+}
+
+/// The collector's answer with offers as its bytes.
+#[derive(Drop)]
+pub struct OffersBytes {
+    bytes: Bytes,
+}
+
+impl Model for OffersBytes {
+    ghost use Rattle.wef_messages.specs.Bytes.{Answered, AreOffers, answered};
+    ghost use Rattle.wef_messages.specs.Codes.{coded_answered};
+
+    ghost Value = { Answered };
+
+    ghost coded = { coded_answered };
+
+    ghost view = { λ o. answered o.bytes };
+
+    ghost invariant = { λ o. AreOffers o.bytes };
+}
+
+impl OffersBytes {
+    /// The answer with offers that bytes are.
+    pub fn of(bytes: Bytes) -> OffersBytes
+        requires { AreOffers bytes }
+        ensures { result ≡ answered bytes }
+    {
+        OffersBytes { bytes }
+    }
+
+    /// Its bytes, in UTF-8.
+    pub fn bytes(&self) -> &Bytes
+        ensures value { result.now ≡ offers_bytes self.now.id self.now.relates self.now.offers }
+        ensures told { told result.now ≡ None }
+        ensures offers { (now : ℕ) → offers_told now result.now ≡ Some (self.now.relates, self.now.offers) }
+    {
+        &self.bytes
+    }
+}
+
+/// A delivery as its bytes, and the address that they go to.
+#[derive(Drop)]
+pub struct DeliveryBytes {
+    address: Text,
+    bytes: Bytes,
+}
+
+impl Model for DeliveryBytes {
+    ghost use Rattle.wef_source.specs.contracts.messages.Delivery as delivery;
+    ghost use Rattle.wef_source.specs.declared.messages.Delivery.{Delivery};
+    ghost use Rattle.wef_messages.specs.Bytes.{AreDelivery, delivery_said};
+
+    ghost Value = { Delivery };
+
+    ghost coded = { delivery.the_row.coded };
+
+    ghost view = { λ d. delivery_said d.address d.bytes };
+
+    ghost invariant = { λ d. AreDelivery d.address d.bytes };
+}
+
+impl DeliveryBytes {
+    /// Writes a delivery.
+    #[tactic(auto, using(crate::proofs::Said::written_delivery, crate::proofs::Said::written_says, wef_front_source::proofs::DeliveriesAreGood::can_be_written))]
+    pub fn of(alloc: Global, delivery: &Delivery) -> Result<DeliveryBytes, AllocError>
+        requires { CanBeSent delivery.now }
+        ensures { IfOk result (λ sent. sent ≡ delivery.now) }
+    {
+        Ok(DeliveryBytes {
+            address: delivery.notify_to.clone()?,
+            bytes: write_delivery(alloc, delivery)?,
+        })
+    }
+
+    /// Where it goes.
+    #[tactic(auto, using(crate::proofs::Said::kept_address))]
+    pub fn address(&self) -> &Text
+        ensures { result.now ≡ self.now.notify_to }
+    {
+        &self.address
+    }
+
+    /// Its bytes, in UTF-8.
+    #[tactic(auto, using(crate::proofs::Said::kept_bytes))]
+    pub fn bytes(&self) -> &Bytes
+        ensures value { result.now ≡ delivery_bytes self.now }
+        ensures sent { CanBeSent self.now }
+    {
+        &self.bytes
+    }
+}
+
+/// A reply to a delivery as its bytes.
+#[derive(Drop)]
+pub struct ReplyBytes {
+    bytes: Bytes,
+}
+
+impl Model for ReplyBytes {
+    ghost use Rattle.wef_messages.specs.Bytes.{AreReply, Replied, replied};
+    ghost use Rattle.wef_messages.specs.Codes.{coded_reply};
+
+    ghost Value = { Replied };
+
+    ghost coded = { coded_reply };
+
+    ghost view = { λ r. replied r.bytes };
+
+    ghost invariant = { λ r. AreReply r.bytes };
+}
+
+impl ReplyBytes {
+    /// The reply that bytes are.
+    pub fn of(bytes: Bytes) -> ReplyBytes
+        requires { AreReply bytes }
+        ensures { result ≡ replied bytes }
+    {
+        ReplyBytes { bytes }
+    }
+
+    /// Its bytes, in UTF-8.
+    #[tactic(auto, using(crate::proofs::Said::kept_reply, crate::proofs::Said::kept_told))]
+    pub fn bytes(&self) -> &Bytes
+        ensures value { result.now ≡ reply_bytes self.now.id self.now.relates self.now.reply }
+        ensures told { told result.now ≡ Some (self.now.relates, self.now.reply) }
+    {
+        &self.bytes
+    }
+}
+
+/// What a message says.
+pub enum Content {
+    /// The source asks for its subscriptions.
+    Ask(WishBytes),
+
+    /// The collector's answer to an ask.
+    Offers(OffersBytes),
+
+    /// A batch of the source.
+    Delivery(DeliveryBytes),
+
+    /// The collector's answer to a batch.
+    Reply(ReplyBytes),
+}
+
+/// One call for whoever lets a message go, whatever it holds.
+impl Drop for Content {
+    fn drop(self) {
+        match self {
+            Content::Ask(_) | Content::Offers(_) | Content::Delivery(_) | Content::Reply(_) => {}
+        }
+    }
+}
+
+/// A message that was sent: it is of a source, or for it.
+#[derive(Drop)]
+pub struct Sent {
+    source: SourceName,
+    content: Content,
+}
+
+impl Model for Sent {
+    ghost use Rattle.wef_machine.specs.contracts.messages.Message as message;
+    ghost use Rattle.wef_machine.specs.declared.messages.Message.{Message};
+    ghost use Rattle.wef_messages.specs.Messages.{IsOf, message_of};
+
+    ghost Value = { Message };
+
+    ghost coded = { message.the_row.coded };
+
+    ghost view = { λ sent. message_of sent.source sent.content };
+
+    ghost invariant = { λ sent. IsOf sent.source sent.content };
+}
+
+impl Sent {
+    /// A message of a source, or for it. An ask must be the source's own.
+    pub fn of(source: SourceName, content: Content) -> Sent
+        requires { IsOf source content }
+        ensures { result ≡ message_of source content }
+    {
+        Sent { source, content }
+    }
+
+    /// The source that it is of or for, and what it says.
+    pub fn parts(&self) -> (&SourceName, &Content)
+        ensures message { self.now ≡ message_of result.0.now result.1.now }
+        ensures own { IsOf result.0.now result.1.now }
+    {
+        (&self.source, &self.content)
+    }
+
+    /// Appends its bytes.
+    pub fn push_text(&self, text: &mut Bytes) -> Result<(), AllocError>
+        ensures { OnOk result (text.new ≡ text.old ++ texts.message_text self.now) }
+    {
+        match &self.content {
+            Content::Ask(wish) => Ok(text.extend(wish.bytes().as_slice())?),
+            Content::Offers(offers) => Ok(text.extend(offers.bytes().as_slice())?),
+            Content::Delivery(delivery) => Ok(text.extend(delivery.bytes().as_slice())?),
+            Content::Reply(reply) => Ok(text.extend(reply.bytes().as_slice())?),
+        }
+    }
+}

@@ -1,0 +1,4 @@
+//! What the lines of a schedule print.
+#![tactic(auto)]
+
+pub mod printing;

@@ -1,0 +1,35 @@
+-- Why a batch is acknowledged.
+use Rattle.std.proofs.Common.{◌≡◌, ◌∙◌, ap, refl, List, [], ◌∷◌, Bool, cond, Option, None, Some}
+use Rattle.std.specs.Prelude.{Ok, Err, codes}
+use Rattle.wef_ids.specs.declared.FaultName.TheVariants.{InvalidMessage}
+use Rattle.wef_collector_rows.specs.Answers.{channels_read}
+use Rattle.wef_collector.specs.Taken.{batch_changes}
+use Rattle.wef_keeper.specs.declared.keys.Change.{Change}
+use Rattle.wef_machine.specs.Arming.{fate}
+use Rattle.wef_machine.specs.Deliveries.{BatchEffect, answer_by, answer_with, answer_word, batch_effect_by, batch_word, effect_at}
+use Rattle.wef_machine.specs.declared.arming.Armed.{Armed}
+use Rattle.wef_machine.specs.declared.arming.Fate.{Fate}
+use Rattle.wef_machine.specs.declared.arming.Fate.TheVariants.{Done}
+use Rattle.wef_machine.specs.declared.messages.Message.TheVariants.{Ack}
+use Rattle.wef_promises.specs.Laws.{AcknowledgementIsGiven, DeliveriesAreAcknowledged}
+
+unarmed : (armed : Option Armed) (changes : List Change) → armed ≡ None → fate armed changes ≡ Done
+unarmed armed [] e = refl
+unarmed armed (change ∷ changes) e = ap (λ (a : Option Armed). fate a (change ∷ changes)) e
+
+pub acknowledged : AcknowledgementIsGiven
+acknowledged state u s about batch live good wanted calm =
+    let effect : BatchEffect = Ok (batch_changes state.collector.rows u s (channels_read about) batch state.moment) in
+    ap (λ found. answer_word state (batch_effect_by state.collector.rows u s batch state.moment found) batch) live
+    ∙ ap (λ (t : Bool). answer_word state (cond t effect (Err InvalidMessage)) batch) good
+    ∙ ap (batch_word batch) (unarmed state.collector.armed (batch_changes state.collector.rows u s (channels_read about) batch state.moment) calm)
+    ∙ ap (λ (t : Bool). cond t (codes "ack") (codes "quiet")) wanted
+
+pub answered : DeliveriesAreAcknowledged
+answered state u s r id about delivery path source live good wanted calm =
+    let effect : BatchEffect = Ok (batch_changes state.collector.rows u r (channels_read about) delivery.batch state.moment) in
+    (λ i. answer_with state (effect_at state.collector.rows (path i) (source i) delivery.batch state.moment) s id delivery)
+    ∙ ap (λ found. answer_with state (batch_effect_by state.collector.rows u r delivery.batch state.moment found) s id delivery) live
+    ∙ ap (λ (t : Bool). answer_with state (cond t effect (Err InvalidMessage)) s id delivery) good
+    ∙ ap (λ (f : Fate). answer_by f s id delivery) (unarmed state.collector.armed (batch_changes state.collector.rows u r (channels_read about) delivery.batch state.moment) calm)
+    ∙ ap (λ (t : Bool). cond t (Some (Ack s id delivery.id)) None) wanted

@@ -1,0 +1,5 @@
+pub mod Admitted
+pub mod Drawn
+pub mod Given
+pub mod Lasting
+pub mod Risen

@@ -1,0 +1,602 @@
+-- Sessions rise from the bookmarks that were offered by acknowledged batches alone, and send what lies above where they stand.
+use Rattle.std.proofs.Common.{◌≡◌, ℕ, ◌+◌, ◌<◌, ◌≤◌, Bool, true, false, cond, List, [], ◌∷◌, ◌++◌, length, refl, ap, sym, ◌∙◌, subst, nat_lt, arith, inl, inr, append_assoc, append-nil}
+use Rattle.std.proofs.lemmas.Bool.{cond_both}
+use Rattle.std.proofs.lemmas.List.Elements.{All-contains, All-contains_itself, All-from_recursion, All-weaker, recursion_from_All}
+use Rattle.std.proofs.lemmas.Option.{none-some, same_Some}
+use Rattle.std.specs.Prelude.{Option, Some, None, Ok, Err, is_some, Contains, ◌⊎◌}
+use Rattle.std.specs.Cmp.Lexicographic.{slice_cmp}
+use Rattle.std.specs.FinMap as finite
+use Rattle.std.specs.List.{AllByRecursion, filter}
+use Rattle.std.specs.Ordering.{nat_cmp}
+use Rattle.wef_batch.specs.declared.items.Batch as items
+use Rattle.wef_bookmark.specs.Order.{Marks, joined, number_at}
+use Rattle.wef_collector.proofs.Hits.{not_both}
+use Rattle.wef_collector.specs.Offers.{offers}
+use Rattle.wef_collector.specs.declared.memories.Memory.{Memory as Remembered}
+use Rattle.wef_ids.specs.IdTexts.{id_of_value}
+use Rattle.wef_ids.specs.Ids.{ids_agree}
+use Rattle.wef_ids.specs.declared.FaultName.{FaultName}
+use Rattle.wef_ids.specs.declared.FaultName.TheVariants.{InternalError}
+use Rattle.wef_ids.specs.declared.MessageId.{MessageId}
+use Rattle.wef_event.specs.Events.{Event}
+use Rattle.wef_event.specs.Unnumbered.{new_event}
+use Rattle.wef_eventing.specs.Addresses.{subscription_in}
+use Rattle.wef_eventing.specs.declared.offers.Offer.{Offer}
+use Rattle.wef_keeper.specs.Calls.{Effect}
+use Rattle.wef_query.specs.Selected.{channels_of}
+use Rattle.wef_replay_values.specs.declared.end_name.EndName.{EndName}
+use Rattle.wef_replay_values.specs.declared.end_name.EndName.TheVariants as ends
+use Rattle.wef_replay.specs.declared.lines.Line.{Line}
+use Rattle.wef_replay.specs.declared.lines.Line.TheVariants.{Subscribe, End, Batch, Source, Write, WriteXml, Ask, Poll, Deliver, Back, Lost, Crash, Fail, Stop, Calm, Show, Print}
+use Rattle.wef_building.proofs.Built.{SaysAbove, built_above}
+use Rattle.wef_source.proofs.InOrder.{alone_of_name}
+use Rattle.wef_source.specs.Answers.{waiting_for}
+use Rattle.wef_building.specs.Building.{built}
+use Rattle.wef_source.specs.Machine.{End as Memory}
+use Rattle.wef_source.specs.Machine.{acknowledged_in, adopted, asked, delivery_of, is_idle, is_spent, is_unreachable, lost_in, next_id, refused_in, sent as sent_by, start_of}
+use Rattle.wef_source.specs.Sessions.{acknowledged, has_expired, is_leased, is_named, is_outstanding, moved_by, sending, session_from, session_of, settled, waits_for, with_changed, with_channels, with_offered, with_offers, without}
+use Rattle.wef_source.specs.declared.messages.Delivery.{Delivery}
+use Rattle.wef_building.specs.declared.sessions.Outstanding.{Outstanding}
+use Rattle.wef_building.specs.declared.sessions.Session.{Session}
+use Rattle.wef_source_log.specs.Answers.{is_boot_full, next_text, start_effect, write_effect}
+use Rattle.wef_source_log.specs.LogWindow.{boot_of, start_changes}
+use Rattle.wef_source_log.specs.declared.faults.LogFault.{LogFault}
+use Rattle.wef_source_log.specs.declared.faults.LogFault.TheVariants as log_faults
+use Rattle.wef_machine.specs.Arming.{fate, is_done, is_stopped}
+use Rattle.wef_machine.specs.Collecting as collecting
+use Rattle.wef_machine.specs.Collecting.{at_collector, draws, reply_id, with_reply}
+use Rattle.wef_machine.specs.Deliveries.{BatchEffect, acknowledged_by, after_ack, after_fault, after_offers, answer_by, deliver_message, deliver_step, delivery_effect, end_at, events_at, events_by, message_at, number_back, offers_at, refused_by, taken_by, with_answer}
+use Rattle.wef_safety.specs.Kept.{IsAckKept, IsKept, IsServed, WaitsFor, WasDrawn}
+use Rattle.wef_machine.specs.Places.{Place, armed_with, commits, crashed, opened_by, starts}
+use Rattle.wef_safety.specs.Safe.{WasSent, own_id, read_by, source_of}
+use Rattle.wef_machine.specs.Sources.{ask_at, ask_step, at_declared, at_source, declared_slot, lost_at, lost_step, poll_at, poll_in, poll_step, slot_opened, slot_written, with_opened, write_at, write_by, write_step}
+use Rattle.wef_machine.specs.States.{Slot, Slots, State, calmed_slot, host, slot_of, slot_with, with_collector, with_end, with_foreign, with_message, with_slot}
+use Rattle.wef_machine.specs.Steps.{AreAdmitted, arm_step, batch_at, calm_step, crash_step, end_at as ended_at, step, subscribe_at, subscription_of, unchanged}
+use Rattle.wef_machine.specs.declared.arming.Armed.{Armed}
+use Rattle.wef_machine.specs.declared.arming.Fate.{Fate}
+use Rattle.wef_machine.specs.declared.arming.Fate.TheVariants.{Done, Failed, Stopped}
+use Rattle.wef_machine.specs.declared.messages.Message.{Message}
+use Rattle.wef_machine.specs.declared.messages.Message.TheVariants as sent
+use Rattle.wef_safety.proofs.CollectorSteps.{at_collector_any, opened_bookmark, opened_kept as collector_opened_kept}
+use Rattle.wef_machine.proofs.Declared.{calmed_at}
+use Rattle.wef_safety.proofs.Lower.{Lower}
+use Rattle.wef_safety.proofs.Moves.{are_one, from_mapped, put_there}
+use Rattle.wef_pairs.proofs.Numbered.{lt_is, not_below}
+use Rattle.wef_safety.proofs.Offering.{BeginsAtRows, all_begin}
+use Rattle.wef_safety.proofs.Sent.{all_map, sent_by_number, sent_either}
+use Rattle.wef_safety.proofs.Sessions.{acknowledged_message, all_changed, all_filtered, all_with_session, all_without, equal_numbers, first_is, with_channels_number}
+use Rattle.wef_safety.proofs.SourceSteps.{at_source_any, running_is, running_with, session_within, with_opened_kept}
+use Rattle.wef_safety.proofs.Steps.{of_declared, start_is_kept, steps_keep}
+use Rattle.wef_promises.specs.Rising.{AreAllRisen, BeginsAt, HasBegun, HasRisen, IsAbove, IsAlone, IsMessageRisen, IsSentRisen, SessionsRise, StandsAt, delivered, pasts_from, state_after}
+
+-- ---- lists
+
+-- what holds of each element of a list, by one after the other
+all_of : {X : Type 0} (P : X → Type 0) (xs : List X) → ((x : X) → Contains xs x → P x) → AllByRecursion P xs
+all_of P xs holds = recursion_from_All P xs (All-weaker (Contains xs) P holds xs (All-contains_itself xs))
+
+one_of : {X : Type 0} (P : X → Type 0) (xs : List X) (x : X) → AllByRecursion P xs → Contains xs x → P x
+one_of P xs x all has = All-contains P xs x (All-from_recursion P xs all) has
+
+-- ---- where sessions stand
+
+-- a fact of the session of each subscription at each source, by where it stands
+abbrev Standing : Type 1
+Standing = List ℕ → List ℕ → Marks → Type 0
+
+abbrev OfEach : Standing → List ℕ → List Session → Type 0
+OfEach P s sessions = AllByRecursion (λ (session : Session). P session.name s session.positions) sessions
+
+abbrev OfMemory : Standing → List ℕ → Option Memory → Type 0
+OfMemory P s None = Unit {0}
+OfMemory P s (Some end) = OfEach P s end.sessions
+
+abbrev OfSources : Standing → Slots → Type 0
+OfSources P slots = (s : List ℕ) (slot : Slot) → finite.get slots s ≡ Some slot → OfMemory P s slot.place.memory
+
+memory_map : (P Q : Standing) → ((u s : List ℕ) (positions : Marks) → P u s positions → Q u s positions) → (s : List ℕ) (memory : Option Memory) → OfMemory P s memory → OfMemory Q s memory
+memory_map P Q f s None all = tt
+memory_map P Q f s (Some end) all =
+    all_map (λ (x : Session). P x.name s x.positions) (λ (x : Session). Q x.name s x.positions) (λ x is. f x.name s x.positions is) end.sessions all
+
+-- what a source remembers is so from now on
+source_put : (P : Standing) (slots : Slots) (s : List ℕ) (new : Slot) → OfSources P slots → OfMemory P s new.place.memory → OfSources P (finite.insert slots s new)
+source_put P slots s new all are r slot e =
+    put_there slots s new r (λ o. o ≡ Some slot → OfMemory P r slot.place.memory)
+    (λ is now. subst (λ (x : List ℕ × Slot). OfMemory P x.0 x.1.place.memory) (λ i. (sym is i, same_Some new slot now i)) are) (all r slot) e
+
+-- Sessions stand where they stood in a state, and nothing was sent since.
+record AreStill (old : State) (slots : Slots) (messages : List Message) : Type 0 where
+  sessions : OfSources (StandsAt old) slots
+  same : messages ≡ old.messages
+
+abbrev IsStill : State → State → Type 0
+IsStill old now = AreStill old now.sources now.messages
+
+-- Sessions have risen by the lines done and one more, and what was sent since is so by the lines done.
+record HaveRisen (past : List Line) (line : Line) (slots : Slots) (messages : List Message) : Type 0 where
+  sessions : OfSources (HasRisen (line ∷ past)) slots
+  more : List Message
+  longer : messages ≡ (state_after past).messages ++ more
+  each : (m : Message) → WasSent more m → IsSentRisen past m
+
+abbrev Stands : List Line → Line → State → Type 0
+Stands past line now = HaveRisen past line now.sources now.messages
+
+still_there : (old : State) → IsStill old old
+still_there old = record { sessions = λ s slot there. by_memory s slot there slot.place.memory refl; same = refl }
+  where
+    by_memory : (s : List ℕ) (slot : Slot) → slot_of old s ≡ Some slot → (memory : Option Memory) → slot.place.memory ≡ memory → OfMemory (StandsAt old) s memory
+    by_memory s slot there None runs = tt
+    by_memory s slot there (Some end) runs =
+        all_of (λ (x : Session). StandsAt old x.name s x.positions) end.sessions
+        (λ x has. record { slot = slot; declared = there; end = end; runs = runs; session = x; is_one = has; name = refl; is_there = refl })
+
+-- a session that stands where it stood has risen so
+stays : (past : List Line) (line : Line) → AreAllRisen past → (u s : List ℕ) (positions : Marks) → StandsAt (state_after past) u s positions → HasRisen (line ∷ past) u s positions
+stays past line all u s positions stood = inr (positions, stood, all.sessions u s positions stood, inl refl)
+
+still_stands : (past : List Line) (line : Line) (now : State) → AreAllRisen past → IsStill (state_after past) now → Stands past line now
+still_stands past line now all still = record {
+  sessions = λ s slot there. memory_map (StandsAt (state_after past)) (HasRisen (line ∷ past)) (stays past line all) s slot.place.memory (still.sessions s slot there);
+  more = [];
+  longer = still.same ∙ sym (append-nil (state_after past).messages);
+  each = λ m was. absurd was;
+}
+
+-- ---- moves
+
+-- a source is one that stands so from now on
+slot_moves : (past : List Line) (line : Line) (now : State) (s : List ℕ) (new : Slot) → Stands past line now → OfMemory (HasRisen (line ∷ past)) s new.place.memory → Stands past line (with_slot now s new)
+slot_moves past line now s new all are = record {
+  sessions = source_put (HasRisen (line ∷ past)) now.sources s new all.sessions are;
+  more = all.more;
+  longer = all.longer;
+  each = all.each;
+}
+
+-- what was sent is so, and so is one message more
+one_more : (past : List Line) (more : List Message) (m : Message) → ((n : Message) → WasSent more n → IsSentRisen past n) → IsSentRisen past m →
+    (n : Message) → WasSent (more ++ m ∷ []) n → IsSentRisen past n
+one_more past more m all is n was = by_either (sent_either more (m ∷ []) n was)
+  where
+    by_either : WasSent more n ⊎ WasSent (m ∷ []) n → IsSentRisen past n
+    by_either (inl before) = all n before
+    by_either (inr (inl e)) = subst (IsSentRisen past) e is
+    by_either (inr (inr none)) = absurd none
+
+-- a message is sent
+message_moves : (past : List Line) (line : Line) (now : State) (m : Message) → Stands past line now → IsSentRisen past m → Stands past line (with_message now m)
+message_moves past line now m all is = record {
+  sessions = all.sessions;
+  more = all.more ++ m ∷ [];
+  longer = ap (λ (messages : List Message). messages ++ m ∷ []) all.longer ∙ append_assoc (state_after past).messages all.more (m ∷ []);
+  each = one_more past all.more m all.each is;
+}
+
+-- ---- sources
+
+-- what a running source remembers is so
+end_is : (P : Standing) (now : State) (s : List ℕ) (slot : Slot) (end : Memory) → OfSources P now.sources → slot_of now s ≡ Some slot → slot.place.memory ≡ Some end → OfEach P s end.sessions
+end_is P now s slot end all there runs = subst (OfMemory P s) runs (all s slot there)
+
+-- a source that is opened remembers what it did, or no session
+opened_still : (old : State) (s : List ℕ) (slot : Slot) → slot_of old s ≡ Some slot → IsStill old (with_opened old s slot)
+opened_still old s slot there = record {
+  sessions = source_put (StandsAt old) old.sources s (slot_opened slot) (still_there old).sessions (by_memory slot.place.memory refl);
+  same = refl;
+}
+  where
+    by_memory : (memory : Option Memory) → slot.place.memory ≡ memory →
+        OfMemory (StandsAt old) s (opened_by slot.place (start_of (boot_of slot.place.rows + 1)) (start_effect slot.place.rows slot.capacity) memory).memory
+    by_memory (Some end) e = (still_there old).sessions s slot there
+    by_memory None e =
+        let effect : Effect LogFault = Ok (start_changes slot.place.rows slot.capacity) in
+        let fresh : Memory = start_of (boot_of slot.place.rows + 1) in
+        cond_both (is_boot_full slot.place.rows) (Err log_faults.Full) effect (λ (x : Effect LogFault). OfMemory (StandsAt old) s (starts slot.place fresh x).memory)
+        (λ full. (still_there old).sessions s slot there)
+        (λ room. cond_both (is_done (fate slot.place.armed (start_changes slot.place.rows slot.capacity))) (Some fresh) None (OfMemory (StandsAt old) s) (λ _. tt) (λ _. tt))
+
+at_source_stands : Lower → (past : List Line) (line : Line) (s : List ℕ) (change : State → Slot → Memory → State) → IsKept (state_after past) → AreAllRisen past →
+    ((now : State) (slot : Slot) (end : Memory) → IsKept now → IsStill (state_after past) now → Stands past line now → slot_of now s ≡ Some slot → slot.place.memory ≡ Some end →
+    Stands past line (change now slot end)) →
+    Stands past line (at_source (state_after past) s change)
+at_source_stands lower past line s change kept all holds =
+    at_source_any (state_after past) s change (λ now. IsKept now × IsStill (state_after past) now) (Stands past line)
+    (still_stands past line (state_after past) all (still_there (state_after past)))
+    (λ slot there. (with_opened_kept lower (state_after past) s slot kept there, opened_still (state_after past) s slot there)) (λ now both. still_stands past line now all both.1)
+    (λ now slot end both opened there runs. holds now slot end both.0 both.1 (still_stands past line now all both.1) there runs)
+
+-- an end with these sessions from now on
+end_moves : (past : List Line) (line : Line) (now : State) (s : List ℕ) (slot : Slot) (new : Memory) → Stands past line now → OfEach (HasRisen (line ∷ past)) s new.sessions →
+    Stands past line (with_end now s slot new)
+end_moves past line now s slot new all are = slot_moves past line now s (running_with slot new) all are
+
+write_stands : Lower → (past : List Line) (line : Line) (s : List ℕ) (event : Event) → IsKept (state_after past) → AreAllRisen past → Stands past line (write_step (state_after past) s event)
+write_stands lower past line s event kept all = at_source_stands lower past line s (write_at s event) kept all (λ now slot end kept_now still stands there runs.
+    by_effect now slot stands there (write_effect slot.place.rows event))
+  where
+    by_effect : (now : State) (slot : Slot) → Stands past line now → slot_of now s ≡ Some slot → (effect : Effect LogFault) → Stands past line (write_by now s slot event effect)
+    by_effect now slot stands there (Err fault) = stands
+    by_effect now slot stands there (Ok changes) =
+        slot_moves past line now s (slot_written slot event.channel (next_text slot.place.rows event) changes) stands
+        (cond_both (is_stopped (fate slot.place.armed changes)) None slot.place.memory (OfMemory (HasRisen (line ∷ past)) s) (λ _. tt) (λ _. stands.sessions s slot there))
+
+ask_stands : Lower → (past : List Line) (line : Line) (s : List ℕ) → IsKept (state_after past) → AreAllRisen past → Stands past line (ask_step (state_after past) s)
+ask_stands lower past line s kept all = at_source_stands lower past line s (ask_at s) kept all (λ now slot end kept_now still stands there runs.
+    let m : Message = sent.Ask s (id_of_value (next_id end)) in
+    cond_both (is_spent end) now (with_message (with_end now s slot (asked end)) m) (Stands past line) (λ spent. stands)
+    (λ left. message_moves past line (with_end now s slot (asked end)) m
+    (end_moves past line now s slot (asked end) stands (end_is (HasRisen (line ∷ past)) now s slot end stands.sessions there runs)) tt))
+
+lies_above : (b n : ℕ) (t : Bool) → nat_lt b n ≡ t → (n ≤ b → ⊥) → b < n
+lies_above b n true is never = lt_is b n is
+lies_above b n false is never = absurd (never (not_below b n is))
+
+above_is : (b : ℕ) (c : List ℕ) (batch : items.Batch) → SaysAbove b c batch.items → IsAbove b c batch
+above_is b c batch says = record {
+  events = λ n text e. lies_above b n (nat_lt b n) refl (λ low. none-some text (sym (says.no_event n low) ∙ e));
+  ranges = λ n e. lies_above b n (nat_lt b n) refl (λ low. not_both e (says.no_range n low));
+}
+
+sent_stands : Lower → (past : List Line) (line : Line) (now : State) (s u : List ℕ) (slot : Slot) (end : Memory) (session : Session) → AreAllRisen past → IsKept now →
+    IsStill (state_after past) now → Stands past line now → slot_of now s ≡ Some slot → slot.place.memory ≡ Some end → session_of end.sessions u ≡ Some session →
+    Stands past line (with_message (with_end now s slot (sent_by slot.place.rows end session now.moment)) (sent.Events s (delivery_of slot.place.rows end session)))
+sent_stands lower past line now s u slot end session all kept still stands there runs found =
+    let source = kept.sources s slot there in
+    let is = running_is now s slot end source runs in
+    let boot = is.0.boot in
+    let some = is.1 in
+    let served = first_is (IsServed now.collector.rows now.messages s) (is_named u) end.sessions session found is.0.sessions in
+    let stood = first_is (λ (x : Session). StandsAt (state_after past) x.name s x.positions) (is_named u) end.sessions session found
+    (end_is (StandsAt (state_after past)) now s slot end still.sessions there runs) in
+    let m : Message = sent.Events s (delivery_of slot.place.rows end session) in
+    let reads = lower.log_reads slot.place.rows slot.histories slot.capacity (boot_of slot.place.rows) (omega arith) source.window in
+    let new : Memory = sent_by slot.place.rows end session now.moment in
+    message_moves past line (with_end now s slot new) m
+    (end_moves past line now s slot new stands
+    (all_changed (λ (x : Session). HasRisen (line ∷ past) x.name s x.positions) (is_named session.name)
+    (sending (record { id = next_id end; to = (built slot.place.rows session).to }) now.moment) (λ x passes h. h) end.sessions
+    (end_is (HasRisen (line ∷ past)) now s slot end stands.sessions there runs)))
+    (record {
+      u = session.name;
+      to_subscription = served.terms.to_subscription;
+      positions = session.positions;
+      stood = stood;
+      alone = all.alone session.name s session.positions stood;
+      risen = all.sessions session.name s session.positions stood;
+      above = λ c. above_is (number_at session.positions c) c (built slot.place.rows session)
+          (built_above slot.place.rows slot.histories slot.capacity (boot_of slot.place.rows) session reads (session_within now s slot session kept there served) c);
+    })
+
+poll_stands : Lower → (past : List Line) (line : Line) (s u : List ℕ) → IsKept (state_after past) → AreAllRisen past → Stands past line (poll_step (state_after past) s u)
+poll_stands lower past line s u kept all = at_source_stands lower past line s (poll_at s u) kept all (λ now slot end kept_now still stands there runs.
+    by_session now slot end kept_now still stands there runs (session_of end.sessions u) refl)
+  where
+    by_session : (now : State) (slot : Slot) (end : Memory) → IsKept now → IsStill (state_after past) now → Stands past line now → slot_of now s ≡ Some slot → slot.place.memory ≡ Some end →
+        (o : Option Session) → session_of end.sessions u ≡ o → Stands past line (poll_in s now slot end o)
+    by_session now slot end kept_now still stands there runs None found = stands
+    by_session now slot end kept_now still stands there runs (Some session) found =
+        let sends : State = with_message (with_end now s slot (sent_by slot.place.rows end session now.moment)) (sent.Events s (delivery_of slot.place.rows end session)) in
+        cond_both (has_expired now.moment session) now (cond (is_idle slot.place.rows session) now (cond (is_spent end) now sends)) (Stands past line) (λ over. stands)
+        (λ on. cond_both (is_idle slot.place.rows session) now (cond (is_spent end) now sends) (Stands past line) (λ idle. stands)
+        (λ some. cond_both (is_spent end) now sends (Stands past line) (λ spent. stands) (λ left. sent_stands lower past line now s u slot end session all kept_now still stands there runs found)))
+
+-- what ends a session's waiting leaves it where it stands
+settled_stand : (past : List Line) (line : Line) (now : State) (s : List ℕ) (slot : Slot) (end : Memory) (test : Session → Bool) → Stands past line now → slot_of now s ≡ Some slot → slot.place.memory ≡ Some end →
+    OfEach (HasRisen (line ∷ past)) s (with_changed test settled end.sessions)
+settled_stand past line now s slot end test stands there runs =
+    all_changed (λ (x : Session). HasRisen (line ∷ past) x.name s x.positions) test settled (λ x passes h. h) end.sessions
+    (end_is (HasRisen (line ∷ past)) now s slot end stands.sessions there runs)
+
+lost_stands : Lower → (past : List Line) (line : Line) (s u : List ℕ) → IsKept (state_after past) → AreAllRisen past → Stands past line (lost_step (state_after past) s u)
+lost_stands lower past line s u kept all = at_source_stands lower past line s (lost_at s u) kept all (λ now slot end kept_now still stands there runs.
+    end_moves past line now s slot (lost_in end u) stands (settled_stand past line now s slot end (is_named u) stands there runs))
+
+same_end_stands : (past : List Line) (line : Line) (now : State) (s : List ℕ) (slot : Slot) (end : Memory) → Stands past line now → slot_of now s ≡ Some slot → slot.place.memory ≡ Some end →
+    Stands past line (with_end now s slot end)
+same_end_stands past line now s slot end stands there runs = end_moves past line now s slot end stands (end_is (HasRisen (line ∷ past)) now s slot end stands.sessions there runs)
+
+fault_stands : Lower → (past : List Line) (line : Line) (s : List ℕ) (relates : MessageId) (fault : FaultName) → IsKept (state_after past) → AreAllRisen past →
+    Stands past line (at_source (state_after past) s (end_at s (λ end. after_fault end relates fault)))
+fault_stands lower past line s relates fault kept all =
+    at_source_stands lower past line s (end_at s (λ end. after_fault end relates fault)) kept all (λ now slot end kept_now still stands there runs.
+    cond_both (is_some (waiting_for end relates.value)) (refused_by end relates.value fault) end (λ (after : Memory). Stands past line (with_end now s slot after))
+    (λ waits. by_id now slot end stands there runs relates.value) (λ none. same_end_stands past line now s slot end stands there runs))
+  where
+    by_id : (now : State) (slot : Slot) (end : Memory) → Stands past line now → slot_of now s ≡ Some slot → slot.place.memory ≡ Some end → (o : Option ℕ) → Stands past line (with_end now s slot (refused_by end o fault))
+    by_id now slot end stands there runs None = same_end_stands past line now s slot end stands there runs
+    by_id now slot end stands there runs (Some id) =
+        end_moves past line now s slot (refused_in end id fault) stands
+        (cond_both (is_unreachable fault) (without (waits_for id) end.sessions) (with_changed (waits_for id) settled end.sessions) (OfEach (HasRisen (line ∷ past)) s)
+        (λ gone. all_without (λ (session : Session). HasRisen (line ∷ past) session.name s session.positions) (waits_for id) end.sessions
+        (end_is (HasRisen (line ∷ past)) now s slot end stands.sessions there runs))
+        (λ stays. settled_stand past line now s slot end (waits_for id) stands there runs))
+
+-- ---- acknowledgements
+
+-- A session is served, and stands where it stood.
+abbrev ServedThere : State → State → List ℕ → Session → Type 0
+ServedThere old now s session = IsServed now.collector.rows now.messages s session × StandsAt old session.name s session.positions
+
+all_both : {X : Type 0} (P Q : X → Type 0) (xs : List X) → AllByRecursion P xs → AllByRecursion Q xs → AllByRecursion (λ x. P x × Q x) xs
+all_both P Q [] p q = tt
+all_both P Q (x ∷ xs) p q = ((p.0, q.0), all_both P Q xs p.1 q.1)
+
+-- the first that passes is changed, and each other one stays
+all_moved : (P Q : Session → Type 0) (test : Session → Bool) (change : Session → Session) → ((x : Session) → P x → Q x) → ((x : Session) → test x ≡ true → P x → Q (change x)) →
+    (ss : List Session) → AllByRecursion P ss → AllByRecursion Q (with_changed test change ss)
+all_moved P Q test change same moves [] all = tt
+all_moved P Q test change same moves (x ∷ ss) all = by_test (test x) refl (all_moved P Q test change same moves ss all.1)
+  where
+    by_test : (t : Bool) → test x ≡ t → AllByRecursion Q (with_changed test change ss) → AllByRecursion Q (cond t (change x ∷ ss) (x ∷ with_changed test change ss))
+    by_test true is rest = (moves x is all.0, all_map P Q same ss all.1)
+    by_test false is rest = (same x all.0, rest)
+
+-- an acknowledgement of what a session waits for raises it
+acknowledged_risen : (past : List Line) (line : Line) (now : State) (s : List ℕ) (reply relates : MessageId) (id : ℕ) (session : Session) → AreAllRisen past → IsKept now →
+    now.messages ≡ (state_after past).messages → delivered line (state_after past) ≡ Some (sent.Ack s reply relates) → WasSent now.messages (sent.Ack s reply relates) →
+    relates.value ≡ Some id → waits_for id session ≡ true → ServedThere (state_after past) now s session → HasRisen (line ∷ past) (acknowledged session).name s (acknowledged session).positions
+acknowledged_risen past line now s reply relates id session all kept same delivers was at waits both = by_outstanding session.outstanding waits both.0.outstanding
+  where
+    is : IsAckKept now.collector.rows now.messages s relates
+    is = kept.messages (sent.Ack s reply relates) was
+
+    by_message : (m : Message) (to : Marks) → WasSent now.messages m → source_of m ≡ s → relates ≡ own_id m → read_by m ≡ Some (session.notify_to, to) →
+        HasRisen (line ∷ past) session.name s (joined session.positions to)
+    by_message (sent.Ask r i) to was_sent from own reads = absurd (none-some (session.notify_to, to) reads)
+    by_message (sent.Offers r i related given) to was_sent from own reads = absurd (none-some (session.notify_to, to) reads)
+    by_message (sent.Events r delivery) to was_sent from own reads =
+        let both_same = same_Some (delivery.notify_to, delivery.batch.to) (session.notify_to, to) reads in
+        inr (
+          session.positions,
+          both.1,
+          all.sessions session.name s session.positions both.1,
+          inr (record {
+            delivery = delivery;
+            was_sent = subst (λ (x : List Message × List ℕ). WasSent x.0 (sent.Events x.1 delivery)) (λ i. (same i, from i)) was_sent;
+            to_subscription = ap (λ (x : List ℕ × Marks). subscription_in x.0) both_same ∙ both.0.terms.to_subscription;
+            reply = reply;
+            delivers = delivers ∙ ap (λ (x : MessageId). Some (sent.Ack s reply x)) own;
+            is_there = ap (λ (x : List ℕ × Marks). joined session.positions x.1) (sym both_same);
+          }),
+        )
+    by_message (sent.Ack r i related) to was_sent from own reads = absurd (none-some (session.notify_to, to) reads)
+    by_message (sent.Fault r i related fault) to was_sent from own reads = absurd (none-some (session.notify_to, to) reads)
+
+    by_outstanding : (o : Option Outstanding) → is_outstanding id o ≡ true → WaitsFor now.messages s session.notify_to o →
+        HasRisen (line ∷ past) (moved_by o session).name s (moved_by o session).positions
+    by_outstanding None passes waited = stays past line all session.name s session.positions both.1
+    by_outstanding (Some outstanding) passes waited =
+        let own : outstanding.id ≡ id = equal_numbers outstanding.id id passes in
+        let one = acknowledged_message now.collector.rows now.messages s relates id outstanding.id waited.0 (are_one now.messages kept.requests) is.is waited.1 waited.2 waited.3 own at in
+        by_message waited.0 outstanding.to waited.1 waited.2 (is.is.id ∙ ap own_id (sym one)) waited.4
+
+ack_stands : Lower → (past : List Line) (line : Line) (s : List ℕ) (reply relates : MessageId) → IsKept (state_after past) → AreAllRisen past →
+    delivered line (state_after past) ≡ Some (sent.Ack s reply relates) → WasSent (state_after past).messages (sent.Ack s reply relates) →
+    Stands past line (at_source (state_after past) s (end_at s (λ end. after_ack end relates)))
+ack_stands lower past line s reply relates kept all delivers was =
+    at_source_stands lower past line s (end_at s (λ end. after_ack end relates)) kept all (λ now slot end kept_now still stands there runs.
+    cond_both (is_some (waiting_for end relates.value)) (acknowledged_by end relates.value) end (λ (after : Memory). Stands past line (with_end now s slot after))
+    (λ waits. by_id now slot end kept_now still stands there runs relates.value refl) (λ none. same_end_stands past line now s slot end stands there runs))
+  where
+    by_id : (now : State) (slot : Slot) (end : Memory) → IsKept now → IsStill (state_after past) now → Stands past line now → slot_of now s ≡ Some slot → slot.place.memory ≡ Some end →
+        (o : Option ℕ) → relates.value ≡ o → Stands past line (with_end now s slot (acknowledged_by end o))
+    by_id now slot end kept_now still stands there runs None at = same_end_stands past line now s slot end stands there runs
+    by_id now slot end kept_now still stands there runs (Some id) at =
+        let served = (running_is now s slot end (kept_now.sources s slot there) runs).0.sessions in
+        let was_now = subst (λ (ms : List Message). WasSent ms (sent.Ack s reply relates)) (sym still.same) was in
+        end_moves past line now s slot (acknowledged_in end id) stands
+        (all_moved (ServedThere (state_after past) now s) (λ (session : Session). HasRisen (line ∷ past) session.name s session.positions) (waits_for id) acknowledged
+        (λ session both. stays past line all session.name s session.positions both.1)
+        (λ session waits both. acknowledged_risen past line now s reply relates id session all kept_now still.same delivers was_now at waits both) end.sessions
+        (all_both (IsServed now.collector.rows now.messages s) (λ (session : Session). StandsAt (state_after past) session.name s session.positions) end.sessions served
+        (end_is (StandsAt (state_after past)) now s slot end still.sessions there runs)))
+
+-- ---- offers
+
+-- an offer begins a session of each subscription that its address leads to
+abbrev Begins : List Line → Line → List ℕ → Offer → Type 0
+Begins past line s offer = (u : List ℕ) → subscription_in offer.subscribe.notify_to ≡ Some u →
+    HasBegun past line u s (with_channels offer.subscribe.from (channels_of offer.subscribe.query.items))
+
+all_begun : (past : List Line) (line : Line) (s : List ℕ) (id relates : MessageId) (given : List Offer) → delivered line (state_after past) ≡ Some (sent.Offers s id relates given) →
+    IsMessageRisen past (sent.Offers s id relates given) → AllByRecursion (Begins past line s) given
+all_begun past line s id relates given delivers is = all_of (Begins past line s) given (λ offer has u leads. record {
+  id = id;
+  relates = relates;
+  offers = given;
+  delivers = delivers;
+  offer = offer;
+  is_one = has;
+  to_subscription = leads;
+  earlier = is.earlier;
+  was_sent = is.was_sent;
+  from = one_of (BeginsAt (state_after is.earlier) s) given offer is.is has u leads;
+  is_there = λ c. with_channels_number offer.subscribe.from (channels_of offer.subscribe.query.items) c;
+})
+
+offered_stand : (past : List Line) (line : Line) (s : List ℕ) (now : ℕ) (ss : List Session) (given : List Offer) → AllByRecursion (Begins past line s) given →
+    OfEach (HasRisen (line ∷ past)) s ss → OfEach (HasRisen (line ∷ past)) s (with_offers now ss given)
+offered_stand past line s now ss [] are all = all
+offered_stand past line s now ss (offer ∷ given) are all =
+    offered_stand past line s now (with_offered now ss offer.subscribe (subscription_in offer.subscribe.notify_to)) given are.1
+    (by_address (subscription_in offer.subscribe.notify_to) refl)
+  where
+    by_address : (o : Option (List ℕ)) → subscription_in offer.subscribe.notify_to ≡ o → OfEach (HasRisen (line ∷ past)) s (with_offered now ss offer.subscribe o)
+    by_address None leads = all
+    by_address (Some u) leads =
+        all_with_session (λ (session : Session). HasRisen (line ∷ past) session.name s session.positions) ss (session_from now offer.subscribe u) (inl (are.0 u leads)) all
+
+offers_stand : Lower → (past : List Line) (line : Line) (s : List ℕ) (id relates : MessageId) (given : List Offer) → IsKept (state_after past) → AreAllRisen past →
+    delivered line (state_after past) ≡ Some (sent.Offers s id relates given) → IsMessageRisen past (sent.Offers s id relates given) →
+    Stands past line (at_source (state_after past) s (end_at s (λ end. after_offers end relates given (state_after past).moment)))
+offers_stand lower past line s id relates given kept all delivers is =
+    let moment = (state_after past).moment in
+    at_source_stands lower past line s (end_at s (λ end. after_offers end relates given moment)) kept all (λ now slot end kept_now still stands there runs.
+    cond_both (ids_agree end.ask relates.value) (adopted end given moment) end (λ (after : Memory). Stands past line (with_end now s slot after))
+    (λ asked_for. end_moves past line now s slot (adopted end given moment) stands
+    (offered_stand past line s moment (filter is_leased end.sessions) given (all_begun past line s id relates given delivers is)
+    (all_filtered (λ (session : Session). HasRisen (line ∷ past) session.name s session.positions) is_leased end.sessions
+    (end_is (HasRisen (line ∷ past)) now s slot end stands.sessions there runs))))
+    (λ other. same_end_stands past line now s slot end stands there runs))
+
+-- ---- the collector
+
+reply_stands : (past : List Line) (line : Line) (now : State) (count : ℕ) (m : Message) → Stands past line now → IsSentRisen past m → Stands past line (with_reply count now m)
+reply_stands past line now count m stands is = message_moves past line (with_collector now (draws count now.collector)) m stands is
+
+asked_stands : Lower → (past : List Line) (line : Line) (s : List ℕ) (id : MessageId) → IsKept (state_after past) → Stands past line (state_after past) → WasSent (state_after past).messages (sent.Ask s id) →
+    Stands past line (at_collector (state_after past) (offers_at s id))
+asked_stands lower past line s id kept stands was =
+    at_collector_any (state_after past) (offers_at s id) (Stands past line) stands (λ memory runs.
+    let now = collecting.with_opened (state_after past) in
+    let kept_now = collector_opened_kept lower (state_after past) kept in
+    of_declared (slot_of now s) (λ (slot : Slot). WasDrawn slot id.value) (Stands past line (offers_at s id memory now)) (kept_now.messages (sent.Ask s id) was) (λ slot there drawn.
+    reply_stands past line now (length (offers now.collector.rows s host) + 1) (sent.Offers s (reply_id memory) id (offers now.collector.rows s host)) stands
+    (all_map (BeginsAtRows now.collector.rows s) (BeginsAt (state_after past) s) (λ offer begins u leads. begins u leads ∙ opened_bookmark (state_after past) u s)
+    (offers now.collector.rows s host) (all_begin now.collector.rows s host kept_now.keys (kept_now.sources s slot there).name))))
+
+events_stand : (past : List Line) (line : Line) (s : List ℕ) (delivery : Delivery) → Stands past line (state_after past) → Stands past line (at_collector (state_after past) (events_at s delivery))
+events_stand past line s delivery stands =
+    at_collector_any (state_after past) (events_at s delivery) (Stands past line) stands
+    (λ memory runs. by_effect memory (delivery_effect (collecting.with_opened (state_after past)).collector.rows delivery (state_after past).moment))
+  where
+    by_fate : (memory : Remembered) (new : State) → Stands past line new → (how : Fate) → Stands past line (with_answer new (answer_by how s (reply_id memory) delivery))
+    by_fate memory new now Stopped = now
+    by_fate memory new now Failed = reply_stands past line new 1 (sent.Fault s (reply_id memory) delivery.id InternalError) now tt
+    by_fate memory new now Done =
+        cond_both delivery.batch.ack_wanted (Some (sent.Ack s (reply_id memory) delivery.id)) None (λ (answer : Option Message). Stands past line (with_answer new answer))
+        (λ _. reply_stands past line new 1 (sent.Ack s (reply_id memory) delivery.id) now tt) (λ _. now)
+
+    by_effect : (memory : Remembered) (effect : BatchEffect) → Stands past line (events_by (collecting.with_opened (state_after past)) effect s (reply_id memory) delivery)
+    by_effect memory (Err fault) = reply_stands past line (collecting.with_opened (state_after past)) 1 (sent.Fault s (reply_id memory) delivery.id fault) stands tt
+    by_effect memory (Ok changes) =
+        let opened = collecting.with_opened (state_after past) in
+        by_fate memory (with_collector opened (commits opened.collector changes)) stands (fate opened.collector.armed changes)
+
+-- ---- lines
+
+taken_stands : Lower → (past : List Line) (line : Line) (m : Message) → IsKept (state_after past) → AreAllRisen past → Stands past line (state_after past) →
+    delivered line (state_after past) ≡ Some m → WasSent (state_after past).messages m → Stands past line (taken_by (state_after past) m)
+taken_stands lower past line (sent.Ask s id) kept all stands delivers was = asked_stands lower past line s id kept stands was
+taken_stands lower past line (sent.Offers s id relates given) kept all stands delivers was = offers_stand lower past line s id relates given kept all delivers (all.sent (sent.Offers s id relates given) was)
+taken_stands lower past line (sent.Events s delivery) kept all stands delivers was = events_stand past line s delivery stands
+taken_stands lower past line (sent.Ack s id relates) kept all stands delivers was = ack_stands lower past line s id relates kept all delivers was
+taken_stands lower past line (sent.Fault s id relates fault) kept all stands delivers was = fault_stands lower past line s relates fault kept all
+
+deliver_stands : Lower → (past : List Line) (line : Line) (k : ℕ) → IsKept (state_after past) → AreAllRisen past → Stands past line (state_after past) →
+    delivered line (state_after past) ≡ message_at (state_after past) k → Stands past line (deliver_step (state_after past) k)
+deliver_stands lower past line k kept all stands delivers = by_message (message_at (state_after past) k) refl
+  where
+    by_message : (o : Option Message) → message_at (state_after past) k ≡ o → Stands past line (deliver_message (state_after past) o)
+    by_message None e = stands
+    by_message (Some m) e = taken_stands lower past line m kept all stands (delivers ∙ e) (sent_by_number (state_after past) k m e)
+
+-- what is done to a source's end that leaves what it remembers, or drops it
+declared_stands : (past : List Line) (line : Line) (s : List ℕ) (change : Place Memory → Place Memory) → Stands past line (state_after past) →
+    ((slot : Slot) → slot_of (state_after past) s ≡ Some slot → OfMemory (HasRisen (line ∷ past)) s (change slot.place).memory) →
+    Stands past line (at_declared (state_after past) s change (slot_of (state_after past) s))
+declared_stands past line s change stands are = by_slot (slot_of (state_after past) s) refl
+  where
+    by_slot : (o : Option Slot) → slot_of (state_after past) s ≡ o → Stands past line (at_declared (state_after past) s change o)
+    by_slot None there = stands
+    by_slot (Some slot) there = slot_moves past line (state_after past) s (slot_with slot (change slot.place)) stands (are slot there)
+
+crash_stands : (past : List Line) (line : Line) (end : EndName) → Stands past line (state_after past) → Stands past line (crash_step (state_after past) end)
+crash_stands past line ends.Collector stands = stands
+crash_stands past line (ends.Source s) stands = declared_stands past line s crashed stands (λ slot there. tt)
+
+arm_stands : (past : List Line) (line : Line) (end : EndName) (armed : Armed) → Stands past line (state_after past) → Stands past line (arm_step (state_after past) end armed)
+arm_stands past line ends.Collector armed stands = stands
+arm_stands past line (ends.Source s) armed stands = declared_stands past line s (λ place. armed_with place armed) stands (λ slot there. stands.sessions s slot there)
+
+calm_stands : (past : List Line) (line : Line) → Stands past line (state_after past) → Stands past line (calm_step (state_after past))
+calm_stands past line stands = record {
+  sessions = λ s slot e.
+      from_mapped calmed_slot (finite.get (state_after past).sources s) slot (λ (x : Slot). OfMemory (HasRisen (line ∷ past)) s x.place.memory) (sym (calmed_at (state_after past).sources s) ∙ e)
+      (λ old there. stands.sessions s old there);
+  more = stands.more;
+  longer = stands.longer;
+  each = stands.each;
+}
+
+-- what the step of a line leaves, where this line delivers the same
+step_stands : Lower → (past : List Line) (line l : Line) → IsKept (state_after past) → AreAllRisen past → Stands past line (state_after past) →
+    delivered line (state_after past) ≡ delivered l (state_after past) → Stands past line (step l (state_after past))
+step_stands lower past line (Subscribe u items bytes beat query) kept all stands delivers =
+    at_collector_any (state_after past) (λ memory. subscribe_at (subscription_of u items bytes beat query)) (Stands past line) stands (λ memory runs. stands)
+step_stands lower past line (End u) kept all stands delivers = at_collector_any (state_after past) (λ memory. ended_at u) (Stands past line) stands (λ memory runs. stands)
+step_stands lower past line (Batch u s b) kept all stands delivers = at_collector_any (with_foreign (state_after past) s) (λ memory. batch_at u s b) (Stands past line) stands (λ memory runs. stands)
+step_stands lower past line (Source s capacity) kept all stands delivers = slot_moves past line (state_after past) s (declared_slot capacity) stands tt
+step_stands lower past line (Write s plain) kept all stands delivers = write_stands lower past line s (new_event plain) kept all
+step_stands lower past line (WriteXml s event) kept all stands delivers = write_stands lower past line s event kept all
+step_stands lower past line (Ask s) kept all stands delivers = ask_stands lower past line s kept all
+step_stands lower past line (Poll s u) kept all stands delivers = poll_stands lower past line s u kept all
+step_stands lower past line (Deliver k seen) kept all stands delivers = deliver_stands lower past line k kept all stands delivers
+step_stands lower past line (Back n) kept all stands delivers = deliver_stands lower past line (number_back (state_after past) n) kept all stands delivers
+step_stands lower past line (Lost s u) kept all stands delivers = lost_stands lower past line s u kept all
+step_stands lower past line (Crash end) kept all stands delivers = crash_stands past line end stands
+step_stands lower past line (Fail end after) kept all stands delivers = arm_stands past line end (record { after = after; stops = false }) stands
+step_stands lower past line (Stop end after) kept all stands delivers = arm_stands past line end (record { after = after; stops = true }) stands
+step_stands lower past line Calm kept all stands delivers = calm_stands past line stands
+step_stands lower past line Show kept all stands delivers = at_collector_any (state_after past) (λ memory. unchanged) (Stands past line) stands (λ memory runs. stands)
+step_stands lower past line (Print u s c) kept all stands delivers = at_collector_any (state_after past) (λ memory. unchanged) (Stands past line) stands (λ memory runs. stands)
+
+-- ---- schedules
+
+-- a message that was sent was sent where it was, whatever is done then
+sent_still : (past : List Line) (line : Line) (m : Message) → IsMessageRisen past m → IsMessageRisen (line ∷ past) m
+sent_still past line m is =
+    let was = is.was_sent in
+    record {
+      earlier = is.earlier;
+      was_sent = record { line = was.line; later = line ∷ was.later; are = ap (λ (lines : List Line). line ∷ lines) was.are; sends = was.sends };
+      is = is.is;
+    }
+
+-- a message that the line sent was sent where the others had led
+sent_now : (past : List Line) (line : Line) (more : List Message) → (step line (state_after past)).messages ≡ (state_after past).messages ++ more → (m : Message) → WasSent more m → IsSentRisen past m →
+    IsMessageRisen (line ∷ past) m
+sent_now past line more longer m among is = record {
+  earlier = past;
+  was_sent = record { line = line; later = []; are = refl; sends = record { more = more; are = longer; is_one = among } };
+  is = is;
+}
+
+-- a source has one session of a name
+alone_there : (state : State) (u s : List ℕ) (positions : Marks) → IsKept state → (at : StandsAt state u s positions) → IsAlone at
+alone_there state u s positions kept at =
+    alone_of_name at.end.sessions at.is_one.0 at.session (running_is state s at.slot at.end (kept.sources s at.slot at.declared) at.runs).0.in_order at.is_one.1 at.is_one.2
+
+line_rises : Lower → (past : List Line) (line : Line) → IsKept (state_after past) → IsKept (state_after (line ∷ past)) → AreAllRisen past → AreAllRisen (line ∷ past)
+line_rises lower past line kept kept_now all =
+    let old = state_after past in
+    let now = step_stands lower past line line kept all (still_stands past line old all (still_there old)) refl in
+    record {
+      alone = λ u s positions at. alone_there (state_after (line ∷ past)) u s positions kept_now at;
+      sessions = λ u s positions at.
+          let P = λ (x : Session). HasRisen (line ∷ past) x.name s x.positions in
+          let each = subst (OfMemory (HasRisen (line ∷ past)) s) at.runs (now.sessions s at.slot at.declared) in
+          subst (λ (x : List ℕ × Marks). HasRisen (line ∷ past) x.0 s x.1) (λ i. (at.name i, at.is_there i)) (one_of P at.end.sessions at.session each at.is_one);
+      sent = λ m was. elim (sent_either old.messages now.more m (subst (λ (ms : List Message). WasSent ms m) now.longer was)) [
+        | inl before ↦ sent_still past line m (all.sent m before)
+        | inr last ↦ sent_now past line now.more now.longer m last (now.each m last)
+      ];
+    }
+
+all_rise : Lower → (past lines : List Line) → IsKept (state_after past) → AreAllRisen past → AreAdmitted (state_after past) lines → AllByRecursion AreAllRisen (pasts_from past lines)
+all_rise lower past [] kept all admitted = (all, tt)
+all_rise lower past (line ∷ lines) kept all admitted =
+    let kept_now = steps_keep lower (state_after past) line kept admitted.0 in
+    (all, all_rise lower (line ∷ past) lines kept_now (line_rises lower past line kept kept_now all) admitted.1)
+
+start_rises : AreAllRisen []
+start_rises = record {
+  alone = λ u s positions at. absurd (none-some at.slot (sym (finite.get-empty (slice_cmp nat_cmp) s) ∙ at.declared));
+  sessions = λ u s positions at. absurd (none-some at.slot (sym (finite.get-empty (slice_cmp nat_cmp) s) ∙ at.declared));
+  sent = λ m was. absurd was;
+}
+
+pub sessions_rise : Lower → SessionsRise
+sessions_rise lower lines admitted = all_rise lower [] lines (start_is_kept lower) start_rises admitted

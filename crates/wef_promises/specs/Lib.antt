@@ -1,0 +1,4 @@
+pub mod Admitting
+pub mod Drawing
+pub mod Laws
+pub mod Rising

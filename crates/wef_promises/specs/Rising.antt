@@ -1,0 +1,152 @@
+-- Where sessions stand: each begins at the bookmark that was kept when its offer was sent, rises by acknowledged batches
+-- alone, and sends batches that lie above where it stands. It is said of the lines that were done, the last first, from
+-- a world in which nothing has happened.
+use Rattle.std.specs.Prelude.{◌≡◌, ℕ, ◌<◌, true, List, [], ◌∷◌, ◌++◌, Option, Some, None, ◌⊎◌, Contains}
+use Rattle.std.specs.List.{AllByRecursion, filter}
+use Rattle.wef_batch.specs.declared.items.Batch.{Batch}
+use Rattle.wef_bookmark.specs.Order.{Marks, joined, number_at}
+use Rattle.wef_collector_rows.specs.Bookmarks.{bookmark_of}
+use Rattle.wef_ids.specs.declared.MessageId.{MessageId}
+use Rattle.wef_eventing.specs.Addresses.{subscription_in}
+use Rattle.wef_eventing.specs.declared.offers.Offer.{Offer}
+use Rattle.wef_replay.specs.declared.lines.Line.{Line}
+use Rattle.wef_replay.specs.declared.lines.Line.TheVariants.{Deliver, Back}
+use Rattle.wef_building.specs.Fits.{event_at, ranges_in}
+use Rattle.wef_source.specs.Machine.{End}
+use Rattle.wef_source.specs.Sessions.{is_named}
+use Rattle.wef_building.specs.Wanted.{in_ranges}
+use Rattle.wef_source.specs.declared.messages.Delivery.{Delivery}
+use Rattle.wef_building.specs.declared.sessions.Session.{Session}
+use Rattle.wef_machine.specs.Deliveries.{message_at, number_back}
+use Rattle.wef_safety.specs.Safe.{WasSent}
+use Rattle.wef_machine.specs.States.{Slot, State, slot_of, start}
+use Rattle.wef_machine.specs.Steps.{AreAdmitted, step}
+use Rattle.wef_machine.specs.declared.messages.Message.{Message}
+use Rattle.wef_machine.specs.declared.messages.Message.TheVariants.{Ask, Offers, Events, Ack, Fault}
+
+-- the state that lines leave
+abbrev pub state_after : List Line → State
+state_after [] = start
+state_after (line ∷ past) = step line (state_after past)
+
+-- the message that a line delivers
+abbrev pub delivered : Line → State → Option Message
+delivered (Deliver k seen) state = message_at state k
+delivered (Back n) state = message_at state (number_back state n)
+delivered _ state = None
+
+-- A line sends a message in a state: it is one of those that there are then behind those that were sent before.
+pub record Sends (line : Line) (state : State) (m : Message) : Type 0 where
+  -- what the line sends
+  pub more : List Message
+  pub are : (step line state).messages ≡ state.messages ++ more
+  pub is_one : WasSent more m
+
+-- A message was sent by one of the lines done, in the state that the earlier of them had left.
+pub record WasSentAt (past : List Line) (m : Message) (earlier : List Line) : Type 0 where
+  pub line : Line
+  pub later : List Line
+  pub are : past ≡ later ++ line ∷ earlier
+  pub sends : Sends line (state_after earlier) m
+
+-- In a state the source runs, and has a session of the subscription's name that stands at these positions.
+pub record StandsAt (state : State) (u s : List ℕ) (positions : Marks) : Type 0 where
+  pub slot : Slot
+  pub declared : slot_of state s ≡ Some slot
+  pub end : End
+  pub runs : slot.place.memory ≡ Some end
+  pub session : Session
+  pub is_one : Contains end.sessions session
+  pub name : session.name ≡ u
+  pub is_there : session.positions ≡ positions
+
+-- no other session of the source has its name
+abbrev pub IsAlone : {state : State} {u s : List ℕ} {positions : Marks} → StandsAt state u s positions → Type 0
+IsAlone at = filter (is_named at.session.name) at.end.sessions ≡ at.session ∷ []
+
+-- an offer to a source begins at the bookmark that the collector's rows have in a state
+abbrev pub BeginsAt : State → List ℕ → Offer → Type 0
+BeginsAt state s offer = (u : List ℕ) → subscription_in offer.subscribe.notify_to ≡ Some u → offer.subscribe.from ≡ bookmark_of state.collector.rows u s
+
+-- A line began a session at these positions: it delivered offers, and they are where the subscription's own begins.
+pub record HasBegun (past : List Line) (line : Line) (u s : List ℕ) (positions : Marks) : Type 0 where
+  -- the message that was delivered
+  pub id : MessageId
+  pub relates : MessageId
+  pub offers : List Offer
+  pub delivers : delivered line (state_after past) ≡ Some (Offers s id relates offers)
+  -- its offer of the subscription
+  pub offer : Offer
+  pub is_one : Contains offers offer
+  pub to_subscription : subscription_in offer.subscribe.notify_to ≡ Some u
+  -- it begins at the bookmark of the very state in which the message was sent
+  pub earlier : List Line
+  pub was_sent : WasSentAt past (Offers s id relates offers) earlier
+  pub from : offer.subscribe.from ≡ bookmark_of (state_after earlier).collector.rows u s
+  -- there the session stands
+  pub is_there : (c : List ℕ) → number_at positions c ≡ number_at offer.subscribe.from c
+
+-- A line raised a session from some positions to others: it delivered the acknowledgement of a batch that the session had
+-- sent, and each channel's position is the greater of its own and that of the batch's bookmark.
+pub record WasRaised (line : Line) (state : State) (u s : List ℕ) (before positions : Marks) : Type 0 where
+  pub delivery : Delivery
+  pub was_sent : WasSent state.messages (Events s delivery)
+  pub to_subscription : subscription_in delivery.notify_to ≡ Some u
+  pub reply : MessageId
+  pub delivers : delivered line state ≡ Some (Ack s reply delivery.id)
+  pub is_there : positions ≡ joined before delivery.batch.to
+
+-- How a session came to stand at positions: the last of the lines done began it there; or it was there before that line,
+-- had come so to where it stood, and was left there or raised to here by an acknowledged batch.
+abbrev pub HasRisen : List Line → List ℕ → List ℕ → Marks → Type 0
+HasRisen [] u s positions = ⊥
+HasRisen (line ∷ past) u s positions =
+    HasBegun past line u s positions
+    ⊎ ((before : Marks) × StandsAt (state_after past) u s before × HasRisen past u s before
+    × ((before ≡ positions) ⊎ WasRaised line (state_after past) u s before positions))
+
+-- What a batch says of a channel lies above a number.
+pub record IsAbove (b : ℕ) (c : List ℕ) (batch : Batch) : Type 0 where
+  pub events : (n : ℕ) (text : List ℕ) → event_at c n batch.items ≡ Some text → b < n
+  pub ranges : (n : ℕ) → in_ranges (ranges_in c batch.items) n ≡ true → b < n
+
+-- A delivery of a source lies above where the one session of its subscription stood as it was sent, which had risen so.
+pub record StandsAbove (earlier : List Line) (s : List ℕ) (delivery : Delivery) : Type 0 where
+  pub u : List ℕ
+  pub to_subscription : subscription_in delivery.notify_to ≡ Some u
+  pub positions : Marks
+  pub stood : StandsAt (state_after earlier) u s positions
+  pub alone : IsAlone stood
+  pub risen : HasRisen earlier u s positions
+  pub above : (c : List ℕ) → IsAbove (number_at positions c) c delivery.batch
+
+-- what is true of a message, by the lines that were done before it was sent
+abbrev pub IsSentRisen : List Line → Message → Type 0
+IsSentRisen earlier (Ask s id) = Unit {0}
+IsSentRisen earlier (Offers s id relates offers) = AllByRecursion (BeginsAt (state_after earlier) s) offers
+IsSentRisen earlier (Events s delivery) = StandsAbove earlier s delivery
+IsSentRisen earlier (Ack s id relates) = Unit {0}
+IsSentRisen earlier (Fault s id relates fault) = Unit {0}
+
+-- A message was sent by one of the lines done, and is so by the state in which it was sent.
+pub record IsMessageRisen (past : List Line) (m : Message) : Type 0 where
+  pub earlier : List Line
+  pub was_sent : WasSentAt past m earlier
+  pub is : IsSentRisen earlier m
+
+-- It is so of all sessions and all messages that there are once lines are done, and no source has two sessions of one name.
+pub record AreAllRisen (past : List Line) : Type 0 where
+  pub alone : (u s : List ℕ) (positions : Marks) (at : StandsAt (state_after past) u s positions) → IsAlone at
+  pub sessions : (u s : List ℕ) (positions : Marks) → StandsAt (state_after past) u s positions → HasRisen past u s positions
+  pub sent : (m : Message) → WasSent (state_after past).messages m → IsMessageRisen past m
+
+-- the lines done before each line, and all of them, the last first
+abbrev pub pasts_from : List Line → List Line → List (List Line)
+pasts_from past [] = past ∷ []
+pasts_from past (line ∷ lines) = past ∷ pasts_from (line ∷ past) lines
+
+-- In every state of a good schedule a source has one session of a name at most, and each session stands where a line began
+-- it, at the bookmark that was kept when its offer was sent, or where acknowledged batches have raised it since; and each
+-- batch that was sent lies above where its session stood as it was sent.
+abbrev pub SessionsRise : Type 0
+SessionsRise = (lines : List Line) → AreAdmitted start lines → AllByRecursion AreAllRisen (pasts_from [] lines)

@@ -1,0 +1,160 @@
+-- Each ask and each delivery that a source of a kept world sends can be written as bytes.
+use Rattle.std.proofs.Common.{◌≡◌, ℕ, ◌+◌, ◌*◌, ◌<◌, ◌≤◌, ◌^◌, ◌&&◌, Bool, true, false, List, [], ◌∷◌, nat_le, refl, sym, ◌∙◌, subst, arith}
+use Rattle.std.proofs.lemmas.Bool.{and_parts}
+use Rattle.std.proofs.lemmas.Bool.Decides.{nat_tests}
+use Rattle.std.proofs.lemmas.Option.{none-some}
+use Rattle.std.specs.Prelude.{Option, Some, None, IfSome, unwrap_or}
+use Rattle.std.specs.FinMap as finite
+use Rattle.std.specs.List.{AllByRecursion, list_all}
+use Rattle.std.specs.Option.{option_map}
+use Rattle.std.specs.Str.{is_utf8}
+use Rattle.wef_base.specs.Names.{channel_name}
+use Rattle.wef_batch.specs.Laws.{IsKept as IsKeptItem, IsPlain}
+use Rattle.wef_batch.specs.Reach.{loose_sum}
+use Rattle.wef_batch.specs.WellFormed.{is_in, is_in_order, is_listed, is_well_formed}
+use Rattle.wef_batch.specs.declared.items.Batch.{Batch}
+use Rattle.wef_batch.specs.declared.items.Item.{Item}
+use Rattle.wef_batch.specs.declared.items.Item.TheVariants.{Event, Dropped, Loose}
+use Rattle.wef_collector.specs.FormsStay.{IsSoundItem}
+use Rattle.wef_collector_rows.specs.Answers.{channels_read}
+use Rattle.wef_eventing.proofs.AddressTexts.{address_is_plain}
+use Rattle.wef_replies.proofs.IdTexts.{id_spelt}
+use Rattle.wef_ids.proofs.PlainIds.{id_text_good}
+use Rattle.wef_envelope.specs.Laws.{IsSpelt}
+use Rattle.wef_front.specs.Sent.{CanBeAsked}
+use Rattle.wef_front_source.specs.Sending.{CanBeSent, IsPlainText}
+use Rattle.wef_ids.specs.IdTexts.{id_of_value}
+use Rattle.wef_keeper.specs.Rows.{Rows, row_of}
+use Rattle.wef_keeper.specs.declared.keys.Cell.{Cell}
+use Rattle.wef_replay.proofs.GoodNames.{kept_channel}
+use Rattle.wef_replay.specs.Good.{is_channel, is_one}
+use Rattle.wef_building.specs.Building.{built}
+use Rattle.wef_source.specs.Machine.{End, delivery_of, is_spent, most_drawn, next_id, sent}
+use Rattle.wef_source.specs.declared.messages.Delivery.{Delivery}
+use Rattle.wef_source.specs.Sessions.{is_named, session_of}
+use Rattle.wef_building.specs.declared.sessions.Session.{Session}
+use Rattle.wef_source_log.proofs.Forming.{number_within}
+use Rattle.wef_source_log.specs.Forms as log
+use Rattle.wef_source_log.specs.Keys.{boot_key}
+use Rattle.wef_source_log.specs.LogWindow.{boot_of}
+use Rattle.wef_machine.specs.States.{Slot, State, host, slot_of}
+use Rattle.wef_safety.specs.Kept.{IsDelivery, IsKept, IsServed}
+use Rattle.wef_safety.proofs.EventTrees.{said_has_tree}
+use Rattle.wef_safety.proofs.KeptChannels.{known_channels}
+use Rattle.wef_safety.proofs.LowerFacts.{lower}
+use Rattle.wef_safety.proofs.NameTexts.{subscription_is_plain}
+use Rattle.wef_safety.proofs.Offering.{reads_source}
+use Rattle.wef_safety.proofs.RowMoves.{known_name}
+use Rattle.wef_safety.proofs.SaidEvents.{IsSaidItem, built_said}
+use Rattle.wef_safety.proofs.Sessions.{first_is}
+use Rattle.wef_safety.proofs.SourceSteps.{delivery_kept, running_is, running_with}
+
+-- ---- the id
+
+-- a source that keeps rows of their form was started no more often than numbers go
+most_boots : (rows : Rows) → log.AreFormed rows → boot_of rows ≤ 9223372036854775807
+most_boots rows formed = by_cell (finite.get rows boot_key) (formed boot_key)
+  where
+    by_cell : (o : Option Cell) → IfSome o (λ cell. log.is_formed (row_of (boot_key, cell)) ≡ true) → unwrap_or (option_map (λ (cell : Cell). cell.value) o) 0 ≤ 9223372036854775807
+    by_cell None e = omega arith
+    by_cell (Some cell) e = number_within (row_of (boot_key, cell)) e refl
+
+-- one id more is left
+one_left : (d : ℕ) → nat_le most_drawn d ≡ false → d + 1 ≤ most_drawn
+one_left d e = grind (arith, nat_tests, e)
+
+small_id : (boot drawn : ℕ) → boot ≤ 9223372036854775807 → drawn + 1 ≤ most_drawn → boot * 18446744073709551616 + (drawn + 1) < 2 ^ 128
+small_id boot drawn few left = omega arith
+
+-- a source that runs has ids that are those of their texts, where one is left
+next_spelt : (rows : Rows) (end : End) → log.AreFormed rows → end.boot ≡ boot_of rows → is_spent end ≡ false → IsSpelt (id_of_value (next_id end))
+next_spelt rows end formed boot left =
+    let few : end.boot ≤ 9223372036854775807 = subst (λ (n : ℕ). n ≤ 9223372036854775807) (sym boot) (most_boots rows formed) in
+    id_spelt (next_id end) (small_id end.boot end.drawn few (one_left end.drawn left))
+
+-- what a source asks for its subscriptions with, where an id is left, is a wish that can be written
+pub ask_can_be_sent : (state : State) (s : List ℕ) (slot : Slot) (end : End) → IsKept state → slot_of state s ≡ Some slot → slot.place.memory ≡ Some end → is_spent end ≡ false
+    → CanBeAsked (record { source = s; id = id_of_value (next_id end) })
+ask_can_be_sent state s slot end kept there runs left =
+    let source = kept.sources s slot there in
+    let name = reads_source s source.name in
+    record {
+      utf8 = name.0;
+      named = name.1;
+      spelt = next_spelt slot.place.rows end source.formed (running_is state s slot end source runs).0.boot left;
+      id = id_text_good (next_id end);
+    }
+
+-- ---- the batch
+
+-- the channels have names such as a reader gives
+abbrev AreNamed : List (List ℕ) → Type 0
+AreNamed channels = (c : List ℕ) → is_in channels c ≡ true → is_channel c ≡ true
+
+-- an item can be written, and is read again
+abbrev CanBeWritten : Item → Type 0
+CanBeWritten item = IsPlain item × IsKeptItem item
+
+utf8_name : (c : List ℕ) → is_channel c ≡ true → is_utf8 c ≡ true
+utf8_name c good = (and_parts (is_utf8 c) (is_one c (channel_name c)) good).0
+
+item_written : (channels : List (List ℕ)) (item : Item) → AreNamed channels → is_listed channels item ≡ true → IsSoundItem item → IsSaidItem item → CanBeWritten item
+item_written channels (Event event) named listed sound said = (said, said_has_tree event said)
+item_written channels (Dropped c first last) named listed sound said =
+    let good = named c listed in
+    let name = kept_channel c good in
+    ((name, said.0, said.1, sound), (utf8_name c good, name))
+item_written channels (Loose count) named listed sound said = absurd said
+
+items_written : (channels : List (List ℕ)) (items : List Item) → AreNamed channels → list_all (is_listed channels) items ≡ true → AllByRecursion IsSoundItem items → AllByRecursion IsSaidItem items →
+    AllByRecursion IsPlain items × AllByRecursion IsKeptItem items
+items_written channels [] named listed sound said = (tt, tt)
+items_written channels (item ∷ items) named listed sound said =
+    let parts = and_parts (is_listed channels item) (list_all (is_listed channels) items) listed in
+    let here = item_written channels item named parts.0 sound.0 said.0 in
+    let rest = items_written channels items named parts.1 sound.1 said.1 in
+    ((here.0, rest.0), (here.1, rest.1))
+
+all_listed : (channels : List (List ℕ)) (batch : Batch) → is_well_formed channels batch ≡ true → list_all (is_listed channels) batch.items ≡ true
+all_listed channels batch formed =
+    (and_parts (list_all (is_listed channels) batch.items) (list_all (is_in_order batch) channels)
+    (and_parts (list_all (is_listed channels) batch.items && list_all (is_in_order batch) channels) (nat_le (loose_sum batch.items) 9223372036854775807) formed).0).0
+
+-- a channel that a delivery reads has a good name
+read_channel : (rows : Rows) (s : List ℕ) (slot : Slot) (delivery : Delivery) → IsDelivery rows s slot delivery → (c : List ℕ) (n : ℕ) → finite.get delivery.batch.to c ≡ Some n → is_channel c ≡ true
+read_channel rows s slot delivery is c n e = by (is_in (channels_read is.about) c) refl
+  where
+    by : (t : Bool) → is_in (channels_read is.about) c ≡ t → is_channel c ≡ true
+    by true here = known_channels rows is.u is.about is.known c here
+    by false none = absurd (none-some n (sym (is.fits.others c none) ∙ e))
+
+-- ---- the delivery
+
+-- what a session sends, where an id is left, is a delivery that can be written
+pub delivery_can_be_sent : (state : State) (s u : List ℕ) (slot : Slot) (end : End) (session : Session) → IsKept state → slot_of state s ≡ Some slot → slot.place.memory ≡ Some end →
+    session_of end.sessions u ≡ Some session → is_spent end ≡ false → CanBeSent (delivery_of slot.place.rows end session)
+delivery_can_be_sent state s u slot end session kept there runs found left =
+    let rows : Rows = state.collector.rows in
+    let source = kept.sources s slot there in
+    let running = running_is state s slot end source runs in
+    let some = running.1 in
+    let served = first_is (IsServed rows state.messages s) (is_named u) end.sessions session found running.0.sessions in
+    let new : Slot = running_with slot (sent slot.place.rows end session state.moment) in
+    let batch : Batch = built slot.place.rows session in
+    let is = delivery_kept lower state s slot new end session kept there runs served refl refl (omega arith) in
+    let named = known_channels rows is.u is.about is.known in
+    let reads = lower.log_reads slot.place.rows slot.histories slot.capacity (boot_of slot.place.rows) (omega arith) source.window in
+    let said = built_said slot.place.rows slot.histories slot.capacity (boot_of slot.place.rows) session reads source.events in
+    let items = items_written (channels_read is.about) batch.items named (all_listed (channels_read is.about) batch is.fits.well_formed) is.sound.items said in
+    let read = read_channel rows s new (delivery_of slot.place.rows end session) is in
+    let name = known_name rows session.name served.terms.about kept.keys served.terms.known in
+    record {
+      spelt = next_spelt slot.place.rows end source.formed running.0.boot left;
+      id = id_text_good (next_id end);
+      notify_to = subst IsPlainText (sym served.terms.address_is) (address_is_plain served.terms.at session.name s served.terms.host);
+      identifier = subst (λ (o : Option (List ℕ)). IfSome o IsPlainText) (sym served.terms.identifier_is) (subscription_is_plain session.name name);
+      plain = items.0;
+      kept = items.1;
+      entries = λ c n e. (kept_channel c (read c n e), is.sound.to c n e);
+      names = λ c n e. utf8_name c (read c n e);
+    }

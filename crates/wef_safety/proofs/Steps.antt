@@ -1,0 +1,202 @@
+-- Every step of a good schedule keeps what is kept, and what is kept is safe.
+use Rattle.std.proofs.Common.{◌≡◌, ℕ, ◌≤◌, Bool, true, false, not, ◌&&◌, List, [], ◌∷◌, nat_le, refl, ap, sym, ◌∙◌, subst, arith}
+use Rattle.std.proofs.lemmas.Option.{none-some}
+use Rattle.std.proofs.lemmas.Bool.{and_parts}
+use Rattle.std.proofs.lemmas.Bool.Decides.{nat_tests}
+use Rattle.std.specs.Prelude.{Option, Some, None, unwrap_or}
+use Rattle.std.specs.Cmp.Lexicographic.{slice_cmp}
+use Rattle.std.specs.FinMap as finite
+use Rattle.std.specs.List.{AllByRecursion}
+use Rattle.std.specs.Option.{option_map}
+use Rattle.std.specs.Ordering.{nat_cmp}
+use Rattle.wef_batch.specs.WellFormed.{is_in}
+use Rattle.wef_collector_rows.specs.Answers.{channels_read}
+use Rattle.wef_collector_rows.specs.Keys.{subscription_key}
+use Rattle.wef_collector.specs.Offers.{offers}
+use Rattle.wef_collector_rows.specs.Standing.{standing_of}
+use Rattle.wef_event.specs.Unnumbered.{new_event}
+use Rattle.wef_eventing.specs.declared.subscriptions.Subscription.{Subscription}
+use Rattle.wef_keeper.specs.Rows.{key_cmp}
+use Rattle.wef_keeper.specs.declared.keys.Cell.{Cell}
+use Rattle.wef_replay_values.specs.declared.end_name.EndName.{EndName}
+use Rattle.wef_replay_values.specs.declared.end_name.EndName.TheVariants as ends
+use Rattle.wef_replay.specs.Good.{are_queries, are_limits, is_among, is_between, is_line, is_no_collector, is_source, is_subscription}
+use Rattle.wef_replay.specs.declared.lines.Line.{Line}
+use Rattle.wef_replay.specs.declared.lines.Line.TheVariants.{Subscribe, End, Batch, Source, Write, WriteXml, Ask, Poll, Deliver, Back, Lost, Crash, Fail, Stop, Calm, Show, Print}
+use Rattle.wef_source_log.specs.Histories.{history}
+use Rattle.wef_source_log.specs.Keys.{boot_key}
+use Rattle.wef_source_log.specs.LogWindow.{IsWindow, boot_of}
+use Rattle.wef_machine.specs.Collecting.{reply_id}
+use Rattle.wef_machine.specs.Deliveries.{deliver_message, deliver_step, events_at, message_at, number_back, offers_at, taken_by}
+use Rattle.wef_pairs.specs.Pairs.{IsPairSafe, IsUntouched, about_of, settings_of, subscription_at}
+use Rattle.wef_machine.specs.Sources.{declared_slot}
+use Rattle.wef_machine.specs.States.{Slot, State, declared_names, host, slot_of, start, with_foreign, with_slot}
+use Rattle.wef_machine.specs.Steps.{AreAdmitted, arm_step, batch_at, crash_step, end_at, states_from, step, subscribe_at, subscription_of, unchanged}
+use Rattle.wef_machine.specs.declared.arming.Armed.{Armed}
+use Rattle.wef_machine.specs.declared.messages.Message.{Message}
+use Rattle.wef_machine.specs.declared.messages.Message.TheVariants as sent
+use Rattle.wef_machine.proofs.Names.{undeclared}
+use Rattle.wef_safety.specs.Kept.{IsChannelKept, IsDelivery, IsKept, IsPairKept, WasDrawn, WhereDeclared}
+use Rattle.wef_safety.specs.Laws.{IsStateSafe, KeptIsSafe, SchedulesAreKept, SchedulesAreSafe, StartIsKept, StepsKeep, written_by}
+use Rattle.wef_safety.specs.Safe.{WasSent, Written}
+use Rattle.wef_safety.proofs.CollectorSteps.{at_collector_keeps, batch_keeps, end_keeps, events_keep, foreign_kept, is_foreign, subscribe_keeps}
+use Rattle.wef_safety.proofs.GoodLines.{subscription_again, names_source, sound_batch, writable, writable_xml}
+use Rattle.wef_safety.proofs.Lower.{Lower}
+use Rattle.wef_safety.proofs.Moves.{from_mapped, kept_declared, kept_reply}
+use Rattle.wef_safety.proofs.Offering.{all_offers}
+use Rattle.wef_safety.proofs.Sent.{all_map, sent_by_number}
+use Rattle.wef_safety.proofs.SaidEvents.{no_events}
+use Rattle.wef_safety.proofs.SourceSteps.{ack_keeps, arm_keeps, ask_keeps, calm_keeps, crash_keeps, fault_keeps, lost_keeps, offers_keep, poll_keeps, write_keeps}
+
+-- ---- a world in which nothing has happened
+
+untouched_start : (u s c : List ℕ) → IsUntouched finite.empty u s c
+untouched_start u s c q is = finite.get-empty key_cmp q
+
+nowhere : (s : List ℕ) (slot : Slot) → slot_of start s ≡ Some slot → ⊥
+nowhere s slot e = none-some slot (sym (finite.get-empty (slice_cmp nat_cmp) s) ∙ e)
+
+pub start_is_kept : Lower → StartIsKept
+start_is_kept lower = record {
+  pairs = λ u s c apart.
+      subst (λ (o : Option Subscription). IsPairKept finite.empty u s c o (slot_of start s))
+      (sym (ap (λ (o : Option Cell). about_of (standing_of u o)) (finite.get-empty key_cmp (subscription_key u)))) (untouched_start u s c);
+  apart = λ s slot e. absurd (nowhere s slot e);
+  keys = λ key cell e. absurd (none-some cell (sym (finite.get-empty key_cmp key) ∙ e));
+  formed = lower.formed_empty;
+  sources = λ s slot e. absurd (nowhere s slot e);
+  messages = λ m was. absurd was;
+  requests = tt;
+  soon = omega arith;
+}
+
+-- ---- deliveries
+
+pub of_declared : (o : Option Slot) (P : Slot → Type 0) (Q : Type 0) → WhereDeclared o P → ((slot : Slot) → o ≡ Some slot → P slot → Q) → Q
+of_declared None P Q holds gives = absurd holds
+of_declared (Some slot) P Q holds gives = gives slot refl holds
+
+taken_keeps : Lower → (state : State) (m : Message) → IsKept state → WasSent state.messages m → IsKept (taken_by state m)
+taken_keeps lower state (sent.Ask s id) kept was = at_collector_keeps lower state (offers_at s id) kept (λ now memory kept_now opened.
+    let was_now : WasSent now.messages (sent.Ask s id) = subst (λ (ms : List Message). WasSent ms (sent.Ask s id)) (sym opened.messages) was in
+    of_declared (slot_of now s) (λ (slot : Slot). WasDrawn slot id.value) (IsKept (offers_at s id memory now)) (kept_now.messages (sent.Ask s id) was_now) (λ slot there drawn.
+    kept_reply now (sent.Offers s (reply_id memory) id (offers now.collector.rows s host)) kept_now refl (all_offers now.collector.rows s host (omega arith, refl) kept_now.keys (kept_now.sources s slot there).name)))
+taken_keeps lower state (sent.Offers s id relates given) kept was = offers_keep lower state s relates given kept (kept.messages (sent.Offers s id relates given) was)
+taken_keeps lower state (sent.Events s delivery) kept was = at_collector_keeps lower state (events_at s delivery) kept (λ now memory kept_now opened.
+    let was_now : WasSent now.messages (sent.Events s delivery) = subst (λ (ms : List Message). WasSent ms (sent.Events s delivery)) (sym opened.messages) was in
+    of_declared (slot_of now s) (λ (slot : Slot). IsDelivery now.collector.rows s slot delivery) (IsKept (events_at s delivery memory now)) (kept_now.messages (sent.Events s delivery) was_now)
+    (λ slot there is. events_keep lower now s slot memory delivery kept_now there was_now is))
+taken_keeps lower state (sent.Ack s id relates) kept was = ack_keeps lower state s relates kept (kept.messages (sent.Ack s id relates) was)
+taken_keeps lower state (sent.Fault s id relates fault) kept was = fault_keeps lower state s relates fault kept
+
+deliver_keeps : Lower → (state : State) (k : ℕ) → IsKept state → IsKept (deliver_step state k)
+deliver_keeps lower state k kept = by_message (message_at state k) refl
+  where
+    by_message : (o : Option Message) → message_at state k ≡ o → IsKept (deliver_message state o)
+    by_message None e = kept
+    by_message (Some m) e = taken_keeps lower state m kept (sent_by_number state k m e)
+
+-- ---- lines
+
+not_true : (b : Bool) → not b ≡ true → b ≡ false
+not_true true e = sym e
+not_true false e = refl
+
+at_most : (m n : ℕ) → nat_le m n ≡ true → m ≤ n
+at_most m n e = grind (arith, nat_tests, e)
+
+within : (least greatest n : ℕ) → is_between least greatest n ≡ true → (least ≤ n) × (n ≤ greatest)
+within least greatest n e = let parts = and_parts (nat_le least n) (nat_le n greatest) e in (at_most least n parts.0, at_most n greatest parts.1)
+
+empty_boot : boot_of finite.empty ≡ 0
+empty_boot = ap (λ (o : Option Cell). unwrap_or (option_map (λ (cell : Cell). cell.value) o) 0) (finite.get-empty key_cmp boot_key)
+
+declared_kept : Lower → (state : State) (s : List ℕ) (capacity : ℕ) → IsKept state → is_source s ≡ true → is_between 1 1000000 capacity ≡ true → is_among (declared_names state) s ≡ false →
+    is_among state.foreign s ≡ false → IsKept (with_slot state s (declared_slot capacity))
+declared_kept lower state s capacity kept good between new apart =
+    let bounds = within 1 1000000 capacity between in
+    kept_declared state s (declared_slot capacity) kept (undeclared state s new) apart
+    (record {
+      name = good;
+      capacity = bounds.0;
+      greatest = bounds.1;
+      window = subst (λ (b : ℕ). IsWindow finite.empty finite.empty capacity b) (sym empty_boot) (lower.log_empty capacity);
+      formed = lower.log_formed_empty;
+      events = no_events;
+      running = tt;
+    })
+
+crash_keeps_end : (state : State) (end : EndName) → IsKept state → IsKept (crash_step state end)
+crash_keeps_end state ends.Collector kept = kept
+crash_keeps_end state (ends.Source s) kept = crash_keeps state s kept
+
+arm_keeps_end : (state : State) (end : EndName) (armed : Armed) → IsKept state → IsKept (arm_step state end armed)
+arm_keeps_end state ends.Collector armed kept = kept
+arm_keeps_end state (ends.Source s) armed kept = arm_keeps state s armed kept
+
+pub steps_keep : Lower → StepsKeep
+steps_keep lower state (Subscribe u items bytes beat query) kept good =
+    let line = (and_parts (is_line (Subscribe u items bytes beat query)) true good).0 in
+    let limits = and_parts (is_subscription u && are_limits items bytes beat) (are_queries query.items) line in
+    let name = (and_parts (is_subscription u) (are_limits items bytes beat) limits.0).0 in
+    at_collector_keeps lower state (λ memory. subscribe_at (subscription_of u items bytes beat query)) kept (λ now memory kept_now opened.
+    subscribe_keeps lower now (subscription_of u items bytes beat query) kept_now name (subscription_again u items bytes beat query line))
+steps_keep lower state (End u) kept good = at_collector_keeps lower state (λ memory. end_at u) kept (λ now memory kept_now opened. end_keeps lower now u kept_now)
+steps_keep lower state (Batch u s b) kept good =
+    let parts = and_parts (is_line (Batch u s b)) (not (is_among (declared_names state) s)) good in
+    let none = undeclared state s (not_true (is_among (declared_names state) s) parts.1) in
+    at_collector_keeps lower (with_foreign state s) (λ memory. batch_at u s b) (foreign_kept state s kept none) (λ now memory kept_now opened.
+    batch_keeps lower now u s b kept_now (λ r apart. is_foreign state s r (subst (λ (names : List (List ℕ)). is_among names r ≡ false) opened.foreign apart))
+    (names_source u s b parts.0) (sound_batch u s b parts.0))
+steps_keep lower state (Source s capacity) kept good =
+    let parts = and_parts (is_line (Source s capacity)) (not (is_among (declared_names state) s) && not (is_among state.foreign s)) good in
+    let line = and_parts (is_source s && is_no_collector s) (is_between 1 1000000 capacity) parts.0 in
+    let name = (and_parts (is_source s) (is_no_collector s) line.0).0 in
+    let new = and_parts (not (is_among (declared_names state) s)) (not (is_among state.foreign s)) parts.1 in
+    declared_kept lower state s capacity kept name line.1 (not_true (is_among (declared_names state) s) new.0) (not_true (is_among state.foreign s) new.1)
+steps_keep lower state (Write s plain) kept good =
+    write_keeps lower state s (new_event plain) kept (writable s plain (and_parts (is_line (Write s plain)) (is_among (declared_names state) s) good).0)
+steps_keep lower state (WriteXml s event) kept good =
+    write_keeps lower state s event kept (writable_xml s event (and_parts (is_line (WriteXml s event)) (is_among (declared_names state) s) good).0)
+steps_keep lower state (Ask s) kept good = ask_keeps lower state s kept
+steps_keep lower state (Poll s u) kept good = poll_keeps lower state s u kept
+steps_keep lower state (Deliver k seen) kept good = deliver_keeps lower state k kept
+steps_keep lower state (Back n) kept good = deliver_keeps lower state (number_back state n) kept
+steps_keep lower state (Lost s u) kept good = lost_keeps lower state s u kept
+steps_keep lower state (Crash end) kept good = crash_keeps_end state end kept
+steps_keep lower state (Fail end after) kept good = arm_keeps_end state end (record { after = after; stops = false }) kept
+steps_keep lower state (Stop end after) kept good = arm_keeps_end state end (record { after = after; stops = true }) kept
+steps_keep lower state Calm kept good = calm_keeps state kept
+steps_keep lower state Show kept good = at_collector_keeps lower state (λ memory. unchanged) kept (λ now memory kept_now opened. kept_now)
+steps_keep lower state (Print u s c) kept good = at_collector_keeps lower state (λ memory. unchanged) kept (λ now memory kept_now opened. kept_now)
+
+-- ---- what is kept is safe
+
+channel_at : (state : State) (u s c : List ℕ) (about : Subscription) (slot : Slot) (reads : Bool) → IsKept state → subscription_at state.collector.rows u ≡ Some about →
+    slot_of state s ≡ Some slot → is_in (channels_read about) c ≡ reads → IsChannelKept state.collector.rows u s c about slot reads
+channel_at state u s c about slot reads kept known there is =
+    subst (IsChannelKept state.collector.rows u s c about slot) is
+    (subst (λ (x : Option Subscription × Option Slot). IsPairKept state.collector.rows u s c x.0 x.1) (λ i. (known i, there i)) (kept.pairs u s c (kept.apart s slot there)))
+
+pub kept_is_safe : KeptIsSafe
+kept_is_safe state kept = record {
+  pairs = λ u s c about source known there listed.
+      from_mapped written_by (slot_of state s) source (λ (w : Written). IsPairSafe state.collector.rows u s c 0 (settings_of about) (history w.histories c) w.capacity) there
+      (λ slot is. channel_at state u s c about slot true kept known is listed);
+  others = λ u s c about source known there other.
+      from_mapped written_by (slot_of state s) source (λ (w : Written). IsUntouched state.collector.rows u s c) there
+      (λ slot is. channel_at state u s c about slot false kept known is other);
+  acknowledged = λ s id relates was. (kept.messages (sent.Ack s id relates) was).is;
+}
+
+-- ---- schedules
+
+all_kept : Lower → (state : State) (lines : List Line) → IsKept state → AreAdmitted state lines → AllByRecursion IsKept (states_from state lines)
+all_kept lower state [] kept admitted = (kept, tt)
+all_kept lower state (line ∷ lines) kept admitted = (kept, all_kept lower (step line state) lines (steps_keep lower state line kept admitted.0) admitted.1)
+
+pub schedules_are_kept : Lower → SchedulesAreKept
+schedules_are_kept lower lines admitted = all_kept lower start lines (start_is_kept lower) admitted
+
+pub schedules_are_safe : Lower → SchedulesAreSafe
+schedules_are_safe lower lines admitted = all_map IsKept IsStateSafe kept_is_safe (states_from start lines) (schedules_are_kept lower lines admitted)
