@@ -1,5 +1,5 @@
 -- A call that gives nothing, as one that gives a value which no row decides.
-use Rattle.std.proofs.Common.{◌≡◌, refl}
+use Rattle.std.proofs.Common.{refl}
 use Rattle.std.specs.Prelude.{Result, Ok, Err}
 use Rattle.wef_keeper.proofs.Calls.{from_weaker}
 use Rattle.wef_keeper.specs.Calls.{Did, DidWith, DoesWith, IsCall}

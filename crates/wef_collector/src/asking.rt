@@ -45,7 +45,7 @@ pub struct Request {
     pub body: Body,
 }
 
-/// The next request, for which an answer is waited from then on. None where nothing is due.
+/// The next request, whose answer the collector then waits for. None where nothing is due.
 pub(crate) fn ask_next<K: Keeper>(
     keeper: &mut K,
     alloc: Global,

@@ -108,8 +108,8 @@ pub fn offers_in<K: Keeper>(
     Ok(offers_to(keeper, alloc, source, host)?)
 }
 
-/// The next request to a source of a subscription that the collector begins, for which an answer is
-/// waited from then on. Events come to the host.
+/// The next request to a source of a subscription that the collector begins, whose answer the
+/// collector then waits for. Events come to the host.
 #[tactic(auto, using(wef_keeper::proofs::Calls::looks_by))]
 pub fn request_in<K: Keeper>(
     keeper: &mut K,
