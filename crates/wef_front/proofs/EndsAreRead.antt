@@ -81,7 +81,7 @@ of_spelt : (id : ℕ) (lease : Option Lease) → id + length (note_of id lease) 
 of_spelt id None most = tt
 of_spelt id (Some lease) most = to_spelt id lease.identifier lease.end_to most
 
-notes_spelt : (id : ℕ) (ss : List Session) → id + length (notes_of id ss) ≤ 2 ^ 128 → AllByRecursion HasSpeltId (notes_of id ss)
+pub notes_spelt : (id : ℕ) (ss : List Session) → id + length (notes_of id ss) ≤ 2 ^ 128 → AllByRecursion HasSpeltId (notes_of id ss)
 notes_spelt id [] most = tt
 notes_spelt id (s ∷ ss) most =
     let one = note_of id s.lease in

@@ -8,4 +8,4 @@ pub mod listening;
 mod saying;
 
 pub use answering::collector_answer;
-pub use listening::{Hears, collector_hears};
+pub use listening::{Hears, collector_hears, read_response};

@@ -46,7 +46,7 @@ pub fn collector_hears<K: Keeper>(
     ensures heard { IfOk result (λ hears. HearsResponse (response_told now body.now) hears now collector.old.memory collector.new.memory (K.store collector.old.keeper) (K.store collector.new.keeper)) }
     ensures wants_memory { IfErr result (λ _. (collector.new ≡ collector.old) ⊎ IsUntaken (response_told now body.now) now collector.old.memory collector.new.memory (K.store collector.old.keeper) (K.store collector.new.keeper)) }
 {
-    let Some((relates, response)) = response_told(alloc, body.as_slice(), now)? else {
+    let Some((relates, response)) = read_response(alloc, body.as_slice(), now)? else {
         return Ok(Hears::Unreadable);
     };
     take(collector, &relates, &response, now)
@@ -82,9 +82,9 @@ fn heard_of(done: Result<Answered, CollectorFault>) -> Result<Hears, AllocError>
     }
 }
 
-/// Reads the bytes of an answer: the message that it answers, by the header RelatesTo of WS-Addressing,
-/// and how.
-fn response_told(
+/// Reads the bytes of an answer, in UTF-8: the message that it answers, by the header RelatesTo of
+/// WS-Addressing, and how. None where they aren't those of an answer that a collector knows.
+pub fn read_response(
     alloc: Global,
     bytes: &[u8],
     now: Moment,
