@@ -10,7 +10,7 @@ use Rattle.wef_replay.specs.Good.{Names, allows, has_end, noted}
 use Rattle.wef_replay.specs.Grammar.{meaning}
 use Rattle.wef_replay.specs.Schedule.{first_bad, if_allowed, lines_of, meaning_after, noted_if_some, with_line}
 use Rattle.wef_replay.specs.declared.lines.Line.{Line}
-use Rattle.wef_replay.specs.declared.lines.Line.TheVariants.{Subscribe, End, Batch, Source, Write, WriteXml, Ask, Poll, Deliver, Back, Lost, Show, Print, Crash, Fail, Stop, Calm}
+use Rattle.wef_replay.specs.declared.lines.Line.TheVariants.{Subscribe, SubscribeAt, End, Batch, Source, Write, WriteXml, Ask, Poll, Deliver, Back, Request, Forget, Lost, Shut, Show, Print, Crash, Fail, Stop, Calm, Tick}
 
 -- ---- one text
 
@@ -41,6 +41,7 @@ alike_noted : (line : Line) (a b : Names) → AreAlike a b → AreAlike (noted l
 alike_noted (Source s capacity) a b alike = record { declared = λ name. ap (λ (t : Bool). same name s || t) (alike.declared name); foreign = alike.foreign }
 alike_noted (Batch u s batch) a b alike = record { declared = alike.declared; foreign = λ name. ap (λ (t : Bool). same name s || t) (alike.foreign name) }
 alike_noted (Subscribe u items bytes beat query) a b alike = alike
+alike_noted (SubscribeAt u s items bytes beat expires query) a b alike = alike
 alike_noted (End u) a b alike = alike
 alike_noted (Write s event) a b alike = alike
 alike_noted (WriteXml s event) a b alike = alike
@@ -48,13 +49,17 @@ alike_noted (Ask s) a b alike = alike
 alike_noted (Poll s u) a b alike = alike
 alike_noted (Deliver n seen) a b alike = alike
 alike_noted (Back n) a b alike = alike
+alike_noted Request a b alike = alike
+alike_noted Forget a b alike = alike
 alike_noted (Lost s u) a b alike = alike
+alike_noted (Shut s) a b alike = alike
 alike_noted Show a b alike = alike
 alike_noted (Print u s c) a b alike = alike
 alike_noted (Crash e) a b alike = alike
 alike_noted (Fail e after) a b alike = alike
 alike_noted (Stop e after) a b alike = alike
 alike_noted Calm a b alike = alike
+alike_noted (Tick ms) a b alike = alike
 
 alike_noted_if_some : (act : Option Line) (a b : Names) → AreAlike a b → AreAlike (noted_if_some act a) (noted_if_some act b)
 alike_noted_if_some None a b alike = alike
@@ -68,6 +73,7 @@ allows-alike : (line : Line) (a b : Names) → AreAlike a b → allows a line �
 allows-alike (Source s capacity) a b alike = λ i. not (alike.declared s i) && not (alike.foreign s i)
 allows-alike (Batch u s batch) a b alike = ap not (alike.declared s)
 allows-alike (Subscribe u items bytes beat query) a b alike = refl
+allows-alike (SubscribeAt u s items bytes beat expires query) a b alike = alike.declared s
 allows-alike (End u) a b alike = refl
 allows-alike (Write s event) a b alike = alike.declared s
 allows-alike (WriteXml s event) a b alike = alike.declared s
@@ -75,13 +81,17 @@ allows-alike (Ask s) a b alike = alike.declared s
 allows-alike (Poll s u) a b alike = alike.declared s
 allows-alike (Deliver n seen) a b alike = refl
 allows-alike (Back n) a b alike = refl
+allows-alike Request a b alike = refl
+allows-alike Forget a b alike = refl
 allows-alike (Lost s u) a b alike = alike.declared s
+allows-alike (Shut s) a b alike = alike.declared s
 allows-alike Show a b alike = refl
 allows-alike (Print u s c) a b alike = refl
 allows-alike (Crash e) a b alike = has_end-alike e a b alike
 allows-alike (Fail e after) a b alike = has_end-alike e a b alike
 allows-alike (Stop e after) a b alike = has_end-alike e a b alike
 allows-alike Calm a b alike = refl
+allows-alike (Tick ms) a b alike = refl
 
 if_allowed-alike : (act : Option Line) (a b : Names) → AreAlike a b → if_allowed a act ≡ if_allowed b act
 if_allowed-alike None a b alike = refl

@@ -15,16 +15,17 @@ use Rattle.wef_event.specs.declared.unnumbered.PlainEvent.{PlainEvent}
 use Rattle.wef_query.specs.Queries.{all_events_of}
 use Rattle.wef_query.specs.declared.QueryList.{QueryList}
 use Rattle.wef_query.proofs.SaidPaths.{all_grouped, any_says_path}
+use Rattle.wef_times.specs.declared.durations.TheConstants.{LIMIT}
 use Rattle.wef_replay_values.specs.Reading.{with_first}
 use Rattle.wef_replay_values.specs.Values.{after_word, channel_word, channel_words, end_word, joined, number_word, sending_source_word, source_word, subscription_word}
 use Rattle.wef_replay_values.specs.declared.end_name.EndName.TheVariants as end
 use Rattle.wef_replay.specs.BatchWords.{empty_batch, read_words}
 use Rattle.wef_lines.specs.Documents.{new_event_in}
 use Rattle.wef_replay.specs.Good.{are_limits, are_queries, fits_always, may_be_written, is_between, is_channel, is_count, is_end, is_line, is_no_collector, is_query, is_query_text, is_source, is_subscription}
-use Rattle.wef_replay.specs.Grammar.{all_of, ask_line, back_line, batch_line, calm_line, commit_words, crash_line, deliver_line, does_nothing, end_line, event_if_xml, event_words, failure_line_of, fitting_event, if_fits, limit_words, line_of_words, meaning, message_words, other_line, pair_words, print_line, query_words, seen_words, show_line, source_line, source_line_of, subscribe_line, write_line, write_xml_line, xml_event_words}
+use Rattle.wef_replay.specs.Grammar.{all_of, batch_line, calm_line, collector_line_of, commit_words, crash_line, deliver_line, does_nothing, end_line, event_if_xml, event_words, failure_line_of, fitting_event, forget_line, if_fits, limit_words, line_of_words, meaning, message_line_of, only_number_words, only_source_words, other_line, pair_words, print_line, query_words, request_line, seen_words, show_line, source_line, source_line_of, subscribe_at_line, subscribe_line, write_line, write_xml_line, xml_event_words}
 use Rattle.wef_replay.specs.PlainEvents.{HasPlainEvents}
 use Rattle.wef_replay.specs.declared.lines.Line.{Line}
-use Rattle.wef_replay.specs.declared.lines.Line.TheVariants.{Subscribe, End, Batch, Source, Write, WriteXml, Ask, Poll, Deliver, Back, Lost, Print, Crash, Fail, Stop}
+use Rattle.wef_replay.specs.declared.lines.Line.TheVariants.{Subscribe, SubscribeAt, End, Batch, Source, Write, WriteXml, Ask, Poll, Deliver, Back, Lost, Shut, Print, Crash, Fail, Stop, Tick}
 use Rattle.wef_replay.proofs.Gifts.{AllOf, all_of-if, all_of-map, all_of-tested, all_of-then}
 use Rattle.wef_replay.proofs.GoodBatches.{good-batch_words}
 use Rattle.wef_replay.proofs.GoodNames.{decoded_is_text, good-channel, good-sending_source, good-source, good-subscription}
@@ -97,6 +98,22 @@ good-subscribe_line (sub ∷ items ∷ bytes ∷ beat ∷ kind ∷ words) =
     all_of-map _ IsGoodLine (λ query. Subscribe u limits.0 limits.1 limits.2 query) (query_words kind words) (good-query_words kind words)
     (λ query are. (λ j. is_u j && are_limits j && are j, tt))))
 
+good-subscribe_at_line : (words : List (List ℕ)) → AllOf IsGoodLine (subscribe_at_line words)
+good-subscribe_at_line [] = tt
+good-subscribe_at_line (a ∷ []) = tt
+good-subscribe_at_line (a ∷ b ∷ []) = tt
+good-subscribe_at_line (a ∷ b ∷ c ∷ []) = tt
+good-subscribe_at_line (a ∷ b ∷ c ∷ d ∷ []) = tt
+good-subscribe_at_line (a ∷ b ∷ c ∷ d ∷ e ∷ []) = tt
+good-subscribe_at_line (a ∷ b ∷ c ∷ d ∷ e ∷ f ∷ []) = tt
+good-subscribe_at_line (sub ∷ source ∷ items ∷ bytes ∷ beat ∷ expires ∷ kind ∷ words) =
+    all_of-then _ IsGoodLine _ (limit_words items bytes beat) (good-limit_words items bytes beat) (λ limits are_limits.
+    all_of-then _ IsGoodLine _ (number_word 1 LIMIT expires) (good-number 1 LIMIT expires) (λ e is_e.
+    all_of-then _ IsGoodLine _ (subscription_word sub) (good-subscription sub) (λ u is_u.
+    all_of-then _ IsGoodLine _ (source_word source) (good-source source) (λ s is_s.
+    all_of-map _ IsGoodLine (λ query. SubscribeAt u s limits.0 limits.1 limits.2 e query) (query_words kind words) (good-query_words kind words)
+    (λ query are. (λ j. is_u j && is_s j && are_limits j && is_e j && are j, tt))))))
+
 good-end_line : (words : List (List ℕ)) → AllOf IsGoodLine (end_line words)
 good-end_line [] = tt
 good-end_line (sub ∷ []) = all_of-map _ IsGoodLine (λ u. End u) (subscription_word sub) (good-subscription sub) (λ u h. (h, tt))
@@ -160,10 +177,16 @@ good-write_xml_line (source ∷ word ∷ words) =
     all_of-then _ IsGoodLine _ (source_word source) (good-source source) (λ s is_s.
     all_of-map _ IsGoodLine (λ event. WriteXml s event) (xml_event_words word words) (good-xml_event_words word words) (λ event may. (λ i. is_s i && may i, tt)))
 
-good-ask_line : (words : List (List ℕ)) → AllOf IsGoodLine (ask_line words)
-good-ask_line [] = tt
-good-ask_line (source ∷ []) = all_of-map _ IsGoodLine (λ s. Ask s) (source_word source) (good-source source) (λ s h. (h, tt))
-good-ask_line (a ∷ b ∷ more) = tt
+good-only_source_words : (words : List (List ℕ)) → AllOf (λ s. is_source s ≡ true) (only_source_words words)
+good-only_source_words [] = tt
+good-only_source_words (source ∷ []) = good-source source
+good-only_source_words (a ∷ b ∷ more) = tt
+
+good-ask_line : (words : List (List ℕ)) → AllOf IsGoodLine (option_map (λ s. Ask s) (only_source_words words))
+good-ask_line words = all_of-map _ IsGoodLine (λ s. Ask s) (only_source_words words) (good-only_source_words words) (λ s h. (h, tt))
+
+good-shut_line : (words : List (List ℕ)) → AllOf IsGoodLine (option_map (λ s. Shut s) (only_source_words words))
+good-shut_line words = all_of-map _ IsGoodLine (λ s. Shut s) (only_source_words words) (good-only_source_words words) (λ s h. (h, tt))
 
 good-pair_words : (words : List (List ℕ)) → AllOf (λ pair. (is_source pair.0 && is_subscription pair.1) ≡ true) (pair_words words)
 good-pair_words [] = tt
@@ -179,14 +202,16 @@ good-poll_line words = all_of-map _ IsGoodLine (λ pair. Poll pair.0 pair.1) (pa
 good-lost_line : (words : List (List ℕ)) → AllOf IsGoodLine (option_map (λ pair. Lost pair.0 pair.1) (pair_words words))
 good-lost_line words = all_of-map _ IsGoodLine (λ pair. Lost pair.0 pair.1) (pair_words words) (good-pair_words words) (λ pair h. (h, tt))
 
+-- ---- messages
+
 counts : (given : Option ℕ) → AllOf (λ n. is_between 0 MAX n ≡ true) given → AllOf (λ n. is_count n ≡ true) given
 counts None h = tt
 counts (Some n) h = count_from_between n h
 
-good-message_words : (words : List (List ℕ)) → AllOf (λ n. is_count n ≡ true) (message_words words)
-good-message_words [] = tt
-good-message_words (number ∷ []) = counts (number_word 0 MAX number) (good-number 0 MAX number)
-good-message_words (a ∷ b ∷ more) = tt
+good-only_number_words : (words : List (List ℕ)) → AllOf (λ n. is_count n ≡ true) (only_number_words words)
+good-only_number_words [] = tt
+good-only_number_words (number ∷ []) = counts (number_word 0 MAX number) (good-number 0 MAX number)
+good-only_number_words (a ∷ b ∷ more) = tt
 
 good-deliver_line : (words : List (List ℕ)) → AllOf IsGoodLine (deliver_line words)
 good-deliver_line [] = tt
@@ -194,8 +219,16 @@ good-deliver_line (number ∷ words) =
     all_of-then _ IsGoodLine _ (number_word 0 MAX number) (counts (number_word 0 MAX number) (good-number 0 MAX number)) (λ n is_n.
     all_of-map (λ _. Unit {0}) IsGoodLine (λ seen. Deliver n seen) (seen_words words) (any (seen_words words)) (λ seen _. (is_n, tt)))
 
-good-back_line : (words : List (List ℕ)) → AllOf IsGoodLine (back_line words)
-good-back_line words = all_of-map _ IsGoodLine (λ n. Back n) (message_words words) (good-message_words words) (λ n h. (h, tt))
+good-back_line : (words : List (List ℕ)) → AllOf IsGoodLine (option_map (λ n. Back n) (only_number_words words))
+good-back_line words = all_of-map _ IsGoodLine (λ n. Back n) (only_number_words words) (good-only_number_words words) (λ n h. (h, tt))
+
+good-request_line : (words : List (List ℕ)) → AllOf IsGoodLine (request_line words)
+good-request_line [] = (refl, tt)
+good-request_line (word ∷ words) = tt
+
+good-forget_line : (words : List (List ℕ)) → AllOf IsGoodLine (forget_line words)
+good-forget_line [] = (refl, tt)
+good-forget_line (word ∷ words) = tt
 
 -- ---- what is printed
 
@@ -244,6 +277,11 @@ good-calm_line : (words : List (List ℕ)) → AllOf IsGoodLine (calm_line words
 good-calm_line [] = (refl, tt)
 good-calm_line (word ∷ words) = tt
 
+-- ---- the moment
+
+good-tick_line : (words : List (List ℕ)) → AllOf IsGoodLine (option_map (λ n. Tick n) (only_number_words words))
+good-tick_line words = all_of-map _ IsGoodLine (λ n. Tick n) (only_number_words words) (good-only_number_words words) (λ n h. (h, tt))
+
 -- ---- any line
 
 good-failure_line_of : (kind : List ℕ) (words : List (List ℕ)) → AllOf IsGoodLine (failure_line_of kind words)
@@ -251,7 +289,13 @@ good-failure_line_of kind words =
     all_of-if IsGoodLine (same kind (codes "crash")) _ _ (good-crash_line words)
     (all_of-if IsGoodLine (same kind (codes "fail")) _ _ (good-fail_line words)
     (all_of-if IsGoodLine (same kind (codes "stop")) _ _ (good-stop_line words)
-    (all_of-if IsGoodLine (same kind (codes "calm")) _ None (good-calm_line words) tt)))
+    (all_of-if IsGoodLine (same kind (codes "calm")) _ _ (good-calm_line words)
+    (all_of-if IsGoodLine (same kind (codes "tick")) _ None (good-tick_line words) tt))))
+
+good-message_line_of : (kind : List ℕ) (words : List (List ℕ)) → AllOf IsGoodLine (message_line_of kind words)
+good-message_line_of kind words =
+    all_of-if IsGoodLine (same kind (codes "deliver")) _ _ (good-deliver_line words)
+    (all_of-if IsGoodLine (same kind (codes "back")) _ _ (good-back_line words) (good-failure_line_of kind words))
 
 good-source_line_of : (kind : List ℕ) (words : List (List ℕ)) → AllOf IsGoodLine (source_line_of kind words)
 good-source_line_of kind words =
@@ -261,16 +305,21 @@ good-source_line_of kind words =
     (all_of-if IsGoodLine (same kind (codes "ask")) _ _ (good-ask_line words)
     (all_of-if IsGoodLine (same kind (codes "poll")) _ _ (good-poll_line words)
     (all_of-if IsGoodLine (same kind (codes "lost")) _ _ (good-lost_line words)
-    (all_of-if IsGoodLine (same kind (codes "deliver")) _ _ (good-deliver_line words)
-    (all_of-if IsGoodLine (same kind (codes "back")) _ _ (good-back_line words) (good-failure_line_of kind words))))))))
+    (all_of-if IsGoodLine (same kind (codes "shut")) _ _ (good-shut_line words) (good-message_line_of kind words)))))))
+
+good-collector_line_of : (kind : List ℕ) (words : List (List ℕ)) → AllOf IsGoodLine (collector_line_of kind words)
+good-collector_line_of kind words =
+    all_of-if IsGoodLine (same kind (codes "subscribe")) _ _ (good-subscribe_line words)
+    (all_of-if IsGoodLine (same kind (codes "subscribeat")) _ _ (good-subscribe_at_line words)
+    (all_of-if IsGoodLine (same kind (codes "end")) _ _ (good-end_line words)
+    (all_of-if IsGoodLine (same kind (codes "request")) _ _ (good-request_line words)
+    (all_of-if IsGoodLine (same kind (codes "forget")) _ _ (good-forget_line words)
+    (all_of-if IsGoodLine (same kind (codes "show")) _ _ (good-show_line words)
+    (all_of-if IsGoodLine (same kind (codes "print")) _ _ (good-print_line words) (good-source_line_of kind words)))))))
 
 good-other_line : (words : List (List ℕ)) → AllOf IsGoodLine (other_line words)
 good-other_line [] = tt
-good-other_line (kind ∷ words) =
-    all_of-if IsGoodLine (same kind (codes "subscribe")) _ _ (good-subscribe_line words)
-    (all_of-if IsGoodLine (same kind (codes "end")) _ _ (good-end_line words)
-    (all_of-if IsGoodLine (same kind (codes "show")) _ _ (good-show_line words)
-    (all_of-if IsGoodLine (same kind (codes "print")) _ _ (good-print_line words) (good-source_line_of kind words))))
+good-other_line (kind ∷ words) = good-collector_line_of kind words
 
 good-line_of_words : (words : List (List ℕ)) → AllOf IsGoodLine (line_of_words words)
 good-line_of_words [] = tt

@@ -1,14 +1,15 @@
 -- Which lines, as values, a schedule may have next.
 --     subscribe    items from 1 to 10,000, bytes from 8,192 to 4,194,304, the beat from 1 to 86,400,000, and one query or more, in
 --                  groups that count from 0, each of a text of characters that XML allows, which says a path
+--     subscribeat  as subscribe, at a declared source, and it expires after 1 to 8,640,000,000,000 milliseconds
 --     batch        of a source that isn't named `collector` and wasn't declared, with one word or more; the numbers of events and of
 --                  dropped records are from 1 to 2^63 - 1, counts and how far the batch reads a channel up to that; each event is
 --                  the one that its text says (`PlainEvents` says what it is in the lines that a schedule gives)
 --     source       of a capacity from 1 to 1,000,000, not named `collector`, not declared yet and not named by a batch yet
 --     write        of a declared source, and the event's text fits with the greatest number
 --     writexml     of a declared source, and the event is the one that its text says
---     ask, poll, lost    of a declared source
---     deliver, back      of a number up to 2^63 - 1
+--     ask, poll, lost, shut    of a declared source
+--     deliver, back, tick      of a number up to 2^63 - 1
 --     crash, fail, stop    of the collector, or of a declared source that isn't named `collector`
 -- The other lines may always stand. All names are such as their readers give.
 use Rattle.std.specs.Prelude.{◌≡◌, ℕ, ◌==◌, nat_le, Bool, true, false, not, ◌&&◌, ◌||◌, is_some, List, [], ◌∷◌, length, codes, Option, Some, None}
@@ -26,11 +27,12 @@ use Rattle.wef_event.specs.Unnumbered.{plain_numbered}
 use Rattle.wef_event.specs.declared.unnumbered.PlainEvent.{PlainEvent}
 use Rattle.wef_query.specs.Items.{QueryItem, says_path}
 use Rattle.wef_query.specs.Laws.{are_grouped}
+use Rattle.wef_times.specs.declared.durations.TheConstants.{LIMIT}
 use Rattle.wef_replay_values.specs.declared.end_name.EndName.{EndName}
 use Rattle.wef_replay_values.specs.declared.end_name.EndName.TheVariants as end
 use Rattle.wef_lines.specs.Documents.{is_new_event}
 use Rattle.wef_replay.specs.declared.lines.Line.{Line}
-use Rattle.wef_replay.specs.declared.lines.Line.TheVariants.{Subscribe, End, Batch, Source, Write, WriteXml, Ask, Poll, Deliver, Back, Lost, Show, Print, Crash, Fail, Stop, Calm}
+use Rattle.wef_replay.specs.declared.lines.Line.TheVariants.{Subscribe, SubscribeAt, End, Batch, Source, Write, WriteXml, Ask, Poll, Deliver, Back, Request, Forget, Lost, Shut, Show, Print, Crash, Fail, Stop, Calm, Tick}
 
 abbrev pub is_between : ℕ → ℕ → ℕ → Bool
 is_between least greatest number = nat_le least number && nat_le number greatest
@@ -61,6 +63,10 @@ is_channel c = is_utf8 c && is_one c (channel_name c)
 -- the limits of a subscription
 abbrev pub are_limits : ℕ → ℕ → ℕ → Bool
 are_limits items bytes beat = is_between 1 10000 items && is_between 8192 4194304 bytes && is_between 1 86400000 beat
+
+-- how long a subscription stands at a source, in milliseconds
+abbrev pub is_expiry : ℕ → Bool
+is_expiry expires = is_between 1 LIMIT expires
 
 -- a text of a query: of characters that XML allows, and such that it says a path
 abbrev pub is_query_text : List ℕ → Bool
@@ -109,6 +115,7 @@ may_be_written event = is_channel event.channel && is_new_event event
 -- whether a line has values of the kinds that lines have
 abbrev pub is_line : Line → Bool
 is_line (Subscribe u items bytes beat query) = is_subscription u && are_limits items bytes beat && are_queries query.items
+is_line (SubscribeAt u s items bytes beat expires query) = is_subscription u && is_source s && are_limits items bytes beat && is_expiry expires && are_queries query.items
 is_line (End u) = is_subscription u
 is_line (Batch u s b) = is_subscription u && is_source s && is_no_collector s && are_words b
 is_line (Source s capacity) = is_source s && is_no_collector s && is_between 1 1000000 capacity
@@ -118,13 +125,17 @@ is_line (Ask s) = is_source s
 is_line (Poll s u) = is_source s && is_subscription u
 is_line (Deliver number seen) = is_count number
 is_line (Back number) = is_count number
+is_line Request = true
+is_line Forget = true
 is_line (Lost s u) = is_source s && is_subscription u
+is_line (Shut s) = is_source s
 is_line Show = true
 is_line (Print u s c) = is_subscription u && is_source s && is_channel c
 is_line (Crash e) = is_end e
 is_line (Fail e after) = is_end e
 is_line (Stop e after) = is_end e
 is_line Calm = true
+is_line (Tick ms) = is_count ms
 
 -- The names of sources that lines gave: those that `source` lines declared, and those that `batch` lines named.
 pub record Names : Type 0 where
@@ -152,6 +163,7 @@ has_end names (end.Source s) = is_among names.declared s
 
 -- whether a line may follow lines that gave these names
 abbrev pub allows : Names → Line → Bool
+allows names (SubscribeAt u s items bytes beat expires query) = is_among names.declared s
 allows names (Batch u s b) = not (is_among names.declared s)
 allows names (Source s capacity) = not (is_among names.declared s) && not (is_among names.foreign s)
 allows names (Write s event) = is_among names.declared s
@@ -159,6 +171,7 @@ allows names (WriteXml s event) = is_among names.declared s
 allows names (Ask s) = is_among names.declared s
 allows names (Poll s u) = is_among names.declared s
 allows names (Lost s u) = is_among names.declared s
+allows names (Shut s) = is_among names.declared s
 allows names (Crash e) = has_end names e
 allows names (Fail e after) = has_end names e
 allows names (Stop e after) = has_end names e

@@ -1,6 +1,8 @@
 -- The lines of a schedule. Words are parted by one space; capital letters stand for words:
 --     subscribe SUB ITEMS BYTES BEAT all CHANNEL ..    ITEMS from 1 to 10,000, BYTES from 8,192 to 4,194,304, BEAT from 1 to 86,400,000; one channel or more
 --     subscribe SUB ITEMS BYTES BEAT query LIST        LIST is a document that says a list of queries
+--     subscribeat SUB SOURCE ITEMS BYTES BEAT EXPIRES all CHANNEL ..    as subscribe; EXPIRES from 1 to 8,640,000,000,000
+--     subscribeat SUB SOURCE ITEMS BYTES BEAT EXPIRES query LIST
 --     end SUB
 --     batch SUB SOURCE WORD ..                         one word of a batch or more; the source isn't named `collector`
 --     source SOURCE CAPACITY                           CAPACITY from 1 to 1,000,000; the source isn't named `collector`
@@ -10,13 +12,17 @@
 --     poll SOURCE SUB
 --     deliver NUMBER           deliver NUMBER seen
 --     back NUMBER
+--     request
+--     forget
 --     lost SOURCE SUB
+--     shut SOURCE
 --     show
 --     print SUB SOURCE CHANNEL
 --     crash END                                        END is the word `collector`, not percent-decoded, or a SOURCE that isn't named `collector`
 --     fail END before          fail END after
 --     stop END before          stop END after
 --     calm
+--     tick MS                                          MS up to 2^63 - 1
 -- LIST and EVENT are all that is left of their line, spaces too, and nothing in them is percent-decoded.
 -- An empty line and one that begins with `#` do nothing. A line that isn't UTF-8 is never good.
 use Rattle.std.specs.Prelude.{◌≡◌, refl, ℕ, ◌==◌, Bool, true, false, is_some, List, [], ◌∷◌, Option, Some, None, if◌then◌else◌, codes}
@@ -31,12 +37,13 @@ use Rattle.wef_event.specs.Unnumbered.{plain_numbered}
 use Rattle.wef_event.specs.declared.unnumbered.PlainEvent.{PlainEvent}
 use Rattle.wef_query.specs.declared.QueryList.{QueryList}
 use Rattle.wef_query.specs.Queries.{all_events_of}
+use Rattle.wef_times.specs.declared.durations.TheConstants.{LIMIT}
 use Rattle.wef_replay_values.specs.Values.{subscription_word, source_word, channel_word, sending_source_word, end_word, after_word, joined, number_word, channel_words}
 use Rattle.wef_replay_values.specs.declared.end_name.EndName.{EndName}
 use Rattle.wef_replay.specs.BatchWords.{read_words, empty_batch}
 use Rattle.wef_lines.specs.Documents.{list_in, new_event_in}
 use Rattle.wef_replay.specs.declared.lines.Line.{Line}
-use Rattle.wef_replay.specs.declared.lines.Line.TheVariants.{Subscribe, End, Batch, Source, Write, WriteXml, Ask, Poll, Deliver, Back, Lost, Show, Print, Crash, Fail, Stop, Calm}
+use Rattle.wef_replay.specs.declared.lines.Line.TheVariants.{Subscribe, SubscribeAt, End, Batch, Source, Write, WriteXml, Ask, Poll, Deliver, Back, Request, Forget, Lost, Shut, Show, Print, Crash, Fail, Stop, Calm, Tick}
 
 -- the query list of `all` and channels
 abbrev pub all_of : List (List ℕ) → QueryList
@@ -59,6 +66,12 @@ subscribe_line (sub ∷ items ∷ bytes ∷ beat ∷ kind ∷ words) =
     option_and_then (λ limits. option_and_then (λ u. option_map (λ query. Subscribe u limits.0 limits.1 limits.2 query)
     (query_words kind words)) (subscription_word sub)) (limit_words items bytes beat)
 subscribe_line _ = None
+
+abbrev pub subscribe_at_line : List (List ℕ) → Option Line
+subscribe_at_line (sub ∷ source ∷ items ∷ bytes ∷ beat ∷ expires ∷ kind ∷ words) =
+    option_and_then (λ limits. option_and_then (λ e. option_and_then (λ u. option_and_then (λ s. option_map (λ query. SubscribeAt u s limits.0 limits.1 limits.2 e query)
+    (query_words kind words)) (source_word source)) (subscription_word sub)) (number_word 1 LIMIT expires)) (limit_words items bytes beat)
+subscribe_at_line _ = None
 
 abbrev pub end_line : List (List ℕ) → Option Line
 end_line (sub ∷ []) = option_map (λ u. End u) (subscription_word sub)
@@ -107,19 +120,20 @@ abbrev pub write_xml_line : List (List ℕ) → Option Line
 write_xml_line (source ∷ word ∷ words) = option_and_then (λ s. option_map (λ event. WriteXml s event) (xml_event_words word words)) (source_word source)
 write_xml_line _ = None
 
-abbrev pub ask_line : List (List ℕ) → Option Line
-ask_line (source ∷ []) = option_map (λ s. Ask s) (source_word source)
-ask_line _ = None
+-- a source, and nothing more
+abbrev pub only_source_words : List (List ℕ) → Option (List ℕ)
+only_source_words (source ∷ []) = source_word source
+only_source_words _ = None
 
 -- a source and a subscription
 abbrev pub pair_words : List (List ℕ) → Option (List ℕ × List ℕ)
 pair_words (source ∷ sub ∷ []) = option_and_then (λ s. option_map (λ u. (s, u)) (subscription_word sub)) (source_word source)
 pair_words _ = None
 
--- the number of a message, and nothing more
-abbrev pub message_words : List (List ℕ) → Option ℕ
-message_words (number ∷ []) = number_word 0 MAX number
-message_words _ = None
+-- a number, and nothing more
+abbrev pub only_number_words : List (List ℕ) → Option ℕ
+only_number_words (number ∷ []) = number_word 0 MAX number
+only_number_words _ = None
 
 -- whether what a message says is printed first: no word, or `seen`
 abbrev pub seen_words : List (List ℕ) → Option Bool
@@ -131,8 +145,13 @@ abbrev pub deliver_line : List (List ℕ) → Option Line
 deliver_line (number ∷ words) = option_and_then (λ n. option_map (λ seen. Deliver n seen) (seen_words words)) (number_word 0 MAX number)
 deliver_line [] = None
 
-abbrev pub back_line : List (List ℕ) → Option Line
-back_line words = option_map (λ n. Back n) (message_words words)
+abbrev pub request_line : List (List ℕ) → Option Line
+request_line [] = Some Request
+request_line (word ∷ words) = None
+
+abbrev pub forget_line : List (List ℕ) → Option Line
+forget_line [] = Some Forget
+forget_line (word ∷ words) = None
 
 abbrev pub show_line : List (List ℕ) → Option Line
 show_line [] = Some Show
@@ -156,34 +175,47 @@ abbrev pub calm_line : List (List ℕ) → Option Line
 calm_line [] = Some Calm
 calm_line (word ∷ words) = None
 
--- a line of a failure, by its kind and its other words
+-- a line of a failure or of the moment, by its kind and its other words
 abbrev pub failure_line_of : List ℕ → List (List ℕ) → Option Line
 failure_line_of kind words =
     if same kind (codes "crash") then crash_line words
     else (if same kind (codes "fail") then option_map (λ commit. Fail commit.0 commit.1) (commit_words words)
     else (if same kind (codes "stop") then option_map (λ commit. Stop commit.0 commit.1) (commit_words words)
-    else (if same kind (codes "calm") then calm_line words else None)))
+    else (if same kind (codes "calm") then calm_line words
+    else (if same kind (codes "tick") then option_map (λ n. Tick n) (only_number_words words) else None))))
 
--- a line of a source, a message or a failure, by its kind and its other words
+-- a line of a message, a failure or the moment, by its kind and its other words
+abbrev pub message_line_of : List ℕ → List (List ℕ) → Option Line
+message_line_of kind words =
+    if same kind (codes "deliver") then deliver_line words
+    else (if same kind (codes "back") then option_map (λ n. Back n) (only_number_words words) else failure_line_of kind words)
+
+-- a line of a source, a message, a failure or the moment, by its kind and its other words
 abbrev pub source_line_of : List ℕ → List (List ℕ) → Option Line
 source_line_of kind words =
     if same kind (codes "source") then source_line words
     else (if same kind (codes "write") then write_line words
     else (if same kind (codes "writexml") then write_xml_line words
-    else (if same kind (codes "ask") then ask_line words
+    else (if same kind (codes "ask") then option_map (λ s. Ask s) (only_source_words words)
     else (if same kind (codes "poll") then option_map (λ pair. Poll pair.0 pair.1) (pair_words words)
     else (if same kind (codes "lost") then option_map (λ pair. Lost pair.0 pair.1) (pair_words words)
-    else (if same kind (codes "deliver") then deliver_line words
-    else (if same kind (codes "back") then back_line words else failure_line_of kind words)))))))
+    else (if same kind (codes "shut") then option_map (λ s. Shut s) (only_source_words words) else message_line_of kind words))))))
+
+-- a line of the collector, or any other that is no batch, by its kind and its other words
+abbrev pub collector_line_of : List ℕ → List (List ℕ) → Option Line
+collector_line_of kind words =
+    if same kind (codes "subscribe") then subscribe_line words
+    else (if same kind (codes "subscribeat") then subscribe_at_line words
+    else (if same kind (codes "end") then end_line words
+    else (if same kind (codes "request") then request_line words
+    else (if same kind (codes "forget") then forget_line words
+    else (if same kind (codes "show") then show_line words
+    else (if same kind (codes "print") then print_line words else source_line_of kind words))))))
 
 -- a line that is no batch, by its first word
 abbrev pub other_line : List (List ℕ) → Option Line
 other_line [] = None
-other_line (kind ∷ words) =
-    if same kind (codes "subscribe") then subscribe_line words
-    else (if same kind (codes "end") then end_line words
-    else (if same kind (codes "show") then show_line words
-    else (if same kind (codes "print") then print_line words else source_line_of kind words)))
+other_line (kind ∷ words) = collector_line_of kind words
 
 -- the line that words make, by their first
 abbrev pub line_of_words : List (List ℕ) → Option Line

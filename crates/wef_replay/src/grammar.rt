@@ -4,9 +4,9 @@ ghost use Rattle.std.specs.Option.{option_map};
 ghost use Rattle.std.specs.Prelude.{◌≡◌};
 ghost use Rattle.wef_base.specs.Words.{parts};
 ghost use Rattle.wef_lines.specs.Documents.{list_in};
-ghost use Rattle.wef_replay.specs.Grammar.{all_of, ask_line, back_line, batch_line, batch_of_source, calm_line, commit_words, crash_line, deliver_line, does_nothing, end_line, event_words, failure_line_of, fitting_event, limit_words, line_of_words, meaning, message_words, other_line, pair_words, print_line, query_words, seen_words, show_line, source_line, source_line_of, subscribe_line, write_line, write_xml_line, xml_event_words};
+ghost use Rattle.wef_replay.specs.Grammar.{all_of, batch_line, batch_of_source, calm_line, collector_line_of, commit_words, crash_line, deliver_line, does_nothing, end_line, event_words, failure_line_of, fitting_event, forget_line, limit_words, line_of_words, meaning, message_line_of, only_number_words, only_source_words, other_line, pair_words, print_line, query_words, request_line, seen_words, show_line, source_line, source_line_of, subscribe_at_line, subscribe_line, write_line, write_xml_line, xml_event_words};
 ghost use Rattle.wef_replay.specs.Parts.{parts_behind};
-ghost use Rattle.wef_replay.specs.declared.lines.Line.TheVariants.{Fail, Lost, Poll, Stop};
+ghost use Rattle.wef_replay.specs.declared.lines.Line.TheVariants.{Ask, Back, Fail, Lost, Poll, Shut, Stop, Tick};
 ghost use Rattle.wef_replay_values.specs.Reading.{Gives};
 ghost use Rattle.wef_replay_values.specs.Values.{channel_words, joined};
 
@@ -26,6 +26,7 @@ use wef_replay_values::values::{
     LineFault, after_of, channel_of, channels_of, end_of, is_word, joined, number_of,
     sending_source_of, source_of, subscription_of, text_of, utf8_text_of,
 };
+use wef_times::durations::LIMIT;
 
 /// What a line does, if anything.
 pub fn read_line(alloc: Global, text: &[u8]) -> Result<Option<Line>, LineFault>
@@ -66,16 +67,40 @@ fn other_line_of(alloc: Global, words: &[Bytes]) -> Result<Line, LineFault>
     ensures { Gives result (other_line words.now) }
 {
     match words {
-        [kind, words @ ..] if is_word(kind, "subscribe") => subscribe_of(alloc, words),
-        [kind, words @ ..] if is_word(kind, "end") => ended_of(alloc, words),
-        [kind, words @ ..] if is_word(kind, "show") => show_of(words),
-        [kind, words @ ..] if is_word(kind, "print") => print_of(alloc, words),
-        [kind, words @ ..] => source_line_of(alloc, kind, words),
+        [kind, words @ ..] => collector_line_of(alloc, kind, words),
         [] => Err(LineFault::NotUnderstood),
     }
 }
 
-/// A line of a source, a message or a failure.
+/// A line of the collector, or any other that is no batch.
+fn collector_line_of(alloc: Global, kind: &Bytes, words: &[Bytes]) -> Result<Line, LineFault>
+    ensures { Gives result (collector_line_of kind.now words.now) }
+{
+    if is_word(kind, "subscribe") {
+        return subscribe_of(alloc, words);
+    }
+    if is_word(kind, "subscribeat") {
+        return subscribe_at_of(alloc, words);
+    }
+    if is_word(kind, "end") {
+        return ended_of(alloc, words);
+    }
+    if is_word(kind, "request") {
+        return request_of(words);
+    }
+    if is_word(kind, "forget") {
+        return forget_of(words);
+    }
+    if is_word(kind, "show") {
+        return show_of(words);
+    }
+    if is_word(kind, "print") {
+        return print_of(alloc, words);
+    }
+    source_line_of(alloc, kind, words)
+}
+
+/// A line of a source, a message, a failure or the moment.
 fn source_line_of(alloc: Global, kind: &Bytes, words: &[Bytes]) -> Result<Line, LineFault>
     ensures { Gives result (source_line_of kind.now words.now) }
 {
@@ -97,6 +122,16 @@ fn source_line_of(alloc: Global, kind: &Bytes, words: &[Bytes]) -> Result<Line, 
     if is_word(kind, "lost") {
         return lost_of(alloc, words);
     }
+    if is_word(kind, "shut") {
+        return shut_of(alloc, words);
+    }
+    message_line_of(alloc, kind, words)
+}
+
+/// A line of a message, a failure or the moment.
+fn message_line_of(alloc: Global, kind: &Bytes, words: &[Bytes]) -> Result<Line, LineFault>
+    ensures { Gives result (message_line_of kind.now words.now) }
+{
     if is_word(kind, "deliver") {
         return deliver_of(words);
     }
@@ -106,7 +141,7 @@ fn source_line_of(alloc: Global, kind: &Bytes, words: &[Bytes]) -> Result<Line, 
     failure_line_of(alloc, kind, words)
 }
 
-/// A line of a failure.
+/// A line of a failure or of the moment.
 fn failure_line_of(alloc: Global, kind: &Bytes, words: &[Bytes]) -> Result<Line, LineFault>
     ensures { Gives result (failure_line_of kind.now words.now) }
 {
@@ -121,6 +156,9 @@ fn failure_line_of(alloc: Global, kind: &Bytes, words: &[Bytes]) -> Result<Line,
     }
     if is_word(kind, "calm") {
         return calm_of(words);
+    }
+    if is_word(kind, "tick") {
+        return tick_of(words);
     }
     Err(LineFault::NotUnderstood)
 }
@@ -138,6 +176,30 @@ fn subscribe_of(alloc: Global, words: &[Bytes]) -> Result<Line, LineFault>
                 items,
                 bytes,
                 beat,
+                query,
+            })
+        }
+        _ => Err(LineFault::NotUnderstood),
+    }
+}
+
+fn subscribe_at_of(alloc: Global, words: &[Bytes]) -> Result<Line, LineFault>
+    ensures { Gives result (subscribe_at_line words.now) }
+{
+    match words {
+        [sub, source, items, bytes, beat, expires, kind, words @ ..] => {
+            let (items, bytes, beat) = limits_of(items, bytes, beat)?;
+            let expires = number_of(expires, 1, LIMIT)?;
+            let sub = subscription_of(alloc, sub)?;
+            let source = source_of(alloc, source)?;
+            let query = query_of(alloc, kind, words)?;
+            Ok(Line::SubscribeAt {
+                sub,
+                source,
+                items,
+                bytes,
+                beat,
+                expires,
                 query,
             })
         }
@@ -318,16 +380,28 @@ fn xml_event_of(alloc: Global, word: &Bytes, words: &[Bytes]) -> Result<Event, L
     new_event_in(&text)
 }
 
-fn ask_of(alloc: Global, words: &[Bytes]) -> Result<Line, LineFault>
-    ensures { Gives result (ask_line words.now) }
+/// A source, and nothing more.
+fn only_source_of(alloc: Global, words: &[Bytes]) -> Result<SourceName, LineFault>
+    ensures { Gives result (only_source_words words.now) }
 {
     match words {
-        [source] => {
-            let source = source_of(alloc, source)?;
-            Ok(Line::Ask { source })
-        }
+        [source] => source_of(alloc, source),
         _ => Err(LineFault::NotUnderstood),
     }
+}
+
+fn ask_of(alloc: Global, words: &[Bytes]) -> Result<Line, LineFault>
+    ensures { Gives result (option_map (λ s. Ask s) (only_source_words words.now)) }
+{
+    let source = only_source_of(alloc, words)?;
+    Ok(Line::Ask { source })
+}
+
+fn shut_of(alloc: Global, words: &[Bytes]) -> Result<Line, LineFault>
+    ensures { Gives result (option_map (λ s. Shut s) (only_source_words words.now)) }
+{
+    let source = only_source_of(alloc, words)?;
+    Ok(Line::Shut { source })
 }
 
 /// A source and a subscription.
@@ -358,9 +432,9 @@ fn lost_of(alloc: Global, words: &[Bytes]) -> Result<Line, LineFault>
     Ok(Line::Lost { source, sub })
 }
 
-/// The number of a message, and nothing more.
-fn message_of(words: &[Bytes]) -> Result<u64, LineFault>
-    ensures { Gives result (message_words words.now) }
+/// A number, and nothing more.
+fn only_number_of(words: &[Bytes]) -> Result<u64, LineFault>
+    ensures { Gives result (only_number_words words.now) }
 {
     match words {
         [number] => number_of(number, 0, MAX),
@@ -393,10 +467,28 @@ fn deliver_of(words: &[Bytes]) -> Result<Line, LineFault>
 }
 
 fn back_of(words: &[Bytes]) -> Result<Line, LineFault>
-    ensures { Gives result (back_line words.now) }
+    ensures { Gives result (option_map (λ n. Back n) (only_number_words words.now)) }
 {
-    let number = message_of(words)?;
+    let number = only_number_of(words)?;
     Ok(Line::Back { number })
+}
+
+fn request_of(words: &[Bytes]) -> Result<Line, LineFault>
+    ensures { Gives result (request_line words.now) }
+{
+    match words {
+        [] => Ok(Line::Request),
+        _ => Err(LineFault::NotUnderstood),
+    }
+}
+
+fn forget_of(words: &[Bytes]) -> Result<Line, LineFault>
+    ensures { Gives result (forget_line words.now) }
+{
+    match words {
+        [] => Ok(Line::Forget),
+        _ => Err(LineFault::NotUnderstood),
+    }
 }
 
 fn show_of(words: &[Bytes]) -> Result<Line, LineFault>
@@ -473,4 +565,11 @@ fn calm_of(words: &[Bytes]) -> Result<Line, LineFault>
         [] => Ok(Line::Calm),
         _ => Err(LineFault::NotUnderstood),
     }
+}
+
+fn tick_of(words: &[Bytes]) -> Result<Line, LineFault>
+    ensures { Gives result (option_map (λ n. Tick n) (only_number_words words.now)) }
+{
+    let milliseconds = only_number_of(words)?;
+    Ok(Line::Tick { milliseconds })
 }

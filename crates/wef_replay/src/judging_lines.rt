@@ -5,7 +5,7 @@ ghost use Rattle.std.specs.Prelude.{◌≡◌, ◌&&◌};
 ghost use Rattle.std.specs.Str.{is_utf8};
 ghost use Rattle.wef_base.specs.Characters.{is_xml_text};
 ghost use Rattle.wef_lines.specs.Documents.{is_new_event};
-ghost use Rattle.wef_replay.specs.Good.{are_limits, are_queries, fits_always, may_be_written, is_between, is_channel, is_count, is_end, is_line, is_no_collector, is_query, is_source, is_subscription};
+ghost use Rattle.wef_replay.specs.Good.{are_limits, are_queries, fits_always, may_be_written, is_between, is_channel, is_count, is_end, is_expiry, is_line, is_no_collector, is_query, is_source, is_subscription};
 
 use crate::lines::Line;
 use wef_base::numbers::MAX;
@@ -13,6 +13,7 @@ use wef_base::{ChannelName, SourceName, SubId, Text, is_xml_char};
 use wef_event::{Event, PlainEvent};
 use wef_query::{QueryItem, QueryList};
 use wef_replay_values::EndName;
+use wef_times::durations::LIMIT;
 
 /// Whether the values of a line are within the limits of a schedule, wherever the line stands. It
 /// takes no memory.
@@ -27,6 +28,21 @@ pub fn is_line(line: &Line) -> bool
             beat,
             query,
         } => { is_subscription(sub) && are_limits(*items, *bytes, *beat) && are_queries(query) }
+        Line::SubscribeAt {
+            sub,
+            source,
+            items,
+            bytes,
+            beat,
+            expires,
+            query,
+        } => {
+            is_subscription(sub)
+                && is_source(source)
+                && are_limits(*items, *bytes, *beat)
+                && is_expiry(*expires)
+                && are_queries(query)
+        }
         Line::End { sub } => is_subscription(sub),
         Line::Batch { sub, source, batch } => {
             is_subscription(sub) && is_source(source) && is_no_collector(source) && batch.has_word()
@@ -40,7 +56,10 @@ pub fn is_line(line: &Line) -> bool
         Line::Poll { source, sub } => is_source(source) && is_subscription(sub),
         Line::Deliver { number, .. } => is_count(*number),
         Line::Back { number } => is_count(*number),
+        Line::Request => true,
+        Line::Forget => true,
         Line::Lost { source, sub } => is_source(source) && is_subscription(sub),
+        Line::Shut { source } => is_source(source),
         Line::Show => true,
         Line::Print {
             sub,
@@ -51,6 +70,7 @@ pub fn is_line(line: &Line) -> bool
         Line::Fail { end, .. } => is_end(end),
         Line::Stop { end, .. } => is_end(end),
         Line::Calm => true,
+        Line::Tick { milliseconds } => is_count(*milliseconds),
     }
 }
 
@@ -88,6 +108,13 @@ fn are_limits(items: u32, bytes: u32, beat: u64) -> bool
     is_between(1, 10_000, u64::from(items))
         && is_between(8192, 4_194_304, u64::from(bytes))
         && is_between(1, 86_400_000, beat)
+}
+
+/// Whether a subscription may stand so many milliseconds at a source.
+fn is_expiry(expires: u64) -> bool
+    ensures { result ≡ is_expiry expires }
+{
+    is_between(1, LIMIT, expires)
 }
 
 fn is_between(least: u64, greatest: u64, number: u64) -> bool

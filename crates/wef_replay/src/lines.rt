@@ -18,6 +18,17 @@ pub enum Line {
         query: QueryList,
     },
 
+    /// Adds a subscription that the collector begins at a source.
+    SubscribeAt {
+        sub: SubId,
+        source: SourceName,
+        items: u32,
+        bytes: u32,
+        beat: u64,
+        expires: u64,
+        query: QueryList,
+    },
+
     /// Ends a subscription.
     End {
         sub: SubId,
@@ -71,10 +82,21 @@ pub enum Line {
         number: u64,
     },
 
+    /// Lets the collector send the next request to a source that is due.
+    Request,
+
+    /// Lets the collector wait for no answer any longer.
+    Forget,
+
     /// Lets a source give up waiting for the answer to a session's delivery.
     Lost {
         source: SourceName,
         sub: SubId,
+    },
+
+    /// Lets a source end the sessions that the collector began.
+    Shut {
+        source: SourceName,
     },
 
     /// Prints the report.
@@ -106,6 +128,11 @@ pub enum Line {
 
     /// Takes back what `Fail` and `Stop` lines armed.
     Calm,
+
+    /// Moves the moment on.
+    Tick {
+        milliseconds: u64,
+    },
 }
 
 /// One call for whoever lets a line go, whatever it holds.
@@ -117,6 +144,15 @@ impl Drop for Line {
                 items: _,
                 bytes: _,
                 beat: _,
+                query: _,
+            } => {}
+            Line::SubscribeAt {
+                sub: _,
+                source: _,
+                items: _,
+                bytes: _,
+                beat: _,
+                expires: _,
                 query: _,
             } => {}
             Line::End { sub: _ } => {}
@@ -142,6 +178,7 @@ impl Drop for Line {
             Line::Deliver { number: _, seen: _ } => {}
             Line::Back { number: _ } => {}
             Line::Lost { source: _, sub: _ } => {}
+            Line::Shut { source: _ } => {}
             Line::Print {
                 sub: _,
                 source: _,
@@ -150,7 +187,8 @@ impl Drop for Line {
             Line::Crash { end: _ } => {}
             Line::Fail { end: _, after: _ } => {}
             Line::Stop { end: _, after: _ } => {}
-            Line::Show | Line::Calm => {}
+            Line::Tick { milliseconds: _ } => {}
+            Line::Request | Line::Forget | Line::Show | Line::Calm => {}
         }
     }
 }

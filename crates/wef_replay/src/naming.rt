@@ -49,6 +49,7 @@ impl NamedSources {
         ensures { result ≡ allows self.now line.now }
     {
         match line {
+            Line::SubscribeAt { source, .. } => self.has_declared(source),
             Line::Batch { source, .. } => !self.has_declared(source),
             Line::Source { source, .. } => !self.has_declared(source) && !self.has_foreign(source),
             Line::Write { source, .. } => self.has_declared(source),
@@ -56,6 +57,7 @@ impl NamedSources {
             Line::Ask { source } => self.has_declared(source),
             Line::Poll { source, .. } => self.has_declared(source),
             Line::Lost { source, .. } => self.has_declared(source),
+            Line::Shut { source } => self.has_declared(source),
             Line::Crash { end } => self.has_end(end),
             Line::Fail { end, .. } => self.has_end(end),
             Line::Stop { end, .. } => self.has_end(end),
