@@ -16,14 +16,18 @@ use Rattle.wef_ids.specs.declared.FaultName.TheVariants.{InvalidMessage, Destina
 use Rattle.wef_ids.specs.declared.MessageId.{MessageId}
 use Rattle.wef_eventing.specs.Addresses.{source_in, subscription_in}
 use Rattle.wef_eventing.specs.declared.offers.Offer.{Offer}
+use Rattle.wef_front_source.specs.declared.listening.Hears as the_hears
+use Rattle.wef_front_source.specs.declared.listening.Hears.TheVariants as hears
 use Rattle.wef_keeper.specs.Calls.{Effect}
 use Rattle.wef_keeper.specs.Rows.{Rows}
 use Rattle.wef_source.specs.Answers.{asked_for, waiting_for}
 use Rattle.wef_source.specs.Machine.{End, acknowledged_in, adopted, refused_in}
 use Rattle.wef_source.specs.declared.messages.Delivery.{Delivery}
+use Rattle.wef_machine.specs.Answering.{closed_text, took_text, with_answer}
 use Rattle.wef_machine.specs.Arming.{fate}
 use Rattle.wef_machine.specs.Collecting.{at_collector, print_at_collector, reply_id, with_call, with_reply}
-use Rattle.wef_machine.specs.Printed.{adopted_word, answered_line, fate_word, fault_answer, no_message_line, took_line}
+use Rattle.wef_machine.specs.Leasing.{note_at, note_text, request_taken_text, responds_at, response_at, response_text}
+use Rattle.wef_machine.specs.Printed.{adopted_word, answered_line, fault_answer, no_message_line, took_line}
 use Rattle.wef_machine.specs.Sources.{at_source, print_at_slot}
 use Rattle.wef_machine.specs.States.{Slot, State, host, next_number, slot_of, with_end}
 use Rattle.wef_machine.specs.declared.arming.Fate.{Fate}
@@ -87,16 +91,6 @@ abbrev pub answer_word : State → BatchEffect → Batch → List ℕ
 answer_word state (Ok changes) batch = batch_word batch (fate state.collector.armed changes)
 answer_word state (Err fault) batch = fault_answer fault
 
--- the world with an answer, where there is one: it has an id that is drawn for it
-abbrev pub with_answer : State → Option Message → State
-with_answer state None = state
-with_answer state (Some message) = with_reply 1 state message
-
--- what is printed of message k, by the word for it and the number of the answer, where there is one
-abbrev pub took_text : ℕ → List ℕ → Option Message → ℕ → List ℕ
-took_text k word None j = took_line k word
-took_text k word (Some answer) j = answered_line k word j
-
 -- an open collector takes a delivery of a source with this effect
 abbrev pub events_by : State → BatchEffect → List ℕ → MessageId → Delivery → State
 events_by state effect s id delivery = with_answer (with_call state effect) (answer_with state effect s id delivery)
@@ -121,17 +115,13 @@ offers_at s relates memory state = offers_with state s (reply_id memory) relates
 abbrev pub offers_text : ℕ → Memory → State → List ℕ
 offers_text k memory state = answered_line k (codes "offers") (next_number state)
 
--- what is printed of message k where its end can't be opened
-abbrev pub closed_text : ℕ → Fate → List ℕ
-closed_text k fate = took_line k (fate_word fate)
-
 -- a source takes offers at a moment
 abbrev pub after_offers : End → MessageId → List Offer → ℕ → End
 after_offers end relates given now = if ids_agree end.ask relates.value then adopted end given now else end
 
-abbrev pub offers_word : End → MessageId → List Offer → ℕ → List ℕ
-offers_word end relates given now =
-    if ids_agree end.ask relates.value then adopted_word (asked_for (adopted end given now).sessions) else codes "not-asked"
+-- what it hears in them
+abbrev pub offers_heard : End → MessageId → List Offer → ℕ → the_hears.Hears
+offers_heard end relates given now = if ids_agree end.ask relates.value then hears.Adopted (asked_for (adopted end given now).sessions) else hears.NotAsked
 
 -- a source takes an acknowledgement of an id
 abbrev pub acknowledged_by : End → Option ℕ → End
@@ -141,8 +131,8 @@ acknowledged_by end (Some id) = acknowledged_in end id
 abbrev pub after_ack : End → MessageId → End
 after_ack end relates = if is_some (waiting_for end relates.value) then acknowledged_by end relates.value else end
 
-abbrev pub ack_word : End → MessageId → List ℕ
-ack_word end relates = if is_some (waiting_for end relates.value) then codes "moved" else codes "not-asked"
+abbrev pub ack_heard : End → MessageId → the_hears.Hears
+ack_heard end relates = if is_some (waiting_for end relates.value) then hears.Moved else hears.NotAsked
 
 -- a source takes a fault
 abbrev pub refused_by : End → Option ℕ → FaultName → End
@@ -152,8 +142,16 @@ refused_by end (Some id) fault = refused_in end id fault
 abbrev pub after_fault : End → MessageId → FaultName → End
 after_fault end relates fault = if is_some (waiting_for end relates.value) then refused_by end relates.value fault else end
 
-abbrev pub fault_word : End → MessageId → List ℕ
-fault_word end relates = if is_some (waiting_for end relates.value) then codes "refused" else codes "not-asked"
+abbrev pub fault_heard : End → MessageId → the_hears.Hears
+fault_heard end relates = if is_some (waiting_for end relates.value) then hears.Refused else hears.NotAsked
+
+-- the word for what a source heard
+abbrev pub heard_word : the_hears.Hears → List ℕ
+heard_word (hears.Adopted count) = adopted_word count
+heard_word hears.Moved = codes "moved"
+heard_word hears.Refused = codes "refused"
+heard_word hears.NotAsked = codes "not-asked"
+heard_word hears.Unreadable = codes "not-asked"
 
 -- a source takes a message
 abbrev pub end_at : List ℕ → (End → End) → State → Slot → End → State
@@ -174,14 +172,20 @@ taken_by state (sent.Offers s id relates given) = at_source state s (end_at s (�
 taken_by state (sent.Events s delivery) = at_collector state (events_at s delivery)
 taken_by state (sent.Ack s id relates) = at_source state s (end_at s (λ end. after_ack end relates))
 taken_by state (sent.Fault s id relates fault) = at_source state s (end_at s (λ end. after_fault end relates fault))
+taken_by state (sent.Request s id identifier body) = at_source state s (responds_at s id identifier body)
+taken_by state (sent.Response s id relates answer) = at_collector state (response_at relates answer)
+taken_by state (sent.Ended s note) = at_collector state (note_at s note)
 
 -- what is printed of it, by its number
 abbrev pub taken_text : State → ℕ → Message → List ℕ
 taken_text state k (sent.Ask s id) = print_at_collector state (closed_text k) (offers_text k)
-taken_text state k (sent.Offers s id relates given) = source_text state k s (λ end. offers_word end relates given state.moment) (slot_of state s)
+taken_text state k (sent.Offers s id relates given) = source_text state k s (λ end. heard_word (offers_heard end relates given state.moment)) (slot_of state s)
 taken_text state k (sent.Events s delivery) = print_at_collector state (closed_text k) (events_text k s delivery)
-taken_text state k (sent.Ack s id relates) = source_text state k s (λ end. ack_word end relates) (slot_of state s)
-taken_text state k (sent.Fault s id relates fault) = source_text state k s (λ end. fault_word end relates) (slot_of state s)
+taken_text state k (sent.Ack s id relates) = source_text state k s (λ end. heard_word (ack_heard end relates)) (slot_of state s)
+taken_text state k (sent.Fault s id relates fault) = source_text state k s (λ end. heard_word (fault_heard end relates)) (slot_of state s)
+taken_text state k (sent.Request s id identifier body) = request_taken_text state k s id identifier body (slot_of state s)
+taken_text state k (sent.Response s id relates answer) = print_at_collector state (closed_text k) (response_text k relates answer)
+taken_text state k (sent.Ended s note) = print_at_collector state (closed_text k) (note_text k s note)
 
 -- the message of a number
 abbrev pub message_at : State → ℕ → Option Message

@@ -1,6 +1,8 @@
+pub mod Answering
 pub mod Arming
 pub mod Collecting
 pub mod Deliveries
+pub mod Leasing
 pub mod Places
 pub mod Printed
 pub mod Seen

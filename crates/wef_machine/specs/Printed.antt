@@ -28,9 +28,9 @@ wrote_line s c n = codes "wrote " ++ printed s ++ 32 ∷ printed c ++ 32 ∷ dec
 unfoldable pub sent_ask_line : ℕ → List ℕ → List ℕ
 sent_ask_line k s = codes "sent " ++ decimal k ++ codes " ask " ++ printed s ++ 10 ∷ []
 
--- `sent K events S U`
-unfoldable pub sent_events_line : ℕ → List ℕ → List ℕ → List ℕ
-sent_events_line k s u = codes "sent " ++ decimal k ++ codes " events " ++ printed s ++ 32 ∷ printed u ++ 10 ∷ []
+-- `sent K WORD S U`
+unfoldable pub sent_line : ℕ → List ℕ → List ℕ → List ℕ → List ℕ
+sent_line k word s u = codes "sent " ++ decimal k ++ 32 ∷ word ++ 32 ∷ printed s ++ 32 ∷ printed u ++ 10 ∷ []
 
 -- `took K WORD`
 unfoldable pub took_line : ℕ → List ℕ → List ℕ

@@ -1,11 +1,13 @@
 -- What a message says, as `deliver K seen` prints it before the message is delivered.
 use Rattle.std.specs.Prelude.{ℕ, Bool, List, [], Option, Some, None, if◌then◌else◌}
 use Rattle.wef_front.specs.Replies.{offers_bytes, reply_bytes}
-use Rattle.wef_front_source.specs.Sending.{delivery_bytes, enumerate_bytes}
+use Rattle.wef_front_source.specs.Sending.{delivery_bytes, end_bytes, enumerate_bytes}
+use Rattle.wef_requests.specs.Answers.{response_bytes}
+use Rattle.wef_requests.specs.Requests.{bytes_to}
 use Rattle.wef_source.specs.declared.messages.Reply.TheVariants as replies
 use Rattle.wef_machine.specs.Deliveries.{message_at}
 use Rattle.wef_machine.specs.Printed.{text_line}
-use Rattle.wef_machine.specs.States.{State, host}
+use Rattle.wef_machine.specs.States.{State, address_of, host}
 use Rattle.wef_machine.specs.declared.messages.Message.{Message}
 use Rattle.wef_machine.specs.declared.messages.Message.TheVariants as sent
 
@@ -16,6 +18,9 @@ message_text (sent.Offers s id relates given) = offers_bytes id relates given
 message_text (sent.Events s delivery) = delivery_bytes delivery
 message_text (sent.Ack s id relates) = reply_bytes id relates replies.Ack
 message_text (sent.Fault s id relates name) = reply_bytes id relates (replies.Fault name)
+message_text (sent.Request s id identifier body) = bytes_to (address_of s) id identifier body
+message_text (sent.Response s id relates answer) = response_bytes id relates answer
+message_text (sent.Ended s note) = end_bytes note
 
 -- the line of message k
 abbrev pub message_line : ℕ → Message → List ℕ

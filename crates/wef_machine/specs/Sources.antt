@@ -17,7 +17,7 @@ use Rattle.wef_building.specs.declared.sessions.Session.{Session}
 use Rattle.wef_machine.specs.Arming.{fate, is_kept}
 use Rattle.wef_machine.specs.Places.{Place, commits, new_place, opened, opening}
 use Rattle.wef_lines.specs.Printed.{name_line}
-use Rattle.wef_machine.specs.Printed.{fate_line, pair_line, sent_ask_line, sent_events_line, wrote_line}
+use Rattle.wef_machine.specs.Printed.{fate_line, pair_line, sent_ask_line, sent_line, wrote_line}
 use Rattle.wef_machine.specs.States.{Slot, State, next_number, slot_of, slot_with, with_end, with_message, with_slot}
 use Rattle.wef_machine.specs.declared.arming.Armed.{Armed}
 use Rattle.wef_machine.specs.declared.arming.Fate.{Fate}
@@ -129,7 +129,7 @@ poll_at s u state slot end = poll_in s state slot end (session_of end.sessions u
 abbrev pub poll_session_text : List ℕ → List ℕ → State → Slot → End → Session → List ℕ
 poll_session_text s u state slot end session =
     if is_idle slot.place.rows session then pair_line (codes "nothing") s u
-    else (if is_spent end then name_line (codes "spent") s else sent_events_line (next_number state) s u)
+    else (if is_spent end then name_line (codes "spent") s else sent_line (next_number state) (codes "events") s u)
 
 abbrev pub poll_text_in : List ℕ → List ℕ → State → Slot → End → Option Session → List ℕ
 poll_text_in s u state slot end None = pair_line (codes "unknown") s u

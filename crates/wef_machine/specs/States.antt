@@ -15,6 +15,10 @@ use Rattle.wef_machine.specs.declared.messages.Message.{Message}
 abbrev pub host : List ℕ
 host = codes "collector:5985"
 
+-- where a source is found
+abbrev pub address_of : List ℕ → List ℕ
+address_of s = s ++ codes ":5985"
+
 -- A declared source: how many records of a channel its log keeps, all that it ever wrote, and its end.
 pub record Slot : Type 0 where
   pub capacity : ℕ
@@ -83,6 +87,10 @@ calmed_slots slots = finite.from_entries (map (λ (entry : List ℕ × Slot). (e
 -- a world with one more message
 abbrev pub with_message : State → Message → State
 with_message state message = record state { messages = state.messages ++ message ∷ [] }
+
+-- a world with more messages, in their order
+abbrev pub with_messages : State → List Message → State
+with_messages state messages = record state { messages = state.messages ++ messages }
 
 -- the number of the message that is sent next
 abbrev pub next_number : State → ℕ

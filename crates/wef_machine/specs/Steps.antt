@@ -1,5 +1,6 @@
 -- What a schedule does: a step for each line, from a world in which nothing has happened, and what the line prints before it.
-use Rattle.std.specs.Prelude.{◌≡◌, ℕ, Bool, true, false, List, [], ◌∷◌, ◌++◌, Ok, Err, codes}
+use Rattle.std.specs.Prelude.{◌≡◌, ℕ, ◌+◌, min, Bool, true, false, List, [], ◌∷◌, ◌++◌, Ok, Err, codes}
+use Rattle.wef_base.specs.declared.moments.TheConstants.{LAST_MOMENT}
 use Rattle.wef_batch.specs.declared.items.Batch as batch
 use Rattle.wef_collector.specs.Calls.{Effect, add_effect, end_effect}
 use Rattle.wef_collector_rows.specs.Held.{held_after}
@@ -11,23 +12,24 @@ use Rattle.wef_collector_rows.specs.declared.standings.Standing as state
 use Rattle.wef_collector_rows.specs.declared.standings.Standing.TheVariants as is
 use Rattle.wef_event.specs.Unnumbered.{new_event}
 use Rattle.wef_eventing.specs.declared.subscriptions.Subscription.{Subscription}
-use Rattle.wef_eventing.specs.declared.subscriptions.SubKind.TheVariants.{BySource}
+use Rattle.wef_eventing.specs.declared.subscriptions.SubKind.TheVariants.{BySource, ByCollector}
 use Rattle.wef_keeper.specs.Rows.{Rows}
 use Rattle.wef_query.specs.declared.QueryList.{QueryList}
 use Rattle.wef_replay_values.specs.declared.end_name.EndName as the_end
 use Rattle.wef_replay_values.specs.declared.end_name.EndName.TheVariants as ends
 use Rattle.wef_replay.specs.Good.{is_good_after}
 use Rattle.wef_replay.specs.declared.lines.Line.{Line}
-use Rattle.wef_replay.specs.declared.lines.Line.TheVariants.{Subscribe, End, Batch, Source, Write, WriteXml, Ask, Poll, Deliver, Back, Lost, Crash, Fail, Stop, Calm, Show, Print}
+use Rattle.wef_replay.specs.declared.lines.Line.TheVariants.{Subscribe, SubscribeAt, End, Batch, Source, Write, WriteXml, Ask, Poll, Deliver, Back, Request, Forget, Lost, Shut, Crash, Fail, Stop, Calm, Show, Print, Tick}
 use Rattle.wef_machine.specs.Arming.{fate}
 use Rattle.wef_machine.specs.Collecting.{at_collector, print_at_collector, with_call}
 use Rattle.wef_machine.specs.Deliveries.{answer_word, batch_effect, deliver_printed, deliver_step, number_back}
 use Rattle.wef_lines.specs.Printed.{name_line, events_text}
+use Rattle.wef_machine.specs.Leasing.{forget_at, request_at, request_text, shut_printed, shut_step}
 use Rattle.wef_machine.specs.Printed.{batch_text, collector_name, fate_line, fate_word}
 use Rattle.wef_machine.specs.Places.{armed_with, calmed, crashed}
 use Rattle.wef_machine.specs.Seen.{seen_printed}
 use Rattle.wef_machine.specs.Sources.{ask_printed, ask_step, at_declared, declared_slot, fate_text, lost_printed, lost_step, poll_printed, poll_step, write_printed, write_step}
-use Rattle.wef_machine.specs.States.{State, calmed_slots, names_of, slot_of, start, with_collector, with_foreign, with_slot}
+use Rattle.wef_machine.specs.States.{State, address_of, calmed_slots, names_of, slot_of, start, with_collector, with_foreign, with_slot}
 use Rattle.wef_machine.specs.declared.arming.Armed.{Armed}
 use Rattle.wef_machine.specs.declared.arming.Fate.{Fate}
 
@@ -42,6 +44,20 @@ subscription_of u items bytes beat query = record {
   heartbeat = beat;
   expires = 3600000;
   sources = [];
+  version = 1;
+}
+
+-- the subscription that a line `subscribeat` makes: the collector begins it, at one source, and it has version 1
+abbrev pub begun_subscription : List ℕ → List ℕ → ℕ → ℕ → ℕ → ℕ → QueryList → Subscription
+begun_subscription u s items bytes beat expires query = record {
+  name = u;
+  kind = ByCollector;
+  query = query;
+  max_items = items;
+  max_bytes = bytes;
+  heartbeat = beat;
+  expires = expires;
+  sources = record { name = s; address = address_of s } ∷ [];
   version = 1;
 }
 
@@ -96,6 +112,10 @@ print_text u s c state = print_text_by state.collector.rows u s c (standing stat
 abbrev pub show_text : State → List ℕ
 show_text state = report state.collector.rows
 
+-- nothing is printed
+abbrev pub no_text : State → List ℕ
+no_text state = []
+
 -- a world as it is
 abbrev pub unchanged : State → State
 unchanged state = state
@@ -126,9 +146,14 @@ arm_step state (ends.Source s) armed = at_declared state s (λ place. armed_with
 abbrev pub calm_step : State → State
 calm_step state = record state { collector = calmed state.collector; sources = calmed_slots state.sources }
 
+-- the moment moves on, and stays at the last one
+abbrev pub tick_step : State → ℕ → State
+tick_step state milliseconds = record state { moment = min (state.moment + milliseconds) LAST_MOMENT }
+
 -- the state after a line
 abbrev pub step : Line → State → State
 step (Subscribe u items bytes beat query) state = at_collector state (λ memory. subscribe_at (subscription_of u items bytes beat query))
+step (SubscribeAt u s items bytes beat expires query) state = at_collector state (λ memory. subscribe_at (begun_subscription u s items bytes beat expires query))
 step (End u) state = at_collector state (λ memory. end_at u)
 step (Batch u s b) state = at_collector (with_foreign state s) (λ memory. batch_at u s b)
 step (Source s capacity) state = with_slot state s (declared_slot capacity)
@@ -138,13 +163,17 @@ step (Ask s) state = ask_step state s
 step (Poll s u) state = poll_step state s u
 step (Deliver k seen) state = deliver_step state k
 step (Back n) state = deliver_step state (number_back state n)
+step Request state = at_collector state request_at
+step Forget state = at_collector state forget_at
 step (Lost s u) state = lost_step state s u
+step (Shut s) state = shut_step state s
 step (Crash end) state = crash_step state end
 step (Fail end after) state = arm_step state end (record { after = after; stops = false })
 step (Stop end after) state = arm_step state end (record { after = after; stops = true })
 step Calm state = calm_step state
 step Show state = at_collector state (λ memory. unchanged)
 step (Print u s c) state = at_collector state (λ memory. unchanged)
+step (Tick milliseconds) state = tick_step state milliseconds
 
 -- what a line shows before it does anything: a message, where it asks for it
 abbrev pub seen_by : Line → State → List ℕ
@@ -154,6 +183,8 @@ seen_by line state = []
 -- what a line tells of what it does, by the state before it
 abbrev pub told_by : Line → State → List ℕ
 told_by (Subscribe u items bytes beat query) state = print_at_collector state closed_line (λ memory. subscribe_text (subscription_of u items bytes beat query))
+told_by (SubscribeAt u s items bytes beat expires query) state =
+    print_at_collector state closed_line (λ memory. subscribe_text (begun_subscription u s items bytes beat expires query))
 told_by (End u) state = print_at_collector state closed_line (λ memory. end_text u)
 told_by (Batch u s b) state = print_at_collector (with_foreign state s) (closed_batch u s) (λ memory. batch_line u s b)
 told_by (Source s capacity) state = []
@@ -163,13 +194,17 @@ told_by (Ask s) state = ask_printed state s
 told_by (Poll s u) state = poll_printed state s u
 told_by (Deliver k seen) state = deliver_printed state k
 told_by (Back n) state = deliver_printed state (number_back state n)
+told_by Request state = print_at_collector state closed_line request_text
+told_by Forget state = print_at_collector state closed_line (λ memory. no_text)
 told_by (Lost s u) state = lost_printed state s u
+told_by (Shut s) state = shut_printed state s
 told_by (Crash end) state = name_line (codes "crashed") (end_name end)
 told_by (Fail end after) state = []
 told_by (Stop end after) state = []
 told_by Calm state = []
 told_by Show state = print_at_collector state closed_line (λ memory. show_text)
 told_by (Print u s c) state = print_at_collector state closed_line (λ memory. print_text u s c)
+told_by (Tick milliseconds) state = []
 
 -- what it prints
 abbrev pub printed_by : Line → State → List ℕ

@@ -1,9 +1,11 @@
 //! The messages that the ends send each other.
 
-use wef_base::{List, SourceName};
+use wef_base::{List, SourceName, Text};
+use wef_bodies::Body;
+use wef_collector::Response;
 use wef_eventing::Offer;
 use wef_ids::{FaultName, MessageId};
-use wef_source::Delivery;
+use wef_source::{Delivery, EndNote};
 
 /// A message. Each is from or to a source; the other end is the collector. `id` is its own, drawn by
 /// the end that sends it, and `relates` the id of the request that it answers.
@@ -43,6 +45,29 @@ pub enum Message {
         relates: MessageId,
         name: FaultName,
     },
+
+    /// The collector asks the source to begin to send, to go on or to end; where it is about a
+    /// session, with the name that the source gave this.
+    Request {
+        source: SourceName,
+        id: MessageId,
+        identifier: Option<Text>,
+        body: Body,
+    },
+
+    /// The source's answer to such a request.
+    Response {
+        source: SourceName,
+        id: MessageId,
+        relates: MessageId,
+        response: Response,
+    },
+
+    /// The source tells that a session ended which the collector began.
+    Ended {
+        source: SourceName,
+        note: EndNote,
+    },
 }
 
 /// One call for whoever lets a message go, whatever it holds.
@@ -71,6 +96,19 @@ impl Drop for Message {
                 relates: _,
                 name: _,
             } => {}
+            Message::Request {
+                source: _,
+                id: _,
+                identifier: _,
+                body: _,
+            } => {}
+            Message::Response {
+                source: _,
+                id: _,
+                relates: _,
+                response: _,
+            } => {}
+            Message::Ended { source: _, note: _ } => {}
         }
     }
 }
