@@ -27,7 +27,7 @@ use Rattle.wef_pairs.proofs.Takes.{SameRows, bookmark_alike, kind_apart}
 use Rattle.wef_safety.specs.Kept.{IsKept, IsPairKept, IsWorldKept}
 use Rattle.wef_safety.proofs.Growing.{RowsGrow}
 use Rattle.wef_safety.proofs.Moves.{alike_pair, kept_rows}
-use Rattle.wef_safety.proofs.RowMoves.{AreRowKeys}
+use Rattle.wef_safety.proofs.RowMoves.{AreRowsKept, IsChangeKept, kept_by_changes}
 
 -- Each row of a subscription or a pair stands as it stood: those are the rows of the kinds up to `Loose`.
 abbrev pub AreAside : Rows → Rows → Type 0
@@ -54,6 +54,20 @@ changed_aside changes rows all q low = get-unnamed changes rows q (unnamed chang
 -- a start changes the row of the boot number alone
 pub booted_aside : (rows : Rows) (boot : ℕ) → AreAside (applied (put boot_key boot [] ∷ []) rows) rows
 booted_aside rows boot = changed_aside (put boot_key boot [] ∷ []) rows (omega arith, tt)
+
+-- a boot number is no subscription, bookmark or lease
+boot_put : (boot : ℕ) → IsChangeKept (put boot_key boot [])
+boot_put boot = record {
+  name = λ kind. absurd (omega arith);
+  subscription = λ kind. absurd (omega arith);
+  sources = λ kind. absurd (omega arith);
+  bookmark = λ kind. absurd (omega arith);
+  channel = λ kind. absurd (omega arith);
+  lease = λ kind. absurd (omega arith);
+}
+
+pub kept_by_booting : (rows : Rows) (boot : ℕ) → AreRowsKept rows → AreRowsKept (applied (put boot_key boot [] ∷ []) rows)
+kept_by_booting rows boot = kept_by_changes (put boot_key boot [] ∷ []) rows (boot_put boot, tt)
 
 -- ---- what is read of the rows
 
@@ -90,23 +104,14 @@ grows_aside after before aside = record {
   bookmarks = λ u s c. let same_number = bookmark_alike after before u s c (pair_aside after before u s c aside) in omega arith;
 }
 
-keys_aside : (after before : Rows) → AreAside after before → AreRowKeys before → AreRowKeys after
-keys_aside after before aside keys key cell e =
-    let own = λ (low : key.kind ≤ number_of Loose). keys key cell (sym (aside key low) ∙ e) in
-    record {
-      name = λ kind. (own (omega arith)).name kind;
-      subscription = λ kind. (own (omega arith)).subscription kind;
-      bookmark = λ kind. (own (omega arith)).bookmark kind;
-    }
-
 -- a world is kept with other rows
 abbrev pub KeptWith : State → Rows → Type 0
 KeptWith state rows = IsWorldKept rows state.foreign state.sources state.messages state.moment
 
--- so it is with rows that differ from its own beside those of subscriptions and pairs, where each is of its form
-pub kept_aside : (state : State) (rows : Rows) → IsKept state → AreAside rows state.collector.rows → AreFormed rows → KeptWith state rows
-kept_aside state rows kept aside formed = kept_rows state rows state.foreign kept (grows_aside rows state.collector.rows aside)
+-- so it is with rows that differ from its own beside those of subscriptions and pairs, where each is kept so and is of its form
+pub kept_aside : (state : State) (rows : Rows) → IsKept state → AreAside rows state.collector.rows → AreRowsKept rows → AreFormed rows → KeptWith state rows
+kept_aside state rows kept aside keys formed = kept_rows state rows state.foreign kept (grows_aside rows state.collector.rows aside)
     (λ u s c apart.
     alike_pair rows state.collector.rows u s c (subscription_at rows u) (slot_of state s) (pair_aside rows state.collector.rows u s c aside)
     (subst (λ (o : Option Subscription). IsPairKept state.collector.rows u s c o (slot_of state s)) (sym (subscription_aside rows state.collector.rows u aside)) (kept.pairs u s c apart)))
-    kept.apart (keys_aside rows state.collector.rows aside kept.keys) formed
+    kept.apart keys formed

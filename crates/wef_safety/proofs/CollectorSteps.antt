@@ -32,9 +32,10 @@ use Rattle.wef_keeper.specs.declared.keys.Change.{Change}
 use Rattle.wef_replay.specs.Good.{is_among, is_source, is_subscription}
 use Rattle.wef_source_log.specs.Histories.{history}
 use Rattle.wef_source.specs.declared.messages.Delivery.{Delivery}
+use Rattle.wef_machine.specs.Answering.{with_answer}
 use Rattle.wef_machine.specs.Arming.{committed, fate}
 use Rattle.wef_machine.specs.Collecting.{at_collector, collector_opened, reply_id, where_runs, with_call, with_opened, with_reply}
-use Rattle.wef_machine.specs.Deliveries.{BatchEffect, answer_by, batch_effect_by, effect_at, events_at, events_by, with_answer}
+use Rattle.wef_machine.specs.Deliveries.{BatchEffect, answer_by, batch_effect_by, effect_at, events_at, events_by}
 use Rattle.wef_machine.specs.Places.{commits, opened_by, starts}
 use Rattle.wef_pairs.specs.Pairs.{IsPairSafe, IsUntouched, about_of, settings_of, subscription_at}
 use Rattle.wef_machine.specs.States.{Slot, State, slot_of, with_collector, with_foreign}
@@ -48,13 +49,14 @@ use Rattle.wef_query.specs.Order.{with_name}
 use Rattle.wef_collector.specs.FormsStay.{IsSoundBatch}
 use Rattle.wef_machine.proofs.Names.{among_with, not_among_with}
 use Rattle.wef_pairs.proofs.Takes.{adding_spares, ending_spares, fitting_batches_are_safe, is_served, taking_spares, taking_spares_source, untouched_alike}
-use Rattle.wef_safety.specs.Kept.{IsAckKept, IsChannelKept, IsDelivery, IsKept, IsPairKept}
+use Rattle.wef_safety.specs.Kept.{AreAddressed, IsAckKept, IsChannelKept, IsDelivery, IsKept, IsPairKept}
 use Rattle.wef_safety.specs.Safe.{WasSent}
-use Rattle.wef_safety.proofs.Aside.{KeptWith, booted_aside, bookmark_of_aside, kept_aside}
+use Rattle.wef_safety.proofs.Aside.{KeptWith, booted_aside, bookmark_of_aside, kept_aside, kept_by_booting}
 use Rattle.wef_safety.proofs.Growing.{same_rows}
+use Rattle.wef_safety.proofs.KeptChannels.{known_channels}
 use Rattle.wef_safety.proofs.Lower.{Lower}
 use Rattle.wef_safety.proofs.Moves.{alike_pair, kept_reply, kept_rows, untouched_pair}
-use Rattle.wef_safety.proofs.RowMoves.{adding_grows, ending_grows, keys_by_adding, keys_by_ending, keys_by_taking, subscription_by_adding, subscription_by_ending, subscription_by_taking, taking_covers, taking_grows, taking_reaches, unknown}
+use Rattle.wef_safety.proofs.RowMoves.{adding_grows, ending_grows, kept_by_adding, kept_by_ending, kept_by_taking, subscription_by_adding, subscription_by_ending, subscription_by_taking, taking_covers, taking_grows, taking_reaches, unknown}
 use Rattle.wef_safety.proofs.Sent.{sent_before}
 
 other_name : (a b : List ℕ) → same a b ≡ false → a ≢ b
@@ -78,25 +80,26 @@ done_leaves armed [] rows done = refl
 done_leaves None (change ∷ changes) rows done = refl
 done_leaves (Some a) (change ∷ changes) rows done = absurd (never a.stops done)
 
-called_kept : (state : State) (changes : List Change) → IsKept state → KeptWith state (applied changes state.collector.rows) → IsKept (with_collector state (commits state.collector changes))
+pub called_kept : (state : State) (changes : List Change) → IsKept state → KeptWith state (applied changes state.collector.rows) → IsKept (with_collector state (commits state.collector changes))
 called_kept state changes kept after = committed_both (KeptWith state) state.collector.armed changes state.collector.rows kept after
 
 -- ---- an opening
 
-boot_changes : Rows → List Change
+-- a start makes the boot number greater
+abbrev pub boot_changes : Rows → List Change
 boot_changes rows = put boot_key (boot_of rows + 1) [] ∷ []
 
 booted_kept : Lower → (state : State) → IsKept state → nat_lt (boot_of state.collector.rows) 9223372036854775807 ≡ true →
-    KeptWith state (applied (put boot_key (boot_of state.collector.rows + 1) [] ∷ []) state.collector.rows)
+    KeptWith state (applied (boot_changes state.collector.rows) state.collector.rows)
 booted_kept lower state kept room =
     let boot = boot_of state.collector.rows + 1 in
-    kept_aside state (applied (put boot_key boot [] ∷ []) state.collector.rows) kept (booted_aside state.collector.rows boot) (lower.formed_booted state.collector.rows room kept.formed)
+    kept_aside state (applied (put boot_key boot [] ∷ []) state.collector.rows) kept (booted_aside state.collector.rows boot) (kept_by_booting state.collector.rows boot kept.keys) (lower.formed_booted state.collector.rows room kept.formed)
 
 starts_kept : Lower → (state : State) (memory : Memory) → IsKept state → IsKept (with_collector state (starts state.collector memory (boot_effect state.collector.rows)))
 starts_kept lower state memory kept =
-    cond_both (nat_lt (boot_of state.collector.rows) 9223372036854775807) (Ok (put boot_key (boot_of state.collector.rows + 1) [] ∷ [])) (Err faults.Full)
+    cond_both (nat_lt (boot_of state.collector.rows) 9223372036854775807) (Ok (boot_changes state.collector.rows)) (Err faults.Full)
     (λ (effect : Effect). IsKept (with_collector state (starts state.collector memory effect)))
-    (λ room. called_kept state (put boot_key (boot_of state.collector.rows + 1) [] ∷ []) kept (booted_kept lower state kept room)) (λ full. kept)
+    (λ room. called_kept state (boot_changes state.collector.rows) kept (booted_kept lower state kept room)) (λ full. kept)
 
 pub opened_kept : Lower → (state : State) → IsKept state → IsKept (with_opened state)
 opened_kept lower state kept = by_memory state.collector.memory
@@ -113,11 +116,11 @@ opened_bookmark state u s = by_memory state.collector.memory
     by_memory : (memory : Option Memory) →
         bookmark_of (opened_by state.collector (memory_begun state.collector.rows) (boot_effect state.collector.rows) memory).rows u s ≡ bookmark_of state.collector.rows u s
     by_memory None =
-        cond_both (nat_lt (boot_of state.collector.rows) 9223372036854775807) (Ok (put boot_key (boot_of state.collector.rows + 1) [] ∷ [])) (Err faults.Full)
+        cond_both (nat_lt (boot_of state.collector.rows) 9223372036854775807) (Ok (boot_changes state.collector.rows)) (Err faults.Full)
         (λ (effect : Effect). bookmark_of (starts state.collector (memory_begun state.collector.rows) effect).rows u s ≡ bookmark_of state.collector.rows u s)
-        (λ room. committed_both (λ (rows : Rows). bookmark_of rows u s ≡ bookmark_of state.collector.rows u s) state.collector.armed (put boot_key (boot_of state.collector.rows + 1) [] ∷ [])
+        (λ room. committed_both (λ (rows : Rows). bookmark_of rows u s ≡ bookmark_of state.collector.rows u s) state.collector.armed (boot_changes state.collector.rows)
         state.collector.rows refl
-        (bookmark_of_aside (applied (put boot_key (boot_of state.collector.rows + 1) [] ∷ []) state.collector.rows) state.collector.rows u s (booted_aside state.collector.rows (boot_of state.collector.rows + 1))))
+        (bookmark_of_aside (applied (boot_changes state.collector.rows) state.collector.rows) state.collector.rows u s (booted_aside state.collector.rows (boot_of state.collector.rows + 1))))
         (λ full. refl)
     by_memory (Some memory) = refl
 
@@ -148,10 +151,10 @@ at_collector_keeps lower state change kept keeps =
 no_subscription : (rows : Rows) (u s c : List ℕ) (slot : Option Slot) → IsPairKept rows u s c None slot → IsUntouched rows u s c
 no_subscription rows u s c slot blank = blank
 
-added_kept : Lower → (state : State) (about : Subscription) → IsKept state → is_subscription about.name ≡ true → read_kept about.name (document_text about) ≡ Some about → is_there state.collector.rows about.name ≡ false →
-    KeptWith state (added_rows state.collector.rows about)
-added_kept lower state about kept good all none = kept_rows state (added_rows state.collector.rows about) state.foreign kept (adding_grows state.collector.rows about none)
-    (λ v s c apart. by_name v s c apart (same about.name v) refl) kept.apart (keys_by_adding state.collector.rows about good kept.keys) (lower.formed_added state.collector.rows about good all kept.formed)
+added_kept : Lower → (state : State) (about : Subscription) → IsKept state → is_subscription about.name ≡ true → read_kept about.name (document_text about) ≡ Some about → AreAddressed about →
+    is_there state.collector.rows about.name ≡ false → KeptWith state (added_rows state.collector.rows about)
+added_kept lower state about kept good all addressed none = kept_rows state (added_rows state.collector.rows about) state.foreign kept (adding_grows state.collector.rows about none)
+    (λ v s c apart. by_name v s c apart (same about.name v) refl) kept.apart (kept_by_adding state.collector.rows about good all addressed kept.keys) (lower.formed_added state.collector.rows about good all kept.formed)
   where
     by_name : (v s c : List ℕ) → is_among state.foreign s ≡ false → (t : Bool) → same about.name v ≡ t →
         IsPairKept (added_rows state.collector.rows about) v s c (subscription_at (added_rows state.collector.rows about) v) (slot_of state s)
@@ -166,20 +169,21 @@ added_kept lower state about kept good all none = kept_rows state (added_rows st
         (subst (λ (o : Option Subscription). IsPairKept state.collector.rows v s c o (slot_of state s))
         (sym (subscription_by_adding state.collector.rows about v (other_name about.name v other))) (kept.pairs v s c apart))
 
-pub subscribe_keeps : Lower → (state : State) (about : Subscription) → IsKept state → is_subscription about.name ≡ true → read_kept about.name (document_text about) ≡ Some about → IsKept (subscribe_at about state)
-subscribe_keeps lower state about kept good all =
+pub subscribe_keeps : Lower → (state : State) (about : Subscription) → IsKept state → is_subscription about.name ≡ true → read_kept about.name (document_text about) ≡ Some about → AreAddressed about →
+    IsKept (subscribe_at about state)
+subscribe_keeps lower state about kept good all addressed =
     let changes : List Change = put (subscription_key about.name) 0 (document_text about) ∷ [] in
     let effect : Effect = Ok changes in
     cond_both (is_there state.collector.rows about.name) (Err faults.Exists) (cond (is_full state.collector.rows) (Err faults.TooMany) effect) (λ (e : Effect). IsKept (with_call state e))
     (λ there. kept) (λ none. cond_both (is_full state.collector.rows) (Err faults.TooMany) effect (λ (e : Effect). IsKept (with_call state e))
-    (λ full. kept) (λ room. called_kept state changes kept (added_kept lower state about kept good all none)))
+    (λ full. kept) (λ room. called_kept state changes kept (added_kept lower state about kept good all addressed none)))
 
 ended_kept : Lower → (state : State) (u : List ℕ) (about : Subscription) → IsKept state → standing state.collector.rows u ≡ stands.Live about → KeptWith state (ended_rows state.collector.rows u)
 ended_kept lower state u about kept live = kept_rows state (ended_rows state.collector.rows u) state.foreign kept (ending_grows state.collector.rows u about live)
     (λ v s c apart.
     alike_pair (ended_rows state.collector.rows u) state.collector.rows v s c (subscription_at (ended_rows state.collector.rows u) v) (slot_of state s) (ending_spares state.collector.rows u v s c)
     (subst (λ (o : Option Subscription). IsPairKept state.collector.rows v s c o (slot_of state s)) (sym (subscription_by_ending state.collector.rows u about v live)) (kept.pairs v s c apart)))
-    kept.apart (keys_by_ending state.collector.rows u about live kept.keys) (lower.formed_ended state.collector.rows u about live kept.formed)
+    kept.apart (kept_by_ending state.collector.rows u about live kept.keys) (lower.formed_ended state.collector.rows u about live kept.formed)
 
 pub end_keeps : Lower → (state : State) (u : List ℕ) → IsKept state → IsKept (end_at u state)
 end_keeps lower state u kept = by_standing (standing state.collector.rows u) refl
@@ -218,7 +222,7 @@ foreign_taken lower state u s about batch kept foreign source sound live good =
     (λ v r c apart.
     alike_pair rows state.collector.rows v r c (subscription_at rows v) (slot_of state r) (taking_spares_source state.collector.rows u s channels batch state.moment v r c (foreign r apart))
     (subst (λ (o : Option Subscription). IsPairKept state.collector.rows v r c o (slot_of state r)) (sym (subscription_by_taking state.collector.rows u s channels batch state.moment v)) (kept.pairs v r c apart)))
-    kept.apart (keys_by_taking state.collector.rows u s channels batch state.moment kept.keys)
+    kept.apart (kept_by_taking state.collector.rows u s channels batch state.moment (known_channels state.collector.rows u about (ap about_of live)) kept.keys)
     (lower.formed_taken state.collector.rows u s about batch state.moment live source good sound kept.soon kept.formed)
 
 pub batch_keeps : Lower → (state : State) (u s : List ℕ) (batch : Batch) → IsKept state → IsForeign state s → is_source s ≡ true → IsSoundBatch batch → IsKept (batch_at u s batch state)
@@ -259,7 +263,8 @@ taken_kept lower state s slot delivery kept there is live good =
     (λ v r c apart.
     subst (λ (o : Option Subscription). IsPairKept rows v r c o (slot_of state r)) (sym (subscription_by_taking state.collector.rows is.u s (channels_read is.about) delivery.batch state.moment v))
     (by_pair v r c apart (is_served is.u s (channels_read is.about) v r c) refl))
-    kept.apart (keys_by_taking state.collector.rows is.u s (channels_read is.about) delivery.batch state.moment kept.keys)
+    kept.apart
+    (kept_by_taking state.collector.rows is.u s (channels_read is.about) delivery.batch state.moment (known_channels state.collector.rows is.u is.about is.known) kept.keys)
     (lower.formed_taken state.collector.rows is.u s is.about delivery.batch state.moment live (kept.sources s slot there).name good is.sound kept.soon kept.formed)
   where
     rows : Rows
@@ -302,9 +307,9 @@ acked_kept state after s slot id delivery is was kept same_messages left =
       behind = taking_covers state.collector.rows is.u s channels delivery.batch state.moment is.fits.others;
     }))
 
--- the collector's answer that it didn't take a batch
-fault_kept : (state : State) (s : List ℕ) (id : MessageId) (delivery : Delivery) (fault : FaultName) → IsKept state → IsKept (with_reply 1 state (Fault s id delivery.id fault))
-fault_kept state s id delivery fault kept = kept_reply state (Fault s id delivery.id fault) kept refl tt
+-- the collector's answer that it didn't take a message
+pub fault_kept : (state : State) (s : List ℕ) (id relates : MessageId) (fault : FaultName) → IsKept state → IsKept (with_reply 1 state (Fault s id relates fault))
+fault_kept state s id relates fault kept = kept_reply state (Fault s id relates fault) kept refl tt
 
 -- a batch of a delivery changes the rows so
 abbrev delivered_changes : (state : State) (s : List ℕ) (slot : Slot) (delivery : Delivery) → IsDelivery state.collector.rows s slot delivery → List Change
@@ -329,7 +334,7 @@ events_keep lower state s slot memory delivery kept there was is =
     by_fate kept_after Done e =
         cond_both delivery.batch.ack_wanted (Some (Ack s id delivery.id)) None (λ (answer : Option Message). IsKept (with_answer after answer))
         (λ _. acked_kept state after s slot id delivery is was kept_after refl (done_leaves state.collector.armed (delivered_changes state s slot delivery is) state.collector.rows e)) (λ _. kept_after)
-    by_fate kept_after Failed e = fault_kept after s id delivery InternalError kept_after
+    by_fate kept_after Failed e = fault_kept after s id delivery.id InternalError kept_after
     by_fate kept_after Stopped e = kept_after
 
     by_form : standing state.collector.rows is.u ≡ stands.Live is.about →
@@ -339,12 +344,12 @@ events_keep lower state s slot memory delivery kept there was is =
         cond_both (is_well_formed (channels_read is.about) delivery.batch) effect (Err InvalidMessage) (λ (x : BatchEffect). IsKept (events_by state x s id delivery))
         (λ good. by_fate (called_kept state (delivered_changes state s slot delivery is) kept (taken_kept lower state s slot delivery kept there is live good))
         (fate state.collector.armed (delivered_changes state s slot delivery is)) refl)
-        (λ bad. fault_kept state s id delivery InvalidMessage kept)
+        (λ bad. fault_kept state s id delivery.id InvalidMessage kept)
 
     by_standing : (found : state_of.Standing) → standing state.collector.rows is.u ≡ found →
         IsKept (events_by state (batch_effect_by state.collector.rows is.u s delivery.batch state.moment found) s (reply_id memory) delivery)
-    by_standing stands.Unknown e = fault_kept state s id delivery DestinationUnreachable kept
-    by_standing (stands.Ended about) e = fault_kept state s id delivery DestinationUnreachable kept
+    by_standing stands.Unknown e = fault_kept state s id delivery.id DestinationUnreachable kept
+    by_standing (stands.Ended about) e = fault_kept state s id delivery.id DestinationUnreachable kept
     by_standing (stands.Live about) e =
         let same_about : is.about ≡ about = same_Some is.about about (sym is.known ∙ ap about_of e) in
         subst (λ (x : Subscription). IsKept (events_by state (batch_effect_by state.collector.rows is.u s delivery.batch state.moment (stands.Live x)) s id delivery)) same_about

@@ -29,21 +29,27 @@ use Rattle.wef_event.specs.Unnumbered.{new_event, plain_numbered, plain_numbered
 use Rattle.wef_event.specs.declared.unnumbered.PlainEvent.{PlainEvent}
 use Rattle.wef_documents.proofs.KeptBack.{kept_again}
 use Rattle.wef_eventing.specs.Kept.{HasKeptName}
+use Rattle.wef_base.specs.declared.numbers.TheConstants.{MAX}
 use Rattle.wef_documents.specs.Kept.{read_kept}
+use Rattle.wef_documents.specs.Laws.{ArePlainSources, HasXmlAddress, IsWithin}
 use Rattle.wef_documents.specs.Written.{document_text}
 use Rattle.wef_eventing.specs.Subscriptions.{AreLimits}
+use Rattle.wef_eventing.specs.declared.subscriptions.Subscription.{Subscription}
 use Rattle.wef_query.specs.Items.{QueryItem, says_path}
 use Rattle.wef_query.specs.Laws.{ReadsBack, are_grouped}
 use Rattle.wef_query_paths.specs.Paths.{path_of}
 use Rattle.wef_query.specs.declared.QueryList.{QueryList}
 use Rattle.wef_replay.proofs.GoodNames.{kept_channel}
 use Rattle.wef_lines.specs.Documents.{is_new_event}
-use Rattle.wef_replay.specs.Good.{are_limits, are_queries, are_words, fits_always, has_word, may_be_written, is_between, is_channel, is_count, is_item, is_line, is_no_collector, is_number, is_one, is_query, is_query_text, is_reach, is_source, is_subscription}
+use Rattle.wef_replay.specs.Good.{are_limits, are_queries, are_words, fits_always, has_word, may_be_written, is_between, is_channel, is_count, is_expiry, is_item, is_line, is_no_collector, is_number, is_one, is_query, is_query_text, is_reach, is_source, is_subscription}
 use Rattle.wef_replay.specs.declared.lines.Line.TheVariants as lines
-use Rattle.wef_machine.specs.Steps.{subscription_of}
+use Rattle.wef_machine.specs.Steps.{begun_subscription, subscription_of}
+use Rattle.wef_times.specs.declared.durations.TheConstants.{LIMIT}
 use Rattle.wef_collector.specs.FormsStay.{IsSoundBatch, IsSoundItem}
+use Rattle.wef_safety.specs.Kept.{AreAddressed}
 use Rattle.wef_safety.proofs.Offering.{reads_subscription}
 use Rattle.wef_safety.proofs.EventTrees.{new_has_tree}
+use Rattle.wef_safety.proofs.SourceAddresses.{called_allowed, called_plain}
 
 -- ---- names and numbers
 
@@ -101,27 +107,86 @@ limits_are items bytes beat e =
     let inner = and_parts (is_between 1 10000 items) (is_between 8192 4194304 bytes) outer.0 in
     (between 1 10000 items inner.0, between 8192 4194304 bytes inner.1, between 1 86400000 beat outer.1)
 
+-- What the words of a good line say of the subscription that they make.
+record IsWellSaid (about : Subscription) : Type 0 where
+  name : is_subscription about.name ≡ true
+  limits : are_limits about.max_items about.max_bytes about.heartbeat ≡ true
+  queries : are_queries about.query.items ≡ true
+  expires : IsWithin 1 LIMIT about.expires
+  sources : ArePlainSources about.kind about.sources
+  addresses : AllByRecursion HasXmlAddress about.sources
+  version : IsWithin 1 MAX about.version
+
+-- it is read again from its document
+said_again : (about : Subscription) → IsWellSaid about → read_kept about.name (document_text about) ≡ Some about
+said_again about is =
+    let name = reads_subscription about.name is.name in
+    let queries = and_parts (are_grouped about.query.items) (list_all is_query about.query.items) is.queries in
+    let limits = limits_are about.max_items about.max_bytes about.heartbeat is.limits in
+    kept_again about
+    (record { utf8 = name.0; name = name.1; query = names_are about.query.items queries.1 })
+    (record { query = queries_allowed about.query.items queries.1; sources = is.addresses })
+    (record {
+      query = record { grouped = queries.0; each = queries_read about.query.items queries.1 };
+      max_items = limits.0;
+      max_bytes = limits.1;
+      heartbeat = limits.2;
+      expires = is.expires;
+      sources = is.sources;
+      version = is.version;
+    })
+
 -- the subscription of a good line is read again from its document
 pub subscription_again : (u : List ℕ) (items bytes beat : ℕ) (query : QueryList) → is_line (lines.Subscribe u items bytes beat query) ≡ true →
     read_kept u (document_text (subscription_of u items bytes beat query)) ≡ Some (subscription_of u items bytes beat query)
 subscription_again u items bytes beat query e =
     let outer = and_parts (is_subscription u && are_limits items bytes beat) (are_queries query.items) e in
     let inner = and_parts (is_subscription u) (are_limits items bytes beat) outer.0 in
-    let name = reads_subscription u inner.0 in
-    let queries = and_parts (are_grouped query.items) (list_all is_query query.items) outer.1 in
-    let limits = limits_are items bytes beat inner.1 in
-    kept_again (subscription_of u items bytes beat query)
-    (record { utf8 = name.0; name = name.1; query = names_are query.items queries.1 })
-    (record { query = queries_allowed query.items queries.1; sources = tt })
+    said_again (subscription_of u items bytes beat query)
     (record {
-      query = record { grouped = queries.0; each = queries_read query.items queries.1 };
-      max_items = limits.0;
-      max_bytes = limits.1;
-      heartbeat = limits.2;
+      name = inner.0;
+      limits = inner.1;
+      queries = outer.1;
       expires = (omega arith, omega arith);
       sources = refl;
+      addresses = tt;
       version = (omega arith, omega arith);
     })
+
+-- What the words of a line say that has the collector begin.
+pub record IsBegun (u s : List ℕ) (items bytes beat expires : ℕ) (query : QueryList) : Type 0 where
+  pub name : is_subscription u ≡ true
+  pub source : is_source s ≡ true
+  pub limits : are_limits items bytes beat ≡ true
+  pub expiry : is_expiry expires ≡ true
+  pub queries : are_queries query.items ≡ true
+
+pub begun : (u s : List ℕ) (items bytes beat expires : ℕ) (query : QueryList) → is_line (lines.SubscribeAt u s items bytes beat expires query) ≡ true → IsBegun u s items bytes beat expires query
+begun u s items bytes beat expires query e =
+    let all = and_parts (is_subscription u && is_source s && are_limits items bytes beat && is_expiry expires) (are_queries query.items) e in
+    let three = and_parts (is_subscription u && is_source s && are_limits items bytes beat) (is_expiry expires) all.0 in
+    let two = and_parts (is_subscription u && is_source s) (are_limits items bytes beat) three.0 in
+    let names = and_parts (is_subscription u) (is_source s) two.0 in
+    record { name = names.0; source = names.1; limits = two.1; expiry = three.1; queries = all.1 }
+
+-- so is the subscription that the collector begins
+pub begun_again : (u s : List ℕ) (items bytes beat expires : ℕ) (query : QueryList) → IsBegun u s items bytes beat expires query →
+    read_kept u (document_text (begun_subscription u s items bytes beat expires query)) ≡ Some (begun_subscription u s items bytes beat expires query)
+begun_again u s items bytes beat expires query is =
+    said_again (begun_subscription u s items bytes beat expires query)
+    (record {
+      name = is.name;
+      limits = is.limits;
+      queries = is.queries;
+      expires = between 1 LIMIT expires is.expiry;
+      sources = (omega arith, refl, (called_plain s is.source, tt));
+      addresses = (called_allowed s is.source, tt);
+      version = (omega arith, omega arith);
+    })
+
+-- and it is found where its source is
+pub begun_addressed : (u s : List ℕ) (items bytes beat expires : ℕ) (query : QueryList) → IsBegun u s items bytes beat expires query → AreAddressed (begun_subscription u s items bytes beat expires query)
+begun_addressed u s items bytes beat expires query is = (record { name = is.source; address = refl }, tt)
 
 -- ---- a batch
 

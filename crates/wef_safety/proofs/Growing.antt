@@ -5,6 +5,8 @@ use Rattle.std.specs.FinMap as finite
 use Rattle.wef_batch.specs.Reach.{reach}
 use Rattle.wef_batch.specs.declared.items.Batch.{Batch}
 use Rattle.wef_batch.specs.declared.items.Item.{Item}
+use Rattle.wef_bodies.specs.declared.bodies.Body.{Body}
+use Rattle.wef_bodies.specs.declared.bodies.Body.TheVariants as body
 use Rattle.wef_bookmark.specs.Order.{Marks, number_at}
 use Rattle.wef_collector_rows.specs.Bookmarks.{bookmark_at}
 use Rattle.wef_ids.specs.declared.MessageId.{MessageId}
@@ -18,17 +20,18 @@ use Rattle.wef_building.specs.Fits.{Fits, FitsChannel, ranges_in}
 use Rattle.wef_source.specs.Machine.{End}
 use Rattle.wef_building.specs.Wanted.{Range, in_ranges, selected_at, wanted}
 use Rattle.wef_source.specs.declared.messages.Delivery.{Delivery}
+use Rattle.wef_source.specs.declared.messages.EndNote.{EndNote}
 use Rattle.wef_building.specs.declared.sessions.Outstanding.{Outstanding}
 use Rattle.wef_building.specs.declared.sessions.Session.{Session}
 use Rattle.wef_collector.specs.Laws.{IsReached}
 use Rattle.wef_pairs.specs.Pairs.{subscription_at}
 use Rattle.wef_machine.specs.States.{Slot, Slots}
 use Rattle.wef_machine.specs.declared.messages.Message.{Message}
-use Rattle.wef_machine.specs.declared.messages.Message.TheVariants.{Ask, Offers, Events, Ack, Fault}
+use Rattle.wef_machine.specs.declared.messages.Message.TheVariants.{Ask, Offers, Events, Ack, Fault, Request, Response, Ended}
 use Rattle.wef_pairs.proofs.Numbered.{lt_tested}
 use Rattle.wef_pairs.proofs.Takes.{lost_longer}
 use Rattle.wef_pairs.proofs.WantedEvents.{wanted_longer}
-use Rattle.wef_safety.specs.Kept.{AreTerms, IsAckKept, IsBehind, IsDelivery, IsMessageKept, IsOffered, IsRunningKept, IsServed, IsSourceKept, WaitsFor, WasDrawn, WhereDeclared, last_id}
+use Rattle.wef_safety.specs.Kept.{AreTerms, IsAckKept, IsAskedFor, IsBehind, IsDelivery, IsMessageKept, IsNote, IsOffered, IsRunningKept, IsServed, IsSourceKept, WaitsFor, WasDrawn, WhereDeclared, last_id}
 use Rattle.wef_safety.specs.Laws.{FittingRises}
 use Rattle.wef_safety.specs.Safe.{IsReachedBy, WasSent}
 use Rattle.wef_safety.proofs.Sent.{all_map}
@@ -134,6 +137,9 @@ reached_by_grows rows rows' u s about (Offers r id relates offers) grows within 
 reached_by_grows rows rows' u s about (Events r delivery) grows within = reached_grows rows rows' u s about delivery.batch grows within
 reached_by_grows rows rows' u s about (Ack r id relates) grows within = tt
 reached_by_grows rows rows' u s about (Fault r id relates fault) grows within = tt
+reached_by_grows rows rows' u s about (Request r id identifier asks) grows within = tt
+reached_by_grows rows rows' u s about (Response r id relates answer) grows within = tt
+reached_by_grows rows rows' u s about (Ended r note) grows within = tt
 
 pub terms_grow : (rows rows' : Rows) (u s address : List ℕ) (identifier : Option (List ℕ)) (query : QueryList) (max_items max_bytes : ℕ) → RowsGrow rows rows' →
     AreTerms rows u s address identifier query max_items max_bytes → AreTerms rows' u s address identifier query max_items max_bytes
@@ -156,7 +162,21 @@ offered_grows rows rows' s subscribe grows offered = record {
   u = offered.u;
   terms = terms_grow rows rows' offered.u s subscribe.notify_to subscribe.identifier subscribe.query subscribe.max_items subscribe.max_bytes grows offered.terms;
   from = behind_grows rows rows' offered.u s subscribe.from grows offered.from;
+  told = offered.told;
 }
+
+asked_for_grows : (rows rows' : Rows) (s : List ℕ) (asks : Body) → RowsGrow rows rows' → IsAskedFor rows s asks → IsAskedFor rows' s asks
+asked_for_grows rows rows' s body.Enumerate grows is = tt
+asked_for_grows rows rows' s (body.Offers offers) grows is = tt
+asked_for_grows rows rows' s (body.Subscribe wish) grows is = (offered_grows rows rows' s wish grows is.0, is.1)
+asked_for_grows rows rows' s (body.Subscribed identifier expires) grows is = tt
+asked_for_grows rows rows' s (body.Renew expires) grows is = is
+asked_for_grows rows rows' s (body.Renewed expires) grows is = tt
+asked_for_grows rows rows' s body.GetStatus grows is = tt
+asked_for_grows rows rows' s (body.StatusIs expires) grows is = tt
+asked_for_grows rows rows' s body.Unsubscribe grows is = tt
+asked_for_grows rows rows' s body.Unsubscribed grows is = tt
+asked_for_grows rows rows' s (body.Ended identifier status) grows is = tt
 
 waits_grow : (messages messages' : List Message) (s address : List ℕ) (outstanding : Option Outstanding) → MessagesGrow messages messages' →
     WaitsFor messages s address outstanding → WaitsFor messages' s address outstanding
@@ -169,6 +189,7 @@ served_grows rows rows' messages messages' s session grows more served = record 
   terms = terms_grow rows rows' session.name s session.notify_to session.identifier session.query session.max_items session.max_bytes grows served.terms;
   positions = behind_grows rows rows' session.name s session.positions grows served.positions;
   outstanding = waits_grow messages messages' s session.notify_to session.outstanding more served.outstanding;
+  told = served.told;
 }
 
 running_grows : (rows rows' : Rows) (messages messages' : List Message) (s : List ℕ) (slot : Slot) (end : Option End) → RowsGrow rows rows' → MessagesGrow messages messages' →
@@ -214,6 +235,16 @@ delivery_grows rows rows' s slot slot' delivery grows more is = record {
       (fits_longer is.about.query is.about.max_bytes slot.histories slot'.histories slot.capacity is.above delivery.batch more.histories is.fits);
   sound = is.sound;
   drawn = drawn_grows slot slot' delivery.id.value more is.drawn;
+}
+
+note_grows : (rows rows' : Rows) (s : List ℕ) (slot slot' : Slot) (note : EndNote) → RowsGrow rows rows' → SlotGrows slot slot' → IsNote rows s slot note → IsNote rows' s slot' note
+note_grows rows rows' s slot slot' note grows more is = record {
+  u = is.u;
+  about = is.about;
+  known = grows.known is.u is.about is.known;
+  to_subscription = is.to_subscription;
+  to_source = is.to_source;
+  drawn = drawn_grows slot slot' note.id.value more is.drawn;
 }
 
 acknowledged_grows : (rows rows' : Rows) (messages messages' : List Message) (s : List ℕ) (relates : MessageId) → RowsGrow rows rows' → MessagesGrow messages messages' →
@@ -263,3 +294,8 @@ message_grows rows rows' sources sources' messages messages' (Events s delivery)
     (λ slot slot' sg. delivery_grows rows rows' s slot slot' delivery grows sg) is
 message_grows rows rows' sources sources' messages messages' (Ack s id relates) grows wider more is = acknowledged_grows rows rows' messages messages' s relates grows more is
 message_grows rows rows' sources sources' messages messages' (Fault s id relates fault) grows wider more is = tt
+message_grows rows rows' sources sources' messages messages' (Request s id identifier asks) grows wider more is = asked_for_grows rows rows' s asks grows is
+message_grows rows rows' sources sources' messages messages' (Response s id relates answer) grows wider more is = is
+message_grows rows rows' sources sources' messages messages' (Ended s note) grows wider more is =
+    declared_grows (finite.get sources s) (finite.get sources' s) (λ slot. IsNote rows s slot note) (λ slot. IsNote rows' s slot note) (wider s)
+    (λ slot slot' sg. note_grows rows rows' s slot slot' note grows sg) is

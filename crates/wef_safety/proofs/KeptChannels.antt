@@ -1,4 +1,4 @@
--- The channels of a subscription that rows keep have names such as a reader gives.
+-- The channels of a subscription that rows keep have names such as a reader gives, and its sources are found by their names.
 use Rattle.std.proofs.Common.{◌≡◌, ℕ, ◌==◌, Bool, true, false, cond, List, [], ◌∷◌, refl, ap, subst, ◌∙◌}
 use Rattle.std.proofs.lemmas.Str.{is_utf8-from_IsUtf8}
 use Rattle.std.specs.Str.{is_utf8}
@@ -12,7 +12,7 @@ use Rattle.std.specs.Cmp.Lexicographic.{slice_cmp}
 use Rattle.std.specs.FinMap as finite
 use Rattle.std.specs.List.{AllByRecursion, list_all}
 use Rattle.std.specs.Ordering.{match_ordering, nat_cmp}
-use Rattle.std.specs.Prelude.{Option, Some, None}
+use Rattle.std.specs.Prelude.{Option, Some, None, IfSome}
 use Rattle.std.specs.declared.cmp.Ordering.{Ordering}
 use Rattle.std.specs.declared.cmp.Ordering.TheVariants.{Less, Equal, Greater}
 use Rattle.wef_base.specs.Names.{channel_name}
@@ -31,6 +31,8 @@ use Rattle.wef_query.specs.Selected.{selects}
 use Rattle.wef_replay.proofs.Gifts.{AllOf}
 use Rattle.wef_replay.specs.Good.{is_channel, is_one}
 use Rattle.wef_pairs.specs.Pairs.{about_of, subscription_at}
+use Rattle.wef_safety.specs.Kept.{AreAddressed}
+use Rattle.wef_safety.proofs.RowMoves.{AreRowsKept}
 
 -- all names are such
 abbrev pub AreGood : List (List ℕ) → Type 0
@@ -91,10 +93,9 @@ of_some : {X : Type 0} (P : X → Type 0) (o : Option X) (x : X) → AllOf P o �
 of_some P None x all e = absurd (none-some x e)
 of_some P (Some y) x all e = subst P (same_Some y x e) all
 
--- what holds of each subscription that a document keeps holds of that of a cell
-of_cell : (P : Subscription → Type 0) (u : List ℕ) → ((body : List ℕ) → AllOf P (read_kept u body)) → (o : Option Cell) → AllOf P (about_of (standing_of u o))
-of_cell P u reads None = tt
-of_cell P u reads (Some cell) = by (read_kept u cell.body) (reads cell.body)
+-- what holds of the subscription that the document of a cell keeps holds of that of the cell
+of_document : (P : Subscription → Type 0) (u : List ℕ) (cell : Cell) → AllOf P (read_kept u cell.body) → AllOf P (about_of (standing_of u (Some cell)))
+of_document P u cell reads = by (read_kept u cell.body) reads
   where
     live : (t : Bool) (about : Subscription) → P about → AllOf P (about_of (cond t (Live about) (Ended about)))
     live true about holds = holds
@@ -103,6 +104,11 @@ of_cell P u reads (Some cell) = by (read_kept u cell.body) (reads cell.body)
     by : (o : Option Subscription) → AllOf P o → AllOf P (about_of (standing_by cell.value o))
     by None holds = tt
     by (Some about) holds = live (cell.value == 0) about holds
+
+-- what holds of each subscription that a document keeps holds of that of a cell
+of_cell : (P : Subscription → Type 0) (u : List ℕ) → ((body : List ℕ) → AllOf P (read_kept u body)) → (o : Option Cell) → AllOf P (about_of (standing_of u o))
+of_cell P u reads None = tt
+of_cell P u reads (Some cell) = of_document P u cell (reads cell.body)
 
 -- and of each subscription of the rows
 pub known_has : (P : Subscription → Type 0) (rows : Rows) (u : List ℕ) (about : Subscription) → ((body : List ℕ) → AllOf P (read_kept u body)) → subscription_at rows u ≡ Some about → P about
@@ -113,3 +119,16 @@ pub known_channels : (rows : Rows) (u : List ℕ) (about : Subscription) → sub
 known_channels rows u about known c here =
     holds_in is_channel (in_order (selects about.query.items)) c
     (good_with_names [] (selects about.query.items) refl (known_has AsksForGood rows u about (read_good u) known)) here
+
+-- the two ways to say what holds of a value, where there is one, are one
+all_of : {X : Type 0} (P : X → Type 0) (o : Option X) → IfSome o P → AllOf P o
+all_of P None holds = tt
+all_of P (Some x) holds = holds
+
+-- the sources of a subscription of the rows are found by their names
+pub known_addressed : (rows : Rows) (u : List ℕ) (about : Subscription) → AreRowsKept rows → subscription_at rows u ≡ Some about → AreAddressed about
+known_addressed rows u about kept known = of_some AreAddressed (subscription_at rows u) about (by (finite.get rows (subscription_key u)) refl) known
+  where
+    by : (o : Option Cell) → finite.get rows (subscription_key u) ≡ o → AllOf AreAddressed (about_of (standing_of u o))
+    by None there = tt
+    by (Some cell) there = of_document AreAddressed u cell (all_of AreAddressed (read_kept u cell.body) ((kept (subscription_key u) cell there).sources refl))

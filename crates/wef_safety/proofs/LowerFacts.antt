@@ -36,10 +36,10 @@ last_within rows c formed = by_cell (finite.get rows (last_key c)) (formed (last
     by_cell (Some cell) e = number_within (row_of (last_key c, cell)) e refl
 
 -- a name that a line may have is one such as the collector keeps
-subscription_named : (u : List ℕ) → is_subscription u ≡ true → is_subscription_name u ≡ true
+pub subscription_named : (u : List ℕ) → is_subscription u ≡ true → is_subscription_name u ≡ true
 subscription_named u e = (and_parts (is_utf8 u) (is_subscription_name u) e).1
 
-source_named : (s : List ℕ) → is_source s ≡ true → is_source_name s ≡ true
+pub source_named : (s : List ℕ) → is_source s ≡ true → is_source_name s ≡ true
 source_named s e = (and_parts (is_utf8 s) (is_source_name s) e).1
 
 pub lower : Lower

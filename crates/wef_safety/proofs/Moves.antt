@@ -1,4 +1,4 @@
--- What is kept stays so over one change: the rows move on, a source does, or a message is sent.
+-- What is kept stays so over one change: the rows move on, a source does, or messages are sent.
 use Rattle.std.proofs.Common.{◌≡◌, ℕ, ◌<◌, ◌≤◌, Bool, true, false, cond, List, [], ◌∷◌, ◌++◌, refl, ap, sym, ◌∙◌, subst, arith, inl, inr}
 use Rattle.std.proofs.lemmas.Option.{none-some, same_Some}
 use Rattle.std.specs.Prelude.{Option, Some, None, ◌⊎◌}
@@ -19,15 +19,15 @@ use Rattle.wef_keeper.specs.declared.keys.Key.{Key}
 use Rattle.wef_replay.specs.Good.{is_among}
 use Rattle.wef_source_log.specs.Histories.{history}
 use Rattle.wef_pairs.specs.Pairs.{IsPairSafe, IsUntouched, settings_of, subscription_at}
-use Rattle.wef_machine.specs.States.{Slot, Slots, State, slot_of, with_message, with_slot}
+use Rattle.wef_machine.specs.States.{Slot, Slots, State, slot_of, with_message, with_messages, with_slot}
 use Rattle.wef_collector_rows.specs.Forms.{AreFormed}
 use Rattle.wef_machine.specs.declared.messages.Message.{Message}
-use Rattle.wef_machine.specs.declared.messages.Message.TheVariants.{Ask, Offers, Events, Ack, Fault}
+use Rattle.wef_machine.specs.declared.messages.Message.TheVariants.{Ask, Offers, Events, Ack, Fault, Request, Response, Ended}
 use Rattle.wef_pairs.proofs.Takes.{SameRows, safe_alike, safe_longer, safe_untouched, untouched_alike}
-use Rattle.wef_safety.specs.Kept.{AreInOrder, IsChannelKept, IsDelivery, IsDrawnBefore, IsKept, IsMessageKept, IsPairKept, IsRowKey, IsSourceKept, IsWorldKept, WasDrawn, WhereDeclared, last_id, request_id}
+use Rattle.wef_safety.specs.Kept.{AreInOrder, IsChannelKept, IsDelivery, IsDrawnBefore, IsKept, IsMessageKept, IsNote, IsPairKept, IsRowKept, IsSourceKept, IsWorldKept, WasDrawn, WhereDeclared, last_id, request_id}
 use Rattle.wef_safety.specs.Safe.{WasSent, source_of}
 use Rattle.wef_safety.proofs.Growing.{MessagesGrow, RowsGrow, SlotGrows, SourcesGrow, message_grows, same_messages, same_rows, same_sources, source_grows}
-use Rattle.wef_safety.proofs.Sent.{sent_before, sent_split}
+use Rattle.wef_safety.proofs.Sent.{sent_before, sent_either, sent_only, sent_split, sent_still}
 
 -- ---- declared sources
 
@@ -126,17 +126,27 @@ are_one (x ∷ messages) order m n id (inl is_m) (inr was_n) same e f = absurd (
 are_one (x ∷ messages) order m n id (inr was_m) (inl is_n) same e f = absurd (below_itself id (order.0 m was_m id id (ap source_of is_n ∙ sym same) (ap request_id is_n ∙ f) e))
 are_one (x ∷ messages) order m n id (inr was_m) (inr was_n) same e f = are_one messages order.1 m n id was_m was_n same e f
 
--- one more message, to which those before it are so related
+-- more messages, to each of which those before them are so related
+ordered_behind : (IsBefore : Message → Message → Type 0) (messages more : List Message) → AreInOrder IsBefore messages → AreInOrder IsBefore more →
+    ((m n : Message) → WasSent messages m → WasSent more n → IsBefore m n) → AreInOrder IsBefore (messages ++ more)
+ordered_behind IsBefore [] more order own before = own
+ordered_behind IsBefore (x ∷ messages) more order own before = (
+  λ n was. elim (sent_either messages more n was) [
+    | inl old ↦ order.0 n old
+    | inr new ↦ before x n (inl refl) new
+  ],
+  ordered_behind IsBefore messages more order.1 own (λ m n was new. before m n (inr was) new),
+)
+
+-- a message alone is so related to none
+pub ordered_alone : (IsBefore : Message → Message → Type 0) (n : Message) → AreInOrder IsBefore (n ∷ [])
+ordered_alone IsBefore n = (λ m was. absurd was, tt)
+
+-- one more message
 pub ordered_with : (IsBefore : Message → Message → Type 0) (messages : List Message) (n : Message) → AreInOrder IsBefore messages → ((m : Message) → WasSent messages m → IsBefore m n) →
     AreInOrder IsBefore (messages ++ n ∷ [])
-ordered_with IsBefore [] n order before = (λ m was. absurd was, tt)
-ordered_with IsBefore (x ∷ messages) n order before = (
-  λ m was. elim (sent_split messages n m was) [
-    | inl old ↦ order.0 m old
-    | inr is ↦ subst (IsBefore x) is (before x (inl refl))
-  ],
-  ordered_with IsBefore messages n order.1 (λ m was. before m (inr was)),
-)
+ordered_with IsBefore messages n order before =
+    ordered_behind IsBefore messages (n ∷ []) order (ordered_alone IsBefore n) (λ m x was new. sent_only n (IsBefore m) (before m was) x new)
 
 -- a request that is kept has an id that its source drew
 drawn_before : (rows : Rows) (sources : Slots) (messages : List Message) (m : Message) (id : ℕ) → IsMessageKept rows sources messages m → request_id m ≡ Some id →
@@ -147,6 +157,10 @@ drawn_before rows sources messages (Events s delivery) id is e =
     declared_map (finite.get sources s) (λ slot. IsDelivery rows s slot delivery) (λ slot. WasDrawn slot (Some id)) (λ slot sent. subst (WasDrawn slot) e sent.drawn) is
 drawn_before rows sources messages (Ack s own relates) id is e = absurd (none-some id e)
 drawn_before rows sources messages (Fault s own relates fault) id is e = absurd (none-some id e)
+drawn_before rows sources messages (Request s own identifier body) id is e = absurd (none-some id e)
+drawn_before rows sources messages (Response s own relates answer) id is e = absurd (none-some id e)
+drawn_before rows sources messages (Ended s note) id is e =
+    declared_map (finite.get sources s) (λ slot. IsNote rows s slot note) (λ slot. WasDrawn slot (Some id)) (λ slot told. subst (WasDrawn slot) e told.drawn) is
 
 -- ---- the changes
 
@@ -154,7 +168,7 @@ drawn_before rows sources messages (Fault s own relates fault) id is e = absurd 
 pub kept_rows : (state : State) (rows : Rows) (foreign : List (List ℕ)) → IsKept state → RowsGrow state.collector.rows rows →
     ((u s c : List ℕ) → is_among foreign s ≡ false → IsPairKept rows u s c (subscription_at rows u) (slot_of state s)) →
     ((s : List ℕ) (slot : Slot) → slot_of state s ≡ Some slot → is_among foreign s ≡ false) →
-    ((key : Key) (cell : Cell) → finite.get rows key ≡ Some cell → IsRowKey key) → AreFormed rows →
+    ((key : Key) (cell : Cell) → finite.get rows key ≡ Some cell → IsRowKept key cell) → AreFormed rows →
     IsWorldKept rows foreign state.sources state.messages state.moment
 kept_rows state rows foreign kept grows pairs apart keys formed = record {
   pairs = pairs;
@@ -240,26 +254,38 @@ kept_slot state s old new kept there grows source = kept_source state s new stat
   order = kept.requests;
 })
 
+-- A message is of a source, and has an id above a number where it is a request.
+abbrev pub IsAbove : List ℕ → ℕ → Message → Type 0
+IsAbove s last m = (source_of m ≡ s) × ((id : ℕ) → request_id m ≡ Some id → last < id)
+
 below_fresh : (first last id : ℕ) → first ≤ last → last < id → first < id
 below_fresh first last id h k = omega arith
 
--- a declared source goes on, and sends a message that stands behind those before it
-kept_sent : (state : State) (s : List ℕ) (old new : Slot) (m : Message) → IsKept state → slot_of state s ≡ Some old → SlotGrows old new →
-    IsSourceKept state.collector.rows (state.messages ++ m ∷ []) s new →
-    IsMessageKept state.collector.rows (finite.insert state.sources s new) (state.messages ++ m ∷ []) m →
-    ((n : Message) → WasSent state.messages n → IsDrawnBefore n m) → IsKept (with_message (with_slot state s new) m)
-kept_sent state s old new m kept there grows source is behind = kept_source state s new (state.messages ++ m ∷ []) kept (record {
+-- what a source sends under an id above all that it drew stands behind what was sent before
+drawn_behind : (state : State) (s : List ℕ) (old : Slot) (n m : Message) → IsKept state → slot_of state s ≡ Some old → WasSent state.messages n →
+    IsAbove s (last_id old old.place.memory) m → IsDrawnBefore n m
+drawn_behind state s old n m kept there was above first second same e f =
+    let before = declared_at (finite.get state.sources (source_of n)) old (λ slot. WasDrawn slot (Some first))
+    (ap (finite.get state.sources) (same ∙ above.0) ∙ there) (drawn_before state.collector.rows state.sources state.messages n first (kept.messages n was) e) in
+    below_fresh first (last_id old old.place.memory) second before (above.1 second f)
+
+-- a declared source goes on, and sends messages, the requests among them under ids above all that it drew before
+pub kept_sent : (state : State) (s : List ℕ) (old new : Slot) (more : List Message) → IsKept state → slot_of state s ≡ Some old → SlotGrows old new →
+    IsSourceKept state.collector.rows (state.messages ++ more) s new →
+    ((m : Message) → WasSent more m → IsMessageKept state.collector.rows (finite.insert state.sources s new) (state.messages ++ more) m) →
+    ((m : Message) → WasSent more m → IsAbove s (last_id old old.place.memory) m) → AreInOrder IsDrawnBefore more → IsKept (with_messages (with_slot state s new) more)
+kept_sent state s old new more kept there grows source are above order = kept_source state s new (state.messages ++ more) kept (record {
   apart = kept.apart s old there;
   pairs = λ u c. grown_pair state.collector.rows u s c (subscription_at state.collector.rows u) old new grows
       (subst (λ (o : Option Slot). IsPairKept state.collector.rows u s c (subscription_at state.collector.rows u) o) there (kept.pairs u s c (kept.apart s old there)));
   wider = λ other e. subst (λ (x : Slot). SlotGrows x new) (same_Some old other (sym there ∙ e)) grows;
   source = source;
-  more = sent_before state.messages m;
-  new = λ n was. elim (sent_split state.messages m n was) [
+  more = sent_still state.messages more;
+  new = λ m was. elim (sent_either state.messages more m was) [
     | inl before ↦ inl before
-    | inr e ↦ inr (subst (IsMessageKept state.collector.rows (finite.insert state.sources s new) (state.messages ++ m ∷ [])) e is)
+    | inr now ↦ inr (are m now)
   ];
-  order = ordered_with IsDrawnBefore state.messages m kept.requests behind;
+  order = ordered_behind IsDrawnBefore state.messages more kept.requests order (λ n m was now. drawn_behind state s old n m kept there was (above m now));
 })
 
 -- a declared source draws an id, and sends its request
@@ -267,11 +293,11 @@ pub kept_draw : (state : State) (s : List ℕ) (old new : Slot) (m : Message) (i
     IsSourceKept state.collector.rows (state.messages ++ m ∷ []) s new →
     IsMessageKept state.collector.rows (finite.insert state.sources s new) (state.messages ++ m ∷ []) m →
     source_of m ≡ s → request_id m ≡ Some id → last_id old old.place.memory < id → IsKept (with_message (with_slot state s new) m)
-kept_draw state s old new m id kept there grows source is from drawn fresh = kept_sent state s old new m kept there grows source is (λ n was first second same e f.
-    let at : second ≡ id = same_Some second id (sym f ∙ drawn) in
-    let before = declared_at (finite.get state.sources (source_of n)) old (λ slot. WasDrawn slot (Some first))
-    (ap (finite.get state.sources) (same ∙ from) ∙ there) (drawn_before state.collector.rows state.sources state.messages n first (kept.messages n was) e) in
-    subst (λ (k : ℕ). first < k) (sym at) (below_fresh first (last_id old old.place.memory) id before fresh))
+kept_draw state s old new m id kept there grows source is from drawn fresh =
+    kept_sent state s old new (m ∷ []) kept there grows source
+    (sent_only m (IsMessageKept state.collector.rows (finite.insert state.sources s new) (state.messages ++ m ∷ [])) is)
+    (sent_only m (IsAbove s (last_id old old.place.memory)) (from, λ own e. subst (λ (k : ℕ). last_id old old.place.memory < k) (same_Some id own (sym drawn ∙ e)) fresh))
+    (ordered_alone IsDrawnBefore m)
 
 none_is : (o : Option ℕ) (id : ℕ) → o ≡ None → o ≡ Some id → ⊥
 none_is o id e f = none-some id (sym e ∙ f)
@@ -280,12 +306,17 @@ none_is o id e f = none-some id (sym e ∙ f)
 no_request : (m n : Message) → request_id m ≡ None → IsDrawnBefore n m
 no_request m n none first second same e f = absurd (none_is (request_id m) second none f)
 
--- A declared source goes on, and sends a message that is no request: it answers one of the collector's, and may have drawn
--- ids for it. No source is asked anything yet, so nothing uses this.
+-- a declared source goes on, and sends a message that is no request: it answers one of the collector's, and may have drawn
+-- ids for it
 pub kept_answer : (state : State) (s : List ℕ) (old new : Slot) (m : Message) → IsKept state → slot_of state s ≡ Some old → SlotGrows old new →
-    IsSourceKept state.collector.rows (state.messages ++ m ∷ []) s new → request_id m ≡ None →
-    IsMessageKept state.collector.rows (finite.insert state.sources s new) (state.messages ++ m ∷ []) m → IsKept (with_message (with_slot state s new) m)
-kept_answer state s old new m kept there grows source none is = kept_sent state s old new m kept there grows source is (λ n was. no_request m n none)
+    IsSourceKept state.collector.rows (state.messages ++ m ∷ []) s new →
+    IsMessageKept state.collector.rows (finite.insert state.sources s new) (state.messages ++ m ∷ []) m →
+    source_of m ≡ s → request_id m ≡ None → IsKept (with_message (with_slot state s new) m)
+kept_answer state s old new m kept there grows source is from none =
+    kept_sent state s old new (m ∷ []) kept there grows source
+    (sent_only m (IsMessageKept state.collector.rows (finite.insert state.sources s new) (state.messages ++ m ∷ [])) is)
+    (sent_only m (IsAbove s (last_id old old.place.memory)) (from, λ id e. absurd (none_is (request_id m) id none e)))
+    (ordered_alone IsDrawnBefore m)
 
 -- a message is sent that is no request
 pub kept_reply : (state : State) (m : Message) → IsKept state → request_id m ≡ None →

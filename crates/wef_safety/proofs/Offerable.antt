@@ -6,7 +6,7 @@ use Rattle.wef_documents.specs.Laws.{HasKeptNames, HasXmlTexts, IsPlain}
 use Rattle.std.proofs.lemmas.Bool.{and_from, and_parts, eqb-true}
 use Rattle.std.proofs.lemmas.Bool.Decides.{nat_tests}
 use Rattle.std.proofs.lemmas.Option.{none-some}
-use Rattle.std.specs.Cmp.Lexicographic.{bytes_decides, pointwise, slice_cmp}
+use Rattle.std.specs.Cmp.Lexicographic.{pointwise, slice_cmp}
 use Rattle.std.specs.FinMap as finite
 use Rattle.std.specs.List.{AllByRecursion, filter, list_all, list_any}
 use Rattle.std.specs.Ordering.{eq_by_cmp, nat_cmp}
@@ -14,16 +14,14 @@ use Rattle.std.specs.Prelude.{Option, Some, None, IfSome, is_some, codes}
 use Rattle.std.specs.Str.{is_utf8}
 use Rattle.wef_base.specs.Names.{channel_name, same}
 use Rattle.wef_base.specs.declared.numbers.TheConstants.{MAX}
-use Rattle.wef_batch.specs.WellFormed.{is_in}
 use Rattle.wef_bodies.specs.Laws.{IsPlainOffer, OfferCanStand}
 use Rattle.wef_bookmark.proofs.Joining.{get-raised, one_name, order}
 use Rattle.wef_bookmark.proofs.Kept.{empty_kept, raised_kept}
 use Rattle.wef_bookmark.specs.Entries.{AreEntries}
 use Rattle.wef_bookmark.specs.Nodes.{AreTexts}
 use Rattle.wef_bookmark.specs.Order.{Marks, number_at, raised}
-use Rattle.wef_collector.specs.Offers.{offer_made, offers}
+use Rattle.wef_collector.specs.Offers.{offer_made, offers, subscribe_from}
 use Rattle.wef_collector_reports.specs.declared.listing.Listed.{Listed}
-use Rattle.wef_collector_rows.specs.Answers.{channels_read}
 use Rattle.wef_collector_rows.specs.Bookmarks.{bookmark_of, bookmark_rows, has_channel, raised_by_rows}
 use Rattle.wef_collector_rows.specs.Forms as collector
 use Rattle.wef_collector_rows.specs.Keys.{bookmark_key}
@@ -41,14 +39,16 @@ use Rattle.wef_keeper.specs.declared.keys.Row.{Row}
 use Rattle.wef_replay.proofs.Gifts.{AllOf}
 use Rattle.wef_replay.proofs.GoodNames.{kept_channel}
 use Rattle.wef_replay.specs.Good.{is_channel, is_one, is_source, is_subscription}
-use Rattle.wef_pairs.specs.Pairs.{IsPairKey, subscription_at}
+use Rattle.wef_pairs.specs.Pairs.{subscription_at}
 use Rattle.wef_machine.specs.States.{Slot, State, host, slot_of}
-use Rattle.wef_safety.specs.Kept.{IsChannelKept, IsKept, IsPairKept}
-use Rattle.wef_safety.proofs.KeptChannels.{kept_of, known_channels, known_has}
+use Rattle.wef_safety.specs.Kept.{IsKept}
+use Rattle.wef_safety.proofs.KeptChannels.{kept_of, known_has}
 use Rattle.wef_safety.proofs.NameTexts.{subscription_is_plain}
 use Rattle.wef_safety.proofs.Offering.{IsListed, Stands, all_filter, all_made, all_stand, reads_source, reads_subscription}
-use Rattle.wef_safety.proofs.RowMoves.{AreRowKeys}
+use Rattle.wef_safety.proofs.RowMoves.{AreRowsKept}
 use Rattle.wef_safety.proofs.Sent.{all_map}
+use Rattle.wef_subscribes.specs.Laws.{IsKeptSubscribe, IsPlainSubscribe, IsWithin}
+use Rattle.wef_times.specs.declared.durations.TheConstants.{LIMIT}
 
 -- a test of numbers that holds
 tested : (m n : ℕ) → nat_le m n ≡ true → m ≤ n
@@ -134,22 +134,22 @@ utf8_name c good = (and_parts (is_utf8 c) (is_one c (channel_name c)) good).0
 -- ---- the subscription of an offer
 
 -- A subscription that can be written, and read again.
-record CanBeSaid (about : Subscription) : Type 0 where
-  names : HasKeptNames about
-  plain : IsPlain about
-  texts : HasXmlTexts about
+pub record CanBeSaid (about : Subscription) : Type 0 where
+  pub names : HasKeptNames about
+  pub plain : IsPlain about
+  pub texts : HasXmlTexts about
 
 read_said : (name body : List ℕ) → AllOf CanBeSaid (read_kept name body)
 read_said name body = kept_of CanBeSaid name body (λ s is. record { names = kept_names name body s is; plain = kept_plain name body s is; texts = kept_xml name body s is })
 
 -- so is each that rows keep
-known_said : (rows : Rows) (u : List ℕ) (about : Subscription) → subscription_at rows u ≡ Some about → CanBeSaid about
+pub known_said : (rows : Rows) (u : List ℕ) (about : Subscription) → subscription_at rows u ≡ Some about → CanBeSaid about
 known_said rows u about known = known_has CanBeSaid rows u about (read_said u) known
 
 -- ---- the bookmark of an offer
 
 -- a bookmark whose channels have names, with numbers of records
-abbrev AreGoodMarks : Marks → Type 0
+abbrev pub AreGoodMarks : Marks → Type 0
 AreGoodMarks b = AreEntries b × AreTexts b
 
 no_texts : AreTexts finite.empty
@@ -174,21 +174,11 @@ raised_good b (row ∷ rows) good all =
     raised_good (raised b c row.value) rows
     (raised_kept b c row.value (kept_channel c here.0) here.1 good.0, texts_raised b c row.value (utf8_name c here.0) good.1) all.1
 
--- a key under those of a subscription's and a source's bookmark is that of a pair
-pair_key : (u s : List ℕ) (key : Key) → is_under Source (bookmark_key u s []) key ≡ true → (key.kind ≡ 2) × IsPairKey u s key.channel key
-pair_key u s key under =
+-- a key under those of a subscription's and a source's bookmark is that of one
+bookmark_kind : (u s : List ℕ) (key : Key) → is_under Source (bookmark_key u s []) key ≡ true → key.kind ≡ 2
+bookmark_kind u s key under =
     let outer = and_parts (nat_eq 2 key.kind && pointwise nat_eq u key.sub) (pointwise nat_eq s key.source) under in
-    let inner = and_parts (nat_eq 2 key.kind) (pointwise nat_eq u key.sub) outer.0 in
-    let kind : key.kind ≡ 2 = sym (eqb-true 2 key.kind inner.0) in (
-      kind,
-      record {
-        least = omega arith;
-        greatest = omega arith;
-        sub = sym ((bytes_decides u key.sub).0 inner.1);
-        source = sym ((bytes_decides s key.source).0 outer.1);
-        channel = refl;
-      },
-    )
+    sym (eqb-true 2 key.kind (and_parts (nat_eq 2 key.kind) (pointwise nat_eq u key.sub) outer.0).0)
 
 -- a key of a kind
 abbrev of_kind : ℕ → Key → Key
@@ -207,86 +197,85 @@ bookmark_number row formed =
 formed_row : (rows : Rows) (row : Row) → collector.AreFormed rows → finite.get rows row.key ≡ Some (cell_of_row row) → collector.is_formed row ≡ true
 formed_row rows row formed there = subst (λ (o : Option Cell). IfSome o (λ cell. collector.is_formed (row_of (row.key, cell)) ≡ true)) there (formed row.key)
 
--- each channel of which something is kept of a source has a name such as a reader gives
-abbrev pub IsKeptNamed : Rows → List ℕ → Type 0
-IsKeptNamed rows s = (u c : List ℕ) (key : Key) (cell : Cell) → IsPairKey u s c key → finite.get rows key ≡ Some cell → is_channel c ≡ true
+good_row : (rows : Rows) (u s : List ℕ) → AreRowsKept rows → collector.AreFormed rows → (row : Row) → Stands rows Source (bookmark_key u s []) row → IsGoodRow row
+good_row rows u s keys formed row is =
+    let kind = bookmark_kind u s row.key is.under in
+    ((keys row.key (cell_of_row row) is.there).channel kind, bookmark_number row (sym (bookmark_formed row kind) ∙ formed_row rows row formed is.there))
 
-good_row : (rows : Rows) (u s : List ℕ) → collector.AreFormed rows → IsKeptNamed rows s → (row : Row) → Stands rows Source (bookmark_key u s []) row → IsGoodRow row
-good_row rows u s formed named row is =
-    let key = pair_key u s row.key is.under in
-    (named u row.key.channel row.key (cell_of_row row) key.1 is.there, bookmark_number row (sym (bookmark_formed row key.0) ∙ formed_row rows row formed is.there))
-
-good_marks : (rows : Rows) (u s : List ℕ) → collector.AreFormed rows → IsKeptNamed rows s → AreGoodMarks (bookmark_of rows u s)
-good_marks rows u s formed named =
-    let all = all_map (Stands rows Source (bookmark_key u s [])) IsGoodRow (good_row rows u s formed named) (bookmark_rows rows u s) (all_stand rows Source (bookmark_key u s [])) in
+pub good_marks : (rows : Rows) (u s : List ℕ) → AreRowsKept rows → collector.AreFormed rows → AreGoodMarks (bookmark_of rows u s)
+good_marks rows u s keys formed =
+    let all = all_map (Stands rows Source (bookmark_key u s [])) IsGoodRow (good_row rows u s keys formed) (bookmark_rows rows u s) (all_stand rows Source (bookmark_key u s [])) in
     raised_good finite.empty (filter has_channel (bookmark_rows rows u s)) (empty_kept, no_texts)
     (all_map (λ (row : Row). IsGoodRow row × (has_channel row ≡ true)) IsGoodRow (λ row is. is.0) (filter has_channel (bookmark_rows rows u s))
     (all_filter IsGoodRow has_channel (bookmark_rows rows u s) all))
 
+-- ---- a wish
+
+-- how long it asks for, where it says that, is a time that is read
+abbrev pub IsTimed : Option ℕ → Type 0
+IsTimed expires = IfSome expires (IsWithin 1 LIMIT)
+
+-- the wish of a listed subscription for what is above the kept bookmark is read as it is written
+pub plain_wish : (rows : Rows) (s at : List ℕ) (expires : Option ℕ) → IsAuthority at → AreRowsKept rows → collector.AreFormed rows → is_source s ≡ true → IsTimed expires → (l : Listed) → IsListed rows l →
+    IsPlainSubscribe (subscribe_from (bookmark_of rows l.subscription.name s) s at l.subscription expires)
+plain_wish rows s at expires is_host keys formed good timed l is =
+    let about = l.subscription in
+    let said = known_said rows about.name about is.known in
+    record {
+      notify_to = delivery_there at about.name s is_host is.name good;
+      end_to = address_there at about.name s is_host;
+      identifier = (subscription_is_plain about.name is.name).0;
+      query = said.plain.query;
+      max_items = said.plain.max_items;
+      max_bytes = said.plain.max_bytes;
+      heartbeat = said.plain.heartbeat;
+      expires = timed;
+      from = (good_marks rows about.name s keys formed).0;
+    }
+
+-- and its names are kept
+pub kept_wish : (rows : Rows) (s at : List ℕ) (expires : Option ℕ) → AreRowsKept rows → collector.AreFormed rows → (l : Listed) → IsListed rows l →
+    IsKeptSubscribe (subscribe_from (bookmark_of rows l.subscription.name s) s at l.subscription expires)
+kept_wish rows s at expires keys formed l is =
+    let about = l.subscription in
+    let marks = good_marks rows about.name s keys formed in
+    record { query = (known_said rows about.name about is.known).names.query; entries = marks.0; names = marks.1 }
+
 -- ---- offers
 
 -- the offer of a listed subscription is read as it is written
-plain_offer : (rows : Rows) (s at : List ℕ) → IsAuthority at → collector.AreFormed rows → IsKeptNamed rows s → is_source s ≡ true → (l : Listed) → IsListed rows l → IsPlainOffer (offer_made rows s at l.subscription)
-plain_offer rows s at is_host formed named good l is =
-    let about = l.subscription in
-    let said = known_said rows about.name about is.known in
-    record {
-      version = id_text_trimmed about.version;
-      subscribe = record {
-        notify_to = delivery_there at about.name s is_host is.name good;
-        end_to = address_there at about.name s is_host;
-        identifier = (subscription_is_plain about.name is.name).0;
-        query = said.plain.query;
-        max_items = said.plain.max_items;
-        max_bytes = said.plain.max_bytes;
-        heartbeat = said.plain.heartbeat;
-        expires = tt;
-        from = (good_marks rows about.name s formed named).0;
-      };
-    }
+plain_offer : (rows : Rows) (s at : List ℕ) → IsAuthority at → AreRowsKept rows → collector.AreFormed rows → is_source s ≡ true → (l : Listed) → IsListed rows l → IsPlainOffer (offer_made rows s at l.subscription)
+plain_offer rows s at is_host keys formed good l is = record {
+  version = id_text_trimmed l.subscription.version;
+  subscribe = plain_wish rows s at None is_host keys formed good tt l is;
+}
 
 -- and its texts can stand in a message
-standing_offer : (rows : Rows) (s at : List ℕ) → IsHost at → collector.AreFormed rows → IsKeptNamed rows s → (l : Listed) → IsListed rows l → OfferCanStand (offer_made rows s at l.subscription)
-standing_offer rows s at is_host formed named l is =
+standing_offer : (rows : Rows) (s at : List ℕ) → IsHost at → AreRowsKept rows → collector.AreFormed rows → (l : Listed) → IsListed rows l → OfferCanStand (offer_made rows s at l.subscription)
+standing_offer rows s at is_host keys formed l is =
     let about = l.subscription in
-    let said = known_said rows about.name about is.known in
     let address = (address_is_plain at about.name s is_host).1 in
-    let marks = good_marks rows about.name s formed named in
     record {
       version = id_text_good about.version;
       subscribe = (
-        record { notify_to = address; end_to = address; identifier = (subscription_is_plain about.name is.name).1; query = said.texts.query },
-        record { query = said.names.query; entries = marks.0; names = marks.1 },
+        record { notify_to = address; end_to = address; identifier = (subscription_is_plain about.name is.name).1; query = (known_said rows about.name about is.known).texts.query },
+        kept_wish rows s at None keys formed l is,
       );
     }
 
 -- what is offered to a source can be written, and read again
-pub offers_can_be_sent : (rows : Rows) (s at : List ℕ) → IsAuthority at → AreRowKeys rows → collector.AreFormed rows → IsKeptNamed rows s → is_source s ≡ true →
+pub offers_can_be_sent : (rows : Rows) (s at : List ℕ) → IsAuthority at → AreRowsKept rows → collector.AreFormed rows → is_source s ≡ true →
     AllByRecursion IsPlainOffer (offers rows s at) × AllByRecursion OfferCanStand (offers rows s at)
-offers_can_be_sent rows s at is_host keys formed named good =
-    (all_made rows s at IsPlainOffer keys (plain_offer rows s at is_host formed named good), all_made rows s at OfferCanStand keys (standing_offer rows s at is_host.0 formed named))
+offers_can_be_sent rows s at is_host keys formed good =
+    (all_made rows s at IsPlainOffer keys (plain_offer rows s at is_host keys formed good), all_made rows s at OfferCanStand keys (standing_offer rows s at is_host.0 keys formed))
 
 -- ---- kept worlds
 
--- of a channel that its subscription doesn't read nothing is kept
-pair_named : (rows : Rows) (u s c : List ℕ) (slot : Slot) (key : Key) (cell : Cell) → IsPairKey u s c key → finite.get rows key ≡ Some cell →
-    (about : Option Subscription) → subscription_at rows u ≡ about → IsPairKept rows u s c about (Some slot) → is_channel c ≡ true
-pair_named rows u s c slot key cell is there None known untouched = absurd (none-some cell (sym (untouched key is) ∙ there))
-pair_named rows u s c slot key cell is there (Some about) known kept = by (is_in (channels_read about) c) refl kept
-  where
-    by : (reads : Bool) → is_in (channels_read about) c ≡ reads → IsChannelKept rows u s c about slot reads → is_channel c ≡ true
-    by true here safe = known_channels rows u about known c here
-    by false none untouched = absurd (none-some cell (sym (untouched key is) ∙ there))
-
--- so what is kept of a declared source is kept of channels with names
-declared_named : (state : State) (s : List ℕ) (slot : Slot) → IsKept state → slot_of state s ≡ Some slot → IsKeptNamed state.collector.rows s
-declared_named state s slot kept there u c key cell is stands =
-    let rows : Rows = state.collector.rows in
-    pair_named rows u s c slot key cell is stands (subscription_at rows u) refl
-    (subst (IsPairKept rows u s c (subscription_at rows u)) there (kept.pairs u s c (kept.apart s slot there)))
+-- the collector's host is such
+pub host_there : IsAuthority host
+host_there = ((omega arith, refl), refl)
 
 -- what is offered to a declared source of a kept world can be written, and read again
 pub kept_offers_can_be_sent : (state : State) (s : List ℕ) (slot : Slot) → IsKept state → slot_of state s ≡ Some slot →
     AllByRecursion IsPlainOffer (offers state.collector.rows s host) × AllByRecursion OfferCanStand (offers state.collector.rows s host)
-kept_offers_can_be_sent state s slot kept there =
-    offers_can_be_sent state.collector.rows s host ((omega arith, refl), refl) kept.keys kept.formed (declared_named state s slot kept there) (kept.sources s slot there).name
+kept_offers_can_be_sent state s slot kept there = offers_can_be_sent state.collector.rows s host host_there kept.keys kept.formed (kept.sources s slot there).name

@@ -24,7 +24,7 @@ use Rattle.wef_collector.proofs.Hits.{one_key, one_name}
 use Rattle.wef_collector_rows.specs.Bookmarks.{bookmark_at, bookmark_of, bookmark_rows, has_channel, raised_by_rows}
 use Rattle.wef_collector_rows.specs.Keys.{bookmark_key}
 use Rattle.wef_collector_reports.specs.Listing.{listed}
-use Rattle.wef_collector.specs.Offers.{is_offered, offer_made, offer_of, offers}
+use Rattle.wef_collector.specs.Offers.{is_offered, offer_made, offer_of, offers, subscribe_from}
 use Rattle.wef_collector.proofs.ListedThere.{listed_are_there}
 use Rattle.wef_collector.specs.There.{HaveOwnKeys, IsOwnKey, standing_as}
 use Rattle.wef_collector_rows.specs.Standing.{standing}
@@ -44,7 +44,7 @@ use Rattle.wef_replay.proofs.GoodNames.{one_given}
 use Rattle.wef_replay.specs.Good.{is_one, is_source, is_subscription}
 use Rattle.wef_pairs.specs.Pairs.{about_of, subscription_at}
 use Rattle.wef_safety.specs.Kept.{IsBehind, IsOffered}
-use Rattle.wef_safety.proofs.RowMoves.{AreRowKeys, known_name}
+use Rattle.wef_safety.proofs.RowMoves.{AreRowsKept, known_name}
 use Rattle.wef_safety.proofs.Sent.{all_filter_map, all_map}
 
 -- ---- rows of a section stand in the rows
@@ -111,7 +111,7 @@ all_stand rows depth after =
 -- ---- bookmarks
 
 -- a bookmark row's number is the kept one
-bookmark_row : (rows : Rows) (u s : List ℕ) → AreRowKeys rows → (row : Row) → Stands rows Source (bookmark_key u s []) row → row.value ≡ bookmark_at rows u s row.key.channel
+bookmark_row : (rows : Rows) (u s : List ℕ) → AreRowsKept rows → (row : Row) → Stands rows Source (bookmark_key u s []) row → row.value ≡ bookmark_at rows u s row.key.channel
 bookmark_row rows u s keys row is =
     let outer = and_parts (nat_eq 2 row.key.kind && pointwise nat_eq u row.key.sub) (pointwise nat_eq s row.key.source) is.under in
     let inner = and_parts (nat_eq 2 row.key.kind) (pointwise nat_eq u row.key.sub) outer.0 in
@@ -141,7 +141,7 @@ empty_behind : (rows : Rows) (u s : List ℕ) → IsBehind rows u s finite.empty
 empty_behind rows u s c = let none = ap (λ (o : Option ℕ). unwrap_or o 0) (finite.get-empty (slice_cmp nat_cmp) c) in omega arith
 
 -- the kept bookmark of a subscription and a source is that of their rows
-bookmark_behind : (rows : Rows) (u s : List ℕ) → AreRowKeys rows → IsBehind rows u s (bookmark_of rows u s)
+bookmark_behind : (rows : Rows) (u s : List ℕ) → AreRowsKept rows → IsBehind rows u s (bookmark_of rows u s)
 bookmark_behind rows u s keys =
     raised_all rows u s finite.empty (filter has_channel (bookmark_rows rows u s)) (empty_behind rows u s)
     (all_map (λ (row : Row). (row.value ≡ bookmark_at rows u s row.key.channel) × (has_channel row ≡ true)) (λ (row : Row). row.value ≡ bookmark_at rows u s row.key.channel)
@@ -166,7 +166,7 @@ pub record IsListed (rows : Rows) (l : Listed) : Type 0 where
   pub name : is_subscription l.subscription.name ≡ true
   pub known : subscription_at rows l.subscription.name ≡ Some l.subscription
 
-own_keys : (rows : Rows) → AreRowKeys rows → HaveOwnKeys rows
+own_keys : (rows : Rows) → AreRowsKept rows → HaveOwnKeys rows
 own_keys rows keys key kind there = by_cell (finite.get rows key) refl there
   where
     no_cell : false ≡ true → ⊥
@@ -185,7 +185,7 @@ about_as l = by_test l.live
     by_test true = refl
     by_test false = refl
 
-listed_is : (rows : Rows) → AreRowKeys rows → (l : Listed) → standing rows l.subscription.name ≡ standing_as l → IsListed rows l
+listed_is : (rows : Rows) → AreRowsKept rows → (l : Listed) → standing rows l.subscription.name ≡ standing_as l → IsListed rows l
 listed_is rows keys l stands =
     let known : subscription_at rows l.subscription.name ≡ Some l.subscription = ap about_of stands ∙ about_as l in
     record { name = known_name rows l.subscription.name l.subscription keys known; known = known }
@@ -194,7 +194,7 @@ by_recursion : {X : Type 0} (P : X → Type 0) (xs : List X) → All P xs → Al
 by_recursion P [] all = tt
 by_recursion P (x ∷ xs) all = (All-head P x xs all, by_recursion P xs (All-tail P x xs all))
 
-all_listed : (rows : Rows) → AreRowKeys rows → AllByRecursion (IsListed rows) (listed rows)
+pub all_listed : (rows : Rows) → AreRowsKept rows → AllByRecursion (IsListed rows) (listed rows)
 all_listed rows keys =
     all_map (λ (l : Listed). standing rows l.subscription.name ≡ standing_as l) (IsListed rows) (listed_is rows keys) (listed rows)
     (by_recursion (λ (l : Listed). standing rows l.subscription.name ≡ standing_as l) (listed rows) (listed_are_there rows (own_keys rows keys)))
@@ -202,7 +202,7 @@ all_listed rows keys =
 -- ---- offers
 
 -- what holds of the offer of each listed subscription holds of all that is offered to a source
-pub all_made : (rows : Rows) (s host : List ℕ) (P : Offer → Type 0) → AreRowKeys rows → ((l : Listed) → IsListed rows l → P (offer_made rows s host l.subscription)) → AllByRecursion P (offers rows s host)
+pub all_made : (rows : Rows) (s host : List ℕ) (P : Offer → Type 0) → AreRowsKept rows → ((l : Listed) → IsListed rows l → P (offer_made rows s host l.subscription)) → AllByRecursion P (offers rows s host)
 all_made rows s host P keys holds =
     all_filter_map (IsListed rows) P (offer_of rows s host) (λ l offer is e. by_test l offer is (is_offered l) e) (listed rows) (all_listed rows keys)
   where
@@ -221,10 +221,10 @@ leads_back rows s host good l is =
     let back = addresses_read_back host l.subscription.name s name.0 name.1 source.0 source.1 in
     (back.0, back.1)
 
--- what the offer of a listed subscription says has the terms of that subscription
-pub made_is_offered : (rows : Rows) (s host : List ℕ) → IsHost host → AreRowKeys rows → is_source s ≡ true → (l : Listed) → IsListed rows l →
-    IsOffered rows s (offer_made rows s host l.subscription).subscribe
-made_is_offered rows s host is_host keys good l is =
+-- a wish of a listed subscription for what is above the kept bookmark has the terms of that subscription, for however long it asks
+pub wish_is_offered : (rows : Rows) (s host : List ℕ) (expires : Option ℕ) → IsHost host → AreRowsKept rows → is_source s ≡ true → (l : Listed) → IsListed rows l →
+    IsOffered rows s (subscribe_from (bookmark_of rows l.subscription.name s) s host l.subscription expires)
+wish_is_offered rows s host expires is_host keys good l is =
     let back = leads_back rows s host good l is in
     record {
       u = l.subscription.name;
@@ -242,17 +242,18 @@ made_is_offered rows s host is_host keys good l is =
         max_bytes_is = refl;
       };
       from = bookmark_behind rows l.subscription.name s keys;
+      told = refl;
     }
 
 -- all that is offered to a source is offered well
-pub all_offers : (rows : Rows) (s host : List ℕ) → IsHost host → AreRowKeys rows → is_source s ≡ true → AllByRecursion (λ (offer : Offer). IsOffered rows s offer.subscribe) (offers rows s host)
-all_offers rows s host is_host keys good = all_made rows s host (λ (offer : Offer). IsOffered rows s offer.subscribe) keys (made_is_offered rows s host is_host keys good)
+pub all_offers : (rows : Rows) (s host : List ℕ) → IsHost host → AreRowsKept rows → is_source s ≡ true → AllByRecursion (λ (offer : Offer). IsOffered rows s offer.subscribe) (offers rows s host)
+all_offers rows s host is_host keys good = all_made rows s host (λ (offer : Offer). IsOffered rows s offer.subscribe) keys (wish_is_offered rows s host None is_host keys good)
 
 -- an offer begins at the bookmark that the rows have
 abbrev pub BeginsAtRows : Rows → List ℕ → Offer → Type 0
 BeginsAtRows rows s offer = (u : List ℕ) → subscription_in offer.subscribe.notify_to ≡ Some u → offer.subscribe.from ≡ bookmark_of rows u s
 
-pub all_begin : (rows : Rows) (s host : List ℕ) → AreRowKeys rows → is_source s ≡ true → AllByRecursion (BeginsAtRows rows s) (offers rows s host)
+pub all_begin : (rows : Rows) (s host : List ℕ) → AreRowsKept rows → is_source s ≡ true → AllByRecursion (BeginsAtRows rows s) (offers rows s host)
 all_begin rows s host keys good = all_made rows s host (BeginsAtRows rows s) keys (λ l is u leads.
     let back = leads_back rows s host good l is in
     ap (λ (v : List ℕ). bookmark_of rows v s) (same_Some l.subscription.name u (sym back.0 ∙ leads)))

@@ -1,7 +1,7 @@
--- Each ask and each delivery that a source of a kept world sends can be written as bytes.
-use Rattle.std.proofs.Common.{◌≡◌, ℕ, ◌+◌, ◌*◌, ◌<◌, ◌≤◌, ◌^◌, ◌&&◌, Bool, true, false, List, [], ◌∷◌, nat_le, refl, sym, ◌∙◌, subst, arith}
-use Rattle.std.proofs.lemmas.Bool.{and_parts}
-use Rattle.std.proofs.lemmas.Bool.Decides.{nat_tests}
+-- Each ask and each delivery that a source of a kept world sends can be written as bytes, and what it answers and tells of ends
+-- has ids that are those of their texts.
+use Rattle.std.proofs.Common.{◌≡◌, ℕ, ◌+◌, ◌*◌, ◌≤◌, ◌&&◌, Bool, true, false, List, [], ◌∷◌, length, nat_le, refl, sym, ◌∙◌, subst, arith}
+use Rattle.std.proofs.lemmas.Bool.{and_parts, cond_both}
 use Rattle.std.proofs.lemmas.Option.{none-some}
 use Rattle.std.specs.Prelude.{Option, Some, None, IfSome, unwrap_or}
 use Rattle.std.specs.FinMap as finite
@@ -15,39 +15,51 @@ use Rattle.wef_batch.specs.WellFormed.{is_in, is_in_order, is_listed, is_well_fo
 use Rattle.wef_batch.specs.declared.items.Batch.{Batch}
 use Rattle.wef_batch.specs.declared.items.Item.{Item}
 use Rattle.wef_batch.specs.declared.items.Item.TheVariants.{Event, Dropped, Loose}
+use Rattle.wef_bodies.specs.declared.bodies.Body.{Body}
 use Rattle.wef_collector.specs.FormsStay.{IsSoundItem}
+use Rattle.wef_collector.specs.declared.responses.Response.{Response}
 use Rattle.wef_collector_rows.specs.Answers.{channels_read}
 use Rattle.wef_eventing.proofs.AddressTexts.{address_is_plain}
 use Rattle.wef_replies.proofs.IdTexts.{id_spelt}
 use Rattle.wef_ids.proofs.PlainIds.{id_text_good}
 use Rattle.wef_envelope.specs.Laws.{IsSpelt}
+use Rattle.wef_front.proofs.EndsAreRead.{notes_spelt}
 use Rattle.wef_front.specs.Sent.{CanBeAsked}
+use Rattle.wef_front_collector.specs.HeardResponses.{response_of}
+use Rattle.wef_front_source.specs.Replies.{fault_id, last_id}
 use Rattle.wef_front_source.specs.Sending.{CanBeSent, IsPlainText}
+use Rattle.wef_front_source.specs.declared.saying.Said.{Said}
+use Rattle.wef_front_source.specs.declared.saying.Said.TheVariants as said
 use Rattle.wef_ids.specs.IdTexts.{id_of_value}
+use Rattle.wef_ids.specs.declared.MessageId.{MessageId}
 use Rattle.wef_keeper.specs.Rows.{Rows, row_of}
 use Rattle.wef_keeper.specs.declared.keys.Cell.{Cell}
 use Rattle.wef_replay.proofs.GoodNames.{kept_channel}
 use Rattle.wef_replay.specs.Good.{is_channel, is_one}
 use Rattle.wef_building.specs.Building.{built}
-use Rattle.wef_source.specs.Machine.{End, delivery_of, is_spent, most_drawn, next_id, sent}
+use Rattle.wef_source.specs.Machine.{End, delivery_of, end_notes, is_spent, most_drawn, next_id, sent}
 use Rattle.wef_source.specs.declared.messages.Delivery.{Delivery}
+use Rattle.wef_source.specs.declared.messages.EndNote.{EndNote}
 use Rattle.wef_source.specs.Sessions.{is_named, session_of}
 use Rattle.wef_building.specs.declared.sessions.Session.{Session}
 use Rattle.wef_source_log.proofs.Forming.{number_within}
 use Rattle.wef_source_log.specs.Forms as log
 use Rattle.wef_source_log.specs.Keys.{boot_key}
 use Rattle.wef_source_log.specs.LogWindow.{boot_of}
-use Rattle.wef_machine.specs.States.{Slot, State, host, slot_of}
-use Rattle.wef_safety.specs.Kept.{IsDelivery, IsKept, IsServed}
+use Rattle.wef_machine.specs.Leasing.{is_short, request_done, request_said, responded}
+use Rattle.wef_machine.specs.States.{Slot, State, slot_of}
+use Rattle.wef_safety.specs.Kept.{IsAskedFor, IsDelivery, IsKept, IsServed}
 use Rattle.wef_safety.proofs.EventTrees.{said_has_tree}
 use Rattle.wef_safety.proofs.KeptChannels.{known_channels}
 use Rattle.wef_safety.proofs.LowerFacts.{lower}
 use Rattle.wef_safety.proofs.NameTexts.{subscription_is_plain}
 use Rattle.wef_safety.proofs.Offering.{reads_source}
+use Rattle.wef_safety.proofs.Responding.{CanSay, asked_does}
 use Rattle.wef_safety.proofs.RowMoves.{known_name}
 use Rattle.wef_safety.proofs.SaidEvents.{IsSaidItem, built_said}
 use Rattle.wef_safety.proofs.Sessions.{first_is}
-use Rattle.wef_safety.proofs.SourceSteps.{delivery_kept, running_is, running_with}
+use Rattle.wef_safety.proofs.Shutting.{within_most}
+use Rattle.wef_safety.proofs.SourceSteps.{below_most, delivery_kept, running_is, running_with}
 
 -- ---- the id
 
@@ -59,18 +71,18 @@ most_boots rows formed = by_cell (finite.get rows boot_key) (formed boot_key)
     by_cell None e = omega arith
     by_cell (Some cell) e = number_within (row_of (boot_key, cell)) e refl
 
--- one id more is left
-one_left : (d : ℕ) → nat_le most_drawn d ≡ false → d + 1 ≤ most_drawn
-one_left d e = grind (arith, nat_tests, e)
+-- so it is with a source that runs
+few_boots : (state : State) (s : List ℕ) (slot : Slot) (end : End) → IsKept state → slot_of state s ≡ Some slot → slot.place.memory ≡ Some end → end.boot ≤ 9223372036854775807
+few_boots state s slot end kept there runs =
+    let source = kept.sources s slot there in
+    subst (λ (n : ℕ). n ≤ 9223372036854775807) (sym (running_is state s slot end source runs).0.boot) (most_boots slot.place.rows source.formed)
 
-small_id : (boot drawn : ℕ) → boot ≤ 9223372036854775807 → drawn + 1 ≤ most_drawn → boot * 18446744073709551616 + (drawn + 1) < 2 ^ 128
-small_id boot drawn few left = omega arith
+-- its ids are those of their texts
+drawn_spelt : (boot drawn : ℕ) → boot ≤ 9223372036854775807 → drawn ≤ most_drawn → IsSpelt (id_of_value (boot * 18446744073709551616 + drawn))
+drawn_spelt boot drawn few most = id_spelt (boot * 18446744073709551616 + drawn) (omega arith)
 
--- a source that runs has ids that are those of their texts, where one is left
-next_spelt : (rows : Rows) (end : End) → log.AreFormed rows → end.boot ≡ boot_of rows → is_spent end ≡ false → IsSpelt (id_of_value (next_id end))
-next_spelt rows end formed boot left =
-    let few : end.boot ≤ 9223372036854775807 = subst (λ (n : ℕ). n ≤ 9223372036854775807) (sym boot) (most_boots rows formed) in
-    id_spelt (next_id end) (small_id end.boot end.drawn few (one_left end.drawn left))
+next_spelt : (end : End) → end.boot ≤ 9223372036854775807 → end.drawn + 1 ≤ most_drawn → IsSpelt (id_of_value (next_id end))
+next_spelt end few left = drawn_spelt end.boot (end.drawn + 1) few left
 
 -- what a source asks for its subscriptions with, where an id is left, is a wish that can be written
 pub ask_can_be_sent : (state : State) (s : List ℕ) (slot : Slot) (end : End) → IsKept state → slot_of state s ≡ Some slot → slot.place.memory ≡ Some end → is_spent end ≡ false
@@ -81,7 +93,7 @@ ask_can_be_sent state s slot end kept there runs left =
     record {
       utf8 = name.0;
       named = name.1;
-      spelt = next_spelt slot.place.rows end source.formed (running_is state s slot end source runs).0.boot left;
+      spelt = next_spelt end (few_boots state s slot end kept there runs) (below_most end.drawn left);
       id = id_text_good (next_id end);
     }
 
@@ -149,7 +161,7 @@ delivery_can_be_sent state s u slot end session kept there runs found left =
     let read = read_channel rows s new (delivery_of slot.place.rows end session) is in
     let name = known_name rows session.name served.terms.about kept.keys served.terms.known in
     record {
-      spelt = next_spelt slot.place.rows end source.formed running.0.boot left;
+      spelt = next_spelt end (few_boots state s slot end kept there runs) (below_most end.drawn left);
       id = id_text_good (next_id end);
       notify_to = subst IsPlainText (sym served.terms.address_is) (address_is_plain served.terms.at session.name s served.terms.host);
       identifier = subst (λ (o : Option (List ℕ)). IfSome o IsPlainText) (sym served.terms.identifier_is) (subscription_is_plain session.name name);
@@ -158,3 +170,38 @@ delivery_can_be_sent state s u slot end session kept there runs found left =
       entries = λ c n e. (kept_channel c (read c n e), is.sound.to c n e);
       names = λ c n e. utf8_name c (read c n e);
     }
+
+-- ---- answers, and notes of ends
+
+-- the id of a fault
+fault_spelt : (end : End) → end.boot ≤ 9223372036854775807 → IsSpelt (id_of_value (fault_id end))
+fault_spelt end few =
+    cond_both (is_spent end) (last_id end) (next_id end) (λ (id : ℕ). IsSpelt (id_of_value id)) (λ spent. drawn_spelt end.boot most_drawn few (omega arith))
+    (λ left. next_spelt end few (below_most end.drawn left))
+
+-- the id of what a source answers that can say this
+answer_spelt : (end : End) (says : Said) → end.boot ≤ 9223372036854775807 → CanSay end says → IfSome (responded end says) (λ (r : MessageId × Response). IsSpelt r.0)
+answer_spelt end (said.Done answer) few can = by (response_of answer)
+  where
+    by : (o : Option Response) → IfSome (option_map (λ (r : Response). (id_of_value (next_id end), r)) o) (λ (r : MessageId × Response). IsSpelt r.0)
+    by None = tt
+    by (Some r) = next_spelt end few can.0
+answer_spelt end (said.Fault name) few can = fault_spelt end few
+answer_spelt end said.Spent few can = drawn_spelt end.boot most_drawn few (omega arith)
+
+-- the id of what a source answers that is asked
+pub response_is_spelt : (state : State) (s : List ℕ) (slot : Slot) (end : End) (identifier : Option (List ℕ)) (asks : Body) → IsKept state → slot_of state s ≡ Some slot →
+    slot.place.memory ≡ Some end → IsAskedFor state.collector.rows s asks →
+    IfSome (responded (request_done identifier asks state.moment end) (request_said identifier asks state.moment end)) (λ (r : MessageId × Response). IsSpelt r.0)
+response_is_spelt state s slot end identifier asks kept there runs is =
+    let done = asked_does state s slot end identifier asks kept there runs is in
+    answer_spelt (request_done identifier asks state.moment end) (request_said identifier asks state.moment end)
+    (subst (λ (boot : ℕ). boot ≤ 9223372036854775807) (sym done.0.boot) (few_boots state s slot end kept there runs)) done.1
+
+-- the ids of the notes in which a source tells of ends
+pub notes_are_spelt : (state : State) (s : List ℕ) (slot : Slot) (end : End) → IsKept state → slot_of state s ≡ Some slot → slot.place.memory ≡ Some end → is_short end ≡ false →
+    AllByRecursion (λ (note : EndNote). IsSpelt note.id) (end_notes end)
+notes_are_spelt state s slot end kept there runs room =
+    let few = few_boots state s slot end kept there runs in
+    let most : end.drawn + length (end_notes end) ≤ most_drawn = within_most (end.drawn + length (end_notes end)) room in
+    notes_spelt (next_id end) end.sessions (omega arith)

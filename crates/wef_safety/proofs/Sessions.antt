@@ -17,12 +17,14 @@ use Rattle.wef_eventing.specs.declared.offers.Offer.{Offer}
 use Rattle.wef_eventing.specs.declared.offers.Subscribe.{Subscribe}
 use Rattle.wef_keeper.specs.Rows.{Rows}
 use Rattle.wef_query.specs.Selected.{channels_of}
-use Rattle.wef_source.specs.Sessions.{acknowledged, first_where, is_outstanding, moved_by, placed, session_from, settled, waits_for, with_changed, with_channels, with_offered, with_offers, with_session, without}
+use Rattle.wef_source.specs.Machine.{lease_of}
+use Rattle.wef_source.specs.Sessions.{acknowledged, first_where, is_outstanding, moved_by, placed, prolonged, session_from, session_leased, settled, until, waits_for, with_changed, with_channels, with_offered, with_offers, with_session, without}
+use Rattle.wef_building.specs.declared.sessions.Lease.{Lease}
 use Rattle.wef_building.specs.declared.sessions.Outstanding.{Outstanding}
 use Rattle.wef_building.specs.declared.sessions.Session.{Session}
 use Rattle.wef_machine.specs.declared.messages.Message.{Message}
-use Rattle.wef_machine.specs.declared.messages.Message.TheVariants.{Ask, Offers, Events, Ack, Fault}
-use Rattle.wef_safety.specs.Kept.{AreTerms, IsAckKept, IsBehind, IsOffered, IsServed, WaitsFor, request_id}
+use Rattle.wef_machine.specs.declared.messages.Message.TheVariants.{Ask, Offers, Events, Ack, Fault, Request, Response, Ended}
+use Rattle.wef_safety.specs.Kept.{AreTerms, IsAckKept, IsBehind, IsLeaseTold, IsOffered, IsServed, WaitsFor, request_id}
 use Rattle.wef_safety.specs.Safe.{IsAcknowledged, WasSent, own_id, read_by, source_of}
 use Rattle.wef_safety.proofs.Moves.{AreOne}
 use Rattle.wef_safety.proofs.Sent.{all_map}
@@ -118,7 +120,15 @@ session_begins rows messages s now subscribe u leads offered =
           let behind = subst (λ (v : List ℕ). IsBehind rows v s subscribe.from) at offered.from c in
           omega arith;
       outstanding = tt;
+      told = tt;
     }
+
+-- so does one that a collector begins: its end is told where its batches go, if at all
+pub leased_begins : (rows : Rows) (messages : List Message) (s : List ℕ) (now id : ℕ) (wish : Subscribe) (u : List ℕ) → subscription_in wish.notify_to ≡ Some u →
+    IsOffered rows s wish → IsServed rows messages s (session_leased now wish (lease_of id wish now) u)
+leased_begins rows messages s now id wish u leads offered =
+    let begun = session_begins rows messages s now wish u leads offered in
+    record { terms = begun.terms; positions = begun.positions; outstanding = tt; told = offered.told }
 
 pub all_offered : (rows : Rows) (messages : List Message) (s : List ℕ) (now : ℕ) (ss : List Session) (offers : List Offer) →
     AllByRecursion (λ (offer : Offer). IsOffered rows s offer.subscribe) offers → AllByRecursion (IsServed rows messages s) ss →
@@ -136,7 +146,7 @@ all_offered rows messages s now ss (offer ∷ offers) are all =
 -- ---- sessions that are answered
 
 pub settled_served : (rows : Rows) (messages : List Message) (s : List ℕ) (session : Session) → IsServed rows messages s session → IsServed rows messages s (settled session)
-settled_served rows messages s session served = record { terms = served.terms; positions = served.positions; outstanding = tt }
+settled_served rows messages s session served = record { terms = served.terms; positions = served.positions; outstanding = tt; told = served.told }
 
 pub equal_numbers : (a b : ℕ) → a == b ≡ true → a ≡ b
 equal_numbers a b e = grind (arith, nat_tests, e)
@@ -158,6 +168,9 @@ session_requests (Offers s id relates offers) reads e = absurd (none-some reads 
 session_requests (Events s delivery) reads e = refl
 session_requests (Ack s id relates) reads e = absurd (none-some reads e)
 session_requests (Fault s id relates fault) reads e = absurd (none-some reads e)
+session_requests (Request s id identifier body) reads e = absurd (none-some reads e)
+session_requests (Response s id relates answer) reads e = absurd (none-some reads e)
+session_requests (Ended s note) reads e = absurd (none-some reads e)
 
 -- the message that a session waits for is the one that an acknowledgement of its id is for
 pub acknowledged_message : (rows : Rows) (messages : List Message) (s : List ℕ) (relates : MessageId) (id own : ℕ) (m : Message) → AreOne messages → (is : IsAcknowledged rows messages s relates) →
@@ -187,4 +200,20 @@ acknowledged_served rows messages s relates id session one kept at waits served 
           positions = joined_behind rows session.name s session.positions outstanding.to served.positions
               (subst (λ (x : List ℕ × Marks). IsBehind rows x.0 s x.1) (λ i. (path i, to i)) kept.behind);
           outstanding = tt;
+          told = served.told;
         }
+
+-- ---- a session that goes on
+
+until_told : (expiry : ℕ) (address : List ℕ) (lease : Option Lease) → IsLeaseTold address lease → IsLeaseTold address (until expiry lease)
+until_told expiry address None told = tt
+until_told expiry address (Some lease) told = told
+
+pub prolonged_served : (rows : Rows) (messages : List Message) (s : List ℕ) (expiry : ℕ) (session : Session) → IsServed rows messages s session →
+    IsServed rows messages s (prolonged expiry session)
+prolonged_served rows messages s expiry session served = record {
+  terms = served.terms;
+  positions = served.positions;
+  outstanding = served.outstanding;
+  told = until_told expiry session.notify_to session.lease served.told;
+}

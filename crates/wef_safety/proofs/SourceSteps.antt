@@ -63,7 +63,7 @@ use Rattle.wef_safety.proofs.Growing.{HistoriesGrow, SlotGrows, SourcesGrow, mes
 use Rattle.wef_safety.proofs.Lower.{Lower}
 use Rattle.wef_safety.proofs.Moves.{are_one, declared_is, from_mapped, grown_pair, kept_draw, kept_slot, put_there, slot_put}
 use Rattle.wef_safety.proofs.SaidEvents.{built_said, numbered_said, written_events}
-use Rattle.wef_safety.proofs.Sent.{all_map, sent_before, sent_last}
+use Rattle.wef_safety.proofs.Sent.{all_map, sent_before, sent_last, sent_still}
 use Rattle.wef_safety.proofs.Sessions.{acknowledged_served, all_changed, all_filtered, all_first_changed, all_offered, all_without, first_is, first_passes, settled_served}
 
 -- a source is as it should be, beside what the rows and the messages say
@@ -224,6 +224,13 @@ pub at_source_keeps : Lower → (state : State) (s : List ℕ) (change : State �
 at_source_keeps lower state s change kept keeps =
     at_source_any state s change IsKept IsKept kept (λ slot there. with_opened_kept lower state s slot kept there) (λ now kept_now. kept_now) keeps
 
+-- what a line does to a source leaves the collector as it is where it does so once the source runs
+pub at_source_beside : (state : State) (s : List ℕ) (change : State → Slot → End → State) →
+    ((now : State) (slot : Slot) (end : End) → (change now slot end).collector ≡ now.collector) → (at_source state s change).collector ≡ state.collector
+at_source_beside state s change leaves =
+    at_source_any state s change (λ (now : State). now.collector ≡ state.collector) (λ (now : State). now.collector ≡ state.collector) refl (λ slot there. refl) (λ now same. same)
+    (λ now slot end same opened there runs. leaves now slot end ∙ same)
+
 -- ---- one end in place of another
 
 -- a source that remembers this from now on
@@ -234,7 +241,7 @@ pub running_is : (state : State) (s : List ℕ) (slot : Slot) (end : End) → Is
     IsEndKept state.collector.rows state.messages s slot end × (0 < end.boot)
 running_is state s slot end kept runs = subst (λ (o : Option End). IsRunningKept state.collector.rows state.messages s slot o) runs kept.running
 
-source_with_end : (rows : Rows) (messages messages' : List Message) (s : List ℕ) (slot : Slot) (end : End) → IsSourceKept rows messages s slot → end.boot ≡ boot_of slot.place.rows →
+pub source_with_end : (rows : Rows) (messages messages' : List Message) (s : List ℕ) (slot : Slot) (end : End) → IsSourceKept rows messages s slot → end.boot ≡ boot_of slot.place.rows →
     0 < end.boot → end.drawn ≤ most_drawn → IsInOrder (names_of end.sessions) → AllByRecursion (IsServed rows messages' s) end.sessions → IsSourceKept rows messages' s (running_with slot end)
 source_with_end rows messages messages' s slot end kept boot some drawn in_order sessions = record {
   name = kept.name;
@@ -246,19 +253,22 @@ source_with_end rows messages messages' s slot end kept boot some drawn in_order
   running = (record { boot = boot; drawn = drawn; in_order = in_order; sessions = sessions }, some);
 }
 
+-- an end of the same start that drew no less goes on
+pub goes_on : (slot : Slot) (end new : End) → slot.place.memory ≡ Some end → new.boot ≡ end.boot → end.drawn ≤ new.drawn → SlotGrows slot (running_with slot new)
+goes_on slot end new runs boot more = record {
+  capacity = refl;
+  histories = same_histories slot.histories;
+  drawn = subst (λ (o : Option End). last_id slot o ≤ new.boot * 18446744073709551616 + new.drawn) (sym runs) (omega (arith, boot));
+}
+
 -- an end of the same start, which may have drawn more
-kept_end : (state : State) (s : List ℕ) (slot : Slot) (end new : End) → IsKept state → slot_of state s ≡ Some slot → slot.place.memory ≡ Some end → new.boot ≡ end.boot →
+pub kept_end : (state : State) (s : List ℕ) (slot : Slot) (end new : End) → IsKept state → slot_of state s ≡ Some slot → slot.place.memory ≡ Some end → new.boot ≡ end.boot →
     end.drawn ≤ new.drawn → new.drawn ≤ most_drawn → IsInOrder (names_of new.sessions) → AllByRecursion (IsServed state.collector.rows state.messages s) new.sessions → IsKept (with_end state s slot new)
 kept_end state s slot end new kept there runs same_boot more most in_order sessions =
     let source = kept.sources s slot there in
     let is = running_is state s slot end source runs in
     let some = is.1 in
-    kept_slot state s slot (running_with slot new) kept there
-    (record {
-      capacity = refl;
-      histories = same_histories slot.histories;
-      drawn = subst (λ (o : Option End). last_id slot o ≤ new.boot * 18446744073709551616 + new.drawn) (sym runs) (omega (arith, same_boot));
-    })
+    kept_slot state s slot (running_with slot new) kept there (goes_on slot end new runs same_boot more)
     (source_with_end state.collector.rows state.messages state.messages s slot new source (same_boot ∙ is.0.boot) (omega (arith, same_boot)) most in_order sessions)
 
 -- ---- writing
@@ -384,24 +394,18 @@ write_keeps lower state s event kept good = at_source_keeps lower state s (write
 
 -- ---- drawing an id
 
-below_most : (d : ℕ) → nat_le most_drawn d ≡ false → d + 1 ≤ most_drawn
+-- one id more is left
+pub below_most : (d : ℕ) → nat_le most_drawn d ≡ false → d + 1 ≤ most_drawn
 below_most d e = grind (arith, nat_tests, e)
 
-all_later : (state : State) (s : List ℕ) (m : Message) (sessions : List Session) → AllByRecursion (IsServed state.collector.rows state.messages s) sessions →
-    AllByRecursion (IsServed state.collector.rows (state.messages ++ m ∷ []) s) sessions
-all_later state s m sessions all =
-    all_map (IsServed state.collector.rows state.messages s) (IsServed state.collector.rows (state.messages ++ m ∷ []) s)
-    (λ session. served_grows state.collector.rows state.collector.rows state.messages (state.messages ++ m ∷ []) s session (same_rows state.collector.rows) (sent_before state.messages m)) sessions all
+-- sessions are served as before once messages are sent
+pub all_later : (state : State) (s : List ℕ) (more : List Message) (sessions : List Session) → AllByRecursion (IsServed state.collector.rows state.messages s) sessions →
+    AllByRecursion (IsServed state.collector.rows (state.messages ++ more) s) sessions
+all_later state s more sessions all =
+    all_map (IsServed state.collector.rows state.messages s) (IsServed state.collector.rows (state.messages ++ more) s)
+    (λ session. served_grows state.collector.rows state.collector.rows state.messages (state.messages ++ more) s session (same_rows state.collector.rows) (sent_still state.messages more)) sessions all
 
--- an end that drew one id more goes further
-draws : (slot : Slot) (end new : End) → slot.place.memory ≡ Some end → new.boot ≡ end.boot → new.drawn ≡ end.drawn + 1 → SlotGrows slot (running_with slot new)
-draws slot end new runs boot drawn = record {
-  capacity = refl;
-  histories = same_histories slot.histories;
-  drawn = subst (λ (o : Option End). last_id slot o ≤ new.boot * 18446744073709551616 + new.drawn) (sym runs) (omega (arith, boot, drawn));
-}
-
-fresh_id : (slot : Slot) (end : End) → slot.place.memory ≡ Some end → last_id slot slot.place.memory < next_id end
+pub fresh_id : (slot : Slot) (end : End) → slot.place.memory ≡ Some end → last_id slot slot.place.memory < next_id end
 fresh_id slot end runs = subst (λ (o : Option End). last_id slot o < next_id end) (sym runs) (omega arith)
 
 asked_kept : (state : State) (s : List ℕ) (slot : Slot) (end : End) → IsKept state → slot_of state s ≡ Some slot → slot.place.memory ≡ Some end → is_spent end ≡ false →
@@ -411,9 +415,9 @@ asked_kept state s slot end kept there runs left =
     let is = running_is state s slot end source runs in
     let new : Slot = running_with slot (asked end) in
     let m : Message = Ask s (id_of_value (next_id end)) in
-    kept_draw state s slot new m (next_id end) kept there (draws slot end (asked end) runs refl refl)
+    kept_draw state s slot new m (next_id end) kept there (goes_on slot end (asked end) runs refl (omega arith))
     (source_with_end state.collector.rows state.messages (state.messages ++ m ∷ []) s slot (asked end) source is.0.boot is.1 (below_most end.drawn left) is.0.in_order
-    (all_later state s m end.sessions is.0.sessions))
+    (all_later state s (m ∷ []) end.sessions is.0.sessions))
     (declared_is (finite.get (finite.insert state.sources s new) s) new (λ (o : Slot). WasDrawn o (Some (next_id end))) (slot_put state.sources s new) (omega arith))
     refl refl (fresh_id slot end runs)
 
@@ -488,8 +492,8 @@ sent_kept lower state s slot end session kept there runs left found =
     let awaited : Outstanding = record { id = next_id end; to = (built slot.place.rows session).to } in
     let later = served_grows state.collector.rows state.collector.rows state.messages messages s session (same_rows state.collector.rows) (sent_before state.messages m) served in
     let waits : IsServed state.collector.rows messages s (sending awaited state.moment session) =
-    record { terms = later.terms; positions = later.positions; outstanding = (m, sent_last state.messages m, refl, refl, refl) } in
-    kept_draw state s slot new m (next_id end) kept there (draws slot end after runs refl refl)
+    record { terms = later.terms; positions = later.positions; outstanding = (m, sent_last state.messages m, refl, refl, refl); told = later.told } in
+    kept_draw state s slot new m (next_id end) kept there (goes_on slot end after runs refl (omega arith))
     (source_with_end state.collector.rows state.messages messages s slot after source is.0.boot is.1 (below_most end.drawn left)
     (changed_in_order (is_named session.name) (sending awaited state.moment) (sending_name awaited state.moment) end.sessions is.0.in_order)
     (all_first_changed (IsServed state.collector.rows state.messages s) (IsServed state.collector.rows messages s) (is_named session.name)

@@ -22,30 +22,36 @@ use Rattle.wef_replay_values.specs.declared.end_name.EndName.{EndName}
 use Rattle.wef_replay_values.specs.declared.end_name.EndName.TheVariants as ends
 use Rattle.wef_replay.specs.Good.{are_queries, are_limits, is_among, is_between, is_line, is_no_collector, is_source, is_subscription}
 use Rattle.wef_replay.specs.declared.lines.Line.{Line}
-use Rattle.wef_replay.specs.declared.lines.Line.TheVariants.{Subscribe, End, Batch, Source, Write, WriteXml, Ask, Poll, Deliver, Back, Lost, Crash, Fail, Stop, Calm, Show, Print}
+use Rattle.wef_replay.specs.declared.lines.Line.TheVariants.{Subscribe, SubscribeAt, End, Batch, Source, Write, WriteXml, Ask, Poll, Deliver, Back, Request, Forget, Lost, Shut, Crash, Fail, Stop, Calm, Show, Print, Tick}
 use Rattle.wef_source_log.specs.Histories.{history}
 use Rattle.wef_source_log.specs.Keys.{boot_key}
 use Rattle.wef_source_log.specs.LogWindow.{IsWindow, boot_of}
-use Rattle.wef_machine.specs.Collecting.{reply_id}
+use Rattle.wef_machine.specs.Collecting.{reply_id, with_opened}
 use Rattle.wef_machine.specs.Deliveries.{deliver_message, deliver_step, events_at, message_at, number_back, offers_at, taken_by}
+use Rattle.wef_machine.specs.Leasing.{forget_at, note_at, request_at, response_at}
 use Rattle.wef_pairs.specs.Pairs.{IsPairSafe, IsUntouched, about_of, settings_of, subscription_at}
 use Rattle.wef_machine.specs.Sources.{declared_slot}
 use Rattle.wef_machine.specs.States.{Slot, State, declared_names, host, slot_of, start, with_foreign, with_slot}
-use Rattle.wef_machine.specs.Steps.{AreAdmitted, arm_step, batch_at, crash_step, end_at, states_from, step, subscribe_at, subscription_of, unchanged}
+use Rattle.wef_machine.specs.Steps.{AreAdmitted, admits, arm_step, batch_at, begun_subscription, crash_step, end_at, states_from, step, subscribe_at, subscription_of, tick_step, unchanged}
 use Rattle.wef_machine.specs.declared.arming.Armed.{Armed}
 use Rattle.wef_machine.specs.declared.messages.Message.{Message}
 use Rattle.wef_machine.specs.declared.messages.Message.TheVariants as sent
 use Rattle.wef_machine.proofs.Names.{undeclared}
-use Rattle.wef_safety.specs.Kept.{IsChannelKept, IsDelivery, IsKept, IsPairKept, WasDrawn, WhereDeclared}
+use Rattle.wef_safety.specs.Kept.{IsChannelKept, IsDelivery, IsHeld, IsKept, IsPairKept, WasDrawn, WhereDeclared}
 use Rattle.wef_safety.specs.Laws.{IsStateSafe, KeptIsSafe, SchedulesAreKept, SchedulesAreSafe, StartIsKept, StepsKeep, written_by}
 use Rattle.wef_safety.specs.Safe.{WasSent, Written}
-use Rattle.wef_safety.proofs.CollectorSteps.{at_collector_keeps, batch_keeps, end_keeps, events_keep, foreign_kept, is_foreign, subscribe_keeps}
-use Rattle.wef_safety.proofs.GoodLines.{subscription_again, names_source, sound_batch, writable, writable_xml}
+use Rattle.wef_safety.proofs.Asking.{at_collector_asks, line_asks, waiting_asked}
+use Rattle.wef_safety.proofs.CollectorSteps.{at_collector_keeps, batch_keeps, end_keeps, events_keep, foreign_kept, is_foreign, opened_kept, subscribe_keeps}
+use Rattle.wef_safety.proofs.GoodLines.{begun, begun_addressed, begun_again, subscription_again, names_source, sound_batch, writable, writable_xml}
+use Rattle.wef_safety.proofs.LeaseSteps.{note_keeps, request_keeps, response_keeps}
 use Rattle.wef_safety.proofs.Lower.{Lower}
 use Rattle.wef_safety.proofs.Moves.{from_mapped, kept_declared, kept_reply}
+use Rattle.wef_safety.proofs.Offerable.{host_there}
 use Rattle.wef_safety.proofs.Offering.{all_offers}
+use Rattle.wef_safety.proofs.Responding.{responds_keeps}
 use Rattle.wef_safety.proofs.Sent.{all_map, sent_by_number}
 use Rattle.wef_safety.proofs.SaidEvents.{no_events}
+use Rattle.wef_safety.proofs.Shutting.{shut_keeps}
 use Rattle.wef_safety.proofs.SourceSteps.{ack_keeps, arm_keeps, ask_keeps, calm_keeps, crash_keeps, fault_keeps, lost_keeps, offers_keep, poll_keeps, write_keeps}
 
 -- ---- a world in which nothing has happened
@@ -56,8 +62,8 @@ untouched_start u s c q is = finite.get-empty key_cmp q
 nowhere : (s : List ℕ) (slot : Slot) → slot_of start s ≡ Some slot → ⊥
 nowhere s slot e = none-some slot (sym (finite.get-empty (slice_cmp nat_cmp) s) ∙ e)
 
-pub start_is_kept : Lower → StartIsKept
-start_is_kept lower = record {
+start_kept : Lower → IsKept start
+start_kept lower = record {
   pairs = λ u s c apart.
       subst (λ (o : Option Subscription). IsPairKept finite.empty u s c o (slot_of start s))
       (sym (ap (λ (o : Option Cell). about_of (standing_of u o)) (finite.get-empty key_cmp (subscription_key u)))) (untouched_start u s c);
@@ -70,31 +76,39 @@ start_is_kept lower = record {
   soon = omega arith;
 }
 
+pub start_is_kept : Lower → StartIsKept
+start_is_kept lower = record { kept = start_kept lower; asking = tt }
+
 -- ---- deliveries
 
 pub of_declared : (o : Option Slot) (P : Slot → Type 0) (Q : Type 0) → WhereDeclared o P → ((slot : Slot) → o ≡ Some slot → P slot → Q) → Q
 of_declared None P Q holds gives = absurd holds
 of_declared (Some slot) P Q holds gives = gives slot refl holds
 
-taken_keeps : Lower → (state : State) (m : Message) → IsKept state → WasSent state.messages m → IsKept (taken_by state m)
-taken_keeps lower state (sent.Ask s id) kept was = at_collector_keeps lower state (offers_at s id) kept (λ now memory kept_now opened.
+taken_keeps : Lower → (state : State) (m : Message) → IsHeld state → WasSent state.messages m → IsKept (taken_by state m)
+taken_keeps lower state (sent.Ask s id) held was = at_collector_keeps lower state (offers_at s id) held.kept (λ now memory kept_now opened.
     let was_now : WasSent now.messages (sent.Ask s id) = subst (λ (ms : List Message). WasSent ms (sent.Ask s id)) (sym opened.messages) was in
     of_declared (slot_of now s) (λ (slot : Slot). WasDrawn slot id.value) (IsKept (offers_at s id memory now)) (kept_now.messages (sent.Ask s id) was_now) (λ slot there drawn.
-    kept_reply now (sent.Offers s (reply_id memory) id (offers now.collector.rows s host)) kept_now refl (all_offers now.collector.rows s host (omega arith, refl) kept_now.keys (kept_now.sources s slot there).name)))
-taken_keeps lower state (sent.Offers s id relates given) kept was = offers_keep lower state s relates given kept (kept.messages (sent.Offers s id relates given) was)
-taken_keeps lower state (sent.Events s delivery) kept was = at_collector_keeps lower state (events_at s delivery) kept (λ now memory kept_now opened.
+    kept_reply now (sent.Offers s (reply_id memory) id (offers now.collector.rows s host)) kept_now refl (all_offers now.collector.rows s host host_there.0 kept_now.keys (kept_now.sources s slot there).name)))
+taken_keeps lower state (sent.Offers s id relates given) held was = offers_keep lower state s relates given held.kept (held.kept.messages (sent.Offers s id relates given) was)
+taken_keeps lower state (sent.Events s delivery) held was = at_collector_keeps lower state (events_at s delivery) held.kept (λ now memory kept_now opened.
     let was_now : WasSent now.messages (sent.Events s delivery) = subst (λ (ms : List Message). WasSent ms (sent.Events s delivery)) (sym opened.messages) was in
     of_declared (slot_of now s) (λ (slot : Slot). IsDelivery now.collector.rows s slot delivery) (IsKept (events_at s delivery memory now)) (kept_now.messages (sent.Events s delivery) was_now)
     (λ slot there is. events_keep lower now s slot memory delivery kept_now there was_now is))
-taken_keeps lower state (sent.Ack s id relates) kept was = ack_keeps lower state s relates kept (kept.messages (sent.Ack s id relates) was)
-taken_keeps lower state (sent.Fault s id relates fault) kept was = fault_keeps lower state s relates fault kept
+taken_keeps lower state (sent.Ack s id relates) held was = ack_keeps lower state s relates held.kept (held.kept.messages (sent.Ack s id relates) was)
+taken_keeps lower state (sent.Fault s id relates fault) held was = fault_keeps lower state s relates fault held.kept
+taken_keeps lower state (sent.Request s id identifier body) held was = responds_keeps lower state s id identifier body held.kept (held.kept.messages (sent.Request s id identifier body) was)
+taken_keeps lower state (sent.Response s id relates answer) held was =
+    at_collector_asks lower state (response_at relates answer) IsKept held (opened_kept lower state held.kept) (λ memory kept_now asks.
+    response_keeps (with_opened state) memory relates answer kept_now (held.kept.messages (sent.Response s id relates answer) was) (waiting_asked memory relates.value asks))
+taken_keeps lower state (sent.Ended s note) held was = at_collector_keeps lower state (note_at s note) held.kept (λ now memory kept_now opened. note_keeps now memory s note kept_now)
 
-deliver_keeps : Lower → (state : State) (k : ℕ) → IsKept state → IsKept (deliver_step state k)
-deliver_keeps lower state k kept = by_message (message_at state k) refl
+deliver_keeps : Lower → (state : State) (k : ℕ) → IsHeld state → IsKept (deliver_step state k)
+deliver_keeps lower state k held = by_message (message_at state k) refl
   where
     by_message : (o : Option Message) → message_at state k ≡ o → IsKept (deliver_message state o)
-    by_message None e = kept
-    by_message (Some m) e = taken_keeps lower state m kept (sent_by_number state k m e)
+    by_message None e = held.kept
+    by_message (Some m) e = taken_keeps lower state m held (sent_by_number state k m e)
 
 -- ---- lines
 
@@ -134,41 +148,66 @@ arm_keeps_end : (state : State) (end : EndName) (armed : Armed) → IsKept state
 arm_keeps_end state ends.Collector armed kept = kept
 arm_keeps_end state (ends.Source s) armed kept = arm_keeps state s armed kept
 
-pub steps_keep : Lower → StepsKeep
-steps_keep lower state (Subscribe u items bytes beat query) kept good =
+-- time goes no further than a row may keep
+tick_keeps : (state : State) (milliseconds : ℕ) → IsKept state → IsKept (tick_step state milliseconds)
+tick_keeps state milliseconds kept = record {
+  pairs = kept.pairs;
+  apart = kept.apart;
+  keys = kept.keys;
+  formed = kept.formed;
+  sources = kept.sources;
+  messages = kept.messages;
+  requests = kept.requests;
+  soon = omega arith;
+}
+
+line_keeps : Lower → (state : State) (line : Line) → IsHeld state → admits state line ≡ true → IsKept (step line state)
+line_keeps lower state (Subscribe u items bytes beat query) held good =
     let line = (and_parts (is_line (Subscribe u items bytes beat query)) true good).0 in
     let limits = and_parts (is_subscription u && are_limits items bytes beat) (are_queries query.items) line in
     let name = (and_parts (is_subscription u) (are_limits items bytes beat) limits.0).0 in
-    at_collector_keeps lower state (λ memory. subscribe_at (subscription_of u items bytes beat query)) kept (λ now memory kept_now opened.
-    subscribe_keeps lower now (subscription_of u items bytes beat query) kept_now name (subscription_again u items bytes beat query line))
-steps_keep lower state (End u) kept good = at_collector_keeps lower state (λ memory. end_at u) kept (λ now memory kept_now opened. end_keeps lower now u kept_now)
-steps_keep lower state (Batch u s b) kept good =
+    at_collector_keeps lower state (λ memory. subscribe_at (subscription_of u items bytes beat query)) held.kept (λ now memory kept_now opened.
+    subscribe_keeps lower now (subscription_of u items bytes beat query) kept_now name (subscription_again u items bytes beat query line) tt)
+line_keeps lower state (SubscribeAt u s items bytes beat expires query) held good =
+    let about : Subscription = begun_subscription u s items bytes beat expires query in
+    let line = begun u s items bytes beat expires query (and_parts (is_line (SubscribeAt u s items bytes beat expires query)) (is_among (declared_names state) s) good).0 in
+    at_collector_keeps lower state (λ memory. subscribe_at about) held.kept (λ now memory kept_now opened.
+    subscribe_keeps lower now about kept_now line.name (begun_again u s items bytes beat expires query line) (begun_addressed u s items bytes beat expires query line))
+line_keeps lower state (End u) held good = at_collector_keeps lower state (λ memory. end_at u) held.kept (λ now memory kept_now opened. end_keeps lower now u kept_now)
+line_keeps lower state (Batch u s b) held good =
     let parts = and_parts (is_line (Batch u s b)) (not (is_among (declared_names state) s)) good in
     let none = undeclared state s (not_true (is_among (declared_names state) s) parts.1) in
-    at_collector_keeps lower (with_foreign state s) (λ memory. batch_at u s b) (foreign_kept state s kept none) (λ now memory kept_now opened.
+    at_collector_keeps lower (with_foreign state s) (λ memory. batch_at u s b) (foreign_kept state s held.kept none) (λ now memory kept_now opened.
     batch_keeps lower now u s b kept_now (λ r apart. is_foreign state s r (subst (λ (names : List (List ℕ)). is_among names r ≡ false) opened.foreign apart))
     (names_source u s b parts.0) (sound_batch u s b parts.0))
-steps_keep lower state (Source s capacity) kept good =
+line_keeps lower state (Source s capacity) held good =
     let parts = and_parts (is_line (Source s capacity)) (not (is_among (declared_names state) s) && not (is_among state.foreign s)) good in
     let line = and_parts (is_source s && is_no_collector s) (is_between 1 1000000 capacity) parts.0 in
     let name = (and_parts (is_source s) (is_no_collector s) line.0).0 in
     let new = and_parts (not (is_among (declared_names state) s)) (not (is_among state.foreign s)) parts.1 in
-    declared_kept lower state s capacity kept name line.1 (not_true (is_among (declared_names state) s) new.0) (not_true (is_among state.foreign s) new.1)
-steps_keep lower state (Write s plain) kept good =
-    write_keeps lower state s (new_event plain) kept (writable s plain (and_parts (is_line (Write s plain)) (is_among (declared_names state) s) good).0)
-steps_keep lower state (WriteXml s event) kept good =
-    write_keeps lower state s event kept (writable_xml s event (and_parts (is_line (WriteXml s event)) (is_among (declared_names state) s) good).0)
-steps_keep lower state (Ask s) kept good = ask_keeps lower state s kept
-steps_keep lower state (Poll s u) kept good = poll_keeps lower state s u kept
-steps_keep lower state (Deliver k seen) kept good = deliver_keeps lower state k kept
-steps_keep lower state (Back n) kept good = deliver_keeps lower state (number_back state n) kept
-steps_keep lower state (Lost s u) kept good = lost_keeps lower state s u kept
-steps_keep lower state (Crash end) kept good = crash_keeps_end state end kept
-steps_keep lower state (Fail end after) kept good = arm_keeps_end state end (record { after = after; stops = false }) kept
-steps_keep lower state (Stop end after) kept good = arm_keeps_end state end (record { after = after; stops = true }) kept
-steps_keep lower state Calm kept good = calm_keeps state kept
-steps_keep lower state Show kept good = at_collector_keeps lower state (λ memory. unchanged) kept (λ now memory kept_now opened. kept_now)
-steps_keep lower state (Print u s c) kept good = at_collector_keeps lower state (λ memory. unchanged) kept (λ now memory kept_now opened. kept_now)
+    declared_kept lower state s capacity held.kept name line.1 (not_true (is_among (declared_names state) s) new.0) (not_true (is_among state.foreign s) new.1)
+line_keeps lower state (Write s plain) held good =
+    write_keeps lower state s (new_event plain) held.kept (writable s plain (and_parts (is_line (Write s plain)) (is_among (declared_names state) s) good).0)
+line_keeps lower state (WriteXml s event) held good =
+    write_keeps lower state s event held.kept (writable_xml s event (and_parts (is_line (WriteXml s event)) (is_among (declared_names state) s) good).0)
+line_keeps lower state (Ask s) held good = ask_keeps lower state s held.kept
+line_keeps lower state (Poll s u) held good = poll_keeps lower state s u held.kept
+line_keeps lower state (Deliver k seen) held good = deliver_keeps lower state k held
+line_keeps lower state (Back n) held good = deliver_keeps lower state (number_back state n) held
+line_keeps lower state Request held good = at_collector_keeps lower state request_at held.kept (λ now memory kept_now opened. request_keeps now memory kept_now)
+line_keeps lower state Forget held good = at_collector_keeps lower state forget_at held.kept (λ now memory kept_now opened. kept_now)
+line_keeps lower state (Lost s u) held good = lost_keeps lower state s u held.kept
+line_keeps lower state (Shut s) held good = shut_keeps lower state s held.kept
+line_keeps lower state (Crash end) held good = crash_keeps_end state end held.kept
+line_keeps lower state (Fail end after) held good = arm_keeps_end state end (record { after = after; stops = false }) held.kept
+line_keeps lower state (Stop end after) held good = arm_keeps_end state end (record { after = after; stops = true }) held.kept
+line_keeps lower state Calm held good = calm_keeps state held.kept
+line_keeps lower state Show held good = at_collector_keeps lower state (λ memory. unchanged) held.kept (λ now memory kept_now opened. kept_now)
+line_keeps lower state (Print u s c) held good = at_collector_keeps lower state (λ memory. unchanged) held.kept (λ now memory kept_now opened. kept_now)
+line_keeps lower state (Tick milliseconds) held good = tick_keeps state milliseconds held.kept
+
+pub steps_keep : Lower → StepsKeep
+steps_keep lower state line held good = record { kept = line_keeps lower state line held good; asking = line_asks lower state line held }
 
 -- ---- what is kept is safe
 
@@ -191,12 +230,12 @@ kept_is_safe state kept = record {
 
 -- ---- schedules
 
-all_kept : Lower → (state : State) (lines : List Line) → IsKept state → AreAdmitted state lines → AllByRecursion IsKept (states_from state lines)
-all_kept lower state [] kept admitted = (kept, tt)
-all_kept lower state (line ∷ lines) kept admitted = (kept, all_kept lower (step line state) lines (steps_keep lower state line kept admitted.0) admitted.1)
+all_kept : Lower → (state : State) (lines : List Line) → IsHeld state → AreAdmitted state lines → AllByRecursion IsHeld (states_from state lines)
+all_kept lower state [] held admitted = (held, tt)
+all_kept lower state (line ∷ lines) held admitted = (held, all_kept lower (step line state) lines (steps_keep lower state line held admitted.0) admitted.1)
 
 pub schedules_are_kept : Lower → SchedulesAreKept
 schedules_are_kept lower lines admitted = all_kept lower start lines (start_is_kept lower) admitted
 
 pub schedules_are_safe : Lower → SchedulesAreSafe
-schedules_are_safe lower lines admitted = all_map IsKept IsStateSafe kept_is_safe (states_from start lines) (schedules_are_kept lower lines admitted)
+schedules_are_safe lower lines admitted = all_map IsHeld IsStateSafe (λ state held. kept_is_safe state held.kept) (states_from start lines) (schedules_are_kept lower lines admitted)

@@ -1,19 +1,30 @@
 -- What every step of a good schedule keeps: what is kept is safe, and whatever is on its way, or is remembered by a
 -- source, says nothing that would make it less so.
-use Rattle.std.specs.Prelude.{◌≡◌, ℕ, ◌+◌, ◌*◌, ◌≤◌, ◌<◌, Bool, true, false, List, [], ◌∷◌, Option, Some, None}
+use Rattle.std.specs.Prelude.{◌≡◌, ℕ, ◌+◌, ◌*◌, ◌≤◌, ◌<◌, Bool, true, false, List, [], ◌∷◌, IfSome, Option, Some, None}
 use Rattle.std.specs.FinMap as finite
 use Rattle.std.specs.List.{AllByRecursion}
+use Rattle.wef_base.specs.declared.numbers.TheConstants.{MAX}
 use Rattle.wef_batch.specs.WellFormed.{is_in}
 use Rattle.wef_bookmark.specs.Order.{Marks, number_at}
+use Rattle.wef_bodies.specs.declared.bodies.Body.{Body}
+use Rattle.wef_bodies.specs.declared.bodies.Body.TheVariants as body
+use Rattle.wef_collector.specs.Asking.{identifier_of}
+use Rattle.wef_collector.specs.declared.memories.Memory.{Memory}
+use Rattle.wef_collector.specs.declared.responses.Response as responses
+use Rattle.wef_collector.specs.declared.responses.Response.TheVariants as response
+use Rattle.wef_collector_leases.specs.declared.waiting.Waiting.{Waiting}
 use Rattle.wef_collector_rows.specs.Answers.{channels_read}
 use Rattle.wef_collector_rows.specs.Bookmarks.{bookmark_at}
 use Rattle.wef_collector_rows.specs.Forms as collector
 use Rattle.wef_collector.specs.FormsStay.{IsSoundBatch}
 use Rattle.wef_collector_rows.specs.Keys.{subscription_key}
+use Rattle.wef_documents.specs.Kept.{read_kept}
+use Rattle.wef_front_source.specs.Sending.{IsPlainText}
 use Rattle.wef_ids.specs.declared.MessageId.{MessageId}
 use Rattle.wef_eventing.specs.Addresses.{IsHost, delivery_address, source_in, subscription_in}
 use Rattle.wef_eventing.specs.declared.offers.Offer.{Offer}
 use Rattle.wef_eventing.specs.declared.offers.Subscribe.{Subscribe}
+use Rattle.wef_eventing.specs.declared.subscriptions.SourceAt.{SourceAt}
 use Rattle.wef_eventing.specs.declared.subscriptions.Subscription.{Subscription}
 use Rattle.wef_keeper.specs.Kinds.{number_of}
 use Rattle.wef_keeper.specs.Rows.{Rows}
@@ -22,7 +33,7 @@ use Rattle.wef_keeper.specs.declared.keys.Key.{Key}
 use Rattle.wef_keeper.specs.declared.kinds.RowKind.TheVariants as kinds
 use Rattle.wef_query.specs.Order.{IsInOrder}
 use Rattle.wef_query.specs.declared.QueryList.{QueryList}
-use Rattle.wef_replay.specs.Good.{is_among, is_source, is_subscription}
+use Rattle.wef_replay.specs.Good.{is_among, is_channel, is_source, is_subscription}
 use Rattle.wef_source_log.specs.Histories.{AreEvents, history}
 use Rattle.wef_source_log.specs.Forms as log
 use Rattle.wef_source_log.specs.LogWindow.{IsWindow, boot_of}
@@ -30,12 +41,15 @@ use Rattle.wef_source.specs.Machine.{End, most_drawn}
 use Rattle.wef_building.specs.Fits.{Fits}
 use Rattle.wef_source.specs.Sessions.{names_of}
 use Rattle.wef_source.specs.declared.messages.Delivery.{Delivery}
+use Rattle.wef_source.specs.declared.messages.EndNote.{EndNote}
+use Rattle.wef_times.specs.declared.durations.TheConstants.{LIMIT}
+use Rattle.wef_building.specs.declared.sessions.Lease.{Lease}
 use Rattle.wef_building.specs.declared.sessions.Outstanding.{Outstanding}
 use Rattle.wef_building.specs.declared.sessions.Session.{Session}
 use Rattle.wef_pairs.specs.Pairs.{IsPairSafe, IsUntouched, settings_of, subscription_at}
-use Rattle.wef_machine.specs.States.{Slot, Slots, State}
+use Rattle.wef_machine.specs.States.{Slot, Slots, State, address_of}
 use Rattle.wef_machine.specs.declared.messages.Message.{Message}
-use Rattle.wef_machine.specs.declared.messages.Message.TheVariants.{Ask, Offers, Events, Ack, Fault}
+use Rattle.wef_machine.specs.declared.messages.Message.TheVariants.{Ask, Offers, Events, Ack, Fault, Request, Response, Ended}
 use Rattle.wef_safety.specs.Safe.{IsAcknowledged, WasSent, read_by, source_of}
 
 -- a fact of a declared source
@@ -65,19 +79,27 @@ pub record AreTerms (rows : Rows) (u s address : List ℕ) (identifier : Option 
   pub max_items_is : max_items ≡ about.max_items
   pub max_bytes_is : max_bytes ≡ about.max_bytes
 
--- An offer to a source has the terms of a subscription, and begins at most at what is kept of it.
+-- the end of a session is told where its batches go, if at all
+abbrev pub IsToldAt : List ℕ → Option (List ℕ) → Type 0
+IsToldAt address end_to = IfSome end_to (λ at. at ≡ address)
+
+-- A wish to a source has the terms of a subscription, and begins at most at what is kept of it.
 pub record IsOffered (rows : Rows) (s : List ℕ) (subscribe : Subscribe) : Type 0 where
   pub u : List ℕ
   pub terms : AreTerms rows u s subscribe.notify_to subscribe.identifier subscribe.query subscribe.max_items subscribe.max_bytes
   pub from : IsBehind rows u s subscribe.from
+  pub told : IsToldAt subscribe.notify_to subscribe.end_to
 
--- the value of a request's id; an answer is no request
+-- the value of the id of a source's request; an answer is no request
 abbrev pub request_id : Message → Option ℕ
 request_id (Ask s id) = id.value
 request_id (Offers s id relates offers) = None
 request_id (Events s delivery) = delivery.id.value
 request_id (Ack s id relates) = None
 request_id (Fault s id relates fault) = None
+request_id (Request s id identifier body) = None
+request_id (Response s id relates answer) = None
+request_id (Ended s note) = note.id.value
 
 -- What a session waits for is the answer to a message that its source sent on its path, and what it remembers of it is
 -- how far that message reads.
@@ -86,11 +108,17 @@ WaitsFor messages s address None = Unit {0}
 WaitsFor messages s address (Some outstanding) =
     (m : Message) × WasSent messages m × (source_of m ≡ s) × (request_id m ≡ Some outstanding.id) × (read_by m ≡ Some (address, outstanding.to))
 
+-- the end of a session that a collector began is told where its batches go
+abbrev pub IsLeaseTold : List ℕ → Option Lease → Type 0
+IsLeaseTold address None = Unit {0}
+IsLeaseTold address (Some lease) = IsToldAt address lease.end_to
+
 -- A session of a source has the terms of the subscription of its name, and is at most at what is kept of it.
 pub record IsServed (rows : Rows) (messages : List Message) (s : List ℕ) (session : Session) : Type 0 where
   pub terms : AreTerms rows session.name s session.notify_to session.identifier session.query session.max_items session.max_bytes
   pub positions : IsBehind rows session.name s session.positions
   pub outstanding : WaitsFor messages s session.notify_to session.outstanding
+  pub told : IsLeaseTold session.notify_to session.lease
 
 -- What a source remembers while it runs: its boot number is the kept one, and it serves subscriptions, in the order of their
 -- names, each once.
@@ -148,6 +176,32 @@ pub record IsAckKept (rows : Rows) (messages : List Message) (s : List ℕ) (rel
   pub is : IsAcknowledged rows messages s relates
   pub behind : IsBehind rows is.u s is.to
 
+-- A note of the end of a session goes to a subscription that is there, and tells of its source.
+pub record IsNote (rows : Rows) (s : List ℕ) (slot : Slot) (note : EndNote) : Type 0 where
+  pub u : List ℕ
+  pub about : Subscription
+  pub known : subscription_at rows u ≡ Some about
+  pub to_subscription : subscription_in note.end_to ≡ Some u
+  pub to_source : source_in note.end_to ≡ Some s
+  pub drawn : WasDrawn slot note.id.value
+
+-- how long a session is to stand is none above the greatest duration
+abbrev pub IsLasting : ℕ → Type 0
+IsLasting expires = expires ≤ LIMIT
+
+-- what the collector asks a source for: a wish is as an offer is, and no time is too long
+abbrev pub IsAskedFor : Rows → List ℕ → Body → Type 0
+IsAskedFor rows s (body.Subscribe wish) = IsOffered rows s wish × IfSome wish.expires IsLasting
+IsAskedFor rows s (body.Renew expires) = IsLasting expires
+IsAskedFor rows s _ = Unit {0}
+
+-- what a source answers to that: it names a session in a text that reads back, and no time is too long
+abbrev pub IsSaid : responses.Response → Type 0
+IsSaid (response.Subscribed identifier expires) = IsPlainText identifier × IsLasting expires
+IsSaid (response.Renewed expires) = IsLasting expires
+IsSaid response.Unsubscribed = Unit {0}
+IsSaid (response.Fault name) = Unit {0}
+
 -- What is true of a message that was ever sent. A fault says nothing that could do harm.
 abbrev pub IsMessageKept : Rows → Slots → List Message → Message → Type 0
 IsMessageKept rows sources messages (Ask s id) = WhereDeclared (finite.get sources s) (λ slot. WasDrawn slot id.value)
@@ -155,6 +209,9 @@ IsMessageKept rows sources messages (Offers s id relates offers) = AllByRecursio
 IsMessageKept rows sources messages (Events s delivery) = WhereDeclared (finite.get sources s) (λ slot. IsDelivery rows s slot delivery)
 IsMessageKept rows sources messages (Ack s id relates) = IsAckKept rows messages s relates
 IsMessageKept rows sources messages (Fault s id relates fault) = Unit {0}
+IsMessageKept rows sources messages (Request s id identifier body) = IsAskedFor rows s body
+IsMessageKept rows sources messages (Response s id relates answer) = IsSaid answer
+IsMessageKept rows sources messages (Ended s note) = WhereDeclared (finite.get sources s) (λ slot. IsNote rows s slot note)
 
 -- a relation of each message to each that was sent after it
 abbrev pub AreInOrder : (Message → Message → Type 0) → List Message → Type 0
@@ -177,12 +234,25 @@ IsPairKept rows u s c None slot = IsUntouched rows u s c
 IsPairKept rows u s c (Some about) None = IsUntouched rows u s c
 IsPairKept rows u s c (Some about) (Some slot) = IsChannelKept rows u s c about slot (is_in (channels_read about) c)
 
--- The key of a row that keeps a subscription has a name such as a reader gives, and no other part; that of a bookmark has
--- no number.
-pub record IsRowKey (key : Key) : Type 0 where
+-- A source at which the collector begins has a name such as a reader gives, and is found where a source of that name is.
+pub record IsAddressed (source : SourceAt) : Type 0 where
+  pub name : is_source source.name ≡ true
+  pub address : source.address ≡ address_of source.name
+
+-- so it is with each source of a subscription
+abbrev pub AreAddressed : Subscription → Type 0
+AreAddressed about = AllByRecursion IsAddressed about.sources
+
+-- The key of a row that keeps a subscription has a name such as a reader gives, and no other part, and its sources are found by
+-- their names; that of a bookmark has no number, and a channel's name such as a reader gives; and a lease names a session in a
+-- text that a header says as it is.
+pub record IsRowKept (key : Key) (cell : Cell) : Type 0 where
   pub name : key.kind ≡ number_of kinds.Subscription → is_subscription key.sub ≡ true
   pub subscription : key.kind ≡ number_of kinds.Subscription → key ≡ subscription_key key.sub
+  pub sources : key.kind ≡ number_of kinds.Subscription → IfSome (read_kept key.sub cell.body) AreAddressed
   pub bookmark : key.kind ≡ number_of kinds.Bookmark → key.number ≡ 0
+  pub channel : key.kind ≡ number_of kinds.Bookmark → is_channel key.channel ≡ true
+  pub lease : key.kind ≡ number_of kinds.Lease → IsPlainText cell.body
 
 -- What is kept of a world, by the rows that stand in the collector's store, the names of foreign sources, the declared
 -- sources, all messages that were ever sent, and the moment. Whether the collector runs, what it remembers, and what is
@@ -192,8 +262,8 @@ pub record IsWorldKept (rows : Rows) (foreign : List (List ℕ)) (slots : Slots)
   pub pairs : (u s c : List ℕ) → is_among foreign s ≡ false → IsPairKept rows u s c (subscription_at rows u) (finite.get slots s)
   -- a declared source was named by no `batch` line
   pub apart : (s : List ℕ) (slot : Slot) → finite.get slots s ≡ Some slot → is_among foreign s ≡ false
-  -- each row has a key such as the collector gives, and is of its form
-  pub keys : (key : Key) (cell : Cell) → finite.get rows key ≡ Some cell → IsRowKey key
+  -- each row is such as the collector puts, and is of its form
+  pub keys : (key : Key) (cell : Cell) → finite.get rows key ≡ Some cell → IsRowKept key cell
   pub formed : collector.AreFormed rows
   -- each declared source keeps its window, and its sessions are behind what is kept
   pub sources : (s : List ℕ) (slot : Slot) → finite.get slots s ≡ Some slot → IsSourceKept rows all s slot
@@ -206,3 +276,20 @@ pub record IsWorldKept (rows : Rows) (foreign : List (List ℕ)) (slots : Slots)
 
 abbrev pub IsKept : State → Type 0
 IsKept state = IsWorldKept state.collector.rows state.foreign state.sources state.messages state.moment
+
+-- A request waits for its answer for a subscription and a source whose names read back; what names the session that it is
+-- about does so too.
+pub record IsAsked (waiting : Waiting) : Type 0 where
+  pub subscription : collector.is_subscription_name waiting.sub ≡ true
+  pub source : collector.is_source_name waiting.source ≡ true
+  pub identifier : IfSome (identifier_of waiting.wants) IsPlainText
+
+-- so does each that a collector which runs waits for; and its ids are of a boot number that a row may keep
+abbrev pub IsAsking : Option Memory → Type 0
+IsAsking None = Unit {0}
+IsAsking (Some memory) = (memory.ids.boot ≤ MAX) × AllByRecursion IsAsked memory.waiting
+
+-- What is kept of a world, and what its collector waits for.
+pub record IsHeld (state : State) : Type 0 where
+  pub kept : IsKept state
+  pub asking : IsAsking state.collector.memory

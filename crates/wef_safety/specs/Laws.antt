@@ -10,7 +10,7 @@ use Rattle.wef_source_log.specs.Histories.{Histories}
 use Rattle.wef_replay.specs.declared.lines.Line.{Line}
 use Rattle.wef_machine.specs.States.{Slot, State, slot_of, start}
 use Rattle.wef_machine.specs.Steps.{AreAdmitted, admits, states, step}
-use Rattle.wef_safety.specs.Kept.{IsKept}
+use Rattle.wef_safety.specs.Kept.{IsHeld, IsKept}
 use Rattle.wef_safety.specs.Safe.{IsSafe, Written}
 
 -- what a declared source wrote
@@ -28,11 +28,11 @@ FittingRises = (query : QueryList) (max_bytes : ℕ) (all : Histories) (capacity
 
 -- In a world in which nothing has happened all is kept.
 abbrev pub StartIsKept : Type 0
-StartIsKept = IsKept start
+StartIsKept = IsHeld start
 
 -- The step of a line that the world admits keeps all.
 abbrev pub StepsKeep : Type 0
-StepsKeep = (state : State) (line : Line) → IsKept state → admits state line ≡ true → IsKept (step line state)
+StepsKeep = (state : State) (line : Line) → IsHeld state → admits state line ≡ true → IsHeld (step line state)
 
 -- Where all is kept, what is kept is safe.
 abbrev pub KeptIsSafe : Type 0
@@ -40,7 +40,7 @@ KeptIsSafe = (state : State) → IsKept state → IsStateSafe state
 
 -- each state of a run of lines is kept
 abbrev pub AreKept : List Line → Type 0
-AreKept lines = AllByRecursion IsKept (states lines)
+AreKept lines = AllByRecursion IsHeld (states lines)
 
 -- each state of a run of lines is safe
 abbrev pub AreSafe : List Line → Type 0

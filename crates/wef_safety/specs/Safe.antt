@@ -12,7 +12,7 @@ use Rattle.wef_eventing.specs.declared.subscriptions.Subscription.{Subscription}
 use Rattle.wef_keeper.specs.Rows.{Rows}
 use Rattle.wef_source_log.specs.Histories.{Histories, history}
 use Rattle.wef_machine.specs.declared.messages.Message.{Message}
-use Rattle.wef_machine.specs.declared.messages.Message.TheVariants.{Ask, Offers, Events, Ack, Fault}
+use Rattle.wef_machine.specs.declared.messages.Message.TheVariants.{Ask, Offers, Events, Ack, Fault, Request, Response, Ended}
 use Rattle.wef_pairs.specs.Pairs.{IsPairSafe, IsUntouched, settings_of, subscription_at}
 
 -- a message is one of those that were sent
@@ -27,6 +27,9 @@ source_of (Offers s id relates offers) = s
 source_of (Events s delivery) = s
 source_of (Ack s id relates) = s
 source_of (Fault s id relates fault) = s
+source_of (Request s id identifier body) = s
+source_of (Response s id relates answer) = s
+source_of (Ended s note) = s
 
 -- a message's own id
 abbrev pub own_id : Message → MessageId
@@ -35,6 +38,9 @@ own_id (Offers s id relates offers) = id
 own_id (Events s delivery) = delivery.id
 own_id (Ack s id relates) = id
 own_id (Fault s id relates fault) = id
+own_id (Request s id identifier body) = id
+own_id (Response s id relates answer) = id
+own_id (Ended s note) = note.id
 
 -- the address that a message goes to, and the bookmark up to which it reads, where it is one that a session sends
 abbrev pub read_by : Message → Option (List ℕ × Marks)
@@ -43,6 +49,9 @@ read_by (Offers s id relates offers) = None
 read_by (Events s delivery) = Some (delivery.notify_to, delivery.batch.to)
 read_by (Ack s id relates) = None
 read_by (Fault s id relates fault) = None
+read_by (Request s id identifier body) = None
+read_by (Response s id relates answer) = None
+read_by (Ended s note) = None
 
 -- all that the batch of a message reads of a subscription's channels is kept; a message without one reads nothing
 abbrev pub IsReachedBy : Rows → List ℕ → List ℕ → Subscription → Message → Type 0
@@ -51,6 +60,9 @@ IsReachedBy rows u s about (Offers r id relates offers) = Unit {0}
 IsReachedBy rows u s about (Events r delivery) = IsReached rows u s about delivery.batch
 IsReachedBy rows u s about (Ack r id relates) = Unit {0}
 IsReachedBy rows u s about (Fault r id relates fault) = Unit {0}
+IsReachedBy rows u s about (Request r id identifier body) = Unit {0}
+IsReachedBy rows u s about (Response r id relates answer) = Unit {0}
+IsReachedBy rows u s about (Ended r note) = Unit {0}
 
 -- An acknowledgement of an id is for a delivery that its source sent, to a subscription that is there, live or ended, and
 -- all that the batch reads of the subscription's channels is kept.
