@@ -8,30 +8,39 @@ use Rattle.std.specs.Option.{option_map}
 use Rattle.std.specs.Ordering.{eq_by_cmp, is_eq, match_ordering, nat_cmp}
 use Rattle.std.specs.declared.cmp.Ordering.TheVariants.{Less, Equal, Greater}
 use Rattle.wef_base.specs.Names.{same}
+use Rattle.wef_bodies.specs.declared.bodies.Body.{Body}
 use Rattle.wef_event.specs.Events.{Event}
 use Rattle.wef_event.specs.Unnumbered.{new_event}
 use Rattle.wef_keeper.specs.Calls.{Effect}
-use Rattle.wef_collector.specs.Calls.{add_effect, end_effect}
+use Rattle.wef_collector.specs.Asking.{request_for}
+use Rattle.wef_collector.specs.Calls.{Effect as CollectorEffect, add_effect, end_effect}
 use Rattle.wef_collector.specs.declared.memories.Memory.{Memory}
+use Rattle.wef_collector.specs.declared.responses.Response.{Response}
+use Rattle.wef_collector_leases.specs.Next.{next_due}
+use Rattle.wef_collector_leases.specs.declared.next.Due.{Due}
+use Rattle.wef_eventing.specs.declared.subscriptions.Subscription.{Subscription}
+use Rattle.wef_ids.specs.declared.MessageId.{MessageId}
 use Rattle.wef_query.specs.Order.{with_name}
 use Rattle.wef_replay_values.specs.declared.end_name.EndName.{EndName}
 use Rattle.wef_replay_values.specs.declared.end_name.EndName.TheVariants as ends
 use Rattle.wef_replay.specs.Alike.{AreAlike}
 use Rattle.wef_replay.specs.Good.{AreGood, Names, allows, has_end, is_among, is_line, no_names, noted}
 use Rattle.wef_replay.specs.declared.lines.Line.{Line}
-use Rattle.wef_replay.specs.declared.lines.Line.TheVariants.{Subscribe, End, Batch, Source, Write, WriteXml, Ask, Poll, Deliver, Back, Lost, Crash, Fail, Stop, Calm, Show, Print}
+use Rattle.wef_replay.specs.declared.lines.Line.TheVariants.{Subscribe, SubscribeAt, End, Batch, Source, Write, WriteXml, Ask, Poll, Deliver, Back, Request, Forget, Lost, Shut, Crash, Fail, Stop, Calm, Show, Print, Tick}
 use Rattle.wef_source.specs.Machine as machine
 use Rattle.wef_source.specs.Sessions.{has_expired, session_of}
 use Rattle.wef_building.specs.declared.sessions.Session.{Session}
 use Rattle.wef_source_log.specs.Answers.{write_effect}
 use Rattle.wef_source_log.specs.declared.faults.LogFault.{LogFault}
+use Rattle.wef_machine.specs.Answering.{with_answer}
 use Rattle.wef_machine.specs.Collecting as collecting
 use Rattle.wef_machine.specs.Collecting.{at_collector, reply_id, with_reply}
-use Rattle.wef_machine.specs.Deliveries.{after_ack, after_fault, after_offers, answer_with, deliver_message, delivery_effect, end_at, events_at, message_at, number_back, offers_at, taken_by, with_answer}
+use Rattle.wef_machine.specs.Deliveries.{after_ack, after_fault, after_offers, answer_with, deliver_message, delivery_effect, end_at, events_at, message_at, number_back, offers_at, taken_by}
+use Rattle.wef_machine.specs.Leasing.{forget_at, is_short, note_answer, note_at, note_effect, request_at, request_by, request_done, request_said, responded, responds_at, response_at, response_by, response_effect, response_message, shut_at, with_sent}
 use Rattle.wef_machine.specs.Sources.{ask_at, at_declared, at_source, lost_at, poll_at, poll_in, slot_opened, write_at, write_by}
 use Rattle.wef_machine.specs.Places.{Place, after_call, armed_with, crashed}
-use Rattle.wef_machine.specs.States.{Collector, Slot, State, calmed_slot, declared_names, names_of, slot_of, start, with_collector, with_foreign, with_message, with_slot}
-use Rattle.wef_machine.specs.Steps.{AreAdmitted, arm_step, batch_at, calm_step, crash_step, end_at as ended_at, step, subscribe_at, subscription_of, unchanged}
+use Rattle.wef_machine.specs.States.{Collector, Slot, State, calmed_slot, declared_names, host, names_of, slot_of, start, with_collector, with_foreign, with_message, with_messages, with_slot}
+use Rattle.wef_machine.specs.Steps.{AreAdmitted, arm_step, batch_at, begun_subscription, calm_step, crash_step, end_at as ended_at, step, subscribe_at, subscription_of, tick_step, unchanged}
 use Rattle.wef_machine.specs.declared.arming.Armed.{Armed}
 use Rattle.wef_machine.specs.declared.messages.Message.{Message}
 use Rattle.wef_machine.specs.declared.messages.Message.TheVariants as sent
@@ -66,8 +75,11 @@ same_slot state s old new found = record { declared = λ q. ap is_some (get-inse
 same_both : (x y z : State) → HasSameSources x y → HasSameSources y z → HasSameSources x z
 same_both x y z h k = record { declared = λ q. k.declared q ∙ h.declared q; foreign = k.foreign ∙ h.foreign }
 
+same_messages : (old new : State) (messages : List Message) → HasSameSources old new → HasSameSources old (with_messages new messages)
+same_messages old new messages h = record { declared = h.declared; foreign = h.foreign }
+
 same_message : (old new : State) (message : Message) → HasSameSources old new → HasSameSources old (with_message new message)
-same_message old new message h = record { declared = h.declared; foreign = h.foreign }
+same_message old new message h = same_messages old new (message ∷ []) h
 
 same_collector : (old new : State) (collector : Collector) → HasSameSources old new → HasSameSources old (with_collector new collector)
 same_collector old new collector h = record { declared = h.declared; foreign = h.foreign }
@@ -89,6 +101,23 @@ same_reply old new count message h = record { declared = h.declared; foreign = h
 same_answer : (old new : State) (answer : Option Message) → HasSameSources old new → HasSameSources old (with_answer new answer)
 same_answer old new None h = h
 same_answer old new (Some message) h = same_reply old new 1 message h
+
+same_request : (memory : Memory) (now : State) → HasSameSources now (request_at memory now)
+same_request memory now = by (next_due now.collector.rows memory.waiting now.moment)
+  where
+    by : (due : Option Due) → HasSameSources now (request_by now memory (option_map (request_for now.collector.rows host (reply_id memory)) due))
+    by None = same_itself now
+    by (Some due) = same_message now _ _ (same_collector now now _ (same_itself now))
+
+same_response : (relates : MessageId) (answer : Response) (memory : Memory) (now : State) → HasSameSources now (response_at relates answer memory now)
+same_response relates answer memory now = by (response_effect memory relates answer now.moment now.collector.rows)
+  where
+    by : (effect : CollectorEffect) → HasSameSources now (response_by now relates.value effect)
+    by (Ok changes) = same_collector now now _ (same_itself now)
+    by (Err fault) = same_itself now
+
+same_subscribed : (about : Subscription) (state : State) → HasSameSources state (at_collector state (λ memory. subscribe_at about))
+same_subscribed about state = same_at_collector state (λ memory. subscribe_at about) (λ memory now. same_collector now now (after_call now.collector (add_effect now.collector.rows about)) (same_itself now))
 
 -- what is done at a source that is there keeps it there
 abbrev Keeps : List ℕ → (State → Slot → machine.End → State) → Type 0
@@ -126,6 +155,20 @@ keeps_poll s u now slot end there = by (session_of end.sessions u)
         (same_either now (machine.is_idle slot.place.rows session) _ _ (same_itself now)
         (same_either now (machine.is_spent end) _ _ (same_itself now) (same_message now _ _ (same_slot now s slot _ there))))
 
+same_sent : (s : List ℕ) (relates : MessageId) (old new : State) (answer : Option (MessageId × Response)) → HasSameSources old new →
+    HasSameSources old (with_sent new (option_map (response_message s relates) answer))
+same_sent s relates old new None h = h
+same_sent s relates old new (Some answer) h = same_message old new _ h
+
+keeps_responding : (s : List ℕ) (id : MessageId) (identifier : Option (List ℕ)) (asks : Body) → Keeps s (responds_at s id identifier asks)
+keeps_responding s id identifier asks now slot end there =
+    let what = request_said identifier asks now.moment end in
+    let done = request_done identifier asks now.moment end in
+    same_sent s id now _ (responded done what) (same_slot now s slot _ there)
+
+keeps_shut : (s : List ℕ) → Keeps s (shut_at s)
+keeps_shut s now slot end there = same_either now (is_short end) _ _ (same_itself now) (same_messages now _ _ (same_slot now s slot _ there))
+
 same_taken : (state : State) (message : Message) → HasSameSources state (taken_by state message)
 same_taken state (sent.Ask s id) = same_at_collector state (offers_at s id) (λ memory now. same_reply now now _ _ (same_itself now))
 same_taken state (sent.Offers s id relates given) = same_at_source state s _ (keeps_end s (λ end. after_offers end relates given state.moment))
@@ -134,6 +177,11 @@ same_taken state (sent.Events s delivery) =
     (same_collector now now _ (same_itself now)))
 same_taken state (sent.Ack s id relates) = same_at_source state s _ (keeps_end s (λ end. after_ack end relates))
 same_taken state (sent.Fault s id relates fault) = same_at_source state s _ (keeps_end s (λ end. after_fault end relates fault))
+same_taken state (sent.Request s id identifier asks) = same_at_source state s _ (keeps_responding s id identifier asks)
+same_taken state (sent.Response s id relates answer) = same_at_collector state (response_at relates answer) (same_response relates answer)
+same_taken state (sent.Ended s note) =
+    same_at_collector state (note_at s note) (λ memory now. same_answer now _ (note_answer now (note_effect now.collector.rows note) s (reply_id memory) note.id)
+    (same_collector now now _ (same_itself now)))
 
 same_delivered : (state : State) (message : Option Message) → HasSameSources state (deliver_message state message)
 same_delivered state None = same_itself state
@@ -161,6 +209,9 @@ some_calmed (Some slot) = refl
 
 same_calm : (state : State) → HasSameSources state (calm_step state)
 same_calm state = record { declared = λ s. ap is_some (calmed_at state.sources s) ∙ some_calmed (slot_of state s); foreign = refl }
+
+same_tick : (state : State) (milliseconds : ℕ) → HasSameSources state (tick_step state milliseconds)
+same_tick state milliseconds = record { declared = λ s. refl; foreign = refl }
 
 -- ---- each line leaves the names that it gave
 
@@ -206,9 +257,9 @@ leaves_names (Batch u s b) state names alike =
       foreign = λ q. one_foreign state.foreign s q ∙ ap (λ (t : Bool). same q s || t) (alike.foreign q);
     })
 leaves_names (Subscribe u items bytes beat query) state names alike =
-    same_names state (step (Subscribe u items bytes beat query) state) names
-    (same_at_collector state (λ memory. subscribe_at (subscription_of u items bytes beat query))
-    (λ memory now. same_collector now now (after_call now.collector (add_effect now.collector.rows (subscription_of u items bytes beat query))) (same_itself now))) alike
+    same_names state (step (Subscribe u items bytes beat query) state) names (same_subscribed (subscription_of u items bytes beat query) state) alike
+leaves_names (SubscribeAt u s items bytes beat expires query) state names alike =
+    same_names state (step (SubscribeAt u s items bytes beat expires query) state) names (same_subscribed (begun_subscription u s items bytes beat expires query) state) alike
 leaves_names (End u) state names alike =
     same_names state (step (End u) state) names
     (same_at_collector state (λ memory. ended_at u) (λ memory now. same_collector now now (after_call now.collector (end_effect now.collector.rows u)) (same_itself now))) alike
@@ -218,13 +269,17 @@ leaves_names (Ask s) state names alike = same_names state (step (Ask s) state) n
 leaves_names (Poll s u) state names alike = same_names state (step (Poll s u) state) names (same_at_source state s (poll_at s u) (keeps_poll s u)) alike
 leaves_names (Deliver k seen) state names alike = same_names state (step (Deliver k seen) state) names (same_delivered state (message_at state k)) alike
 leaves_names (Back n) state names alike = same_names state (step (Back n) state) names (same_delivered state (message_at state (number_back state n))) alike
+leaves_names Request state names alike = same_names state (step Request state) names (same_at_collector state request_at same_request) alike
+leaves_names Forget state names alike = same_names state (step Forget state) names (same_at_collector state forget_at (λ memory now. same_collector now now _ (same_itself now))) alike
 leaves_names (Lost s u) state names alike = same_names state (step (Lost s u) state) names (same_at_source state s (lost_at s u) (keeps_lost s u)) alike
+leaves_names (Shut s) state names alike = same_names state (step (Shut s) state) names (same_at_source state s (shut_at s) (keeps_shut s)) alike
 leaves_names (Crash end) state names alike = same_names state (step (Crash end) state) names (same_crashed state end) alike
 leaves_names (Fail end after) state names alike = same_names state (step (Fail end after) state) names (same_armed state end _) alike
 leaves_names (Stop end after) state names alike = same_names state (step (Stop end after) state) names (same_armed state end _) alike
 leaves_names Calm state names alike = same_names state (step Calm state) names (same_calm state) alike
 leaves_names Show state names alike = same_names state (step Show state) names (same_at_collector state (λ memory. unchanged) (λ memory now. same_itself now)) alike
 leaves_names (Print u s c) state names alike = same_names state (step (Print u s c) state) names (same_at_collector state (λ memory. unchanged) (λ memory now. same_itself now)) alike
+leaves_names (Tick milliseconds) state names alike = same_names state (step (Tick milliseconds) state) names (same_tick state milliseconds) alike
 
 -- ---- so each good line is admitted
 
@@ -233,6 +288,7 @@ has_end-alike ends.Collector these those alike = refl
 has_end-alike (ends.Source s) these those alike = alike.declared s
 
 allows-alike : (line : Line) (these those : Names) → AreAlike these those → allows these line ≡ allows those line
+allows-alike (SubscribeAt u s items bytes beat expires query) these those alike = alike.declared s
 allows-alike (Batch u s b) these those alike = ap not (alike.declared s)
 allows-alike (Source s capacity) these those alike = λ i. not (alike.declared s i) && not (alike.foreign s i)
 allows-alike (Write s event) these those alike = alike.declared s
@@ -240,6 +296,7 @@ allows-alike (WriteXml s event) these those alike = alike.declared s
 allows-alike (Ask s) these those alike = alike.declared s
 allows-alike (Poll s u) these those alike = alike.declared s
 allows-alike (Lost s u) these those alike = alike.declared s
+allows-alike (Shut s) these those alike = alike.declared s
 allows-alike (Crash end) these those alike = has_end-alike end these those alike
 allows-alike (Fail end after) these those alike = has_end-alike end these those alike
 allows-alike (Stop end after) these those alike = has_end-alike end these those alike

@@ -1,6 +1,6 @@
--- No end draws an id twice: the ids of requests rise since what is kept says so, and those of replies since the collector's
--- boot number and counter do.
-use Rattle.std.proofs.Common.{◌≡◌, ℕ, ◌+◌, ◌*◌, ◌<◌, ◌≤◌, Bool, true, false, cond, List, [], ◌∷◌, ◌++◌, length, refl, ap, sym, ◌∙◌, subst, nat_lt, min, arith, ◌⊎◌, inl, inr}
+-- No end draws an id twice: the ids of sources' requests rise since what is kept says so, and those of the collector's replies
+-- and requests since its boot number and counter do.
+use Rattle.std.proofs.Common.{◌≡◌, ◌≢◌, ℕ, ◌+◌, ◌*◌, ◌<◌, ◌≤◌, Bool, true, false, cond, List, [], ◌∷◌, ◌++◌, length, map, refl, ap, sym, ◌∙◌, subst, nat_lt, min, arith, ◌⊎◌, inl, inr, append_assoc, append-nil}
 use Rattle.std.proofs.lemmas.Bool.{cond_both}
 use Rattle.std.proofs.lemmas.Bool.Decides.{nat_tests}
 use Rattle.std.proofs.lemmas.Option.{none-some, same_Some}
@@ -10,12 +10,21 @@ use Rattle.std.specs.List.{AllByRecursion}
 use Rattle.std.specs.Option.{option_map}
 use Rattle.wef_batch.specs.WellFormed.{is_well_formed}
 use Rattle.wef_batch.specs.declared.items.Batch as items
-use Rattle.wef_collector_rows.specs.Answers.{channels_read, is_there}
+use Rattle.wef_bodies.specs.declared.bodies.Body.{Body}
+use Rattle.wef_collector_rows.specs.Answers.{channels_read, is_known, is_there}
+use Rattle.wef_collector.specs.Asking.{request_for}
 use Rattle.wef_collector.specs.Boots.{boot_of, memory_begun}
 use Rattle.wef_collector.specs.Calls.{Effect as CollectorEffect, add_effect, boot_effect, end_by, end_effect}
-use Rattle.wef_collector.specs.Memories.{drawn_in}
+use Rattle.wef_collector.specs.Memories.{answered_in, asked_in, drawn_in, forgotten, waiting_for}
 use Rattle.wef_collector.specs.Offers.{offers}
+use Rattle.wef_collector.specs.Responses.{lease_changes, leasing_effect, leasing_of, waiting_effect}
 use Rattle.wef_collector.specs.declared.memories.Memory.{Memory}
+use Rattle.wef_collector.specs.declared.responses.Leasing.{Leasing}
+use Rattle.wef_collector.specs.declared.responses.Response.{Response}
+use Rattle.wef_collector_leases.specs.Changes.{end_lease}
+use Rattle.wef_collector_leases.specs.Next.{next_due}
+use Rattle.wef_collector_leases.specs.declared.next.Due.{Due}
+use Rattle.wef_collector_leases.specs.declared.waiting.Waiting.{Waiting}
 use Rattle.wef_collector_rows.specs.Keys.{boot_key, subscription_key}
 use Rattle.wef_collector_rows.specs.Standing.{is_full, kept_body, standing}
 use Rattle.wef_collector.specs.Taken.{batch_changes, put, taken}
@@ -23,37 +32,45 @@ use Rattle.wef_collector_rows.specs.declared.faults.CollectorFault.TheVariants a
 use Rattle.wef_collector_rows.specs.declared.standings.Standing.{Standing}
 use Rattle.wef_collector_rows.specs.declared.standings.Standing.TheVariants as stands
 use Rattle.wef_ids.specs.Ids.{next_id}
+use Rattle.wef_ids.specs.declared.FaultName.{FaultName}
 use Rattle.wef_ids.specs.declared.FaultName.TheVariants.{InternalError, InvalidMessage}
+use Rattle.wef_ids.specs.declared.MessageId.{MessageId}
 use Rattle.wef_event.specs.Events.{Event}
 use Rattle.wef_event.specs.Unnumbered.{new_event}
 use Rattle.wef_eventing.specs.Addresses.{source_in, subscription_in}
 use Rattle.wef_documents.specs.Written.{document_text}
 use Rattle.wef_eventing.specs.declared.subscriptions.Subscription.{Subscription}
+use Rattle.wef_front_source.specs.Replies.{answered_in as answered_by}
 use Rattle.wef_keeper.specs.Calls.{Effect}
+use Rattle.wef_keeper.specs.Kinds.{number_of}
 use Rattle.wef_keeper.specs.Rows.{Rows, applied, key_cmp_total}
 use Rattle.wef_keeper.specs.declared.keys.Cell.{Cell}
 use Rattle.wef_keeper.specs.declared.keys.Change.{Change}
+use Rattle.wef_keeper.specs.declared.kinds.RowKind.TheVariants as kinds
 use Rattle.wef_replay_values.specs.declared.end_name.EndName.{EndName}
 use Rattle.wef_replay_values.specs.declared.end_name.EndName.TheVariants as ends
 use Rattle.wef_replay.specs.declared.lines.Line.{Line}
-use Rattle.wef_replay.specs.declared.lines.Line.TheVariants.{Subscribe, End, Batch, Source, Write, WriteXml, Ask, Poll, Deliver, Back, Lost, Crash, Fail, Stop, Calm, Show, Print}
+use Rattle.wef_replay.specs.declared.lines.Line.TheVariants.{Subscribe, SubscribeAt, End, Batch, Source, Write, WriteXml, Ask, Poll, Deliver, Back, Request, Forget, Lost, Shut, Crash, Fail, Stop, Calm, Show, Print, Tick}
 use Rattle.wef_source.specs.Machine as machine
 use Rattle.wef_source.specs.Sessions.{has_expired, session_of}
 use Rattle.wef_source.specs.declared.messages.Delivery.{Delivery}
+use Rattle.wef_source.specs.declared.messages.EndNote.{EndNote}
 use Rattle.wef_building.specs.declared.sessions.Session.{Session}
 use Rattle.wef_source_log.specs.Answers as log
 use Rattle.wef_source_log.specs.declared.faults.LogFault.{LogFault}
+use Rattle.wef_machine.specs.Answering.{with_answer}
 use Rattle.wef_machine.specs.Arming.{committed, fate, is_done, is_stopped}
 use Rattle.wef_machine.specs.Collecting as collecting
 use Rattle.wef_machine.specs.Collecting.{at_collector, reply_id, with_call, with_reply}
-use Rattle.wef_machine.specs.Deliveries.{BatchEffect, after_ack, after_fault, after_offers, answer_by, batch_effect, batch_effect_by, deliver_message, delivery_effect, effect_at, end_at, events_at, events_by, message_at, number_back, offers_at, taken_by, with_answer}
-use Rattle.wef_safety.specs.Kept.{AreInOrder, IsDrawnBefore, IsKept}
+use Rattle.wef_machine.specs.Deliveries.{BatchEffect, after_ack, after_fault, after_offers, answer_by, batch_effect, batch_effect_by, deliver_message, delivery_effect, effect_at, end_at, events_at, events_by, message_at, number_back, offers_at, taken_by}
+use Rattle.wef_machine.specs.Leasing.{ended_effect, ended_effect_by, forget_at, is_short, note_answer_by, note_at, note_by, note_effect, request_at, request_by, request_done, request_message, request_said, responded, responds_at, response_at, response_by, response_effect, response_message, shut_at, with_sent}
+use Rattle.wef_safety.specs.Kept.{AreInOrder, IsDrawnBefore, IsHeld}
 use Rattle.wef_machine.specs.Places.{Place, armed_with, commits, crashed, opened_by, starts}
 use Rattle.wef_safety.specs.Safe.{WasSent}
 use Rattle.wef_machine.specs.Sources.{ask_at, at_declared, at_source, lost_at, poll_at, poll_in, write_at, write_by}
-use Rattle.wef_machine.specs.States.{Slot, State, host, slot_of, start, with_collector, with_foreign}
+use Rattle.wef_machine.specs.States.{Slot, State, host, slot_of, start, with_collector, with_end, with_foreign}
 use Rattle.wef_machine.specs.Steps as steps
-use Rattle.wef_machine.specs.Steps.{arm_step, batch_at, crash_step, states_from, step, subscribe_at, subscription_of, unchanged}
+use Rattle.wef_machine.specs.Steps.{arm_step, batch_at, begun_subscription, crash_step, states_from, step, subscribe_at, subscription_of, unchanged}
 use Rattle.wef_machine.specs.declared.arming.Armed.{Armed}
 use Rattle.wef_machine.specs.declared.arming.Fate.{Fate}
 use Rattle.wef_machine.specs.declared.arming.Fate.TheVariants.{Done, Failed, Stopped}
@@ -66,10 +83,11 @@ use Rattle.wef_safety.proofs.Sent.{all_map, sent_split}
 use Rattle.wef_safety.proofs.SourceSteps.{at_source_any}
 use Rattle.wef_pairs.proofs.Spared.{IsMissed, spared}
 use Rattle.wef_safety.proofs.Steps.{schedules_are_kept}
+use Rattle.wef_promises.proofs.Leases.{leasing_leaves, noting_leaves}
 use Rattle.wef_promises.specs.Drawing.{IsReplyBefore, ReplyIdsRise, RequestIdsRise, reply_of}
 
 pub request_ids_rise : Lower → RequestIdsRise
-request_ids_rise lower lines admitted = all_map IsKept (λ (state : State). AreInOrder IsDrawnBefore state.messages) (λ state kept. kept.requests) (states_from start lines) (schedules_are_kept lower lines admitted)
+request_ids_rise lower lines admitted = all_map IsHeld (λ (state : State). AreInOrder IsDrawnBefore state.messages) (λ state held. held.kept.requests) (states_from start lines) (schedules_are_kept lower lines admitted)
 
 -- ---- the collector's ids
 
@@ -84,7 +102,7 @@ abbrev AtBoot : Rows → Option Memory → Type 0
 AtBoot rows None = Unit {0}
 AtBoot rows (Some memory) = (memory.ids.boot ≡ boot_of rows) × (memory.ids.drawn ≤ machine.most_drawn)
 
--- Replies have ids in order, none above the collector's last one.
+-- Replies and requests have ids in order, none above the collector's last one.
 record AreRepliesDrawn (rows : Rows) (memory : Option Memory) (messages : List Message) : Type 0 where
   pub order : AreInOrder IsReplyBefore messages
   pub below : (m : Message) (id : ℕ) → WasSent messages m → reply_of m ≡ Some id → id ≤ last_reply rows memory
@@ -107,7 +125,7 @@ stops : (rows : Rows) (memory : Option Memory) → AtBoot rows memory → last_r
 stops rows None own = omega arith
 stops rows (Some memory) own = subst (λ (b : ℕ). memory.ids.boot * 18446744073709551616 + memory.ids.drawn ≤ b * 18446744073709551616 + machine.most_drawn) own.0 (let most = own.1 in omega arith)
 
--- a message is sent that is no reply
+-- a message is sent that is none of the collector's
 no_reply : (rows : Rows) (memory : Option Memory) (messages : List Message) (m : Message) → reply_of m ≡ None → AreRepliesDrawn rows memory messages → AreRepliesDrawn rows memory (messages ++ m ∷ [])
 no_reply rows memory messages m none drawn = record {
   order = ordered_with IsReplyBefore messages m drawn.order (λ n was first second e f. absurd (none-some second (sym none ∙ f)));
@@ -117,6 +135,14 @@ no_reply rows memory messages m none drawn = record {
   ];
   own = drawn.own;
 }
+
+-- notes of the ends of sessions are none
+notes_sent : (rows : Rows) (memory : Option Memory) (messages : List Message) (s : List ℕ) (notes : List EndNote) → AreRepliesDrawn rows memory messages →
+    AreRepliesDrawn rows memory (messages ++ map (sent.Ended s) notes)
+notes_sent rows memory messages s [] drawn = subst (AreRepliesDrawn rows memory) (sym (append-nil messages)) drawn
+notes_sent rows memory messages s (note ∷ notes) drawn =
+    subst (AreRepliesDrawn rows memory) (append_assoc messages (sent.Ended s note ∷ []) (map (sent.Ended s) notes))
+    (notes_sent rows memory (messages ++ sent.Ended s note ∷ []) s notes (no_reply rows memory messages (sent.Ended s note) refl drawn))
 
 is_less : (d : ℕ) → nat_lt d machine.most_drawn ≡ true → d < machine.most_drawn
 is_less d e = grind (arith, nat_tests, e)
@@ -136,7 +162,7 @@ next_above boot drawn most = by_test (nat_lt drawn machine.most_drawn) refl
 drawn_more : (boot drawn count : ℕ) → 1 ≤ count → boot * 18446744073709551616 + min (drawn + 1) machine.most_drawn ≤ boot * 18446744073709551616 + min (drawn + count) machine.most_drawn
 drawn_more boot drawn count some = omega arith
 
--- a reply is sent, for which ids are drawn
+-- a reply or a request is sent, for which ids are drawn
 reply_drawn : (rows : Rows) (memory : Memory) (messages : List Message) (m : Message) (count : ℕ) → 1 ≤ count → reply_of m ≡ Some (next_id memory.ids) → AreRepliesDrawn rows (Some memory) messages →
     AreRepliesDrawn rows (Some (drawn_in count memory)) (messages ++ m ∷ [])
 reply_drawn rows memory messages m count some is drawn =
@@ -157,10 +183,33 @@ reply_drawn rows memory messages m count some is drawn =
       own = (drawn.own.0, omega arith);
     }
 
+-- a request is sent, and its answer is waited for
+request_drawn : (rows : Rows) (memory : Memory) (messages : List Message) (due : Due) → AreRepliesDrawn rows (Some memory) messages →
+    AreRepliesDrawn rows (Some (asked_in (request_for rows host (reply_id memory) due) memory)) (messages ++ request_message (request_for rows host (reply_id memory) due) ∷ [])
+request_drawn rows memory messages due drawn =
+    let asks = request_for rows host (reply_id memory) due in
+    let sent_so = reply_drawn rows memory messages (request_message asks) 1 (omega arith) refl drawn in
+    goes_on rows rows (Some (drawn_in 1 memory)) (Some (asked_in asks memory)) (messages ++ request_message asks ∷ []) sent_so (omega arith) sent_so.own
+
+-- no answer is waited for any longer
+forgotten_drawn : (rows : Rows) (memory : Memory) (messages : List Message) → AreRepliesDrawn rows (Some memory) messages → AreRepliesDrawn rows (Some (forgotten memory)) messages
+forgotten_drawn rows memory messages drawn = goes_on rows rows (Some memory) (Some (forgotten memory)) messages drawn (omega arith) drawn.own
+
+-- the answer to an id isn't
+answered_drawn : (rows : Rows) (id : Option ℕ) (memory : Option Memory) (messages : List Message) → AreRepliesDrawn rows memory messages →
+    AreRepliesDrawn rows (option_map (answered_in id) memory) messages
+answered_drawn rows id None messages drawn = drawn
+answered_drawn rows None (Some memory) messages drawn = drawn
+answered_drawn rows (Some value) (Some memory) messages drawn =
+    goes_on rows rows (Some memory) (Some (answered_in (Some value) memory)) messages drawn (omega arith) drawn.own
+
 -- ---- the boot number, which only a start raises
 
+boot_stays : (after before : Rows) → finite.get after boot_key ≡ finite.get before boot_key → boot_of after ≡ boot_of before
+boot_stays after before same = ap (λ (o : Option Cell). unwrap_or (option_map (λ (k : Cell). k.value) o) 0) same
+
 boot_by_putting : (rows : Rows) (u : List ℕ) (cell : Cell) → boot_of (finite.insert rows (subscription_key u) cell) ≡ boot_of rows
-boot_by_putting rows u cell = ap (λ (o : Option Cell). unwrap_or (option_map (λ (k : Cell). k.value) o) 0) (finite.get-insert key_cmp_total rows (subscription_key u) cell boot_key)
+boot_by_putting rows u cell = boot_stays (finite.insert rows (subscription_key u) cell) rows (finite.get-insert key_cmp_total rows (subscription_key u) cell boot_key)
 
 boot_by_booting : (rows : Rows) (cell : Cell) → boot_of (finite.insert rows boot_key cell) ≡ cell.value
 boot_by_booting rows cell = ap (λ (o : Option Cell). unwrap_or (option_map (λ (k : Cell). k.value) o) 0) (finite.get-insert key_cmp_total rows boot_key cell boot_key)
@@ -169,8 +218,17 @@ boot_missed : (u s d : List ℕ) → IsMissed u s d boot_key
 boot_missed u s d = record { bookmark = refl; held = λ n. refl; marks = λ n. refl; loose = λ n. refl }
 
 boot_by_taking : (rows : Rows) (u s : List ℕ) (channels : List (List ℕ)) (batch : items.Batch) (now : ℕ) → boot_of (taken rows u s channels batch now) ≡ boot_of rows
-boot_by_taking rows u s channels batch now =
-    ap (λ (o : Option Cell). unwrap_or (option_map (λ (k : Cell). k.value) o) 0) (spared rows u s channels batch now boot_key (λ d here. boot_missed u s d) refl)
+boot_by_taking rows u s channels batch now = boot_stays (taken rows u s channels batch now) rows (spared rows u s channels batch now boot_key (λ d here. boot_missed u s d) refl)
+
+-- the boot number's row is none of a lease
+apart_boot : number_of kinds.Lease ≢ number_of kinds.CollectorBoot
+apart_boot e = omega (arith, e)
+
+boot_by_leasing : (rows : Rows) (u s : List ℕ) (leasing : Leasing) → boot_of (applied (lease_changes rows u s leasing) rows) ≡ boot_of rows
+boot_by_leasing rows u s leasing = boot_stays (applied (lease_changes rows u s leasing) rows) rows (leasing_leaves rows u s leasing boot_key apart_boot)
+
+boot_by_noting : (rows : Rows) (u s identifier : List ℕ) → boot_of (applied (end_lease rows u s identifier) rows) ≡ boot_of rows
+boot_by_noting rows u s identifier = boot_stays (applied (end_lease rows u s identifier) rows) rows (noting_leaves rows u s identifier boot_key apart_boot)
 
 -- ---- the collector
 
@@ -292,12 +350,36 @@ delivery_keeps rows delivery now = by_address (subscription_in delivery.notify_t
     by_address (Some u) None = tt
     by_address (Some u) (Some s) = batch_keeps rows u s delivery.batch now
 
+response_keeps : (rows : Rows) (waiting : Option Waiting) (answer : Response) (now : ℕ) → KeepsBoot rows (waiting_effect waiting answer now rows)
+response_keeps rows None answer now = tt
+response_keeps rows (Some w) answer now = by_leasing (leasing_of answer w.wants now)
+  where
+    by_leasing : (leasing : Option Leasing) → KeepsBoot rows (leasing_effect rows w leasing)
+    by_leasing None = tt
+    by_leasing (Some leasing) = boot_by_leasing rows w.sub w.source leasing
+
+note_keeps : (rows : Rows) (note : EndNote) → KeepsBoot rows (note_effect rows note)
+note_keeps rows note = by_address (subscription_in note.end_to) (source_in note.end_to)
+  where
+    by_standing : (u s : List ℕ) (known : Bool) → KeepsBoot rows (ended_effect_by rows u s note.identifier known)
+    by_standing u s true = boot_by_noting rows u s note.identifier
+    by_standing u s false = tt
+
+    by_address : (u s : Option (List ℕ)) → KeepsBoot rows (ended_effect rows u s note.identifier)
+    by_address None s = tt
+    by_address (Some u) None = tt
+    by_address (Some u) (Some s) = by_standing u s (is_known (standing rows u))
+
 -- ---- replies
+
+-- a collector that runs is one with this memory
+draws_with : (now : State) (memory : Memory) → now.collector.memory ≡ Some memory → Draws now → AreRepliesDrawn now.collector.rows (Some memory) now.messages
+draws_with now memory runs drawn = subst (λ (o : Option Memory). AreRepliesDrawn now.collector.rows o now.messages) runs drawn
 
 reply_draws : (now : State) (memory : Memory) (count : ℕ) (m : Message) → now.collector.memory ≡ Some memory → 1 ≤ count → reply_of m ≡ Some (next_id memory.ids) → Draws now → Draws (with_reply count now m)
 reply_draws now memory count m runs some is drawn =
     subst (λ (o : Option Memory). AreRepliesDrawn now.collector.rows (option_map (drawn_in count) o) (now.messages ++ m ∷ [])) (sym runs)
-    (reply_drawn now.collector.rows memory now.messages m count some is (subst (λ (o : Option Memory). AreRepliesDrawn now.collector.rows o now.messages) runs drawn))
+    (reply_drawn now.collector.rows memory now.messages m count some is (draws_with now memory runs drawn))
 
 events_draw : (now : State) (s : List ℕ) (delivery : Delivery) (memory : Memory) → now.collector.memory ≡ Some memory → Draws now → Draws (events_at s delivery memory now)
 events_draw now s delivery memory runs drawn = by_effect (delivery_effect now.collector.rows delivery now.moment) (delivery_keeps now.collector.rows delivery now.moment)
@@ -318,12 +400,55 @@ events_draw now s delivery memory runs drawn = by_effect (delivery_effect now.co
     by_effect (Err fault) same = reply_draws now memory 1 (sent.Fault s (reply_id memory) delivery.id fault) runs (omega arith) refl drawn
     by_effect (Ok changes) same = by_fate changes (called now changes drawn same) (fate now.collector.armed changes) refl
 
+note_draws : (now : State) (s : List ℕ) (note : EndNote) (memory : Memory) → now.collector.memory ≡ Some memory → Draws now → Draws (note_at s note memory now)
+note_draws now s note memory runs drawn = by_effect (note_effect now.collector.rows note) (note_keeps now.collector.rows note)
+  where
+    by_fate : (changes : List Change) → Draws (with_collector now (commits now.collector changes)) → (how : Fate) → fate now.collector.armed changes ≡ how →
+        Draws (with_answer (with_collector now (commits now.collector changes)) (note_answer_by how s (reply_id memory) note.id))
+    by_fate changes after Stopped e = after
+    by_fate changes after Failed e =
+        reply_draws (with_collector now (commits now.collector changes)) memory 1 (sent.Fault s (reply_id memory) note.id InternalError)
+        (ap (λ (f : Fate). cond (is_stopped f) None now.collector.memory) e ∙ runs) (omega arith) refl after
+    by_fate changes after Done e = after
+
+    by_effect : (effect : Effect FaultName) → KeepsBoot now.collector.rows effect → Draws (note_by now effect s (reply_id memory) note.id)
+    by_effect (Err fault) same = reply_draws now memory 1 (sent.Fault s (reply_id memory) note.id fault) runs (omega arith) refl drawn
+    by_effect (Ok changes) same = by_fate changes (called now changes drawn same) (fate now.collector.armed changes) refl
+
+-- ---- requests
+
+request_draws : (now : State) (memory : Memory) → now.collector.memory ≡ Some memory → Draws now → Draws (request_at memory now)
+request_draws now memory runs drawn = by_due (next_due now.collector.rows memory.waiting now.moment)
+  where
+    by_due : (due : Option Due) → Draws (request_by now memory (option_map (request_for now.collector.rows host (reply_id memory)) due))
+    by_due None = drawn
+    by_due (Some due) = request_drawn now.collector.rows memory now.messages due (draws_with now memory runs drawn)
+
+forget_draws : (now : State) (memory : Memory) → now.collector.memory ≡ Some memory → Draws now → Draws (forget_at memory now)
+forget_draws now memory runs drawn = forgotten_drawn now.collector.rows memory now.messages (draws_with now memory runs drawn)
+
+response_draws : (now : State) (relates : MessageId) (answer : Response) (memory : Memory) → Draws now → Draws (response_at relates answer memory now)
+response_draws now relates answer memory drawn =
+    by_effect (response_effect memory relates answer now.moment now.collector.rows) (response_keeps now.collector.rows (waiting_for memory relates.value) answer now.moment)
+  where
+    by_effect : (effect : CollectorEffect) → KeepsBoot now.collector.rows effect → Draws (response_by now relates.value effect)
+    by_effect (Err fault) same = drawn
+    by_effect (Ok changes) same =
+        let after = commits now.collector changes in
+        answered_drawn after.rows relates.value after.memory now.messages (called now changes drawn same)
+
+-- ---- the collector's lines
+
 at_collector_draws : (state : State) (change : Memory → State → State) → Draws state → ((memory : Memory) (now : State) → now.collector.memory ≡ Some memory → Draws now → Draws (change memory now)) →
     Draws (at_collector state change)
 at_collector_draws state change drawn holds =
     at_collector_any state change Draws (opened_draws state drawn) (λ memory runs. holds memory (collecting.with_opened state) runs (opened_draws state drawn))
 
--- ---- sources, which draw no reply's id
+subscribe_draws : (state : State) (about : Subscription) → Draws state → Draws (at_collector state (λ memory. subscribe_at about))
+subscribe_draws state about drawn =
+    at_collector_draws state (λ memory. subscribe_at about) drawn (λ memory now runs now_drawn. call_draws now (add_effect now.collector.rows about) (adding_keeps now.collector.rows about) now_drawn)
+
+-- ---- sources, which draw no id of the collector's
 
 at_source_draws : (state : State) (s : List ℕ) (change : State → Slot → machine.End → State) → Draws state → ((now : State) (slot : Slot) (end : machine.End) → Draws now → Draws (change now slot end)) →
     Draws (at_source state s change)
@@ -354,6 +479,21 @@ poll_draws s u now slot end drawn = by_session (session_of end.sessions u)
         either_draws (has_expired now.moment session) _ _ drawn
         (either_draws (machine.is_idle slot.place.rows session) _ _ drawn (either_draws (machine.is_spent end) _ _ drawn (sends now _ refl drawn)))
 
+-- what a source answers
+answer_draws : (s : List ℕ) (relates : MessageId) (now : State) (answer : Option (MessageId × Response)) → Draws now → Draws (with_sent now (option_map (response_message s relates) answer))
+answer_draws s relates now None drawn = drawn
+answer_draws s relates now (Some answer) drawn = sends now (response_message s relates answer) refl drawn
+
+responds_draw : (s : List ℕ) (id : MessageId) (identifier : Option (List ℕ)) (asks : Body) (now : State) (slot : Slot) (end : machine.End) → Draws now → Draws (responds_at s id identifier asks now slot end)
+responds_draw s id identifier asks now slot end drawn =
+    let what = request_said identifier asks now.moment end in
+    let done = request_done identifier asks now.moment end in
+    answer_draws s id (with_end now s slot (answered_by done what)) (responded done what) drawn
+
+shut_draws : (s : List ℕ) (now : State) (slot : Slot) (end : machine.End) → Draws now → Draws (shut_at s now slot end)
+shut_draws s now slot end drawn =
+    either_draws (is_short end) _ _ drawn (notes_sent now.collector.rows now.collector.memory now.messages s (machine.end_notes end) drawn)
+
 -- ---- lines
 
 taken_draws : (state : State) (m : Message) → Draws state → Draws (taken_by state m)
@@ -363,6 +503,9 @@ taken_draws state (sent.Offers s id relates given) drawn = at_source_draws state
 taken_draws state (sent.Events s delivery) drawn = at_collector_draws state (events_at s delivery) drawn (λ memory now runs now_drawn. events_draw now s delivery memory runs now_drawn)
 taken_draws state (sent.Ack s id relates) drawn = at_source_draws state s (end_at s (λ end. after_ack end relates)) drawn (λ now slot end h. h)
 taken_draws state (sent.Fault s id relates fault) drawn = at_source_draws state s (end_at s (λ end. after_fault end relates fault)) drawn (λ now slot end h. h)
+taken_draws state (sent.Request s id identifier asks) drawn = at_source_draws state s (responds_at s id identifier asks) drawn (responds_draw s id identifier asks)
+taken_draws state (sent.Response s id relates answer) drawn = at_collector_draws state (response_at relates answer) drawn (λ memory now runs now_drawn. response_draws now relates answer memory now_drawn)
+taken_draws state (sent.Ended s note) drawn = at_collector_draws state (note_at s note) drawn (λ memory now runs now_drawn. note_draws now s note memory runs now_drawn)
 
 delivered_draws : (state : State) (message : Option Message) → Draws state → Draws (deliver_message state message)
 delivered_draws state None drawn = drawn
@@ -382,9 +525,8 @@ arm_draws state ends.Collector armed drawn = drawn
 arm_draws state (ends.Source s) armed drawn = declared_draws state s (λ place. armed_with place armed) (slot_of state s) drawn
 
 step_draws : (state : State) (line : Line) → Draws state → Draws (step line state)
-step_draws state (Subscribe u items bytes beat query) drawn =
-    at_collector_draws state (λ memory. subscribe_at (subscription_of u items bytes beat query)) drawn
-    (λ memory now runs now_drawn. call_draws now (add_effect now.collector.rows (subscription_of u items bytes beat query)) (adding_keeps now.collector.rows (subscription_of u items bytes beat query)) now_drawn)
+step_draws state (Subscribe u items bytes beat query) drawn = subscribe_draws state (subscription_of u items bytes beat query) drawn
+step_draws state (SubscribeAt u s items bytes beat expires query) drawn = subscribe_draws state (begun_subscription u s items bytes beat expires query) drawn
 step_draws state (End u) drawn =
     at_collector_draws state (λ memory. steps.end_at u) drawn (λ memory now runs now_drawn. call_draws now (end_effect now.collector.rows u) (ending_keeps now.collector.rows u) now_drawn)
 step_draws state (Batch u s b) drawn =
@@ -397,13 +539,17 @@ step_draws state (Ask s) drawn = at_source_draws state s (ask_at s) drawn (ask_d
 step_draws state (Poll s u) drawn = at_source_draws state s (poll_at s u) drawn (poll_draws s u)
 step_draws state (Deliver k seen) drawn = delivered_draws state (message_at state k) drawn
 step_draws state (Back n) drawn = delivered_draws state (message_at state (number_back state n)) drawn
+step_draws state Request drawn = at_collector_draws state request_at drawn (λ memory now runs now_drawn. request_draws now memory runs now_drawn)
+step_draws state Forget drawn = at_collector_draws state forget_at drawn (λ memory now runs now_drawn. forget_draws now memory runs now_drawn)
 step_draws state (Lost s u) drawn = at_source_draws state s (lost_at s u) drawn (λ now slot end h. h)
+step_draws state (Shut s) drawn = at_source_draws state s (shut_at s) drawn (shut_draws s)
 step_draws state (Crash end) drawn = crash_draws state end drawn
 step_draws state (Fail end after) drawn = arm_draws state end (record { after = after; stops = false }) drawn
 step_draws state (Stop end after) drawn = arm_draws state end (record { after = after; stops = true }) drawn
 step_draws state Calm drawn = drawn
 step_draws state Show drawn = at_collector_draws state (λ memory. unchanged) drawn (λ memory now runs now_drawn. now_drawn)
 step_draws state (Print u s c) drawn = at_collector_draws state (λ memory. unchanged) drawn (λ memory now runs now_drawn. now_drawn)
+step_draws state (Tick milliseconds) drawn = drawn
 
 -- ---- schedules
 

@@ -3,12 +3,23 @@ use Rattle.std.proofs.Common.{◌≡◌, ℕ, ◌+◌, List, [], ◌∷◌, Bool
 use Rattle.std.proofs.lemmas.Bool.{cond_both}
 use Rattle.std.specs.Prelude.{Ok, Err}
 use Rattle.std.specs.FinMap as finite
+use Rattle.std.specs.Option.{option_map}
 use Rattle.wef_batch.specs.WellFormed.{is_well_formed}
 use Rattle.wef_batch.specs.declared.items.Batch as items
-use Rattle.wef_collector_rows.specs.Answers.{channels_read, is_there}
+use Rattle.wef_bodies.specs.declared.bodies.Body.{Body}
+use Rattle.wef_collector_rows.specs.Answers.{channels_read, is_known, is_there}
+use Rattle.wef_collector.specs.Asking.{request_for}
 use Rattle.wef_collector.specs.Boots.{boot_of, memory_begun}
 use Rattle.wef_collector.specs.Calls.{Effect, boot_effect, end_by}
+use Rattle.wef_collector.specs.Memories.{waiting_for}
+use Rattle.wef_collector.specs.Responses.{lease_changes, leasing_effect, leasing_of, waiting_effect}
 use Rattle.wef_collector.specs.declared.memories.Memory.{Memory}
+use Rattle.wef_collector.specs.declared.responses.Leasing.{Leasing}
+use Rattle.wef_collector.specs.declared.responses.Response.{Response}
+use Rattle.wef_collector_leases.specs.Changes.{end_lease}
+use Rattle.wef_collector_leases.specs.Next.{next_due}
+use Rattle.wef_collector_leases.specs.declared.next.Due.{Due}
+use Rattle.wef_collector_leases.specs.declared.waiting.Waiting.{Waiting}
 use Rattle.wef_collector_rows.specs.Keys.{boot_key, subscription_key}
 use Rattle.wef_collector_rows.specs.Standing.{is_full, kept_body, standing}
 use Rattle.wef_collector.specs.Taken.{batch_changes, put, taken}
@@ -16,33 +27,38 @@ use Rattle.wef_collector_rows.specs.declared.faults.CollectorFault.TheVariants a
 use Rattle.wef_collector_rows.specs.declared.standings.Standing.{Standing}
 use Rattle.wef_collector_rows.specs.declared.standings.Standing.TheVariants as stands
 use Rattle.wef_ids.specs.declared.FaultName.TheVariants.{InvalidMessage}
+use Rattle.wef_ids.specs.declared.MessageId.{MessageId}
 use Rattle.wef_event.specs.Events.{Event}
 use Rattle.wef_event.specs.Unnumbered.{new_event}
 use Rattle.wef_eventing.specs.Addresses.{source_in, subscription_in}
 use Rattle.wef_documents.specs.Written.{document_text}
 use Rattle.wef_eventing.specs.declared.subscriptions.Subscription.{Subscription}
+use Rattle.wef_front_source.specs.Replies.{answered_in as answered_by}
 use Rattle.wef_keeper.specs.Calls as calls
 use Rattle.wef_keeper.specs.Rows.{Rows, applied}
 use Rattle.wef_keeper.specs.declared.keys.Change.{Change}
 use Rattle.wef_replay_values.specs.declared.end_name.EndName.{EndName}
 use Rattle.wef_replay_values.specs.declared.end_name.EndName.TheVariants as ends
 use Rattle.wef_replay.specs.declared.lines.Line.{Line}
-use Rattle.wef_replay.specs.declared.lines.Line.TheVariants.{Subscribe, End, Batch, Source, Write, WriteXml, Ask, Poll, Deliver, Back, Lost, Crash, Fail, Stop, Calm, Show, Print}
+use Rattle.wef_replay.specs.declared.lines.Line.TheVariants.{Subscribe, SubscribeAt, End, Batch, Source, Write, WriteXml, Ask, Poll, Deliver, Back, Request, Forget, Lost, Shut, Crash, Fail, Stop, Calm, Show, Print, Tick}
 use Rattle.wef_source.specs.Machine as machine
 use Rattle.wef_source.specs.Sessions.{has_expired, session_of}
 use Rattle.wef_source.specs.declared.messages.Delivery.{Delivery}
+use Rattle.wef_source.specs.declared.messages.EndNote.{EndNote}
 use Rattle.wef_building.specs.declared.sessions.Session.{Session}
 use Rattle.wef_source_log.specs.Answers as log
 use Rattle.wef_source_log.specs.declared.faults.LogFault.{LogFault}
+use Rattle.wef_machine.specs.Answering.{with_answer}
 use Rattle.wef_machine.specs.Arming.{committed}
 use Rattle.wef_machine.specs.Collecting as collecting
 use Rattle.wef_machine.specs.Collecting.{at_collector, reply_id, with_call}
-use Rattle.wef_machine.specs.Deliveries.{BatchEffect, after_ack, after_fault, after_offers, answer_with, batch_effect, batch_effect_by, deliver_message, delivery_effect, effect_at, end_at, events_at, message_at, number_back, offers_at, taken_by, with_answer}
+use Rattle.wef_machine.specs.Deliveries.{BatchEffect, after_ack, after_fault, after_offers, answer_with, batch_effect, batch_effect_by, deliver_message, delivery_effect, effect_at, end_at, events_at, message_at, number_back, offers_at, taken_by}
+use Rattle.wef_machine.specs.Leasing.{ended_effect, ended_effect_by, forget_at, is_short, note_answer, note_at, note_effect, request_at, request_by, request_done, request_said, responded, responds_at, response_at, response_by, response_message, shut_at, with_sent}
 use Rattle.wef_machine.specs.Places.{Place, armed_with, crashed, opened_by, starts}
 use Rattle.wef_machine.specs.Sources.{ask_at, at_declared, at_source, lost_at, poll_at, poll_in, write_at, write_by}
-use Rattle.wef_machine.specs.States.{Slot, State, slot_of, with_foreign}
+use Rattle.wef_machine.specs.States.{Slot, State, host, slot_of, with_end, with_foreign}
 use Rattle.wef_machine.specs.Steps as steps
-use Rattle.wef_machine.specs.Steps.{arm_step, batch_at, crash_step, step, subscribe_at, subscription_of, unchanged}
+use Rattle.wef_machine.specs.Steps.{arm_step, batch_at, begun_subscription, crash_step, step, subscribe_at, subscription_of, unchanged}
 use Rattle.wef_machine.specs.declared.arming.Armed.{Armed}
 use Rattle.wef_machine.specs.declared.messages.Message.{Message}
 use Rattle.wef_machine.specs.declared.messages.Message.TheVariants as sent
@@ -51,6 +67,7 @@ use Rattle.wef_safety.proofs.CollectorSteps.{at_collector_any, committed_both}
 use Rattle.wef_safety.proofs.Growing.{RowsGrow, same_rows}
 use Rattle.wef_safety.proofs.SourceSteps.{at_source_any}
 use Rattle.wef_safety.proofs.RowMoves.{adding_grows, ending_grows, taking_grows}
+use Rattle.wef_promises.proofs.Leases.{leasing_aside, noting_aside}
 use Rattle.wef_promises.specs.Laws.{BookmarksNeverFall, SubscriptionsStay}
 
 abbrev Lasts : State → State → Type 0
@@ -136,6 +153,46 @@ events_last s delivery memory state =
     by (Some u) None = as_it_is state
     by (Some u) (Some r) = batch_lasts u r delivery.batch state
 
+-- ---- leases, which stand beside subscriptions and bookmarks
+
+request_lasts : (memory : Memory) (state : State) → Lasts state (request_at memory state)
+request_lasts memory state = by (next_due state.collector.rows memory.waiting state.moment)
+  where
+    by : (due : Option Due) → Lasts state (request_by state memory (option_map (request_for state.collector.rows host (reply_id memory)) due))
+    by None = as_it_is state
+    by (Some due) = as_it_is state
+
+response_lasts : (relates : MessageId) (answer : Response) (memory : Memory) (state : State) → Lasts state (response_at relates answer memory state)
+response_lasts relates answer memory state = by_waiting (waiting_for memory relates.value)
+  where
+    by_leasing : (w : Waiting) (leasing : Option Leasing) → Lasts state (response_by state relates.value (leasing_effect state.collector.rows w leasing))
+    by_leasing w None = as_it_is state
+    by_leasing w (Some leasing) =
+        let rows = state.collector.rows in
+        let changes = lease_changes rows w.sub w.source leasing in
+        commit_lasts state.collector.armed changes rows (grows_aside (applied changes rows) rows (leasing_aside rows w.sub w.source leasing))
+
+    by_waiting : (waiting : Option Waiting) → Lasts state (response_by state relates.value (waiting_effect waiting answer state.moment state.collector.rows))
+    by_waiting None = as_it_is state
+    by_waiting (Some w) = by_leasing w (leasing_of answer w.wants state.moment)
+
+note_lasts : (s : List ℕ) (note : EndNote) (memory : Memory) (state : State) → Lasts state (note_at s note memory state)
+note_lasts s note memory state =
+    answered state (with_call state (note_effect state.collector.rows note)) (note_answer state (note_effect state.collector.rows note) s (reply_id memory) note.id)
+    (by_address (subscription_in note.end_to) (source_in note.end_to))
+  where
+    by_standing : (u r : List ℕ) (known : Bool) → Lasts state (with_call state (ended_effect_by state.collector.rows u r note.identifier known))
+    by_standing u r true =
+        let rows = state.collector.rows in
+        let changes = end_lease rows u r note.identifier in
+        commit_lasts state.collector.armed changes rows (grows_aside (applied changes rows) rows (noting_aside rows u r note.identifier))
+    by_standing u r false = as_it_is state
+
+    by_address : (u r : Option (List ℕ)) → Lasts state (with_call state (ended_effect state.collector.rows u r note.identifier))
+    by_address None r = as_it_is state
+    by_address (Some u) None = as_it_is state
+    by_address (Some u) (Some r) = by_standing u r (is_known (standing state.collector.rows u))
+
 -- ---- sources: what is done at one leaves the collector's rows
 
 abbrev Leaves : (State → Slot → machine.End → State) → Type 0
@@ -167,6 +224,19 @@ poll_leaves s u now slot end = by (session_of end.sessions u)
         either_lasts now (has_expired now.moment session) _ _ (as_it_is now)
         (either_lasts now (machine.is_idle slot.place.rows session) _ _ (as_it_is now) (either_lasts now (machine.is_spent end) _ _ (as_it_is now) (as_it_is now)))
 
+answer_lasts : (s : List ℕ) (relates : MessageId) (old new : State) (answer : Option (MessageId × Response)) → Lasts old new → Lasts old (with_sent new (option_map (response_message s relates) answer))
+answer_lasts s relates old new None h = h
+answer_lasts s relates old new (Some answer) h = h
+
+responds_leave : (s : List ℕ) (id : MessageId) (identifier : Option (List ℕ)) (asks : Body) → Leaves (responds_at s id identifier asks)
+responds_leave s id identifier asks now slot end =
+    let what = request_said identifier asks now.moment end in
+    let done = request_done identifier asks now.moment end in
+    answer_lasts s id now (with_end now s slot (answered_by done what)) (responded done what) (as_it_is now)
+
+shut_leaves : (s : List ℕ) → Leaves (shut_at s)
+shut_leaves s now slot end = either_lasts now (is_short end) _ _ (as_it_is now) (as_it_is now)
+
 -- ---- lines
 
 taken_lasts : (state : State) (message : Message) → Lasts state (taken_by state message)
@@ -175,6 +245,9 @@ taken_lasts state (sent.Offers s id relates given) = at_source_lasts state s (en
 taken_lasts state (sent.Events s delivery) = at_collector_lasts state (events_at s delivery) (events_last s delivery)
 taken_lasts state (sent.Ack s id relates) = at_source_lasts state s (end_at s (λ end. after_ack end relates)) (λ now slot end. as_it_is now)
 taken_lasts state (sent.Fault s id relates fault) = at_source_lasts state s (end_at s (λ end. after_fault end relates fault)) (λ now slot end. as_it_is now)
+taken_lasts state (sent.Request s id identifier asks) = at_source_lasts state s (responds_at s id identifier asks) (responds_leave s id identifier asks)
+taken_lasts state (sent.Response s id relates answer) = at_collector_lasts state (response_at relates answer) (response_lasts relates answer)
+taken_lasts state (sent.Ended s note) = at_collector_lasts state (note_at s note) (note_lasts s note)
 
 delivered_lasts : (state : State) (message : Option Message) → Lasts state (deliver_message state message)
 delivered_lasts state None = as_it_is state
@@ -196,6 +269,8 @@ arm_lasts state (ends.Source s) armed = at_declared_lasts state s (λ place. arm
 lasts : (state : State) (line : Line) → Lasts state (step line state)
 lasts state (Subscribe u items bytes beat query) =
     at_collector_lasts state (λ memory. subscribe_at (subscription_of u items bytes beat query)) (λ memory. subscribe_lasts (subscription_of u items bytes beat query))
+lasts state (SubscribeAt u s items bytes beat expires query) =
+    at_collector_lasts state (λ memory. subscribe_at (begun_subscription u s items bytes beat expires query)) (λ memory. subscribe_lasts (begun_subscription u s items bytes beat expires query))
 lasts state (End u) = at_collector_lasts state (λ memory. steps.end_at u) (λ memory. end_lasts u)
 lasts state (Batch u s b) = at_collector_lasts (with_foreign state s) (λ memory. batch_at u s b) (λ memory. batch_lasts u s b)
 lasts state (Source s capacity) = as_it_is state
@@ -205,13 +280,17 @@ lasts state (Ask s) = at_source_lasts state s (ask_at s) (ask_leaves s)
 lasts state (Poll s u) = at_source_lasts state s (poll_at s u) (poll_leaves s u)
 lasts state (Deliver k seen) = delivered_lasts state (message_at state k)
 lasts state (Back n) = delivered_lasts state (message_at state (number_back state n))
+lasts state Request = at_collector_lasts state request_at request_lasts
+lasts state Forget = at_collector_lasts state forget_at (λ memory now. as_it_is now)
 lasts state (Lost s u) = at_source_lasts state s (lost_at s u) (λ now slot end. as_it_is now)
+lasts state (Shut s) = at_source_lasts state s (shut_at s) (shut_leaves s)
 lasts state (Crash end) = crash_lasts state end
 lasts state (Fail end after) = arm_lasts state end (record { after = after; stops = false })
 lasts state (Stop end after) = arm_lasts state end (record { after = after; stops = true })
 lasts state Calm = as_it_is state
 lasts state Show = at_collector_lasts state (λ memory. unchanged) (λ memory now. as_it_is now)
 lasts state (Print u s c) = at_collector_lasts state (λ memory. unchanged) (λ memory now. as_it_is now)
+lasts state (Tick milliseconds) = as_it_is state
 
 pub subscriptions_stay : SubscriptionsStay
 subscriptions_stay state line u about e = (lasts state line).known u about e

@@ -1,18 +1,38 @@
 -- Sessions rise from the bookmarks that were offered by acknowledged batches alone, and send what lies above where they stand.
-use Rattle.std.proofs.Common.{◌≡◌, ℕ, ◌+◌, ◌<◌, ◌≤◌, Bool, true, false, cond, List, [], ◌∷◌, ◌++◌, length, refl, ap, sym, ◌∙◌, subst, nat_lt, arith, inl, inr, append_assoc, append-nil}
+use Rattle.std.proofs.Common.{◌≡◌, ℕ, ◌+◌, ◌<◌, ◌≤◌, Bool, true, false, cond, List, [], ◌∷◌, ◌++◌, length, map, refl, ap, sym, ◌∙◌, subst, nat_lt, arith, inl, inr, append_assoc, append-nil}
 use Rattle.std.proofs.lemmas.Bool.{cond_both}
 use Rattle.std.proofs.lemmas.List.Elements.{All-contains, All-contains_itself, All-from_recursion, All-weaker, recursion_from_All}
 use Rattle.std.proofs.lemmas.Option.{none-some, same_Some}
-use Rattle.std.specs.Prelude.{Option, Some, None, Ok, Err, is_some, Contains, ◌⊎◌}
+use Rattle.std.specs.Prelude.{Option, Some, None, Ok, Err, is_some, Contains}
 use Rattle.std.specs.Cmp.Lexicographic.{slice_cmp}
 use Rattle.std.specs.FinMap as finite
 use Rattle.std.specs.List.{AllByRecursion, filter}
+use Rattle.std.specs.Option.{option_map}
 use Rattle.std.specs.Ordering.{nat_cmp}
 use Rattle.wef_batch.specs.declared.items.Batch as items
+use Rattle.wef_bodies.specs.declared.bodies.Body.{Body}
+use Rattle.wef_bodies.specs.declared.bodies.Body.TheVariants as body
 use Rattle.wef_bookmark.specs.Order.{Marks, joined, number_at}
 use Rattle.wef_collector.proofs.Hits.{not_both}
+use Rattle.wef_collector.specs.Asking.{body_for, request_for}
+use Rattle.wef_collector.specs.Calls.{Effect as CollectorEffect}
 use Rattle.wef_collector.specs.Offers.{offers}
 use Rattle.wef_collector.specs.declared.memories.Memory.{Memory as Remembered}
+use Rattle.wef_collector.specs.declared.responses.Response.{Response}
+use Rattle.wef_collector_leases.specs.Next.{next_due}
+use Rattle.wef_collector_leases.specs.declared.leases.Wants.{Wants}
+use Rattle.wef_collector_leases.specs.declared.leases.Wants.TheVariants.{Subscribes, Renews, Unsubscribes}
+use Rattle.wef_collector_leases.specs.declared.next.Due.{Due}
+use Rattle.wef_collector_rows.specs.Bookmarks.{bookmark_of}
+use Rattle.wef_front_source.specs.Heard.{manage_asked}
+use Rattle.wef_front_source.specs.Replies.{answered_in as answered_by}
+use Rattle.wef_front_source.specs.Steps.{begun_by, does, done_where}
+use Rattle.wef_front_source.specs.declared.hearing.Asked.{Asked}
+use Rattle.wef_front_source.specs.declared.hearing.Asked.TheVariants.{Refused, Begin, Manage}
+use Rattle.wef_front_source.specs.declared.hearing.Wants.{Wants as Managing}
+use Rattle.wef_front_source.specs.declared.hearing.Wants.TheVariants as managing
+use Rattle.wef_front_source.specs.declared.saying.Said.{Said}
+use Rattle.wef_front_source.specs.declared.saying.Said.TheVariants as said
 use Rattle.wef_ids.specs.IdTexts.{id_of_value}
 use Rattle.wef_ids.specs.Ids.{ids_agree}
 use Rattle.wef_ids.specs.declared.FaultName.{FaultName}
@@ -22,36 +42,43 @@ use Rattle.wef_event.specs.Events.{Event}
 use Rattle.wef_event.specs.Unnumbered.{new_event}
 use Rattle.wef_eventing.specs.Addresses.{subscription_in}
 use Rattle.wef_eventing.specs.declared.offers.Offer.{Offer}
+use Rattle.wef_eventing.specs.declared.offers.Subscribe.{Subscribe as Wish}
+use Rattle.wef_eventing.specs.declared.subscriptions.Subscription.{Subscription}
 use Rattle.wef_keeper.specs.Calls.{Effect}
+use Rattle.wef_keeper.specs.Rows.{Rows}
 use Rattle.wef_query.specs.Selected.{channels_of}
 use Rattle.wef_replay_values.specs.declared.end_name.EndName.{EndName}
 use Rattle.wef_replay_values.specs.declared.end_name.EndName.TheVariants as ends
 use Rattle.wef_replay.specs.declared.lines.Line.{Line}
-use Rattle.wef_replay.specs.declared.lines.Line.TheVariants.{Subscribe, End, Batch, Source, Write, WriteXml, Ask, Poll, Deliver, Back, Lost, Crash, Fail, Stop, Calm, Show, Print}
+use Rattle.wef_replay.specs.declared.lines.Line.TheVariants.{Subscribe, SubscribeAt, End, Batch, Source, Write, WriteXml, Ask, Poll, Deliver, Back, Request, Forget, Lost, Shut, Crash, Fail, Stop, Calm, Show, Print, Tick}
 use Rattle.wef_building.proofs.Built.{SaysAbove, built_above}
 use Rattle.wef_source.proofs.InOrder.{alone_of_name}
 use Rattle.wef_source.specs.Answers.{waiting_for}
 use Rattle.wef_building.specs.Building.{built}
 use Rattle.wef_source.specs.Machine.{End as Memory}
-use Rattle.wef_source.specs.Machine.{acknowledged_in, adopted, asked, delivery_of, is_idle, is_spent, is_unreachable, lost_in, next_id, refused_in, sent as sent_by, start_of}
-use Rattle.wef_source.specs.Sessions.{acknowledged, has_expired, is_leased, is_named, is_outstanding, moved_by, sending, session_from, session_of, settled, waits_for, with_changed, with_channels, with_offered, with_offers, without}
+use Rattle.wef_source.specs.Machine.{acknowledged_in, adopted, asked, delivery_of, drawn_in, end_notes, is_idle, is_spent, is_unreachable, lease_of, lost_in, next_id, refused_in, sent as sent_by, shut_in, start_of}
+use Rattle.wef_source.specs.Sessions.{acknowledged, has_expired, is_asked_for, is_leased, is_leased_as, is_named, is_outstanding, moved_by, prolonged, sending, session_from, session_leased, session_of, settled, waits_for, with_changed, with_channels, with_offered, with_offers, without}
 use Rattle.wef_source.specs.declared.messages.Delivery.{Delivery}
+use Rattle.wef_source.specs.declared.messages.EndNote.{EndNote}
 use Rattle.wef_building.specs.declared.sessions.Outstanding.{Outstanding}
 use Rattle.wef_building.specs.declared.sessions.Session.{Session}
 use Rattle.wef_source_log.specs.Answers.{is_boot_full, next_text, start_effect, write_effect}
 use Rattle.wef_source_log.specs.LogWindow.{boot_of, start_changes}
 use Rattle.wef_source_log.specs.declared.faults.LogFault.{LogFault}
 use Rattle.wef_source_log.specs.declared.faults.LogFault.TheVariants as log_faults
+use Rattle.wef_machine.specs.Answering.{with_answer}
 use Rattle.wef_machine.specs.Arming.{fate, is_done, is_stopped}
 use Rattle.wef_machine.specs.Collecting as collecting
 use Rattle.wef_machine.specs.Collecting.{at_collector, draws, reply_id, with_reply}
-use Rattle.wef_machine.specs.Deliveries.{BatchEffect, acknowledged_by, after_ack, after_fault, after_offers, answer_by, deliver_message, deliver_step, delivery_effect, end_at, events_at, events_by, message_at, number_back, offers_at, refused_by, taken_by, with_answer}
-use Rattle.wef_safety.specs.Kept.{IsAckKept, IsKept, IsServed, WaitsFor, WasDrawn}
+use Rattle.wef_machine.specs.Deliveries.{BatchEffect, acknowledged_by, after_ack, after_fault, after_offers, answer_by, deliver_message, deliver_step, delivery_effect, end_at, events_at, events_by, message_at, number_back, offers_at, refused_by, taken_by}
+use Rattle.wef_machine.specs.Leasing.{forget_at, is_short, note_answer_by, note_at, note_by, note_effect, request_at, request_by, request_done, request_message, request_said, responded, responds_at, response_at, response_by, response_effect, response_message, shut_at, shut_step, with_sent}
+use Rattle.wef_requests.specs.Requests.{meant}
+use Rattle.wef_safety.specs.Kept.{IsAckKept, IsAskedFor, IsHeld, IsKept, IsServed, WaitsFor, WasDrawn}
 use Rattle.wef_machine.specs.Places.{Place, armed_with, commits, crashed, opened_by, starts}
 use Rattle.wef_safety.specs.Safe.{WasSent, own_id, read_by, source_of}
 use Rattle.wef_machine.specs.Sources.{ask_at, ask_step, at_declared, at_source, declared_slot, lost_at, lost_step, poll_at, poll_in, poll_step, slot_opened, slot_written, with_opened, write_at, write_by, write_step}
-use Rattle.wef_machine.specs.States.{Slot, Slots, State, calmed_slot, host, slot_of, slot_with, with_collector, with_end, with_foreign, with_message, with_slot}
-use Rattle.wef_machine.specs.Steps.{AreAdmitted, arm_step, batch_at, calm_step, crash_step, end_at as ended_at, step, subscribe_at, subscription_of, unchanged}
+use Rattle.wef_machine.specs.States.{Slot, Slots, State, calmed_slot, host, slot_of, slot_with, with_collector, with_end, with_foreign, with_message, with_messages, with_slot}
+use Rattle.wef_machine.specs.Steps.{AreAdmitted, arm_step, batch_at, begun_subscription, calm_step, crash_step, end_at as ended_at, step, subscribe_at, subscription_of, unchanged}
 use Rattle.wef_machine.specs.declared.arming.Armed.{Armed}
 use Rattle.wef_machine.specs.declared.arming.Fate.{Fate}
 use Rattle.wef_machine.specs.declared.arming.Fate.TheVariants.{Done, Failed, Stopped}
@@ -63,11 +90,11 @@ use Rattle.wef_safety.proofs.Lower.{Lower}
 use Rattle.wef_safety.proofs.Moves.{are_one, from_mapped, put_there}
 use Rattle.wef_pairs.proofs.Numbered.{lt_is, not_below}
 use Rattle.wef_safety.proofs.Offering.{BeginsAtRows, all_begin}
-use Rattle.wef_safety.proofs.Sent.{all_map, sent_by_number, sent_either}
+use Rattle.wef_safety.proofs.Sent.{all_map, sent_by_number, sent_either, sent_last, sent_mapped, sent_only}
 use Rattle.wef_safety.proofs.Sessions.{acknowledged_message, all_changed, all_filtered, all_with_session, all_without, equal_numbers, first_is, with_channels_number}
 use Rattle.wef_safety.proofs.SourceSteps.{at_source_any, running_is, running_with, session_within, with_opened_kept}
 use Rattle.wef_safety.proofs.Steps.{of_declared, start_is_kept, steps_keep}
-use Rattle.wef_promises.specs.Rising.{AreAllRisen, BeginsAt, HasBegun, HasRisen, IsAbove, IsAlone, IsMessageRisen, IsSentRisen, SessionsRise, StandsAt, delivered, pasts_from, state_after}
+use Rattle.wef_promises.specs.Rising.{AreAllRisen, BeginsAt, BodyBeginsAt, HasBegun, HasRisen, IsAbove, IsAlone, IsMessageRisen, IsSentRisen, SessionsRise, StandsAt, Wishes, delivered, pasts_from, state_after}
 
 -- ---- lists
 
@@ -84,8 +111,11 @@ one_of P xs x all has = All-contains P xs x (All-from_recursion P xs all) has
 abbrev Standing : Type 1
 Standing = List ℕ → List ℕ → Marks → Type 0
 
+abbrev OfSession : Standing → List ℕ → Session → Type 0
+OfSession P s session = P session.name s session.positions
+
 abbrev OfEach : Standing → List ℕ → List Session → Type 0
-OfEach P s sessions = AllByRecursion (λ (session : Session). P session.name s session.positions) sessions
+OfEach P s sessions = AllByRecursion (OfSession P s) sessions
 
 abbrev OfMemory : Standing → List ℕ → Option Memory → Type 0
 OfMemory P s None = Unit {0}
@@ -97,7 +127,7 @@ OfSources P slots = (s : List ℕ) (slot : Slot) → finite.get slots s ≡ Some
 memory_map : (P Q : Standing) → ((u s : List ℕ) (positions : Marks) → P u s positions → Q u s positions) → (s : List ℕ) (memory : Option Memory) → OfMemory P s memory → OfMemory Q s memory
 memory_map P Q f s None all = tt
 memory_map P Q f s (Some end) all =
-    all_map (λ (x : Session). P x.name s x.positions) (λ (x : Session). Q x.name s x.positions) (λ x is. f x.name s x.positions is) end.sessions all
+    all_map (OfSession P s) (OfSession Q s) (λ x is. f x.name s x.positions is) end.sessions all
 
 -- what a source remembers is so from now on
 source_put : (P : Standing) (slots : Slots) (s : List ℕ) (new : Slot) → OfSources P slots → OfMemory P s new.place.memory → OfSources P (finite.insert slots s new)
@@ -129,7 +159,7 @@ still_there old = record { sessions = λ s slot there. by_memory s slot there sl
     by_memory : (s : List ℕ) (slot : Slot) → slot_of old s ≡ Some slot → (memory : Option Memory) → slot.place.memory ≡ memory → OfMemory (StandsAt old) s memory
     by_memory s slot there None runs = tt
     by_memory s slot there (Some end) runs =
-        all_of (λ (x : Session). StandsAt old x.name s x.positions) end.sessions
+        all_of (OfSession (StandsAt old) s) end.sessions
         (λ x has. record { slot = slot; declared = there; end = end; runs = runs; session = x; is_one = has; name = refl; is_there = refl })
 
 -- a session that stands where it stood has risen so
@@ -155,24 +185,27 @@ slot_moves past line now s new all are = record {
   each = all.each;
 }
 
--- what was sent is so, and so is one message more
-one_more : (past : List Line) (more : List Message) (m : Message) → ((n : Message) → WasSent more n → IsSentRisen past n) → IsSentRisen past m →
-    (n : Message) → WasSent (more ++ m ∷ []) n → IsSentRisen past n
-one_more past more m all is n was = by_either (sent_either more (m ∷ []) n was)
-  where
-    by_either : WasSent more n ⊎ WasSent (m ∷ []) n → IsSentRisen past n
-    by_either (inl before) = all n before
-    by_either (inr (inl e)) = subst (IsSentRisen past) e is
-    by_either (inr (inr none)) = absurd none
+-- what was sent is so, and so are more messages
+more_sent : (past : List Line) (more new : List Message) → ((m : Message) → WasSent more m → IsSentRisen past m) → ((m : Message) → WasSent new m → IsSentRisen past m) →
+    (m : Message) → WasSent (more ++ new) m → IsSentRisen past m
+more_sent past more new all are m was = elim (sent_either more new m was) [
+  | inl before ↦ all m before
+  | inr last ↦ are m last
+]
+
+-- messages are sent
+messages_move : (past : List Line) (line : Line) (now : State) (new : List Message) → Stands past line now → ((m : Message) → WasSent new m → IsSentRisen past m) →
+    Stands past line (with_messages now new)
+messages_move past line now new all are = record {
+  sessions = all.sessions;
+  more = all.more ++ new;
+  longer = ap (λ (messages : List Message). messages ++ new) all.longer ∙ append_assoc (state_after past).messages all.more new;
+  each = more_sent past all.more new all.each are;
+}
 
 -- a message is sent
 message_moves : (past : List Line) (line : Line) (now : State) (m : Message) → Stands past line now → IsSentRisen past m → Stands past line (with_message now m)
-message_moves past line now m all is = record {
-  sessions = all.sessions;
-  more = all.more ++ m ∷ [];
-  longer = ap (λ (messages : List Message). messages ++ m ∷ []) all.longer ∙ append_assoc (state_after past).messages all.more (m ∷ []);
-  each = one_more past all.more m all.each is;
-}
+message_moves past line now m all is = messages_move past line now (m ∷ []) all (sent_only m (IsSentRisen past) is)
 
 -- ---- sources
 
@@ -248,14 +281,14 @@ sent_stands lower past line now s u slot end session all kept still stands there
     let boot = is.0.boot in
     let some = is.1 in
     let served = first_is (IsServed now.collector.rows now.messages s) (is_named u) end.sessions session found is.0.sessions in
-    let stood = first_is (λ (x : Session). StandsAt (state_after past) x.name s x.positions) (is_named u) end.sessions session found
+    let stood = first_is (OfSession (StandsAt (state_after past)) s) (is_named u) end.sessions session found
     (end_is (StandsAt (state_after past)) now s slot end still.sessions there runs) in
     let m : Message = sent.Events s (delivery_of slot.place.rows end session) in
     let reads = lower.log_reads slot.place.rows slot.histories slot.capacity (boot_of slot.place.rows) (omega arith) source.window in
     let new : Memory = sent_by slot.place.rows end session now.moment in
     message_moves past line (with_end now s slot new) m
     (end_moves past line now s slot new stands
-    (all_changed (λ (x : Session). HasRisen (line ∷ past) x.name s x.positions) (is_named session.name)
+    (all_changed (OfSession (HasRisen (line ∷ past)) s) (is_named session.name)
     (sending (record { id = next_id end; to = (built slot.place.rows session).to }) now.moment) (λ x passes h. h) end.sessions
     (end_is (HasRisen (line ∷ past)) now s slot end stands.sessions there runs)))
     (record {
@@ -286,7 +319,7 @@ poll_stands lower past line s u kept all = at_source_stands lower past line s (p
 settled_stand : (past : List Line) (line : Line) (now : State) (s : List ℕ) (slot : Slot) (end : Memory) (test : Session → Bool) → Stands past line now → slot_of now s ≡ Some slot → slot.place.memory ≡ Some end →
     OfEach (HasRisen (line ∷ past)) s (with_changed test settled end.sessions)
 settled_stand past line now s slot end test stands there runs =
-    all_changed (λ (x : Session). HasRisen (line ∷ past) x.name s x.positions) test settled (λ x passes h. h) end.sessions
+    all_changed (OfSession (HasRisen (line ∷ past)) s) test settled (λ x passes h. h) end.sessions
     (end_is (HasRisen (line ∷ past)) now s slot end stands.sessions there runs)
 
 lost_stands : Lower → (past : List Line) (line : Line) (s u : List ℕ) → IsKept (state_after past) → AreAllRisen past → Stands past line (lost_step (state_after past) s u)
@@ -309,7 +342,7 @@ fault_stands lower past line s relates fault kept all =
     by_id now slot end stands there runs (Some id) =
         end_moves past line now s slot (refused_in end id fault) stands
         (cond_both (is_unreachable fault) (without (waits_for id) end.sessions) (with_changed (waits_for id) settled end.sessions) (OfEach (HasRisen (line ∷ past)) s)
-        (λ gone. all_without (λ (session : Session). HasRisen (line ∷ past) session.name s session.positions) (waits_for id) end.sessions
+        (λ gone. all_without (OfSession (HasRisen (line ∷ past)) s) (waits_for id) end.sessions
         (end_is (HasRisen (line ∷ past)) now s slot end stands.sessions there runs))
         (λ stays. settled_stand past line now s slot end (waits_for id) stands there runs))
 
@@ -363,6 +396,9 @@ acknowledged_risen past line now s reply relates id session all kept same delive
         )
     by_message (sent.Ack r i related) to was_sent from own reads = absurd (none-some (session.notify_to, to) reads)
     by_message (sent.Fault r i related fault) to was_sent from own reads = absurd (none-some (session.notify_to, to) reads)
+    by_message (sent.Request r i identifier asks) to was_sent from own reads = absurd (none-some (session.notify_to, to) reads)
+    by_message (sent.Response r i related answer) to was_sent from own reads = absurd (none-some (session.notify_to, to) reads)
+    by_message (sent.Ended r note) to was_sent from own reads = absurd (none-some (session.notify_to, to) reads)
 
     by_outstanding : (o : Option Outstanding) → is_outstanding id o ≡ true → WaitsFor now.messages s session.notify_to o →
         HasRisen (line ∷ past) (moved_by o session).name s (moved_by o session).positions
@@ -387,36 +423,42 @@ ack_stands lower past line s reply relates kept all delivers was =
         let served = (running_is now s slot end (kept_now.sources s slot there) runs).0.sessions in
         let was_now = subst (λ (ms : List Message). WasSent ms (sent.Ack s reply relates)) (sym still.same) was in
         end_moves past line now s slot (acknowledged_in end id) stands
-        (all_moved (ServedThere (state_after past) now s) (λ (session : Session). HasRisen (line ∷ past) session.name s session.positions) (waits_for id) acknowledged
+        (all_moved (ServedThere (state_after past) now s) (OfSession (HasRisen (line ∷ past)) s) (waits_for id) acknowledged
         (λ session both. stays past line all session.name s session.positions both.1)
         (λ session waits both. acknowledged_risen past line now s reply relates id session all kept_now still.same delivers was_now at waits both) end.sessions
-        (all_both (IsServed now.collector.rows now.messages s) (λ (session : Session). StandsAt (state_after past) session.name s session.positions) end.sessions served
+        (all_both (IsServed now.collector.rows now.messages s) (OfSession (StandsAt (state_after past)) s) end.sessions served
         (end_is (StandsAt (state_after past)) now s slot end still.sessions there runs)))
 
--- ---- offers
+-- ---- wishes
 
--- an offer begins a session of each subscription that its address leads to
-abbrev Begins : List Line → Line → List ℕ → Offer → Type 0
-Begins past line s offer = (u : List ℕ) → subscription_in offer.subscribe.notify_to ≡ Some u →
-    HasBegun past line u s (with_channels offer.subscribe.from (channels_of offer.subscribe.query.items))
+-- a wish begins a session of each subscription that its address leads to
+abbrev Begins : List Line → Line → List ℕ → Wish → Type 0
+Begins past line s wish = (u : List ℕ) → subscription_in wish.notify_to ≡ Some u → HasBegun past line u s (with_channels wish.from (channels_of wish.query.items))
 
-all_begun : (past : List Line) (line : Line) (s : List ℕ) (id relates : MessageId) (given : List Offer) → delivered line (state_after past) ≡ Some (sent.Offers s id relates given) →
-    IsMessageRisen past (sent.Offers s id relates given) → AllByRecursion (Begins past line s) given
-all_begun past line s id relates given delivers is = all_of (Begins past line s) given (λ offer has u leads. record {
-  id = id;
-  relates = relates;
-  offers = given;
+-- so does that of a message that the line delivers
+wish_begins : (past : List Line) (line : Line) (s : List ℕ) (m : Message) (wish : Wish) → delivered line (state_after past) ≡ Some m → Wishes s wish m → (is : IsMessageRisen past m) →
+    BeginsAt (state_after is.earlier) s wish → Begins past line s wish
+wish_begins past line s m wish delivers is_one is begins u leads = record {
+  message = m;
   delivers = delivers;
-  offer = offer;
-  is_one = has;
+  wish = wish;
+  is_one = is_one;
   to_subscription = leads;
   earlier = is.earlier;
   was_sent = is.was_sent;
-  from = one_of (BeginsAt (state_after is.earlier) s) given offer is.is has u leads;
-  is_there = λ c. with_channels_number offer.subscribe.from (channels_of offer.subscribe.query.items) c;
-})
+  from = begins u leads;
+  is_there = λ c. with_channels_number wish.from (channels_of wish.query.items) c;
+}
 
-offered_stand : (past : List Line) (line : Line) (s : List ℕ) (now : ℕ) (ss : List Session) (given : List Offer) → AllByRecursion (Begins past line s) given →
+-- ---- offers
+
+all_begun : (past : List Line) (line : Line) (s : List ℕ) (id relates : MessageId) (given : List Offer) → delivered line (state_after past) ≡ Some (sent.Offers s id relates given) →
+    IsMessageRisen past (sent.Offers s id relates given) → AllByRecursion (λ (offer : Offer). Begins past line s offer.subscribe) given
+all_begun past line s id relates given delivers is = all_of (λ (offer : Offer). Begins past line s offer.subscribe) given (λ offer has.
+    wish_begins past line s (sent.Offers s id relates given) offer.subscribe delivers (refl, (offer, has, refl)) is
+    (one_of (λ (x : Offer). BeginsAt (state_after is.earlier) s x.subscribe) given offer is.is has))
+
+offered_stand : (past : List Line) (line : Line) (s : List ℕ) (now : ℕ) (ss : List Session) (given : List Offer) → AllByRecursion (λ (offer : Offer). Begins past line s offer.subscribe) given →
     OfEach (HasRisen (line ∷ past)) s ss → OfEach (HasRisen (line ∷ past)) s (with_offers now ss given)
 offered_stand past line s now ss [] are all = all
 offered_stand past line s now ss (offer ∷ given) are all =
@@ -426,7 +468,7 @@ offered_stand past line s now ss (offer ∷ given) are all =
     by_address : (o : Option (List ℕ)) → subscription_in offer.subscribe.notify_to ≡ o → OfEach (HasRisen (line ∷ past)) s (with_offered now ss offer.subscribe o)
     by_address None leads = all
     by_address (Some u) leads =
-        all_with_session (λ (session : Session). HasRisen (line ∷ past) session.name s session.positions) ss (session_from now offer.subscribe u) (inl (are.0 u leads)) all
+        all_with_session (OfSession (HasRisen (line ∷ past)) s) ss (session_from now offer.subscribe u) (inl (are.0 u leads)) all
 
 offers_stand : Lower → (past : List Line) (line : Line) (s : List ℕ) (id relates : MessageId) (given : List Offer) → IsKept (state_after past) → AreAllRisen past →
     delivered line (state_after past) ≡ Some (sent.Offers s id relates given) → IsMessageRisen past (sent.Offers s id relates given) →
@@ -437,9 +479,93 @@ offers_stand lower past line s id relates given kept all delivers is =
     cond_both (ids_agree end.ask relates.value) (adopted end given moment) end (λ (after : Memory). Stands past line (with_end now s slot after))
     (λ asked_for. end_moves past line now s slot (adopted end given moment) stands
     (offered_stand past line s moment (filter is_leased end.sessions) given (all_begun past line s id relates given delivers is)
-    (all_filtered (λ (session : Session). HasRisen (line ∷ past) session.name s session.positions) is_leased end.sessions
+    (all_filtered (OfSession (HasRisen (line ∷ past)) s) is_leased end.sessions
     (end_is (HasRisen (line ∷ past)) now s slot end stands.sessions there runs))))
     (λ other. same_end_stands past line now s slot end stands there runs))
+
+-- ---- requests
+
+-- where what is asked is a wish, it begins a session so
+abbrev AskedBegins : List Line → Line → List ℕ → Asked → Type 0
+AskedBegins past line s (Begin wish) = Begins past line s wish
+AskedBegins past line s _ = Unit {0}
+
+-- a session begins where the wish leads to a subscription, and each other one stands where it stood
+begun_stand : (past : List Line) (line : Line) (s : List ℕ) (end : Memory) (wish : Wish) (now : ℕ) → Begins past line s wish → OfEach (HasRisen (line ∷ past)) s end.sessions →
+    OfEach (HasRisen (line ∷ past)) s (does end (Begin wish) now).sessions
+begun_stand past line s end wish now begins all = by_address (subscription_in wish.notify_to) refl
+  where
+    by_address : (o : Option (List ℕ)) → subscription_in wish.notify_to ≡ o → OfEach (HasRisen (line ∷ past)) s (begun_by end wish now o).sessions
+    by_address None leads = all
+    by_address (Some u) leads =
+        all_with_session (OfSession (HasRisen (line ∷ past)) s) end.sessions
+        (session_leased now wish (lease_of (next_id end) wish now) u) (inl (begins u leads)) all
+
+-- what is done leaves each session where it stood, or begins it
+done_stand : (past : List Line) (line : Line) (s : List ℕ) (end : Memory) (asks : Asked) (now : ℕ) → AskedBegins past line s asks → OfEach (HasRisen (line ∷ past)) s end.sessions →
+    OfEach (HasRisen (line ∷ past)) s (does end asks now).sessions
+done_stand past line s end (Refused name) now begins all = all
+done_stand past line s end (Begin wish) now begins all = begun_stand past line s end wish now begins all
+done_stand past line s end (Manage identifier (managing.Renew expires)) now begins all =
+    all_changed (OfSession (HasRisen (line ∷ past)) s) (is_leased_as identifier) (prolonged (now + expires)) (λ session leased stood. stood) end.sessions all
+done_stand past line s end (Manage identifier managing.GetStatus) now begins all = all
+done_stand past line s end (Manage identifier managing.Unsubscribe) now begins all =
+    all_without (OfSession (HasRisen (line ∷ past)) s) (is_leased_as identifier) end.sessions all
+done_stand past line s end (Manage identifier (managing.Unread name)) now begins all = all
+
+-- so it is whatever is said to it, also behind the answer
+said_stand : (past : List Line) (line : Line) (s : List ℕ) (end : Memory) (asks : Asked) (now : ℕ) (what : Said) → AskedBegins past line s asks → OfEach (HasRisen (line ∷ past)) s end.sessions →
+    OfEach (HasRisen (line ∷ past)) s (answered_by (done_where what end asks now) what).sessions
+said_stand past line s end asks now (said.Done answer) begins all = done_stand past line s end asks now begins all
+said_stand past line s end asks now (said.Fault name) begins all =
+    cond_both (is_spent end) end (drawn_in end) (λ (after : Memory). OfEach (HasRisen (line ∷ past)) s after.sessions) (λ spent. all) (λ left. all)
+said_stand past line s end asks now said.Spent begins all = all
+
+-- what is asked of a session begins none
+managed_begins : (past : List Line) (line : Line) (s : List ℕ) (identifier : Option (List ℕ)) (wanted : Managing) → AskedBegins past line s (manage_asked identifier wanted)
+managed_begins past line s None wanted = tt
+managed_begins past line s (Some identifier) wanted = tt
+
+-- what a request means begins a session so, where the body is a wish
+meant_begins : (past : List Line) (line : Line) (s : List ℕ) (id : MessageId) (identifier : Option (List ℕ)) (asks : Body) → delivered line (state_after past) ≡ Some (sent.Request s id identifier asks) →
+    IsMessageRisen past (sent.Request s id identifier asks) → AskedBegins past line s (meant identifier asks)
+meant_begins past line s id identifier (body.Subscribe wish) delivers is =
+    wish_begins past line s (sent.Request s id identifier (body.Subscribe wish)) wish delivers (refl, refl) is is.is
+meant_begins past line s id identifier (body.Renew expires) delivers is = managed_begins past line s identifier (managing.Renew expires)
+meant_begins past line s id identifier body.GetStatus delivers is = managed_begins past line s identifier managing.GetStatus
+meant_begins past line s id identifier body.Unsubscribe delivers is = managed_begins past line s identifier managing.Unsubscribe
+meant_begins past line s id identifier _ delivers is = tt
+
+-- what a source answers may be anything
+answer_stands : (past : List Line) (line : Line) (now : State) (s : List ℕ) (relates : MessageId) (o : Option (MessageId × Response)) → Stands past line now →
+    Stands past line (with_sent now (option_map (response_message s relates) o))
+answer_stands past line now s relates None stands = stands
+answer_stands past line now s relates (Some r) stands = message_moves past line now (response_message s relates r) stands tt
+
+responds_stand : Lower → (past : List Line) (line : Line) (s : List ℕ) (id : MessageId) (identifier : Option (List ℕ)) (asks : Body) → IsKept (state_after past) → AreAllRisen past →
+    delivered line (state_after past) ≡ Some (sent.Request s id identifier asks) → IsMessageRisen past (sent.Request s id identifier asks) →
+    Stands past line (at_source (state_after past) s (responds_at s id identifier asks))
+responds_stand lower past line s id identifier asks kept all delivers is =
+    at_source_stands lower past line s (responds_at s id identifier asks) kept all (λ now slot end kept_now still stands there runs.
+    let what = request_said identifier asks now.moment end in
+    let done = request_done identifier asks now.moment end in
+    answer_stands past line (with_end now s slot (answered_by done what)) s id (responded done what)
+    (end_moves past line now s slot (answered_by done what) stands
+    (said_stand past line s end (meant identifier asks) now.moment what (meant_begins past line s id identifier asks delivers is)
+    (end_is (HasRisen (line ∷ past)) now s slot end stands.sessions there runs))))
+
+-- ---- ends
+
+-- a source that ends the sessions that collectors began leaves the others where they stood
+shut_stands : Lower → (past : List Line) (line : Line) (s : List ℕ) → IsKept (state_after past) → AreAllRisen past → Stands past line (shut_step (state_after past) s)
+shut_stands lower past line s kept all = at_source_stands lower past line s (shut_at s) kept all (λ now slot end kept_now still stands there runs.
+    let notes = map (sent.Ended s) (end_notes end) in
+    cond_both (is_short end) now (with_messages (with_end now s slot (shut_in end)) notes) (Stands past line) (λ short. stands)
+    (λ enough. messages_move past line (with_end now s slot (shut_in end)) notes
+    (end_moves past line now s slot (shut_in end) stands
+    (all_filtered (OfSession (HasRisen (line ∷ past)) s) is_asked_for end.sessions
+    (end_is (HasRisen (line ∷ past)) now s slot end stands.sessions there runs)))
+    (sent_mapped (sent.Ended s) (IsSentRisen past) (end_notes end) (all_of (λ (note : EndNote). IsSentRisen past (sent.Ended s note)) (end_notes end) (λ note has. tt)))))
 
 -- ---- the collector
 
@@ -454,7 +580,7 @@ asked_stands lower past line s id kept stands was =
     let kept_now = collector_opened_kept lower (state_after past) kept in
     of_declared (slot_of now s) (λ (slot : Slot). WasDrawn slot id.value) (Stands past line (offers_at s id memory now)) (kept_now.messages (sent.Ask s id) was) (λ slot there drawn.
     reply_stands past line now (length (offers now.collector.rows s host) + 1) (sent.Offers s (reply_id memory) id (offers now.collector.rows s host)) stands
-    (all_map (BeginsAtRows now.collector.rows s) (BeginsAt (state_after past) s) (λ offer begins u leads. begins u leads ∙ opened_bookmark (state_after past) u s)
+    (all_map (BeginsAtRows now.collector.rows s) (λ (offer : Offer). BeginsAt (state_after past) s offer.subscribe) (λ offer begins u leads. begins u leads ∙ opened_bookmark (state_after past) u s)
     (offers now.collector.rows s host) (all_begin now.collector.rows s host kept_now.keys (kept_now.sources s slot there).name))))
 
 events_stand : (past : List Line) (line : Line) (s : List ℕ) (delivery : Delivery) → Stands past line (state_after past) → Stands past line (at_collector (state_after past) (events_at s delivery))
@@ -475,6 +601,64 @@ events_stand past line s delivery stands =
         let opened = collecting.with_opened (state_after past) in
         by_fate memory (with_collector opened (commits opened.collector changes)) stands (fate opened.collector.armed changes)
 
+-- the wish of a subscription to a source begins at what is kept of both
+wish_from : (past : List Line) (rows : Rows) (s : List ℕ) (about : Subscription) (wants : Wants) → ((u : List ℕ) → bookmark_of rows u s ≡ bookmark_of (state_after past).collector.rows u s) →
+    IsAskedFor rows s (body_for rows host about s wants) → BodyBeginsAt (state_after past) s (body_for rows host about s wants)
+wish_from past rows s about Subscribes same is = λ u leads.
+    let terms = is.0.terms in
+    let name = same_Some about.name is.0.u terms.identifier_is ∙ same_Some is.0.u u (sym terms.to_subscription ∙ leads) in
+    ap (λ (v : List ℕ). bookmark_of rows v s) name ∙ same u
+wish_from past rows s about (Renews identifier) same is = tt
+wish_from past rows s about (Unsubscribes identifier) same is = tt
+
+-- a world whose open collector asks for what is due
+abbrev due_asked : State → Remembered → Option Due → State
+due_asked now memory due = request_by now memory (option_map (request_for now.collector.rows host (reply_id memory)) due)
+
+due_stands : (past : List Line) (line : Line) (memory : Remembered) (due : Option Due) → Stands past line (state_after past) → IsKept (due_asked (collecting.with_opened (state_after past)) memory due) →
+    Stands past line (due_asked (collecting.with_opened (state_after past)) memory due)
+due_stands past line memory None stands kept = stands
+due_stands past line memory (Some due) stands kept =
+    let now = collecting.with_opened (state_after past) in
+    let m = request_message (request_for now.collector.rows host (reply_id memory) due) in
+    message_moves past line now m stands
+    (wish_from past now.collector.rows due.source.name due.subscription due.wants (λ u. opened_bookmark (state_after past) u due.source.name) (kept.messages m (sent_last now.messages m)))
+
+request_stands : (past : List Line) (line : Line) → Stands past line (state_after past) → IsKept (at_collector (state_after past) request_at) →
+    Stands past line (at_collector (state_after past) request_at)
+request_stands past line stands = at_collector_any (state_after past) request_at (λ (after : State). IsKept after → Stands past line after) (λ kept. stands) (λ memory runs.
+    let now = collecting.with_opened (state_after past) in
+    due_stands past line memory (next_due now.collector.rows memory.waiting now.moment) stands)
+
+-- an answer changes no session and sends nothing
+response_stands : (past : List Line) (line : Line) (relates : MessageId) (answer : Response) → Stands past line (state_after past) →
+    Stands past line (at_collector (state_after past) (response_at relates answer))
+response_stands past line relates answer stands =
+    at_collector_any (state_after past) (response_at relates answer) (Stands past line) stands (λ memory runs.
+    let now = collecting.with_opened (state_after past) in
+    by_effect (response_effect memory relates answer now.moment now.collector.rows))
+  where
+    by_effect : (effect : CollectorEffect) → Stands past line (response_by (collecting.with_opened (state_after past)) relates.value effect)
+    by_effect (Ok changes) = stands
+    by_effect (Err fault) = stands
+
+-- nor does the end of a session, but for a fault that answers it
+note_stands : (past : List Line) (line : Line) (s : List ℕ) (note : EndNote) → Stands past line (state_after past) → Stands past line (at_collector (state_after past) (note_at s note))
+note_stands past line s note stands =
+    at_collector_any (state_after past) (note_at s note) (Stands past line) stands
+    (λ memory runs. by_effect memory (note_effect (collecting.with_opened (state_after past)).collector.rows note))
+  where
+    by_fate : (memory : Remembered) (new : State) → Stands past line new → (how : Fate) → Stands past line (with_answer new (note_answer_by how s (reply_id memory) note.id))
+    by_fate memory new now Done = now
+    by_fate memory new now Failed = reply_stands past line new 1 (sent.Fault s (reply_id memory) note.id InternalError) now tt
+    by_fate memory new now Stopped = now
+
+    by_effect : (memory : Remembered) (effect : Effect FaultName) → Stands past line (note_by (collecting.with_opened (state_after past)) effect s (reply_id memory) note.id)
+    by_effect memory (Err fault) = reply_stands past line (collecting.with_opened (state_after past)) 1 (sent.Fault s (reply_id memory) note.id fault) stands tt
+    by_effect memory (Ok changes) =
+        let opened = collecting.with_opened (state_after past) in
+        by_fate memory (with_collector opened (commits opened.collector changes)) stands (fate opened.collector.armed changes)
+
 -- ---- lines
 
 taken_stands : Lower → (past : List Line) (line : Line) (m : Message) → IsKept (state_after past) → AreAllRisen past → Stands past line (state_after past) →
@@ -484,6 +668,10 @@ taken_stands lower past line (sent.Offers s id relates given) kept all stands de
 taken_stands lower past line (sent.Events s delivery) kept all stands delivers was = events_stand past line s delivery stands
 taken_stands lower past line (sent.Ack s id relates) kept all stands delivers was = ack_stands lower past line s id relates kept all delivers was
 taken_stands lower past line (sent.Fault s id relates fault) kept all stands delivers was = fault_stands lower past line s relates fault kept all
+taken_stands lower past line (sent.Request s id identifier asks) kept all stands delivers was =
+    responds_stand lower past line s id identifier asks kept all delivers (all.sent (sent.Request s id identifier asks) was)
+taken_stands lower past line (sent.Response s id relates answer) kept all stands delivers was = response_stands past line relates answer stands
+taken_stands lower past line (sent.Ended s note) kept all stands delivers was = note_stands past line s note stands
 
 deliver_stands : Lower → (past : List Line) (line : Line) (k : ℕ) → IsKept (state_after past) → AreAllRisen past → Stands past line (state_after past) →
     delivered line (state_after past) ≡ message_at (state_after past) k → Stands past line (deliver_step (state_after past) k)
@@ -522,26 +710,32 @@ calm_stands past line stands = record {
 }
 
 -- what the step of a line leaves, where this line delivers the same
-step_stands : Lower → (past : List Line) (line l : Line) → IsKept (state_after past) → AreAllRisen past → Stands past line (state_after past) →
+step_stands : Lower → (past : List Line) (line l : Line) → IsKept (state_after past) → IsKept (step l (state_after past)) → AreAllRisen past → Stands past line (state_after past) →
     delivered line (state_after past) ≡ delivered l (state_after past) → Stands past line (step l (state_after past))
-step_stands lower past line (Subscribe u items bytes beat query) kept all stands delivers =
+step_stands lower past line (Subscribe u items bytes beat query) kept kept_now all stands delivers =
     at_collector_any (state_after past) (λ memory. subscribe_at (subscription_of u items bytes beat query)) (Stands past line) stands (λ memory runs. stands)
-step_stands lower past line (End u) kept all stands delivers = at_collector_any (state_after past) (λ memory. ended_at u) (Stands past line) stands (λ memory runs. stands)
-step_stands lower past line (Batch u s b) kept all stands delivers = at_collector_any (with_foreign (state_after past) s) (λ memory. batch_at u s b) (Stands past line) stands (λ memory runs. stands)
-step_stands lower past line (Source s capacity) kept all stands delivers = slot_moves past line (state_after past) s (declared_slot capacity) stands tt
-step_stands lower past line (Write s plain) kept all stands delivers = write_stands lower past line s (new_event plain) kept all
-step_stands lower past line (WriteXml s event) kept all stands delivers = write_stands lower past line s event kept all
-step_stands lower past line (Ask s) kept all stands delivers = ask_stands lower past line s kept all
-step_stands lower past line (Poll s u) kept all stands delivers = poll_stands lower past line s u kept all
-step_stands lower past line (Deliver k seen) kept all stands delivers = deliver_stands lower past line k kept all stands delivers
-step_stands lower past line (Back n) kept all stands delivers = deliver_stands lower past line (number_back (state_after past) n) kept all stands delivers
-step_stands lower past line (Lost s u) kept all stands delivers = lost_stands lower past line s u kept all
-step_stands lower past line (Crash end) kept all stands delivers = crash_stands past line end stands
-step_stands lower past line (Fail end after) kept all stands delivers = arm_stands past line end (record { after = after; stops = false }) stands
-step_stands lower past line (Stop end after) kept all stands delivers = arm_stands past line end (record { after = after; stops = true }) stands
-step_stands lower past line Calm kept all stands delivers = calm_stands past line stands
-step_stands lower past line Show kept all stands delivers = at_collector_any (state_after past) (λ memory. unchanged) (Stands past line) stands (λ memory runs. stands)
-step_stands lower past line (Print u s c) kept all stands delivers = at_collector_any (state_after past) (λ memory. unchanged) (Stands past line) stands (λ memory runs. stands)
+step_stands lower past line (SubscribeAt u s items bytes beat expires query) kept kept_now all stands delivers =
+    at_collector_any (state_after past) (λ memory. subscribe_at (begun_subscription u s items bytes beat expires query)) (Stands past line) stands (λ memory runs. stands)
+step_stands lower past line (End u) kept kept_now all stands delivers = at_collector_any (state_after past) (λ memory. ended_at u) (Stands past line) stands (λ memory runs. stands)
+step_stands lower past line (Batch u s b) kept kept_now all stands delivers = at_collector_any (with_foreign (state_after past) s) (λ memory. batch_at u s b) (Stands past line) stands (λ memory runs. stands)
+step_stands lower past line (Source s capacity) kept kept_now all stands delivers = slot_moves past line (state_after past) s (declared_slot capacity) stands tt
+step_stands lower past line (Write s plain) kept kept_now all stands delivers = write_stands lower past line s (new_event plain) kept all
+step_stands lower past line (WriteXml s event) kept kept_now all stands delivers = write_stands lower past line s event kept all
+step_stands lower past line (Ask s) kept kept_now all stands delivers = ask_stands lower past line s kept all
+step_stands lower past line (Poll s u) kept kept_now all stands delivers = poll_stands lower past line s u kept all
+step_stands lower past line (Deliver k seen) kept kept_now all stands delivers = deliver_stands lower past line k kept all stands delivers
+step_stands lower past line (Back n) kept kept_now all stands delivers = deliver_stands lower past line (number_back (state_after past) n) kept all stands delivers
+step_stands lower past line Request kept kept_now all stands delivers = request_stands past line stands kept_now
+step_stands lower past line Forget kept kept_now all stands delivers = at_collector_any (state_after past) forget_at (Stands past line) stands (λ memory runs. stands)
+step_stands lower past line (Lost s u) kept kept_now all stands delivers = lost_stands lower past line s u kept all
+step_stands lower past line (Shut s) kept kept_now all stands delivers = shut_stands lower past line s kept all
+step_stands lower past line (Crash end) kept kept_now all stands delivers = crash_stands past line end stands
+step_stands lower past line (Fail end after) kept kept_now all stands delivers = arm_stands past line end (record { after = after; stops = false }) stands
+step_stands lower past line (Stop end after) kept kept_now all stands delivers = arm_stands past line end (record { after = after; stops = true }) stands
+step_stands lower past line Calm kept kept_now all stands delivers = calm_stands past line stands
+step_stands lower past line Show kept kept_now all stands delivers = at_collector_any (state_after past) (λ memory. unchanged) (Stands past line) stands (λ memory runs. stands)
+step_stands lower past line (Print u s c) kept kept_now all stands delivers = at_collector_any (state_after past) (λ memory. unchanged) (Stands past line) stands (λ memory runs. stands)
+step_stands lower past line (Tick milliseconds) kept kept_now all stands delivers = stands
 
 -- ---- schedules
 
@@ -572,24 +766,23 @@ alone_there state u s positions kept at =
 line_rises : Lower → (past : List Line) (line : Line) → IsKept (state_after past) → IsKept (state_after (line ∷ past)) → AreAllRisen past → AreAllRisen (line ∷ past)
 line_rises lower past line kept kept_now all =
     let old = state_after past in
-    let now = step_stands lower past line line kept all (still_stands past line old all (still_there old)) refl in
+    let now = step_stands lower past line line kept kept_now all (still_stands past line old all (still_there old)) refl in
     record {
       alone = λ u s positions at. alone_there (state_after (line ∷ past)) u s positions kept_now at;
       sessions = λ u s positions at.
-          let P = λ (x : Session). HasRisen (line ∷ past) x.name s x.positions in
           let each = subst (OfMemory (HasRisen (line ∷ past)) s) at.runs (now.sessions s at.slot at.declared) in
-          subst (λ (x : List ℕ × Marks). HasRisen (line ∷ past) x.0 s x.1) (λ i. (at.name i, at.is_there i)) (one_of P at.end.sessions at.session each at.is_one);
+          subst (λ (x : List ℕ × Marks). HasRisen (line ∷ past) x.0 s x.1) (λ i. (at.name i, at.is_there i)) (one_of (OfSession (HasRisen (line ∷ past)) s) at.end.sessions at.session each at.is_one);
       sent = λ m was. elim (sent_either old.messages now.more m (subst (λ (ms : List Message). WasSent ms m) now.longer was)) [
         | inl before ↦ sent_still past line m (all.sent m before)
         | inr last ↦ sent_now past line now.more now.longer m last (now.each m last)
       ];
     }
 
-all_rise : Lower → (past lines : List Line) → IsKept (state_after past) → AreAllRisen past → AreAdmitted (state_after past) lines → AllByRecursion AreAllRisen (pasts_from past lines)
-all_rise lower past [] kept all admitted = (all, tt)
-all_rise lower past (line ∷ lines) kept all admitted =
-    let kept_now = steps_keep lower (state_after past) line kept admitted.0 in
-    (all, all_rise lower (line ∷ past) lines kept_now (line_rises lower past line kept kept_now all) admitted.1)
+all_rise : Lower → (past lines : List Line) → IsHeld (state_after past) → AreAllRisen past → AreAdmitted (state_after past) lines → AllByRecursion AreAllRisen (pasts_from past lines)
+all_rise lower past [] held all admitted = (all, tt)
+all_rise lower past (line ∷ lines) held all admitted =
+    let held_now = steps_keep lower (state_after past) line held admitted.0 in
+    (all, all_rise lower (line ∷ past) lines held_now (line_rises lower past line held.kept held_now.kept all) admitted.1)
 
 start_rises : AreAllRisen []
 start_rises = record {

@@ -1,14 +1,17 @@
--- Where sessions stand: each begins at the bookmark that was kept when its offer was sent, rises by acknowledged batches
--- alone, and sends batches that lie above where it stands. It is said of the lines that were done, the last first, from
+-- Where sessions stand: each begins at the bookmark that was kept when its offer, or the collector's own wish, was sent, rises
+-- by acknowledged batches alone, and sends batches that lie above where it stands. It is said of the lines that were done, the last first, from
 -- a world in which nothing has happened.
 use Rattle.std.specs.Prelude.{◌≡◌, ℕ, ◌<◌, true, List, [], ◌∷◌, ◌++◌, Option, Some, None, ◌⊎◌, Contains}
 use Rattle.std.specs.List.{AllByRecursion, filter}
 use Rattle.wef_batch.specs.declared.items.Batch.{Batch}
 use Rattle.wef_bookmark.specs.Order.{Marks, joined, number_at}
+use Rattle.wef_bodies.specs.declared.bodies.Body.{Body}
+use Rattle.wef_bodies.specs.declared.bodies.Body.TheVariants as body
 use Rattle.wef_collector_rows.specs.Bookmarks.{bookmark_of}
 use Rattle.wef_ids.specs.declared.MessageId.{MessageId}
 use Rattle.wef_eventing.specs.Addresses.{subscription_in}
 use Rattle.wef_eventing.specs.declared.offers.Offer.{Offer}
+use Rattle.wef_eventing.specs.declared.offers.Subscribe.{Subscribe}
 use Rattle.wef_replay.specs.declared.lines.Line.{Line}
 use Rattle.wef_replay.specs.declared.lines.Line.TheVariants.{Deliver, Back}
 use Rattle.wef_building.specs.Fits.{event_at, ranges_in}
@@ -22,7 +25,7 @@ use Rattle.wef_safety.specs.Safe.{WasSent}
 use Rattle.wef_machine.specs.States.{Slot, State, slot_of, start}
 use Rattle.wef_machine.specs.Steps.{AreAdmitted, step}
 use Rattle.wef_machine.specs.declared.messages.Message.{Message}
-use Rattle.wef_machine.specs.declared.messages.Message.TheVariants.{Ask, Offers, Events, Ack, Fault}
+use Rattle.wef_machine.specs.declared.messages.Message.TheVariants.{Ask, Offers, Events, Ack, Fault, Request, Response, Ended}
 
 -- the state that lines leave
 abbrev pub state_after : List Line → State
@@ -64,27 +67,32 @@ pub record StandsAt (state : State) (u s : List ℕ) (positions : Marks) : Type 
 abbrev pub IsAlone : {state : State} {u s : List ℕ} {positions : Marks} → StandsAt state u s positions → Type 0
 IsAlone at = filter (is_named at.session.name) at.end.sessions ≡ at.session ∷ []
 
--- an offer to a source begins at the bookmark that the collector's rows have in a state
-abbrev pub BeginsAt : State → List ℕ → Offer → Type 0
-BeginsAt state s offer = (u : List ℕ) → subscription_in offer.subscribe.notify_to ≡ Some u → offer.subscribe.from ≡ bookmark_of state.collector.rows u s
+-- a wish to a source begins at the bookmark that the collector's rows have in a state
+abbrev pub BeginsAt : State → List ℕ → Subscribe → Type 0
+BeginsAt state s wish = (u : List ℕ) → subscription_in wish.notify_to ≡ Some u → wish.from ≡ bookmark_of state.collector.rows u s
 
--- A line began a session at these positions: it delivered offers, and they are where the subscription's own begins.
+-- A message to a source says a wish: it offers it to the source, or the collector asks the source for it.
+abbrev pub Wishes : List ℕ → Subscribe → Message → Type 0
+Wishes s wish (Offers r id relates offers) = (r ≡ s) × ((offer : Offer) × Contains offers offer × (offer.subscribe ≡ wish))
+Wishes s wish (Request r id identifier asks) = (r ≡ s) × (asks ≡ body.Subscribe wish)
+Wishes s wish _ = ⊥
+
+-- A line began a session at these positions: it delivered a message with a wish of the subscription, and they are where that
+-- begins.
 pub record HasBegun (past : List Line) (line : Line) (u s : List ℕ) (positions : Marks) : Type 0 where
   -- the message that was delivered
-  pub id : MessageId
-  pub relates : MessageId
-  pub offers : List Offer
-  pub delivers : delivered line (state_after past) ≡ Some (Offers s id relates offers)
-  -- its offer of the subscription
-  pub offer : Offer
-  pub is_one : Contains offers offer
-  pub to_subscription : subscription_in offer.subscribe.notify_to ≡ Some u
+  pub message : Message
+  pub delivers : delivered line (state_after past) ≡ Some message
+  -- its wish of the subscription
+  pub wish : Subscribe
+  pub is_one : Wishes s wish message
+  pub to_subscription : subscription_in wish.notify_to ≡ Some u
   -- it begins at the bookmark of the very state in which the message was sent
   pub earlier : List Line
-  pub was_sent : WasSentAt past (Offers s id relates offers) earlier
-  pub from : offer.subscribe.from ≡ bookmark_of (state_after earlier).collector.rows u s
+  pub was_sent : WasSentAt past message earlier
+  pub from : wish.from ≡ bookmark_of (state_after earlier).collector.rows u s
   -- there the session stands
-  pub is_there : (c : List ℕ) → number_at positions c ≡ number_at offer.subscribe.from c
+  pub is_there : (c : List ℕ) → number_at positions c ≡ number_at wish.from c
 
 -- A line raised a session from some positions to others: it delivered the acknowledgement of a batch that the session had
 -- sent, and each channel's position is the greater of its own and that of the batch's bookmark.
@@ -120,13 +128,21 @@ pub record StandsAbove (earlier : List Line) (s : List ℕ) (delivery : Delivery
   pub risen : HasRisen earlier u s positions
   pub above : (c : List ℕ) → IsAbove (number_at positions c) c delivery.batch
 
+-- what the collector asks a source for begins so, where it is a wish
+abbrev pub BodyBeginsAt : State → List ℕ → Body → Type 0
+BodyBeginsAt state s (body.Subscribe wish) = BeginsAt state s wish
+BodyBeginsAt state s _ = Unit {0}
+
 -- what is true of a message, by the lines that were done before it was sent
 abbrev pub IsSentRisen : List Line → Message → Type 0
 IsSentRisen earlier (Ask s id) = Unit {0}
-IsSentRisen earlier (Offers s id relates offers) = AllByRecursion (BeginsAt (state_after earlier) s) offers
+IsSentRisen earlier (Offers s id relates offers) = AllByRecursion (λ (offer : Offer). BeginsAt (state_after earlier) s offer.subscribe) offers
 IsSentRisen earlier (Events s delivery) = StandsAbove earlier s delivery
 IsSentRisen earlier (Ack s id relates) = Unit {0}
 IsSentRisen earlier (Fault s id relates fault) = Unit {0}
+IsSentRisen earlier (Request s id identifier asks) = BodyBeginsAt (state_after earlier) s asks
+IsSentRisen earlier (Response s id relates answer) = Unit {0}
+IsSentRisen earlier (Ended s note) = Unit {0}
 
 -- A message was sent by one of the lines done, and is so by the state in which it was sent.
 pub record IsMessageRisen (past : List Line) (m : Message) : Type 0 where
@@ -146,7 +162,7 @@ pasts_from past [] = past ∷ []
 pasts_from past (line ∷ lines) = past ∷ pasts_from (line ∷ past) lines
 
 -- In every state of a good schedule a source has one session of a name at most, and each session stands where a line began
--- it, at the bookmark that was kept when its offer was sent, or where acknowledged batches have raised it since; and each
+-- it, at the bookmark that was kept when its offer, or the collector's own wish, was sent, or where acknowledged batches have raised it since; and each
 -- batch that was sent lies above where its session stood as it was sent.
 abbrev pub SessionsRise : Type 0
 SessionsRise = (lines : List Line) → AreAdmitted start lines → AllByRecursion AreAllRisen (pasts_from [] lines)

@@ -13,14 +13,14 @@ pub fn acknowledgement()
 {}
 
 /// Whatever a good schedule does, no end draws an id twice: the ids of each source's requests, and those
-/// of the collector's replies, rise in the order in which they were sent, over crashes too.
+/// of the collector's replies and requests, rise in the order in which they were sent, over crashes too.
 pub fn no_id_is_drawn_twice()
     ensures requests { RequestIdsRise }
     ensures replies { ReplyIdsRise }
 {}
 
-/// Each session begins where its offer says, which is the bookmark that was kept when that offer was sent,
-/// and rises by acknowledged batches alone; and each batch that was sent lies above where its session
+/// Each session begins where its offer, or the collector's own wish, says, which is the bookmark that was
+/// kept when that was sent, and rises by acknowledged batches alone; and each batch that was sent lies above where its session
 /// stood then.
 pub fn sessions_rise()
     ensures { SessionsRise }
