@@ -1,22 +1,33 @@
 -- The bytes that a world keeps are those of what they say.
 use Rattle.std.proofs.Common.{◌≡◌, ℕ, List, ap, refl, sym, ◌∙◌, subst, arith}
 use Rattle.std.specs.Prelude.{None, Some}
+use Rattle.wef_base.specs.declared.tree.Charset.TheVariants.{Utf8}
 use Rattle.wef_envelope.specs.Laws.{IsSpelt}
 use Rattle.wef_front.proofs.DeliveriesAreHeard.{deliveries_are_read}
 use Rattle.wef_eventing.specs.declared.offers.Offer.{Offer}
 use Rattle.wef_front.proofs.EnumeratesAreHeard.{enumerates_are_read}
 use Rattle.wef_front.proofs.OffersAreHeard.{offers_are_read}
+use Rattle.wef_collector.specs.declared.responses.Response.{Response}
+use Rattle.wef_front.proofs.EndsAreRead.{ends_are_read}
 use Rattle.wef_front.proofs.RepliesAreHeard.{replies_are_read}
+use Rattle.wef_front_collector.specs.HeardResponses.{response_told}
+use Rattle.wef_front_source.specs.Heard.{Hears}
 use Rattle.wef_front_source.specs.HeardReplies.{offers_told, told}
 use Rattle.wef_front.specs.Replies.{CanBeAnswered, IsKnownReply, offers_bytes, reply_bytes}
 use Rattle.wef_front.specs.Sent.{CanBeAsked, Wish, delivery_in}
-use Rattle.wef_front_source.specs.Sending.{CanBeSent, delivery_bytes, enumerate_bytes}
+use Rattle.wef_front_source.specs.Sending.{CanBeSent, delivery_bytes, end_bytes, enumerate_bytes}
 use Rattle.wef_ids.specs.declared.MessageId.{MessageId}
+use Rattle.wef_requests.proofs.RequestsAreRead.{requests_are_read}
+use Rattle.wef_requests.proofs.ResponsesAreRead.{responses_are_read}
+use Rattle.wef_requests.specs.Answers.{ResponseCanBeSent, response_bytes}
+use Rattle.wef_requests.specs.Requests.{RequestCanBeSent, Requested, meant, requested_bytes}
+use Rattle.wef_source.specs.Serving.{NoteCanBeSent}
 use Rattle.wef_source.specs.declared.messages.Delivery.{Delivery}
+use Rattle.wef_source.specs.declared.messages.EndNote.{EndNote}
 use Rattle.wef_source.specs.declared.messages.Reply.{Reply}
 use Rattle.wef_xml.specs.Good.{IsXmlText}
 use Rattle.wef_machine.specs.States.{host}
-use Rattle.wef_messages.specs.Bytes.{Answered, AreDelivery, AreOffers, AreReply, AreWish, Replied, answered, answered_by, delivery_said, replied, replied_by, said_or_none, wish_or_none, wish_said}
+use Rattle.wef_messages.specs.Bytes.{Answered, AreDelivery, AreNote, AreOffers, AreReply, AreRequest, AreResponse, AreWish, Replied, Responded, answered, answered_by, delivery_said, note_or_none, noted, replied, replied_by, request_or_none, requested, responded, responded_by, said_or_none, wish_or_none, wish_said}
 
 -- ---- wishes for subscriptions
 
@@ -95,3 +106,70 @@ pub kept_told : (bytes : List ℕ) → AreReply bytes → told bytes ≡ Some ((
 kept_told bytes are =
     ap told are.bytes_are ∙ replies_are_read.told are.said.id are.said.relates are.said.reply are.id are.id_text are.relates are.relates_text are.known
     ∙ ap (λ (r : Replied). Some (r.relates, r.reply)) (sym (kept_says bytes are))
+
+-- ---- requests
+
+pub written_request : (request : Requested) (bytes : List ℕ) → RequestCanBeSent request → bytes ≡ requested_bytes request → AreRequest bytes
+written_request request bytes can written = record { said = request; can_be_sent = can; bytes_are = written }
+
+-- they say what was written
+pub request_says : (request : Requested) (bytes : List ℕ) → RequestCanBeSent request → bytes ≡ requested_bytes request → requested bytes ≡ request
+request_says request bytes can written = ap requested written ∙ ap request_or_none (requests_are_read.request 0 request can)
+
+request_is : (bytes : List ℕ) (are : AreRequest bytes) → requested bytes ≡ are.said
+request_is bytes are = request_says are.said bytes are.can_be_sent are.bytes_are
+
+pub kept_request : (bytes : List ℕ) → AreRequest bytes → bytes ≡ requested_bytes (requested bytes)
+kept_request bytes are = are.bytes_are ∙ ap requested_bytes (sym (request_is bytes are))
+
+pub kept_request_can_be_sent : (bytes : List ℕ) → AreRequest bytes → RequestCanBeSent (requested bytes)
+kept_request_can_be_sent bytes are = subst RequestCanBeSent (sym (request_is bytes are)) are.can_be_sent
+
+-- a source hears what they mean
+pub kept_heard :
+    (bytes : List ℕ) → AreRequest bytes → (now : ℕ) →
+    Hears now Utf8 bytes (record { relates = Some (requested bytes).id; asked = meant (requested bytes).identifier (requested bytes).body })
+kept_heard bytes are now =
+    subst (λ (written : List ℕ). Hears now Utf8 written (record { relates = Some (requested bytes).id; asked = meant (requested bytes).identifier (requested bytes).body }))
+    (sym (kept_request bytes are)) (requests_are_read.heard now (requested bytes) (kept_request_can_be_sent bytes are))
+
+-- ---- the answers to them
+
+-- the bytes of an answer to a request say it
+pub responded_is : (id relates : MessageId) (answer : Response) → ResponseCanBeSent id relates answer → responded (response_bytes id relates answer) ≡ record { id = id; relates = relates; answer = answer }
+responded_is id relates answer can = λ i. responded_by (responses_are_read.id id relates answer can i) (responses_are_read.told 0 id relates answer can i)
+
+response_says : (bytes : List ℕ) (are : AreResponse bytes) → responded bytes ≡ are.said
+response_says bytes are = ap responded are.bytes_are ∙ responded_is are.said.id are.said.relates are.said.answer are.can_be_sent
+
+pub kept_response : (bytes : List ℕ) → AreResponse bytes → bytes ≡ response_bytes (responded bytes).id (responded bytes).relates (responded bytes).answer
+kept_response bytes are = are.bytes_are ∙ ap (λ (r : Responded). response_bytes r.id r.relates r.answer) (sym (response_says bytes are))
+
+pub kept_response_told : (bytes : List ℕ) → AreResponse bytes → (now : ℕ) → response_told now bytes ≡ Some ((responded bytes).relates, (responded bytes).answer)
+kept_response_told bytes are now =
+    ap (response_told now) are.bytes_are ∙ responses_are_read.told now are.said.id are.said.relates are.said.answer are.can_be_sent
+    ∙ ap (λ (r : Responded). Some (r.relates, r.answer)) (sym (response_says bytes are))
+
+-- ---- notes of the ends of sessions
+
+pub written_note : (note : EndNote) (address bytes : List ℕ) → NoteCanBeSent note → IsSpelt note.id → address ≡ note.end_to → bytes ≡ end_bytes note → AreNote address bytes
+written_note note address bytes can spelt to written = record { note = note; can_be_sent = can; spelt = spelt; address_is = to; bytes_are = written }
+
+-- they say what was written
+pub note_says : (note : EndNote) (bytes : List ℕ) → NoteCanBeSent note → IsSpelt note.id → bytes ≡ end_bytes note → noted bytes ≡ note
+note_says note bytes can spelt written = ap noted written ∙ ap note_or_none (ends_are_read.note 0 note can spelt)
+
+note_is : (address bytes : List ℕ) (are : AreNote address bytes) → noted bytes ≡ are.note
+note_is address bytes are = note_says are.note bytes are.can_be_sent are.spelt are.bytes_are
+
+pub kept_end_to : (address bytes : List ℕ) → AreNote address bytes → address ≡ (noted bytes).end_to
+kept_end_to address bytes are = are.address_is ∙ ap (λ (n : EndNote). n.end_to) (sym (note_is address bytes are))
+
+pub kept_note : (address bytes : List ℕ) → AreNote address bytes → bytes ≡ end_bytes (noted bytes)
+kept_note address bytes are = are.bytes_are ∙ ap end_bytes (sym (note_is address bytes are))
+
+pub kept_note_can_be_sent : (address bytes : List ℕ) → AreNote address bytes → NoteCanBeSent (noted bytes)
+kept_note_can_be_sent address bytes are = subst NoteCanBeSent (sym (note_is address bytes are)) are.can_be_sent
+
+pub kept_note_spelt : (address bytes : List ℕ) → AreNote address bytes → IsSpelt (noted bytes).id
+kept_note_spelt address bytes are = subst (λ (n : EndNote). IsSpelt n.id) (sym (note_is address bytes are)) are.spelt

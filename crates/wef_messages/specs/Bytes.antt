@@ -1,15 +1,27 @@
--- What bytes say that a world keeps: a wish for subscriptions, offers, a delivery to an address, or a reply to one.
+-- What bytes say that a world keeps: a wish for subscriptions, offers, a delivery to an address, or a reply to one; a request, the
+-- answer to one, or a note of the end of a session.
 use Rattle.std.specs.Prelude.{◌≡◌, ℕ, List, [], Option, Some, None, false}
+use Rattle.wef_bodies.specs.declared.bodies.Body.TheVariants.{Unsubscribe}
+use Rattle.wef_collector.specs.declared.responses.Response.{Response}
+use Rattle.wef_collector.specs.declared.responses.Response.TheVariants as response
 use Rattle.wef_eventing.specs.declared.offers.Offer.{Offer}
+use Rattle.wef_eventing.specs.declared.subscriptions.EndStatus.TheVariants.{SourceCanceling}
+use Rattle.wef_front_collector.specs.HeardResponses as responses
+use Rattle.wef_front_collector.specs.HeardResponses.{response_told}
 use Rattle.wef_machine.specs.States.{host}
 use Rattle.std.specs.FinMap as map
 use Rattle.wef_envelope.specs.Laws.{IsSpelt}
 use Rattle.wef_front_source.specs.HeardReplies.{Offered, Told, id_told, offers_told, told}
+use Rattle.wef_front.specs.Ends.{note_in}
 use Rattle.wef_front.specs.Replies.{CanBeAnswered, IsKnownReply, offers_bytes, reply_bytes}
 use Rattle.wef_front.specs.Sent.{CanBeAsked, Wish, delivery_in, wish_in}
-use Rattle.wef_front_source.specs.Sending.{CanBeSent, delivery_bytes, enumerate_bytes}
+use Rattle.wef_front_source.specs.Sending.{CanBeSent, delivery_bytes, end_bytes, enumerate_bytes}
 use Rattle.wef_ids.specs.declared.MessageId.{MessageId}
+use Rattle.wef_requests.specs.Answers.{ResponseCanBeSent, response_bytes}
+use Rattle.wef_requests.specs.Requests.{RequestCanBeSent, Requested, request_in, requested_bytes}
+use Rattle.wef_source.specs.Serving.{NoteCanBeSent}
 use Rattle.wef_source.specs.declared.messages.Delivery.{Delivery}
+use Rattle.wef_source.specs.declared.messages.EndNote.{EndNote}
 use Rattle.wef_source.specs.declared.messages.Reply as answer
 use Rattle.wef_source.specs.declared.messages.Reply.TheVariants as answers
 use Rattle.wef_xml.specs.Good.{IsXmlText}
@@ -110,3 +122,74 @@ pub record AreReply (bytes : List ℕ) : Type 0 where
   pub relates_text : IsXmlText said.relates.text
   pub known : IsKnownReply said.reply
   pub bytes_are : bytes ≡ reply_bytes said.id said.relates said.reply
+
+-- ---- requests
+
+-- what is made of bytes that are no request: none with such bytes is kept
+abbrev pub no_request : Requested
+no_request = record { to = []; id = no_id; identifier = None; body = Unsubscribe }
+
+-- what bytes say, where they say a request
+abbrev pub request_or_none : Option Requested → Requested
+request_or_none None = no_request
+request_or_none (Some request) = request
+
+-- the request that bytes are; none that is kept says a moment
+abbrev pub requested : List ℕ → Requested
+requested bytes = request_or_none (request_in 0 bytes)
+
+-- Bytes are those of a request.
+pub record AreRequest (bytes : List ℕ) : Type 0 where
+  pub said : Requested
+  pub can_be_sent : RequestCanBeSent said
+  pub bytes_are : bytes ≡ requested_bytes said
+
+-- ---- the answers to them
+
+-- What the answer to a request says: its id, that of the message that it answers, and how it answers that.
+pub record Responded : Type 0 where
+  pub id : MessageId
+  pub relates : MessageId
+  pub answer : Response
+
+-- what is made of bytes that are no such answer: none with such bytes is kept
+abbrev pub no_response : Responded
+no_response = record { id = no_id; relates = no_id; answer = response.Unsubscribed }
+
+-- what bytes say, where they have an id and tell such an answer
+abbrev pub responded_by : Option MessageId → Option responses.Told → Responded
+responded_by (Some id) (Some said) = record { id = id; relates = said.0; answer = said.1 }
+responded_by _ _ = no_response
+
+-- the answer to a request that bytes are; none that is kept says a moment
+abbrev pub responded : List ℕ → Responded
+responded bytes = responded_by (id_told bytes) (response_told 0 bytes)
+
+-- Bytes are those of an answer to a request.
+pub record AreResponse (bytes : List ℕ) : Type 0 where
+  pub said : Responded
+  pub can_be_sent : ResponseCanBeSent said.id said.relates said.answer
+  pub bytes_are : bytes ≡ response_bytes said.id said.relates said.answer
+
+-- ---- notes of the ends of sessions
+
+-- what is made of bytes that are no note: none with such bytes is kept
+abbrev pub no_note : EndNote
+no_note = record { id = no_id; end_to = []; identifier = []; status = SourceCanceling }
+
+-- what bytes say, where they say a note
+abbrev pub note_or_none : Option EndNote → EndNote
+note_or_none None = no_note
+note_or_none (Some note) = note
+
+-- the note that bytes are; none says a moment
+abbrev pub noted : List ℕ → EndNote
+noted bytes = note_or_none (note_in 0 bytes)
+
+-- Bytes are those of a note to an address, whose id is that of its text.
+pub record AreNote (address bytes : List ℕ) : Type 0 where
+  pub note : EndNote
+  pub can_be_sent : NoteCanBeSent note
+  pub spelt : IsSpelt note.id
+  pub address_is : address ≡ note.end_to
+  pub bytes_are : bytes ≡ end_bytes note

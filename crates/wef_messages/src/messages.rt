@@ -1,23 +1,33 @@
 //! Messages as a world keeps them: each is its bytes, and no value beside them.
 
 ghost use Rattle.std.specs.Prelude.{◌≡◌, ◌++◌, ℕ, None, Some, IfOk, OnOk};
+ghost use Rattle.wef_base.specs.declared.tree.Charset.TheVariants.{Utf8};
+ghost use Rattle.wef_collector.specs.Asking.{CanBeRequested};
+ghost use Rattle.wef_envelope.specs.Laws.{IsSpelt};
 ghost use Rattle.wef_eventing.specs.Addresses.{IsHost};
+ghost use Rattle.wef_front_collector.specs.HeardResponses.{response_told};
+ghost use Rattle.wef_front_source.specs.Heard.{Hears};
 ghost use Rattle.wef_front_source.specs.HeardReplies.{offers_told, told};
 ghost use Rattle.wef_front.specs.Replies.{offers_bytes, reply_bytes};
 ghost use Rattle.wef_front.specs.Sent.{CanBeAsked};
-ghost use Rattle.wef_front_source.specs.Sending.{CanBeSent, delivery_bytes, enumerate_bytes};
+ghost use Rattle.wef_front_source.specs.Sending.{CanBeSent, delivery_bytes, end_bytes, enumerate_bytes};
 ghost use Rattle.wef_machine.specs.Seen as texts;
 ghost use Rattle.wef_machine.specs.States as states;
-ghost use Rattle.wef_messages.specs.Bytes.{AreOffers, AreReply, answered, replied};
+ghost use Rattle.wef_messages.specs.Bytes.{AreOffers, AreReply, AreResponse, answered, replied, responded};
 ghost use Rattle.wef_messages.specs.Messages.{IsOf, message_of};
+ghost use Rattle.wef_requests.specs.Answers.{response_bytes};
+ghost use Rattle.wef_requests.specs.Requests.{IsAsking, IsPlainRequest, RequestCanBeSent, meant, requested_bytes, requested_of};
+ghost use Rattle.wef_source.specs.Serving.{NoteCanBeSent};
 
 use std::alloc::{AllocError, Global};
 use std::marker::Model;
 use wef_base::{Bytes, SourceName, Text};
-use wef_front::{write_delivery, write_enumerate};
+use wef_collector::Request;
+use wef_front::{write_delivery, write_end, write_enumerate};
 use wef_ids::MessageId;
 use wef_machine::Message;
-use wef_source::{Delivery, Reply};
+use wef_requests::write_request;
+use wef_source::{Delivery, EndNote, Reply};
 
 /// Where sources find the collector.
 const HOST: &str = "collector:5985";
@@ -200,6 +210,139 @@ impl ReplyBytes {
     }
 }
 
+/// A request of the collector as its bytes.
+#[derive(Drop)]
+pub struct RequestBytes {
+    bytes: Bytes,
+}
+
+impl Model for RequestBytes {
+    ghost use Rattle.wef_messages.specs.Bytes.{AreRequest, requested};
+    ghost use Rattle.wef_messages.specs.Codes.{coded_requested};
+    ghost use Rattle.wef_requests.specs.Requests.{Requested};
+
+    ghost Value = { Requested };
+
+    ghost coded = { coded_requested };
+
+    ghost view = { λ r. requested r.bytes };
+
+    ghost invariant = { λ r. AreRequest r.bytes };
+}
+
+impl RequestBytes {
+    /// Writes a request of the collector.
+    #[tactic(auto, using(crate::proofs::Said::written_request, wef_requests::proofs::RequestsAreHeard::can_be_sent))]
+    pub fn of(alloc: Global, request: &Request) -> Result<RequestBytes, AllocError>
+        requires written { CanBeRequested request.now }
+        requires plain { IsPlainRequest request.now }
+        requires asks { IsAsking request.now.body }
+        ensures { IfOk result (λ sent. sent ≡ requested_of request.now) }
+    {
+        Ok(RequestBytes {
+            bytes: write_request(alloc, request)?,
+        })
+    }
+
+    /// Its bytes, in UTF-8.
+    pub fn bytes(&self) -> &Bytes
+        ensures value { result.now ≡ requested_bytes self.now }
+        ensures sent { RequestCanBeSent self.now }
+        ensures heard { (now : ℕ) → Hears now Utf8 result.now (record { relates = Some self.now.id; asked = meant self.now.identifier self.now.body }) }
+    {
+        &self.bytes
+    }
+}
+
+/// A source's answer to a request as its bytes.
+#[derive(Drop)]
+pub struct ResponseBytes {
+    bytes: Bytes,
+}
+
+impl Model for ResponseBytes {
+    ghost use Rattle.wef_messages.specs.Bytes.{AreResponse, Responded, responded};
+    ghost use Rattle.wef_messages.specs.Codes.{coded_responded};
+
+    ghost Value = { Responded };
+
+    ghost coded = { coded_responded };
+
+    ghost view = { λ r. responded r.bytes };
+
+    ghost invariant = { λ r. AreResponse r.bytes };
+}
+
+impl ResponseBytes {
+    /// The answer to a request that bytes are.
+    pub fn of(bytes: Bytes) -> ResponseBytes
+        requires { AreResponse bytes }
+        ensures { result ≡ responded bytes }
+    {
+        ResponseBytes { bytes }
+    }
+
+    /// Its bytes, in UTF-8.
+    pub fn bytes(&self) -> &Bytes
+        ensures value { result.now ≡ response_bytes self.now.id self.now.relates self.now.answer }
+        ensures told { (now : ℕ) → response_told now result.now ≡ Some (self.now.relates, self.now.answer) }
+    {
+        &self.bytes
+    }
+}
+
+/// A note of the end of a session as its bytes, and the address that they go to.
+#[derive(Drop)]
+pub struct NoteBytes {
+    address: Text,
+    bytes: Bytes,
+}
+
+impl Model for NoteBytes {
+    ghost use Rattle.wef_source.specs.contracts.messages.EndNote as note;
+    ghost use Rattle.wef_source.specs.declared.messages.EndNote.{EndNote};
+    ghost use Rattle.wef_messages.specs.Bytes.{AreNote, noted};
+
+    ghost Value = { EndNote };
+
+    ghost coded = { note.the_row.coded };
+
+    ghost view = { λ n. noted n.bytes };
+
+    ghost invariant = { λ n. AreNote n.address n.bytes };
+}
+
+impl NoteBytes {
+    /// Writes a note.
+    #[tactic(auto, using(crate::proofs::Said::written_note, crate::proofs::Said::note_says))]
+    pub fn of(alloc: Global, note: &EndNote) -> Result<NoteBytes, AllocError>
+        requires written { NoteCanBeSent note.now }
+        requires spelt { IsSpelt note.now.id }
+        ensures { IfOk result (λ sent. sent ≡ note.now) }
+    {
+        Ok(NoteBytes {
+            address: note.end_to.clone()?,
+            bytes: write_end(alloc, note)?,
+        })
+    }
+
+    /// Where it goes.
+    pub fn address(&self) -> &Text
+        ensures { result.now ≡ self.now.end_to }
+    {
+        &self.address
+    }
+
+    /// Its bytes, in UTF-8.
+    pub fn bytes(&self) -> &Bytes
+        ensures value { result.now ≡ end_bytes self.now }
+        ensures sent { NoteCanBeSent self.now }
+        ensures spelt { IsSpelt self.now.id }
+    {
+        &self.bytes
+    }
+}
+
 /// What a message says.
 pub enum Content {
     /// The source asks for its subscriptions.
@@ -213,13 +356,28 @@ pub enum Content {
 
     /// The collector's answer to a batch.
     Reply(ReplyBytes),
+
+    /// The collector asks the source to begin to send, to go on or to end.
+    Request(RequestBytes),
+
+    /// The source's answer to a request.
+    Response(ResponseBytes),
+
+    /// The source tells that a session ended which the collector began.
+    Ended(NoteBytes),
 }
 
 /// One call for whoever lets a message go, whatever it holds.
 impl Drop for Content {
     fn drop(self) {
         match self {
-            Content::Ask(_) | Content::Offers(_) | Content::Delivery(_) | Content::Reply(_) => {}
+            Content::Ask(_)
+            | Content::Offers(_)
+            | Content::Delivery(_)
+            | Content::Reply(_)
+            | Content::Request(_)
+            | Content::Response(_)
+            | Content::Ended(_) => {}
         }
     }
 }
@@ -246,7 +404,7 @@ impl Model for Sent {
 }
 
 impl Sent {
-    /// A message of a source, or for it. An ask must be the source's own.
+    /// A message of a source, or for it. An ask must be the source's own, and a request go to where the source is.
     pub fn of(source: SourceName, content: Content) -> Sent
         requires { IsOf source content }
         ensures { result ≡ message_of source content }
@@ -271,6 +429,9 @@ impl Sent {
             Content::Offers(offers) => Ok(text.extend(offers.bytes().as_slice())?),
             Content::Delivery(delivery) => Ok(text.extend(delivery.bytes().as_slice())?),
             Content::Reply(reply) => Ok(text.extend(reply.bytes().as_slice())?),
+            Content::Request(request) => Ok(text.extend(request.bytes().as_slice())?),
+            Content::Response(response) => Ok(text.extend(response.bytes().as_slice())?),
+            Content::Ended(note) => Ok(text.extend(note.bytes().as_slice())?),
         }
     }
 }

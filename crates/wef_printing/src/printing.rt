@@ -114,18 +114,25 @@ pub fn sent_ask_line(number: u64, source: &SourceName) -> Result<Text, AllocErro
     Ok(text)
 }
 
-/// A batch that was sent.
-#[tactic(auto, unfolding(wef_machine::specs::Printed::sent_events_line))]
-pub fn sent_events_line(number: u64, source: &SourceName, sub: &SubId) -> Result<Text, AllocError>
-    ensures { IfOk result (λ text. text ≡ spec.sent_events_line number source.now sub.now) }
+/// A message about a subscription that was sent, and the word for what it is.
+#[tactic(auto, unfolding(wef_machine::specs::Printed::sent_line))]
+pub fn sent_line(
+    number: u64,
+    word: &str,
+    source: &SourceName,
+    sub: &Text,
+) -> Result<Text, AllocError>
+    ensures { IfOk result (λ text. text ≡ spec.sent_line number word.now source.now sub.now) }
 {
     let mut text = Text::new(source.as_text().alloc());
     text.push_str("sent ")?;
     text.push_number(number)?;
-    text.push_str(" events ")?;
+    text.push_str(" ")?;
+    text.push_str(word)?;
+    text.push_str(" ")?;
     text.push_printed(source.as_text())?;
     text.push_str(" ")?;
-    text.push_printed(sub.as_text())?;
+    text.push_printed(sub)?;
     text.push_str("\n")?;
     Ok(text)
 }
