@@ -3,7 +3,8 @@ pub mod CollectorCalls
 pub mod Heard
 pub mod Lent
 pub mod Opened
-pub mod Settled
+pub mod Responses
 pub mod Restarted
+pub mod Settled
 pub mod Windowed
 pub mod Written

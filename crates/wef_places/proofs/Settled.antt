@@ -1,5 +1,6 @@
 -- What a call of an end that runs leaves of it, once what was armed is settled: what the machine says of a call.
 use Rattle.std.proofs.Common.{◌≡◌, Bool, true, false, ◌&&◌, List, [], ◌∷◌, cond, refl, ap, sym, ◌∙◌, subst, if◌then◌else◌}
+use Rattle.std.proofs.lemmas.Option.{none-some, same_Some}
 use Rattle.std.specs.Prelude.{Option, Some, None, Result, Ok, Err, is_some, not}
 use Rattle.wef_keeper.specs.Access.{is_planned, plan_with}
 use Rattle.wef_keeper.specs.Calls.{AnswersFault, Effect, FaultByPlan, IsCall, Makes, OfStore, WhereMade}
@@ -164,6 +165,11 @@ module _ {E M T F : Type 0} (keeper : E → MemKeeper) (memory : E → M) (of_st
       by (Some store.NoMemory) answer planned settles = absurd settles
       by (Some store.Failed) answer planned settles = failed_leaves (effect (keeper end).rows) (value (keeper end).rows) fault called told (planned formed) settles
       by None answer planned settles = refused_leaves (effect (keeper end).rows) (value (keeper end).rows) fault called answer settles
+
+-- the place of an end that runs
+pub running_place : {E : Type 0} (place : Place E) (end : E) → Some end ≡ end_in place → place ≡ Running end
+running_place (Running own) end there = ap Running (sym (same_Some end own there))
+running_place (Closed own) end there = absurd (none-some end (sym there))
 
 -- an end that runs in its place
 pub leaves : {E M T F : Type 0} (keeper : E → MemKeeper) (memory : E → M) (of_store : OfStore F) (AreFormed : Rows → Type 0) (effect : Rows → Effect F) (value : Rows → T) (placed : Placed E) (end end' : E) (answer : Result T F) (left : Placed E)

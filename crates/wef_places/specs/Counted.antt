@@ -1,5 +1,5 @@
 -- How often a line asks the ends to answer bytes, or to hear them.
-use Rattle.std.specs.Prelude.{ℕ, Bool, false, is_some, Option, Some, None, if◌then◌else◌}
+use Rattle.std.specs.Prelude.{ℕ, zero, suc, Bool, false, is_some, Option, Some, None, if◌then◌else◌}
 use Rattle.wef_keeper.specs.Keeping.{raised}
 use Rattle.wef_machine.specs.Collecting.{collector_opened}
 use Rattle.wef_machine.specs.Deliveries.{message_at, number_back}
@@ -11,9 +11,14 @@ use Rattle.wef_machine.specs.declared.messages.Message.TheVariants as sent
 use Rattle.wef_replay.specs.declared.lines.Line.{Line}
 use Rattle.wef_replay.specs.declared.lines.Line.TheVariants.{Deliver, Back}
 
--- the count of such calls after a line that makes one, or none
-abbrev pub counted : Bool → ℕ → ℕ
-counted calls count = if calls then raised count else count
+-- the count of such calls after so many more
+abbrev pub counted : ℕ → ℕ → ℕ
+counted zero count = count
+counted (suc more) count = raised (counted more count)
+
+-- one call where an end is open, or none
+abbrev pub once : Bool → ℕ
+once calls = if calls then 1 else 0
 
 -- whether an end runs
 abbrev pub is_open : {M : Type 0} → Place M → Bool
@@ -32,13 +37,16 @@ is_heard state (Some (sent.Offers s id relates given)) = is_open_at (slot_of sta
 is_heard state (Some (sent.Events s delivery)) = is_open (collector_opened state.collector)
 is_heard state (Some (sent.Ack s id relates)) = is_open_at (slot_of state s)
 is_heard state (Some (sent.Fault s id relates fault)) = is_open_at (slot_of state s)
+is_heard state (Some (sent.Request s id identifier body)) = is_open_at (slot_of state s)
+is_heard state (Some (sent.Response s id relates answer)) = is_open (collector_opened state.collector)
+is_heard state (Some (sent.Ended s note)) = is_open (collector_opened state.collector)
 
 -- the same of the message of a number
 abbrev pub is_heard_at : State → ℕ → Bool
 is_heard_at state k = is_heard state (message_at state k)
 
--- whether a line delivers such a message
-abbrev pub hears_by : Line → State → Bool
-hears_by (Deliver k seen) state = is_heard_at state k
-hears_by (Back n) state = is_heard_at state (number_back state n)
-hears_by line state = false
+-- how many calls a line makes: one where it delivers such a message
+abbrev pub hears_by : Line → State → ℕ
+hears_by (Deliver k seen) state = once (is_heard_at state k)
+hears_by (Back n) state = once (is_heard_at state (number_back state n))
+hears_by line state = 0

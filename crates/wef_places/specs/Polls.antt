@@ -4,7 +4,7 @@ use Rattle.wef_front.specs.Sent.{CanBeAsked}
 use Rattle.wef_front_source.specs.Sending.{CanBeSent}
 use Rattle.wef_ids.specs.declared.MessageId.{MessageId}
 use Rattle.wef_lines.specs.Printed.{name_line}
-use Rattle.wef_machine.specs.Printed.{fate_line, pair_line, sent_ask_line, sent_events_line}
+use Rattle.wef_machine.specs.Printed.{fate_line, pair_line, sent_ask_line, sent_line}
 use Rattle.wef_machine.specs.States.{State, with_message}
 use Rattle.wef_machine.specs.declared.messages.Message.TheVariants.{Ask, Events}
 use Rattle.wef_places.specs.declared.places.Used.{Used}
@@ -36,7 +36,7 @@ polled_line s u n (Answered Unknown) = pair_line (codes "unknown") s u
 polled_line s u n (Answered Expired) = pair_line (codes "expired") s u
 polled_line s u n (Answered Nothing) = pair_line (codes "nothing") s u
 polled_line s u n (Answered Spent) = name_line (codes "spent") s
-polled_line s u n (Answered (Sent delivery)) = sent_events_line n s u
+polled_line s u n (Answered (Sent delivery)) = sent_line n (codes "events") s u
 
 -- an ask that a source sends can be written
 abbrev pub CanBeAskedAs : List ℕ → Used (Option MessageId) → Type 0

@@ -1,6 +1,7 @@
 -- What using a declared source does to it and answers. It is opened first.
-use Rattle.std.specs.Prelude.{◌≡◌, ℕ, ◌+◌, Bool, true, false, List, [], length, is_some, Option, Some, None, Ok, Err, codes, if◌then◌else◌}
+use Rattle.std.specs.Prelude.{◌≡◌, ℕ, ◌+◌, Bool, true, false, List, [], length, is_some, Option, Some, None, Ok, Err, codes}
 use Rattle.std.specs.FinMap as map
+use Rattle.std.specs.List.{AllByRecursion}
 use Rattle.wef_ids.specs.IdTexts.{id_of_value}
 use Rattle.wef_ids.specs.declared.MessageId.{MessageId}
 use Rattle.wef_event.specs.Events.{Event}
@@ -9,12 +10,13 @@ use Rattle.wef_front_source.specs.HeardReplies.{Offered, Told}
 use Rattle.wef_front_source.specs.declared.listening.Hears as the_hears
 use Rattle.wef_front_source.specs.declared.listening.Hears.TheVariants as hears
 use Rattle.wef_keeper.specs.Calls.{Effect}
-use Rattle.wef_source.specs.Answers.{waiting_for}
 use Rattle.wef_source.specs.Calls as source
-use Rattle.wef_source.specs.Machine.{End, asked, delivery_of, is_idle, is_spent, next_id, sent}
+use Rattle.wef_source.specs.Machine.{End, asked, delivery_of, end_notes, is_idle, is_spent, next_id, sent, shut_in}
+use Rattle.wef_source.specs.Serving.{NoteCanBeSent}
 use Rattle.wef_source.specs.Sessions.{has_expired, session_of}
 use Rattle.wef_building.specs.declared.faults.SourceFault as the_fault
 use Rattle.wef_building.specs.declared.faults.SourceFault.TheVariants as faults
+use Rattle.wef_source.specs.declared.messages.EndNote.{EndNote}
 use Rattle.wef_source.specs.declared.messages.Reply.{Reply}
 use Rattle.wef_source.specs.declared.messages.Reply.TheVariants as replies
 use Rattle.wef_building.specs.declared.sessions.Session.{Session}
@@ -23,9 +25,10 @@ use Rattle.wef_source_log.specs.Forms.{AreFormed}
 use Rattle.wef_source_log.specs.Histories.{extended, history}
 use Rattle.wef_source_log.specs.LogWindow.{IsWindow, boot_of}
 use Rattle.wef_source_log.specs.declared.faults.LogFault.{LogFault}
-use Rattle.wef_machine.specs.Deliveries.{after_ack, after_fault, after_offers, offers_word}
+use Rattle.wef_machine.specs.Deliveries.{ack_heard, after_ack, after_fault, after_offers, fault_heard, heard_word, offers_heard}
+use Rattle.wef_machine.specs.Leasing.{is_short}
 use Rattle.wef_machine.specs.Places.{remembering}
-use Rattle.wef_machine.specs.Printed.{adopted_word, fate_line, fate_word, pair_line, wrote_line}
+use Rattle.wef_machine.specs.Printed.{fate_line, fate_word, pair_line, wrote_line}
 use Rattle.wef_machine.specs.Sources.{slot_opened, slot_opening, slot_written}
 use Rattle.wef_machine.specs.States.{Slot, Slots, slot_with}
 use Rattle.wef_machine.specs.declared.arming.Fate.{Fate}
@@ -132,22 +135,10 @@ abbrev pub after_reply : End → MessageId → Reply → End
 after_reply end relates replies.Ack = after_ack end relates
 after_reply end relates (replies.Fault fault) = after_fault end relates fault
 
--- the word for what a source heard
-abbrev pub heard_word : the_hears.Hears → List ℕ
-heard_word (hears.Adopted count) = adopted_word count
-heard_word hears.Moved = codes "moved"
-heard_word hears.Refused = codes "refused"
-heard_word hears.NotAsked = codes "not-asked"
-heard_word hears.Unreadable = codes "not-asked"
-
--- the word for an answer that a session waited for, or that none did
-abbrev pub waited_word : Bool → Reply → List ℕ
-waited_word waits replies.Ack = if waits then codes "moved" else codes "not-asked"
-waited_word waits (replies.Fault fault) = if waits then codes "refused" else codes "not-asked"
-
--- the word for an answer to a request
-abbrev pub reply_word : End → MessageId → Reply → List ℕ
-reply_word end relates reply = waited_word (is_some (waiting_for end relates.value)) reply
+-- and what it hears in it
+abbrev pub reply_heard : End → MessageId → Reply → the_hears.Hears
+reply_heard end relates replies.Ack = ack_heard end relates
+reply_heard end relates (replies.Fault fault) = fault_heard end relates
 
 -- what a source is after what bytes tell it at a moment: an answer to a delivery, or else offers
 abbrev pub after_told : Option Told → Option Offered → ℕ → End → End
@@ -155,15 +146,32 @@ after_told (Some reply) offered now end = after_reply end reply.0 reply.1
 after_told None (Some offered) now end = after_offers end offered.0 offered.1 now
 after_told None None now end = end
 
+-- and what it hears in them
+abbrev pub told_heard : Option Told → Option Offered → ℕ → End → the_hears.Hears
+told_heard (Some reply) offered now end = reply_heard end reply.0 reply.1
+told_heard None (Some offered) now end = offers_heard end offered.0 offered.1 now
+told_heard None None now end = hears.Unreadable
+
 -- the word for that
 abbrev pub told_word : Option Told → Option Offered → ℕ → End → List ℕ
-told_word (Some reply) offered now end = reply_word end reply.0 reply.1
-told_word None (Some offered) now end = offers_word end offered.0 offered.1 now
-told_word None None now end = codes "not-asked"
+told_word told offered now end = heard_word (told_heard told offered now end)
 
 -- a source hears what it is told
 abbrev pub HearsAs : Slot → Option Told → Option Offered → ℕ → Used the_hears.Hears → Type 0
-HearsAs slot told offered now = AnswersAs slot (λ end hears. heard_word hears ≡ told_word told offered now end)
+HearsAs slot told offered now = AnswersAs slot (λ end hears. hears ≡ told_heard told offered now end)
+
+-- A source that ends the sessions which collectors began.
+abbrev pub ShutsBy : Slot → Slot → End → Option (List EndNote) → Type 0
+ShutsBy slot slot' end None = (is_short end ≡ true) × (slot' ≡ slot)
+ShutsBy slot slot' end (Some notes) = (is_short end ≡ false) × (notes ≡ end_notes end) × (slot' ≡ slot_with slot (remembering slot.place (shut_in end)))
+
+abbrev pub ShutsAs : Slot → Slot → Used (Option (List EndNote)) → Type 0
+ShutsAs slot slot' = Uses slot slot' (ShutsBy (slot_opened slot) slot')
+
+-- the notes can be sent
+abbrev pub CanAllBeSent : Used (Option (List EndNote)) → Type 0
+CanAllBeSent (Answered (Some notes)) = AllByRecursion NoteCanBeSent notes
+CanAllBeSent _ = Unit {0}
 
 -- the rows of a source that is declared are of their form
 abbrev pub IsFormedAt : Option Slot → Type 0

@@ -6,6 +6,7 @@ use std::alloc::{AllocError, Global};
 use wef_base::{Bytes, Charset, Moment, Text};
 use wef_collector::Collector;
 use wef_front::{Answer, Hears, Target};
+use wef_front_collector::Hears as CollectorHears;
 use wef_keeper::{Keeper, MemKeeper};
 use wef_source::SourceEnd;
 
@@ -16,9 +17,13 @@ pub trait Answers: Drop {
     ghost use Rattle.std.specs.Prelude.{◌≡◌, ◌⊎◌, ℕ, IfErr, IfOk, OnErr};
     ghost use Rattle.wef_eventing.specs.Addresses as addresses;
     ghost use Rattle.wef_front_collector.specs.Heard as hearing;
-    ghost use Rattle.wef_front_source.specs.HeardReplies.{HearsTold, offers_told, told};
+    ghost use Rattle.wef_front_collector.specs.HeardResponses.{HearsResponse, IsUntaken, response_told};
     ghost use Rattle.wef_front_collector.specs.Replies.{IsAnswer, IsUnanswered};
     ghost use Rattle.wef_front_collector.specs.declared.hearing.Heard as heard;
+    ghost use Rattle.wef_front_source.specs.Heard as source_hearing;
+    ghost use Rattle.wef_front_source.specs.HeardReplies.{HearsTold, offers_told, told};
+    ghost use Rattle.wef_front_source.specs.Replies.{MayHaveReplied, reply};
+    ghost use Rattle.wef_front_source.specs.declared.hearing.Heard as source_heard;
     ghost use Rattle.wef_keeper.specs.Keeping.{raised};
 
     /// How many calls of its methods were made; at 2^64 - 1 it stays.
@@ -39,6 +44,34 @@ pub trait Answers: Drop {
             × IsAnswer host.now said charset now answer collector.old.memory collector.new.memory (⟦<MemKeeper as Keeper>⟧.store collector.old.keeper) (⟦<MemKeeper as Keeper>⟧.store collector.new.keeper)) }
         ensures wants_memory { IfErr result (λ _. (collector.new ≡ collector.old) ⊎ ((said : heard.Heard) × hearing.Hears target.now charset body.now said
             × IsUnanswered host.now said now collector.old.memory collector.new.memory (⟦<MemKeeper as Keeper>⟧.store collector.old.keeper) (⟦<MemKeeper as Keeper>⟧.store collector.new.keeper))) }
+        ensures calls { calls self.new ≡ raised (calls self.old) };
+
+    /// Hears the bytes of an answer to a request of the collector, in UTF-8. There may be no memory to
+    /// read it, or to take it.
+    fn collector_hears(
+        &mut self,
+        collector: &mut Collector<MemKeeper>,
+        body: &Bytes,
+        now: Moment,
+    ) -> Result<CollectorHears, AllocError>
+        ensures heard { IfOk result (λ hears. HearsResponse (response_told now body.now) hears now collector.old.memory collector.new.memory (⟦<MemKeeper as Keeper>⟧.store collector.old.keeper) (⟦<MemKeeper as Keeper>⟧.store collector.new.keeper)) }
+        ensures wants_memory { IfErr result (λ _. (collector.new ≡ collector.old) ⊎ IsUntaken (response_told now body.now) now collector.old.memory collector.new.memory (⟦<MemKeeper as Keeper>⟧.store collector.old.keeper) (⟦<MemKeeper as Keeper>⟧.store collector.new.keeper)) }
+        ensures calls { calls self.new ≡ raised (calls self.old) };
+
+    /// Answers the bytes of a request to a source. There may be no memory for the answer.
+    fn source_answer(
+        &mut self,
+        source: &mut SourceEnd<MemKeeper>,
+        charset: Charset,
+        body: &Bytes,
+        now: Moment,
+    ) -> Result<Answer, AllocError>
+        ensures answer { IfOk result (λ answer. (said : source_heard.Heard) × source_hearing.Hears now charset body.now said
+            × (record { answer = answer; end = source.new.memory } ≡ reply source.old.memory said charset now)) }
+        ensures wants_memory { IfErr result (λ _. (source.new.memory ≡ source.old.memory) ⊎ ((said : source_heard.Heard) × source_hearing.Hears now charset body.now said
+            × MayHaveReplied source.old.memory said now source.new.memory)) }
+        ensures keeper { source.new.keeper ≡ source.old.keeper }
+        ensures name { source.new.name ≡ source.old.name }
         ensures calls { calls self.new ≡ raised (calls self.old) };
 
     /// Hears the bytes of a reply to a source, in UTF-8. There may be no memory to read it.
@@ -85,6 +118,27 @@ impl Answers for Shipped {
     ) -> Result<Answer, AllocError> {
         self.calls = self.calls.saturating_add(1);
         wef_front::collector_answer(self.alloc, collector, target, host, charset, body, now)
+    }
+
+    fn collector_hears(
+        &mut self,
+        collector: &mut Collector<MemKeeper>,
+        body: &Bytes,
+        now: Moment,
+    ) -> Result<CollectorHears, AllocError> {
+        self.calls = self.calls.saturating_add(1);
+        wef_front::collector_hears(self.alloc, collector, body, now)
+    }
+
+    fn source_answer(
+        &mut self,
+        source: &mut SourceEnd<MemKeeper>,
+        charset: Charset,
+        body: &Bytes,
+        now: Moment,
+    ) -> Result<Answer, AllocError> {
+        self.calls = self.calls.saturating_add(1);
+        wef_front::source_answer(self.alloc, source, charset, body, now)
     }
 
     fn source_hears(

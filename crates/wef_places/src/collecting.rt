@@ -1,21 +1,29 @@
-//! The collector in a world: how it is opened, and its calls that change rows.
+//! The collector in a world: how it is opened, its calls that change rows, what it asks and what it hears.
 
-ghost use Rattle.std.specs.Prelude.{◌≡◌, IfOk, OnOk};
+ghost use Rattle.std.specs.Prelude.{◌≡◌, Some, IfOk, OnOk};
+ghost use Rattle.wef_collector.specs.declared.responses.Response.{Response};
 ghost use Rattle.wef_collector_rows.specs.Faults.{collector_store};
 ghost use Rattle.wef_collector_rows.specs.Forms as forms;
+ghost use Rattle.wef_eventing.specs.Addresses.{IsHost};
+ghost use Rattle.wef_front_collector.specs.HeardResponses.{response_told};
+ghost use Rattle.wef_ids.specs.declared.MessageId.{MessageId};
 ghost use Rattle.wef_keeper.specs.Calls.{IsCall};
 ghost use Rattle.wef_machine.specs.Collecting.{collector_opened, collector_opening};
+ghost use Rattle.wef_places.specs.Collected as collected;
 ghost use Rattle.wef_places.specs.Collected.{collector_of};
+ghost use Rattle.wef_places.specs.Counted as counts;
 ghost use Rattle.wef_places.specs.Made.{IsAllowed, effect_of};
 ghost use Rattle.wef_places.specs.Places as places;
 
+use crate::answers::Answers;
 use crate::faults::WorldFault;
 use crate::places::{Called, End, Placed, Used};
 use std::alloc::Global;
-use wef_base::{Moment, SourceName, SubId};
+use wef_base::{Bytes, Moment, SourceName, SubId, Text};
 use wef_batch::Batch;
-use wef_collector::{Collector, CollectorFault, Memory};
+use wef_collector::{Answered, Collector, CollectorFault, Memory, Request};
 use wef_eventing::Subscription;
+use wef_front_collector::Hears;
 use wef_keeper::{Keeper, MemKeeper, Plan, StoreFault};
 use wef_machine::Fate;
 
@@ -126,6 +134,79 @@ pub fn make_call(
     };
     let answer = answer_to(running, call);
     Ok(Used::Answered(collector.settle_call(alloc, answer)?))
+}
+
+/// Lets the collector send its next request, whose answer it then waits for. None where nothing is due.
+/// Events come to the host.
+pub fn ask(
+    collector: &mut CollectorPlace,
+    alloc: Global,
+    host: &Text,
+    now: Moment,
+) -> Result<Used<Option<Request>>, WorldFault>
+    requires formed { forms.AreFormed (collector_of collector.old).rows }
+    ensures collector { OnOk result (collector_of collector.new ≡ collected.asked_left host.now now (collector_opened (collector_of collector.old))) }
+    ensures asked { IfOk result (collected.AsksAs (collector_opening (collector_of collector.old)) host.now now (collector_opened (collector_of collector.old))) }
+    ensures texts { IsHost host.now → IfOk result collected.CanAllBeRequested }
+{
+    let fate = open(collector, alloc)?;
+    let Some(running) = collector.running() else {
+        return Ok(Used::Closed(fate));
+    };
+    match running.next_request(host, now) {
+        Ok(asked) => Ok(Used::Answered(asked)),
+        Err(_) => Err(WorldFault::NoMemory),
+    }
+}
+
+/// Lets the collector wait for no answer any longer.
+pub fn forget(collector: &mut CollectorPlace, alloc: Global) -> Result<Used<()>, WorldFault>
+    requires formed { forms.AreFormed (collector_of collector.old).rows }
+    ensures collector { OnOk result (collector_of collector.new ≡ collected.forgot_left (collector_opened (collector_of collector.old))) }
+    ensures used { IfOk result (collected.ForgetsAs (collector_opening (collector_of collector.old)) (collector_opened (collector_of collector.old))) }
+{
+    let fate = open(collector, alloc)?;
+    let Some(running) = collector.running() else {
+        return Ok(Used::Closed(fate));
+    };
+    running.forget();
+    Ok(Used::Answered(()))
+}
+
+/// Gives the collector the bytes of an answer to a request, at a moment.
+pub fn hear<A: Answers>(
+    collector: &mut CollectorPlace,
+    alloc: Global,
+    answers: &mut A,
+    body: &Bytes,
+    now: Moment,
+) -> Result<Used<Called<Answered, CollectorFault>>, WorldFault>
+    requires formed { forms.AreFormed (collector_of collector.old).rows }
+    ensures collector { OnOk result ((relates : MessageId) (answer : Response) → response_told now body.now ≡ Some (relates, answer)
+        → collector_of collector.new ≡ collected.heard_left relates answer now (collector_opened (collector_of collector.old))) }
+    ensures came { IfOk result (λ used. (relates : MessageId) (answer : Response) → response_told now body.now ≡ Some (relates, answer)
+        → collected.HearsAs (collector_opening (collector_of collector.old)) (collector_opened (collector_of collector.old)) relates answer now used) }
+    ensures calls { OnOk result (A.calls answers.new ≡ counts.counted (counts.once (counts.is_open (collector_opened (collector_of collector.old)))) (A.calls answers.old)) }
+{
+    let fate = open(collector, alloc)?;
+    let Some(running) = collector.running() else {
+        return Ok(Used::Closed(fate));
+    };
+    let hears = answers.collector_hears(running, body, now)?;
+    let fate = collector.settle_answered(alloc);
+    Ok(Used::Answered(called_as_heard(hears, fate)))
+}
+
+/// What was heard, as what a call came to, by how its commit went.
+fn called_as_heard(hears: Hears, fate: Fate) -> Called<Answered, CollectorFault>
+    ensures { result ≡ collected.called_as_heard hears fate }
+{
+    match hears {
+        Hears::Leased => Called::Done(Answered::Leased),
+        Hears::Cleared => Called::Done(Answered::Cleared),
+        Hears::Failed => Called::Broken(fate),
+        Hears::NotAsked | Hears::Unreadable => Called::Refused(CollectorFault::NotAsked),
+    }
 }
 
 /// What a collector that runs answers to a call.

@@ -12,13 +12,13 @@ use crate::histories::Histories;
 use crate::places::{Called, End, Placed, Used};
 use std::alloc::Global;
 use std::marker::Model;
-use wef_base::{Bytes, Moment, SourceName, SubId};
+use wef_base::{Bytes, Charset, List, Moment, SourceName, SubId};
 use wef_event::Event;
-use wef_front::Hears;
+use wef_front::{Answer, Hears};
 use wef_ids::MessageId;
 use wef_keeper::{MemKeeper, Plan, StoreFault};
 use wef_machine::Armed;
-use wef_source::{Delivery, Memory, Poll, SourceEnd, SourceFault};
+use wef_source::{Delivery, EndNote, Memory, Poll, SourceEnd, SourceFault};
 
 /// How many records of a channel a log keeps: from 1 to 1,000,000.
 #[derive(Drop)]
@@ -182,7 +182,11 @@ pub enum Polled {
 impl Slot {
     ghost use Rattle.std.specs.Prelude.{◌≡◌, ◌≤◌, ◌+◌, length, IfOk, OnOk};
     ghost use Rattle.wef_base.specs.declared.numbers.TheConstants.{MAX};
+    ghost use Rattle.wef_base.specs.declared.tree.Charset.TheVariants.{Utf8};
+    ghost use Rattle.wef_front_source.specs.Heard as hearing;
     ghost use Rattle.wef_front_source.specs.HeardReplies.{offers_told, told};
+    ghost use Rattle.wef_front_source.specs.Replies.{reply};
+    ghost use Rattle.wef_front_source.specs.declared.hearing.Heard.{Heard};
     ghost use Rattle.wef_machine.specs.Places as places;
     ghost use Rattle.wef_machine.specs.Sources.{declared_slot, slot_opened};
     ghost use Rattle.wef_machine.specs.States.{slot_with};
@@ -308,6 +312,44 @@ impl Slot {
         Ok(Used::Answered(source.on_lost(sub).is_ok()))
     }
 
+    /// Ends the sessions that collectors began. None where fewer ids are left than there are ends to tell.
+    pub fn shut(&mut self, alloc: Global) -> Result<Used<Option<List<EndNote>>>, WorldFault>
+        requires formed { AreFormed self.old.place.rows }
+        ensures shut { IfOk result (slots.ShutsAs self.old self.new) }
+        ensures sent { IfOk result slots.CanAllBeSent }
+    {
+        let fate = self.placed.open(alloc, &self.origin)?;
+        let Some(source) = self.placed.running() else {
+            return Ok(Used::Closed(fate));
+        };
+        match source.shut() {
+            Ok(notes) => Ok(Used::Answered(Some(notes))),
+            Err(SourceFault::Spent) => Ok(Used::Answered(None)),
+            Err(_) => Err(WorldFault::NoMemory),
+        }
+    }
+
+    /// Gives the source the bytes of a request, at a moment, and answers what it answers.
+    pub fn answer<A: Answers>(
+        &mut self,
+        alloc: Global,
+        answers: &mut A,
+        body: &Bytes,
+        now: Moment,
+    ) -> Result<Used<Answer>, WorldFault>
+        requires formed { AreFormed self.old.place.rows }
+        ensures slot { OnOk result ((heard : Heard) → hearing.Hears now Utf8 body.now heard → self.new ≡ slots.slot_changed self.old (λ end. (reply end heard Utf8 now).end)) }
+        ensures answer { IfOk result (λ used. (heard : Heard) → hearing.Hears now Utf8 body.now heard → slots.AnswersAs self.old (λ end answer. answer ≡ (reply end heard Utf8 now).answer) used) }
+        ensures calls { OnOk result (A.calls answers.new ≡ counts.counted (counts.once (counts.is_open (slot_opened self.old).place)) (A.calls answers.old)) }
+    {
+        let fate = self.placed.open(alloc, &self.origin)?;
+        let Some(source) = self.placed.running() else {
+            return Ok(Used::Closed(fate));
+        };
+        let answer = answers.source_answer(source, Charset::Utf8, body, now)?;
+        Ok(Used::Answered(answer))
+    }
+
     /// Gives the source the bytes of an answer, at a moment. Answers what it heard.
     pub fn hear<A: Answers>(
         &mut self,
@@ -319,7 +361,7 @@ impl Slot {
         requires formed { AreFormed self.old.place.rows }
         ensures slot { OnOk result (self.new ≡ slots.slot_changed self.old (slots.after_told (told body.now) (offers_told now body.now) now)) }
         ensures answer { IfOk result (slots.HearsAs self.old (told body.now) (offers_told now body.now) now) }
-        ensures calls { OnOk result (A.calls answers.new ≡ counts.counted (counts.is_open (slot_opened self.old).place) (A.calls answers.old)) }
+        ensures calls { OnOk result (A.calls answers.new ≡ counts.counted (counts.once (counts.is_open (slot_opened self.old).place)) (A.calls answers.old)) }
     {
         let fate = self.placed.open(alloc, &self.origin)?;
         let Some(source) = self.placed.running() else {

@@ -4,8 +4,8 @@ use Rattle.wef_machine.specs.Sources.{slot_opened, slot_opening}
 use Rattle.wef_machine.specs.States.{Slot}
 use Rattle.wef_places.proofs.Heard.{answers_so, changed_so, counts_so, heard_after, heard_says}
 use Rattle.wef_places.proofs.slots.Slot.hear.Goals as goal
-use Rattle.wef_places.specs.Counted.{counted, is_open}
-use Rattle.wef_places.specs.Slots.{HearsAs, after_told, heard_word, slot_changed, told_word}
+use Rattle.wef_places.specs.Counted.{counted, is_open, once}
+use Rattle.wef_places.specs.Slots.{HearsAs, after_told, slot_changed, told_heard}
 use Rattle.wef_places.specs.contracts.slots.Slot.{the_view}
 use Rattle.wef_places.specs.declared.places.Used.TheVariants.{Answered}
 
@@ -24,11 +24,11 @@ returns-clause-answer g c =
     let reply = told c.args.body.now in
     let offered = offers_told c.args.now c.args.body.now in
     subst (λ (s : Slot). HearsAs s reply offered c.args.now (Answered c.in_ok-hears.hears)) c.self.view_is
-    (answers_so slot c.open.new.self c.in-Some.source.now c.in_ok-fate.ensures.opened c.in-Some.ensures.value (slot_opening slot) (λ end hears. heard_word hears ≡ told_word reply offered c.args.now end) c.in_ok-hears.hears
+    (answers_so slot c.open.new.self c.in-Some.source.now c.in_ok-fate.ensures.opened c.in-Some.ensures.value (slot_opening slot) (λ end hears. hears ≡ told_heard reply offered c.args.now end) c.in_ok-hears.hears
     (heard_says reply offered c.in_ok-hears.hears c.args.now c.in-Some.source.now.memory c.source_hears.new.source.memory c.in_ok-hears.ensures.heard))
 
 pub returns-clause-calls : goal.returns-clause-calls
 returns-clause-calls g c =
     let slot : Slot = the_view c.self.inside in
     counts_so slot c.open.new.self c.in-Some.source.now c.in_ok-fate.ensures.opened c.in-Some.ensures.value (g.A.Answers.calls c.source_hears.new.self) (g.A.Answers.calls c.args.answers.now) c.in_ok-hears.ensures.calls
-    ∙ ap (λ (s : Slot). counted (is_open (slot_opened s).place) (g.A.Answers.calls c.args.answers.now)) c.self.view_is
+    ∙ ap (λ (s : Slot). counted (once (is_open (slot_opened s).place)) (g.A.Answers.calls c.args.answers.now)) c.self.view_is
