@@ -3,5 +3,7 @@ pub mod Asked
 pub mod Delivered
 pub mod Kept
 pub mod Ready
+pub mod Requested
+pub mod Responded
 pub mod Takings
 pub mod Used

@@ -1,5 +1,5 @@
 -- What the lines of a source do and print, by what using the source came to.
-use Rattle.std.proofs.Common.{◌≡◌, ℕ, Bool, true, false, cond, List, [], refl, ap, sym, ◌∙◌}
+use Rattle.std.proofs.Common.{◌≡◌, ℕ, Bool, true, false, cond, List, [], map, refl, ap, sym, ◌∙◌}
 use Rattle.std.proofs.lemmas.Map.Lookups.{exact_bytes}
 use Rattle.std.specs.Cmp.Lexicographic.{nat_list_cmp_total, slice_cmp}
 use Rattle.std.specs.FinMap.{FinMap, get, get-insert, insert, same_map}
@@ -10,32 +10,38 @@ use Rattle.wef_ids.specs.declared.MessageId.{MessageId}
 use Rattle.wef_event.specs.Events.{Event}
 use Rattle.wef_keeper.specs.Calls.{Effect}
 use Rattle.wef_building.specs.Faults.{source_answer, source_fault}
-use Rattle.wef_source.specs.Machine.{End, asked, delivery_of, is_spent, next_id, sent}
+use Rattle.wef_source.specs.Machine.{End, asked, delivery_of, end_notes, is_spent, next_id, sent, shut_in}
 use Rattle.wef_source.specs.Sessions.{session_of}
+use Rattle.wef_source.specs.declared.messages.EndNote.{EndNote}
 use Rattle.wef_building.specs.declared.faults.SourceFault.{SourceFault}
 use Rattle.wef_building.specs.declared.sessions.Session.{Session}
 use Rattle.wef_source_log.specs.Answers.{next_number, write_effect}
 use Rattle.wef_source_log.specs.declared.faults.LogFault as the_log_fault
 use Rattle.wef_source_log.specs.declared.faults.LogFault.TheVariants as logs
 use Rattle.wef_machine.specs.Arming.{is_done}
-use Rattle.wef_machine.specs.Deliveries.{closed_text, end_at, source_text, word_text}
+use Rattle.wef_machine.specs.Answering.{closed_text, took_text}
+use Rattle.wef_machine.specs.Deliveries.{end_at, source_text, word_text}
+use Rattle.wef_machine.specs.Leasing.{is_short, request_done, request_said, request_taken_text, responds_at, responds_text, response_sent, shut_at, shut_lines, shut_printed, shut_step, shut_text as the_shut_text, with_sent}
 use Rattle.wef_machine.specs.Places.{remembering}
 use Rattle.wef_lines.specs.Printed.{name_line}
 use Rattle.wef_machine.specs.Printed.{fate_line, pair_line, sent_ask_line, took_line, wrote_line}
 use Rattle.wef_machine.specs.Sources.{ask_at, ask_text, at_slot, at_source, closed_line, fate_text, lost_text, lost_text_in, poll_at, poll_in, poll_text, poll_text_in, print_at_slot, print_at_source, print_where_runs, slot_opened, slot_opening, where_runs, with_opened, write_at, write_by, write_refused, write_text, write_text_by}
-use Rattle.wef_machine.specs.States.{Slot, Slots, State, next_number as next_message, slot_of, slot_with, with_end, with_message, with_slot}
+use Rattle.wef_machine.specs.States.{Slot, Slots, State, next_number as next_message, slot_of, slot_with, with_end, with_message, with_messages, with_slot}
 use Rattle.wef_machine.specs.declared.arming.Fate as the_fate
 use Rattle.wef_machine.specs.declared.arming.Fate.TheVariants as fates
-use Rattle.wef_machine.specs.declared.messages.Message.TheVariants.{Ask, Events}
+use Rattle.wef_machine.specs.declared.messages.Message.TheVariants.{Ask, Ended, Events}
 use Rattle.wef_places.specs.Places.{CalledAs, UsedAs}
 use Rattle.wef_places.specs.Polls.{asked_line, polled_line, with_asked, with_polled}
-use Rattle.wef_places.specs.Slots.{AsksAs, AsksBy, LosesAs, PollsAs, PollsIn, Uses, WritesAs, changed_where_runs, given_by, given_to, slot_changed, slot_wrote, word_at, word_by, word_where_runs, written_by, written_line, written_where_runs}
+use Rattle.wef_places.specs.Slots.{AsksAs, AsksBy, LosesAs, PollsAs, PollsIn, ShutsAs, ShutsBy, Uses, WritesAs, changed_where_runs, given_by, given_to, slot_changed, slot_wrote, word_at, word_by, word_where_runs, written_by, written_line, written_where_runs}
 use Rattle.wef_places.specs.declared.places.Called.{Called}
 use Rattle.wef_places.specs.declared.places.Called.TheVariants.{Done, Broken, Refused}
 use Rattle.wef_places.specs.declared.places.Used.{Used}
 use Rattle.wef_places.specs.declared.places.Used.TheVariants.{Closed, Answered}
 use Rattle.wef_places.specs.declared.slots.Polled.{Polled}
 use Rattle.wef_places.specs.declared.slots.Polled.TheVariants as polled
+use Rattle.wef_requests.specs.Requests.{Requested}
+use Rattle.wef_world.specs.Outcomes.{after_request, request_by, request_of, request_where_runs}
+use Rattle.wef_world.specs.Shut.{shut_line, with_shut}
 
 -- what is left of a line that is done, by another name for it
 pub done_as : {X E A : Type 0} (result : Result X E) (after did named : A) → did ≡ named → OnOk result (after ≡ did) → OnOk result (after ≡ named)
@@ -239,6 +245,75 @@ given_text state k s word = by (slot_of state s)
     by : (o : Option Slot) → took_line k (word_by word o) ≡ source_text state k s word o
     by None = refl
     by (Some slot) = by_memory slot (slot_opened slot).place.memory
+
+-- ---- requests
+
+-- what a source makes of a request is what one that runs does with it
+pub request_state : (state : State) (s : List ℕ) (r : Requested) → with_sent (record state { sources = given_to state.sources s (after_request r state.moment) }) (request_of state.sources s r state.moment).answer
+    ≡ at_source state s (responds_at s r.id r.identifier r.body)
+request_state state s r = by (slot_of state s)
+  where
+    change : End → End
+    change = after_request r state.moment
+
+    by_memory : (slot : Slot) (memory : Option End) → with_sent (with_slot state s (changed_where_runs (slot_opened slot) change memory)) (request_where_runs (slot_opening slot) s r state.moment memory).answer
+        ≡ where_runs (with_opened state s slot) (slot_opened slot) memory (responds_at s r.id r.identifier r.body)
+    by_memory slot None = refl
+    by_memory slot (Some end) =
+        ap (λ (w : State). with_sent w (response_sent s r.id (request_done r.identifier r.body state.moment end) (request_said r.identifier r.body state.moment end)))
+        (sym (with_slot_twice state s (slot_opened slot) (slot_with (slot_opened slot) (remembering (slot_opened slot).place (change end)))))
+
+    by : (o : Option Slot) → with_sent (record state { sources = given_by state.sources s change o }) (request_by s r state.moment o).answer ≡ at_slot state s o (responds_at s r.id r.identifier r.body)
+    by None = refl
+    by (Some slot) = by_memory slot (slot_opened slot).place.memory
+
+pub request_text : (state : State) (k : ℕ) (s : List ℕ) (r : Requested) → took_text k (request_of state.sources s r state.moment).word (request_of state.sources s r state.moment).answer (next_message state)
+    ≡ request_taken_text state k s r.id r.identifier r.body (slot_of state s)
+request_text state k s r = by (slot_of state s)
+  where
+    by_memory : (slot : Slot) (memory : Option End)
+        → took_text k (request_where_runs (slot_opening slot) s r state.moment memory).word (request_where_runs (slot_opening slot) s r state.moment memory).answer (next_message state)
+        ≡ print_where_runs (with_opened state s slot) (slot_opened slot) memory (slot_opening slot) (closed_text k) (responds_text k s r.id r.identifier r.body)
+    by_memory slot None = refl
+    by_memory slot (Some end) = refl
+
+    by : (o : Option Slot) → took_text k (request_by s r state.moment o).word (request_by s r state.moment o).answer (next_message state) ≡ request_taken_text state k s r.id r.identifier r.body o
+    by None = refl
+    by (Some slot) = by_memory slot (slot_opened slot).place.memory
+
+-- ---- sessions that a source ends
+
+pub shut_state : (state : State) (s : List ℕ) (slot slot' : Slot) (used : Used (Option (List EndNote))) → Some slot ≡ slot_of state s → ShutsAs slot slot' used
+    → with_shut (with_slot state s slot') s used ≡ shut_step state s
+shut_state state s slot slot' used there shuts =
+    line_state state (with_shut (with_slot state s slot') s used) s slot slot' (shut_at s) (ShutsBy (slot_opened slot) slot') used there shuts (by used)
+  where
+    told : End → State
+    told end = with_messages (with_end (with_opened state s slot) s (slot_opened slot) (shut_in end)) (map (Ended s) (end_notes end))
+
+    by : (used : Used (Option (List EndNote)))
+        → OnUsed used (λ how. with_shut (with_slot state s slot') s used ≡ with_slot state s slot')
+        (λ answer. (end : End) → ShutsBy (slot_opened slot) slot' end answer → with_shut (with_slot state s slot') s used ≡ shut_at s (with_opened state s slot) (slot_opened slot) end)
+    by (Closed how) = refl
+    by (Answered None) = λ end h. ap (with_slot state s) h.1 ∙ when_true (is_short end) (with_opened state s slot) (told end) h.0
+    by (Answered (Some notes)) = λ end h.
+        (λ i. with_messages (with_slot state s (h.2 i)) (map (Ended s) (h.1 i)))
+        ∙ sym (ap (λ (w : State). with_messages w (map (Ended s) (end_notes end)))
+        (with_slot_twice state s (slot_opened slot) (slot_with (slot_opened slot) (remembering (slot_opened slot).place (shut_in end)))))
+        ∙ when_false (is_short end) (with_opened state s slot) (told end) h.0
+
+pub shut_text : (state : State) (s : List ℕ) (slot slot' : Slot) (used : Used (Option (List EndNote))) → Some slot ≡ slot_of state s → ShutsAs slot slot' used
+    → shut_line s (next_message state) used ≡ shut_printed state s
+shut_text state s slot slot' used there shuts =
+    line_text state s (shut_line s (next_message state) used) slot (slot' ≡ slot_opened slot) (closed_line s) (the_shut_text s) (ShutsBy (slot_opened slot) slot') used there shuts (by used)
+  where
+    by : (used : Used (Option (List EndNote)))
+        → OnUsed used (λ how. shut_line s (next_message state) used ≡ closed_line s how)
+        (λ answer. (end : End) → ShutsBy (slot_opened slot) slot' end answer → shut_line s (next_message state) used ≡ the_shut_text s (with_opened state s slot) (slot_opened slot) end)
+    by (Closed how) = refl
+    by (Answered None) = λ end h. when_true (is_short end) (name_line (codes "spent") s) (shut_lines s (next_message state) (end_notes end)) h.0
+    by (Answered (Some notes)) = λ end h.
+        ap (shut_lines s (next_message state)) h.1 ∙ when_false (is_short end) (name_line (codes "spent") s) (shut_lines s (next_message state) (end_notes end)) h.0
 
 -- ---- lost deliveries
 

@@ -1,26 +1,30 @@
 //! The ends that a schedule moves.
 
-ghost use Rattle.std.specs.Prelude.{◌≡◌, true, [], codes, IfOk, OnOk};
+ghost use Rattle.std.specs.Prelude.{◌≡◌, ◌+◌, min, true, [], ◌∷◌, codes, IfOk, OnOk};
+ghost use Rattle.wef_base.specs.declared.moments.TheConstants.{LAST_MOMENT};
 ghost use Rattle.wef_batch.specs.Numbers.{AreNumbered};
 ghost use Rattle.wef_collector_rows.specs.Forms.{AreFormed};
+ghost use Rattle.wef_eventing.specs.declared.subscriptions.SubKind.TheVariants.{ByCollector};
 ghost use Rattle.wef_lines.specs.Printed.{name_line};
 ghost use Rattle.wef_machine.specs.Collecting as collecting;
-ghost use Rattle.wef_safety.specs.Kept.{IsKept};
+ghost use Rattle.wef_safety.specs.Kept.{IsHeld};
 ghost use Rattle.wef_machine.specs.States as states;
+ghost use Rattle.wef_machine.specs.States.{address_of};
 ghost use Rattle.wef_machine.specs.Steps as steps;
 ghost use Rattle.wef_places.specs.Collected as collected;
 ghost use Rattle.wef_places.specs.Counted.{counted, hears_by};
 ghost use Rattle.wef_places.specs.Made as made;
 ghost use Rattle.wef_replay.specs.Good.{allows, has_end, is_among};
 
-use crate::deliveries::{outcome_word, take_batch};
+use crate::taking::{outcome_word, take_batch};
 use std::alloc::{AllocError, Global};
 use std::collections::BTreeSet;
 use std::marker::Model;
+use wef_base::moments::LAST_MOMENT;
 use wef_base::{Bytes, ChannelName, List, Moment, SourceName, SubId, Text};
 use wef_batch::Batch;
 use wef_collector::CollectorFault;
-use wef_eventing::{SubKind, Subscription};
+use wef_eventing::{SourceAt, SubKind, Subscription};
 use wef_lines::name_line;
 use wef_machine::Armed;
 use wef_messages::messages::Sent;
@@ -101,6 +105,7 @@ impl Ends {
         ensures { result ≡ allows (states.names_of self.now) line.now }
     {
         match line {
+            Line::SubscribeAt { source, .. } => self.sources.has(source),
             Line::Batch { source, .. } => !self.sources.has(source),
             Line::Source { source, .. } => !self.sources.has(source) && !self.has_foreign(source),
             Line::Write { source, .. } => self.sources.has(source),
@@ -108,6 +113,7 @@ impl Ends {
             Line::Ask { source } => self.sources.has(source),
             Line::Poll { source, .. } => self.sources.has(source),
             Line::Lost { source, .. } => self.sources.has(source),
+            Line::Shut { source } => self.sources.has(source),
             Line::Crash { end } => self.has_end(end),
             Line::Fail { end, .. } => self.has_end(end),
             Line::Stop { end, .. } => self.has_end(end),
@@ -143,7 +149,7 @@ impl Ends {
     /// Does one line that the ends admit, and gives what it prints.
     pub fn run_line<A: Answers>(&mut self, answers: &mut A, line: &Line) -> Result<Text, WorldFault>
         requires admitted { steps.admits self.old line.now ≡ true }
-        requires kept { IsKept self.old }
+        requires held { IsHeld self.old }
         ensures state { OnOk result (self.new ≡ steps.step line.now self.old) }
         ensures told { IfOk result (λ text. text ≡ steps.told_by line.now self.old) }
         ensures calls { OnOk result (A.calls answers.new ≡ counted (hears_by line.now self.old) (A.calls answers.old)) }
@@ -156,6 +162,15 @@ impl Ends {
                 beat,
                 query,
             } => self.subscribe(sub, *items, *bytes, *beat, query),
+            Line::SubscribeAt {
+                sub,
+                source,
+                items,
+                bytes,
+                beat,
+                expires,
+                query,
+            } => self.subscribe_at(sub, source, *items, *bytes, *beat, *expires, query),
             Line::End { sub } => self.end(sub),
             Line::Batch { sub, source, batch } => self.take(
                 sub,
@@ -169,7 +184,10 @@ impl Ends {
             Line::Poll { source, sub } => self.poll(source, sub),
             Line::Deliver { number, seen: _ } => self.deliver(answers, *number),
             Line::Back { number } => self.deliver(answers, self.number_back(*number)),
+            Line::Request => self.request(),
+            Line::Forget => self.forget(),
             Line::Lost { source, sub } => self.lose(source, sub),
+            Line::Shut { source } => self.shut(source),
             Line::Crash { end } => self.crash(end),
             Line::Fail { end, after } => self.arm(end, *after, false),
             Line::Stop { end, after } => self.arm(end, *after, true),
@@ -180,6 +198,7 @@ impl Ends {
                 source,
                 channel,
             } => self.print(sub, source, channel),
+            Line::Tick { milliseconds } => self.tick(*milliseconds),
         }
     }
 
@@ -197,10 +216,44 @@ impl Ends {
         ensures printed { IfOk result (λ text. text ≡ collecting.print_at_collector self.old steps.closed_line (λ memory. steps.subscribe_text (steps.subscription_of sub.now items bytes beat query.now))) }
     {
         let subscription = subscription_of(self.alloc, sub, items, bytes, beat, query)?;
-        let call = Call::Add(&subscription);
-        let added = collecting::make_call(&mut self.collector, self.alloc, call);
+        let added = self.add(&subscription);
         drop(subscription);
-        Ok(added_line(self.alloc, sub.as_text(), added?)?)
+        added
+    }
+
+    fn subscribe_at(
+        &mut self,
+        sub: &SubId,
+        source: &SourceName,
+        items: u32,
+        bytes: u32,
+        beat: u64,
+        expires: u64,
+        query: &QueryList,
+    ) -> Result<Text, WorldFault>
+        requires formed { AreFormed self.old.collector.rows }
+        requires back { made.ReadsBack (steps.begun_subscription sub.now source.now items bytes beat expires query.now) }
+        ensures state { OnOk result (self.new ≡ collecting.at_collector self.old (λ memory. steps.subscribe_at (steps.begun_subscription sub.now source.now items bytes beat expires query.now))) }
+        ensures printed { IfOk result (λ text. text
+            ≡ collecting.print_at_collector self.old steps.closed_line (λ memory. steps.subscribe_text (steps.begun_subscription sub.now source.now items bytes beat expires query.now))) }
+    {
+        let asked = subscription_of(self.alloc, sub, items, bytes, beat, query)?;
+        let subscription = begun_at(self.alloc, asked, source, expires)?;
+        let added = self.add(&subscription);
+        drop(subscription);
+        added
+    }
+
+    /// Gives the collector a subscription.
+    fn add(&mut self, subscription: &Subscription) -> Result<Text, WorldFault>
+        requires formed { AreFormed self.old.collector.rows }
+        requires back { made.ReadsBack subscription.now }
+        ensures state { OnOk result (self.new ≡ collecting.at_collector self.old (λ memory. steps.subscribe_at subscription.now)) }
+        ensures printed { IfOk result (λ text. text ≡ collecting.print_at_collector self.old steps.closed_line (λ memory. steps.subscribe_text subscription.now)) }
+    {
+        let call = Call::Add(subscription);
+        let added = collecting::make_call(&mut self.collector, self.alloc, call)?;
+        Ok(added_line(self.alloc, subscription.name.as_text(), added)?)
     }
 
     fn end(&mut self, sub: &SubId) -> Result<Text, WorldFault>
@@ -314,6 +367,23 @@ impl Ends {
         self.sources.calm();
         Ok(Text::new(self.alloc))
     }
+
+    /// Moves the moment on, to the last one at most.
+    fn tick(&mut self, milliseconds: u64) -> Result<Text, WorldFault>
+        ensures state { self.new ≡ steps.tick_step self.old milliseconds }
+        ensures printed { IfOk result (λ text. text ≡ []) }
+    {
+        self.moment = later(self.moment, milliseconds);
+        Ok(Text::new(self.alloc))
+    }
+}
+
+/// The moment so many milliseconds later, or the last one.
+fn later(moment: Moment, milliseconds: u64) -> Moment
+    ensures { result ≡ min (moment + milliseconds) LAST_MOMENT }
+{
+    let milliseconds = moment.milliseconds().saturating_add(milliseconds);
+    Moment::of(milliseconds.min(LAST_MOMENT)).unwrap_or(moment)
 }
 
 /// A subscription that a line tells of.
@@ -337,6 +407,36 @@ fn subscription_of(
         expires: 3_600_000,
         sources: List::new(alloc),
         version: 1,
+    })
+}
+
+/// A subscription that the collector begins at a source, in place of one that sources ask for.
+fn begun_at(
+    alloc: Global,
+    asked: Subscription,
+    source: &SourceName,
+    expires: u64,
+) -> Result<Subscription, AllocError>
+    ensures { IfOk result (λ begun. begun ≡ record asked { kind = ByCollector; expires = expires; sources = record { name = source.now; address = address_of source.now } ∷ [] }) }
+{
+    let mut sources = List::new(alloc);
+    sources.push(source_at(source)?)?;
+    let mut begun = asked;
+    begun.kind = SubKind::ByCollector;
+    begun.expires = expires;
+    begun.sources = sources;
+    Ok(begun)
+}
+
+/// A source, and where it is found.
+fn source_at(source: &SourceName) -> Result<SourceAt, AllocError>
+    ensures { IfOk result (λ at. at ≡ record { name = source.now; address = address_of source.now }) }
+{
+    let mut address = source.as_text().clone()?;
+    address.push_str(":5985")?;
+    Ok(SourceAt {
+        name: source.clone()?,
+        address,
     })
 }
 

@@ -1,28 +1,33 @@
 //! The lines of sources.
 
-ghost use Rattle.std.specs.Prelude.{◌≡◌, [], IfOk, OnOk};
+ghost use Rattle.std.specs.List.{AllByRecursion};
+ghost use Rattle.std.specs.Prelude.{◌≡◌, [], codes, map, IfOk, OnOk};
 ghost use Rattle.wef_event.specs.Unnumbered.{new_event};
 ghost use Rattle.wef_front.specs.Sent.{CanBeAsked};
 ghost use Rattle.wef_front_source.specs.Sending.{CanBeSent};
 ghost use Rattle.wef_safety.specs.Kept.{IsKept};
+ghost use Rattle.wef_machine.specs.Leasing as leasing;
+ghost use Rattle.wef_machine.specs.Printed as texts;
 ghost use Rattle.wef_machine.specs.Sources as steps;
 ghost use Rattle.wef_machine.specs.States as states;
-ghost use Rattle.wef_machine.specs.declared.messages.Message.TheVariants.{Ask, Events};
+ghost use Rattle.wef_machine.specs.declared.messages.Message.TheVariants.{Ask, Ended, Events};
 ghost use Rattle.wef_places.specs.Polls as polls;
 ghost use Rattle.wef_places.specs.Slots as slots;
+ghost use Rattle.wef_world.specs.Shut as told;
 
 use crate::ends::Ends;
+use crate::taking::subscription_named;
 use std::alloc::AllocError;
-use wef_base::{SourceName, SubId, Text};
+use wef_base::{List, SourceName, SubId, Text};
 use wef_event::{Event, PlainEvent};
 use wef_ids::MessageId;
 use wef_lines::name_line;
-use wef_messages::messages::{Content, DeliveryBytes, Sent, WishBytes};
+use wef_messages::messages::{Content, DeliveryBytes, NoteBytes, Sent, WishBytes};
 use wef_places::WorldFault;
 use wef_places::places::{Called, Used};
 use wef_places::slots::{Capacity, Polled, Slot};
-use wef_printing::printing::{fate_line, pair_line, sent_ask_line, sent_events_line, wrote_line};
-use wef_source::{Delivery, SourceFault};
+use wef_printing::printing::{fate_line, pair_line, sent_ask_line, sent_line, wrote_line};
+use wef_source::{Delivery, EndNote, SourceFault};
 
 impl Ends {
     /// Declares a source.
@@ -167,7 +172,7 @@ impl Ends {
             Used::Answered(Polled::Spent) => Ok(name_line("spent", name)?),
             Used::Answered(Polled::Sent(delivery)) => {
                 let number = self.send_delivery(source, &delivery)?;
-                Ok(sent_events_line(number, source, sub)?)
+                Ok(sent_line(number, "events", source, named)?)
             }
         }
     }
@@ -186,6 +191,63 @@ impl Ends {
             Used::Answered(true) => Ok(Text::new(self.alloc)),
             Used::Answered(false) => Ok(pair_line("unknown", source.as_text(), sub.as_text())?),
         }
+    }
+
+    /// Lets a source end the sessions that collectors began.
+    pub(crate) fn shut(&mut self, source: &SourceName) -> Result<Text, WorldFault>
+        requires kept { IsKept self.old }
+        ensures state { OnOk result (self.new ≡ leasing.shut_step self.old source.now) }
+        ensures printed { IfOk result (λ text. text ≡ leasing.shut_printed self.old source.now) }
+    {
+        let Some(slot) = self.sources.slot_mut(source) else {
+            return Ok(Text::new(self.alloc));
+        };
+        let shut = slot.shut(self.alloc)?;
+        self.send_shut(source, shut)
+    }
+
+    /// Sends the notes of the ends of sessions, where ids were left for them, and tells what became of
+    /// that.
+    fn send_shut(
+        &mut self,
+        source: &SourceName,
+        shut: Used<Option<List<EndNote>>>,
+    ) -> Result<Text, WorldFault>
+        requires { told.AreToldAs shut }
+        ensures state { OnOk result (self.new ≡ told.with_shut self.old source.now shut) }
+        ensures printed { IfOk result (λ text. text ≡ told.shut_line source.now (states.next_number self.old) shut) }
+    {
+        match shut {
+            Used::Closed(fate) => Ok(fate_line(self.alloc, fate, source.as_text().as_str())?),
+            Used::Answered(None) => Ok(name_line("spent", source.as_text())?),
+            Used::Answered(Some(notes)) => Ok(self.send_notes(source, notes.as_slice())?),
+        }
+    }
+
+    /// Sends notes of the ends of sessions, and tells of each.
+    fn send_notes(&mut self, source: &SourceName, notes: &[EndNote]) -> Result<Text, AllocError>
+        requires { AllByRecursion told.CanBeTold notes.now }
+        ensures state { OnOk result (self.new ≡ states.with_messages self.old (map (Ended source.now) notes.now)) }
+        ensures printed { IfOk result (λ text. text ≡ leasing.shut_lines source.now (states.next_number self.old) notes.now) }
+    {
+        if notes.is_empty() {
+            return name_line("nothing", source.as_text());
+        }
+        self.send_each(source, notes)
+    }
+
+    fn send_each(&mut self, source: &SourceName, notes: &[EndNote]) -> Result<Text, AllocError>
+        requires { AllByRecursion told.CanBeTold notes.now }
+        ensures state { OnOk result (self.new ≡ states.with_messages self.old (map (Ended source.now) notes.now)) }
+        ensures printed { IfOk result (λ text. text ≡ leasing.notes_text source.now (states.next_number self.old) notes.now) }
+    {
+        let mut text = Text::new(self.alloc);
+        for note in notes {
+            let number = self.send_note(source, note)?;
+            let line = note_line(number, source, note)?;
+            text.push_str(line.as_str())?;
+        }
+        Ok(text)
     }
 
     /// Sends an ask as its bytes, and answers its number.
@@ -208,6 +270,16 @@ impl Ends {
         self.send(Sent::of(source.clone()?, content))
     }
 
+    /// Sends a note of the end of a session as its bytes, and answers its number.
+    fn send_note(&mut self, source: &SourceName, note: &EndNote) -> Result<u64, AllocError>
+        requires { told.CanBeTold note.now }
+        ensures state { OnOk result (self.new ≡ states.with_message self.old (Ended source.now note.now)) }
+        ensures number { IfOk result (λ number. number ≡ states.next_number self.old) }
+    {
+        let content = Content::Ended(NoteBytes::of(self.alloc, note)?);
+        self.send(Sent::of(source.clone()?, content))
+    }
+
     /// Sends a message, and answers its number.
     pub(crate) fn send(&mut self, message: Sent) -> Result<u64, AllocError>
         ensures state { OnOk result (self.new ≡ states.with_message self.old message) }
@@ -216,4 +288,12 @@ impl Ends {
         self.messages.push(message)?;
         Ok(self.messages.len() as u64)
     }
+}
+
+/// What is printed of a note that was sent.
+fn note_line(number: u64, source: &SourceName, note: &EndNote) -> Result<Text, AllocError>
+    ensures { IfOk result (λ text. text ≡ texts.sent_line number (codes "end") source.now (leasing.note_name note.now)) }
+{
+    let sub = subscription_named(&note.end_to)?;
+    sent_line(number, "end", source, &sub)
 }

@@ -1,7 +1,7 @@
 //! A world: the ends that a schedule moves, in a state that is kept.
 
 ghost use Rattle.std.specs.Prelude.{◌≡◌, ◌++◌, true, OnOk, OnErr};
-ghost use Rattle.wef_safety.specs.Kept.{IsKept};
+ghost use Rattle.wef_safety.specs.Kept.{IsHeld};
 ghost use Rattle.wef_machine.specs.States as states;
 ghost use Rattle.wef_machine.specs.Steps as steps;
 ghost use Rattle.wef_places.specs.Counted.{counted, hears_by};
@@ -24,7 +24,7 @@ pub struct Held {
 }
 
 impl Model for Held {
-    ghost use Rattle.wef_safety.specs.Kept.{IsKept};
+    ghost use Rattle.wef_safety.specs.Kept.{IsHeld};
     ghost use Rattle.wef_machine.specs.States.{State, held};
     ghost use Rattle.wef_world.specs.contracts.ends.Ends as the_ends;
 
@@ -34,7 +34,7 @@ impl Model for Held {
 
     ghost view = { λ w. held w.ends };
 
-    ghost invariant = { λ w. IsKept (held w.ends) };
+    ghost invariant = { λ w. IsHeld (held w.ends) };
 }
 
 impl Held {
@@ -95,7 +95,7 @@ fn print_line<A: Answers>(
     out: &mut Bytes,
 ) -> Result<(), WorldFault>
     requires admitted { steps.admits ends.old line.now ≡ true }
-    requires kept { IsKept ends.old }
+    requires held { IsHeld ends.old }
     ensures state { OnOk result (ends.new ≡ steps.step line.now ends.old) }
     ensures printed { OnOk result (out.new ≡ out.old ++ steps.printed_by line.now ends.old) }
     ensures calls { OnOk result (A.calls answers.new ≡ counted (hears_by line.now ends.old) (A.calls answers.old)) }

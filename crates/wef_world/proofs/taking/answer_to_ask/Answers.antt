@@ -6,7 +6,7 @@ use Rattle.wef_front_collector.specs.declared.hearing.Heard.{Heard}
 use Rattle.wef_http_heads.specs.declared.targets.Target.TheVariants.{Manager}
 use Rattle.wef_places.proofs.Settled.{told_by}
 use Rattle.wef_world.proofs.Asked.{ask_answered, wish_heard, wish_heard_is}
-use Rattle.wef_world.proofs.deliveries.answer_to_ask.Goals as goal
+use Rattle.wef_world.proofs.taking.answer_to_ask.Goals as goal
 
 pub returns-clause-memory : goal.returns-clause-memory
 returns-clause-memory g c =

@@ -1,6 +1,6 @@
 use Rattle.wef_places.specs.Collected.{collector_of}
 use Rattle.wef_world.proofs.Asked.{ask_taken, ask_written}
-use Rattle.wef_world.proofs.deliveries.take_ask.Goals as goal
+use Rattle.wef_world.proofs.taking.take_ask.Goals as goal
 
 pub offers_in-requires : goal.offers_in-requires
 offers_in-requires g c =

@@ -6,7 +6,7 @@ use Rattle.wef_front_collector.specs.declared.hearing.Heard.{Heard}
 use Rattle.wef_http_heads.specs.declared.targets.Target.{Target}
 use Rattle.wef_places.proofs.Settled.{told_by}
 use Rattle.wef_world.proofs.Answered.{heard_is}
-use Rattle.wef_world.proofs.deliveries.answer_to_delivery.Goals as goal
+use Rattle.wef_world.proofs.taking.answer_to_delivery.Goals as goal
 use Rattle.wef_world.specs.Answered.{heard_of, target_of}
 
 pub returns-clause-answer : goal.returns-clause-answer

@@ -2,7 +2,7 @@ use Rattle.std.proofs.Common.{◌∙◌}
 use Rattle.wef_places.proofs.Settled.{told_by}
 use Rattle.wef_places.specs.Collected.{collector_of}
 use Rattle.wef_world.proofs.Answered.{answer_is_written, delivery_answered}
-use Rattle.wef_world.proofs.deliveries.take_delivery.Goals as goal
+use Rattle.wef_world.proofs.taking.take_delivery.Goals as goal
 
 pub taken_by-requires : goal.taken_by-requires
 taken_by-requires g c =
