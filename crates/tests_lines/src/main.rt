@@ -9,16 +9,17 @@
 //! over TCP is to do, one link for all: so a script that runs this program without words has a client. A line
 //! `=== schedule: TITLE` begins a schedule of the lines after it, and after a line `=== each: TITLE` every
 //! line is a schedule of its own: it stands last, without an end of its line, after a line that adds the
-//! subscription `base`.
+//! subscription `base`. After a line `=== between: TITLE`, which stands behind a schedule, each line is put
+//! into that schedule, at every place behind its first line in turn.
 #![tactic(auto)]
 
 mod schedules;
 mod scripts;
 
-use schedules::{push_replayed, push_replayed_last};
+use schedules::{push_replayed, push_replayed_between, push_replayed_last};
 use std::alloc::AllocError;
 use std::process::ExitCode;
-use std::{env, io};
+use std::{env, io, mem};
 use tests_runs::repeats::repeated;
 use wef_base::{Bytes, Text};
 use wef_tcp::TcpLink;
@@ -36,12 +37,13 @@ fn answer_lines(rt: &HostRuntime) -> io::Result<()> {
     let alloc = rt.alloc();
     let mut name = Text::new(alloc);
     let mut schedule = Bytes::new(alloc);
+    let mut before = Bytes::new(alloc);
     let mut link = TcpLink::new(*rt);
     for line in rt.lines(alloc) {
         let line = line?;
         if let Some(heading) = line.strip_prefix("=== ") {
             print_schedule(rt, schedule.as_slice())?;
-            schedule = Bytes::new(alloc);
+            before = mem::replace(&mut schedule, Bytes::new(alloc));
             println!(rt; "{line}")?;
             name = Text::from_str(alloc, name_of(heading))?;
         } else if name.as_str() == "schedule" {
@@ -49,6 +51,8 @@ fn answer_lines(rt: &HostRuntime) -> io::Result<()> {
             schedule.push(b'\n')?;
         } else if name.as_str() == "script" {
             print_script(rt, line.as_str())?;
+        } else if name.as_str() == "between" {
+            print_between(rt, before.as_slice(), line.as_str())?;
         } else if name.as_str() == "link" {
             print_call(rt, &mut link, line.as_str())?;
         } else {
@@ -68,6 +72,14 @@ fn name_of(heading: &str) -> &str {
 fn print_schedule(rt: &HostRuntime, schedule: &[u8]) -> io::Result<()> {
     let mut shown = Text::new(rt.alloc());
     push_replayed(&mut shown, schedule)?;
+    rt.stdout().write_all(shown.as_str().as_bytes())
+}
+
+/// Prints a line, and what a schedule comes to with it at each place behind its first line.
+fn print_between(rt: &HostRuntime, schedule: &[u8], line: &str) -> io::Result<()> {
+    println!(rt; "{line}")?;
+    let mut shown = Text::new(rt.alloc());
+    push_replayed_between(&mut shown, schedule, line)?;
     rt.stdout().write_all(shown.as_str().as_bytes())
 }
 

@@ -8,6 +8,7 @@ use tests_tasks::escapes::unescaped;
 use wef_base::{Bytes, Charset, Moment, Text};
 use wef_collector::Collector;
 use wef_front::{Answer, Hears, Target};
+use wef_front_collector::Hears as CollectorHears;
 use wef_keeper::MemKeeper;
 use wef_replay::{Line, read_schedule};
 use wef_source::SourceEnd;
@@ -54,6 +55,27 @@ impl Answers for Noting {
         self.note(body)?;
         self.shipped
             .collector_answer(collector, target, host, charset, body, now)
+    }
+
+    fn collector_hears(
+        &mut self,
+        collector: &mut Collector<MemKeeper>,
+        body: &Bytes,
+        now: Moment,
+    ) -> Result<CollectorHears, AllocError> {
+        self.note(body)?;
+        self.shipped.collector_hears(collector, body, now)
+    }
+
+    fn source_answer(
+        &mut self,
+        source: &mut SourceEnd<MemKeeper>,
+        charset: Charset,
+        body: &Bytes,
+        now: Moment,
+    ) -> Result<Answer, AllocError> {
+        self.note(body)?;
+        self.shipped.source_answer(source, charset, body, now)
     }
 
     fn source_hears(
