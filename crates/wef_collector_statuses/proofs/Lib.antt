@@ -1,0 +1,5 @@
+pub mod About
+pub mod HeardRows
+pub mod Lengths
+pub mod Merging
+pub mod Told
