@@ -40,7 +40,7 @@ use Rattle.wef_places.specs.declared.places.Used.{Used}
 use Rattle.wef_places.specs.declared.places.Used.TheVariants.{Closed, Answered}
 use Rattle.wef_places.specs.declared.slots.Polled.{Polled}
 use Rattle.wef_places.specs.declared.slots.Polled.TheVariants as polled
-use Rattle.wef_world.specs.Answered.{AnswersSpelt, AnswersSpeltAt, CanOffer, Leads}
+use Rattle.wef_deliveries.specs.Answered.{AnswersSpelt, AnswersSpeltAt, CanOffer, Leads}
 use Rattle.wef_world.specs.Shut.{AreToldAs, CanBeTold}
 
 -- a message that is on its way is one that is kept

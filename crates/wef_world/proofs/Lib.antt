@@ -1,9 +1,6 @@
-pub mod Answered
-pub mod Asked
+pub mod AtCollector
 pub mod Delivered
 pub mod Kept
 pub mod Ready
 pub mod Requested
-pub mod Responded
-pub mod Takings
 pub mod Used

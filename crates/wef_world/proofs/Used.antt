@@ -40,7 +40,7 @@ use Rattle.wef_places.specs.declared.places.Used.TheVariants.{Closed, Answered}
 use Rattle.wef_places.specs.declared.slots.Polled.{Polled}
 use Rattle.wef_places.specs.declared.slots.Polled.TheVariants as polled
 use Rattle.wef_requests.specs.Requests.{Requested}
-use Rattle.wef_world.specs.Outcomes.{after_request, request_by, request_of, request_where_runs}
+use Rattle.wef_deliveries.specs.Outcomes.{after_request, request_by, request_of, request_where_runs}
 use Rattle.wef_world.specs.Shut.{shut_line, with_shut}
 
 -- what is left of a line that is done, by another name for it

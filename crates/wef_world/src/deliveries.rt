@@ -10,17 +10,16 @@ ghost use Rattle.wef_machine.specs.Seen.{message_line, seen_line};
 ghost use Rattle.wef_machine.specs.States as states;
 ghost use Rattle.wef_places.specs.Counted as counts;
 ghost use Rattle.wef_safety.specs.Kept.{IsKept};
-ghost use Rattle.wef_world.specs.Outcomes as outcomes;
 
 use crate::ends::Ends;
-use crate::giving::{give, give_request};
-use crate::taking::{take_ask, take_delivery, take_note, take_response};
 use std::alloc::{AllocError, Global};
 use wef_base::{Bytes, Text};
-use wef_machine::Fate;
+use wef_deliveries::giving::{give, give_request};
+use wef_deliveries::taken::Taken;
+use wef_deliveries::taking::{take_ask, take_delivery, take_note, take_response};
 use wef_messages::messages::{Content, Sent};
 use wef_places::{Answers, WorldFault};
-use wef_printing::printing::{answered_line, fate_word, no_message_line, took_line};
+use wef_printing::printing::{answered_line, no_message_line, took_line};
 
 impl Ends {
     /// The number of the message that so many messages, counted round, came behind. 0 where none was
@@ -129,25 +128,6 @@ fn message_line(alloc: Global, number: u64, message: &Sent) -> Result<Bytes, All
     message.push_text(&mut line)?;
     line.push(b'\n')?;
     Ok(line)
-}
-
-/// What an end makes of a message.
-#[derive(Drop)]
-pub(crate) struct Taken {
-    /// The word that is printed for it.
-    pub(crate) word: Text,
-    /// The answer, where there is one.
-    pub(crate) answer: Option<Sent>,
-}
-
-/// What an end that can't be opened makes of a message.
-pub(crate) fn closed(alloc: Global, fate: Fate) -> Result<Taken, AllocError>
-    ensures { IfOk result (λ taken. taken ≡ outcomes.closed_of fate) }
-{
-    Ok(Taken {
-        word: Text::from_str(alloc, fate_word(fate))?,
-        answer: None,
-    })
 }
 
 /// Tells what an end that doesn't answer made of a message, by the word for it.

@@ -16,7 +16,6 @@ ghost use Rattle.wef_places.specs.Counted.{counted, hears_by};
 ghost use Rattle.wef_places.specs.Made as made;
 ghost use Rattle.wef_replay.specs.Good.{allows, has_end, is_among};
 
-use crate::taking::{outcome_word, take_batch};
 use std::alloc::{AllocError, Global};
 use std::collections::BTreeSet;
 use std::marker::Model;
@@ -24,6 +23,7 @@ use wef_base::moments::LAST_MOMENT;
 use wef_base::{Bytes, ChannelName, List, Moment, SourceName, SubId, Text};
 use wef_batch::Batch;
 use wef_collector::CollectorFault;
+use wef_deliveries::taking::{outcome_word, take_batch};
 use wef_eventing::{SourceAt, SubKind, Subscription};
 use wef_lines::name_line;
 use wef_machine::Armed;

@@ -3,10 +3,8 @@
 
 pub mod deliveries;
 mod ends;
-mod giving;
 mod requesting;
 mod source_lines;
-mod taking;
 mod world;
 
 pub use wef_places::{Answers, Shipped, WorldFault};

@@ -16,9 +16,9 @@ ghost use Rattle.wef_places.specs.Slots as slots;
 ghost use Rattle.wef_world.specs.Shut as told;
 
 use crate::ends::Ends;
-use crate::taking::subscription_named;
 use std::alloc::AllocError;
 use wef_base::{List, SourceName, SubId, Text};
+use wef_deliveries::taking::subscription_named;
 use wef_event::{Event, PlainEvent};
 use wef_ids::MessageId;
 use wef_lines::name_line;

@@ -11,7 +11,7 @@ use Rattle.wef_machine.specs.declared.messages.Message.TheVariants as sent
 use Rattle.wef_places.specs.Slots.{after_told, told_word}
 use Rattle.wef_world.proofs.Delivered.{delivers, delivers_reply, delivers_reply_text, delivers_text, is_at}
 use Rattle.wef_world.proofs.Kept.{ask_can_be_answered, delivery_leads, note_leads, request_can_be_answered}
-use Rattle.wef_world.proofs.Takings.{asked_state, asked_text, events_state, events_text, note_state, note_text}
+use Rattle.wef_world.proofs.AtCollector.{asked_state, asked_text, events_state, events_text, note_state, note_text}
 use Rattle.wef_world.proofs.Used.{done_as, given_state, given_text, request_state, request_text, said_as, where_ok}
 use Rattle.wef_world.proofs.ends.Ends.deliver.Goals as goal
 use Rattle.wef_messages.specs.Messages.{IsOf, message_of}

@@ -3,7 +3,7 @@ use Rattle.wef_machine.specs.Collecting.{print_at_collector}
 use Rattle.wef_machine.specs.Printed.{batch_text}
 use Rattle.wef_machine.specs.States.{State}
 use Rattle.wef_machine.specs.Steps.{batch_line, closed_batch}
-use Rattle.wef_world.proofs.Takings.{batch_says}
+use Rattle.wef_world.proofs.AtCollector.{batch_says}
 use Rattle.wef_world.proofs.ends.Ends.take.Goals as goal
 
 pub returns-clause-printed : goal.returns-clause-printed
