@@ -10,8 +10,8 @@ use Rattle.wef_ids.specs.declared.MessageId.{MessageId}
 use Rattle.wef_event.specs.Events.{Event}
 use Rattle.wef_keeper.specs.Calls.{Effect}
 use Rattle.wef_building.specs.Faults.{source_answer, source_fault}
-use Rattle.wef_source.specs.Machine.{End, asked, delivery_of, end_notes, is_spent, next_id, sent, shut_in}
-use Rattle.wef_source.specs.Sessions.{session_of}
+use Rattle.wef_source.specs.Machine.{End, asked, delivery_of, end_notes, is_idle, is_spent, next_id, sent, shut_in}
+use Rattle.wef_source.specs.Sessions.{has_expired, session_of}
 use Rattle.wef_source.specs.declared.messages.EndNote.{EndNote}
 use Rattle.wef_building.specs.declared.faults.SourceFault.{SourceFault}
 use Rattle.wef_building.specs.declared.sessions.Session.{Session}
@@ -24,14 +24,14 @@ use Rattle.wef_machine.specs.Deliveries.{end_at, source_text, word_text}
 use Rattle.wef_machine.specs.Leasing.{is_short, request_done, request_said, request_taken_text, responds_at, responds_text, response_sent, shut_at, shut_lines, shut_printed, shut_step, shut_text as the_shut_text, with_sent}
 use Rattle.wef_machine.specs.Places.{remembering}
 use Rattle.wef_lines.specs.Printed.{name_line}
-use Rattle.wef_machine.specs.Printed.{fate_line, pair_line, sent_ask_line, took_line, wrote_line}
-use Rattle.wef_machine.specs.Sources.{ask_at, ask_text, at_slot, at_source, closed_line, fate_text, lost_text, lost_text_in, poll_at, poll_in, poll_text, poll_text_in, print_at_slot, print_at_source, print_where_runs, slot_opened, slot_opening, where_runs, with_opened, write_at, write_by, write_refused, write_text, write_text_by}
+use Rattle.wef_machine.specs.Printed.{fate_line, pair_line, sent_ask_line, sent_line, took_line, wrote_line}
+use Rattle.wef_machine.specs.Sources.{ask_at, ask_printed, ask_text, at_slot, at_source, closed_line, fate_text, lost_text, lost_text_in, poll_at, poll_in, poll_printed, poll_text, poll_text_in, print_at_slot, print_at_source, print_where_runs, slot_opened, slot_opening, where_runs, with_opened, write_at, write_by, write_refused, write_text, write_text_by}
 use Rattle.wef_machine.specs.States.{Slot, Slots, State, next_number as next_message, slot_of, slot_with, with_end, with_message, with_messages, with_slot}
 use Rattle.wef_machine.specs.declared.arming.Fate as the_fate
 use Rattle.wef_machine.specs.declared.arming.Fate.TheVariants as fates
 use Rattle.wef_machine.specs.declared.messages.Message.TheVariants.{Ask, Ended, Events}
 use Rattle.wef_places.specs.Places.{CalledAs, UsedAs}
-use Rattle.wef_places.specs.Polls.{asked_line, polled_line, with_asked, with_polled}
+use Rattle.wef_places.specs.Polls.{with_asked, with_polled}
 use Rattle.wef_places.specs.Slots.{AsksAs, AsksBy, LosesAs, PollsAs, PollsIn, ShutsAs, ShutsBy, Uses, WritesAs, changed_where_runs, given_by, given_to, slot_changed, slot_wrote, word_at, word_by, word_where_runs, written_by, written_line, written_where_runs}
 use Rattle.wef_places.specs.declared.places.Called.{Called}
 use Rattle.wef_places.specs.declared.places.Called.TheVariants.{Done, Broken, Refused}
@@ -41,7 +41,10 @@ use Rattle.wef_places.specs.declared.slots.Polled.{Polled}
 use Rattle.wef_places.specs.declared.slots.Polled.TheVariants as polled
 use Rattle.wef_requests.specs.Requests.{Requested}
 use Rattle.wef_deliveries.specs.Outcomes.{after_request, request_by, request_of, request_where_runs}
+use Rattle.wef_world.specs.Asked.{ask_comes, ask_sent, asked_line, asked_number, poll_comes, poll_sent, poll_sent_in, polled_line, polled_number, sent_as, used_at_slot, used_at_source, used_where_runs}
 use Rattle.wef_world.specs.Shut.{shut_line, with_shut}
+use Rattle.wef_world.specs.declared.source_lines.Polls.{Polls}
+use Rattle.wef_world.specs.declared.source_lines.Polls.TheVariants as becomes
 
 -- what is left of a line that is done, by another name for it
 pub done_as : {X E A : Type 0} (result : Result X E) (after did named : A) → did ≡ named → OnOk result (after ≡ did) → OnOk result (after ≡ named)
@@ -117,6 +120,38 @@ line_text {T} state s words slot Left closed text Answers used there uses says =
     by (Some end) (Closed went) uses says = absurd uses
     by (Some end) (Answered answer) uses says = says end uses
 
+-- the same of what it comes to
+line_comes : {T U : Type 0} (state : State) (s : List ℕ) (slot : Slot) (Left : Type 0) (gives : State → Slot → End → U) (Answers : End → T → Type 0) (used : Used T) (came : Used U)
+    → Some slot ≡ slot_of state s → UsedAs (slot_opening slot) (slot_opened slot).place.memory Left Answers used
+    → OnUsed used (λ how. came ≡ Closed how) (λ answer. (end : End) → Answers end answer → came ≡ Answered (gives (with_opened state s slot) (slot_opened slot) end))
+    → Some came ≡ used_at_source state s gives
+line_comes {T} {U} state s slot Left gives Answers used came there uses comes =
+    ap Some (by (slot_opened slot).place.memory used uses comes) ∙ ap (λ (o : Option Slot). used_at_slot state s o gives) there
+  where
+    by : (memory : Option End) (used : Used T) → UsedAs (slot_opening slot) memory Left Answers used
+        → OnUsed used (λ how. came ≡ Closed how) (λ answer. (end : End) → Answers end answer → came ≡ Answered (gives (with_opened state s slot) (slot_opened slot) end))
+        → came ≡ used_where_runs (with_opened state s slot) (slot_opened slot) memory (slot_opening slot) gives
+    by None (Closed went) uses comes = comes ∙ ap (λ (how : the_fate.Fate). Closed how) uses.0
+    by None (Answered answer) uses comes = absurd uses
+    by (Some end) (Closed went) uses comes = absurd uses
+    by (Some end) (Answered answer) uses comes = comes end uses
+
+-- what is told of what it comes to is what the line prints
+line_told : {T : Type 0} (state : State) (s : List ℕ) (gives : State → Slot → End → T) (line : Option (Used T) → List ℕ) (closed : the_fate.Fate → List ℕ) (text : State → Slot → End → List ℕ)
+    → line None ≡ [] → ((how : the_fate.Fate) → line (Some (Closed how)) ≡ closed how)
+    → ((now : State) (slot : Slot) (end : End) → line (Some (Answered (gives now slot end))) ≡ text now slot end)
+    → line (used_at_source state s gives) ≡ print_at_source state s closed text
+line_told {T} state s gives line closed text none fails says = by (slot_of state s)
+  where
+    by_memory : (slot : Slot) (memory : Option End) → line (Some (used_where_runs (with_opened state s slot) (slot_opened slot) memory (slot_opening slot) gives))
+        ≡ print_where_runs (with_opened state s slot) (slot_opened slot) memory (slot_opening slot) closed text
+    by_memory slot None = fails (slot_opening slot)
+    by_memory slot (Some end) = says (with_opened state s slot) (slot_opened slot) end
+
+    by : (o : Option Slot) → line (used_at_slot state s o gives) ≡ print_at_slot state s o closed text
+    by None = none
+    by (Some slot) = by_memory slot (slot_opened slot).place.memory
+
 when_true : {X : Type 0} (b : Bool) (x y : X) → b ≡ true → x ≡ cond b x y
 when_true b x y e = sym (ap (λ t. cond t x y) e)
 
@@ -144,17 +179,24 @@ asked_state state s slot slot' used there asks =
         ∙ when_false (is_spent end) (with_opened state s slot)
         (with_message (with_end (with_opened state s slot) s (slot_opened slot) (asked end)) (Ask s (id_of_value (next_id end)))) h.0
 
-pub asked_text : (state : State) (s : List ℕ) (slot slot' : Slot) (used : Used (Option MessageId)) → Some slot ≡ slot_of state s → AsksAs slot slot' used
-    → asked_line s (next_message state) used ≡ print_at_source state s (closed_line s) (ask_text s)
-asked_text state s slot slot' used there asks =
-    line_text state s (asked_line s (next_message state) used) slot (slot' ≡ slot_opened slot) (closed_line s) (ask_text s) (AsksBy (slot_opened slot) slot') used there asks (by used)
+pub asked_comes : (state : State) (s : List ℕ) (slot slot' : Slot) (used : Used (Option MessageId)) → Some slot ≡ slot_of state s → AsksAs slot slot' used
+    → Some (asked_number (next_message state) used) ≡ ask_comes state s
+asked_comes state s slot slot' used there asks =
+    line_comes state s slot (slot' ≡ slot_opened slot) ask_sent (AsksBy (slot_opened slot) slot') used (asked_number (next_message state) used) there asks (by used)
   where
     by : (used : Used (Option MessageId))
-        → OnUsed used (λ how. asked_line s (next_message state) used ≡ closed_line s how)
-        (λ answer. (end : End) → AsksBy (slot_opened slot) slot' end answer → asked_line s (next_message state) used ≡ ask_text s (with_opened state s slot) (slot_opened slot) end)
+        → OnUsed used (λ how. asked_number (next_message state) used ≡ Closed how)
+        (λ answer. (end : End) → AsksBy (slot_opened slot) slot' end answer → asked_number (next_message state) used ≡ Answered (ask_sent (with_opened state s slot) (slot_opened slot) end))
     by (Closed how) = refl
-    by (Answered None) = λ end h. when_true (is_spent end) (name_line (codes "spent") s) (sent_ask_line (next_message state) s) h.0
-    by (Answered (Some id)) = λ end h. when_false (is_spent end) (name_line (codes "spent") s) (sent_ask_line (next_message state) s) h.0
+    by (Answered None) = λ end h. ap (λ (number : Option ℕ). Answered number) (when_true (is_spent end) None (Some (next_message state)) h.0)
+    by (Answered (Some id)) = λ end h. ap (λ (number : Option ℕ). Answered number) (when_false (is_spent end) None (Some (next_message state)) h.0)
+
+pub asked_told : (state : State) (s : List ℕ) → asked_line s (ask_comes state s) ≡ ask_printed state s
+asked_told state s = line_told state s ask_sent (asked_line s) (closed_line s) (ask_text s) refl (λ how. refl) (λ now slot end. by (is_spent end) (next_message now))
+  where
+    by : (spent : Bool) (n : ℕ) → asked_line s (Some (Answered (cond spent None (Some n)))) ≡ cond spent (name_line (codes "spent") s) (sent_ask_line n s)
+    by true n = refl
+    by false n = refl
 
 -- ---- polls
 
@@ -189,31 +231,44 @@ polled_state state s u slot slot' used there polls =
     by (Closed how) = refl
     by (Answered answer) = λ end h. polled_in state s slot slot' end (session_of end.sessions u) answer h
 
-line_in : (state : State) (s u : List ℕ) (slot slot' : Slot) (end : End) (session : Option Session) (answer : Polled) → PollsIn slot slot' end session state.moment answer
-    → polled_line s u (next_message state) (Answered answer) ≡ poll_text_in s u state slot end session
-line_in state s u slot slot' end None polled.Unknown h = refl
-line_in state s u slot slot' end None polled.Expired h = absurd h
-line_in state s u slot slot' end None polled.Nothing h = absurd h
-line_in state s u slot slot' end None polled.Spent h = absurd h
-line_in state s u slot slot' end None (polled.Sent delivery) h = absurd h
-line_in state s u slot slot' end (Some session) polled.Unknown h = absurd h
-line_in state s u slot slot' end (Some session) polled.Expired h = when_true _ _ _ h.0
-line_in state s u slot slot' end (Some session) polled.Nothing h = when_true _ _ _ h.1 ∙ when_false _ _ _ h.0
-line_in state s u slot slot' end (Some session) polled.Spent h = when_true _ _ _ h.2 ∙ when_false _ _ _ h.1 ∙ when_false _ _ _ h.0
-line_in state s u slot slot' end (Some session) (polled.Sent delivery) h = when_false _ _ _ h.2 ∙ when_false _ _ _ h.1 ∙ when_false _ _ _ h.0
+sent_in : (state : State) (slot slot' : Slot) (end : End) (session : Option Session) (answer : Polled) → PollsIn slot slot' end session state.moment answer
+    → sent_as (next_message state) answer ≡ poll_sent_in state slot end session
+sent_in state slot slot' end None polled.Unknown h = refl
+sent_in state slot slot' end None polled.Expired h = absurd h
+sent_in state slot slot' end None polled.Nothing h = absurd h
+sent_in state slot slot' end None polled.Spent h = absurd h
+sent_in state slot slot' end None (polled.Sent delivery) h = absurd h
+sent_in state slot slot' end (Some session) polled.Unknown h = absurd h
+sent_in state slot slot' end (Some session) polled.Expired h = when_true _ _ _ h.0
+sent_in state slot slot' end (Some session) polled.Nothing h = when_true _ _ _ h.1 ∙ when_false _ _ _ h.0
+sent_in state slot slot' end (Some session) polled.Spent h = when_true _ _ _ h.2 ∙ when_false _ _ _ h.1 ∙ when_false _ _ _ h.0
+sent_in state slot slot' end (Some session) (polled.Sent delivery) h = when_false _ _ _ h.2 ∙ when_false _ _ _ h.1 ∙ when_false _ _ _ h.0
 
-pub polled_text : (state : State) (s u : List ℕ) (slot slot' : Slot) (used : Used Polled) → Some slot ≡ slot_of state s → PollsAs slot slot' u state.moment used
-    → polled_line s u (next_message state) used ≡ print_at_source state s (closed_line s) (poll_text s u)
-polled_text state s u slot slot' used there polls =
-    line_text state s (polled_line s u (next_message state) used) slot (slot' ≡ slot_opened slot) (closed_line s) (poll_text s u)
-    (λ end. PollsIn (slot_opened slot) slot' end (session_of end.sessions u) state.moment) used there polls (by used)
+pub polled_comes : (state : State) (s u : List ℕ) (slot slot' : Slot) (used : Used Polled) → Some slot ≡ slot_of state s → PollsAs slot slot' u state.moment used
+    → Some (polled_number (next_message state) used) ≡ poll_comes state s u
+polled_comes state s u slot slot' used there polls =
+    line_comes state s slot (slot' ≡ slot_opened slot) (poll_sent u) (λ end. PollsIn (slot_opened slot) slot' end (session_of end.sessions u) state.moment) used (polled_number (next_message state) used) there polls (by used)
   where
     by : (used : Used Polled)
-        → OnUsed used (λ how. polled_line s u (next_message state) used ≡ closed_line s how)
+        → OnUsed used (λ how. polled_number (next_message state) used ≡ Closed how)
         (λ answer. (end : End) → PollsIn (slot_opened slot) slot' end (session_of end.sessions u) state.moment answer
-        → polled_line s u (next_message state) used ≡ poll_text s u (with_opened state s slot) (slot_opened slot) end)
+        → polled_number (next_message state) used ≡ Answered (poll_sent u (with_opened state s slot) (slot_opened slot) end))
     by (Closed how) = refl
-    by (Answered answer) = λ end h. line_in (with_opened state s slot) s u (slot_opened slot) slot' end (session_of end.sessions u) answer h
+    by (Answered answer) = λ end h. ap (λ (came : Polls). Answered came) (sent_in (with_opened state s slot) (slot_opened slot) slot' end (session_of end.sessions u) answer h)
+
+pub polled_told : (state : State) (s u : List ℕ) → polled_line s u (poll_comes state s u) ≡ poll_printed state s u
+polled_told state s u = line_told state s (poll_sent u) (polled_line s u) (closed_line s) (poll_text s u) refl (λ how. refl) (λ now slot end. in_session now slot end (session_of end.sessions u))
+  where
+    by : (over idle spent : Bool) (n : ℕ) → polled_line s u (Some (Answered (cond over becomes.Expired (cond idle becomes.Nothing (cond spent becomes.Spent (becomes.Sent n))))))
+        ≡ cond over (pair_line (codes "expired") s u) (cond idle (pair_line (codes "nothing") s u) (cond spent (name_line (codes "spent") s) (sent_line n (codes "events") s u)))
+    by true idle spent n = refl
+    by false true spent n = refl
+    by false false true n = refl
+    by false false false n = refl
+
+    in_session : (now : State) (slot : Slot) (end : End) (found : Option Session) → polled_line s u (Some (Answered (poll_sent_in now slot end found))) ≡ poll_text_in s u now slot end found
+    in_session now slot end None = refl
+    in_session now slot end (Some session) = by (has_expired now.moment session) (is_idle slot.place.rows session) (is_spent end) (next_message now)
 
 -- ---- sources that are given something
 

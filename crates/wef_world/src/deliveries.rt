@@ -2,14 +2,13 @@
 
 ghost use Rattle.std.specs.Option.{option_copied};
 ghost use Rattle.std.specs.Prelude.{◌≡◌, ◌-◌, ◌==◌, slice_get, None, if◌then◌else◌, IfOk, OnOk};
-ghost use Rattle.wef_machine.specs.Answering.{took_text};
 ghost use Rattle.wef_machine.specs.Deliveries as steps;
 ghost use Rattle.wef_machine.specs.Leasing.{with_sent};
-ghost use Rattle.wef_machine.specs.Printed as texts;
 ghost use Rattle.wef_machine.specs.Seen.{message_line, seen_line};
 ghost use Rattle.wef_machine.specs.States as states;
 ghost use Rattle.wef_places.specs.Counted as counts;
 ghost use Rattle.wef_safety.specs.Kept.{IsKept};
+ghost use Rattle.wef_world.specs.Delivered as outcomes;
 
 use crate::ends::Ends;
 use std::alloc::{AllocError, Global};
@@ -45,7 +44,7 @@ impl Ends {
         }
     }
 
-    /// Delivers the message of a number. What is made of it is made of its bytes.
+    /// Delivers the message of a number, and tells what became of it.
     pub(crate) fn deliver<A: Answers>(
         &mut self,
         answers: &mut A,
@@ -56,62 +55,115 @@ impl Ends {
         ensures printed { IfOk result (λ text. text ≡ steps.deliver_printed self.old number) }
         ensures calls { OnOk result (A.calls answers.new ≡ counts.counted (counts.once (counts.is_heard_at self.old number)) (A.calls answers.old)) }
     {
+        let delivered = self.bring(answers, number)?;
+        Ok(delivered_line(self.alloc, number, &delivered)?)
+    }
+
+    /// Brings the message of a number to its end, and sends the answer. What is made of it is made of its
+    /// bytes. Nothing comes of it where no message has the number.
+    pub(crate) fn bring<A: Answers>(
+        &mut self,
+        answers: &mut A,
+        number: u64,
+    ) -> Result<Option<Delivered>, WorldFault>
+        requires kept { IsKept self.old }
+        ensures state { OnOk result (self.new ≡ steps.deliver_step self.old number) }
+        ensures delivered { IfOk result (λ delivered. delivered ≡ outcomes.deliver_comes self.old number) }
+        ensures calls { OnOk result (A.calls answers.new ≡ counts.counted (counts.once (counts.is_heard_at self.old number)) (A.calls answers.old)) }
+    {
         let (alloc, now) = (self.alloc, self.moment);
         let Some(message) = message_at(self.messages.as_slice(), number) else {
-            return Ok(no_message_line(alloc, number)?);
+            return Ok(None);
         };
         let (source, content) = message.parts();
         match content {
             Content::Ask(wish) => {
                 let taken = take_ask(alloc, &mut self.collector, answers, source, wish, now)?;
-                self.tell(number, taken)
+                Ok(Some(self.send_answer(taken)?))
             }
             Content::Offers(offers) => {
                 let body = offers.bytes();
                 let word = give(alloc, &mut self.sources, answers, source, body, now)?;
-                took(alloc, number, word)
+                Ok(Some(unanswered(word)))
             }
             Content::Delivery(delivery) => {
                 let collector = &mut self.collector;
                 let taken = take_delivery(alloc, collector, answers, source, delivery, now)?;
-                self.tell(number, taken)
+                Ok(Some(self.send_answer(taken)?))
             }
             Content::Reply(reply) => {
                 let body = reply.bytes();
                 let word = give(alloc, &mut self.sources, answers, source, body, now)?;
-                took(alloc, number, word)
+                Ok(Some(unanswered(word)))
             }
             Content::Request(request) => {
                 let sources = &mut self.sources;
                 let taken = give_request(alloc, sources, answers, source, request, now)?;
-                self.tell(number, taken)
+                Ok(Some(self.send_answer(taken)?))
             }
             Content::Response(response) => {
                 let collector = &mut self.collector;
                 let word = take_response(alloc, collector, answers, response, now)?;
-                took(alloc, number, word)
+                Ok(Some(unanswered(word)))
             }
             Content::Ended(note) => {
                 let collector = &mut self.collector;
                 let taken = take_note(alloc, collector, answers, source, note, now)?;
-                self.tell(number, taken)
+                Ok(Some(self.send_answer(taken)?))
             }
         }
     }
 
-    /// Tells what an end made of a message, and sends its answer, where there is one.
-    fn tell(&mut self, number: u64, taken: Taken) -> Result<Text, WorldFault>
+    /// Sends an end's answer to a message, where there is one, and answers its number with the word.
+    fn send_answer(&mut self, taken: Taken) -> Result<Delivered, AllocError>
         ensures state { OnOk result (self.new ≡ with_sent self.old taken.answer) }
-        ensures printed { IfOk result (λ text. text ≡ took_text number taken.word taken.answer (states.next_number self.old)) }
+        ensures delivered { IfOk result (λ delivered. delivered ≡ outcomes.delivered_by (states.next_number self.old) taken) }
     {
         let Taken { word, answer } = taken;
         match answer {
             Some(answer) => {
-                let sent = self.send(answer)?;
-                Ok(answered_line(self.alloc, number, word.as_str(), sent)?)
+                let number = self.send(answer)?;
+                Ok(Delivered {
+                    word,
+                    answer: Some(number),
+                })
             }
-            None => took(self.alloc, number, word),
+            None => Ok(unanswered(word)),
         }
+    }
+}
+
+/// What became of a message.
+#[derive(Drop)]
+pub(crate) struct Delivered {
+    /// The word for what its end made of it.
+    pub(crate) word: Text,
+    /// The number of the answer, where one was sent.
+    pub(crate) answer: Option<u64>,
+}
+
+/// What became of a message that its end doesn't answer, by the word for it.
+fn unanswered(word: Text) -> Delivered
+    ensures { result ≡ record { word = word; answer = None } }
+{
+    Delivered { word, answer: None }
+}
+
+/// What is printed of a delivery, by what became of the message of the number.
+fn delivered_line(
+    alloc: Global,
+    number: u64,
+    delivered: &Option<Delivered>,
+) -> Result<Text, AllocError>
+    ensures { IfOk result (λ text. text ≡ outcomes.delivered_line number delivered.now) }
+{
+    let Some(delivered) = delivered else {
+        return no_message_line(alloc, number);
+    };
+    let word = delivered.word.as_str();
+    match delivered.answer {
+        Some(answer) => answered_line(alloc, number, word, answer),
+        None => took_line(alloc, number, word),
     }
 }
 
@@ -128,13 +180,6 @@ fn message_line(alloc: Global, number: u64, message: &Sent) -> Result<Bytes, All
     message.push_text(&mut line)?;
     line.push(b'\n')?;
     Ok(line)
-}
-
-/// Tells what an end that doesn't answer made of a message, by the word for it.
-fn took(alloc: Global, number: u64, word: Text) -> Result<Text, WorldFault>
-    ensures { IfOk result (λ text. text ≡ texts.took_line number word) }
-{
-    Ok(took_line(alloc, number, word.as_str())?)
 }
 
 /// The message of a number.

@@ -13,10 +13,11 @@ ghost use Rattle.wef_machine.specs.States as states;
 ghost use Rattle.wef_machine.specs.declared.messages.Message.TheVariants.{Ask, Ended, Events};
 ghost use Rattle.wef_places.specs.Polls as polls;
 ghost use Rattle.wef_places.specs.Slots as slots;
+ghost use Rattle.wef_world.specs.Asked as sends;
 ghost use Rattle.wef_world.specs.Shut as told;
 
 use crate::ends::Ends;
-use std::alloc::AllocError;
+use std::alloc::{AllocError, Global};
 use wef_base::{List, SourceName, SubId, Text};
 use wef_deliveries::taking::subscription_named;
 use wef_event::{Event, PlainEvent};
@@ -28,6 +29,21 @@ use wef_places::places::{Called, Used};
 use wef_places::slots::{Capacity, Polled, Slot};
 use wef_printing::printing::{fate_line, pair_line, sent_ask_line, sent_line, wrote_line};
 use wef_source::{Delivery, EndNote, SourceFault};
+
+/// What came of a poll of a source that runs.
+#[derive(Clone, Copy)]
+pub(crate) enum Polls {
+    /// No session has the name.
+    Unknown,
+    /// The session's time is over.
+    Expired,
+    /// The session has nothing to send.
+    Nothing,
+    /// No message numbers are left.
+    Spent,
+    /// The message of this number was sent.
+    Sent(u64),
+}
 
 impl Ends {
     /// Declares a source.
@@ -105,74 +121,98 @@ impl Ends {
         }
     }
 
-    /// Lets a source ask for its subscriptions.
+    /// Lets a source ask for its subscriptions, and tells what came of it.
     pub(crate) fn ask(&mut self, source: &SourceName) -> Result<Text, WorldFault>
         requires kept { IsKept self.old }
         ensures state { OnOk result (self.new ≡ steps.ask_step self.old source.now) }
         ensures printed { IfOk result (λ text. text ≡ steps.ask_printed self.old source.now) }
     {
-        let Some(slot) = self.sources.slot_mut(source) else {
-            return Ok(Text::new(self.alloc));
-        };
-        let asked = slot.ask(self.alloc)?;
-        self.send_asked(source, asked)
+        let asked = self.let_ask(source)?;
+        Ok(asked_line(self.alloc, source, asked)?)
     }
 
-    /// Sends an ask, where an id was left for it, and tells what became of it.
+    /// Lets a source ask for its subscriptions, and answers the number of the ask, or none where no id was
+    /// left for it. Nothing comes of it where no source has the name.
+    pub(crate) fn let_ask(
+        &mut self,
+        source: &SourceName,
+    ) -> Result<Option<Used<Option<u64>>>, WorldFault>
+        requires kept { IsKept self.old }
+        ensures state { OnOk result (self.new ≡ steps.ask_step self.old source.now) }
+        ensures asked { IfOk result (λ asked. asked ≡ sends.ask_comes self.old source.now) }
+    {
+        let Some(slot) = self.sources.slot_mut(source) else {
+            return Ok(None);
+        };
+        let asked = slot.ask(self.alloc)?;
+        Ok(Some(self.send_asked(source, asked)?))
+    }
+
+    /// Sends an ask, where an id was left for it, and answers its number.
     fn send_asked(
         &mut self,
         source: &SourceName,
         asked: Used<Option<MessageId>>,
-    ) -> Result<Text, WorldFault>
+    ) -> Result<Used<Option<u64>>, AllocError>
         requires { polls.CanBeAskedAs source.now asked }
         ensures state { OnOk result (self.new ≡ polls.with_asked self.old source.now asked) }
-        ensures printed { IfOk result (λ text. text ≡ polls.asked_line source.now (states.next_number self.old) asked) }
+        ensures asked { IfOk result (λ sent. sent ≡ sends.asked_number (states.next_number self.old) asked) }
     {
         match asked {
-            Used::Closed(fate) => Ok(fate_line(self.alloc, fate, source.as_text().as_str())?),
-            Used::Answered(None) => Ok(name_line("spent", source.as_text())?),
-            Used::Answered(Some(id)) => {
-                let number = self.send_ask(source, &id)?;
-                Ok(sent_ask_line(number, source)?)
-            }
+            Used::Closed(fate) => Ok(Used::Closed(fate)),
+            Used::Answered(None) => Ok(Used::Answered(None)),
+            Used::Answered(Some(id)) => Ok(Used::Answered(Some(self.send_ask(source, &id)?))),
         }
     }
 
-    /// Lets a source send what its session of a subscription has to send.
+    /// Lets a source send what its session of a subscription has to send, and tells what came of it.
     pub(crate) fn poll(&mut self, source: &SourceName, sub: &SubId) -> Result<Text, WorldFault>
         requires kept { IsKept self.old }
         ensures state { OnOk result (self.new ≡ steps.poll_step self.old source.now sub.now) }
         ensures printed { IfOk result (λ text. text ≡ steps.poll_printed self.old source.now sub.now) }
     {
-        let now = self.moment;
-        let Some(slot) = self.sources.slot_mut(source) else {
-            return Ok(Text::new(self.alloc));
-        };
-        let polled = slot.poll(self.alloc, sub, now)?;
-        self.send_polled(source, sub, polled)
+        let polled = self.let_poll(source, sub)?;
+        Ok(polled_line(self.alloc, source, sub, polled)?)
     }
 
-    /// Sends what a session has to send, and tells what it is.
-    fn send_polled(
+    /// Lets a source send what its session of a subscription has to send. Nothing comes of it where no
+    /// source has the name.
+    pub(crate) fn let_poll(
         &mut self,
         source: &SourceName,
         sub: &SubId,
+    ) -> Result<Option<Used<Polls>>, WorldFault>
+        requires kept { IsKept self.old }
+        ensures state { OnOk result (self.new ≡ steps.poll_step self.old source.now sub.now) }
+        ensures polled { IfOk result (λ polled. polled ≡ sends.poll_comes self.old source.now sub.now) }
+    {
+        let now = self.moment;
+        let Some(slot) = self.sources.slot_mut(source) else {
+            return Ok(None);
+        };
+        let polled = slot.poll(self.alloc, sub, now)?;
+        Ok(Some(self.send_polled(source, polled)?))
+    }
+
+    /// Sends what a session has to send, and answers what came of the poll.
+    fn send_polled(
+        &mut self,
+        source: &SourceName,
         polled: Used<Polled>,
-    ) -> Result<Text, WorldFault>
+    ) -> Result<Used<Polls>, AllocError>
         requires { polls.CanBeSentAs polled }
         ensures state { OnOk result (self.new ≡ polls.with_polled self.old source.now polled) }
-        ensures printed { IfOk result (λ text. text ≡ polls.polled_line source.now sub.now (states.next_number self.old) polled) }
+        ensures polled { IfOk result (λ sent. sent ≡ sends.polled_number (states.next_number self.old) polled) }
     {
-        let (name, named) = (source.as_text(), sub.as_text());
         match polled {
-            Used::Closed(fate) => Ok(fate_line(self.alloc, fate, name.as_str())?),
-            Used::Answered(Polled::Unknown) => Ok(pair_line("unknown", name, named)?),
-            Used::Answered(Polled::Expired) => Ok(pair_line("expired", name, named)?),
-            Used::Answered(Polled::Nothing) => Ok(pair_line("nothing", name, named)?),
-            Used::Answered(Polled::Spent) => Ok(name_line("spent", name)?),
+            Used::Closed(fate) => Ok(Used::Closed(fate)),
+            Used::Answered(Polled::Unknown) => Ok(Used::Answered(Polls::Unknown)),
+            Used::Answered(Polled::Expired) => Ok(Used::Answered(Polls::Expired)),
+            Used::Answered(Polled::Nothing) => Ok(Used::Answered(Polls::Nothing)),
+            Used::Answered(Polled::Spent) => Ok(Used::Answered(Polls::Spent)),
             Used::Answered(Polled::Sent(delivery)) => {
                 let number = self.send_delivery(source, &delivery)?;
-                Ok(sent_line(number, "events", source, named)?)
+                Ok(Used::Answered(Polls::Sent(number)))
             }
         }
     }
@@ -287,6 +327,43 @@ impl Ends {
     {
         self.messages.push(message)?;
         Ok(self.messages.len() as u64)
+    }
+}
+
+/// What is printed of an ask, by what came of it.
+fn asked_line(
+    alloc: Global,
+    source: &SourceName,
+    asked: Option<Used<Option<u64>>>,
+) -> Result<Text, AllocError>
+    ensures { IfOk result (λ text. text ≡ sends.asked_line source.now asked) }
+{
+    match asked {
+        None => Ok(Text::new(alloc)),
+        Some(Used::Closed(fate)) => fate_line(alloc, fate, source.as_text().as_str()),
+        Some(Used::Answered(None)) => name_line("spent", source.as_text()),
+        Some(Used::Answered(Some(number))) => sent_ask_line(number, source),
+    }
+}
+
+/// What is printed of a poll, by what came of it.
+fn polled_line(
+    alloc: Global,
+    source: &SourceName,
+    sub: &SubId,
+    polled: Option<Used<Polls>>,
+) -> Result<Text, AllocError>
+    ensures { IfOk result (λ text. text ≡ sends.polled_line source.now sub.now polled) }
+{
+    let (name, named) = (source.as_text(), sub.as_text());
+    match polled {
+        None => Ok(Text::new(alloc)),
+        Some(Used::Closed(fate)) => fate_line(alloc, fate, name.as_str()),
+        Some(Used::Answered(Polls::Unknown)) => pair_line("unknown", name, named),
+        Some(Used::Answered(Polls::Expired)) => pair_line("expired", name, named),
+        Some(Used::Answered(Polls::Nothing)) => pair_line("nothing", name, named),
+        Some(Used::Answered(Polls::Spent)) => name_line("spent", name),
+        Some(Used::Answered(Polls::Sent(number))) => sent_line(number, "events", source, named),
     }
 }
 

@@ -1,23 +1,7 @@
 use Rattle.std.proofs.Common.{ap, ◌∙◌}
-use Rattle.wef_machine.specs.Sources.{ask_step}
-use Rattle.wef_machine.specs.States.{State, slot_of}
-use Rattle.wef_world.proofs.Kept.{asked_can_be_sent}
-use Rattle.wef_world.proofs.Ready.{slot_formed}
-use Rattle.wef_world.proofs.Used.{asked_state, done_as}
+use Rattle.wef_world.proofs.Used.{asked_told}
 use Rattle.wef_world.proofs.ends.Ends.ask.Goals as goal
-use Rattle.wef_world.specs.contracts.ends.Ends.{the_view}
+use Rattle.wef_world.specs.Asked.{asked_line}
 
-pub ask-requires : goal.ask-requires
-ask-requires c = record {
-  formed = slot_formed c.args.self.now c.args.source.now c.in-Some.slot.now c.requires.kept (c.in-Some.ensures.slot ∙ ap (λ (state : State). slot_of state c.args.source.now) c.self.view_is);
-}
-
-pub send_asked-requires : goal.send_asked-requires
-send_asked-requires c =
-    asked_can_be_sent (the_view c.self.inside) c.args.self.now c.args.source.now c.in-Some.slot.now c.ask.new.self c.in_ok-asked.asked c.self.view_is c.requires.kept c.in-Some.ensures.slot c.in_ok-asked.ensures
-
-pub returns-clause-state : goal.returns-clause-state
-returns-clause-state c =
-    done_as c.send_asked.result c.send_asked.new.self _ _
-    (asked_state _ c.args.source.now c.in-Some.slot.now c.ask.new.self c.in_ok-asked.asked c.in-Some.ensures.slot c.in_ok-asked.ensures ∙ ap (λ (state : State). ask_step state c.args.source.now) c.self.view_is)
-    c.send_asked.ensures.state
+pub returns-clause-printed : goal.returns-clause-printed
+returns-clause-printed c = c.in_ok-asked_line.ensures ∙ ap (asked_line c.args.source.now) c.in_ok-asked.ensures.asked ∙ asked_told c.args.self.now c.args.source.now
