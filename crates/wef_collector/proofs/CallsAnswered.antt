@@ -21,7 +21,7 @@ use Rattle.wef_collector.specs.Judged.{AreReachedBy, AreReachedFormed, JudgesSta
 use Rattle.wef_collector.specs.Calling.{IsAllowed, Judges, Stands, effect_of}
 use Rattle.wef_collector.specs.declared.memories.Memory.{Memory}
 use Rattle.wef_collector.specs.declared.calling.Call.{Call}
-use Rattle.wef_collector.specs.declared.calling.Call.TheVariants.{Add, End, Take, TakeUnread, Respond, Release, SourceEnded, EndUnread}
+use Rattle.wef_collector.specs.declared.calling.Call.TheVariants.{Add, End, Take, TakeUnread, Hear, Respond, Release, SourceEnded, EndUnread}
 use Rattle.wef_collector.proofs.Live.{added_lives}
 
 -- nothing is said of the rows that a start has read, where its store refuses it
@@ -39,6 +39,8 @@ none_judged (Take sub source batch now) NoMemory rows = (tt, tt)
 none_judged (Take sub source batch now) Failed rows = (tt, tt)
 none_judged (TakeUnread sub) NoMemory rows = tt
 none_judged (TakeUnread sub) Failed rows = tt
+none_judged (Hear sub source now) NoMemory rows = (tt, tt)
+none_judged (Hear sub source now) Failed rows = (tt, tt)
 none_judged (Respond waiting response now) kind rows = tt
 none_judged Release kind rows = tt
 none_judged (SourceEnded sub source identifier) NoMemory rows = (tt, tt)
@@ -53,6 +55,7 @@ refused_judged S T (Add subscription) fault (Some rows) judged = judged
 refused_judged S T (End sub) fault (Some rows) judged = judged
 refused_judged S T (Take sub source batch now) fault (Some rows) judged = judged
 refused_judged S T (TakeUnread sub) fault (Some rows) judged = judged
+refused_judged S T (Hear sub source now) fault (Some rows) judged = judged
 refused_judged S T (Respond waiting response now) fault (Some rows) judged = judged
 refused_judged S T Release fault (Some rows) judged = judged
 refused_judged S T (SourceEnded sub source identifier) fault (Some rows) judged = judged
@@ -64,6 +67,7 @@ done_judged (Add subscription) made answer rows judged = judged
 done_judged (End sub) made answer rows judged = judged
 done_judged (Take sub source batch now) made answer rows judged = judged
 done_judged (TakeUnread sub) made answer rows judged = judged
+done_judged (Hear sub source now) made answer rows judged = judged
 done_judged (Respond waiting response now) made answer rows judged = judged
 done_judged Release made answer rows judged = judged
 done_judged (SourceEnded sub source identifier) made answer rows judged = judged
@@ -89,6 +93,7 @@ stands_behind (Add subscription) mid now changes follows made kept = added_lives
 stands_behind (End sub) mid now changes follows made kept = any_stands now
 stands_behind (Take sub source batch moment) mid now changes follows made kept = any_stands now
 stands_behind (TakeUnread sub) mid now changes follows made kept = any_stands now
+stands_behind (Hear sub source moment) mid now changes follows made kept = any_stands now
 stands_behind (Respond waiting response moment) mid now changes follows made kept = any_stands now
 stands_behind Release mid now changes follows made kept = any_stands now
 stands_behind (SourceEnded sub source identifier) mid now changes follows made kept = any_stands now

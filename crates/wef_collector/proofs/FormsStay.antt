@@ -38,12 +38,13 @@ use Rattle.wef_collector_rows.specs.Bookmarks.{bookmark_at, is_one}
 use Rattle.wef_collector.specs.Boots.{boot_of}
 use Rattle.wef_collector_rows.specs.Forms.{AreFormed, is_channel_name, is_formed, is_source_name, is_subscription_name, is_subscription_row}
 use Rattle.wef_collector.specs.FormsStay.{FormsStay, IsSoundItem, IsSoundBatch}
-use Rattle.wef_collector_rows.specs.Keys.{bookmark_key, boot_key, heard_key, held_key, loose_key, mark_key, subscription_key}
+use Rattle.wef_collector_rows.specs.Keys.{bookmark_key, boot_key, held_key, loose_key, mark_key, subscription_key}
 use Rattle.wef_collector_rows.specs.Standing.{kept_body, standing, standing_by, standing_of}
-use Rattle.wef_collector.specs.Taken.{batch_changes, channel_changes, heard_changes, is_later, item_changes, loose_changes, move_changes, put, reach_changes, taken}
+use Rattle.wef_collector.specs.Taken.{batch_changes, channel_changes, heard_changes, item_changes, loose_changes, move_changes, put, reach_changes, taken}
 use Rattle.wef_collector_rows.specs.declared.standings.Standing.TheVariants.{Ended, Live}
 use Rattle.wef_collector.specs.Keepable.{IsKeepable}
-use Rattle.wef_collector.proofs.FormedRows.{AreNames, all_keepable, bookmark_row, boot_row, clipped, heard_row, held_row, le_holds, loose_row, lt_holds, mark_row, next_within, subscription_row}
+use Rattle.wef_collector.proofs.FormedRows.{AreNames, all_keepable, bookmark_row, boot_row, clipped, held_row, le_holds, loose_row, lt_holds, mark_row, next_within, subscription_row}
+use Rattle.wef_collector.proofs.Hearing.{formed_by_hearing, hearing_sound}
 use Rattle.wef_collector.proofs.Hits.{one_name, same_self}
 
 -- ---- changes that put rows of their form
@@ -221,7 +222,7 @@ batch_sound rows u s channels batch now name source names formed numbers moment 
     let few = le_holds (loose_sum batch.items) MAX outer.1 in
     put-append (flat_map (channel_changes rows u s batch) channels) (heard_changes rows u s now)
     (put-flat_map (IsReady batch) (channel_changes rows u s batch) channels (channel_sound rows u s batch name source numbers few) (all_ready batch channels names inner.1))
-    (put-if (is_later now (finite.get rows (heard_key u s))) (put (heard_key u s) now []) (λ _. heard_row u s now name source moment))
+    (hearing_sound rows u s now name source moment)
 
 -- ---- the law
 
@@ -247,4 +248,5 @@ forms_stay = record {
       applied_formed is_formed (put (subscription_key u) 1 (kept_body (finite.get rows (subscription_key u))) ∷ [])
       (subscription_row u (kept_body (finite.get rows (subscription_key u))) 1 (omega arith) kept.name (ap (λ (read : Option Subscription). is_some read) kept.reads), tt) rows formed;
   take = take_formed;
+  hear = λ rows u s about now lives source moment formed. formed_by_hearing rows u s now (live_kept rows u about lives formed).name source moment formed;
 }

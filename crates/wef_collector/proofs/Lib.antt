@@ -2,6 +2,7 @@ pub mod CallsAnswered
 pub mod Batches
 pub mod FormedRows
 pub mod FormsStay
+pub mod Hearing
 pub mod Hits
 pub mod ListedThere
 pub mod Live

@@ -5,12 +5,13 @@ use Rattle.std.specs.FinMap as map
 use Rattle.std.specs.Prelude.{Some, None, is_some}
 use Rattle.wef_base.specs.Names.{subscription_name}
 use Rattle.wef_batch.specs.declared.items.Batch.{Batch}
-use Rattle.wef_keeper.specs.Rows.{Rows, key_cmp, key_cmp_total}
+use Rattle.wef_keeper.specs.Rows.{Rows, applied, key_cmp, key_cmp_total}
 use Rattle.wef_keeper.specs.declared.keys.Cell.{Cell}
 use Rattle.wef_keeper.specs.declared.keys.Key.{Key}
 use Rattle.wef_collector_rows.specs.Keys.{key, subscription_key}
-use Rattle.wef_collector.specs.Taken.{taken}
+use Rattle.wef_collector.specs.Taken.{heard_changes, taken}
 use Rattle.wef_collector.specs.There.{HaveOwnKeys, IsOwnKey, OwnKeysStay}
+use Rattle.wef_collector.proofs.Hearing.{is_heard_kind, kinds_by_hearing}
 use Rattle.wef_collector.proofs.Hits.{hits, one_key, refuted}
 use Rattle.wef_collector.proofs.Moving.{IsApart, apart_by_taking}
 
@@ -42,10 +43,18 @@ taken_own : (rows : Rows) (u s : List ℕ) (channels : List (List ℕ)) (batch :
 taken_own rows u s channels batch now own q kind there =
     own q kind (sym (ap is_some (apart_by_taking rows u s channels batch now q (apart u s q kind))) ∙ there)
 
+-- nor does a source that is heard
+no_moment : (kind : ℕ) → kind ≡ 1 → is_heard_kind kind ≡ false
+no_moment kind is = subst (λ (n : ℕ). is_heard_kind n ≡ false) (sym is) refl
+
+heard_own : (rows : Rows) (u s : List ℕ) (now : ℕ) → HaveOwnKeys rows → HaveOwnKeys (applied (heard_changes rows u s now) rows)
+heard_own rows u s now own q kind there = own q kind (sym (ap is_some (kinds_by_hearing rows u s now q (no_moment q.kind kind))) ∙ there)
+
 pub own_keys_stay : OwnKeysStay
 own_keys_stay = record {
   start = λ q kind there. nothing_there q there;
   add = λ rows s name own. put_own rows s.name _ name own;
   end = λ rows u name own. put_own rows u _ name own;
   take = taken_own;
+  hear = heard_own;
 }

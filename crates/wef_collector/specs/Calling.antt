@@ -11,11 +11,11 @@ use Rattle.wef_collector_rows.specs.declared.faults.CollectorFault.{CollectorFau
 use Rattle.wef_collector_rows.specs.declared.standings.Standing.TheVariants.{Live}
 use Rattle.wef_collector_leases.specs.Leases.{IsXmlWish}
 use Rattle.wef_collector_leases.specs.declared.waiting.Waiting.{Waiting}
-use Rattle.wef_collector.specs.Calls.{Effect, OfAdd, OfEnd, OfKnown, OfResponse, OfTake, OfUnreadEnd, add_effect, end_effect, release_effect, source_ended_effect, take_effect, unread_effect, unread_end_effect}
-use Rattle.wef_collector.specs.Judged.{JudgesAdd, JudgesRelease, JudgesResponse, JudgesSourceEnded, JudgesTake}
+use Rattle.wef_collector.specs.Calls.{Effect, OfAdd, OfEnd, OfKnown, OfResponse, OfTake, OfUnreadEnd, add_effect, end_effect, hear_effect, release_effect, source_ended_effect, take_effect, unread_effect, unread_end_effect}
+use Rattle.wef_collector.specs.Judged.{JudgesAdd, JudgesHear, JudgesRelease, JudgesResponse, JudgesSourceEnded, JudgesTake}
 use Rattle.wef_collector.specs.Responses.{CanBeTaken, waiting_effect}
 use Rattle.wef_collector.specs.declared.calling.Call.{Call}
-use Rattle.wef_collector.specs.declared.calling.Call.TheVariants.{Add, End, Take, TakeUnread, Respond, Release, SourceEnded, EndUnread}
+use Rattle.wef_collector.specs.declared.calling.Call.TheVariants.{Add, End, Take, TakeUnread, Hear, Respond, Release, SourceEnded, EndUnread}
 
 -- what it does
 abbrev pub effect_of : Call → Rows → Effect
@@ -23,6 +23,7 @@ effect_of (Add subscription) rows = add_effect rows subscription.now
 effect_of (End sub) rows = end_effect rows sub.now
 effect_of (Take sub source batch now) rows = take_effect rows sub.now source.now batch.now now
 effect_of (TakeUnread sub) rows = unread_effect rows sub.now
+effect_of (Hear sub source now) rows = hear_effect rows sub.now source.now now
 effect_of (Respond waiting response now) rows = waiting_effect (option_copied waiting) response.now now rows
 effect_of Release rows = release_effect rows
 effect_of (SourceEnded sub source identifier) rows = source_ended_effect rows sub.now source.now identifier.now
@@ -34,6 +35,7 @@ IsAllowed (Add subscription) = read_kept subscription.now.name (document_text su
 IsAllowed (End sub) = Unit {0}
 IsAllowed (Take sub source batch now) = AreNumbered batch.now.items
 IsAllowed (TakeUnread sub) = Unit {0}
+IsAllowed (Hear sub source now) = Unit {0}
 IsAllowed (Respond waiting response now) = IfSome (option_copied waiting) (λ (w : Waiting). IsXmlWish w.wants) × CanBeTaken response.now
 IsAllowed Release = Unit {0}
 IsAllowed (SourceEnded sub source identifier) = Unit {0}
@@ -45,6 +47,7 @@ Judges (Add subscription) answer rows = JudgesAdd answer rows subscription.now.n
 Judges (End sub) answer rows = JudgesName answer rows sub.now
 Judges (Take sub source batch now) answer rows = JudgesTake answer rows sub.now source.now batch.now
 Judges (TakeUnread sub) answer rows = JudgesName answer rows sub.now
+Judges (Hear sub source now) answer rows = JudgesHear answer rows sub.now source.now
 Judges (Respond waiting response now) answer rows = JudgesResponse answer rows (option_copied waiting) response.now now
 Judges Release answer rows = JudgesRelease answer rows
 Judges (SourceEnded sub source identifier) answer rows = JudgesSourceEnded answer rows sub.now source.now
@@ -56,6 +59,7 @@ MayBeDone (Add subscription) = Unit {0}
 MayBeDone (End sub) = Unit {0}
 MayBeDone (Take sub source batch now) = Unit {0}
 MayBeDone (TakeUnread sub) = ⊥
+MayBeDone (Hear sub source now) = Unit {0}
 MayBeDone (Respond waiting response now) = Unit {0}
 MayBeDone Release = Unit {0}
 MayBeDone (SourceEnded sub source identifier) = Unit {0}
@@ -67,6 +71,7 @@ IsRefusal (Add subscription) = OfAdd
 IsRefusal (End sub) = OfEnd
 IsRefusal (Take sub source batch now) = OfTake
 IsRefusal (TakeUnread sub) = OfTake
+IsRefusal (Hear sub source now) = OfEnd
 IsRefusal (Respond waiting response now) = OfResponse
 IsRefusal Release = IsOfStore
 IsRefusal (SourceEnded sub source identifier) = OfKnown
@@ -78,6 +83,7 @@ Stands (Add subscription) rows = standing rows subscription.now.name ≡ Live su
 Stands (End sub) rows = Unit {0}
 Stands (Take sub source batch now) rows = Unit {0}
 Stands (TakeUnread sub) rows = Unit {0}
+Stands (Hear sub source now) rows = Unit {0}
 Stands (Respond waiting response now) rows = Unit {0}
 Stands Release rows = Unit {0}
 Stands (SourceEnded sub source identifier) rows = Unit {0}

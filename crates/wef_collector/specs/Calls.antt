@@ -14,7 +14,7 @@ use Rattle.wef_collector_leases.specs.Changes.{end_lease, release_changes}
 use Rattle.wef_collector.specs.Boots.{boot_of}
 use Rattle.wef_collector_rows.specs.Keys.{boot_key, subscription_key}
 use Rattle.wef_collector_rows.specs.Standing.{is_full, kept_body, standing}
-use Rattle.wef_collector.specs.Taken.{batch_changes, put}
+use Rattle.wef_collector.specs.Taken.{batch_changes, heard_changes, put}
 use Rattle.wef_collector_rows.specs.declared.faults.CollectorFault.{CollectorFault}
 use Rattle.wef_collector_rows.specs.declared.faults.CollectorFault.TheVariants.{NoSubscription, Exists, Ended, NotWellFormed, NotAsked, TooMany, Full}
 use Rattle.wef_collector_rows.specs.declared.standings.Standing as state
@@ -68,6 +68,15 @@ unread_by (is.Live subscription) = Err NotWellFormed
 -- a batch that couldn't be read is refused as one that isn't well-formed
 abbrev pub unread_effect : Rows → List ℕ → Effect
 unread_effect rows u = unread_by (standing rows u)
+
+abbrev pub hear_by : state.Standing → Rows → List ℕ → List ℕ → ℕ → Effect
+hear_by is.Unknown rows u s now = Err NoSubscription
+hear_by (is.Ended subscription) rows u s now = Err Ended
+hear_by (is.Live subscription) rows u s now = Ok (heard_changes rows u s now)
+
+-- a source of a live subscription was heard at a moment
+abbrev pub hear_effect : Rows → List ℕ → List ℕ → ℕ → Effect
+hear_effect rows u s now = hear_by (standing rows u) rows u s now
 
 -- all leases end
 abbrev pub release_effect : Rows → Effect

@@ -12,13 +12,13 @@ use Rattle.wef_event.specs.Events.{is_event}
 use Rattle.wef_documents.specs.Kept.{read_kept}
 use Rattle.wef_documents.specs.Written.{document_text}
 use Rattle.wef_eventing.specs.declared.subscriptions.Subscription.{Subscription}
-use Rattle.wef_keeper.specs.Rows.{Rows}
+use Rattle.wef_keeper.specs.Rows.{Rows, applied}
 use Rattle.wef_collector_rows.specs.Answers.{added_rows, channels_read, ended_rows}
 use Rattle.wef_collector.specs.Boots.{boot_of}
 use Rattle.wef_collector_rows.specs.Forms.{AreFormed, is_source_name, is_subscription_name}
 use Rattle.wef_collector_rows.specs.Keys.{boot_key}
 use Rattle.wef_collector_rows.specs.Standing.{standing}
-use Rattle.wef_collector.specs.Taken.{taken}
+use Rattle.wef_collector.specs.Taken.{heard_changes, taken}
 use Rattle.wef_collector_rows.specs.declared.standings.Standing.TheVariants.{Live}
 
 -- an item's event is the one that its text says, and its numbers are such as records have
@@ -33,7 +33,7 @@ pub record IsSoundBatch (batch : Batch) : Type 0 where
   pub to : (c : List ℕ) (n : ℕ) → map.get batch.to c ≡ Some n → n ≤ MAX
 
 -- Rows of their form stay so, whatever the collector does: it begins without a row, and is started, a subscription is
--- added and ends, and a batch is taken.
+-- added and ends, a batch is taken, and a source is heard.
 pub record FormsStay : Type 0 where
   pub nothing : AreFormed map.empty
   pub start : (rows : Rows) → nat_lt (boot_of rows) MAX ≡ true → AreFormed rows
@@ -44,3 +44,5 @@ pub record FormsStay : Type 0 where
   pub take : (rows : Rows) (u s : List ℕ) (about : Subscription) (batch : Batch) (now : ℕ) → standing rows u ≡ Live about → is_source_name s ≡ true
       → is_well_formed (channels_read about) batch ≡ true → IsSoundBatch batch → now ≤ LAST_MOMENT → AreFormed rows
       → AreFormed (taken rows u s (channels_read about) batch now)
+  pub hear : (rows : Rows) (u s : List ℕ) (about : Subscription) (now : ℕ) → standing rows u ≡ Live about → is_source_name s ≡ true → now ≤ LAST_MOMENT → AreFormed rows
+      → AreFormed (applied (heard_changes rows u s now) rows)

@@ -75,6 +75,10 @@ AreReachedBy (is.Live subscription) rows u s batch = AreReachedFormed rows u s b
 abbrev pub JudgesTake : {T : Type 0} → Result T CollectorFault → Rows → List ℕ → List ℕ → Batch → Type 0
 JudgesTake answer rows u s batch = JudgesName answer rows u × OnOk answer (AreReachedBy (standing rows u) rows u s batch × IsFormedAt (heard_key u s) rows)
 
+-- a source is heard: the row of the subscription, and then when the source was heard
+abbrev pub JudgesHear : {T : Type 0} → Result T CollectorFault → Rows → List ℕ → List ℕ → Type 0
+JudgesHear answer rows u s = JudgesName answer rows u × OnOk answer (IsFormedAt (heard_key u s) rows)
+
 -- the lease that an answer puts or ends
 abbrev pub IsLeasingJudged : Rows → List ℕ → List ℕ → Leasing → Type 0
 IsLeasingJudged rows u s Stays = Unit {0}

@@ -5,13 +5,13 @@ use Rattle.std.specs.List.{All}
 use Rattle.wef_base.specs.Names.{subscription_name}
 use Rattle.wef_batch.specs.declared.items.Batch.{Batch}
 use Rattle.wef_eventing.specs.declared.subscriptions.Subscription.{Subscription}
-use Rattle.wef_keeper.specs.Rows.{Rows}
+use Rattle.wef_keeper.specs.Rows.{Rows, applied}
 use Rattle.wef_keeper.specs.declared.keys.Key.{Key}
 use Rattle.wef_collector_rows.specs.Answers.{added_rows, ended_rows}
 use Rattle.wef_collector_rows.specs.Keys.{subscription_key}
 use Rattle.wef_collector_reports.specs.Listing.{listed}
 use Rattle.wef_collector_rows.specs.Standing.{standing}
-use Rattle.wef_collector.specs.Taken.{taken}
+use Rattle.wef_collector.specs.Taken.{heard_changes, taken}
 use Rattle.wef_keeper.specs.Kinds.{number_of}
 use Rattle.wef_keeper.specs.declared.kinds.RowKind.TheVariants as kinds
 use Rattle.wef_collector_reports.specs.declared.listing.Listed.{Listed}
@@ -41,3 +41,4 @@ pub record OwnKeysStay : Type 0 where
   pub add : (rows : Rows) (s : Subscription) → subscription_name s.name ≡ Some s.name → HaveOwnKeys rows → HaveOwnKeys (added_rows rows s)
   pub end : (rows : Rows) (u : List ℕ) → subscription_name u ≡ Some u → HaveOwnKeys rows → HaveOwnKeys (ended_rows rows u)
   pub take : (rows : Rows) (u s : List ℕ) (channels : List (List ℕ)) (batch : Batch) (now : ℕ) → HaveOwnKeys rows → HaveOwnKeys (taken rows u s channels batch now)
+  pub hear : (rows : Rows) (u s : List ℕ) (now : ℕ) → HaveOwnKeys rows → HaveOwnKeys (applied (heard_changes rows u s now) rows)

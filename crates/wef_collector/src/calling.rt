@@ -12,7 +12,9 @@ ghost use Rattle.wef_collector_rows.specs.Forms.{AreFormed};
 ghost use Rattle.wef_keeper.specs.Access as access;
 ghost use Rattle.wef_keeper.specs.Calls.{DoesWith, IsCall, Tells, fails};
 
-use crate::effects::{add_changes, boot_changes, end_changes, take_changes, unread_changes};
+use crate::effects::{
+    add_changes, boot_changes, end_changes, hear_changes, take_changes, unread_changes,
+};
 use crate::leasing::{response_changes, source_ended_changes, unread_end_changes};
 use crate::memories::Memory;
 use crate::responses::{Answered, Response};
@@ -44,6 +46,12 @@ pub enum Call<'a> {
     },
     /// A batch for a subscription came that couldn't be read.
     TakeUnread(&'a SubId),
+    /// A source of a subscription is heard at a moment, which has nothing to send.
+    Hear {
+        sub: &'a SubId,
+        source: &'a SourceName,
+        now: Moment,
+    },
     /// A source answers the request that waits for that, at a moment.
     Respond {
         waiting: Option<&'a Waiting>,
@@ -125,6 +133,7 @@ fn changes_of<K: Keeper>(
             now,
         } => take_changes(keeper, alloc, sub, source, batch, *now),
         Call::TakeUnread(sub) => unread_changes(keeper, sub),
+        Call::Hear { sub, source, now } => hear_changes(keeper, sub, source, *now),
         Call::Respond {
             waiting,
             response,

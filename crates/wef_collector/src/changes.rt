@@ -57,6 +57,23 @@ pub fn batch_changes<K: Keeper>(
     Ok(changes)
 }
 
+/// What it changes that a source was heard at a moment.
+pub fn heard_changes<K: Keeper>(
+    keeper: &mut K,
+    sub: &SubId,
+    source: &SourceName,
+    now: Moment,
+) -> Result<Changes<CollectorForm>, StoreFault>
+    requires { access.IsReady (K.store keeper.old) }
+    ensures changes { IfSome (K.store keeper.new).rows (λ rows. IfOk result (λ changes. changes ≡ spec.heard_changes rows sub.now source.now now)) }
+    ensures judged { IfSome (K.store keeper.new).rows (λ rows. OnOk result (IsFormedAt (keys.heard_key sub.now source.now) rows)) }
+    ensures reads { access.Reads AreFormed (access.fails result) (K.store keeper.old) (K.store keeper.new) }
+{
+    let mut changes = Changes::new(sub.as_text().alloc());
+    push_heard_changes(&mut changes, keeper, sub, source, now)?;
+    Ok(changes)
+}
+
 /// What a batch changes in all of these channels.
 fn push_all_changes<K: Keeper>(
     changes: &mut Changes<CollectorForm>,

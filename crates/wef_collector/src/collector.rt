@@ -11,7 +11,7 @@ ghost use Rattle.wef_collector.specs.Offers.{CanAllBeOffered, offers};
 ghost use Rattle.wef_collector.specs.Responses.{CanBeTaken, answered_of, waiting_effect};
 ghost use Rattle.wef_collector_reports.specs.Judged.{is_report_formed};
 ghost use Rattle.wef_collector_reports.specs.Listing.{listed};
-ghost use Rattle.wef_collector_reports.specs.Report.{report};
+ghost use Rattle.wef_collector_reports.specs.Report.{heard_rows, report};
 ghost use Rattle.wef_collector_rows.specs.Answers as answers;
 ghost use Rattle.wef_collector_rows.specs.Bookmarks.{bookmark_of, bookmark_rows};
 ghost use Rattle.wef_collector_rows.specs.Faults.{collector_store};
@@ -21,6 +21,7 @@ ghost use Rattle.wef_collector_rows.specs.Judged.{AreAllFormed, JudgesName};
 ghost use Rattle.wef_collector_rows.specs.Standing as standings;
 ghost use Rattle.wef_collector_rows.specs.declared.faults.CollectorFault.TheVariants.{NoMemory};
 ghost use Rattle.wef_collector_rows.specs.declared.standings.Standing.TheVariants.{Live};
+ghost use Rattle.wef_collector_statuses.specs.Statuses.{statuses};
 ghost use Rattle.wef_documents.specs.Kept.{read_kept};
 ghost use Rattle.wef_documents.specs.Written.{document_text};
 ghost use Rattle.wef_eventing.specs.Addresses.{IsHost};
@@ -33,7 +34,9 @@ ghost use Rattle.wef_keeper.specs.declared.keeping.Plan.TheVariants.{Done, Fails
 use crate::asking::Request;
 use crate::calling::{Call, answer, raise_boot, respond};
 use crate::memories::Memory;
-use crate::reading::{bookmark_in, held_in, list_in, offers_in, report_in, request_in, state_in};
+use crate::reading::{
+    bookmark_in, held_in, list_in, offers_in, report_in, request_in, state_in, statuses_in,
+};
 use crate::responses::{Answered, Response};
 use std::alloc::Global;
 use std::marker::Model;
@@ -180,6 +183,23 @@ impl<K: Keeper> Collector<K> {
         ensures memory { self.new.memory ≡ self.old.memory }
     {
         answer(&mut self.keeper, self.alloc, &Call::TakeUnread(sub))
+    }
+
+    /// Hears a source of a live subscription at a moment, which has nothing to send: the moment at which it was
+    /// heard rises, and nothing else changes. Where it was heard later, no commit is made.
+    pub fn hear(
+        &mut self,
+        sub: &SubId,
+        source: &SourceName,
+        now: Moment,
+    ) -> Result<(), CollectorFault>
+        ensures call { IsCall collector_store AreFormed (λ rows. calls.hear_effect rows sub.now source.now now) (λ _. tt) result (K.store self.old.keeper) (K.store self.new.keeper) }
+        ensures judged { DoesWith collector_store AreFormed (λ rows. calls.hear_effect rows sub.now source.now now) (λ _. tt) (λ answer found after. judged.JudgesHear answer found sub.now source.now) result (K.store self.old.keeper) (K.store self.new.keeper) }
+        ensures listed { IfErr result calls.OfEnd }
+        ensures memory { self.new.memory ≡ self.old.memory }
+    {
+        let call = Call::Hear { sub, source, now };
+        answer(&mut self.keeper, self.alloc, &call)
     }
 
     /// The next request to a source of a subscription that the collector begins: the first for which
@@ -357,6 +377,20 @@ impl<K: Keeper> Collector<K> {
         ensures memory { self.new.memory ≡ self.old.memory }
     {
         bookmark_in(&mut self.keeper, sub, source)
+    }
+
+    /// Which sources of a subscription are silent at a moment, also of one that has ended: for each source that was
+    /// heard or is listed, in the order of names, a line `status U S active`, `inactive` or `never`. A source is
+    /// inactive once two intervals of the subscription's heartbeat are over since it was heard last.
+    pub fn statuses(&mut self, sub: &SubId, now: Moment) -> Result<Text, CollectorFault>
+        ensures known { IfSome (K.store self.new.keeper).rows (λ rows. OnOk result (answers.is_known (standings.standing rows sub.now) ≡ true)) }
+        ensures ok { IfSome (K.store self.new.keeper).rows (λ rows. IfOk result (λ text. text ≡ statuses rows sub.now now)) }
+        ensures judged { IfSome (K.store self.new.keeper).rows (λ rows. JudgesName result rows sub.now × OnOk result (AreAllFormed (heard_rows rows sub.now))) }
+        ensures refusal { IfErr result (λ fault. answers.RefusesUnknown fault (K.store self.new.keeper).rows sub.now) }
+        ensures looks { Looks collector_store AreFormed result (K.store self.old.keeper) (K.store self.new.keeper) }
+        ensures memory { self.new.memory ≡ self.old.memory }
+    {
+        statuses_in(&mut self.keeper, sub, now)
     }
 
     /// The report of all that is kept.

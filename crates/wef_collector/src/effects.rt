@@ -19,7 +19,7 @@ ghost use Rattle.wef_keeper.specs.Access as access;
 ghost use Rattle.wef_keeper.specs.Calls.{Tells, TellsFault, fails};
 ghost use Rattle.wef_keeper.specs.Rows as the_rows;
 
-use crate::changes::{batch_changes, push_put};
+use crate::changes::{batch_changes, heard_changes, push_put};
 use crate::memories::Memory;
 use std::alloc::{AllocError, Global};
 use wef_base::moments::Moment;
@@ -209,6 +209,23 @@ fn live_changes<K: Keeper>(
         return Err(CollectorFault::NotWellFormed);
     }
     Ok(batch_changes(keeper, sub, source, channels.as_slice(), batch, now)?)
+}
+
+/// A source of a live subscription is heard at a moment.
+pub fn hear_changes<K: Keeper>(
+    keeper: &mut K,
+    sub: &SubId,
+    source: &SourceName,
+    now: Moment,
+) -> Result<Changes<CollectorForm>, CollectorFault>
+    requires { access.IsReady (K.store keeper.old) }
+    ensures effect { IfSome (K.store keeper.new).rows (λ rows. Tells collector_store result (calls.hear_effect rows sub.now source.now now)) }
+    ensures judged { IfSome (K.store keeper.new).rows (λ rows. judged.JudgesHear result rows sub.now source.now) }
+    ensures listed { IfErr result calls.OfEnd }
+    ensures reads { access.Reads AreFormed (fails collector_store result) (K.store keeper.old) (K.store keeper.new) }
+{
+    let _subscription = live_in(keeper, sub)?;
+    Ok(heard_changes(keeper, sub, source, now)?)
 }
 
 /// What a start commits, and what the collector remembers then.

@@ -23,7 +23,8 @@ pub fn listed_are_there()
 {}
 
 /// Rows that are all of their form stay so, whatever the collector does: where there is none, over
-/// a start, where a subscription is added or ends, and over a batch that is taken.
+/// a start, where a subscription is added or ends, over a batch that is taken, and where a source is
+/// heard.
 pub fn forms_stay()
     ensures { FormsStay }
 {}

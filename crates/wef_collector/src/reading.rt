@@ -8,7 +8,7 @@ ghost use Rattle.wef_collector.specs.Memories.{memory_asked};
 ghost use Rattle.wef_collector.specs.Offers.{CanAllBeOffered, offers};
 ghost use Rattle.wef_collector_reports.specs.Judged.{is_report_formed};
 ghost use Rattle.wef_collector_reports.specs.Listing.{listed};
-ghost use Rattle.wef_collector_reports.specs.Report.{report};
+ghost use Rattle.wef_collector_reports.specs.Report.{heard_rows, report};
 ghost use Rattle.wef_collector_rows.specs.Answers as answers;
 ghost use Rattle.wef_collector_rows.specs.Bookmarks.{bookmark_of, bookmark_rows};
 ghost use Rattle.wef_collector_rows.specs.Faults.{collector_store};
@@ -17,6 +17,7 @@ ghost use Rattle.wef_collector_rows.specs.Held as held;
 ghost use Rattle.wef_collector_rows.specs.Judged.{AreAllFormed, JudgesName};
 ghost use Rattle.wef_collector_rows.specs.Standing as standings;
 ghost use Rattle.wef_collector_rows.specs.declared.standings.Standing.TheVariants.{Live};
+ghost use Rattle.wef_collector_statuses.specs.Statuses as silence;
 ghost use Rattle.wef_eventing.specs.Addresses.{IsHost};
 ghost use Rattle.wef_keeper.specs.Calls.{IsCall, Looks};
 
@@ -33,6 +34,7 @@ use wef_collector_reports::reporting::report;
 use wef_collector_rows::bookmarks::bookmark_of;
 use wef_collector_rows::faults::CollectorFault;
 use wef_collector_rows::standings::{known_in, live_in};
+use wef_collector_statuses::statuses::statuses;
 use wef_event::Event;
 use wef_eventing::{Offer, Subscription};
 use wef_keeper::Keeper;
@@ -158,4 +160,21 @@ pub fn report_in<K: Keeper>(keeper: &mut K, alloc: Global) -> Result<Text, Colle
 {
     open(keeper)?;
     Ok(report(keeper, alloc)?)
+}
+
+/// Which sources of a subscription are silent at a moment.
+#[tactic(auto, using(wef_keeper::proofs::Calls::looks_by))]
+pub fn statuses_in<K: Keeper>(
+    keeper: &mut K,
+    sub: &SubId,
+    now: Moment,
+) -> Result<Text, CollectorFault>
+    ensures known { IfSome (K.store keeper.new).rows (λ rows. OnOk result (answers.is_known (standings.standing rows sub.now) ≡ true)) }
+    ensures ok { IfSome (K.store keeper.new).rows (λ rows. IfOk result (λ text. text ≡ silence.statuses rows sub.now now)) }
+    ensures judged { IfSome (K.store keeper.new).rows (λ rows. JudgesName result rows sub.now × OnOk result (AreAllFormed (heard_rows rows sub.now))) }
+    ensures refusal { IfErr result (λ fault. answers.RefusesUnknown fault (K.store keeper.new).rows sub.now) }
+    ensures looks { Looks collector_store AreFormed result (K.store keeper.old) (K.store keeper.new) }
+{
+    open(keeper)?;
+    statuses(keeper, sub, now)
 }

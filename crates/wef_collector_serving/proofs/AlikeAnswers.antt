@@ -3,7 +3,7 @@ use Rattle.std.proofs.Common.{◌≡◌, inl, inr, ℕ, ◌+◌, Bool, true, fal
 use Rattle.std.specs.Prelude.{Ok, Err}
 use Rattle.wef_batch.specs.WellFormed.{is_well_formed}
 use Rattle.wef_batch.specs.declared.items.Batch.{Batch}
-use Rattle.wef_collector.specs.Calls.{source_ended_effect, take_by, unread_by}
+use Rattle.wef_collector.specs.Calls.{hear_by, source_ended_effect, take_by, unread_by}
 use Rattle.wef_collector.specs.Taken.{batch_changes}
 use Rattle.wef_collector_leases.specs.Changes.{end_lease}
 use Rattle.wef_collector_rows.specs.Answers.{channels_read, is_known}
@@ -16,7 +16,7 @@ use Rattle.wef_front_collector.specs.Replies.{answer_of, memory_behind, rows_by}
 use Rattle.wef_front_collector.specs.Steps.{batch_said, effect_in, said_by, said_where}
 use Rattle.wef_front_collector.specs.declared.hearing.Asked.{Asked}
 use Rattle.wef_front_collector.specs.declared.hearing.Asked.TheVariants as asks
-use Rattle.wef_front_collector.specs.declared.hearing.Asked.TheVariants.{Refused, Enumerate, Unread, Take, UnreadEnd}
+use Rattle.wef_front_collector.specs.declared.hearing.Asked.TheVariants.{Refused, Enumerate, Unread, Take, Heartbeat, UnreadEnd}
 use Rattle.wef_front_collector.specs.declared.hearing.Heard.{Heard}
 use Rattle.wef_front_collector.specs.declared.saying.Said.{Said}
 use Rattle.wef_front_collector.specs.declared.saying.Said.TheVariants.{Offers}
@@ -24,7 +24,7 @@ use Rattle.wef_http.specs.declared.messages.HttpRequest.{HttpRequest}
 use Rattle.wef_http_heads.specs.declared.answers.Answer.{Answer}
 use Rattle.wef_keeper.specs.Rows.{Rows}
 use Rattle.wef_keeper.specs.declared.keys.Change.{Change}
-use Rattle.wef_collector_serving.proofs.AlikeRows.{alike_ended, alike_taken, same_offers, same_standing}
+use Rattle.wef_collector_serving.proofs.AlikeRows.{alike_ended, alike_hearing, alike_taken, same_offers, same_standing}
 use Rattle.wef_collector_serving.specs.ByRows.{AnswersBy, Goes, IsAnsweredBy, Kept, error_of}
 use Rattle.wef_collector_serving.specs.Clocks.{AreAlike}
 
@@ -41,6 +41,11 @@ module _ (rows other : Rows) (u s : List ℕ) (batch : Batch) (now moment : ℕ)
       by true = refl
       by false = refl
 
+beat_said : (rows other : Rows) (u s : List ℕ) (ack : Bool) (now moment : ℕ) (o : Standing) → said_where (batch_said ack) tt (hear_by o rows u s now) ≡ said_where (batch_said ack) tt (hear_by o other u s moment)
+beat_said rows other u s ack now moment Unknown = refl
+beat_said rows other u s ack now moment (Ended about) = refl
+beat_said rows other u s ack now moment (Live about) = refl
+
 ended_said : (b : Bool) (changes others : List Change) → said_where (batch_said false) tt (cond b (Ok changes) (Err NoSubscription)) ≡ said_where (batch_said false) tt (cond b (Ok others) (Err NoSubscription))
 ended_said true changes others = refl
 ended_said false changes others = refl
@@ -51,6 +56,8 @@ same_said host (Enumerate s) now moment rows other alike = ap Offers (same_offer
 same_said host (Unread u) now moment rows other alike = ap (λ (o : Standing). said_where (batch_said false) tt (unread_by o)) (same_standing rows other alike u)
 same_said host (Take u s batch) now moment rows other alike =
     take_said rows other u s batch now moment (standing rows u) ∙ ap (λ (o : Standing). said_where (batch_said batch.ack_wanted) tt (take_by o other u s batch moment)) (same_standing rows other alike u)
+same_said host (Heartbeat u s ack) now moment rows other alike =
+    beat_said rows other u s ack now moment (standing rows u) ∙ ap (λ (o : Standing). said_where (batch_said ack) tt (hear_by o other u s moment)) (same_standing rows other alike u)
 same_said host (UnreadEnd u) now moment rows other alike =
     ap (λ (o : Standing). said_where (batch_said false) tt (cond (is_known o) (Err NotWellFormed) (Err NoSubscription))) (same_standing rows other alike u)
 same_said host (asks.Ended u s identifier) now moment rows other alike =
@@ -74,6 +81,11 @@ take_alike rows other alike u s batch now moment (Live about) = by (is_well_form
     by true = alike_taken rows other alike u s (channels_read about) batch now moment
     by false = alike
 
+beat_alike : (rows other : Rows) → AreAlike rows other → (u s : List ℕ) (now moment : ℕ) (o : Standing) → AreAlike (rows_by (hear_by o rows u s now) rows) (rows_by (hear_by o other u s moment) other)
+beat_alike rows other alike u s now moment Unknown = alike
+beat_alike rows other alike u s now moment (Ended about) = alike
+beat_alike rows other alike u s now moment (Live about) = alike_hearing rows other alike u s now moment
+
 unread_end_alike : (rows other : Rows) → AreAlike rows other → (b c : Bool) → AreAlike (rows_by (cond b (Err NotWellFormed) (Err NoSubscription)) rows) (rows_by (cond c (Err NotWellFormed) (Err NoSubscription)) other)
 unread_end_alike rows other alike true true = alike
 unread_end_alike rows other alike true false = alike
@@ -93,6 +105,9 @@ same_done (Unread u) now moment rows other alike =
 same_done (Take u s batch) now moment rows other alike =
     subst (λ (o : Standing). AreAlike (rows_by (take_by (standing rows u) rows u s batch now) rows) (rows_by (take_by o other u s batch moment) other)) (same_standing rows other alike u)
     (take_alike rows other alike u s batch now moment (standing rows u))
+same_done (Heartbeat u s ack) now moment rows other alike =
+    subst (λ (o : Standing). AreAlike (rows_by (hear_by (standing rows u) rows u s now) rows) (rows_by (hear_by o other u s moment) other)) (same_standing rows other alike u)
+    (beat_alike rows other alike u s now moment (standing rows u))
 same_done (UnreadEnd u) now moment rows other alike = unread_end_alike rows other alike (is_known (standing rows u)) (is_known (standing other u))
 same_done (asks.Ended u s identifier) now moment rows other alike =
     subst (λ (o : Standing). AreAlike (rows_by (source_ended_effect rows u s identifier) rows) (rows_by (cond (is_known o) (Ok (end_lease other u s identifier)) (Err NoSubscription)) other))

@@ -1,5 +1,5 @@
--- Rows that are alike are read alike, and stay so under what a batch changes, at whatever moment it comes, and under the end of a
--- lease.
+-- Rows that are alike are read alike, and stay so under what a batch changes, at whatever moment it comes, where a source is heard, and
+-- under the end of a lease.
 use Rattle.std.proofs.Common.{◌≡◌, ℕ, ◌+◌, ◌==◌, Bool, true, false, ◌&&◌, ◌||◌, cond, List, [], ◌∷◌, ◌++◌, refl, ap, sym, subst, ◌∙◌, nat_eq, nat_lt, if◌then◌else◌}
 use Rattle.std.proofs.lemmas.Bool.{and_parts, eqb-true}
 use Rattle.std.specs.Cmp.Lexicographic.{pointwise}
@@ -208,6 +208,16 @@ alike_taken rows other alike u s channels batch now moment = λ q.
     (alike_heard rows other u s now moment q (found_after changes q (finite.get rows q)) (found_after changes q (finite.get other q))
     (alike_found (q.kind == number_of Heard) changes q (finite.get rows q) (finite.get other q) (alike q))
     (stays_there rows u s changes (channels_keep rows u s batch channels) q) (stays_there other u s changes (channels_keep rows u s batch channels) q))
+
+-- ---- a heartbeat
+
+pub alike_hearing : (rows other : Rows) → AreAlike rows other → (u s : List ℕ) (now moment : ℕ) → AreAlike (applied (heard_changes rows u s now) rows) (applied (heard_changes other u s moment) other)
+alike_hearing rows other alike u s now moment = λ q.
+    carried (q.kind == number_of Heard)
+    (finite.get (applied (heard_changes rows u s now) rows) q) (found_after (heard_changes rows u s now) q (finite.get rows q))
+    (finite.get (applied (heard_changes other u s moment) other) q) (found_after (heard_changes other u s moment) q (finite.get other q))
+    (get-applied (heard_changes rows u s now) rows q) (get-applied (heard_changes other u s moment) other q)
+    (alike_heard rows other u s now moment q (finite.get rows q) (finite.get other q) (alike q) (stays_there rows u s [] nothing_keeps q) (stays_there other u s [] nothing_keeps q))
 
 -- ---- the end of a lease
 

@@ -9,7 +9,7 @@ use Rattle.wef_front_collector.specs.Replies.{IsUnanswered}
 use Rattle.wef_front_collector.specs.Steps.{HasStepped, Steps}
 use Rattle.wef_front_collector.specs.declared.hearing.Asked.{Asked}
 use Rattle.wef_front_collector.specs.declared.hearing.Asked.TheVariants as asks
-use Rattle.wef_front_collector.specs.declared.hearing.Asked.TheVariants.{Refused, Enumerate, Unread, Take, UnreadEnd}
+use Rattle.wef_front_collector.specs.declared.hearing.Asked.TheVariants.{Refused, Enumerate, Unread, Take, Heartbeat, UnreadEnd}
 use Rattle.wef_front_collector.specs.declared.hearing.Heard.{Heard}
 use Rattle.wef_front_collector.specs.declared.saying.Said.{Said}
 use Rattle.wef_http.specs.declared.messages.HttpRequest.{HttpRequest}
@@ -33,6 +33,7 @@ steps_count host (Refused name) moment said before now stepped = untouched befor
 steps_count host (Enumerate s) moment said before now stepped = stepped.1.faults
 steps_count host (Unread u) moment said before now stepped = stepped.0.1.faults
 steps_count host (Take u s batch) moment said before now stepped = stepped.1.faults
+steps_count host (Heartbeat u s ack) moment said before now stepped = stepped.1.faults
 steps_count host (UnreadEnd u) moment said before now stepped = stepped.0.1.faults
 steps_count host (asks.Ended u s identifier) moment said before now stepped = stepped.1.faults
 
@@ -41,6 +42,7 @@ stepped_counts host (Refused name) moment before now stepped = untouched before 
 stepped_counts host (Enumerate s) moment before now stepped = stepped.1.faults
 stepped_counts host (Unread u) moment before now stepped = stepped.1.faults
 stepped_counts host (Take u s batch) moment before now stepped = stepped.1.faults
+stepped_counts host (Heartbeat u s ack) moment before now stepped = stepped.1.faults
 stepped_counts host (UnreadEnd u) moment before now stepped = stepped.1.faults
 stepped_counts host (asks.Ended u s identifier) moment before now stepped = stepped.1.faults
 

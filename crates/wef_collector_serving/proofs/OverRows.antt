@@ -9,11 +9,12 @@ use Rattle.wef_base.specs.Names as names
 use Rattle.wef_batch.specs.WellFormed.{is_well_formed}
 use Rattle.wef_batch.specs.declared.items.Batch.{Batch}
 use Rattle.wef_collector.proofs.Batches.{bookmark_moves, bookmark_never_falls}
+use Rattle.wef_collector.proofs.Hearing.{bookmark_by_hearing}
 use Rattle.wef_collector.proofs.Hits.{found_if_other, hits}
-use Rattle.wef_collector.specs.Calls.{Effect, no_effect, take_by, take_effect, unread_by}
+use Rattle.wef_collector.specs.Calls.{Effect, hear_by, no_effect, take_by, take_effect, unread_by}
 use Rattle.wef_collector.specs.Laws.{BookmarksRise, IsReached, moved}
 use Rattle.wef_collector.specs.Offers.{offers}
-use Rattle.wef_collector.specs.Taken.{batch_changes, taken}
+use Rattle.wef_collector.specs.Taken.{batch_changes, heard_changes, taken}
 use Rattle.wef_collector_rows.specs.Answers.{channels_read, is_known}
 use Rattle.wef_collector_rows.specs.Bookmarks.{bookmark_at}
 use Rattle.wef_collector_leases.specs.Changes.{delete_lease, delete_named, end_lease}
@@ -33,7 +34,7 @@ use Rattle.wef_front_collector.specs.Replies.{rows_by}
 use Rattle.wef_front_collector.specs.Steps.{HasStepped, IsAnswered, IsFailure, Steps, batch_said, effect_in, fault_for, said_where, said_with}
 use Rattle.wef_front_collector.specs.declared.hearing.Asked.{Asked}
 use Rattle.wef_front_collector.specs.declared.hearing.Asked.TheVariants as asks
-use Rattle.wef_front_collector.specs.declared.hearing.Asked.TheVariants.{Refused, Enumerate, Unread, Take, UnreadEnd}
+use Rattle.wef_front_collector.specs.declared.hearing.Asked.TheVariants.{Refused, Enumerate, Unread, Take, Heartbeat, UnreadEnd}
 use Rattle.wef_front_collector.specs.declared.saying.Said.{Said}
 use Rattle.wef_front_collector.specs.declared.saying.Said.TheVariants.{Ack, Quiet, Offers, Fault}
 use Rattle.wef_http.specs.Messages.{IsRequest}
@@ -126,6 +127,8 @@ module _ (host : List ℕ) (moment : ℕ) where
       call_back (batch_said false) (λ _. tt) (effect_in (Unread u) moment) done s t last call lawful opened found said answered is
   steps_back (Take u name batch) said s t last (done, call, answered, is) lawful opened found =
       call_back (batch_said batch.ack_wanted) (λ _. tt) (effect_in (Take u name batch) moment) done s t last call lawful opened found said answered is
+  steps_back (Heartbeat u name ack) said s t last (done, call, answered, is) lawful opened found =
+      call_back (batch_said ack) (λ _. tt) (effect_in (Heartbeat u name ack) moment) done s t last call lawful opened found said answered is
   steps_back (UnreadEnd u) said s t last ((done, call, answered, is), fault) lawful opened found =
       call_back (batch_said false) (λ _. tt) (effect_in (UnreadEnd u) moment) done s t last call lawful opened found said answered is
   steps_back (asks.Ended u name identifier) said s t last (done, call, answered, is) lawful opened found =
@@ -137,6 +140,7 @@ module _ (host : List ℕ) (moment : ℕ) where
   stepped_back (Enumerate name) s t last (done, call, refusal) lawful opened found = leave_back Offers (λ rows. offers rows name host) no_effect done s t last call lawful opened found
   stepped_back (Unread u) s t last (done, call) lawful opened found = leave_back (batch_said false) (λ _. tt) (effect_in (Unread u) moment) done s t last call lawful opened found
   stepped_back (Take u name batch) s t last (done, call) lawful opened found = leave_back (batch_said batch.ack_wanted) (λ _. tt) (effect_in (Take u name batch) moment) done s t last call lawful opened found
+  stepped_back (Heartbeat u name ack) s t last (done, call) lawful opened found = leave_back (batch_said ack) (λ _. tt) (effect_in (Heartbeat u name ack) moment) done s t last call lawful opened found
   stepped_back (UnreadEnd u) s t last (done, call) lawful opened found = leave_back (batch_said false) (λ _. tt) (effect_in (UnreadEnd u) moment) done s t last call lawful opened found
   stepped_back (asks.Ended u name identifier) s t last (done, call) lawful opened found =
       leave_back (batch_said false) (λ _. tt) (effect_in (asks.Ended u name identifier) moment) done s t last call lawful opened found
@@ -157,6 +161,7 @@ module _ (host : List ℕ) (moment : ℕ) where
   steps_open (Enumerate name) said s t stepped opened = stepped.1.opened opened
   steps_open (Unread u) said s t stepped opened = stepped.0.1.opened opened
   steps_open (Take u name batch) said s t stepped opened = stepped.1.opened opened
+  steps_open (Heartbeat u name ack) said s t stepped opened = stepped.1.opened opened
   steps_open (UnreadEnd u) said s t stepped opened = stepped.0.1.opened opened
   steps_open (asks.Ended u name identifier) said s t stepped opened = stepped.1.opened opened
 
@@ -165,6 +170,7 @@ module _ (host : List ℕ) (moment : ℕ) where
   stepped_open (Enumerate name) s t stepped opened = stepped.1.opened opened
   stepped_open (Unread u) s t stepped opened = stepped.1.opened opened
   stepped_open (Take u name batch) s t stepped opened = stepped.1.opened opened
+  stepped_open (Heartbeat u name ack) s t stepped opened = stepped.1.opened opened
   stepped_open (UnreadEnd u) s t stepped opened = stepped.1.opened opened
   stepped_open (asks.Ended u name identifier) s t stepped opened = stepped.1.opened opened
 
@@ -181,6 +187,7 @@ module _ (host : List ℕ) (moment : ℕ) where
   steps_good (Enumerate name) said s t first stepped found good = good_then s t first found stepped.1.formed good
   steps_good (Unread u) said s t first stepped found good = good_then s t first found stepped.0.1.formed good
   steps_good (Take u name batch) said s t first stepped found good = good_then s t first found stepped.1.formed good
+  steps_good (Heartbeat u name ack) said s t first stepped found good = good_then s t first found stepped.1.formed good
   steps_good (UnreadEnd u) said s t first stepped found good = good_then s t first found stepped.0.1.formed good
   steps_good (asks.Ended u name identifier) said s t first stepped found good = good_then s t first found stepped.1.formed good
 
@@ -189,6 +196,7 @@ module _ (host : List ℕ) (moment : ℕ) where
   stepped_good (Enumerate name) s t first stepped found good = good_then s t first found stepped.1.formed good
   stepped_good (Unread u) s t first stepped found good = good_then s t first found stepped.1.formed good
   stepped_good (Take u name batch) s t first stepped found good = good_then s t first found stepped.1.formed good
+  stepped_good (Heartbeat u name ack) s t first stepped found good = good_then s t first found stepped.1.formed good
   stepped_good (UnreadEnd u) s t first stepped found good = good_then s t first found stepped.1.formed good
   stepped_good (asks.Ended u name identifier) s t first stepped found good = good_then s t first found stepped.1.formed good
 
@@ -215,6 +223,12 @@ taking_reaches found left u s about batch moment is =
     let moves : bookmark_at (taken found u s (channels_read about) batch moment) u s c ≡ max (bookmark_at found u s c) t =
     bookmark_moves found u s (channels_read about) ((batch, moment) ∷ []) c listed ∙ ap (moved (bookmark_at found u s c)) reached in
     omega arith)
+
+-- a source that is heard moves no bookmark
+hearing_rises : (found left : Rows) (u s : List ℕ) (moment : ℕ) → left ≡ applied (heard_changes found u s moment) found → BookmarksRise found left
+hearing_rises found left u s moment is = λ v r c.
+    let same : bookmark_at left v r c ≡ bookmark_at found v r c = ap (λ (rows : Rows). bookmark_at rows v r c) is ∙ bookmark_by_hearing found u s moment v r c in
+    omega arith
 
 -- the end of a lease changes no row of another key
 others_stay : (q : Key) (u s identifier : List ℕ) (kept : Option Lease) (cell : Option Cell) → hits (lease_key u s) q ≡ false → found_after (delete_named u s identifier kept) q cell ≡ cell
@@ -249,6 +263,12 @@ effect_rises (Take u s batch) moment found left = by (standing found u)
     by stands.Unknown = λ made. absurd made
     by (stands.Ended about) = λ made. absurd made
     by (stands.Live about) = by_form about (is_well_formed (channels_read about) batch)
+effect_rises (Heartbeat u s ack) moment found left = by (standing found u)
+  where
+    by : (o : Standing) → RisesBy found left (hear_by o found u s moment)
+    by stands.Unknown = λ made. absurd made
+    by (stands.Ended about) = λ made. absurd made
+    by (stands.Live about) = λ made. hearing_rises found left u s moment made
 effect_rises (UnreadEnd u) moment found left = by (is_known (standing found u))
   where
     by : (known : Bool) → RisesBy found left (cond known (Err NotWellFormed) (Err NoSubscription))
@@ -284,6 +304,7 @@ untaken final rows (Take u s batch) Ack faulty = absurd faulty
 untaken final rows (Take u s batch) Quiet faulty = absurd faulty
 untaken final rows (Take u s batch) (Offers list) faulty = tt
 untaken final rows (Take u s batch) (Fault name) faulty = tt
+untaken final rows (Heartbeat u s ack) said faulty = tt
 untaken final rows (UnreadEnd u) said faulty = tt
 untaken final rows (asks.Ended u s identifier) said faulty = tt
 
@@ -322,6 +343,7 @@ module _ (final found left : Rows) (rises : BookmarksRise left final) where
   goes_within host (Enumerate name) moment said (inl (is, same)) = tt
   goes_within host (Unread u) moment said (inl (is, same)) = tt
   goes_within host (Take u s batch) moment said (inl (is, same)) = batch_within u s batch moment said is same
+  goes_within host (Heartbeat u s ack) moment said (inl (is, same)) = tt
   goes_within host (UnreadEnd u) moment said (inl (is, same)) = tt
   goes_within host (asks.Ended u s identifier) moment said (inl (is, same)) = tt
 

@@ -1,5 +1,5 @@
 -- What is written is what the definition says.
-use Rattle.std.proofs.Common.{◌≡◌, ℕ, ◌<◌, ◌||◌, Bool, true, false, List, [], ◌∷◌, ◌++◌, map, length, refl, sym, ap, ◌∙◌, append_assoc}
+use Rattle.std.proofs.Common.{◌≡◌, ℕ, ◌<◌, ◌≤◌, ◌||◌, Bool, true, false, List, [], ◌∷◌, ◌++◌, map, length, nat_le, refl, sym, ap, ◌∙◌, subst, append_assoc, arith}
 use Rattle.std.proofs.lemmas.Grind.{flat_map-append}
 use Rattle.std.specs.Cmp.Lexicographic.{slice_cmp}
 use Rattle.std.specs.List.{AllByRecursion, flat_map, list_all}
@@ -8,6 +8,7 @@ use Rattle.std.specs.Ordering.{match_ordering, nat_cmp}
 use Rattle.std.specs.Prelude.{Option, Some, None, if◌then◌else◌}
 use Rattle.std.specs.declared.cmp.Ordering.{Ordering}
 use Rattle.std.specs.declared.cmp.Ordering.TheVariants.{Less, Equal, Greater}
+use Rattle.wef_base.specs.declared.moments.TheConstants.{LAST_MOMENT}
 use Rattle.wef_eventing.specs.declared.subscriptions.SourceAt.{SourceAt}
 use Rattle.wef_eventing.specs.declared.subscriptions.Subscription.{Subscription}
 use Rattle.wef_heartbeat.specs.Silence.{status_of}
@@ -16,9 +17,9 @@ use Rattle.wef_keeper.specs.declared.keys.Row.{Row}
 use Rattle.wef_query.proofs.Sorting.{is-in_order}
 use Rattle.wef_query.specs.Order.{IsInOrder, has, in_order, with_name, with_names}
 use Rattle.wef_collector_reports.specs.Report.{heard_rows}
-use Rattle.wef_collector_rows.specs.Forms.{is_formed}
-use Rattle.wef_collector_statuses.specs.Lines.{moment_of, names_behind, names_below, never_line, row_line, told}
-use Rattle.wef_collector_statuses.specs.Statuses.{heard_at, source_status, statuses_of, status_line}
+use Rattle.wef_collector_rows.specs.Forms.{is_formed, is_moment}
+use Rattle.wef_collector_statuses.specs.Lines.{line_at, moment_of, names_behind, names_below, never_line, row_line, told}
+use Rattle.wef_collector_statuses.specs.Statuses.{heard_at, source_status, sources_told, statuses_of, status_line}
 use Rattle.wef_collector_statuses.specs.declared.lines.Telling.{Telling}
 use Rattle.wef_collector_statuses.proofs.HeardRows.{IsHeard, heard_moments, never_heard, rows_are_heard, sources_in_order}
 use Rattle.wef_collector_statuses.proofs.Merging.{Above, IsAbove, IsBelow, all_above, all_behind, all_below, all_both, behind_are, behind_in_order, below_are, merged, merged_is, not_there, other_name_too}

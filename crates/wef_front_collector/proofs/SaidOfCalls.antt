@@ -11,14 +11,14 @@ use Rattle.wef_keeper.specs.Rows.{Rows}
 use Rattle.wef_collector_rows.specs.declared.faults.CollectorFault.{CollectorFault}
 use Rattle.wef_collector_rows.specs.declared.faults.CollectorFault.TheVariants.{NoMemory, NoSubscription, Exists, Ended, NotWellFormed, NotAsked, TooMany, Failed, Full}
 use Rattle.wef_batch.specs.declared.items.Batch.{Batch}
-use Rattle.wef_collector.specs.Calls.{Effect, OfKnown, OfTake, OfUnreadEnd, no_effect, source_ended_effect, take_effect, unread_effect, unread_end_effect}
-use Rattle.wef_collector.specs.Judged.{AreOffersJudged, JudgesSourceEnded, JudgesTake}
+use Rattle.wef_collector.specs.Calls.{Effect, OfEnd, OfKnown, OfTake, OfUnreadEnd, hear_effect, no_effect, source_ended_effect, take_effect, unread_effect, unread_end_effect}
+use Rattle.wef_collector.specs.Judged.{AreOffersJudged, JudgesHear, JudgesSourceEnded, JudgesTake}
 use Rattle.wef_collector_rows.specs.Answers.{IsOfStore}
 use Rattle.wef_collector_rows.specs.Faults.{collector_store}
 use Rattle.wef_collector_rows.specs.Forms.{AreFormed}
 use Rattle.wef_collector_rows.specs.Judged.{JudgesName}
 use Rattle.wef_envelope.specs.Faults.{is_known}
-use Rattle.wef_front_collector.specs.Judged.{JudgesBatch, JudgesCall, JudgesEnd, JudgesOffers, JudgesUnread, JudgesUnreadEnd}
+use Rattle.wef_front_collector.specs.Judged.{JudgesBatch, JudgesCall, JudgesEnd, JudgesHeartbeat, JudgesOffers, JudgesUnread, JudgesUnreadEnd}
 use Rattle.wef_front_collector.specs.Steps.{Calls, CallsFor, IsAnswered, IsFailure, IsFault, IsKnownSaid, Says, SaysFor, SaysOffers, batch_said, fault_for, said_of, said_with}
 use Rattle.wef_front_collector.specs.declared.saying.Said.TheVariants.{Offers}
 use Rattle.wef_collector.specs.Offers.{CanAllBeOffered, offers}
@@ -77,6 +77,13 @@ pub batch_judged :
     IfOk result (λ said. said ≡ said_of batch.ack_wanted done) → IfOk result (λ said. JudgesBatch u s batch moment said before now)
 batch_judged u s batch moment done result before now does is =
     judged_so (batch_said batch.ack_wanted) (λ _. tt) (λ rows. take_effect rows u s batch moment) (λ answer found. JudgesTake answer found u s batch) done result before now does is
+
+pub heartbeat_judged :
+    {E : Type 0} (u s : List ℕ) (ack : Bool) (moment : ℕ) (done : Result (Unit {0}) CollectorFault) (result : Result Said E) (before now : Store) →
+    DoesWith collector_store AreFormed (λ rows. hear_effect rows u s moment) (λ _. tt) (λ answer found after. JudgesHear answer found u s) done before now →
+    IfOk result (λ said. said ≡ said_of ack done) → IfOk result (λ said. JudgesHeartbeat u s ack moment said before now)
+heartbeat_judged u s ack moment done result before now does is =
+    judged_so (batch_said ack) (λ _. tt) (λ rows. hear_effect rows u s moment) (λ answer found. JudgesHear answer found u s) done result before now does is
 
 pub unread_judged :
     {E : Type 0} (u : List ℕ) (done : Result (Unit {0}) CollectorFault) (result : Result Said E) (before now : Store) →
@@ -188,7 +195,23 @@ store_taken Failed of = tt
 store_taken NotAsked of = absurd of
 store_taken Full of = absurd of
 
--- what refuses the end of a subscription may refuse a batch
+-- what refuses a heartbeat may refuse a batch
+end_so : (fault : CollectorFault) → OfEnd fault → OfTake fault
+end_so NoMemory of = tt
+end_so NoSubscription of = tt
+end_so Exists of = absurd of
+end_so Ended of = tt
+end_so NotWellFormed of = tt
+end_so NotAsked of = absurd of
+end_so TooMany of = absurd of
+end_so Failed of = tt
+end_so Full of = absurd of
+
+pub end_taken : (done : Result (Unit {0}) CollectorFault) → IfErr done OfEnd → IfErr done OfTake
+end_taken (Ok done) of = tt
+end_taken (Err fault) of = end_so fault of
+
+-- so may what refuses the end of a subscription
 known_so : (fault : CollectorFault) → OfKnown fault → OfTake fault
 known_so NoMemory of = tt
 known_so NoSubscription of = tt

@@ -14,7 +14,7 @@ use Rattle.wef_envelope.specs.Envelopes.{id_in, said}
 use Rattle.wef_envelope.specs.Faults.{is_known}
 use Rattle.wef_bodies.specs.Leases.{Ended, ended_in}
 use Rattle.wef_bodies.specs.Reading.{has_enumerate}
-use Rattle.wef_envelope.specs.declared.actions.TheConstants.{ENUMERATE, EVENTS, SUBSCRIPTION_END, SUBSCRIPTIONS}
+use Rattle.wef_envelope.specs.declared.actions.TheConstants.{ENUMERATE, EVENTS, HEARTBEAT, SUBSCRIPTION_END, SUBSCRIPTIONS}
 use Rattle.wef_envelope.specs.declared.envelopes.Envelope.{Envelope}
 use Rattle.wef_envelope.specs.declared.envelopes.EnvelopeFault.{EnvelopeFault}
 use Rattle.wef_ids.specs.declared.FaultName.{FaultName}
@@ -25,7 +25,7 @@ use Rattle.wef_subscribes.specs.declared.faults.BodyFault.{BodyFault}
 use Rattle.wef_xml.specs.Good.{IsXmlText}
 use Rattle.wef_front_collector.specs.declared.hearing.Asked.{Asked}
 use Rattle.wef_front_collector.specs.declared.hearing.Asked.TheVariants as asked
-use Rattle.wef_front_collector.specs.declared.hearing.Asked.TheVariants.{Refused, Enumerate, Unread, Take, UnreadEnd}
+use Rattle.wef_front_collector.specs.declared.hearing.Asked.TheVariants.{Refused, Enumerate, Unread, Take, Heartbeat, UnreadEnd}
 use Rattle.wef_front_collector.specs.declared.hearing.Heard.{Heard}
 use Rattle.wef_http_heads.specs.declared.targets.Target.{Target}
 use Rattle.wef_http_heads.specs.declared.targets.Target.TheVariants.{Manager, Delivery, Root}
@@ -43,6 +43,14 @@ events_asked (Some u) (Some s) (Ok batch) = Take u s batch
 -- the batch that an envelope says
 abbrev pub batch_in : Envelope → Result Batch BatchFault
 batch_in e = batch_of e.bookmark e.ack_wanted e.body
+
+-- ---- heartbeats
+
+-- A heartbeat for a subscription: its body says nothing. One from no source's name is refused by the subscription that it is for.
+abbrev pub heartbeat_asked : Option (List ℕ) → Option (List ℕ) → Bool → Asked
+heartbeat_asked None source ack = Refused the.DestinationUnreachable
+heartbeat_asked (Some u) None ack = Unread u
+heartbeat_asked (Some u) (Some s) ack = Heartbeat u s ack
 
 -- ---- ends of subscriptions
 
@@ -78,7 +86,8 @@ enumerate_asked e =
 abbrev pub delivery_asked : List ℕ → List ℕ → Envelope → Asked
 delivery_asked sub source e =
     if same e.action EVENTS.now then events_asked (subscription_name sub) (source_name source) (batch_in e)
-    else (if same e.action SUBSCRIPTION_END.now then end_asked (subscription_name sub) (source_name source) (ended_in e.body) else Refused the.ActionNotSupported)
+    else (if same e.action HEARTBEAT.now then heartbeat_asked (subscription_name sub) (source_name source) e.ack_wanted
+    else (if same e.action SUBSCRIPTION_END.now then end_asked (subscription_name sub) (source_name source) (ended_in e.body) else Refused the.ActionNotSupported))
 
 -- what an envelope asks of the collector itself, by its action
 abbrev pub manager_asked : Envelope → Asked
@@ -119,6 +128,7 @@ IsSoundAsk (Refused name) = is_known name ≡ true
 IsSoundAsk (Enumerate s) = Unit {0}
 IsSoundAsk (Unread u) = Unit {0}
 IsSoundAsk (Take u s batch) = AreNumbered batch.items
+IsSoundAsk (Heartbeat u s ack) = Unit {0}
 IsSoundAsk (UnreadEnd u) = Unit {0}
 IsSoundAsk (asked.Ended u s identifier) = Unit {0}
 

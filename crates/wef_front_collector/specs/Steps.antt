@@ -11,12 +11,12 @@ use Rattle.wef_collector_rows.specs.Faults.{collector_store}
 use Rattle.wef_collector_rows.specs.Forms.{AreFormed}
 use Rattle.wef_collector_rows.specs.declared.faults.CollectorFault.{CollectorFault}
 use Rattle.wef_collector_rows.specs.declared.faults.CollectorFault.TheVariants.{NoMemory, NoSubscription, Exists, Ended, NotWellFormed, NotAsked, TooMany, Failed, Full}
-use Rattle.wef_collector.specs.Calls.{Effect, no_effect, source_ended_effect, take_effect, unread_effect, unread_end_effect}
+use Rattle.wef_collector.specs.Calls.{Effect, hear_effect, no_effect, source_ended_effect, take_effect, unread_effect, unread_end_effect}
 use Rattle.wef_collector.specs.Offers.{CanAllBeOffered, offers}
 use Rattle.wef_eventing.specs.declared.offers.Offer.{Offer}
 use Rattle.wef_front_collector.specs.declared.hearing.Asked.{Asked}
 use Rattle.wef_front_collector.specs.declared.hearing.Asked.TheVariants as asked
-use Rattle.wef_front_collector.specs.declared.hearing.Asked.TheVariants.{Refused, Enumerate, Unread, Take, UnreadEnd}
+use Rattle.wef_front_collector.specs.declared.hearing.Asked.TheVariants.{Refused, Enumerate, Unread, Take, Heartbeat, UnreadEnd}
 use Rattle.wef_front_collector.specs.declared.saying.Said.{Said}
 use Rattle.wef_front_collector.specs.declared.saying.Said.TheVariants.{Ack, Quiet, Offers, Fault}
 
@@ -35,7 +35,7 @@ fault_for TooMany = the.InternalError
 fault_for NotAsked = the.InternalError
 fault_for Full = the.InternalError
 
--- a batch that was taken is acknowledged where its source wants that
+-- a batch that was taken is acknowledged where its source wants that, and a heartbeat that was heard
 abbrev pub done_said : Bool → Said
 done_said ack = if ack then Ack else Quiet
 
@@ -49,7 +49,7 @@ abbrev pub said_where : {T : Type 0} → (T → Said) → T → Effect → Said
 said_where tell given (Ok changes) = tell given
 said_where tell given (Err fault) = Fault (fault_for fault)
 
--- of a batch that was taken; an end that was heard is none that is acknowledged
+-- of a batch that was taken or a heartbeat; an end that was heard is none that is acknowledged
 abbrev pub batch_said : Bool → Unit {0} → Said
 batch_said ack done = done_said ack
 
@@ -62,6 +62,7 @@ effect_in (Refused name) moment rows = Ok []
 effect_in (Enumerate s) moment rows = no_effect rows
 effect_in (Unread u) moment rows = unread_effect rows u
 effect_in (Take u s batch) moment rows = take_effect rows u s batch moment
+effect_in (Heartbeat u s ack) moment rows = hear_effect rows u s moment
 effect_in (UnreadEnd u) moment rows = unread_end_effect rows u
 effect_in (asked.Ended u s identifier) moment rows = source_ended_effect rows u s identifier
 
@@ -71,6 +72,7 @@ said_by host (Refused name) found effect = Fault name
 said_by host (Enumerate s) found effect = said_where Offers (offers found s host) effect
 said_by host (Unread u) found effect = said_where (batch_said false) tt effect
 said_by host (Take u s batch) found effect = said_where (batch_said batch.ack_wanted) tt effect
+said_by host (Heartbeat u s ack) found effect = said_where (batch_said ack) tt effect
 said_by host (UnreadEnd u) found effect = said_where (batch_said false) tt effect
 said_by host (asked.Ended u s identifier) found effect = said_where (batch_said false) tt effect
 
@@ -121,6 +123,7 @@ Steps host (Refused name) moment said before now = (said ≡ Fault name) × (now
 Steps host (Enumerate s) moment said before now = SaysOffers host s said before now
 Steps host (Unread u) moment said before now = Says false (effect_in (Unread u) moment) said before now × IsFault said
 Steps host (Take u s batch) moment said before now = Says batch.ack_wanted (effect_in (Take u s batch) moment) said before now
+Steps host (Heartbeat u s ack) moment said before now = Says ack (effect_in (Heartbeat u s ack) moment) said before now
 Steps host (UnreadEnd u) moment said before now = Says false (effect_in (UnreadEnd u) moment) said before now × IsFault said
 Steps host (asked.Ended u s identifier) moment said before now = Says false (effect_in (asked.Ended u s identifier) moment) said before now
 
@@ -131,6 +134,7 @@ HasStepped host (Enumerate s) moment before now =
     (done : Result (List Offer) CollectorFault) × CallsFor (λ rows. offers rows s host) no_effect done before now × IfErr done IsOfStore
 HasStepped host (Unread u) moment before now = (done : Result (Unit {0}) CollectorFault) × Calls (effect_in (Unread u) moment) done before now
 HasStepped host (Take u s batch) moment before now = (done : Result (Unit {0}) CollectorFault) × Calls (effect_in (Take u s batch) moment) done before now
+HasStepped host (Heartbeat u s ack) moment before now = (done : Result (Unit {0}) CollectorFault) × Calls (effect_in (Heartbeat u s ack) moment) done before now
 HasStepped host (UnreadEnd u) moment before now = (done : Result (Unit {0}) CollectorFault) × Calls (effect_in (UnreadEnd u) moment) done before now
 HasStepped host (asked.Ended u s identifier) moment before now = (done : Result (Unit {0}) CollectorFault) × Calls (effect_in (asked.Ended u s identifier) moment) done before now
 

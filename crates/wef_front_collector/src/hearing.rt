@@ -7,7 +7,7 @@ ghost use Rattle.wef_batch.specs.Numbers.{AreNumbered};
 ghost use Rattle.wef_batch.specs.Reading.{AreGoodTrees, AreToldTrees, Reads};
 ghost use Rattle.wef_bodies.specs.Leases.{ended_in};
 ghost use Rattle.wef_envelope.specs.Envelopes.{said};
-ghost use Rattle.wef_front_collector.specs.Heard.{Hears, IsSound, IsSoundAsk, asked_by, asked_of, batch_in, delivery_asked, end_asked, enumerate_asked, events_asked, heard_in, is_elsewhere, manager_asked, unheard};
+ghost use Rattle.wef_front_collector.specs.Heard.{Hears, IsSound, IsSoundAsk, asked_by, asked_of, batch_in, delivery_asked, end_asked, enumerate_asked, events_asked, heard_in, heartbeat_asked, is_elsewhere, manager_asked, unheard};
 ghost use Rattle.wef_xml.specs.Good.{IsGoodTree};
 ghost use Rattle.wef_xml.specs.Told.{IsTold};
 
@@ -15,7 +15,7 @@ use std::alloc::{AllocError, Global};
 use wef_base::{Charset, Element, SourceName, SubId, Text};
 use wef_batch::{Batch, BatchFault, read_batch};
 use wef_bodies::{BodyFault, has_enumerate, read_end};
-use wef_envelope::actions::{ENUMERATE, EVENTS, SUBSCRIPTION_END, SUBSCRIPTIONS};
+use wef_envelope::actions::{ENUMERATE, EVENTS, HEARTBEAT, SUBSCRIPTION_END, SUBSCRIPTIONS};
 use wef_envelope::{Envelope, FaultName, MessageId, from_node, id_in};
 use wef_http_heads::Target;
 use wef_replies::{envelope_refused, is_nameless, tree_refused};
@@ -35,6 +35,12 @@ pub enum Asked {
         sub: SubId,
         source: SourceName,
         batch: Batch,
+    },
+    /// A source of a subscription is there, and has nothing to send; it may want to be told that it was heard.
+    Heartbeat {
+        sub: SubId,
+        source: SourceName,
+        ack_wanted: bool,
     },
     /// The end of a subscription that can't be read.
     UnreadEnd(SubId),
@@ -185,6 +191,9 @@ fn delivery_asked(
     if envelope.action.as_str() == EVENTS {
         return events_asked(sub, source, told, envelope);
     }
+    if envelope.action.as_str() == HEARTBEAT {
+        return heartbeat_asked(sub, source, envelope.ack_wanted);
+    }
     if envelope.action.as_str() == SUBSCRIPTION_END {
         return end_asked(sub, source, envelope);
     }
@@ -231,6 +240,24 @@ fn batch_in(told: bool, envelope: &Envelope) -> Result<Batch, BatchFault>
         told,
         envelope.body.as_slice(),
     )
+}
+
+/// What a heartbeat asks that came to the path of a subscription and a source, whatever its body says.
+fn heartbeat_asked(sub: &Text, source: &Text, ack_wanted: bool) -> Result<Asked, AllocError>
+    ensures asked { IfOk result (λ asked. asked ≡ heartbeat_asked (subscription_name sub.now) (source_name source.now) ack_wanted) }
+    ensures sound { IfOk result IsSoundAsk }
+{
+    let Some(sub) = SubId::named(sub)? else {
+        return Ok(Asked::Refused(FaultName::DestinationUnreachable));
+    };
+    let Some(source) = SourceName::named(source)? else {
+        return Ok(Asked::Unread(sub));
+    };
+    Ok(Asked::Heartbeat {
+        sub,
+        source,
+        ack_wanted,
+    })
 }
 
 /// What the end of a subscription asks that came to the path of a subscription and a source.

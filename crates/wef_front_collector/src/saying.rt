@@ -2,14 +2,14 @@
 
 ghost use Rattle.std.specs.Prelude.{◌≡◌, false, List, Result, IfErr, IfOk};
 ghost use Rattle.wef_batch.specs.Numbers.{AreNumbered};
-ghost use Rattle.wef_collector.specs.Calls.{OfTake, no_effect, source_ended_effect, take_effect, unread_effect, unread_end_effect};
+ghost use Rattle.wef_collector.specs.Calls.{OfTake, hear_effect, no_effect, source_ended_effect, take_effect, unread_effect, unread_end_effect};
 ghost use Rattle.wef_collector.specs.Offers.{CanAllBeOffered, offers};
 ghost use Rattle.wef_collector_rows.specs.Answers.{IsOfStore};
 ghost use Rattle.wef_collector_rows.specs.declared.faults.CollectorFault as fault;
 ghost use Rattle.wef_eventing.specs.Addresses.{IsHost};
 ghost use Rattle.wef_eventing.specs.declared.offers.Offer.{Offer as TheOffer};
 ghost use Rattle.wef_front_collector.specs.Heard.{IsSoundAsk};
-ghost use Rattle.wef_front_collector.specs.Judged.{Judges, JudgesBatch, JudgesEnd, JudgesOffers, JudgesUnread, JudgesUnreadEnd};
+ghost use Rattle.wef_front_collector.specs.Judged.{Judges, JudgesBatch, JudgesEnd, JudgesHeartbeat, JudgesOffers, JudgesUnread, JudgesUnreadEnd};
 ghost use Rattle.wef_front_collector.specs.Steps.{Calls, CallsFor, HasStepped, IsAnswered, IsFailure, IsFault, IsKnownSaid, Says, SaysOffers, Steps, fault_for, said_of, said_with};
 ghost use Rattle.wef_front_collector.specs.declared.saying.Said.TheVariants.{Fault, Offers};
 
@@ -26,9 +26,9 @@ use wef_keeper::Keeper;
 /// What the collector says to a message.
 #[derive(Debug, Drop)]
 pub enum Said {
-    /// A batch was taken, and its source wants to be told.
+    /// A batch was taken or a source was heard, and the source wants to be told.
     Ack,
-    /// A batch was taken, or it was heard that a subscription has ended.
+    /// A batch was taken or a source was heard, or it was heard that a subscription has ended.
     Quiet,
     /// The subscriptions of a source.
     Offers(List<Offer>),
@@ -55,6 +55,11 @@ pub fn say<K: Keeper>(
         Asked::Enumerate(source) => offer(collector, source, host),
         Asked::Unread(sub) => take_unread(collector, sub),
         Asked::Take { sub, source, batch } => take(collector, sub, source, batch, now),
+        Asked::Heartbeat {
+            sub,
+            source,
+            ack_wanted,
+        } => hear_source(collector, sub, source, *ack_wanted, now),
         Asked::UnreadEnd(sub) => source_ended_unread(collector, sub),
         Asked::Ended {
             sub,
@@ -125,6 +130,24 @@ fn take<K: Keeper>(
     ensures memory { collector.new.memory ≡ collector.old.memory }
 {
     said_of(batch.ack_wanted, collector.take(sub, source, batch, now))
+}
+
+/// Hears a source of a subscription, which has nothing to send.
+#[tactic(auto, using(crate::proofs::SaidOfCalls::says_of, crate::proofs::SaidOfCalls::heartbeat_judged, crate::proofs::SaidOfCalls::end_taken))]
+fn hear_source<K: Keeper>(
+    collector: &mut Collector<K>,
+    sub: &SubId,
+    source: &SourceName,
+    ack_wanted: bool,
+    now: Moment,
+) -> Result<Said, AllocError>
+    ensures said { IfOk result (λ said. Says ack_wanted (λ rows. hear_effect rows sub.now source.now now) said (K.store collector.old.keeper) (K.store collector.new.keeper)) }
+    ensures judged { IfOk result (λ said. JudgesHeartbeat sub.now source.now ack_wanted now said (K.store collector.old.keeper) (K.store collector.new.keeper)) }
+    ensures wants_memory { IfErr result (λ _. (done : Result (Unit {0}) fault.CollectorFault) × Calls (λ rows. hear_effect rows sub.now source.now now) done (K.store collector.old.keeper) (K.store collector.new.keeper)) }
+    ensures known { IfOk result IsKnownSaid }
+    ensures memory { collector.new.memory ≡ collector.old.memory }
+{
+    said_of(ack_wanted, collector.hear(sub, source, now))
 }
 
 /// Hears that a subscription has ended, where that couldn't be read.
