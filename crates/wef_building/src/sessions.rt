@@ -8,12 +8,12 @@ use wef_base::{SubId, Text};
 use wef_bookmark::Bookmark;
 use wef_query::QueryList;
 
-/// A delivery that wasn't answered yet.
+/// A batch or a heartbeat that was sent and wasn't answered yet.
 #[derive(Debug, Drop)]
 pub struct Outstanding {
     /// The value of its id.
     pub id: u128,
-    /// How far its batch reads each channel above the session's position.
+    /// How far a batch reads each channel above the session's position; a heartbeat reads none.
     pub to: Bookmark,
 }
 

@@ -5,14 +5,16 @@ use Rattle.std.proofs.lemmas.Option.{none-some}
 use Rattle.std.specs.List.{flat_map}
 use Rattle.std.specs.Prelude.{◌⊎◌, Option, Some, None, Result, Ok, Err, is_some, slice_get, if◌then◌else◌}
 use Rattle.wef_forwarding.specs.Asking.{AsksOnce, HearsEnvelope}
-use Rattle.wef_forwarding.specs.Forwarding.{Delivers, Ends, Forwards, answered_in}
+use Rattle.wef_forwarding.specs.Forwarding.{Beats, Delivers, Ends, Exchanges, Forwards, answered_in, count_of}
 use Rattle.wef_forwarding.specs.declared.exchanges.FrontFault.{FrontFault}
 use Rattle.wef_forwarding.specs.declared.exchanges.FrontFault.TheVariants as fronts
 use Rattle.wef_forwarding.specs.declared.forwarding.Exchange.{Exchange}
-use Rattle.wef_forwarding.specs.declared.forwarding.Exchange.TheVariants.{Nothing, Acked, Refused, Lost}
+use Rattle.wef_forwarding.specs.declared.forwarding.Exchange.TheVariants.{Nothing, Acked, Heard, Refused, Lost}
 use Rattle.wef_front_source.specs.HeardReplies as heard
 use Rattle.wef_front_source.specs.declared.listening.Hears.{Hears}
 use Rattle.wef_front_source.specs.declared.listening.Hears.TheVariants as hears
+use Rattle.wef_heartbeat.specs.declared.messages.Heartbeat.{Heartbeat}
+use Rattle.wef_ids.specs.declared.MessageId.{MessageId}
 use Rattle.wef_keeper.specs.Calls.{Did, Makes}
 use Rattle.wef_keeper.specs.Keeping.{IsLawful, Store}
 use Rattle.wef_keeper.specs.Rows.{Rows}
@@ -107,6 +109,7 @@ ask_drawn host s end end' now before after count once = envelope_drawn once.ends
 abbrev draws : Exchange → ℕ
 draws Nothing = 0
 draws (Acked count) = 1
+draws Heard = 1
 draws Refused = 1
 draws Lost = 1
 
@@ -120,9 +123,9 @@ answered_drawn end u None (Some answer) = refl
 answered_drawn end u (Some id) (Some replies.Ack) = refl
 answered_drawn end u (Some id) (Some (replies.Fault name)) = refl
 
-ended_drawn : (d : Delivery) (u : List ℕ) (answer : Result (Option reply.Reply) FrontFault) (mid end : End) (result : Result Exchange FrontFault) → Ends d u answer mid end result → end.drawn ≡ mid.drawn
-ended_drawn d u (Ok answer) mid end result is = ap (λ (e : End). e.drawn) is.1 ∙ answered_drawn mid u d.id.value answer
-ended_drawn d u (Err fault) mid end result is = ap (λ (e : End). e.drawn) is.1
+ended_drawn : (id : MessageId) (acked : Exchange) (u : List ℕ) (answer : Result (Option reply.Reply) FrontFault) (mid end : End) (result : Result Exchange FrontFault) → Ends id acked u answer mid end result → end.drawn ≡ mid.drawn
+ended_drawn id acked u (Ok answer) mid end result is = ap (λ (e : End). e.drawn) is.1 ∙ answered_drawn mid u id.value answer
+ended_drawn id acked u (Err fault) mid end result is = ap (λ (e : End). e.drawn) is.1
 
 sends_drawn : (end mid : End) (u : List ℕ) (now : ℕ) (d : Delivery) → Sends end mid u now (polls.Send d) → mid.drawn ≡ end.drawn + 1
 sends_drawn end mid u now d sends = by (session_of end.sessions u) sends
@@ -131,6 +134,13 @@ sends_drawn end mid u now d sends = by (session_of end.sessions u) sends
     by None is = absurd is
     by (Some session) is = ap (λ (e : End). e.drawn) is.3
 
+beats_drawn : (end mid : End) (u : List ℕ) (now : ℕ) (beat : Heartbeat) → Sends end mid u now (polls.Beat beat) → mid.drawn ≡ end.drawn + 1
+beats_drawn end mid u now beat sends = by (session_of end.sessions u) sends
+  where
+    by : (o : Option Session) → WhereThere o (λ session. source.SendsFrom end mid session u now (polls.Beat beat)) → mid.drawn ≡ end.drawn + 1
+    by None is = absurd is
+    by (Some session) is = ap (λ (e : End). e.drawn) is.4
+
 idles_drawn : (end mid : End) (u : List ℕ) (now : ℕ) → Sends end mid u now polls.Nothing → mid.drawn ≡ end.drawn
 idles_drawn end mid u now sends = by (session_of end.sessions u) sends
   where
@@ -138,25 +148,31 @@ idles_drawn end mid u now sends = by (session_of end.sessions u) sends
     by None is = absurd is
     by (Some session) is = ap (λ (e : End). e.drawn) is
 
-delivers_drawn : (rows : Option Rows) (end end' : End) (u : List ℕ) (now : ℕ) (before after : ports.Told) (result : Result Exchange FrontFault) → Delivers rows end end' u now before after result → end'.drawn ≡ end.drawn + 1
-delivers_drawn rows end end' u now before after result is =
-    ended_drawn is.delivery u is.delivered.answer is.sent end' result is.delivered.ends ∙ sends_drawn end is.sent u now is.delivery is.polled.sends
+exchanged_drawn : (rows : Option Rows) (end end' : End) (u : List ℕ) (now : ℕ) (before after : ports.Told) (result : Result Exchange FrontFault) → Exchanges rows end end' u now before after result → end'.drawn ≡ end.drawn + 1
+exchanged_drawn rows end end' u now before after result (inl is) =
+    ended_drawn is.delivery.id (Acked (count_of is.delivery)) u is.delivered.answer is.sent end' result is.delivered.ends ∙ sends_drawn end is.sent u now is.delivery is.polled.sends
+exchanged_drawn rows end end' u now before after result (inr is) =
+    ended_drawn is.beat.id Heard u is.beaten.answer is.sent end' result is.beaten.ends ∙ beats_drawn end is.sent u now is.beat is.polled.sends
 
 module _ (rows : Option Rows) (end end' : End) (u : List ℕ) (now : ℕ) (before after : ports.Told) where
-  -- a batch that is forwarded draws no more than is said of it
+  -- a message that is forwarded draws no more than is said of it
   forward_drawn : (answer : Result Exchange FrontFault) (exchange : Exchange) → Ok exchange ≡ unless_gone answer → Forwards rows end end' u now before after answer → end'.drawn ≤ end.drawn + draws exchange
   forward_drawn (Ok Nothing) exchange is forwards = let same = idles_drawn end end' u now forwards.0.sends in omega (arith, same)
   forward_drawn (Ok (Acked count)) exchange is forwards =
       let one : draws exchange ≡ 1 = ap draws_at_most is in
-      let same = delivers_drawn rows end end' u now before after (Ok (Acked count)) forwards in
+      let same = exchanged_drawn rows end end' u now before after (Ok (Acked count)) (inl forwards) in
+      omega (arith, same, one)
+  forward_drawn (Ok Heard) exchange is forwards =
+      let one : draws exchange ≡ 1 = ap draws_at_most is in
+      let same = exchanged_drawn rows end end' u now before after (Ok Heard) (inr forwards) in
       omega (arith, same, one)
   forward_drawn (Ok Refused) exchange is forwards =
       let one : draws exchange ≡ 1 = ap draws_at_most is in
-      let same = delivers_drawn rows end end' u now before after (Ok Refused) forwards in
+      let same = exchanged_drawn rows end end' u now before after (Ok Refused) forwards in
       omega (arith, same, one)
   forward_drawn (Ok Lost) exchange is forwards =
       let one : draws exchange ≡ 1 = ap draws_at_most is in
-      let same = delivers_drawn rows end end' u now before after (Ok Lost) forwards in
+      let same = exchanged_drawn rows end end' u now before after (Ok Lost) forwards in
       omega (arith, same, one)
   forward_drawn (Err fronts.NoMemory) exchange is forwards = absurd (unlike exchange fronts.NoMemory (sym is))
   forward_drawn (Err fronts.LinkFailed) exchange is forwards = absurd (unlike exchange fronts.LinkFailed (sym is))
@@ -169,7 +185,7 @@ module _ (rows : Option Rows) (end end' : End) (u : List ℕ) (now : ℕ) (befor
   forward_drawn (Err (fronts.Source faults.NotAsked)) exchange is forwards = absurd forwards.0
   forward_drawn (Err (fronts.Source faults.Spent)) exchange is forwards = absurd (unlike exchange (fronts.Source faults.Spent) (sym is))
 
--- a session is next only where a batch is left
+-- a session is next only where a message is left
 next_left : (plan : Plan) (u : List ℕ) → next plan ≡ Some u → 1 ≤ plan.left
 next_left plan u is = by (plan.left == 0) refl is
   where
@@ -180,6 +196,7 @@ next_left plan u is = by (plan.left == 0) refl is
 behind_left : (exchange : Exchange) (plan : Plan) → 1 ≤ plan.left → (behind exchange plan).left + draws exchange ≤ plan.left
 behind_left Nothing plan some = omega arith
 behind_left (Acked count) plan some = omega (arith, some)
+behind_left Heard plan some = omega (arith, some)
 behind_left Refused plan some = omega (arith, some)
 behind_left Lost plan some = omega (arith, some)
 

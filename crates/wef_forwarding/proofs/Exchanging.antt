@@ -9,9 +9,9 @@ use Rattle.wef_http_heads.specs.Laws.{IsByBytes}
 use Rattle.wef_http_heads.specs.declared.ends.HttpEnd.{HttpEnd}
 use Rattle.wef_http_heads.specs.declared.ends.HttpEnd.TheVariants as end
 use Rattle.wef_http.specs.Sending.{IsNotSent, Sends, SendsPart}
+use Rattle.wef_ids.specs.declared.MessageId.{MessageId}
 use Rattle.wef_ports.specs.Telling.{Told}
-use Rattle.wef_source.specs.declared.messages.Delivery.{Delivery}
-use Rattle.wef_forwarding.specs.Exchanges.{Brings, BrokeOff, Exchanged, IsCause, Replied, WasMade, brought_without, connected, fault_of, request_bytes, request_of}
+use Rattle.wef_forwarding.specs.Exchanges.{Brings, BrokeOff, Exchanged, IsCause, Replied, WasMade, brought_without, connected, fault_of, request_bytes}
 use Rattle.wef_forwarding.specs.declared.exchanges.FrontFault.{FrontFault}
 use Rattle.wef_forwarding.specs.declared.exchanges.FrontFault.TheVariants.{NoMemory, LinkFailed, Source}
 use Rattle.wef_forwarding.specs.declared.exchanges.Request.{Request}
@@ -94,8 +94,8 @@ unsent_cause end.Cut before now cause = absurd cause
 pub unbegun : (r : Request) (now : Told) → BrokeOff r NoMemory now now
 unbegun r now = record { broken = inl (refl, refl, refl, refl, refl, refl, refl); cause = tt; later = omega arith }
 
-pub not_begun : (d : Delivery) (now : Told) → Replied d (Err NoMemory) now now
-not_begun d now = unbegun (request_of d) now
+pub not_begun : (r : Request) (id : MessageId) (now : Told) → Replied r id (Err NoMemory) now now
+not_begun r id now = unbegun r now
 
 -- there is no connection
 pub not_connected : (r : Request) (before now : Told) → OnlyFails before now → Rose before.faults now.faults → before.faults ≤ now.faults → Exchanged r (Err LinkFailed) before now

@@ -1,6 +1,8 @@
--- A delivery that a poll gave and that was exchanged, as forwarding answers it.
-use Rattle.std.proofs.Common.{◌≡◌, ℕ, Bool, true, false, List, refl, sym, subst, inl, inr}
+-- What a poll gave and what was exchanged, as forwarding answers it.
+use Rattle.std.proofs.Common.{◌≡◌, ℕ, true, false, List, refl, sym, subst, inl, inr}
 use Rattle.std.specs.Prelude.{Option, Some, None, Result, Ok, Err, IfSome, is_none, not}
+use Rattle.wef_heartbeat.specs.declared.messages.Heartbeat.{Heartbeat}
+use Rattle.wef_ids.specs.declared.MessageId.{MessageId}
 use Rattle.wef_keeper.specs.Calls.{fails}
 use Rattle.wef_keeper.specs.Rows.{Rows}
 use Rattle.wef_ports.specs.Telling.{Told}
@@ -13,52 +15,76 @@ use Rattle.wef_building.specs.declared.faults.SourceFault.{SourceFault}
 use Rattle.wef_building.specs.declared.faults.SourceFault.TheVariants as faults
 use Rattle.wef_source.specs.declared.messages.Delivery.{Delivery}
 use Rattle.wef_source.specs.declared.messages.Poll.{Poll}
-use Rattle.wef_source.specs.declared.messages.Poll.TheVariants.{Send}
+use Rattle.wef_source.specs.declared.messages.Poll.TheVariants.{Beat, Send}
 use Rattle.wef_source.specs.declared.messages.Reply.{Reply}
 use Rattle.wef_source.specs.declared.messages.Reply.TheVariants as replies
 use Rattle.wef_building.specs.declared.sessions.Outstanding.{Outstanding}
 use Rattle.wef_building.specs.declared.sessions.Session.{Session}
-use Rattle.wef_forwarding.specs.Exchanges.{Replied, refused_by}
-use Rattle.wef_forwarding.specs.Forwarding.{AwaitsNothing, Delivers, Ends, Forwards, IsDelivered, Polled, Settles, outcome_of, refusal_of}
+use Rattle.wef_forwarding.specs.Exchanges.{Replied, refused_by, request_of, request_of_beat}
+use Rattle.wef_forwarding.specs.Forwarding.{AwaitsNothing, Beats, Delivers, Ends, Forwards, IsBeaten, IsDelivered, IsExchanged, Polled, Settles, count_of, outcome_of, refusal_of}
 use Rattle.wef_forwarding.specs.declared.exchanges.FrontFault.{FrontFault}
 use Rattle.wef_forwarding.specs.declared.exchanges.FrontFault.TheVariants.{NoMemory, LinkFailed, Source}
+use Rattle.wef_forwarding.specs.declared.exchanges.Request.{Request}
 use Rattle.wef_forwarding.specs.declared.forwarding.Exchange.{Exchange}
-use Rattle.wef_forwarding.specs.declared.forwarding.Exchange.TheVariants.{Nothing, Acked, Refused, Lost}
+use Rattle.wef_forwarding.specs.declared.forwarding.Exchange.TheVariants.{Nothing, Acked, Heard, Refused, Lost}
 
--- what is exchanged isn't nothing
-some_outcome : (count : ℕ) (answer : Option Reply) (result : Result Exchange FrontFault) → result ≡ Ok Nothing → result ≡ Ok (outcome_of count answer) → ⊥
-some_outcome count None result nothing e = cc
-some_outcome count (Some replies.Ack) result nothing e = cc
-some_outcome count (Some (replies.Fault name)) result nothing e = cc
+module _ (r : Request) (id : MessageId) (acked : Exchange) (u : List ℕ) (before after : Told) (mid end : End) where
+  -- what is exchanged is acknowledged as it says, or refused, or lost
+  other_outcome : (other : Exchange) (answer : Option Reply) (result : Result Exchange FrontFault) → (acked ≡ other → ⊥) → (Refused ≡ other → ⊥) → (Lost ≡ other → ⊥) → result ≡ Ok other → result ≡ Ok (outcome_of acked answer) → ⊥
+  other_outcome other None result not_acked not_refused not_lost is e = not_lost cc
+  other_outcome other (Some replies.Ack) result not_acked not_refused not_lost is e = not_acked cc
+  other_outcome other (Some (replies.Fault name)) result not_acked not_refused not_lost is e = not_refused cc
 
-never_nothing : (d : Delivery) (u : List ℕ) (answer : Result (Option Reply) FrontFault) (mid end : End) → Ends d u answer mid end (Ok Nothing) → ⊥
-never_nothing d u (Ok answer) mid end ends = some_outcome _ answer (Ok Nothing) refl ends.0
-never_nothing d u (Err fault) mid end ends = let e = ends.0 in cc
+  never : (other : Exchange) → (acked ≡ other → ⊥) → (Refused ≡ other → ⊥) → (Lost ≡ other → ⊥) → IsExchanged r id acked u before after mid end (Ok other) → ⊥
+  never other not_acked not_refused not_lost exchanged = by exchanged.answer exchanged.ends
+    where
+      by : (answer : Result (Option Reply) FrontFault) → Ends id acked u answer mid end (Ok other) → ⊥
+      by (Ok answer) ends = other_outcome other answer (Ok other) not_acked not_refused not_lost refl ends.0
+      by (Err fault) ends = let e = ends.0 in cc
 
--- and no source refuses it
-never_source : (d : Delivery) (u : List ℕ) (answer : Result (Option Reply) FrontFault) (before after : Told) (mid end : End) (fault : SourceFault)
-    → Replied d answer before after → Ends d u answer mid end (Err (Source fault)) → ⊥
-never_source d u (Ok answer) before after mid end fault exchanged ends = let e = ends.0 in cc
-never_source d u (Err NoMemory) before after mid end fault exchanged ends = let e = ends.0 in cc
-never_source d u (Err LinkFailed) before after mid end fault exchanged ends = let e = ends.0 in cc
-never_source d u (Err (Source other)) before after mid end fault exchanged ends = exchanged.cause
+  -- and no source refuses it
+  never_source : (fault : SourceFault) → IsExchanged r id acked u before after mid end (Err (Source fault)) → ⊥
+  never_source fault exchanged = by exchanged.answer exchanged.exchanged exchanged.ends
+    where
+      by : (answer : Result (Option Reply) FrontFault) → Replied r id answer before after → Ends id acked u answer mid end (Err (Source fault)) → ⊥
+      by (Ok answer) replied ends = let e = ends.0 in cc
+      by (Err NoMemory) replied ends = let e = ends.0 in cc
+      by (Err LinkFailed) replied ends = let e = ends.0 in cc
+      by (Err (Source other)) replied ends = replied.cause
 
-pub delivered_forwards : (rows : Option Rows) (end mid end' : End) (u : List ℕ) (now : ℕ) (before after : Told) (d : Delivery) (result : Result Exchange FrontFault)
-    → Polled rows end mid u now (Send d) → IsDelivered d u before after mid end' result → Forwards rows end end' u now before after result
-delivered_forwards rows end mid end' u now before after d (Ok Nothing) polled delivered = absurd (never_nothing d u delivered.answer mid end' delivered.ends)
-delivered_forwards rows end mid end' u now before after d (Ok (Acked count)) polled delivered = record { delivery = d; sent = mid; polled = polled; delivered = delivered }
-delivered_forwards rows end mid end' u now before after d (Ok Refused) polled delivered = record { delivery = d; sent = mid; polled = polled; delivered = delivered }
-delivered_forwards rows end mid end' u now before after d (Ok Lost) polled delivered = record { delivery = d; sent = mid; polled = polled; delivered = delivered }
-delivered_forwards rows end mid end' u now before after d (Err NoMemory) polled delivered = inr (record { delivery = d; sent = mid; polled = polled; delivered = delivered })
-delivered_forwards rows end mid end' u now before after d (Err LinkFailed) polled delivered = record { delivery = d; sent = mid; polled = polled; delivered = delivered }
-delivered_forwards rows end mid end' u now before after d (Err (Source fault)) polled delivered = absurd (never_source d u delivered.answer before after mid end' fault delivered.exchanged delivered.ends)
+  -- what is exchanged isn't refused by the store
+  pub exchanged_unread : (result : Result Exchange FrontFault) → IsExchanged r id acked u before after mid end result → fails source_store (refusal_of result) ≡ false
+  exchanged_unread (Ok outcome) exchanged = refl
+  exchanged_unread (Err NoMemory) exchanged = refl
+  exchanged_unread (Err LinkFailed) exchanged = refl
+  exchanged_unread (Err (Source fault)) exchanged = absurd (never_source fault exchanged)
 
--- what is delivered isn't refused by the store
-pub delivered_unread : (d : Delivery) (u : List ℕ) (before after : Told) (mid end : End) (result : Result Exchange FrontFault) → IsDelivered d u before after mid end result → fails source_store (refusal_of result) ≡ false
-delivered_unread d u before after mid end (Ok outcome) delivered = refl
-delivered_unread d u before after mid end (Err NoMemory) delivered = refl
-delivered_unread d u before after mid end (Err LinkFailed) delivered = refl
-delivered_unread d u before after mid end (Err (Source fault)) delivered = absurd (never_source d u delivered.answer before after mid end fault delivered.exchanged delivered.ends)
+module _ (rows : Option Rows) (end mid end' : End) (u : List ℕ) (now : ℕ) (before after : Told) where
+  pub delivered_forwards : (d : Delivery) (result : Result Exchange FrontFault) → Polled rows end mid u now (Send d) → IsDelivered d u before after mid end' result → Forwards rows end end' u now before after result
+  delivered_forwards d result polled delivered = by result delivered (record { delivery = d; sent = mid; polled = polled; delivered = delivered })
+    where
+      by : (x : Result Exchange FrontFault) → IsDelivered d u before after mid end' x → Delivers rows end end' u now before after x → Forwards rows end end' u now before after x
+      by (Ok Nothing) it delivers = absurd (never (request_of d) d.id (Acked (count_of d)) u before after mid end' Nothing (λ e. cc) (λ e. cc) (λ e. cc) it)
+      by (Ok (Acked count)) it delivers = delivers
+      by (Ok Heard) it delivers = absurd (never (request_of d) d.id (Acked (count_of d)) u before after mid end' Heard (λ e. cc) (λ e. cc) (λ e. cc) it)
+      by (Ok Refused) it delivers = inl delivers
+      by (Ok Lost) it delivers = inl delivers
+      by (Err NoMemory) it delivers = inr (inl delivers)
+      by (Err LinkFailed) it delivers = inl delivers
+      by (Err (Source fault)) it delivers = absurd (never_source (request_of d) d.id (Acked (count_of d)) u before after mid end' fault it)
+
+  pub beaten_forwards : (beat : Heartbeat) (result : Result Exchange FrontFault) → Polled rows end mid u now (Beat beat) → IsBeaten beat u before after mid end' result → Forwards rows end end' u now before after result
+  beaten_forwards beat result polled beaten = by result beaten (record { beat = beat; sent = mid; polled = polled; beaten = beaten })
+    where
+      by : (x : Result Exchange FrontFault) → IsBeaten beat u before after mid end' x → Beats rows end end' u now before after x → Forwards rows end end' u now before after x
+      by (Ok Nothing) it beats = absurd (never (request_of_beat beat) beat.id Heard u before after mid end' Nothing (λ e. cc) (λ e. cc) (λ e. cc) it)
+      by (Ok (Acked count)) it beats = absurd (never (request_of_beat beat) beat.id Heard u before after mid end' (Acked count) (λ e. cc) (λ e. cc) (λ e. cc) it)
+      by (Ok Heard) it beats = beats
+      by (Ok Refused) it beats = inr beats
+      by (Ok Lost) it beats = inr beats
+      by (Err NoMemory) it beats = inr (inr beats)
+      by (Err LinkFailed) it beats = inr beats
+      by (Err (Source fault)) it beats = absurd (never_source (request_of_beat beat) beat.id Heard u before after mid end' fault it)
 
 -- ---- a poll that is refused
 

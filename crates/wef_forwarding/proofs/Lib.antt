@@ -1,5 +1,6 @@
 pub mod Exchanging
 pub mod Forwarded
 pub mod Requested
+pub mod Sent
 pub mod Settling
 pub mod Taking

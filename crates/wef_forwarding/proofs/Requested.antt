@@ -1,4 +1,4 @@
--- What was exchanged for a request, which a delivery or an ask makes.
+-- What was exchanged for a request, which a session's message or an ask makes.
 use Rattle.std.proofs.Common.{◌≡◌, ℕ, List, refl, subst, inl, inr}
 use Rattle.std.specs.Prelude.{Option, Result, Ok, Err}
 use Rattle.wef_ids.specs.declared.MessageId.{MessageId}
@@ -7,26 +7,19 @@ use Rattle.wef_source.specs.Answers.{Asks, RefusesAsk}
 use Rattle.wef_source.specs.Machine.{End}
 use Rattle.wef_building.specs.declared.faults.SourceFault.{SourceFault}
 use Rattle.wef_building.specs.declared.faults.SourceFault.TheVariants as faults
-use Rattle.wef_source.specs.declared.messages.Delivery.{Delivery}
 use Rattle.wef_source.specs.declared.messages.Reply.{Reply}
 use Rattle.wef_forwarding.specs.Asking.{EndsAsk, Enumerates, HearsEnvelope, enumerate_request}
-use Rattle.wef_forwarding.specs.Exchanges.{BrokeOff, Replied, WasMade, refused_by, reply_by, request_of}
+use Rattle.wef_forwarding.specs.Exchanges.{BrokeOff, Replied, WasMade, refused_by, reply_by}
 use Rattle.wef_forwarding.specs.declared.exchanges.FrontFault.{FrontFault}
 use Rattle.wef_forwarding.specs.declared.exchanges.FrontFault.TheVariants.{NoMemory, LinkFailed, Source}
 use Rattle.wef_forwarding.specs.declared.exchanges.Request.{Request}
 use Rattle.wef_forwarding.proofs.Exchanging.{unbegun, unheard}
 
--- ---- a delivery
+-- ---- a message of a session
 
-module _ (d : Delivery) (r : Request) (before after : Told) (is : r ≡ request_of d) where
-  pub replied : (envelope : Option (List ℕ)) (answer : Option Reply) → WasMade r envelope before after → answer ≡ reply_by d.id envelope → Replied d (Ok answer) before after
-  replied envelope answer made same = (envelope, subst (λ (x : Request). WasMade x envelope before after) is made, same)
-
-  pub unreplied : (envelope : Option (List ℕ)) → WasMade r envelope before after → Replied d (Err NoMemory) before after
-  unreplied envelope made = subst (λ (x : Request). BrokeOff x NoMemory before after) is (unheard r envelope before after made)
-
-  pub not_replied : (fault : FrontFault) → BrokeOff r fault before after → Replied d (Err fault) before after
-  not_replied fault broken = subst (λ (x : Request). BrokeOff x fault before after) is broken
+pub replied : (r : Request) (id : MessageId) (before after : Told) (envelope : Option (List ℕ)) (answer : Option Reply) → WasMade r envelope before after → answer ≡ reply_by id envelope
+    → Replied r id (Ok answer) before after
+replied r id before after envelope answer made same = (envelope, made, same)
 
 -- ---- an ask
 

@@ -1,4 +1,4 @@
--- Behind a delivery its session awaits nothing, whatever came back: no other session awaits the answer to its id, and none has
+-- Behind a message its session awaits nothing, whatever came back: no other session awaits the answer to its id, and none has
 -- its name.
 use Rattle.std.proofs.Common.{◌≡◌, ℕ, ◌==◌, ◌<◌, Bool, true, false, cond, List, [], ◌∷◌, refl, ap, sym, subst, ◌∙◌, eq-eqb, arith}
 use Rattle.std.proofs.lemmas.Bool.Decides.{nat_tests}
@@ -11,25 +11,24 @@ use Rattle.std.specs.Prelude.{Option, Some, None, Result, Ok, Err, IfSome}
 use Rattle.std.specs.declared.cmp.Ordering.TheVariants.{Less, Equal}
 use Rattle.wef_base.specs.Names.{same}
 use Rattle.wef_bookmark.specs.Order.{Marks}
-use Rattle.wef_ids.specs.IdTexts.{id_of_value}
 use Rattle.wef_ids.specs.declared.FaultName.{FaultName}
 use Rattle.wef_ids.specs.declared.MessageId.{MessageId}
+use Rattle.wef_ports.specs.Telling.{Told}
 use Rattle.wef_query.specs.Order.{IsInOrder}
-use Rattle.wef_source.specs.Answers.{Sends, SendsFrom, WhereThere, sent_to}
-use Rattle.wef_source.specs.Machine.{End, acknowledged_in, is_unreachable, lost_in, next_id, refused_in}
-use Rattle.wef_source.specs.Serving.{AwaitBelow, AwaitsBelow, HasKeptSessions}
+use Rattle.wef_source.specs.Machine.{End, acknowledged_in, is_unreachable, lost_in, next_id, refused_in, sent_to}
+use Rattle.wef_source.specs.Serving.{AwaitBelow, HasKeptSessions}
 use Rattle.wef_source.specs.Sessions.{acknowledged, first_where, is_named, is_outstanding, names_of, sending, session_of, settled, waits_for, with_changed, without}
-use Rattle.wef_source.specs.declared.messages.Delivery.{Delivery}
-use Rattle.wef_source.specs.declared.messages.Poll.TheVariants.{Send}
 use Rattle.wef_source.specs.declared.messages.Reply.{Reply}
 use Rattle.wef_source.specs.declared.messages.Reply.TheVariants as replies
 use Rattle.wef_building.specs.declared.sessions.Outstanding.{Outstanding}
 use Rattle.wef_building.specs.declared.sessions.Session.{Session}
-use Rattle.wef_forwarding.specs.Forwarding.{AwaitsNothing, Ends, Settles, answered_in, replied_in}
+use Rattle.wef_forwarding.specs.Forwarding.{AwaitsNothing, Ends, IsExchanged, Settles, answered_in, replied_in}
 use Rattle.wef_forwarding.specs.declared.exchanges.FrontFault.{FrontFault}
 use Rattle.wef_forwarding.specs.declared.exchanges.FrontFault.TheVariants.{NoMemory, LinkFailed, Source}
+use Rattle.wef_forwarding.specs.declared.exchanges.Request.{Request}
 use Rattle.wef_forwarding.specs.declared.forwarding.Exchange.{Exchange}
-use Rattle.wef_forwarding.specs.declared.forwarding.Exchange.TheVariants.{Nothing, Acked, Refused, Lost}
+use Rattle.wef_forwarding.specs.declared.forwarding.Exchange.TheVariants.{Nothing, Acked, Heard, Refused, Lost}
+use Rattle.wef_forwarding.proofs.Sent.{HasSent}
 
 -- ---- a session that is changed so that it awaits nothing
 
@@ -147,28 +146,25 @@ module _ (end : End) (u : List ℕ) (to : Marks) (now : ℕ) (kept : HasKeptSess
   answered_awaits None = lost_awaits (sent_to end u to now) u
   answered_awaits (Some reply) = replied_awaits reply
 
--- the delivery of a kept source, once it is over
-ends_await : (end mid end' : End) (u : List ℕ) (now : ℕ) (d : Delivery) (answer : Result (Option Reply) FrontFault) (result : Result Exchange FrontFault)
-    → HasKeptSessions end → Sends end mid u now (Send d) → Ends d u answer mid end' result → AwaitsNothing end' u
-ends_await end mid end' u now d (Err fault) result kept sends ends = subst (λ (e : End). AwaitsNothing e u) (sym ends.1) (lost_awaits mid u)
-ends_await end mid end' u now d (Ok answer) result kept sends ends = by (session_of end.sessions u) sends
-  where
-    by : (found : Option Session) → WhereThere found (λ session. SendsFrom end mid session u now (Send d)) → AwaitsNothing end' u
-    by None sends = absurd sends
-    by (Some session) sends =
-        subst (λ (e : End). AwaitsNothing e u) (sym ends.1)
-        (subst (λ (id : MessageId). AwaitsNothing (answered_in mid u id.value answer) u) (sym sends.2)
-        (subst (λ (m : End). AwaitsNothing (answered_in m u (Some (next_id end)) answer) u) (sym sends.3) (answered_awaits end u d.batch.to now kept answer)))
+-- the message of a kept source, once it is over
+ends_await : (end mid end' : End) (u : List ℕ) (now : ℕ) (id : MessageId) (acked : Exchange) (answer : Result (Option Reply) FrontFault) (result : Result Exchange FrontFault)
+    → HasKeptSessions end → HasSent end mid u now id → Ends id acked u answer mid end' result → AwaitsNothing end' u
+ends_await end mid end' u now id acked (Err fault) result kept sent ends = subst (λ (e : End). AwaitsNothing e u) (sym ends.1) (lost_awaits mid u)
+ends_await end mid end' u now id acked (Ok answer) result kept sent ends =
+    subst (λ (e : End). AwaitsNothing e u) (sym ends.1)
+    (subst (λ (i : MessageId). AwaitsNothing (answered_in mid u i.value answer) u) (sym sent.id_is)
+    (subst (λ (m : End). AwaitsNothing (answered_in m u (Some (next_id end)) answer) u) (sym sent.mid_is) (answered_awaits end u sent.to now kept answer)))
 
 whatever : (end : End) (u : List ℕ) (result : Result Exchange FrontFault) → AwaitsNothing end u → Settles end u result
 whatever end u (Ok Nothing) quiet = tt
 whatever end u (Ok (Acked count)) quiet = quiet
+whatever end u (Ok Heard) quiet = quiet
 whatever end u (Ok Refused) quiet = quiet
 whatever end u (Ok Lost) quiet = quiet
 whatever end u (Err NoMemory) quiet = quiet
 whatever end u (Err LinkFailed) quiet = quiet
 whatever end u (Err (Source fault)) quiet = tt
 
-pub delivered_settles : (end mid end' : End) (u : List ℕ) (now : ℕ) (d : Delivery) (answer : Result (Option Reply) FrontFault) (result : Result Exchange FrontFault)
-    → HasKeptSessions end → Sends end mid u now (Send d) → Ends d u answer mid end' result → Settles end' u result
-delivered_settles end mid end' u now d answer result kept sends ends = whatever end' u result (ends_await end mid end' u now d answer result kept sends ends)
+pub exchanged_settles : (end mid end' : End) (u : List ℕ) (now : ℕ) (r : Request) (id : MessageId) (acked : Exchange) (before after : Told) (result : Result Exchange FrontFault)
+    → HasKeptSessions end → HasSent end mid u now id → IsExchanged r id acked u before after mid end' result → Settles end' u result
+exchanged_settles end mid end' u now r id acked before after result kept sent exchanged = whatever end' u result (ends_await end mid end' u now id acked exchanged.answer result kept sent exchanged.ends)

@@ -8,7 +8,8 @@ use Rattle.wef_forwarding.specs.declared.exchanges.FrontFault.TheVariants.{NoMem
 use Rattle.wef_forwarding.specs.declared.exchanges.Request.{Request}
 use Rattle.wef_front_source.specs.HeardReplies.{told}
 use Rattle.wef_front_source.specs.HeardReplies as heard
-use Rattle.wef_front_source.specs.Sending.{delivery_bytes}
+use Rattle.wef_front_source.specs.Sending.{beat_bytes, delivery_bytes}
+use Rattle.wef_heartbeat.specs.declared.messages.Heartbeat.{Heartbeat}
 use Rattle.wef_http.specs.Messages.{IsResponse, RefusesResponse}
 use Rattle.wef_http_heads.specs.Laws.{IsByBytes}
 use Rattle.wef_http.specs.declared.messages.HttpResponse.{HttpResponse}
@@ -97,11 +98,19 @@ abbrev pub Exchanged : Request → Result (Option (List ℕ)) FrontFault → Tol
 Exchanged r (Ok envelope) before now = WasMade r envelope before now
 Exchanged r (Err fault) before now = BrokeOff r fault before now
 
--- ---- a delivery
+-- ---- what a session sends
 
--- the request that a delivery makes
+-- the request that bytes make which go to an address
+abbrev pub request_to : List ℕ → List ℕ → Request
+request_to address bytes = record { host = authority_of address; path = path_of address; body = bytes }
+
+-- that of a delivery
 abbrev pub request_of : Delivery → Request
-request_of d = record { host = authority_of d.notify_to; path = path_of d.notify_to; body = delivery_bytes d }
+request_of d = request_to d.notify_to (delivery_bytes d)
+
+-- and that of a heartbeat
+abbrev pub request_of_beat : Heartbeat → Request
+request_of_beat beat = request_to beat.notify_to (beat_bytes beat)
 
 -- the reply to a message of an id, where that is what is told
 abbrev pub answer_to : MessageId → Option heard.Told → Option Reply
@@ -113,7 +122,7 @@ abbrev pub reply_by : MessageId → Option (List ℕ) → Option Reply
 reply_by id None = None
 reply_by id (Some envelope) = answer_to id (told envelope)
 
--- A delivery was exchanged, and this is the reply to it; or nobody knows what became of it.
-abbrev pub Replied : Delivery → Result (Option Reply) FrontFault → Told → Told → Type 0
-Replied d (Ok answer) before now = (envelope : Option (List ℕ)) × WasMade (request_of d) envelope before now × (answer ≡ reply_by d.id envelope)
-Replied d (Err fault) before now = BrokeOff (request_of d) fault before now
+-- A message of an id was exchanged in a request, and this is the reply to it; or nobody knows what became of it.
+abbrev pub Replied : Request → MessageId → Result (Option Reply) FrontFault → Told → Told → Type 0
+Replied r id (Ok answer) before now = (envelope : Option (List ℕ)) × WasMade r envelope before now × (answer ≡ reply_by id envelope)
+Replied r id (Err fault) before now = BrokeOff r fault before now

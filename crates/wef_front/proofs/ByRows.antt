@@ -29,7 +29,7 @@ use Rattle.wef_front_collector.specs.Steps.{CallsFor, IsAnswered, SaysFor, batch
 use Rattle.wef_http_heads.specs.declared.answers.Answer.{Answer}
 use Rattle.wef_front_collector.specs.declared.hearing.Asked.{Asked}
 use Rattle.wef_front_collector.specs.declared.hearing.Asked.TheVariants as asks
-use Rattle.wef_front_collector.specs.declared.hearing.Asked.TheVariants.{Refused, Enumerate, Unread, Take, UnreadEnd}
+use Rattle.wef_front_collector.specs.declared.hearing.Asked.TheVariants.{Refused, Enumerate, Unread, Take, Heartbeat, UnreadEnd}
 use Rattle.wef_front_collector.specs.declared.hearing.Heard.{Heard}
 use Rattle.wef_front_collector.specs.declared.saying.Said.{Said}
 use Rattle.wef_front_collector.specs.declared.saying.Said.TheVariants.{Offers, Fault}
@@ -127,6 +127,8 @@ replies_by host relates (Unread u) charset moment answer memory memory_now befor
     reply_goes (batch_said false) (λ rows. tt) host relates (Unread u) charset moment answer memory memory_now before now (λ found e. refl) is is.stepped.0
 replies_by host relates (Take u s batch) charset moment answer memory memory_now before now is =
     reply_goes (batch_said batch.ack_wanted) (λ rows. tt) host relates (Take u s batch) charset moment answer memory memory_now before now (λ found e. refl) is is.stepped
+replies_by host relates (Heartbeat u s ack) charset moment answer memory memory_now before now is =
+    reply_goes (batch_said ack) (λ rows. tt) host relates (Heartbeat u s ack) charset moment answer memory memory_now before now (λ found e. refl) is is.stepped
 replies_by host relates (UnreadEnd u) charset moment answer memory memory_now before now is =
     reply_goes (batch_said false) (λ rows. tt) host relates (UnreadEnd u) charset moment answer memory memory_now before now (λ found e. refl) is is.stepped.0
 replies_by host relates (asks.Ended u s identifier) charset moment answer memory memory_now before now is =
@@ -212,6 +214,9 @@ plans_by host relates (Unread u) charset moment answer memory memory_now before 
 plans_by host relates (Take u s batch) charset moment answer memory memory_now before now is =
     answer_by_plan host relates (Take u s batch) charset moment answer memory memory_now before now is
     (said_by_plan (batch_said batch.ack_wanted) (λ rows. tt) host (Take u s batch) moment (λ found e. refl) is.said before now is.stepped)
+plans_by host relates (Heartbeat u s ack) charset moment answer memory memory_now before now is =
+    answer_by_plan host relates (Heartbeat u s ack) charset moment answer memory memory_now before now is
+    (said_by_plan (batch_said ack) (λ rows. tt) host (Heartbeat u s ack) moment (λ found e. refl) is.said before now is.stepped)
 plans_by host relates (UnreadEnd u) charset moment answer memory memory_now before now is =
     answer_by_plan host relates (UnreadEnd u) charset moment answer memory memory_now before now is
     (said_by_plan (batch_said false) (λ rows. tt) host (UnreadEnd u) moment (λ found e. refl) is.said before now is.stepped.0)

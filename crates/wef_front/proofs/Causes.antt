@@ -12,7 +12,7 @@ use Rattle.wef_envelope.specs.declared.envelopes.EnvelopeFault.TheVariants as en
 use Rattle.wef_ids.specs.declared.FaultName.{FaultName}
 use Rattle.wef_ids.specs.declared.FaultName.TheVariants as the
 use Rattle.wef_base.specs.Names.{same, source_name, subscription_name}
-use Rattle.wef_envelope.specs.declared.actions.TheConstants.{ENUMERATE, EVENTS, SUBSCRIPTION_END}
+use Rattle.wef_envelope.specs.declared.actions.TheConstants.{ENUMERATE, EVENTS, HEARTBEAT, SUBSCRIPTION_END}
 use Rattle.wef_xml.specs.declared.faults.TreeFault.{TreeFault}
 use Rattle.wef_xml.specs.declared.faults.TreeFault.TheVariants as tree
 use Rattle.wef_keeper.specs.Access.{HasCause}
@@ -30,14 +30,14 @@ use Rattle.wef_bodies.specs.Reading.{has_enumerate}
 use Rattle.wef_subscribes.specs.declared.faults.BodyFault.{BodyFault}
 use Rattle.std.specs.Option.{option_and_then}
 use Rattle.wef_replies.specs.Refusals.{is_nameless}
-use Rattle.wef_front_collector.specs.Heard.{Hears, asked_at, asked_by, asked_of, batch_in, end_asked, enumerate_asked, events_asked, heard_in, is_elsewhere, manager_asked, named_asked, unheard}
+use Rattle.wef_front_collector.specs.Heard.{Hears, asked_at, asked_by, asked_of, batch_in, end_asked, enumerate_asked, events_asked, heard_in, heartbeat_asked, is_elsewhere, manager_asked, named_asked, unheard}
 use Rattle.wef_replies.specs.Refusals.{HearsRead}
 use Rattle.wef_front_collector.specs.Replies.{IsAnswer}
 use Rattle.wef_front_collector.proofs.SaidOfCalls.{offers_answered}
 use Rattle.wef_front_collector.specs.Steps.{IsAnswered, SaysFor, Steps, batch_said, done_said, effect_in}
 use Rattle.wef_front_collector.specs.declared.hearing.Asked.{Asked}
 use Rattle.wef_front_collector.specs.declared.hearing.Asked.TheVariants as asks
-use Rattle.wef_front_collector.specs.declared.hearing.Asked.TheVariants.{Refused, Enumerate, Unread, Take, UnreadEnd}
+use Rattle.wef_front_collector.specs.declared.hearing.Asked.TheVariants.{Refused, Enumerate, Unread, Take, Heartbeat, UnreadEnd}
 use Rattle.wef_http_heads.specs.declared.answers.Answer.{Answer}
 use Rattle.wef_front_collector.specs.declared.hearing.Heard.{Heard}
 use Rattle.wef_front_collector.specs.declared.saying.Said.{Said}
@@ -56,6 +56,7 @@ IsOther (Refused name) = is_internal name ≡ false
 IsOther (Enumerate s) = Unit {0}
 IsOther (Unread u) = Unit {0}
 IsOther (Take u s batch) = Unit {0}
+IsOther (Heartbeat u s ack) = Unit {0}
 IsOther (UnreadEnd u) = Unit {0}
 IsOther (asks.Ended u s identifier) = Unit {0}
 
@@ -64,6 +65,11 @@ events_other None source batch = refl
 events_other (Some u) None batch = tt
 events_other (Some u) (Some s) (Err fault) = tt
 events_other (Some u) (Some s) (Ok batch) = tt
+
+heartbeat_other : (sub source : Option (List ℕ)) (ack : Bool) → IsOther (heartbeat_asked sub source ack)
+heartbeat_other None source ack = refl
+heartbeat_other (Some u) None ack = tt
+heartbeat_other (Some u) (Some s) ack = tt
 
 end_other : (sub source : Option (List ℕ)) (end : Result leases.Ended BodyFault) → IsOther (end_asked sub source end)
 end_other None source end = refl
@@ -93,13 +99,15 @@ manager_other e = by (same e.action ENUMERATE.now)
 at_other : (target : Target) (e : Envelope) → IsOther (asked_at target e)
 at_other Manager e = manager_other e
 at_other Root e = refl
-at_other (Delivery sub source) e = by (same e.action EVENTS.now) (same e.action SUBSCRIPTION_END.now)
+at_other (Delivery sub source) e = by (same e.action EVENTS.now) (same e.action HEARTBEAT.now) (same e.action SUBSCRIPTION_END.now)
   where
-    by : (batch end : Bool) → IsOther (cond batch (events_asked (subscription_name sub) (source_name source) (batch_in e))
-        (cond end (end_asked (subscription_name sub) (source_name source) (ended_in e.body)) (Refused the.ActionNotSupported)))
-    by true end = events_other (subscription_name sub) (source_name source) (batch_in e)
-    by false true = end_other (subscription_name sub) (source_name source) (ended_in e.body)
-    by false false = refl
+    by : (batch beat end : Bool) → IsOther (cond batch (events_asked (subscription_name sub) (source_name source) (batch_in e))
+        (cond beat (heartbeat_asked (subscription_name sub) (source_name source) e.ack_wanted)
+        (cond end (end_asked (subscription_name sub) (source_name source) (ended_in e.body)) (Refused the.ActionNotSupported))))
+    by true beat end = events_other (subscription_name sub) (source_name source) (batch_in e)
+    by false true end = heartbeat_other (subscription_name sub) (source_name source) e.ack_wanted
+    by false false true = end_other (subscription_name sub) (source_name source) (ended_in e.body)
+    by false false false = refl
 
 by_other : (target : Target) (e : Envelope) → IsOther (asked_by target e)
 by_other target e = by (is_nameless e)
@@ -175,6 +183,8 @@ steps_cause host (Unread u) moment said before now other stepped internal =
     says_cause (batch_said false) (λ rows. tt) (effect_in (Unread u) moment) said before now (λ done. no_ack false) stepped.0 internal
 steps_cause host (Take u s batch) moment said before now other stepped internal =
     says_cause (batch_said batch.ack_wanted) (λ rows. tt) (effect_in (Take u s batch) moment) said before now (λ done. no_ack batch.ack_wanted) stepped internal
+steps_cause host (Heartbeat u s ack) moment said before now other stepped internal =
+    says_cause (batch_said ack) (λ rows. tt) (effect_in (Heartbeat u s ack) moment) said before now (λ done. no_ack ack) stepped internal
 steps_cause host (UnreadEnd u) moment said before now other stepped internal =
     says_cause (batch_said false) (λ rows. tt) (effect_in (UnreadEnd u) moment) said before now (λ done. no_ack false) stepped.0 internal
 steps_cause host (asks.Ended u s identifier) moment said before now other stepped internal =

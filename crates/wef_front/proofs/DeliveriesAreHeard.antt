@@ -55,7 +55,7 @@ events_trimmed : IsTrimmed EVENTS.now
 unfolding chars encode
 events_trimmed = refl
 
-first_part : (o : Option (List ℕ)) → IfSome o IsPlainText → IfSome o IsTrimmed
+pub first_part : (o : Option (List ℕ)) → IfSome o IsPlainText → IfSome o IsTrimmed
 first_part None plain = tt
 first_part (Some t) plain = plain.0
 

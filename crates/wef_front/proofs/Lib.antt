@@ -1,3 +1,4 @@
+pub mod BeatsAreHeard
 pub mod ByRows
 pub mod Causes
 pub mod DeliveriesAreHeard

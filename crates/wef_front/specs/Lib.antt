@@ -1,3 +1,4 @@
+pub mod Beats
 pub mod Ends
 pub mod Laws
 pub mod Replies

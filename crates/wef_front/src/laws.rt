@@ -1,5 +1,6 @@
 //! Laws of answers, each the contract of a function that does nothing.
 
+ghost use Rattle.wef_front.specs.Beats.{BeatsAreHeard, BeatsAreRead};
 ghost use Rattle.wef_front.specs.Ends.{EndsAreHeard, EndsAreRead};
 ghost use Rattle.wef_front.specs.Laws.{AnswersAreReplies, AnswersGoByPlan, DrawnIdsAreSpelt, InternalErrorsHaveACause, OffersAreHeard, OffersAreRead, OneIsHeard, RepliesAreHeard, RepliesAreRead};
 ghost use Rattle.wef_front.specs.Requests.{InternalErrorsWantIds, OneRequestIsHeard};
@@ -62,6 +63,18 @@ pub fn offers_are_read()
 /// goes to.
 pub fn deliveries_are_read()
     ensures { DeliveriesAreRead }
+{}
+
+/// What a source sends where it has nothing to send, the collector hears: that the source of the path is
+/// there, for the subscription of the path, and its id.
+pub fn beats_are_heard()
+    ensures { BeatsAreHeard }
+{}
+
+/// What is written for a heartbeat is read again as that heartbeat, where it came to the address that it
+/// goes to.
+pub fn beats_are_read()
+    ensures { BeatsAreRead }
 {}
 
 /// The collector hears no two things in the same bytes.

@@ -5,6 +5,7 @@ pub mod laws;
 
 pub use wef_front_collector::{collector_answer, collector_hears, read_response};
 pub use wef_front_source::{
-    Hears, read_reply, source_answer, source_hears, write_delivery, write_end, write_enumerate,
+    Hears, read_reply, source_answer, source_hears, write_beat, write_delivery, write_end,
+    write_enumerate,
 };
 pub use wef_http_heads::{Answer, Target};

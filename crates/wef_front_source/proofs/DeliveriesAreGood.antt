@@ -17,7 +17,7 @@ use Rattle.wef_replies.proofs.Numbered.{plain_numbered}
 use Rattle.wef_front_source.specs.Sending.{CanBeSent, CanBeWritten, IsPlainText, delivery_envelope}
 use Rattle.wef_http_heads.specs.declared.targets.Target.TheVariants.{Delivery}
 
-other_part : (o : Option (List ℕ)) → IfSome o IsPlainText → IfSome o IsXmlText
+pub other_part : (o : Option (List ℕ)) → IfSome o IsPlainText → IfSome o IsXmlText
 other_part None plain = tt
 other_part (Some t) plain = plain.1
 

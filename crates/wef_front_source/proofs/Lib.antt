@@ -1,3 +1,4 @@
+pub mod BeatsAreGood
 pub mod BodiesRefused
 pub mod DeliveriesAreGood
 pub mod EndsAreGood

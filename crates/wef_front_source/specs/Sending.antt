@@ -13,6 +13,8 @@ use Rattle.wef_envelope.specs.Laws.{IsSpelt, IsTrimmed}
 use Rattle.wef_envelope.specs.Written.{written}
 use Rattle.wef_envelope.specs.declared.actions.TheConstants.{ANONYMOUS, ENUMERATE, EVENTS, SUBSCRIPTIONS, SUBSCRIPTION_END}
 use Rattle.wef_envelope.specs.declared.envelopes.Envelope.{Envelope}
+use Rattle.wef_heartbeat.specs.Messages.{heartbeat_envelope}
+use Rattle.wef_heartbeat.specs.declared.messages.Heartbeat.{Heartbeat}
 use Rattle.wef_source.specs.declared.messages.Delivery as source
 use Rattle.wef_source.specs.declared.messages.EndNote.{EndNote}
 use Rattle.wef_xml.specs.Canonical.{canonical, encoded}
@@ -92,6 +94,25 @@ pub record CanBeWritten (d : source.Delivery) : Type 0 where
   pub notify_to : IsXmlText d.notify_to
   pub identifier : IfSome d.identifier IsXmlText
   pub numbered : AreNumbered d.batch.items
+
+-- ---- heartbeats
+
+-- the bytes of a heartbeat
+abbrev pub beat_bytes : Heartbeat → List ℕ
+beat_bytes beat = encoded Utf8 (canonical (written (heartbeat_envelope beat)))
+
+-- A heartbeat that can be sent: its id is that of its text, and its texts are such as headers say.
+pub record BeatCanBeSent (beat : Heartbeat) : Type 0 where
+  pub spelt : IsSpelt beat.id
+  pub id : IsXmlText beat.id.text
+  pub notify_to : IsPlainText beat.notify_to
+  pub identifier : IfSome beat.identifier IsPlainText
+
+-- A heartbeat that can be written: its texts hold characters that XML allows.
+pub record BeatCanBeWritten (beat : Heartbeat) : Type 0 where
+  pub id : IsXmlText beat.id.text
+  pub notify_to : IsXmlText beat.notify_to
+  pub identifier : IfSome beat.identifier IsXmlText
 
 -- ---- the end of a session
 

@@ -10,4 +10,4 @@ pub mod sending;
 
 pub use answering::source_answer;
 pub use listening::{Hears, read_reply, source_hears};
-pub use sending::{write_delivery, write_end, write_enumerate};
+pub use sending::{write_beat, write_delivery, write_end, write_enumerate};

@@ -9,7 +9,7 @@ ghost use Rattle.wef_batch.specs.Laws.{IsKept};
 ghost use Rattle.wef_envelope.specs.Written.{written};
 ghost use Rattle.wef_event.specs.Events.{HasTree};
 ghost use Rattle.wef_eventing.specs.Addresses.{IsHost};
-ghost use Rattle.wef_front_source.specs.Sending.{CanBeWritten, delivery_bytes, delivery_envelope, end_bytes, end_envelope, enumerate_bytes, enumerate_envelope, manager_address};
+ghost use Rattle.wef_front_source.specs.Sending.{BeatCanBeWritten, CanBeWritten, beat_bytes, delivery_bytes, delivery_envelope, end_bytes, end_envelope, enumerate_bytes, enumerate_envelope, manager_address};
 ghost use Rattle.wef_source.specs.Serving.{NoteCanBeSent};
 ghost use Rattle.wef_xml.specs.Canonical.{canonical, encoded};
 ghost use Rattle.wef_xml.specs.Good.{IsGoodTree, IsXmlText};
@@ -21,6 +21,7 @@ use wef_bodies::{Body, write_body};
 use wef_envelope::actions::{ANONYMOUS, ENUMERATE, EVENTS, SUBSCRIPTION_END, SUBSCRIPTIONS};
 use wef_envelope::{Envelope, MessageId, to_node};
 use wef_event::Event;
+use wef_heartbeat::{Heartbeat, heartbeat_envelope};
 use wef_http_heads::MANAGER_PATH;
 use wef_source::{Delivery, EndNote};
 use wef_subscribes::wishes::marked_names_are_kept;
@@ -35,6 +36,15 @@ pub fn write_delivery(alloc: Global, delivery: &Delivery) -> Result<Bytes, Alloc
     items_are_kept(delivery.batch.items.as_slice());
     marked_names_are_kept(&delivery.batch.to);
     let envelope = envelope_of(alloc, delivery)?;
+    write_envelope(alloc, &envelope)
+}
+
+/// Writes a heartbeat in UTF-8, as the message Heartbeat of WS-Management (10.2.9).
+pub fn write_beat(alloc: Global, beat: &Heartbeat) -> Result<Bytes, AllocError>
+    requires { BeatCanBeWritten beat.now }
+    ensures { IfOk result (λ bytes. bytes ≡ beat_bytes beat.now) }
+{
+    let envelope = heartbeat_envelope(alloc, beat)?;
     write_envelope(alloc, &envelope)
 }
 

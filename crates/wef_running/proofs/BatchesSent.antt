@@ -1,11 +1,11 @@
--- Batches sent one after the other.
+-- Messages sent one after the other.
 use Rattle.std.proofs.Common.{◌≡◌, ℕ, ◌+◌, ◌≤◌, ◌<◌, ◌==◌, ◌-◌, Bool, true, false, cond, List, [], ◌∷◌, ◌++◌, length, take, refl, ap, sym, subst, ◌∙◌, append_assoc, append-nil, arith, inl, inr}
 use Rattle.std.proofs.lemmas.Bool.Decides.{nat_tests}
 use Rattle.std.specs.List.{flat_map}
 use Rattle.std.specs.Prelude.{Option, Some, None, Ok, slice_get}
 use Rattle.std.specs.Io.KnownBytes.{Appends}
 use Rattle.wef_forwarding.specs.declared.forwarding.Exchange.{Exchange}
-use Rattle.wef_forwarding.specs.declared.forwarding.Exchange.TheVariants.{Nothing, Acked, Refused, Lost}
+use Rattle.wef_forwarding.specs.declared.forwarding.Exchange.TheVariants.{Nothing, Acked, Heard, Refused, Lost}
 use Rattle.wef_commands.specs.Endings.{Told}
 use Rattle.wef_commands.specs.Writing.{IsUntold}
 use Rattle.wef_commands.specs.declared.ending.Ending.{Ending}
@@ -16,7 +16,7 @@ use Rattle.wef_running.specs.Forwarding.{AreSent, EndsAt, EndsBefore, EndsDone, 
 
 -- ---- what was sent so far
 
--- Some batches were sent and told, and this is left.
+-- Some messages were sent and told, and this is left.
 pub record IsSentTo (clock : Option ℕ) (plan left : Plan) (taken taken' : Option (List ℕ)) (before now : Running) : Type 0 where
   pub sent : List (List ℕ × Exchange)
   pub are_sent : AreSent clock plan sent before now
@@ -40,7 +40,7 @@ text_more : (xs : List (List ℕ × Exchange)) (x : List ℕ × Exchange) → fl
 text_more [] x = append-nil (line_of x)
 text_more (y ∷ ys) x = ap (λ (text : List ℕ). line_of y ++ text) (text_more ys x) ∙ sym (append_assoc (line_of y) (flat_map line_of ys) (line_of x))
 
--- one batch more
+-- one message more
 pub one_sent : (clock : Option ℕ) (plan left : Plan) (u : List ℕ) (e : Exchange) (a b c : Option (List ℕ)) (before mid now : Running)
     → IsSentTo clock plan left a b before mid → next left ≡ Some u → IsSent clock u (Ok e) mid now → Appends b c (line_of (u, e)) → IsSentTo clock plan (behind e left) a c before now
 one_sent clock plan left u e a b c before mid now so_far is sends tells = record {
@@ -135,5 +135,6 @@ gets_less e names left u is = by (left == 0) refl is
         some_left [] x is = cc
         some_left (n ∷ ns) Nothing is = omega arith
         some_left (n ∷ ns) (Acked count) is = grind (arith, nat_tests, some)
+        some_left (n ∷ ns) Heard is = grind (arith, nat_tests, some)
         some_left (n ∷ ns) Refused is = grind (arith, nat_tests, some)
         some_left (n ∷ ns) Lost is = grind (arith, nat_tests, some)

@@ -6,17 +6,18 @@ use Rattle.wef_commands.specs.Endings.{Told}
 use Rattle.wef_commands.specs.Refusals.{source_ending}
 use Rattle.wef_commands.specs.declared.ending.Ending.TheVariants as ends
 use Rattle.wef_forwarding.specs.Exchanges.{Replied}
-use Rattle.wef_forwarding.specs.Forwarding.{Delivers, Ends, Forwards}
+use Rattle.wef_forwarding.specs.Forwarding.{Ends, Exchanges, Forwards, IsExchanged}
 use Rattle.wef_forwarding.specs.declared.exchanges.FrontFault.{FrontFault}
 use Rattle.wef_forwarding.specs.declared.exchanges.FrontFault.TheVariants as fronts
+use Rattle.wef_forwarding.specs.declared.exchanges.Request.{Request}
 use Rattle.wef_forwarding.specs.declared.forwarding.Exchange.{Exchange}
-use Rattle.wef_forwarding.specs.declared.forwarding.Exchange.TheVariants.{Nothing, Acked, Refused, Lost}
+use Rattle.wef_forwarding.specs.declared.forwarding.Exchange.TheVariants.{Nothing, Acked, Heard, Refused, Lost}
+use Rattle.wef_ids.specs.declared.MessageId.{MessageId}
 use Rattle.wef_keeper.specs.Rows.{Rows}
 use Rattle.wef_ports.specs.Telling as ports
 use Rattle.wef_source.specs.Machine.{End}
 use Rattle.wef_building.specs.declared.faults.SourceFault.{SourceFault}
 use Rattle.wef_building.specs.declared.faults.SourceFault.TheVariants as faults
-use Rattle.wef_source.specs.declared.messages.Delivery.{Delivery}
 use Rattle.wef_source.specs.declared.messages.Reply.{Reply}
 use Rattle.wef_running.specs.ByRows.{FailedLinksAreCounted}
 use Rattle.wef_running.specs.Forwarding.{AreSent, AsksAndSends, EndsBefore, IsAsked, IsSent, Plan, Running, SendsFrom, behind, front_ending, unless_gone}
@@ -44,21 +45,26 @@ itself : (before now : ports.Told) → now ≡ before → before.faults ≤ now.
 itself before now same = let is : now.faults ≡ before.faults = ap (λ (link : ports.Told). link.faults) same in omega arith
 
 module _ (before now : ports.Told) where
-  replied_later : (d : Delivery) (answer : Result (Option Reply) FrontFault) → Replied d answer before now → before.faults ≤ now.faults
-  replied_later d (Ok answer) (envelope, made, is) = made.later
-  replied_later d (Err fault) broken = broken.later
+  replied_later : (r : Request) (id : MessageId) (answer : Result (Option Reply) FrontFault) → Replied r id answer before now → before.faults ≤ now.faults
+  replied_later r id (Ok answer) (envelope, made, is) = made.later
+  replied_later r id (Err fault) broken = broken.later
 
-  delivers_later : {rows : Option Rows} {end end' : End} {u : List ℕ} {moment : ℕ} {answer : Result Exchange FrontFault} → Delivers rows end end' u moment before now answer → before.faults ≤ now.faults
-  delivers_later delivers = replied_later delivers.delivery delivers.delivered.answer delivers.delivered.exchanged
+  exchanged_later : {r : Request} {id : MessageId} {acked : Exchange} {u : List ℕ} {mid end : End} {answer : Result Exchange FrontFault} → IsExchanged r id acked u before now mid end answer → before.faults ≤ now.faults
+  exchanged_later {r} {id} exchanged = replied_later r id exchanged.answer exchanged.exchanged
+
+  exchanges_later : (rows : Option Rows) (end end' : End) (u : List ℕ) (moment : ℕ) (answer : Result Exchange FrontFault) → Exchanges rows end end' u moment before now answer → before.faults ≤ now.faults
+  exchanges_later rows end end' u moment answer (inl delivers) = exchanged_later delivers.delivered
+  exchanges_later rows end end' u moment answer (inr beats) = exchanged_later beats.beaten
 
   forwards_later : (rows : Option Rows) (end end' : End) (u : List ℕ) (moment : ℕ) (answer : Result Exchange FrontFault) → Forwards rows end end' u moment before now answer → before.faults ≤ now.faults
   forwards_later rows end end' u moment (Ok Nothing) idles = itself before now idles.1
-  forwards_later rows end end' u moment (Ok (Acked count)) delivers = delivers_later delivers
-  forwards_later rows end end' u moment (Ok Refused) delivers = delivers_later delivers
-  forwards_later rows end end' u moment (Ok Lost) delivers = delivers_later delivers
+  forwards_later rows end end' u moment (Ok (Acked count)) delivers = exchanged_later delivers.delivered
+  forwards_later rows end end' u moment (Ok Heard) beats = exchanged_later beats.beaten
+  forwards_later rows end end' u moment (Ok Refused) exchanges = exchanges_later rows end end' u moment (Ok Refused) exchanges
+  forwards_later rows end end' u moment (Ok Lost) exchanges = exchanges_later rows end end' u moment (Ok Lost) exchanges
   forwards_later rows end end' u moment (Err fronts.NoMemory) (inl refuses) = itself before now refuses.3
-  forwards_later rows end end' u moment (Err fronts.NoMemory) (inr delivers) = delivers_later delivers
-  forwards_later rows end end' u moment (Err fronts.LinkFailed) delivers = delivers_later delivers
+  forwards_later rows end end' u moment (Err fronts.NoMemory) (inr exchanges) = exchanges_later rows end end' u moment (Err fronts.NoMemory) exchanges
+  forwards_later rows end end' u moment (Err fronts.LinkFailed) exchanges = exchanges_later rows end end' u moment (Err fronts.LinkFailed) exchanges
   forwards_later rows end end' u moment (Err (fronts.Source faults.NoMemory)) never = absurd never
   forwards_later rows end end' u moment (Err (fronts.Source faults.Failed)) refuses = itself before now refuses.3
   forwards_later rows end end' u moment (Err (fronts.Source faults.Full)) refuses = itself before now refuses.3
@@ -69,11 +75,19 @@ module _ (before now : ports.Told) where
   forwards_later rows end end' u moment (Err (fronts.Source faults.Spent)) refuses = itself before now refuses.3
 
   -- one that failed in the link
-  broken_rose : (d : Delivery) (u : List ℕ) (mid end : End) (answer : Result (Option Reply) FrontFault) → Replied d answer before now → Ends d u answer mid end (Err fronts.LinkFailed) → Rose before.faults now.faults
-  broken_rose d u mid end (Ok answer) replied ends = let no = ends.0 in cc
-  broken_rose d u mid end (Err fronts.LinkFailed) broken ends = broken.cause
-  broken_rose d u mid end (Err fronts.NoMemory) broken ends = let no = ends.0 in cc
-  broken_rose d u mid end (Err (fronts.Source fault)) broken ends = absurd broken.cause
+  broken_rose : (r : Request) (id : MessageId) (acked : Exchange) (u : List ℕ) (mid end : End) (answer : Result (Option Reply) FrontFault) → Replied r id answer before now → Ends id acked u answer mid end (Err fronts.LinkFailed)
+      → Rose before.faults now.faults
+  broken_rose r id acked u mid end (Ok answer) replied ends = let no = ends.0 in cc
+  broken_rose r id acked u mid end (Err fronts.LinkFailed) broken ends = broken.cause
+  broken_rose r id acked u mid end (Err fronts.NoMemory) broken ends = let no = ends.0 in cc
+  broken_rose r id acked u mid end (Err (fronts.Source fault)) broken ends = absurd broken.cause
+
+  exchanged_rose : {r : Request} {id : MessageId} {acked : Exchange} {u : List ℕ} {mid end : End} → IsExchanged r id acked u before now mid end (Err fronts.LinkFailed) → Rose before.faults now.faults
+  exchanged_rose {r} {id} {acked} {u} {mid} {end} exchanged = broken_rose r id acked u mid end exchanged.answer exchanged.exchanged exchanged.ends
+
+  exchanges_rose : (rows : Option Rows) (end end' : End) (u : List ℕ) (moment : ℕ) → Exchanges rows end end' u moment before now (Err fronts.LinkFailed) → Rose before.faults now.faults
+  exchanges_rose rows end end' u moment (inl delivers) = exchanged_rose delivers.delivered
+  exchanges_rose rows end end' u moment (inr beats) = exchanged_rose beats.beaten
 
 sent_later : (clock : Option ℕ) (u : List ℕ) (result : Result Exchange FrontFault) (before now : Running) → IsSent clock u result before now → before.link.faults ≤ now.link.faults
 sent_later clock u result before now sent = forwards_later before.link now.link now.store.rows before.memory now.memory u sent.moment sent.answer sent.forwards
@@ -93,8 +107,8 @@ which_answer (Err (fronts.Source faults.Spent)) is = cc
 
 sent_rose : (clock : Option ℕ) (u : List ℕ) (before now : Running) → IsSent clock u (Err fronts.LinkFailed) before now → Rose before.link.faults now.link.faults
 sent_rose clock u before now sent =
-    let delivers = subst (λ (answer : Result Exchange FrontFault). Forwards now.store.rows before.memory now.memory u sent.moment before.link now.link answer) (which_answer sent.answer sent.result_is) sent.forwards in
-    broken_rose before.link now.link delivers.delivery u delivers.sent now.memory delivers.delivered.answer delivers.delivered.exchanged delivers.delivered.ends
+    let exchanges = subst (λ (answer : Result Exchange FrontFault). Forwards now.store.rows before.memory now.memory u sent.moment before.link now.link answer) (which_answer sent.answer sent.result_is) sent.forwards in
+    exchanges_rose before.link now.link now.store.rows before.memory now.memory u sent.moment exchanges
 
 -- ---- the run
 

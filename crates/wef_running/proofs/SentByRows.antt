@@ -1,4 +1,4 @@
--- `forward` over rows: its source changes them once, as it starts, and each batch is the one that they give then.
+-- `forward` over rows: its source changes them once, as it starts, and each message is the one that they give then.
 use Rattle.std.proofs.Common.{◌≡◌, inl, inr, ℕ, Bool, true, false, List, [], ◌∷◌, ◌++◌, ap, sym, refl, subst, ◌∙◌}
 use Rattle.std.specs.List.{AllByRecursion, flat_map}
 use Rattle.std.specs.Prelude.{Option, Some, None, IfSome, Result, Ok, Err, is_some, if◌then◌else◌}
@@ -63,7 +63,7 @@ told_since : (was is : Bool) → (was ≡ false → is ≡ false) → is ≡ tru
 told_since true is stays told = refl
 told_since false is stays told = let no : true ≡ false = sym told ∙ stays refl in cc
 
--- ---- a batch
+-- ---- a message
 
 module _ (rows : Rows) (clock : Option ℕ) where
   untold : (u : List ℕ) (result : Result Exchange FrontFault) (before now : Running) → IsSent clock u result before now → Keeps rows before.store → tells before.store ≡ false → tells now.store ≡ false
@@ -82,7 +82,7 @@ module _ (rows : Rows) (clock : Option ℕ) where
   sent_over : (u : List ℕ) (result : Result Exchange FrontFault) (before now : Running) → IsSent clock u result before now → Keeps rows before.store → tells now.store ≡ true → IsSentOver rows clock u result before now
   sent_over u result before now sent keeps told = (sent, rows_told rows now.store (sent_keeps u result before now sent keeps) told)
 
-  -- ---- batches
+  -- ---- messages
 
   all_keep : (plan : Plan) (xs : List (List ℕ × Exchange)) (before now : Running) → AreSent clock plan xs before now → Keeps rows before.store → Keeps rows now.store
   all_keep plan [] before now same keeps = subst (λ (r : Running). Keeps rows r.store) (sym same) keeps

@@ -80,7 +80,8 @@ CollectsByRows =
 
 -- ---- `forward`
 
--- The next batch of the session of a name is forwarded over rows: it is the one that these and the session give.
+-- The next message of the session of a name is forwarded over rows: a batch is the one that these and the session give, and a heartbeat
+-- is sent only where they give no item.
 abbrev pub IsSentOver : Rows → Option ℕ → Sending
 IsSentOver rows clock u result before now = IsSent clock u result before now × (now.store.rows ≡ Some rows)
 
@@ -91,7 +92,7 @@ IsNotBegun ending out link link' found last =
     × GoesOver source_store (λ rows. start_effect rows LOG_CAPACITY) next_boot (Err fault) found last
 
 -- The source was started over rows, under the boot number that stands in them then, and nothing else changes them: each batch that
--- was sent is the one that they and the session give.
+-- was sent is the one that they and the session give, and each heartbeat was sent where they give no item.
 pub record IsBegun (address s : List ℕ) (deliveries : ℕ) (ending : Ending) (out : Told) (clock : Option ℕ) (link link' : ports.Told) (now : Store) (found last : Rows) : Type 0 where
   pub rows : last ≡ log.started found LOG_CAPACITY
   pub started : Store

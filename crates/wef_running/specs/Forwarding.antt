@@ -9,7 +9,7 @@ use Rattle.wef_forwarding.specs.Forwarding.{Forwards, refusal_of}
 use Rattle.wef_forwarding.specs.declared.exchanges.FrontFault.{FrontFault}
 use Rattle.wef_forwarding.specs.declared.exchanges.FrontFault.TheVariants as fronts
 use Rattle.wef_forwarding.specs.declared.forwarding.Exchange.{Exchange}
-use Rattle.wef_forwarding.specs.declared.forwarding.Exchange.TheVariants.{Nothing, Acked, Refused, Lost}
+use Rattle.wef_forwarding.specs.declared.forwarding.Exchange.TheVariants.{Nothing, Acked, Heard, Refused, Lost}
 use Rattle.wef_keeper.specs.Access.{OpensAndReads}
 use Rattle.wef_keeper.specs.Calls.{IsCall, fails}
 use Rattle.wef_keeper.specs.Keeping.{IsLawful, Store}
@@ -36,10 +36,11 @@ use Rattle.wef_commands.specs.declared.writing.TheConstants.{LOG_CAPACITY}
 unfoldable pub subscriptions_line : ℕ → List ℕ
 subscriptions_line count = codes "subscriptions " ++ decimal count ++ 10 ∷ []
 
--- what became of a batch
+-- what became of a message; a heartbeat has no items
 unfoldable pub outcome_word : Exchange → List ℕ
 outcome_word Nothing = []
 outcome_word (Acked count) = codes " acked " ++ decimal count
+outcome_word Heard = codes " acked " ++ decimal 0
 outcome_word Refused = codes " refused"
 outcome_word Lost = codes " lost"
 
@@ -57,12 +58,12 @@ done_line = codes "done" ++ 10 ∷ []
 
 -- ---- which session is next
 
--- The names of the sessions that are left, and how many batches may still be sent.
+-- The names of the sessions that are left, and how many messages may still be sent.
 pub record Plan : Type 0 where
   pub names : List (List ℕ)
   pub left : ℕ
 
--- the session that is next; none where none is left, or no batch may be sent any more
+-- the session that is next; none where none is left, or no message may be sent any more
 abbrev pub next : Plan → Option (List ℕ)
 next plan = if plan.left == 0 then None else slice_get plan.names 0
 
@@ -70,6 +71,7 @@ next plan = if plan.left == 0 then None else slice_get plan.names 0
 abbrev pub behind : Exchange → Plan → Plan
 behind Nothing plan = record { names = drop 1 plan.names; left = plan.left }
 behind (Acked count) plan = record { names = plan.names; left = plan.left - 1 }
+behind Heard plan = record { names = drop 1 plan.names; left = plan.left - 1 }
 behind Refused plan = record { names = drop 1 plan.names; left = plan.left - 1 }
 behind Lost plan = record { names = drop 1 plan.names; left = plan.left - 1 }
 
@@ -96,7 +98,7 @@ unless_gone (Err (fronts.Source faults.UnknownSubscription)) = Ok Nothing
 unless_gone (Err (fronts.Source faults.Expired)) = Ok Nothing
 unless_gone result = result
 
--- The next batch of the session of a name is forwarded, at a moment of the clock.
+-- The next message of the session of a name is forwarded, at a moment of the clock.
 pub record IsSent (clock : Option ℕ) (u : List ℕ) (result : Result Exchange FrontFault) (before now : Running) : Type 0 where
   pub moment : ℕ
   pub is_moment : IsMoment clock moment
@@ -107,7 +109,7 @@ pub record IsSent (clock : Option ℕ) (u : List ℕ) (result : Result Exchange 
   -- the store has the laws of every keeper's
   pub lawful : IsLawful now.store
 
--- how the next batch of the session of a name is forwarded, by what is answered, from a source that runs to what it is then
+-- how the next message of the session of a name is forwarded, by what is answered, from a source that runs to what it is then
 abbrev pub Sending : Type 1
 Sending = List ℕ → Result Exchange FrontFault → Running → Running → Type 0
 
@@ -133,7 +135,7 @@ abbrev pub EndsDone : List ℕ → Ending → Told → Type 0
 EndsDone text ends.Done out = Appends out.before out.after (text ++ done_line)
 EndsDone text ending out = IsUntold ending out text done_line
 
--- Why it ends at the session of a name: its batch isn't forwarded; or it is, but isn't told.
+-- Why it ends at the session of a name: its message isn't forwarded; or it is, but isn't told.
 abbrev pub EndsAtBy : Sending → List ℕ → List ℕ → Ending → Told → Running → Running → Type 0
 EndsAtBy Sent u text ending out before now =
     ((fault : FrontFault) × Sent u (Err fault) before now × (ending ≡ front_ending fault) × Appends out.before out.after text)
@@ -142,7 +144,7 @@ EndsAtBy Sent u text ending out before now =
 abbrev pub EndsAt : Option ℕ → List ℕ → List ℕ → Ending → Told → Running → Running → Type 0
 EndsAt clock u text ending out before now = EndsAtBy (IsSent clock) u text ending out before now
 
--- The next batch of the session of a name is forwarded and told, or why it ends there.
+-- The next message of the session of a name is forwarded and told, or why it ends there.
 abbrev pub TurnsSession : Option ℕ → List ℕ → Result Exchange Ending → Told → Running → Running → Type 0
 TurnsSession clock u (Ok exchange) out before now = IsSent clock u (Ok exchange) before now × Appends out.before out.after (line_of (u, exchange))
 TurnsSession clock u (Err ending) out before now = EndsAt clock u [] ending out before now
@@ -155,7 +157,7 @@ EndsBeforeBy Sent (Some u) text ending out before now = EndsAtBy Sent u text end
 abbrev pub EndsBefore : Option ℕ → Option (List ℕ) → List ℕ → Ending → Told → Running → Running → Type 0
 EndsBefore clock o text ending out before now = EndsBeforeBy (IsSent clock) o text ending out before now
 
--- Batches are sent, and each is told once it is over, behind a text, as far as the run came.
+-- Messages are sent, and each is told once it is over, behind a text, as far as the run came.
 pub record SendsAllBy (Sent : Sending) (plan : Plan) (text : List ℕ) (ending : Ending) (out : Told) (before now : Running) : Type 0 where
   pub sent : List (List ℕ × Exchange)
   -- the source once these were sent
@@ -201,7 +203,7 @@ abbrev pub IsNotStarted : Ending → Told → ports.Told → ports.Told → Stor
 IsNotStarted ending out link link' before now =
     (fault : SourceFault) × StartsSource (Err fault) before now × RefusesStart fault × (ending ≡ source_ending fault) × IsUnwritten out × (link' ≡ link)
 
--- The source of a name is started over its store, asks the collector at an address, and sends at most so many batches.
+-- The source of a name is started over its store, asks the collector at an address, and sends at most so many messages.
 abbrev pub ForwardEnds : List ℕ → List ℕ → ℕ → Ending → Told → Option ℕ → ports.Told → ports.Told → Store → Store → Type 0
 ForwardEnds address s deliveries ending out clock link link' before now =
     IsNotStarted ending out link link' before now

@@ -1,4 +1,4 @@
-//! `forward`: a source asks a collector for subscriptions, and sends it batches.
+//! `forward`: a source asks a collector for subscriptions, and sends it batches, and heartbeats where there are none.
 
 ghost use Rattle.std.specs.Fmt.{decimal};
 ghost use Rattle.std.specs.Prelude.{◌≡◌, ◌≤◌, [], ◌++◌, codes, drop, option_copied, IfOk, OnOk};
@@ -17,9 +17,9 @@ use wef_ports::Clock;
 use wef_source::{SourceEnd, SourceFault};
 
 /// Starts the source of a name, asks the collector at an address for its subscriptions, and sends their
-/// batches, at most so many in all: session by session in the order of their names, each until there is
-/// nothing to send, or a batch is refused or lost. It tells how many sessions there are, and of each
-/// batch once its exchange is over.
+/// messages, at most so many in all: session by session in the order of their names, each until there is
+/// nothing to send, or a heartbeat was sent, or a batch is refused or lost. It tells how many sessions there
+/// are, and of each message once its exchange is over.
 pub fn forward<K: Keeper, O: Sink, L: Link, C: Clock>(
     alloc: Global,
     keeper: K,
@@ -44,7 +44,7 @@ pub fn forward<K: Keeper, O: Sink, L: Link, C: Clock>(
     (end.into_keeper(), ending)
 }
 
-/// Asks the collector at an address, and sends at most so many batches.
+/// Asks the collector at an address, and sends at most so many messages.
 fn ask_and_send<K: Keeper, O: Sink, L: Link, C: Clock>(
     alloc: Global,
     source: &mut SourceEnd<K>,
@@ -68,7 +68,7 @@ fn ask_and_send<K: Keeper, O: Sink, L: Link, C: Clock>(
     }
 }
 
-/// Tells how many sessions there are, and sends at most so many batches of theirs.
+/// Tells how many sessions there are, and sends at most so many messages of theirs.
 fn announce_and_send<K: Keeper, O: Sink, L: Link, C: Clock>(
     alloc: Global,
     source: &mut SourceEnd<K>,
@@ -100,7 +100,7 @@ fn announce_and_send<K: Keeper, O: Sink, L: Link, C: Clock>(
     }
 }
 
-/// Sends at most so many batches of the sessions of these names, and tells when it is done.
+/// Sends at most so many messages of the sessions of these names, and tells when it is done.
 fn send_all<K: Keeper, O: Sink, L: Link, C: Clock>(
     alloc: Global,
     source: &mut SourceEnd<K>,
@@ -130,7 +130,7 @@ fn send_all<K: Keeper, O: Sink, L: Link, C: Clock>(
     }
 }
 
-/// The session that is next, where so many batches may still be sent.
+/// The session that is next, where so many messages may still be sent.
 fn next(names: &[SubId], left: u64) -> Option<&SubId>
     ensures { option_copied result ≡ spec.next (record { names = names.now; left = left }) }
 {
@@ -140,13 +140,14 @@ fn next(names: &[SubId], left: u64) -> Option<&SubId>
     names.first()
 }
 
-/// The sessions that are left behind an exchange of the next, and how many batches may still be sent.
+/// The sessions that are left behind an exchange of the next, and how many messages may still be sent.
 fn behind(exchange: Exchange, names: &[SubId], left: u64) -> (&[SubId], u64)
     ensures { (record { names = result.0.now; left = result.1 }) ≡ spec.behind exchange (record { names = names.now; left = left }) }
 {
     match exchange {
         Exchange::Nothing => (without_first(names), left),
         Exchange::Acked(_) => (names, left.saturating_sub(1)),
+        Exchange::Heard => (without_first(names), left.saturating_sub(1)),
         Exchange::Refused => (without_first(names), left.saturating_sub(1)),
         Exchange::Lost => (without_first(names), left.saturating_sub(1)),
     }
@@ -161,7 +162,7 @@ fn without_first(names: &[SubId]) -> &[SubId]
     }
 }
 
-/// Forwards the next batch of the session of a name, and tells what became of it; or says how the run
+/// Forwards the next message of the session of a name, and tells what became of it; or says how the run
 /// ends.
 fn send_next<K: Keeper, O: Sink, L: Link, C: Clock>(
     alloc: Global,
@@ -212,7 +213,7 @@ fn tell_sessions<O: Sink>(alloc: Global, count: u64, out: &mut O) -> Result<(), 
     tell_line(line.as_str(), out)
 }
 
-/// Tells what became of a batch, where there was one.
+/// Tells what became of a message, where there was one.
 fn tell_exchange<O: Sink>(sub: &SubId, exchange: Exchange, out: &mut O) -> Result<(), Ending>
     ensures told { TellsLine result
         (told_of O.taken O.faults out.old out.new)
@@ -240,6 +241,7 @@ fn exchange_line(sub: &SubId, exchange: Exchange) -> Result<Text, AllocError>
     match exchange {
         Exchange::Nothing => Ok(Text::new(sub.as_text().alloc())),
         Exchange::Acked(_) => sent_line(sub, exchange),
+        Exchange::Heard => sent_line(sub, exchange),
         Exchange::Refused => sent_line(sub, exchange),
         Exchange::Lost => sent_line(sub, exchange),
     }
@@ -264,6 +266,7 @@ fn push_outcome(text: &mut Text, exchange: Exchange) -> Result<(), AllocError>
     match exchange {
         Exchange::Nothing => Ok(()),
         Exchange::Acked(count) => push_acked(text, count),
+        Exchange::Heard => push_acked(text, 0),
         Exchange::Refused => text.push_str(" refused"),
         Exchange::Lost => text.push_str(" lost"),
     }

@@ -15,7 +15,7 @@ pub fn collecting_goes_by_rows()
 
 /// Where the rows before `forward` are told, and what an opening may find behind it: its source changes
 /// them once, as it starts. Each batch that was sent is the one that these rows and the session give,
-/// under the boot number that stands in them.
+/// under the boot number that stands in them, and each heartbeat was sent where they give no item.
 pub fn forwarding_goes_by_rows()
     ensures { ForwardsByRows }
 {}

@@ -1,3 +1,4 @@
+pub mod Acknowledging
 pub mod DrawnIds
 pub mod EndNotes
 pub mod FirstChanged

@@ -1,11 +1,10 @@
 -- What a poll does, and what it prepares before it changes anything: an account of each, whether or not the store tells its rows.
 use Rattle.std.specs.Prelude.{◌≡◌, ℕ, true, false, is_some, List, Option, Result, IfOk, IfErr, IfSome, OnOk, OnErr}
-use Rattle.wef_batch.specs.Numbers.{AreNumbered}
 use Rattle.wef_keeper.specs.Access.{OpensAndReads}
 use Rattle.wef_keeper.specs.Calls.{Looks, fails}
 use Rattle.wef_keeper.specs.Keeping.{Store}
 use Rattle.wef_source_log.specs.Forms.{AreFormed}
-use Rattle.wef_source.specs.Answers.{IsAddressed, MayRefusePoll, Polls, RefusesPoll, Sends, SendsAddressed, SendsNumbered, SendsRemembered, WhereThere, may_send}
+use Rattle.wef_source.specs.Answers.{MayRefusePoll, Polls, RefusesPoll, Sends, SendsAddressed, SendsNumbered, SendsRemembered, WhereThere, may_send}
 use Rattle.wef_building.specs.Faults.{source_store}
 use Rattle.wef_building.specs.Judged.{JudgesBatch}
 use Rattle.wef_source.specs.Judged.{JudgesPoll}
@@ -13,8 +12,8 @@ use Rattle.wef_source.specs.Machine.{End}
 use Rattle.wef_source.specs.Prepared.{MayDraw, MayRefuseToPrepare, Prepares, RefusesToPrepare}
 use Rattle.wef_source.specs.Sessions.{has_expired, session_of}
 use Rattle.wef_building.specs.declared.faults.SourceFault.{SourceFault}
-use Rattle.wef_source.specs.declared.messages.Delivery.{Delivery}
 use Rattle.wef_source.specs.declared.messages.Poll.{Poll}
+use Rattle.wef_source.specs.declared.sending.Outgoing.{Outgoing}
 use Rattle.wef_building.specs.declared.sessions.Outstanding.{Outstanding}
 use Rattle.wef_building.specs.declared.sessions.Session.{Session}
 
@@ -24,13 +23,13 @@ pub record PollAccount {L : Type 0} (log log' : L) (before after : Store) (end e
   pub ok : IfSome after.rows (λ rows. IfOk result (Polls rows end end' u now))
   -- by the rows: why it is refused
   pub refusal : IfSome after.rows (λ rows. IfErr result (λ fault. RefusesPoll fault rows end u now))
-  -- where a delivery is sent, it has the next id, and the session awaits the answer
+  -- what is sent has the next id, and the session awaits the answer; a heartbeat is sent only where one is due
   pub sends : IfOk result (Sends end end' u now)
-  -- the numbers of the delivery are such as records have
+  -- the numbers of a delivery are such as records have
   pub numbered : IfOk result SendsNumbered
-  -- how far the delivery reads is what the session remembers of it
+  -- how far a delivery reads is what the session remembers of it
   pub remembered : IfOk result (SendsRemembered end end' u)
-  -- the delivery goes where the session says
+  -- a delivery goes where the session says
   pub addressed : IfOk result (SendsAddressed end u)
   -- no row that the answer rests on was spoilt
   pub judged : IfSome after.rows (λ rows. OnOk result (JudgesPoll rows end u))
@@ -47,18 +46,14 @@ pub record PollAccount {L : Type 0} (log log' : L) (before after : Store) (end e
   -- in both cases the store does no more than open and be read
   pub reads : OpensAndReads AreFormed (fails source_store result) before after
 
--- What is prepared of a session's next delivery: to what keeps the log, and to its store. What is remembered stays.
-pub record PreparedAccount {L : Type 0} (log log' : L) (before after : Store) (end : End) (session : Session) (result : Result (Option (Delivery × Outstanding)) SourceFault) : Type 0 where
-  -- by the rows: the delivery and what is awaited of it, or that the session is idle
-  pub ok : IfSome after.rows (λ rows. IfOk result (Prepares rows end session))
+-- What is prepared of what a session sends next at a moment: to what keeps the log, and to its store. What is remembered stays.
+pub record PreparedAccount {L : Type 0} (log log' : L) (before after : Store) (end : End) (session : Session) (now : ℕ) (result : Result (Option (Outgoing × Outstanding)) SourceFault) : Type 0 where
+  -- by the rows: what is sent and what is awaited of it, or that the session is idle
+  pub ok : IfSome after.rows (λ rows. IfOk result (Prepares rows end session now))
   -- by the rows: why it is refused
-  pub refusal : IfSome after.rows (λ rows. IfErr result (RefusesToPrepare rows end session))
-  -- a delivery has the next id, and comes where no answer is outstanding
-  pub draws : IfOk result (MayDraw end session)
-  -- the numbers of a delivery are such as records have
-  pub numbered : IfOk result (λ found. IfSome found (λ prepared. AreNumbered prepared.0.batch.items))
-  -- a delivery goes where the session says
-  pub addressed : IfOk result (λ found. IfSome found (λ prepared. IsAddressed session prepared.0))
+  pub refusal : IfSome after.rows (λ rows. IfErr result (RefusesToPrepare rows end session now))
+  -- what is sent has the next id, and comes where no answer is outstanding
+  pub draws : IfOk result (MayDraw end session now)
   -- no row that it rests on was spoilt
   pub judged : IfSome after.rows (λ rows. OnOk result (is_some session.outstanding ≡ false → JudgesBatch rows session))
   -- why it is refused, as far as what is remembered shows it

@@ -6,7 +6,7 @@ use Rattle.wef_batch.specs.Numbers.{AreNumbered}
 use Rattle.wef_batch.specs.Reach.{reach}
 use Rattle.wef_batch.specs.WellFormed.{is_in}
 use Rattle.wef_batch.specs.declared.items.Batch.{Batch}
-use Rattle.wef_bookmark.specs.Order.{Marks, number_at}
+use Rattle.wef_bookmark.specs.Order.{number_at}
 use Rattle.wef_ids.specs.IdTexts.{id_of_value, id_text}
 use Rattle.wef_ids.specs.Ids.{ids_agree}
 use Rattle.wef_ids.specs.declared.MessageId.{MessageId}
@@ -16,8 +16,8 @@ use Rattle.wef_eventing.specs.declared.offers.Subscribe.{Subscribe}
 use Rattle.wef_keeper.specs.Rows.{Rows}
 use Rattle.wef_building.specs.Building.{session_channels}
 use Rattle.wef_building.specs.Refusals.{RefusesRead}
-use Rattle.wef_source.specs.Machine.{End, accepted, acknowledged_in, adopted, asked, cancelled_in, delivery_of, drawn_in, is_idle, end_notes, is_spent, lease_of, lease_time, lost_in, most_drawn, next_id, note_of, refused_in, renewed_in, sent, shut_in}
-use Rattle.wef_source.specs.Sessions.{has_expired, is_asked_for, is_named, leased_as, sending, session_leased, session_of, time_left, waiting, with_changed}
+use Rattle.wef_source.specs.Machine.{End, accepted, acknowledged_in, adopted, asked, cancelled_in, beat_of, beaten, delivery_of, drawn_in, has_caught_up, is_due, is_idle, end_notes, is_spent, lease_of, lease_time, lost_in, most_drawn, next_id, note_of, refused_in, renewed_in, sent, sent_to, shut_in}
+use Rattle.wef_source.specs.Sessions.{has_expired, is_asked_for, leased_as, session_leased, session_of, time_left, waiting}
 use Rattle.wef_building.specs.declared.faults.SourceFault.{SourceFault}
 use Rattle.wef_building.specs.declared.faults.SourceFault.TheVariants.{NoMemory, Failed, Full, TooLong, NotAsked, UnknownSubscription, Expired, Spent}
 use Rattle.wef_source.specs.declared.messages.Accepted.{Accepted}
@@ -140,12 +140,16 @@ RefusesNote NoMemory id drawn lease = Unit {0}
 RefusesNote Spent id drawn lease = most_drawn < drawn + length (note_of id lease)
 RefusesNote _ id drawn lease = ⊥
 
--- A session sends what is built for it from the rows; it says Nothing exactly where a reply is outstanding or there is
--- no item.
+-- A session sends what is built for it from the rows; where that has no item, a heartbeat that is due. It says Nothing exactly
+-- where a reply is outstanding, or there is no item and no heartbeat is due.
 abbrev pub PollsSession : Rows → End → End → Session → ℕ → poll.Poll → Type 0
-PollsSession rows end end' session now polls.Nothing = (is_idle rows session ≡ true) × (end' ≡ end)
+PollsSession rows end end' session now polls.Nothing = (is_idle now rows session ≡ true) × (end' ≡ end)
 PollsSession rows end end' session now (polls.Send delivery) =
-    (is_idle rows session ≡ false) × (is_spent end ≡ false) × (delivery ≡ delivery_of rows end session) × (end' ≡ sent rows end session now)
+    (is_idle now rows session ≡ false) × (has_caught_up rows session ≡ false) × (is_spent end ≡ false) × (delivery ≡ delivery_of rows end session)
+    × (end' ≡ sent rows end session now)
+PollsSession rows end end' session now (polls.Beat beat) =
+    (is_idle now rows session ≡ false) × (has_caught_up rows session ≡ true) × (is_spent end ≡ false) × (beat ≡ beat_of end session)
+    × (end' ≡ beaten end session now)
 
 abbrev pub PollsIn : Rows → End → End → Option Session → ℕ → poll.Poll → Type 0
 PollsIn rows end end' None now answer = ⊥
@@ -163,15 +167,8 @@ RefusesPoll Failed rows end u now = Unit {0}
 RefusesPoll UnknownSubscription rows end u now = session_of end.sessions u ≡ None
 RefusesPoll Expired rows end u now = WhereThere (session_of end.sessions u) (λ session. has_expired now session ≡ true)
 RefusesPoll Spent rows end u now =
-    WhereThere (session_of end.sessions u) (λ session. (has_expired now session ≡ false) × (is_idle rows session ≡ false)) × (is_spent end ≡ true)
+    WhereThere (session_of end.sessions u) (λ session. (has_expired now session ≡ false) × (is_idle now rows session ≡ false)) × (is_spent end ≡ true)
 RefusesPoll _ rows end u now = ⊥
-
--- a source whose session of a name sent a delivery of the next id that reads so far
-abbrev pub sent_to : End → List ℕ → Marks → ℕ → End
-sent_to end u to now = record end {
-  drawn = end.drawn + 1;
-  sessions = with_changed (is_named u) (sending (record { id = next_id end; to = to }) now) end.sessions;
-}
 
 -- whether the session of a name is there, hasn't expired and awaits no answer; only then a poll uses the store
 abbrev pub may_send : ℕ → Option Session → Bool
@@ -185,6 +182,9 @@ SendsFrom end end' session u now polls.Nothing = end' ≡ end
 SendsFrom end end' session u now (polls.Send delivery) =
     (is_some session.outstanding ≡ false) × (is_spent end ≡ false) × (delivery.id ≡ id_of_value (next_id end))
     × (end' ≡ sent_to end u delivery.batch.to now)
+SendsFrom end end' session u now (polls.Beat beat) =
+    (is_some session.outstanding ≡ false) × (is_due now session ≡ true) × (is_spent end ≡ false) × (beat ≡ beat_of end session)
+    × (end' ≡ sent_to end u map.empty now)
 
 -- in every answer the session of the name is there
 abbrev pub Sends : End → End → List ℕ → ℕ → poll.Poll → Type 0
@@ -194,6 +194,7 @@ Sends end end' u now answer = WhereThere (session_of end.sessions u) (λ session
 abbrev pub SendsNumbered : poll.Poll → Type 0
 SendsNumbered polls.Nothing = Unit {0}
 SendsNumbered (polls.Send delivery) = AreNumbered delivery.batch.items
+SendsNumbered (polls.Beat beat) = Unit {0}
 
 -- A delivery goes where the session says, with the identifier that it has.
 abbrev pub IsAddressed : Session → Delivery → Type 0
@@ -203,6 +204,7 @@ IsAddressed session delivery = (delivery.notify_to ≡ session.notify_to) × (de
 abbrev pub SendsAddressed : End → List ℕ → poll.Poll → Type 0
 SendsAddressed end u polls.Nothing = Unit {0}
 SendsAddressed end u (polls.Send delivery) = WhereThere (session_of end.sessions u) (λ session. IsAddressed session delivery)
+SendsAddressed end u (polls.Beat beat) = Unit {0}
 
 -- A number that is remembered of a batch that a session sends: how far the batch reads a channel of the session's query, above
 -- where the session stands there.
@@ -221,6 +223,7 @@ abbrev pub SendsRemembered : End → End → List ℕ → poll.Poll → Type 0
 SendsRemembered end end' u polls.Nothing = Unit {0}
 SendsRemembered end end' u (polls.Send delivery) =
     WhereThere (session_of end.sessions u) (λ before. WhereThere (session_of end'.sessions u) (λ after. Remembers before delivery.batch after.outstanding))
+SendsRemembered end end' u (polls.Beat beat) = Unit {0}
 
 -- a poll's refusals, also where the rows aren't told: each but for an unknown name and a session that has expired comes where
 -- no answer is outstanding
@@ -237,7 +240,7 @@ abbrev pub waiting_for : End → Option ℕ → Option Session
 waiting_for end None = None
 waiting_for end (Some id) = waiting end.sessions id
 
--- An acknowledgement moves the session behind its batch; a fault leaves the session where it was, or ends it.
+-- An acknowledgement moves the session behind what it sent; a fault leaves the session where it was, or ends it.
 abbrev pub AnswersId : End → End → ℕ → reply.Reply → moved.Moved → Type 0
 AnswersId end end' id replies.Ack answer = (answer ≡ moves.Moved) × (end' ≡ acknowledged_in end id)
 AnswersId end end' id (replies.Fault fault) answer = (answer ≡ moves.Refused) × (end' ≡ refused_in end id fault)
@@ -260,7 +263,7 @@ abbrev pub RefusesAnswer : SourceFault → End → MessageId → Type 0
 RefusesAnswer NotAsked end relates = waiting_for end relates.value ≡ None
 RefusesAnswer _ end relates = ⊥
 
--- A delivery counts as lost where its session is there.
+-- What a session sent counts as lost where the session is there.
 abbrev pub Loses : End → End → List ℕ → Type 0
 Loses end end' u = (is_some (session_of end.sessions u) ≡ true) × (end' ≡ lost_in end u)
 

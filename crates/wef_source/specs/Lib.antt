@@ -2,6 +2,7 @@ pub mod Accounts
 pub mod Answers
 pub mod Calls
 pub mod Judged
+pub mod Laws
 pub mod Machine
 pub mod Placing
 pub mod Prepared

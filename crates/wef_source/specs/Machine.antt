@@ -1,9 +1,13 @@
 -- A source as a machine: what it holds, and what each call makes of it.
-use Rattle.std.specs.Prelude.{ℕ, ◌+◌, ◌-◌, ◌*◌, ◌==◌, max, nat_le, Bool, true, false, List, [], ◌∷◌, ◌++◌, length, is_some, Option, Some, None, if◌then◌else◌}
+use Rattle.std.specs.Prelude.{ℕ, ◌+◌, ◌-◌, ◌*◌, ◌==◌, max, nat_le, Bool, true, false, not, List, [], ◌∷◌, ◌++◌, length, is_some, Option, Some, None, if◌then◌else◌}
+use Rattle.std.specs.FinMap as map
 use Rattle.std.specs.List.{filter}
+use Rattle.wef_bookmark.specs.Order.{Marks}
 use Rattle.wef_eventing.specs.declared.offers.Offer.{Offer}
 use Rattle.wef_eventing.specs.declared.offers.Subscribe.{Subscribe}
 use Rattle.wef_eventing.specs.declared.subscriptions.EndStatus.TheVariants.{SourceShuttingDown}
+use Rattle.wef_heartbeat.specs.Silence.{due}
+use Rattle.wef_heartbeat.specs.declared.messages.Heartbeat.{Heartbeat}
 use Rattle.wef_ids.specs.IdTexts.{id_of_value, id_text}
 use Rattle.wef_ids.specs.declared.FaultName.{FaultName}
 use Rattle.wef_ids.specs.declared.FaultName.TheVariants.{DestinationUnreachable}
@@ -103,9 +107,17 @@ end_notes end = notes_of (next_id end) end.sessions
 abbrev pub shut_in : End → End
 shut_in end = record end { drawn = end.drawn + length (end_notes end); sessions = filter is_asked_for end.sessions }
 
--- whether a session has nothing to send: a reply is outstanding, or there is no item
-abbrev pub is_idle : Rows → Session → Bool
-is_idle rows session = if is_some session.outstanding then true else length (built rows session).items == 0
+-- whether a session has caught up with the log: no item is left to send
+abbrev pub has_caught_up : Rows → Session → Bool
+has_caught_up rows session = length (built rows session).items == 0
+
+-- whether a session is to say at a moment that its source is there
+abbrev pub is_due : ℕ → Session → Bool
+is_due now session = due session.last_sent session.heartbeat now
+
+-- whether a session has nothing to send at a moment: a reply is outstanding, or there is no item and no heartbeat is due
+abbrev pub is_idle : ℕ → Rows → Session → Bool
+is_idle now rows session = if is_some session.outstanding then true else (if has_caught_up rows session then not (is_due now session) else false)
 
 -- the delivery that a session sends next
 abbrev pub delivery_of : Rows → End → Session → Delivery
@@ -116,14 +128,26 @@ delivery_of rows end session = record {
   batch = built rows session;
 }
 
--- a source whose session sent its delivery at a moment
-abbrev pub sent : Rows → End → Session → ℕ → End
-sent rows end session now = record end {
+-- the heartbeat that a session sends next
+abbrev pub beat_of : End → Session → Heartbeat
+beat_of end session = record { id = id_of_value (next_id end); notify_to = session.notify_to; identifier = session.identifier }
+
+-- a source whose session of a name sent a message of the next id at a moment, which reads so far
+abbrev pub sent_to : End → List ℕ → Marks → ℕ → End
+sent_to end u to now = record end {
   drawn = end.drawn + 1;
-  sessions = with_changed (is_named session.name) (sending (record { id = next_id end; to = (built rows session).to }) now) end.sessions;
+  sessions = with_changed (is_named u) (sending (record { id = next_id end; to = to }) now) end.sessions;
 }
 
--- a source whose delivery of an id was acknowledged
+-- a source whose session sent its delivery at a moment
+abbrev pub sent : Rows → End → Session → ℕ → End
+sent rows end session now = sent_to end session.name (built rows session).to now
+
+-- a source whose session sent a heartbeat at a moment, which reads nothing
+abbrev pub beaten : End → Session → ℕ → End
+beaten end session now = sent_to end session.name map.empty now
+
+-- a source whose message of an id was acknowledged
 abbrev pub acknowledged_in : End → ℕ → End
 acknowledged_in end id = record end { sessions = with_changed (waits_for id) acknowledged end.sessions }
 
@@ -131,7 +155,7 @@ abbrev pub is_unreachable : FaultName → Bool
 is_unreachable DestinationUnreachable = true
 is_unreachable _ = false
 
--- a source whose delivery of an id was refused: its session ends where the collector doesn't know it any more
+-- a source whose message of an id was refused: its session ends where the collector doesn't know it any more
 abbrev pub refused_in : End → ℕ → FaultName → End
 refused_in end id fault = record end {
   sessions = if is_unreachable fault then without (waits_for id) end.sessions else with_changed (waits_for id) settled end.sessions;

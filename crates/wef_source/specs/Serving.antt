@@ -28,7 +28,7 @@ HasAll positions to = (c : List ℕ) → is_some (map.get to c) ≡ true → is_
 abbrev pub HasEach : Marks → List (List ℕ) → Type 0
 HasEach positions channels = (c : List ℕ) → is_in channels c ≡ true → is_some (map.get positions c) ≡ true
 
--- how far the delivery reads whose answer is awaited
+-- how far the message reads whose answer is awaited
 abbrev pub awaited_to : Option Outstanding → Marks
 awaited_to None = map.empty
 awaited_to (Some outstanding) = outstanding.to
@@ -48,7 +48,7 @@ pub record NoteCanBeSent (note : EndNote) : Type 0 where
   pub identifier : IsXmlText note.identifier
   pub trimmed : trimmed note.identifier ≡ note.identifier
 
--- A session that can be served: its positions have the channels of its query, and the delivery whose answer is awaited reads
+-- A session that can be served: its positions have the channels of its query, and the message whose answer is awaited reads
 -- some of these above them; its batches go to an address of HTTP, and its identifier holds characters that XML allows; so it is
 -- with its lease.
 pub record CanBeServed (s : Session) : Type 0 where

@@ -138,7 +138,7 @@ with_offers now ss [] = ss
 with_offers now ss (offer ∷ offers) =
     with_offers now (with_offered now ss offer.subscribe (subscription_in offer.subscribe.notify_to)) offers
 
--- a session whose delivery is on its way
+-- a session whose message is on its way since a moment
 abbrev pub sending : Outstanding → ℕ → Session → Session
 sending outstanding now s = record s { outstanding = Some outstanding; last_sent = now }
 
@@ -155,7 +155,7 @@ prolonged expiry s = record s { lease = until expiry s.lease }
 abbrev pub settled : Session → Session
 settled s = record s { outstanding = None }
 
--- a session whose delivery was acknowledged: it goes on behind the batch
+-- a session whose message was acknowledged: it goes on behind what that reads
 abbrev pub moved_by : Option Outstanding → Session → Session
 moved_by None s = settled s
 moved_by (Some outstanding) s = record s { outstanding = None; positions = joined s.positions outstanding.to }

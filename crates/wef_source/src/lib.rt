@@ -4,8 +4,10 @@
 mod accepting;
 mod adopting;
 mod ending;
+pub mod laws;
 pub mod memories;
 pub mod messages;
+mod sending;
 mod serving;
 pub mod source;
 

@@ -1,10 +1,9 @@
 //! What a source remembers while it runs. It is lost where the source ends.
 
+ghost use Rattle.std.specs.FinMap as map;
 ghost use Rattle.std.specs.List.{AllByRecursion};
 ghost use Rattle.std.specs.Prelude.{◌≡◌, ◌+◌, ◌≤◌, length, false, true, is_some, IfOk, IfErr, IfSome, OnOk, OnErr};
-ghost use Rattle.wef_batch.specs.Numbers.{AreNumbered};
 ghost use Rattle.wef_eventing.specs.Sending.{AreServable};
-ghost use Rattle.wef_ids.specs.IdTexts.{id_of_value};
 ghost use Rattle.wef_ids.specs.Ids.{ids_agree};
 ghost use Rattle.wef_keeper.specs.Access as access;
 ghost use Rattle.wef_keeper.specs.Calls.{fails};
@@ -15,18 +14,20 @@ ghost use Rattle.wef_source.specs.Answers as answers;
 ghost use Rattle.wef_building.specs.Faults.{source_store};
 ghost use Rattle.wef_building.specs.Judged.{JudgesBatch};
 ghost use Rattle.wef_source.specs.Machine as machine;
-ghost use Rattle.wef_source.specs.Prepared.{MayDraw, MayRefuseToPrepare, Prepares, RefusesToPrepare};
+ghost use Rattle.wef_source.specs.Prepared.{MayDraw, MayRefuseToPrepare, Prepares, RefusesToPrepare, awaiting, delivery_with};
 ghost use Rattle.wef_source.specs.Serving.{CanBeAccepted, NoteCanBeSent, HasKeptSessions, longest_lease};
 ghost use Rattle.wef_source.specs.Sessions as the_sessions;
+ghost use Rattle.wef_source.specs.declared.sending.Outgoing.TheVariants as outgoing;
 ghost use Rattle.wef_source_log.specs.Forms.{AreFormed};
 
 use crate::accepting::begun;
 use crate::adopting::{asked_for, put_session, sessions_of};
 use crate::ending::push_note;
-use crate::messages::{Accepted, Delivery, EndNote, Moved, Poll, Reply};
+use crate::messages::{Accepted, EndNote, Moved, Poll, Reply};
+use crate::sending::{Outgoing, beat_under, delivery_under};
 use crate::serving::{
-    Answer, answer_waiting, end_all_leased, end_leased, has_expired, left_of_lease, place_of_name,
-    refuse_waiting, renew_leased, send, settle_named,
+    Answer, answer_waiting, end_all_leased, end_leased, has_expired, is_due, left_of_lease,
+    place_of_name, refuse_waiting, renew_leased, send, settle_named,
 };
 use std::alloc::{AllocError, Global};
 use std::marker::Model;
@@ -35,7 +36,7 @@ use wef_base::{List, SubId, Text};
 use wef_batch::Batch;
 use wef_bookmark::Bookmark;
 use wef_building::building::built;
-use wef_building::{Outstanding, Session, SourceFault, copied_address};
+use wef_building::{Outstanding, Session, SourceFault};
 use wef_eventing::{Offer, Subscribe};
 use wef_ids::{FaultName, MessageId};
 use wef_keeper::Keeper;
@@ -250,8 +251,8 @@ impl Memory {
         Ok(names_of(self.alloc, self.sessions.as_slice())?)
     }
 
-    /// What a session has to send at a moment, where its time isn't over: a batch, unless the answer to one is
-    /// outstanding or there is none. The log is read only where no answer is outstanding.
+    /// What a session has to send at a moment, where its time isn't over: a batch; a heartbeat that is due, where the
+    /// batch would have no item; and nothing while an answer is outstanding. The log is read only where none is.
     pub fn poll<K: Keeper>(
         &mut self,
         log: &mut Log<K>,
@@ -266,15 +267,15 @@ impl Memory {
         if has_expired(&self.sessions[place], now) {
             return Err(SourceFault::Expired);
         }
-        let Some((delivery, outstanding)) = self.prepared(log, &self.sessions[place])? else {
+        let Some((outgoing, outstanding)) = self.prepared(log, &self.sessions[place], now)? else {
             return Ok(Poll::Nothing);
         };
         self.drawn += 1;
         send(&mut self.sessions[place], outstanding, now);
-        Ok(Poll::Send(delivery))
+        Ok(outgoing.into_poll())
     }
 
-    /// Takes the answer to a delivery. It takes no memory.
+    /// Takes the answer to what a session sent. It takes no memory.
     pub fn on_reply(&mut self, relates: &MessageId, reply: &Reply) -> Result<Moved, SourceFault>
         ensures ok { IfOk result (answers.Answers self.old self.new relates.now reply.now) }
         ensures refusal { IfErr result (λ fault. answers.RefusesAnswer fault self.old relates.now) }
@@ -289,7 +290,7 @@ impl Memory {
         }
     }
 
-    /// Gives up waiting for the answer to a session's delivery. It takes no memory.
+    /// Gives up waiting for the answer to what a session sent. It takes no memory.
     pub fn on_lost(&mut self, sub: &SubId) -> Result<(), SourceFault>
         ensures ok { OnOk result (answers.Loses self.old self.new sub.now) }
         ensures refusal { IfErr result (λ fault. answers.RefusesLost fault self.old sub.now) }
@@ -345,20 +346,21 @@ impl Memory {
         Ok(notes)
     }
 
-    /// What a session sends next, and what its answer will be awaited by. Nothing that is remembered
-    /// changes yet.
+    /// What a session sends next at a moment, and what its answer will be awaited by. Nothing that is
+    /// remembered changes yet.
     fn prepared<K: Keeper>(
         &self,
         log: &mut Log<K>,
         session: &Session,
-    ) -> Result<Option<(Delivery, Outstanding)>, SourceFault>
-        ensures { PreparedAccount log.old log.new (K.store log.old.keeper) (K.store log.new.keeper) self.now session.now result }
+        now: Moment,
+    ) -> Result<Option<(Outgoing, Outstanding)>, SourceFault>
+        ensures { PreparedAccount log.old log.new (K.store log.old.keeper) (K.store log.new.keeper) self.now session.now now result }
     {
         if session.outstanding.is_some() {
             return Ok(None);
         }
         log.open()?;
-        self.prepared_ready(log, session)
+        self.prepared_ready(log, session, now)
     }
 
     /// What a session sends next that waits for no answer, from a log whose store is ready.
@@ -366,23 +368,26 @@ impl Memory {
         &self,
         log: &mut Log<K>,
         session: &Session,
-    ) -> Result<Option<(Delivery, Outstanding)>, SourceFault>
+        now: Moment,
+    ) -> Result<Option<(Outgoing, Outstanding)>, SourceFault>
         requires idle { is_some session.now.outstanding ≡ false }
         requires ready { access.IsReady (K.store log.old.keeper) }
-        ensures ok { IfSome (K.store log.new.keeper).rows (λ rows. IfOk result (Prepares rows self.now session.now)) }
-        ensures refusal { IfSome (K.store log.new.keeper).rows (λ rows. IfErr result (RefusesToPrepare rows self.now session.now)) }
-        ensures draws { IfOk result (MayDraw self.now session.now) }
-        ensures numbered { IfOk result (λ found. IfSome found (λ prepared. AreNumbered prepared.0.batch.items)) }
-        ensures addressed { IfOk result (λ found. IfSome found (λ prepared. answers.IsAddressed session.now prepared.0)) }
+        ensures ok { IfSome (K.store log.new.keeper).rows (λ rows. IfOk result (Prepares rows self.now session.now now)) }
+        ensures refusal { IfSome (K.store log.new.keeper).rows (λ rows. IfErr result (RefusesToPrepare rows self.now session.now now)) }
+        ensures draws { IfOk result (MayDraw self.now session.now now) }
         ensures judged { IfSome (K.store log.new.keeper).rows (λ rows. OnOk result (JudgesBatch rows session.now)) }
         ensures listed { IfErr result (MayRefuseToPrepare self.now) }
         ensures reads { access.Reads AreFormed (fails source_store result) (K.store log.old.keeper) (K.store log.new.keeper) }
     {
         let batch = built(self.alloc, log, session)?;
-        if batch.items.is_empty() {
+        if !batch.items.is_empty() {
+            let prepared = self.delivered(session, batch)?;
+            return Ok(Some(prepared));
+        }
+        if !is_due(session, now) {
             return Ok(None);
         }
-        let prepared = self.delivered(session, batch)?;
+        let prepared = self.beaten(session)?;
         Ok(Some(prepared))
     }
 
@@ -391,36 +396,40 @@ impl Memory {
         &self,
         session: &Session,
         batch: Batch,
-    ) -> Result<(Delivery, Outstanding), SourceFault>
-        ensures delivery { IfOk result (λ prepared. prepared.0 ≡ record {
-          id = id_of_value (machine.next_id self.now);
-          notify_to = session.now.notify_to;
-          identifier = session.now.identifier;
-          batch = batch;
-        }) }
-        ensures addressed { IfOk result (λ prepared. answers.IsAddressed session.now prepared.0) }
-        ensures awaited { IfOk result (λ prepared. prepared.1 ≡ record { id = machine.next_id self.now; to = batch.to }) }
+    ) -> Result<(Outgoing, Outstanding), SourceFault>
+        ensures sent { IfOk result (λ prepared. prepared.0 ≡ outgoing.Batch (delivery_with self.now session.now batch)) }
+        ensures awaited { IfOk result (λ prepared. prepared.1 ≡ awaiting self.now batch.to) }
         ensures left { IfOk result (λ prepared. machine.is_spent self.now ≡ false) }
         ensures refusal { IfErr result (MayRefuseToPrepare self.now) }
         ensures unread { fails source_store result ≡ false }
     {
-        let outstanding = self.awaited(&batch.to)?;
-        let delivery = addressed(self.alloc, session, outstanding.id, batch)?;
-        Ok((delivery, outstanding))
+        let outstanding = self.awaited(batch.to.clone()?)?;
+        let delivery = delivery_under(self.alloc, session, outstanding.id, batch)?;
+        Ok((Outgoing::Batch(delivery), outstanding))
     }
 
-    /// What the answer to the next delivery will be awaited by.
-    fn awaited(&self, to: &Bookmark) -> Result<Outstanding, SourceFault>
-        ensures ok { IfOk result (λ outstanding. outstanding ≡ record { id = machine.next_id self.now; to = to.now }) }
+    /// The heartbeat of a session, and what its answer will be awaited by: it reads no channel.
+    fn beaten(&self, session: &Session) -> Result<(Outgoing, Outstanding), SourceFault>
+        ensures sent { IfOk result (λ prepared. prepared.0 ≡ outgoing.Beat (machine.beat_of self.now session.now)) }
+        ensures awaited { IfOk result (λ prepared. prepared.1 ≡ awaiting self.now map.empty) }
+        ensures left { IfOk result (λ prepared. machine.is_spent self.now ≡ false) }
+        ensures refusal { IfErr result (MayRefuseToPrepare self.now) }
+        ensures unread { fails source_store result ≡ false }
+    {
+        let outstanding = self.awaited(Bookmark::new(self.alloc))?;
+        let beat = beat_under(self.alloc, session, outstanding.id)?;
+        Ok((Outgoing::Beat(beat), outstanding))
+    }
+
+    /// What the answer to the next message will be awaited by, which reads so far.
+    fn awaited(&self, to: Bookmark) -> Result<Outstanding, SourceFault>
+        ensures ok { IfOk result (λ outstanding. outstanding ≡ awaiting self.now to) }
         ensures left { IfOk result (λ outstanding. machine.is_spent self.now ≡ false) }
         ensures refusal { IfErr result (MayRefuseToPrepare self.now) }
         ensures unread { fails source_store result ≡ false }
     {
         let id = self.next_id()?;
-        Ok(Outstanding {
-            id,
-            to: to.clone()?,
-        })
+        Ok(Outstanding { id, to })
     }
 
     /// The value of the next id. It isn't drawn yet.
@@ -444,30 +453,6 @@ fn agree(asked: Option<u128>, given: Option<u128>) -> bool
         (Some(asked), Some(given)) => asked == given,
         _ => false,
     }
-}
-
-/// The delivery of a batch to a session, under an id.
-fn addressed(
-    alloc: Global,
-    session: &Session,
-    id: u128,
-    batch: Batch,
-) -> Result<Delivery, AllocError>
-    ensures { IfOk result (λ delivery. delivery ≡ record {
-      id = id_of_value id;
-      notify_to = session.now.notify_to;
-      identifier = session.now.identifier;
-      batch = batch;
-    }) }
-{
-    let id = MessageId::of_value(alloc, id)?;
-    let (notify_to, identifier) = copied_address(&session.notify_to, &session.identifier)?;
-    Ok(Delivery {
-        id,
-        notify_to,
-        identifier,
-        batch,
-    })
 }
 
 fn names_of(alloc: Global, sessions: &[Session]) -> Result<List<SubId>, AllocError>

@@ -3,6 +3,7 @@
 use wef_base::Text;
 use wef_batch::Batch;
 use wef_eventing::EndStatus;
+use wef_heartbeat::Heartbeat;
 use wef_ids::{FaultName, MessageId};
 
 /// A batch on its way to the collector.
@@ -66,14 +67,17 @@ impl Drop for EndNote {
 /// What a session has to send.
 #[derive(Debug, Drop)]
 pub enum Poll {
+    /// The events that the session has not sent yet, as many as a batch may have.
     Send(Delivery),
+    /// Nothing but that the source is there, which it has to say now.
+    Beat(Heartbeat),
     Nothing,
 }
 
-/// The answer to a delivery.
+/// The answer to a delivery or a heartbeat.
 #[derive(Debug)]
 pub enum Reply {
-    /// The batch is kept.
+    /// The batch is kept, or the source was heard.
     Ack,
     Fault(FaultName),
 }
@@ -90,8 +94,8 @@ impl Drop for Reply {
 /// What an answer did to its session.
 #[derive(Clone, Copy, Debug, PartialEq, Eq)]
 pub enum Moved {
-    /// The session goes on behind the batch.
+    /// The session goes on behind the batch; behind a heartbeat that is where it was.
     Moved,
-    /// The batch was refused, and the session goes on where it was.
+    /// What was sent was refused, and the session goes on where it was.
     Refused,
 }

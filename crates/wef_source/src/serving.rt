@@ -4,7 +4,7 @@ ghost use Rattle.std.specs.List.{filter, position};
 ghost use Rattle.std.specs.Prelude.{◌≡◌, false, is_some, if◌then◌else◌, IfErr, IfOk, OnErr, OnOk};
 ghost use Rattle.wef_bookmark.specs.Order.{joined};
 ghost use Rattle.wef_source.specs.Answers.{GoesOn, RefusesLeased, TellsLeft};
-ghost use Rattle.wef_source.specs.Machine.{is_unreachable};
+ghost use Rattle.wef_source.specs.Machine as machine;
 ghost use Rattle.wef_source.specs.Serving.{AreKept, HasAll, CanBeServed};
 ghost use Rattle.wef_source.specs.Sessions as spec;
 
@@ -12,6 +12,7 @@ use wef_base::moments::Moment;
 use wef_base::{SubId, Text};
 use wef_bookmark::Bookmark;
 use wef_building::{Outstanding, Session, SourceFault};
+use wef_heartbeat::due;
 use wef_ids::FaultName;
 
 /// The place of the session of a name.
@@ -73,7 +74,7 @@ pub fn settle_named(sessions: &mut Vec<Session>, sub: &SubId) -> bool
 /// What an answer makes of the session that waits for it.
 #[derive(Clone, Copy)]
 pub enum Answer {
-    /// It goes on behind its delivery.
+    /// It goes on behind what it sent.
     Taken,
     /// It waits for nothing.
     Refused,
@@ -100,7 +101,7 @@ pub fn answer_waiting(sessions: &mut Vec<Session>, id: u128, answer: Answer) -> 
 pub fn refuse_waiting(sessions: &mut Vec<Session>, id: u128, fault: &FaultName) -> bool
     requires { AreKept sessions.old.items }
     ensures there { result ≡ is_some (spec.waiting sessions.old.items id) }
-    ensures changed { sessions.new.items ≡ (if is_unreachable fault.now
+    ensures changed { sessions.new.items ≡ (if machine.is_unreachable fault.now
         then spec.without (spec.waits_for id) sessions.old.items
         else spec.with_changed (spec.waits_for id) spec.settled sessions.old.items) }
     ensures absent { result ≡ false → sessions.new.items ≡ sessions.old.items }
@@ -135,6 +136,13 @@ pub fn has_expired(session: &Session, now: Moment) -> bool
         Some(lease) => lease.expiry <= now.milliseconds(),
         None => false,
     }
+}
+
+/// Whether a session is to say at a moment that its source is there.
+pub fn is_due(session: &Session, now: Moment) -> bool
+    ensures { result ≡ machine.is_due now session.now }
+{
+    due(session.last_sent, session.heartbeat, now)
 }
 
 /// How long a session stands from a moment on.
@@ -229,7 +237,7 @@ pub fn end_all_leased(sessions: &mut Vec<Session>)
     sessions.retain(|session| session.lease.is_none());
 }
 
-/// Has a session wait for the answer to a delivery that is sent at a moment.
+/// Has a session wait for the answer to what it sends at a moment.
 pub fn send(session: &mut Session, outstanding: Outstanding, now: Moment)
     ensures { session.new ≡ spec.sending outstanding now session.old }
 {
@@ -253,7 +261,7 @@ fn take_answer(session: &mut Session, answer: Answer)
     }
 }
 
-/// Moves a session behind its delivery. It takes no memory.
+/// Moves a session behind what it sent. It takes no memory.
 #[tactic(auto, using(crate::proofs::Remembered::has_read))]
 fn acknowledge(session: &mut Session)
     requires { CanBeServed session.old }

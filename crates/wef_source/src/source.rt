@@ -243,8 +243,8 @@ impl<K: Keeper> SourceEnd<K> {
         self.memory.sessions()
     }
 
-    /// What a session has to send at a moment, where its time isn't over: a batch, unless the answer to one is
-    /// outstanding or there is none. The store is used only where no answer is outstanding.
+    /// What a session has to send at a moment, where its time isn't over: a batch; a heartbeat that is due, where the
+    /// batch would have no item; and nothing while an answer is outstanding. The store is used only where none is.
     pub fn poll(&mut self, sub: &SubId, now: Moment) -> Result<Poll, SourceFault>
         ensures account { PollAccount self.old.keeper self.new.keeper (K.store self.old.keeper) (K.store self.new.keeper) self.old.memory self.new.memory sub.now now result }
         ensures name { self.new.name ≡ self.old.name }
@@ -252,7 +252,7 @@ impl<K: Keeper> SourceEnd<K> {
         self.memory.poll(&mut self.log, sub, now)
     }
 
-    /// Takes the answer to a delivery. It takes no memory.
+    /// Takes the answer to what a session sent. It takes no memory.
     pub fn on_reply(&mut self, relates: &MessageId, reply: &Reply) -> Result<Moved, SourceFault>
         ensures ok { IfOk result (answers.Answers self.old.memory self.new.memory relates.now reply.now) }
         ensures refusal { IfErr result (λ fault. answers.RefusesAnswer fault self.old.memory relates.now) }
@@ -263,7 +263,7 @@ impl<K: Keeper> SourceEnd<K> {
         self.memory.on_reply(relates, reply)
     }
 
-    /// Gives up waiting for the answer to a session's delivery. It takes no memory.
+    /// Gives up waiting for the answer to what a session sent. It takes no memory.
     pub fn on_lost(&mut self, sub: &SubId) -> Result<(), SourceFault>
         ensures ok { OnOk result (answers.Loses self.old.memory self.new.memory sub.now) }
         ensures refusal { IfErr result (λ fault. answers.RefusesLost fault self.old.memory sub.now) }

@@ -1,17 +1,8 @@
-use Rattle.std.proofs.Common.{ap, refl}
-use Rattle.std.specs.Prelude.{Ok, Err}
 use Rattle.wef_forwarding.proofs.forwarding.deliver.Goals as goal
 
-pub returns-in-Ok-clause-delivered : goal.returns-in-Ok-clause-delivered
-returns-in-Ok-clause-delivered g c = record {
-  answer = Ok c.in-Ok.answer;
-  exchanged = c.in-Ok.ensures.replied;
-  ends = ((λ i. Ok (c.take.ensures.outcome i)), c.take.ensures.memory);
-}
-
-pub returns-in-Err-clause-delivered : goal.returns-in-Err-clause-delivered
-returns-in-Err-clause-delivered g c = record {
-  answer = Err c.in-Err.fault;
-  exchanged = c.in-Err.ensures.replied;
-  ends = (refl, c.lose.ensures.memory);
+pub returns-clause-exchanged : goal.returns-clause-exchanged
+returns-clause-exchanged g c = record {
+  answer = c.reply_to_delivery-answer.result;
+  exchanged = c.reply_to_delivery-answer.ensures.replied;
+  ends = rw c.count_of.ensures at c.settle.ensures.ends;
 }

@@ -21,7 +21,7 @@ sending-smaller g c =
     let left = c.sending.left in
     subst (λ (p : Plan). length p.names + p.left < length names + left) (sym c.behind.ensures) (gets_less c.in-Ok.exchange names left c.in-Some.sub.now (sym c.in-Some.ensures))
 
--- a batch more
+-- a message more
 pub sending-preserved : goal.sending-preserved
 sending-preserved g c =
     let kept = c.sending.invariant in
