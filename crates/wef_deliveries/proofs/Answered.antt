@@ -1,9 +1,10 @@
--- What the collector answers to the bytes of a delivery, or of a note of the end of a session, is what the machine says of it.
+-- What the collector answers to the bytes of a delivery, of a heartbeat, or of a note of the end of a session, is what the machine says
+-- of it.
 use Rattle.std.proofs.Common.{◌≡◌, ℕ, ◌==◌, Bool, true, false, List, [], refl, ap, sym, ◌∙◌, subst}
 use Rattle.std.specs.Prelude.{Option, Some, None, Result, Ok, Err, IfErr, unwrap_or, if◌then◌else◌}
 use Rattle.wef_base.specs.Names.{source_name, subscription_name}
 use Rattle.wef_base.specs.declared.tree.Charset.TheVariants.{Utf8}
-use Rattle.wef_collector.specs.Calls.{Effect, source_ended_effect, take_effect}
+use Rattle.wef_collector.specs.Calls.{Effect, hear_effect, source_ended_effect, take_effect}
 use Rattle.wef_collector.specs.declared.collector.Collector.{Collector}
 use Rattle.wef_collector.specs.declared.memories.Memory.{Memory}
 use Rattle.wef_collector_rows.specs.Faults.{collector_store}
@@ -14,23 +15,24 @@ use Rattle.wef_envelope.specs.Faults.{is_known}
 use Rattle.wef_envelope.specs.Laws.{IsSpelt}
 use Rattle.wef_eventing.specs.Addresses.{source_in, subscription_in}
 use Rattle.wef_ids.proofs.PlainIds.{id_text_good}
+use Rattle.wef_front.proofs.BeatsAreHeard.{beats_are_heard}
+use Rattle.wef_front.proofs.DeliveriesAreHeard.{deliveries_are_heard}
 use Rattle.wef_front.proofs.EndsAreHeard.{ends_are_heard}
-use Rattle.wef_front.proofs.OneIsHeard.{delivery_heard_is, one_is_heard}
 use Rattle.wef_front.proofs.RepliesAreHeard.{replies_are_read}
 use Rattle.wef_front_collector.proofs.SaidOfCalls.{said_known}
 use Rattle.wef_front_collector.specs.Heard.{Hears}
-use Rattle.wef_front_collector.specs.Replies.{IsAnswer, IsSpeltFor, answer_of, memory_behind}
+use Rattle.wef_front_collector.specs.Replies.{IsSpeltFor, answer_of, memory_behind}
 use Rattle.wef_front.specs.Ends.{ended_by}
 use Rattle.wef_front.specs.Replies.{IsKnownReply, reply_bytes}
-use Rattle.wef_front_source.specs.Sending.{CanBeSent, delivery_bytes, end_bytes}
+use Rattle.wef_front_source.specs.Sending.{BeatCanBeSent, CanBeSent, beat_bytes, delivery_bytes, end_bytes}
 use Rattle.wef_front_collector.specs.Steps as steps
-use Rattle.wef_front_collector.specs.Steps.{IsAnswered, IsKnownSaid, Steps, done_said, fault_for, said_of}
+use Rattle.wef_front_collector.specs.Steps.{IsAnswered, IsKnownSaid, done_said, fault_for, said_of}
 use Rattle.wef_http_heads.specs.declared.answers.Answer.{Answer}
-use Rattle.wef_front_collector.specs.declared.hearing.Asked.{Asked}
-use Rattle.wef_front_collector.specs.declared.hearing.Asked.TheVariants.{Ended, Take}
+use Rattle.wef_front_collector.specs.declared.hearing.Asked.TheVariants as asked
 use Rattle.wef_front_collector.specs.declared.hearing.Heard.{Heard}
 use Rattle.wef_front_collector.specs.declared.saying.Said as the_said
 use Rattle.wef_front_collector.specs.declared.saying.Said.TheVariants as says
+use Rattle.wef_heartbeat.specs.declared.messages.Heartbeat.{Heartbeat}
 use Rattle.wef_ids.specs.Ids.{next_id}
 use Rattle.wef_ids.specs.declared.FaultName.{FaultName}
 use Rattle.wef_ids.specs.declared.FaultName.TheVariants as names
@@ -39,11 +41,10 @@ use Rattle.wef_keeper.specs.Rows.{Rows}
 use Rattle.wef_keeper.specs.Keeping.{Store, is_armed}
 use Rattle.wef_keeper.specs.declared.mem_keeper.MemKeeper.{MemKeeper}
 use Rattle.wef_machine.specs.Collecting.{collector_opened, collector_opening, reply_id}
-use Rattle.wef_machine.specs.Deliveries.{BatchEffect, delivery_effect, effect_at}
+use Rattle.wef_machine.specs.Deliveries.{BatchEffect, batch_effect, beat_effect, delivery_effect, effect_at, heard_effect}
 use Rattle.wef_machine.specs.Leasing.{ended_effect, note_effect}
 use Rattle.wef_machine.specs.Printed.{fault_answer}
 use Rattle.wef_machine.specs.States as machine
-use Rattle.wef_machine.specs.States.{host}
 use Rattle.wef_machine.specs.Arming.{is_done, is_stopped, plan_of}
 use Rattle.wef_machine.specs.declared.arming.Armed.{Armed}
 use Rattle.wef_machine.specs.declared.arming.Fate as the_fate
@@ -66,8 +67,8 @@ use Rattle.wef_places.specs.declared.places.Placed.{Placed}
 use Rattle.wef_places.specs.declared.places.Used.{Used}
 use Rattle.wef_places.specs.declared.places.Used.TheVariants.{Answered}
 use Rattle.wef_messages.proofs.Said.{replied_is}
-use Rattle.wef_deliveries.proofs.Takings.{IsNamed, call_makes, named_batch, named_came, named_end, named_left}
-use Rattle.wef_deliveries.specs.Answered.{IsSaidToCall, IsWritten, Leads, answer_word, asked_at, ended_at, fault_word, heard_of, message_in, note_heard, reply_in, taken_by, target_of}
+use Rattle.wef_deliveries.proofs.Takings.{IsNamed, call_makes, named_batch, named_came, named_end, named_heard, named_left}
+use Rattle.wef_deliveries.specs.Answered.{AnswersTo, IsSaidToCall, IsWritten, Leads, answer_word, fault_word, message_in, reply_in, taken_by, target_of}
 use Rattle.wef_messages.specs.Bytes.{AreReply, Replied}
 use Rattle.wef_deliveries.specs.Outcomes.{answered_call, call_by, call_left, drawn_for, outcome_word, reply_to, sent_by}
 
@@ -80,24 +81,9 @@ named_in address leads = ap (λ (o : Option (List ℕ)). subscription_name (unwr
 sourced_in : (address : List ℕ) (leads : Leads address) → source_name (unwrap_or (source_in address) []) ≡ Some leads.s
 sourced_in address leads = ap (λ (o : Option (List ℕ)). source_name (unwrap_or o [])) leads.to_source ∙ leads.source
 
--- so what a delivery asks is heard
-asked_is : (delivery : Delivery) (leads : Leads delivery.notify_to) → asked_at (subscription_in delivery.notify_to) (source_in delivery.notify_to) delivery.batch ≡ Take leads.u leads.s delivery.batch
-asked_is delivery leads = λ i. asked_at (leads.to_subscription i) (leads.to_source i) delivery.batch
-
-pub heard_is : (delivery : Delivery) (heard : Heard) → CanBeSent delivery → Leads delivery.notify_to → Hears (target_of delivery.notify_to) Utf8 (delivery_bytes delivery) heard → heard ≡ heard_of delivery
-heard_is delivery heard sent leads hears =
-    delivery_heard_is delivery _ _ leads.u leads.s heard sent (named_in delivery.notify_to leads) (sourced_in delivery.notify_to leads) hears
-    ∙ ap (λ (asked : Asked). record { relates = Some delivery.id; asked = asked }) (sym (asked_is delivery leads))
-
--- and what a note tells
-end_is : (note : EndNote) (leads : Leads note.end_to) → ended_at (subscription_in note.end_to) (source_in note.end_to) note.identifier ≡ Ended leads.u leads.s note.identifier
-end_is note leads = λ i. ended_at (leads.to_subscription i) (leads.to_source i) note.identifier
-
-pub note_heard_is : (note : EndNote) (heard : Heard) → NoteCanBeSent note → IsSpelt note.id → Leads note.end_to → Hears (target_of note.end_to) Utf8 (end_bytes note) heard → heard ≡ note_heard note
-note_heard_is note heard can spelt leads hears =
-    one_is_heard (target_of note.end_to) Utf8 (end_bytes note) heard (ended_by note leads.u leads.s) hears
-    (ends_are_heard.path note (unwrap_or (subscription_in note.end_to) []) (unwrap_or (source_in note.end_to) []) leads.u leads.s can spelt (named_in note.end_to leads) (sourced_in note.end_to leads))
-    ∙ ap (λ (asked : Asked). record { relates = Some note.id; asked = asked }) (sym (end_is note leads))
+-- what is heard of a message where it goes is heard of its bytes
+heard_so : (address to bytes written : List ℕ) (heard : Heard) → address ≡ to → bytes ≡ written → Hears (target_of to) Utf8 written heard → Hears (target_of address) Utf8 bytes heard
+heard_so address to bytes written heard goes are hears = subst (λ (p : List ℕ × List ℕ). Hears (target_of p.0) Utf8 p.1 heard) (λ i. (sym goes i, sym are i)) hears
 
 -- ---- replies
 
@@ -323,66 +309,96 @@ module _ (c : machine.Collector) (placed left : Placed (Collector MemKeeper)) (e
 -- ---- a delivery
 
 -- the collector takes the batch of a delivery that leads
-delivery_says : (d : Delivery) (now : ℕ) (answer : Answer) (memory memory_now : Memory) (before after : Store) (leads : Leads d.notify_to) → IsAnswer host (heard_of d) Utf8 now answer memory memory_now before after
-    → Says d.id d.batch.ack_wanted (λ rows. take_effect rows leads.u leads.s d.batch now) answer memory memory_now before after
-delivery_says d now answer memory memory_now before after leads is = record {
-  said = is.said;
-  says = subst (λ (asked : Asked). Steps host asked now is.said before after) (asked_is d leads) is.stepped;
-  written = is.written;
-  spelt = is.spelt;
-  drawn = is.drawn;
-}
+delivery_says : (d : Delivery) (address bytes : List ℕ) (now : ℕ) (answer : Answer) (memory memory_now : Memory) (before after : Store) → CanBeSent d → (leads : Leads d.notify_to) → address ≡ d.notify_to → bytes ≡ delivery_bytes d
+    → AnswersTo address bytes now answer memory memory_now before after → Says d.id d.batch.ack_wanted (λ rows. take_effect rows leads.u leads.s d.batch now) answer memory memory_now before after
+delivery_says d address bytes now answer memory memory_now before after can leads to are answers =
+    let heard : Heard = record { relates = Some d.id; asked = asked.Take leads.u leads.s d.batch } in
+    let is = answers heard (heard_so address d.notify_to bytes (delivery_bytes d) heard to are (deliveries_are_heard d _ _ leads.u leads.s can (named_in d.notify_to leads) (sourced_in d.notify_to leads))) in
+    record { said = is.said; says = is.stepped; written = is.written; spelt = is.spelt; drawn = is.drawn }
 
 -- what it writes then
-pub answer_is_written : (d : Delivery) (now : ℕ) (answer : Answer) (memory memory_now : Memory) (before after : Store) → CanBeSent d → Leads d.notify_to → IsAnswer host (heard_of d) Utf8 now answer memory memory_now before after → IsWritten answer
-answer_is_written d now answer memory memory_now before after sent_so leads is =
-    written_so d.id d.batch.ack_wanted (λ rows. take_effect rows leads.u leads.s d.batch now) answer memory memory_now before after sent_so.spelt sent_so.id (delivery_says d now answer memory memory_now before after leads is)
+pub delivery_is_written : (d : Delivery) (address bytes : List ℕ) (now : ℕ) (answer : Answer) (memory memory_now : Memory) (before after : Store) → CanBeSent d → Leads d.notify_to → address ≡ d.notify_to → bytes ≡ delivery_bytes d
+    → AnswersTo address bytes now answer memory memory_now before after → IsWritten answer
+delivery_is_written d address bytes now answer memory memory_now before after can leads to are answers =
+    written_so d.id d.batch.ack_wanted (λ rows. take_effect rows leads.u leads.s d.batch now) answer memory memory_now before after can.spelt can.id
+    (delivery_says d address bytes now answer memory memory_now before after can leads to are answers)
 
 delivery_named : (d : Delivery) (now : ℕ) (leads : Leads d.notify_to) → IsNamed (λ rows. take_effect rows leads.u leads.s d.batch now) (λ rows. delivery_effect rows d now)
-delivery_named d now leads rows = named_batch leads.u leads.s d.batch now rows ∙ sym (λ i. effect_at rows (leads.to_subscription i) (leads.to_source i) d.batch now)
+delivery_named d now leads rows = named_batch leads.u leads.s d.batch now rows ∙ sym (λ i. effect_at rows (leads.to_subscription i) (leads.to_source i) (λ u s. batch_effect rows u s d.batch now))
 
-pub delivery_answered : (c : machine.Collector) (placed left : Placed (Collector MemKeeper)) (end end' : Collector MemKeeper) (s : List ℕ) (d : Delivery) (now : ℕ) (answer : Answer) (how : the_fate.Fate) → CanBeSent d → Leads d.notify_to
+pub delivery_answered : (c : machine.Collector) (placed left : Placed (Collector MemKeeper)) (end end' : Collector MemKeeper) (s : List ℕ) (d : Delivery) (address bytes : List ℕ) (now : ℕ) (answer : Answer) (how : the_fate.Fate) → CanBeSent d
+    → Leads d.notify_to → address ≡ d.notify_to → bytes ≡ delivery_bytes d
     → collector_of placed ≡ collector_opened c → Some end ≡ end_in placed.place → IsPlanned the_keeper placed → AreFormed (keeper_in the_keeper placed.place).rows
-    → IsAnswer host (heard_of d) Utf8 now answer end.memory end'.memory (told_by end.keeper) (told_by end'.keeper)
+    → AnswersTo address bytes now answer end.memory end'.memory (told_by end.keeper) (told_by end'.keeper)
     → how ≡ fate_by (is_used_up the_keeper (running_with placed.armed end')) placed.armed → left ≡ settled the_keeper how (running_with placed.armed end')
     → Makes c (collector_of left) (delivery_effect (collector_opened c).rows d now) d.batch.ack_wanted s d.id how answer
-delivery_answered c placed left end end' s d now answer how sent_so leads opened there planned formed is goes settles =
+delivery_answered c placed left end end' s d address bytes now answer how can leads to are opened there planned formed answers goes settles =
     call_answered c placed left end end' how (record { opened = opened; there = there; planned = planned; formed = formed; goes = goes; settles = settles }) s d.id d.batch.ack_wanted
-    (λ rows. take_effect rows leads.u leads.s d.batch now) (λ rows. delivery_effect rows d now) answer sent_so.spelt sent_so.id (delivery_named d now leads)
-    (delivery_says d now answer end.memory end'.memory (told_by end.keeper) (told_by end'.keeper) leads is)
+    (λ rows. take_effect rows leads.u leads.s d.batch now) (λ rows. delivery_effect rows d now) answer can.spelt can.id (delivery_named d now leads)
+    (delivery_says d address bytes now answer end.memory end'.memory (told_by end.keeper) (told_by end'.keeper) can leads to are answers)
+
+-- ---- a heartbeat
+
+-- the collector hears the source of a heartbeat that leads
+beat_says : (b : Heartbeat) (address bytes : List ℕ) (now : ℕ) (answer : Answer) (memory memory_now : Memory) (before after : Store) → BeatCanBeSent b → (leads : Leads b.notify_to) → address ≡ b.notify_to → bytes ≡ beat_bytes b
+    → AnswersTo address bytes now answer memory memory_now before after → Says b.id true (λ rows. hear_effect rows leads.u leads.s now) answer memory memory_now before after
+beat_says b address bytes now answer memory memory_now before after can leads to are answers =
+    let heard : Heard = record { relates = Some b.id; asked = asked.Heartbeat leads.u leads.s true } in
+    let is = answers heard (heard_so address b.notify_to bytes (beat_bytes b) heard to are (beats_are_heard b _ _ leads.u leads.s can (named_in b.notify_to leads) (sourced_in b.notify_to leads))) in
+    record { said = is.said; says = is.stepped; written = is.written; spelt = is.spelt; drawn = is.drawn }
+
+-- what it writes then
+pub beat_is_written : (b : Heartbeat) (address bytes : List ℕ) (now : ℕ) (answer : Answer) (memory memory_now : Memory) (before after : Store) → BeatCanBeSent b → Leads b.notify_to → address ≡ b.notify_to → bytes ≡ beat_bytes b
+    → AnswersTo address bytes now answer memory memory_now before after → IsWritten answer
+beat_is_written b address bytes now answer memory memory_now before after can leads to are answers =
+    written_so b.id true (λ rows. hear_effect rows leads.u leads.s now) answer memory memory_now before after can.spelt can.id
+    (beat_says b address bytes now answer memory memory_now before after can leads to are answers)
+
+beat_named : (b : Heartbeat) (now : ℕ) (leads : Leads b.notify_to) → IsNamed (λ rows. hear_effect rows leads.u leads.s now) (λ rows. beat_effect rows b now)
+beat_named b now leads rows = named_heard leads.u leads.s now rows ∙ sym (λ i. effect_at rows (leads.to_subscription i) (leads.to_source i) (λ u s. heard_effect rows u s now))
+
+pub beat_answered : (c : machine.Collector) (placed left : Placed (Collector MemKeeper)) (end end' : Collector MemKeeper) (s : List ℕ) (b : Heartbeat) (address bytes : List ℕ) (now : ℕ) (answer : Answer) (how : the_fate.Fate) → BeatCanBeSent b
+    → Leads b.notify_to → address ≡ b.notify_to → bytes ≡ beat_bytes b
+    → collector_of placed ≡ collector_opened c → Some end ≡ end_in placed.place → IsPlanned the_keeper placed → AreFormed (keeper_in the_keeper placed.place).rows
+    → AnswersTo address bytes now answer end.memory end'.memory (told_by end.keeper) (told_by end'.keeper)
+    → how ≡ fate_by (is_used_up the_keeper (running_with placed.armed end')) placed.armed → left ≡ settled the_keeper how (running_with placed.armed end')
+    → Makes c (collector_of left) (beat_effect (collector_opened c).rows b now) true s b.id how answer
+beat_answered c placed left end end' s b address bytes now answer how can leads to are opened there planned formed answers goes settles =
+    call_answered c placed left end end' how (record { opened = opened; there = there; planned = planned; formed = formed; goes = goes; settles = settles }) s b.id true
+    (λ rows. hear_effect rows leads.u leads.s now) (λ rows. beat_effect rows b now) answer can.spelt can.id (beat_named b now leads)
+    (beat_says b address bytes now answer end.memory end'.memory (told_by end.keeper) (told_by end'.keeper) can leads to are answers)
 
 -- ---- a note of the end of a session
 
 -- the collector hears of the end that a note tells which leads
-note_says : (note : EndNote) (now : ℕ) (answer : Answer) (memory memory_now : Memory) (before after : Store) (leads : Leads note.end_to) → IsAnswer host (note_heard note) Utf8 now answer memory memory_now before after
-    → Says note.id false (λ rows. source_ended_effect rows leads.u leads.s note.identifier) answer memory memory_now before after
-note_says note now answer memory memory_now before after leads is = record {
-  said = is.said;
-  says = subst (λ (asked : Asked). Steps host asked now is.said before after) (end_is note leads) is.stepped;
-  written = is.written;
-  spelt = is.spelt;
-  drawn = is.drawn;
-}
+note_says : (note : EndNote) (address bytes : List ℕ) (now : ℕ) (answer : Answer) (memory memory_now : Memory) (before after : Store) → NoteCanBeSent note → IsSpelt note.id → (leads : Leads note.end_to) → address ≡ note.end_to
+    → bytes ≡ end_bytes note → AnswersTo address bytes now answer memory memory_now before after → Says note.id false (λ rows. source_ended_effect rows leads.u leads.s note.identifier) answer memory memory_now before after
+note_says note address bytes now answer memory memory_now before after can spelt leads to are answers =
+    let heard : Heard = ended_by note leads.u leads.s in
+    let is = answers heard (heard_so address note.end_to bytes (end_bytes note) heard to are (ends_are_heard.path note _ _ leads.u leads.s can spelt (named_in note.end_to leads) (sourced_in note.end_to leads))) in
+    record { said = is.said; says = is.stepped; written = is.written; spelt = is.spelt; drawn = is.drawn }
 
 -- the text of its id is XML
 note_text : (note : EndNote) → NoteCanBeSent note → IsXmlText note.id.text
 note_text note can = subst (λ (id : MessageId). IsXmlText id.text) (sym can.id.1) (id_text_good can.id.0)
 
 -- what it writes then
-pub note_is_written : (note : EndNote) (now : ℕ) (answer : Answer) (memory memory_now : Memory) (before after : Store) → NoteCanBeSent note → IsSpelt note.id → Leads note.end_to
-    → IsAnswer host (note_heard note) Utf8 now answer memory memory_now before after → IsWritten answer
-note_is_written note now answer memory memory_now before after can spelt leads is =
-    written_so note.id false (λ rows. source_ended_effect rows leads.u leads.s note.identifier) answer memory memory_now before after spelt (note_text note can) (note_says note now answer memory memory_now before after leads is)
+pub note_is_written : (note : EndNote) (address bytes : List ℕ) (now : ℕ) (answer : Answer) (memory memory_now : Memory) (before after : Store) → NoteCanBeSent note → IsSpelt note.id → Leads note.end_to → address ≡ note.end_to
+    → bytes ≡ end_bytes note → AnswersTo address bytes now answer memory memory_now before after → IsWritten answer
+note_is_written note address bytes now answer memory memory_now before after can spelt leads to are answers =
+    written_so note.id false (λ rows. source_ended_effect rows leads.u leads.s note.identifier) answer memory memory_now before after spelt (note_text note can)
+    (note_says note address bytes now answer memory memory_now before after can spelt leads to are answers)
 
 note_named : (note : EndNote) (leads : Leads note.end_to) → IsNamed (λ rows. source_ended_effect rows leads.u leads.s note.identifier) (λ rows. note_effect rows note)
 note_named note leads rows = named_end leads.u leads.s note.identifier rows ∙ sym (λ i. ended_effect rows (leads.to_subscription i) (leads.to_source i) note.identifier)
 
-pub note_answered : (c : machine.Collector) (placed left : Placed (Collector MemKeeper)) (end end' : Collector MemKeeper) (s : List ℕ) (note : EndNote) (now : ℕ) (answer : Answer) (how : the_fate.Fate) → NoteCanBeSent note → IsSpelt note.id
-    → Leads note.end_to → collector_of placed ≡ collector_opened c → Some end ≡ end_in placed.place → IsPlanned the_keeper placed → AreFormed (keeper_in the_keeper placed.place).rows
-    → IsAnswer host (note_heard note) Utf8 now answer end.memory end'.memory (told_by end.keeper) (told_by end'.keeper)
+pub note_answered : (c : machine.Collector) (placed left : Placed (Collector MemKeeper)) (end end' : Collector MemKeeper) (s : List ℕ) (note : EndNote) (address bytes : List ℕ) (now : ℕ) (answer : Answer) (how : the_fate.Fate) → NoteCanBeSent note
+    → IsSpelt note.id → Leads note.end_to → address ≡ note.end_to → bytes ≡ end_bytes note
+    → collector_of placed ≡ collector_opened c → Some end ≡ end_in placed.place → IsPlanned the_keeper placed → AreFormed (keeper_in the_keeper placed.place).rows
+    → AnswersTo address bytes now answer end.memory end'.memory (told_by end.keeper) (told_by end'.keeper)
     → how ≡ fate_by (is_used_up the_keeper (running_with placed.armed end')) placed.armed → left ≡ settled the_keeper how (running_with placed.armed end')
     → Makes c (collector_of left) (note_effect (collector_opened c).rows note) false s note.id how answer
-note_answered c placed left end end' s note now answer how can spelt leads opened there planned formed is goes settles =
+note_answered c placed left end end' s note address bytes now answer how can spelt leads to are opened there planned formed answers goes settles =
     call_answered c placed left end end' how (record { opened = opened; there = there; planned = planned; formed = formed; goes = goes; settles = settles }) s note.id false
     (λ rows. source_ended_effect rows leads.u leads.s note.identifier) (λ rows. note_effect rows note) answer spelt (note_text note can) (note_named note leads)
-    (note_says note now answer end.memory end'.memory (told_by end.keeper) (told_by end'.keeper) leads is)
+    (note_says note address bytes now answer end.memory end'.memory (told_by end.keeper) (told_by end'.keeper) can spelt leads to are answers)

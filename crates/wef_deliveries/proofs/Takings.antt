@@ -6,7 +6,7 @@ use Rattle.wef_batch.specs.declared.items.Batch.{Batch}
 use Rattle.wef_collector_leases.specs.Changes.{end_lease}
 use Rattle.wef_collector_rows.specs.Answers.{channels_read, is_known}
 use Rattle.wef_collector.specs.Calls as collector
-use Rattle.wef_collector.specs.Calls.{source_ended_effect, take_by, take_effect}
+use Rattle.wef_collector.specs.Calls.{hear_by, hear_effect, source_ended_effect, take_by, take_effect}
 use Rattle.wef_collector.specs.Responses.{answered_of}
 use Rattle.wef_collector.specs.declared.memories.Memory.{Memory}
 use Rattle.wef_collector.specs.declared.responses.Answered.{Answered as Leasing}
@@ -23,9 +23,10 @@ use Rattle.wef_ids.specs.declared.MessageId.{MessageId}
 use Rattle.wef_keeper.specs.Calls.{Effect}
 use Rattle.wef_keeper.specs.Rows.{Rows}
 use Rattle.wef_keeper.specs.declared.keys.Change.{Change}
+use Rattle.wef_machine.specs.Answering.{answer_by, commit_word}
 use Rattle.wef_machine.specs.Arming.{armed_after, committed, fate, is_done, is_stopped}
 use Rattle.wef_machine.specs.Collecting.{collector_opened, collector_opening, reply_id}
-use Rattle.wef_machine.specs.Deliveries.{BatchEffect, batch_effect, batch_effect_by}
+use Rattle.wef_machine.specs.Deliveries.{BatchEffect, batch_effect, batch_effect_by, heard_effect, heard_effect_by}
 use Rattle.wef_machine.specs.Leasing.{answered_word, ended_effect_by, leasing_word, response_effect}
 use Rattle.wef_machine.specs.Places.{after_call}
 use Rattle.wef_machine.specs.Printed.{fate_word, fault_answer}
@@ -40,7 +41,7 @@ use Rattle.wef_places.specs.declared.places.Called.{Called}
 use Rattle.wef_places.specs.declared.places.Called.TheVariants.{Done, Broken, Refused}
 use Rattle.wef_places.specs.declared.places.Used.{Used}
 use Rattle.wef_places.specs.declared.places.Used.TheVariants.{Closed, Answered}
-use Rattle.wef_deliveries.specs.Outcomes.{answer_by, answered_call, call_by, call_left, drawn_for, fault_for, heard_word, leased_by, outcome_word, reply_to, response_where_runs, response_word, sent_by, word_by}
+use Rattle.wef_deliveries.specs.Outcomes.{answered_call, call_by, call_left, drawn_for, fault_for, heard_word, leased_by, outcome_word, reply_to, response_where_runs, response_word, sent_by}
 
 -- ---- calls that name another fault
 
@@ -65,6 +66,14 @@ named_batch u s batch now rows = by (standing rows u)
     by is_now.Unknown = refl
     by (is_now.Ended about) = refl
     by (is_now.Live about) = live (is_well_formed (channels_read about) batch) (batch_changes rows u s (channels_read about) batch now)
+
+pub named_heard : (u s : List ℕ) (now : ℕ) → IsNamed (λ rows. hear_effect rows u s now) (λ rows. heard_effect rows u s now)
+named_heard u s now rows = by (standing rows u)
+  where
+    by : (found : the_standing.Standing) → with_names (hear_by found rows u s now) ≡ heard_effect_by rows u s now found
+    by is_now.Unknown = refl
+    by (is_now.Ended about) = refl
+    by (is_now.Live about) = refl
 
 pub named_end : (u s identifier : List ℕ) → IsNamed (λ rows. source_ended_effect rows u s identifier) (λ rows. ended_effect_by rows u s identifier (is_known (standing rows u)))
 named_end u s identifier rows = by (is_known (standing rows u))
@@ -119,9 +128,9 @@ went_so rows how memory armed = record { rows = rows; memory = if is_stopped how
 
 -- what it makes of a message then
 record MakesSo (rows : Rows) (how : the_fate.Fate) (memory : Memory) (armed : Option Armed) (ack : Bool) (s : List ℕ) (relates : MessageId) (taken : Used (Called Unit FaultName)) : Type 0 where
-  word : outcome_word taken ack ≡ word_by ack how
-  answer : sent_by s relates (reply_to taken ack) (went_so rows how memory armed).memory ≡ answer_by ack how s (reply_id memory) relates
-  left_is : drawn_for (reply_to taken ack) (went_so rows how memory armed) ≡ drawn_for (answer_by ack how s (reply_id memory) relates) (went_so rows how memory armed)
+  word : outcome_word taken ack ≡ commit_word ack how
+  answer : sent_by s relates (reply_to taken ack) (went_so rows how memory armed).memory ≡ answer_by how ack s (reply_id memory) relates
+  left_is : drawn_for (reply_to taken ack) (went_so rows how memory armed) ≡ drawn_for (answer_by how ack s (reply_id memory) relates) (went_so rows how memory armed)
 
 done_so : (rows : Rows) (how : the_fate.Fate) (memory : Memory) (armed : Option Armed) (ack : Bool) (s : List ℕ) (relates : MessageId) (done : Unit) → how ≡ fates.Done → MakesSo rows how memory armed ack s relates (Answered (Done done))
 done_so rows fates.Failed memory armed ack s relates done is = cc

@@ -2,7 +2,6 @@
 use Rattle.std.specs.Prelude.{◌≡◌, ℕ, ◌==◌, List, [], Option, Some, None, IfSome, codes, unwrap_or, if◌then◌else◌}
 use Rattle.wef_base.specs.Names.{source_name, subscription_name}
 use Rattle.wef_base.specs.declared.tree.Charset.TheVariants.{Utf8}
-use Rattle.wef_batch.specs.declared.items.Batch.{Batch}
 use Rattle.std.specs.List.{AllByRecursion}
 use Rattle.wef_bodies.specs.Laws.{IsPlainOffer, OfferCanStand}
 use Rattle.wef_collector.specs.Offers.{offers}
@@ -11,6 +10,7 @@ use Rattle.wef_collector.specs.declared.responses.Response.{Response}
 use Rattle.wef_envelope.specs.Laws.{IsSpelt}
 use Rattle.wef_eventing.specs.declared.offers.Offer.{Offer}
 use Rattle.wef_front.specs.Sent.{CanBeAsked, Wish}
+use Rattle.wef_keeper.specs.Keeping.{Store}
 use Rattle.wef_keeper.specs.Rows.{Rows}
 use Rattle.wef_machine.specs.Leasing.{request_done, request_said, responded, response_word}
 use Rattle.wef_machine.specs.Sources.{slot_opened}
@@ -19,17 +19,15 @@ use Rattle.wef_eventing.specs.Addresses.{source_in, subscription_in}
 use Rattle.wef_front_source.specs.HeardReplies.{Told, told}
 use Rattle.wef_front_collector.specs.HeardResponses as the_response
 use Rattle.wef_front_collector.specs.HeardResponses.{response_told}
-use Rattle.wef_front_collector.specs.Replies.{IsSpeltFor, answer_of}
+use Rattle.wef_front_collector.specs.Heard.{Hears}
+use Rattle.wef_front_collector.specs.Replies.{IsAnswer, IsSpeltFor, answer_of}
 use Rattle.wef_front_collector.specs.Steps.{IsKnownSaid}
 use Rattle.wef_http_heads.specs.declared.answers.Answer.{Answer}
-use Rattle.wef_front_collector.specs.declared.hearing.Asked as the_asked
-use Rattle.wef_front_collector.specs.declared.hearing.Asked.TheVariants.{Ended, Refused, Take}
 use Rattle.wef_front_collector.specs.declared.hearing.Heard.{Heard}
 use Rattle.wef_front_collector.specs.declared.saying.Said.{Said}
 use Rattle.wef_front_collector.specs.declared.saying.Said.TheVariants.{Offers}
 use Rattle.wef_http_heads.specs.declared.targets.Target as the_target
 use Rattle.wef_http_heads.specs.declared.targets.Target.TheVariants.{Delivery as Delivers}
-use Rattle.wef_ids.specs.declared.FaultName.TheVariants.{DestinationUnreachable}
 use Rattle.wef_ids.specs.declared.MessageId.{MessageId}
 use Rattle.wef_machine.specs.Printed.{fault_answer}
 use Rattle.wef_machine.specs.declared.arming.Fate as the_fate
@@ -39,8 +37,6 @@ use Rattle.wef_machine.specs.declared.messages.Message.TheVariants as sent
 use Rattle.wef_front_source.specs.declared.hearing.Heard as source_heard
 use Rattle.wef_requests.specs.Requests.{Requested, meant}
 use Rattle.wef_source.specs.Machine.{End}
-use Rattle.wef_source.specs.declared.messages.Delivery.{Delivery}
-use Rattle.wef_source.specs.declared.messages.EndNote.{EndNote}
 use Rattle.wef_source.specs.declared.messages.Reply.TheVariants as replies
 use Rattle.wef_xml.specs.Good.{IsXmlText}
 use Rattle.wef_messages.specs.Bytes.{AreResponse, Replied, Responded, replied, responded as bytes_responded}
@@ -62,23 +58,10 @@ pub record Leads (address : List ℕ) : Type 0 where
 abbrev pub target_of : List ℕ → the_target.Target
 target_of address = Delivers (unwrap_or (subscription_in address) []) (unwrap_or (source_in address) [])
 
--- the batch that is heard where both names are there
-abbrev pub asked_at : Option (List ℕ) → Option (List ℕ) → Batch → the_asked.Asked
-asked_at (Some u) (Some s) batch = Take u s batch
-asked_at _ _ batch = Refused DestinationUnreachable
-
--- what the collector hears in a delivery whose address leads to both
-abbrev pub heard_of : Delivery → Heard
-heard_of delivery = record { relates = Some delivery.id; asked = asked_at (subscription_in delivery.notify_to) (source_in delivery.notify_to) delivery.batch }
-
--- the end that is heard where both names are there
-abbrev pub ended_at : Option (List ℕ) → Option (List ℕ) → List ℕ → the_asked.Asked
-ended_at (Some u) (Some s) identifier = Ended u s identifier
-ended_at _ _ identifier = Refused DestinationUnreachable
-
--- what it hears in a note whose address leads to both
-abbrev pub note_heard : EndNote → Heard
-note_heard note = record { relates = Some note.id; asked = ended_at (subscription_in note.end_to) (source_in note.end_to) note.identifier }
+-- An answer to bytes that come to an address, at a moment, is one to whatever is heard of them.
+abbrev pub AnswersTo : List ℕ → List ℕ → ℕ → Answer → Memory → Memory → Store → Store → Type 0
+AnswersTo address bytes now answer memory memory_now before after =
+    (heard : Heard) → Hears (target_of address) Utf8 bytes heard → IsAnswer host heard Utf8 now answer memory memory_now before after
 
 -- ---- what is offered
 
@@ -94,7 +77,7 @@ pub record HasOffered (wish : Wish) (memory : Memory) (list : List Offer) (answe
 
 -- ---- what is answered
 
--- what may be said to a batch, and to the end of a session
+-- what may be said to a batch, a heartbeat, and the end of a session
 abbrev pub IsSaidToCall : Said → Type 0
 IsSaidToCall (Offers list) = ⊥
 IsSaidToCall _ = Unit {0}

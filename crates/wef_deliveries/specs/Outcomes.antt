@@ -1,5 +1,5 @@
 -- What the ends make of messages, and what they answer.
-use Rattle.std.specs.Prelude.{Bool, false, ℕ, ◌+◌, List, length, Option, Some, None, Ok, Err, codes, if◌then◌else◌}
+use Rattle.std.specs.Prelude.{Bool, true, false, ℕ, ◌+◌, List, length, Option, Some, None, Ok, Err, codes, if◌then◌else◌}
 use Rattle.std.specs.FinMap as map
 use Rattle.wef_collector.specs.Calls.{Effect}
 use Rattle.wef_collector.specs.Offers.{offers}
@@ -10,12 +10,14 @@ use Rattle.wef_collector_rows.specs.declared.faults.CollectorFault as the_fault
 use Rattle.wef_collector_rows.specs.declared.faults.CollectorFault.TheVariants.{NotWellFormed}
 use Rattle.wef_front_source.specs.Replies.{answered_in}
 use Rattle.wef_front_source.specs.declared.saying.Said.{Said}
+use Rattle.wef_heartbeat.specs.declared.messages.Heartbeat.{Heartbeat}
 use Rattle.wef_ids.specs.declared.FaultName.{FaultName}
 use Rattle.wef_ids.specs.declared.FaultName.TheVariants.{InvalidMessage, DestinationUnreachable, InternalError}
 use Rattle.wef_ids.specs.declared.MessageId.{MessageId}
+use Rattle.wef_machine.specs.Answering.{answer_by, commit_word}
 use Rattle.wef_machine.specs.Arming.{fate}
 use Rattle.wef_machine.specs.Collecting.{collector_opened, collector_opening, draws, reply_id}
-use Rattle.wef_machine.specs.Deliveries.{BatchEffect, delivery_effect}
+use Rattle.wef_machine.specs.Deliveries.{BatchEffect, beat_effect, delivery_effect}
 use Rattle.wef_machine.specs.Leasing.{answered_word, leasing_word, note_effect, request_done, request_said, responded, responded_word, response_effect, response_sent}
 use Rattle.wef_machine.specs.Places.{after_call}
 use Rattle.wef_machine.specs.Printed.{fate_word, fault_answer}
@@ -108,25 +110,15 @@ asked_left_by c s (Some memory) = draws (length (offers (collector_opened c).row
 abbrev pub asked_left : Collector → List ℕ → Collector
 asked_left c s = asked_left_by c s (collector_opened c).memory
 
--- ---- deliveries, and the ends of sessions
+-- ---- deliveries, heartbeats, and the ends of sessions
 
 -- the word and the answer of an open collector, by the effect of a message, which is acknowledged or not where it is done
-abbrev pub word_by : Bool → the_fate.Fate → List ℕ
-word_by ack fates.Done = done_word ack
-word_by ack fates.Failed = fault_answer InternalError
-word_by ack fates.Stopped = codes "stopped"
-
 abbrev pub word_for : Collector → BatchEffect → Bool → List ℕ
-word_for c (Ok changes) ack = word_by ack (fate c.armed changes)
+word_for c (Ok changes) ack = commit_word ack (fate c.armed changes)
 word_for c (Err fault) ack = fault_answer fault
 
-abbrev pub answer_by : Bool → the_fate.Fate → List ℕ → MessageId → MessageId → Option Message
-answer_by ack fates.Done s id relates = if ack then Some (sent.Ack s id relates) else None
-answer_by ack fates.Failed s id relates = Some (sent.Fault s id relates InternalError)
-answer_by ack fates.Stopped s id relates = None
-
 abbrev pub answer_for : Collector → BatchEffect → Bool → List ℕ → MessageId → MessageId → Option Message
-answer_for c (Ok changes) ack s id relates = answer_by ack (fate c.armed changes) s id relates
+answer_for c (Ok changes) ack s id relates = answer_by (fate c.armed changes) ack s id relates
 answer_for c (Err fault) ack s id relates = Some (sent.Fault s id relates fault)
 
 -- what the collector makes of a message with this effect, by how its opening went, and is then
@@ -146,6 +138,13 @@ events_of c s delivery now =
 abbrev pub events_left : Collector → List ℕ → Delivery → ℕ → Collector
 events_left c s delivery now =
     call_left (collector_opened c) (delivery_effect (collector_opened c).rows delivery now) delivery.batch.ack_wanted s delivery.id (collector_opened c).memory
+
+-- of a heartbeat, which is acknowledged
+abbrev pub beat_of : Collector → List ℕ → Heartbeat → ℕ → Taken
+beat_of c s beat now = call_by (collector_opening c) (collector_opened c) (beat_effect (collector_opened c).rows beat now) true s beat.id (collector_opened c).memory
+
+abbrev pub beat_left : Collector → List ℕ → Heartbeat → ℕ → Collector
+beat_left c s beat now = call_left (collector_opened c) (beat_effect (collector_opened c).rows beat now) true s beat.id (collector_opened c).memory
 
 -- of a note of the end of a session, which is never acknowledged
 abbrev pub note_of : Collector → List ℕ → EndNote → Taken

@@ -1,17 +1,13 @@
 //! What the collector makes of messages.
 
 ghost use Rattle.std.specs.Prelude.{◌≡◌, ◌+◌, [], length, unwrap_or, IfOk, OnOk};
-ghost use Rattle.wef_base.specs.declared.tree.Charset.TheVariants.{Utf8};
 ghost use Rattle.wef_batch.specs.Numbers.{AreNumbered};
 ghost use Rattle.wef_collector.specs.Memories.{drawn_in};
 ghost use Rattle.wef_collector.specs.Offers.{offers};
 ghost use Rattle.wef_collector_rows.specs.Forms.{AreFormed};
 ghost use Rattle.wef_deliveries.specs.Answered as answered;
 ghost use Rattle.wef_deliveries.specs.Outcomes as outcomes;
-ghost use Rattle.wef_envelope.specs.Laws.{IsSpelt};
 ghost use Rattle.wef_eventing.specs.Addresses.{source_in, subscription_in};
-ghost use Rattle.wef_front_collector.specs.Replies.{IsAnswer};
-ghost use Rattle.wef_front_source.specs.Sending.{CanBeSent};
 ghost use Rattle.wef_keeper.specs.Keeping.{raised};
 ghost use Rattle.wef_machine.specs.Collecting as collecting;
 ghost use Rattle.wef_machine.specs.Deliveries as steps;
@@ -22,7 +18,6 @@ ghost use Rattle.wef_places.specs.Collected as collected;
 ghost use Rattle.wef_places.specs.Collected.{collector_of};
 ghost use Rattle.wef_places.specs.Counted as counts;
 ghost use Rattle.wef_places.specs.Places as places;
-ghost use Rattle.wef_source.specs.Serving.{NoteCanBeSent};
 
 use crate::taken::{Taken, closed};
 use std::alloc::{AllocError, Global};
@@ -35,8 +30,8 @@ use wef_ids::{FaultName, MessageId};
 use wef_keeper::{Keeper, MemKeeper};
 use wef_machine::Fate;
 use wef_messages::messages::{
-    Content, DeliveryBytes, NoteBytes, OffersBytes, ReplyBytes, ResponseBytes, Sent, WishBytes,
-    host,
+    BeatBytes, Content, DeliveryBytes, NoteBytes, OffersBytes, ReplyBytes, ResponseBytes, Sent,
+    WishBytes, host,
 };
 use wef_places::collecting::{self, Call, CollectorPlace};
 use wef_places::places::{Called, Used};
@@ -124,28 +119,40 @@ pub fn take_delivery<A: Answers>(
     let Some(running) = collector.running() else {
         return Ok(closed(alloc, fate)?);
     };
-    let answer = answer_to_delivery(alloc, running, answers, delivery, now)?;
+    let answer = answer_at(
+        alloc,
+        running,
+        answers,
+        delivery.address(),
+        delivery.bytes(),
+        now,
+    )?;
     let fate = collector.settle_answered(alloc);
     Ok(taken_by(alloc, source, fate, answer)?)
 }
 
-/// What a collector that runs answers to the bytes of a delivery, at a moment.
-fn answer_to_delivery<A: Answers>(
+/// Lets the collector hear the bytes of a heartbeat of a source, at a moment.
+pub fn take_beat<A: Answers>(
     alloc: Global,
-    collector: &mut Collector<MemKeeper>,
+    collector: &mut CollectorPlace,
     answers: &mut A,
-    delivery: &DeliveryBytes,
+    source: &SourceName,
+    beat: &BeatBytes,
     now: Moment,
-) -> Result<Answer, WorldFault>
-    requires { answered.Leads delivery.now.notify_to }
-    ensures answer { IfOk result (λ answer. IsAnswer states.host (answered.heard_of delivery.now) Utf8 now answer collector.old.memory collector.new.memory (⟦<MemKeeper as Keeper>⟧.store collector.old.keeper) (⟦<MemKeeper as Keeper>⟧.store collector.new.keeper)) }
-    ensures sent { OnOk result (CanBeSent delivery.now) }
-    ensures calls { OnOk result (A.calls answers.new ≡ raised (A.calls answers.old)) }
+) -> Result<Taken, WorldFault>
+    requires formed { AreFormed (collector_of collector.old).rows }
+    requires leads { answered.Leads beat.now.notify_to }
+    ensures collector { OnOk result (collector_of collector.new ≡ outcomes.beat_left (collector_of collector.old) source.now beat.now now) }
+    ensures taken { IfOk result (λ taken. taken ≡ outcomes.beat_of (collector_of collector.old) source.now beat.now now) }
+    ensures calls { OnOk result (A.calls answers.new ≡ counts.counted (counts.once (counts.is_open (collecting.collector_opened (collector_of collector.old)))) (A.calls answers.old)) }
 {
-    let target = target_of(delivery.address())?;
-    let host = host(alloc)?;
-    let body = delivery.bytes();
-    Ok(answers.collector_answer(collector, &target, &host, Charset::Utf8, body, now)?)
+    let fate = collecting::open(collector, alloc)?;
+    let Some(running) = collector.running() else {
+        return Ok(closed(alloc, fate)?);
+    };
+    let answer = answer_at(alloc, running, answers, beat.address(), beat.bytes(), now)?;
+    let fate = collector.settle_answered(alloc);
+    Ok(taken_by(alloc, source, fate, answer)?)
 }
 
 /// Lets the collector take the bytes of a note of a source that ended a session, at a moment.
@@ -167,32 +174,29 @@ pub fn take_note<A: Answers>(
     let Some(running) = collector.running() else {
         return Ok(closed(alloc, fate)?);
     };
-    let answer = answer_to_note(alloc, running, answers, note, now)?;
+    let answer = answer_at(alloc, running, answers, note.address(), note.bytes(), now)?;
     let fate = collector.settle_answered(alloc);
     Ok(taken_by(alloc, source, fate, answer)?)
 }
 
-/// What a collector that runs answers to the bytes of a note, at a moment.
-fn answer_to_note<A: Answers>(
+/// What a collector that runs answers to bytes that come to an address, at a moment.
+fn answer_at<A: Answers>(
     alloc: Global,
     collector: &mut Collector<MemKeeper>,
     answers: &mut A,
-    note: &NoteBytes,
+    address: &Text,
+    body: &Bytes,
     now: Moment,
 ) -> Result<Answer, WorldFault>
-    requires { answered.Leads note.now.end_to }
-    ensures answer { IfOk result (λ answer. IsAnswer states.host (answered.note_heard note.now) Utf8 now answer collector.old.memory collector.new.memory (⟦<MemKeeper as Keeper>⟧.store collector.old.keeper) (⟦<MemKeeper as Keeper>⟧.store collector.new.keeper)) }
-    ensures sent { OnOk result (NoteCanBeSent note.now) }
-    ensures spelt { OnOk result (IsSpelt note.now.id) }
+    ensures answer { IfOk result (λ answer. answered.AnswersTo address.now body.now now answer collector.old.memory collector.new.memory (⟦<MemKeeper as Keeper>⟧.store collector.old.keeper) (⟦<MemKeeper as Keeper>⟧.store collector.new.keeper)) }
     ensures calls { OnOk result (A.calls answers.new ≡ raised (A.calls answers.old)) }
 {
-    let target = target_of(note.address())?;
+    let target = target_of(address)?;
     let host = host(alloc)?;
-    let body = note.bytes();
     Ok(answers.collector_answer(collector, &target, &host, Charset::Utf8, body, now)?)
 }
 
-/// What the address of a delivery or a note names, as a target.
+/// What an address names, as a target.
 fn target_of(address: &Text) -> Result<Target, AllocError>
     ensures { IfOk result (λ target. target ≡ answered.target_of address.now) }
 {

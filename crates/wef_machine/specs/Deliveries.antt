@@ -1,41 +1,40 @@
 -- Deliveries: what the end that a message is for makes of it, what it answers, and what is printed. Any message may be
 -- delivered at any time, and again.
-use Rattle.std.specs.Prelude.{ℕ, ◌+◌, ◌-◌, ◌%◌, ◌==◌, List, length, slice_get, is_some, Option, Some, None, Ok, Err, codes, if◌then◌else◌}
+use Rattle.std.specs.Prelude.{ℕ, ◌+◌, ◌-◌, ◌%◌, ◌==◌, true, List, length, slice_get, is_some, Option, Some, None, Ok, Err, codes, if◌then◌else◌}
 use Rattle.wef_batch.specs.declared.items.Batch.{Batch}
 use Rattle.wef_batch.specs.WellFormed.{is_well_formed}
 use Rattle.wef_collector_rows.specs.Answers.{channels_read}
 use Rattle.wef_collector.specs.Offers.{offers}
 use Rattle.wef_collector.specs.declared.memories.Memory.{Memory}
 use Rattle.wef_collector_rows.specs.Standing.{standing}
-use Rattle.wef_collector.specs.Taken.{batch_changes}
+use Rattle.wef_collector.specs.Taken.{batch_changes, heard_changes}
 use Rattle.wef_collector_rows.specs.declared.standings.Standing as state_of
 use Rattle.wef_collector_rows.specs.declared.standings.Standing.TheVariants as is
 use Rattle.wef_ids.specs.Ids.{ids_agree}
 use Rattle.wef_ids.specs.declared.FaultName.{FaultName}
-use Rattle.wef_ids.specs.declared.FaultName.TheVariants.{InvalidMessage, DestinationUnreachable, InternalError}
+use Rattle.wef_ids.specs.declared.FaultName.TheVariants.{InvalidMessage, DestinationUnreachable}
 use Rattle.wef_ids.specs.declared.MessageId.{MessageId}
 use Rattle.wef_eventing.specs.Addresses.{source_in, subscription_in}
 use Rattle.wef_eventing.specs.declared.offers.Offer.{Offer}
 use Rattle.wef_front_source.specs.declared.listening.Hears as the_hears
 use Rattle.wef_front_source.specs.declared.listening.Hears.TheVariants as hears
+use Rattle.wef_heartbeat.specs.declared.messages.Heartbeat.{Heartbeat}
 use Rattle.wef_keeper.specs.Calls.{Effect}
 use Rattle.wef_keeper.specs.Rows.{Rows}
 use Rattle.wef_source.specs.Answers.{asked_for, waiting_for}
 use Rattle.wef_source.specs.Machine.{End, acknowledged_in, adopted, refused_in}
 use Rattle.wef_source.specs.declared.messages.Delivery.{Delivery}
-use Rattle.wef_machine.specs.Answering.{closed_text, took_text, with_answer}
-use Rattle.wef_machine.specs.Arming.{fate}
-use Rattle.wef_machine.specs.Collecting.{at_collector, print_at_collector, reply_id, with_call, with_reply}
+use Rattle.wef_machine.specs.Answering.{answers_by, answers_text_by, closed_text}
+use Rattle.wef_machine.specs.Collecting.{at_collector, print_at_collector, reply_id, with_reply}
 use Rattle.wef_machine.specs.Leasing.{note_at, note_text, request_taken_text, responds_at, response_at, response_text}
-use Rattle.wef_machine.specs.Printed.{adopted_word, answered_line, fault_answer, no_message_line, took_line}
+use Rattle.wef_machine.specs.Printed.{adopted_word, answered_line, no_message_line, took_line}
 use Rattle.wef_machine.specs.Sources.{at_source, print_at_slot}
 use Rattle.wef_machine.specs.States.{Slot, State, host, next_number, slot_of, with_end}
-use Rattle.wef_machine.specs.declared.arming.Fate.{Fate}
-use Rattle.wef_machine.specs.declared.arming.Fate.TheVariants.{Done, Failed, Stopped}
 use Rattle.wef_machine.specs.declared.messages.Message.{Message}
 use Rattle.wef_machine.specs.declared.messages.Message.TheVariants as sent
 
--- what a batch for a subscription and of a source does at a moment: the changes that are committed, or the fault that answers it
+-- what a batch or a heartbeat for a subscription and of a source does at a moment: the changes that are committed, or the fault that
+-- answers it
 abbrev pub BatchEffect : Type 0
 BatchEffect = Effect FaultName
 
@@ -49,61 +48,49 @@ batch_effect_by rows u s batch now (is.Live about) =
 abbrev pub batch_effect : Rows → List ℕ → List ℕ → Batch → ℕ → BatchEffect
 batch_effect rows u s batch now = batch_effect_by rows u s batch now (standing rows u)
 
--- the fault that answers a batch of a source whose address leads to none
+-- the fault that answers a source whose address leads to none
 abbrev pub sourceless : state_of.Standing → FaultName
 sourceless is.Unknown = DestinationUnreachable
 sourceless (is.Ended old) = DestinationUnreachable
 sourceless (is.Live about) = InvalidMessage
 
--- what a delivery to an address does: it may lead to no subscription, or to no source
-abbrev pub effect_at : Rows → Option (List ℕ) → Option (List ℕ) → Batch → ℕ → BatchEffect
-effect_at rows None s batch now = Err DestinationUnreachable
-effect_at rows (Some u) None batch now = Err (sourceless (standing rows u))
-effect_at rows (Some u) (Some s) batch now = batch_effect rows u s batch now
+-- what a message to an address does: it may lead to no subscription, or to no source
+abbrev pub effect_at : Rows → Option (List ℕ) → Option (List ℕ) → (List ℕ → List ℕ → BatchEffect) → BatchEffect
+effect_at rows None s effect = Err DestinationUnreachable
+effect_at rows (Some u) None effect = Err (sourceless (standing rows u))
+effect_at rows (Some u) (Some s) effect = effect u s
 
 abbrev pub delivery_effect : Rows → Delivery → ℕ → BatchEffect
-delivery_effect rows delivery now = effect_at rows (subscription_in delivery.notify_to) (source_in delivery.notify_to) delivery.batch now
+delivery_effect rows delivery now =
+    effect_at rows (subscription_in delivery.notify_to) (source_in delivery.notify_to) (λ u s. batch_effect rows u s delivery.batch now)
 
--- the collector's answer, which has an id of its own, to a batch that it commits, where it is committed: none where none
--- is asked for
-abbrev pub answer_done : List ℕ → MessageId → Delivery → Option Message
-answer_done s id delivery = if delivery.batch.ack_wanted then Some (sent.Ack s id delivery.id) else None
-
--- its answer by how the commit went: nobody answers where the collector was stopped in it
-abbrev pub answer_by : Fate → List ℕ → MessageId → Delivery → Option Message
-answer_by Done s id delivery = answer_done s id delivery
-answer_by Failed s id delivery = Some (sent.Fault s id delivery.id InternalError)
-answer_by Stopped s id delivery = None
-
--- its answer to a delivery
-abbrev pub answer_with : State → BatchEffect → List ℕ → MessageId → Delivery → Option Message
-answer_with state (Ok changes) s id delivery = answer_by (fate state.collector.armed changes) s id delivery
-answer_with state (Err fault) s id delivery = Some (sent.Fault s id delivery.id fault)
-
--- the word for a batch that is committed
-abbrev pub batch_word : Batch → Fate → List ℕ
-batch_word batch Done = if batch.ack_wanted then codes "ack" else codes "quiet"
-batch_word batch Failed = fault_answer InternalError
-batch_word batch Stopped = codes "stopped"
-
--- the word for what became of a batch
-abbrev pub answer_word : State → BatchEffect → Batch → List ℕ
-answer_word state (Ok changes) batch = batch_word batch (fate state.collector.armed changes)
-answer_word state (Err fault) batch = fault_answer fault
-
--- an open collector takes a delivery of a source with this effect
-abbrev pub events_by : State → BatchEffect → List ℕ → MessageId → Delivery → State
-events_by state effect s id delivery = with_answer (with_call state effect) (answer_with state effect s id delivery)
-
+-- an open collector takes a delivery of a source
 abbrev pub events_at : List ℕ → Delivery → Memory → State → State
-events_at s delivery memory state = events_by state (delivery_effect state.collector.rows delivery state.moment) s (reply_id memory) delivery
-
-abbrev pub events_text_by : State → BatchEffect → ℕ → List ℕ → MessageId → Delivery → List ℕ
-events_text_by state effect k s id delivery =
-    took_text k (answer_word state effect delivery.batch) (answer_with state effect s id delivery) (next_number state)
+events_at s delivery memory state =
+    answers_by state (delivery_effect state.collector.rows delivery state.moment) delivery.batch.ack_wanted s (reply_id memory) delivery.id
 
 abbrev pub events_text : ℕ → List ℕ → Delivery → Memory → State → List ℕ
-events_text k s delivery memory state = events_text_by state (delivery_effect state.collector.rows delivery state.moment) k s (reply_id memory) delivery
+events_text k s delivery memory state =
+    answers_text_by state (delivery_effect state.collector.rows delivery state.moment) delivery.batch.ack_wanted k s (reply_id memory) delivery.id
+
+-- what a heartbeat for a subscription and of a source does at a moment: nobody subscribed by the name, or it has ended
+abbrev pub heard_effect_by : Rows → List ℕ → List ℕ → ℕ → state_of.Standing → BatchEffect
+heard_effect_by rows u s now is.Unknown = Err DestinationUnreachable
+heard_effect_by rows u s now (is.Ended old) = Err DestinationUnreachable
+heard_effect_by rows u s now (is.Live about) = Ok (heard_changes rows u s now)
+
+abbrev pub heard_effect : Rows → List ℕ → List ℕ → ℕ → BatchEffect
+heard_effect rows u s now = heard_effect_by rows u s now (standing rows u)
+
+abbrev pub beat_effect : Rows → Heartbeat → ℕ → BatchEffect
+beat_effect rows beat now = effect_at rows (subscription_in beat.notify_to) (source_in beat.notify_to) (λ u s. heard_effect rows u s now)
+
+-- an open collector hears a heartbeat of a source, which wants to be told so
+abbrev pub beat_at : List ℕ → Heartbeat → Memory → State → State
+beat_at s beat memory state = answers_by state (beat_effect state.collector.rows beat state.moment) true s (reply_id memory) beat.id
+
+abbrev pub beat_text : ℕ → List ℕ → Heartbeat → Memory → State → List ℕ
+beat_text k s beat memory state = answers_text_by state (beat_effect state.collector.rows beat state.moment) true k s (reply_id memory) beat.id
 
 -- an open collector takes an ask of a source: the answer has an id, and each of its offers one behind it
 abbrev pub offers_with : State → List ℕ → MessageId → MessageId → List Offer → State
@@ -170,6 +157,7 @@ abbrev pub taken_by : State → Message → State
 taken_by state (sent.Ask s id) = at_collector state (offers_at s id)
 taken_by state (sent.Offers s id relates given) = at_source state s (end_at s (λ end. after_offers end relates given state.moment))
 taken_by state (sent.Events s delivery) = at_collector state (events_at s delivery)
+taken_by state (sent.Beat s beat) = at_collector state (beat_at s beat)
 taken_by state (sent.Ack s id relates) = at_source state s (end_at s (λ end. after_ack end relates))
 taken_by state (sent.Fault s id relates fault) = at_source state s (end_at s (λ end. after_fault end relates fault))
 taken_by state (sent.Request s id identifier body) = at_source state s (responds_at s id identifier body)
@@ -181,6 +169,7 @@ abbrev pub taken_text : State → ℕ → Message → List ℕ
 taken_text state k (sent.Ask s id) = print_at_collector state (closed_text k) (offers_text k)
 taken_text state k (sent.Offers s id relates given) = source_text state k s (λ end. heard_word (offers_heard end relates given state.moment)) (slot_of state s)
 taken_text state k (sent.Events s delivery) = print_at_collector state (closed_text k) (events_text k s delivery)
+taken_text state k (sent.Beat s beat) = print_at_collector state (closed_text k) (beat_text k s beat)
 taken_text state k (sent.Ack s id relates) = source_text state k s (λ end. heard_word (ack_heard end relates)) (slot_of state s)
 taken_text state k (sent.Fault s id relates fault) = source_text state k s (λ end. heard_word (fault_heard end relates)) (slot_of state s)
 taken_text state k (sent.Request s id identifier body) = request_taken_text state k s id identifier body (slot_of state s)

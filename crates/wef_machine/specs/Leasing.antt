@@ -33,9 +33,9 @@ use Rattle.wef_lines.specs.Printed.{name_line}
 use Rattle.wef_requests.specs.Requests.{meant}
 use Rattle.wef_source.specs.Machine.{End, end_notes, most_drawn, next_id, shut_in}
 use Rattle.wef_source.specs.declared.messages.EndNote.{EndNote}
-use Rattle.wef_machine.specs.Answering.{closed_text, took_text, with_answer}
+use Rattle.wef_machine.specs.Answering.{answers_by, answers_text_by, closed_text, took_text}
 use Rattle.wef_machine.specs.Arming.{fate, is_done}
-use Rattle.wef_machine.specs.Collecting.{reply_id, with_call}
+use Rattle.wef_machine.specs.Collecting.{reply_id}
 use Rattle.wef_machine.specs.Places.{commits, remembering}
 use Rattle.wef_machine.specs.Printed.{collector_name, fate_word, fault_answer, sent_line, took_line}
 use Rattle.wef_machine.specs.Sources.{at_source, closed_line, print_at_slot, print_at_source}
@@ -232,34 +232,9 @@ ended_effect rows _ _ identifier = Err DestinationUnreachable
 abbrev pub note_effect : Rows → EndNote → Effect FaultName
 note_effect rows note = ended_effect rows (subscription_in note.end_to) (source_in note.end_to) note.identifier
 
--- an end that was heard is answered by nothing
-abbrev pub note_answer_by : Fate → List ℕ → MessageId → MessageId → Option Message
-note_answer_by Done s id relates = None
-note_answer_by Failed s id relates = Some (sent.Fault s id relates InternalError)
-note_answer_by Stopped s id relates = None
-
-abbrev pub note_answer : State → Effect FaultName → List ℕ → MessageId → MessageId → Option Message
-note_answer state (Ok changes) s id relates = note_answer_by (fate state.collector.armed changes) s id relates
-note_answer state (Err fault) s id relates = Some (sent.Fault s id relates fault)
-
-abbrev pub note_by : State → Effect FaultName → List ℕ → MessageId → MessageId → State
-note_by state effect s id relates = with_answer (with_call state effect) (note_answer state effect s id relates)
-
--- an open collector hears of the end of a session
+-- an open collector hears of the end of a session; one that was heard is answered by nothing
 abbrev pub note_at : List ℕ → EndNote → Memory → State → State
-note_at s note memory state = note_by state (note_effect state.collector.rows note) s (reply_id memory) note.id
-
-abbrev pub note_word_by : Fate → List ℕ
-note_word_by Done = codes "quiet"
-note_word_by Failed = fault_answer InternalError
-note_word_by Stopped = fate_word Stopped
-
-abbrev pub note_word : State → Effect FaultName → List ℕ
-note_word state (Ok changes) = note_word_by (fate state.collector.armed changes)
-note_word state (Err fault) = fault_answer fault
-
-abbrev pub note_text_by : State → Effect FaultName → ℕ → List ℕ → MessageId → MessageId → List ℕ
-note_text_by state effect k s id relates = took_text k (note_word state effect) (note_answer state effect s id relates) (next_number state)
+note_at s note memory state = answers_by state (note_effect state.collector.rows note) false s (reply_id memory) note.id
 
 abbrev pub note_text : ℕ → List ℕ → EndNote → Memory → State → List ℕ
-note_text k s note memory state = note_text_by state (note_effect state.collector.rows note) k s (reply_id memory) note.id
+note_text k s note memory state = answers_text_by state (note_effect state.collector.rows note) false k s (reply_id memory) note.id

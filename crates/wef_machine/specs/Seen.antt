@@ -1,7 +1,7 @@
 -- What a message says, as `deliver K seen` prints it before the message is delivered.
 use Rattle.std.specs.Prelude.{ℕ, Bool, List, [], Option, Some, None, if◌then◌else◌}
 use Rattle.wef_front.specs.Replies.{offers_bytes, reply_bytes}
-use Rattle.wef_front_source.specs.Sending.{delivery_bytes, end_bytes, enumerate_bytes}
+use Rattle.wef_front_source.specs.Sending.{beat_bytes, delivery_bytes, end_bytes, enumerate_bytes}
 use Rattle.wef_requests.specs.Answers.{response_bytes}
 use Rattle.wef_requests.specs.Requests.{bytes_to}
 use Rattle.wef_source.specs.declared.messages.Reply.TheVariants as replies
@@ -16,6 +16,7 @@ abbrev pub message_text : Message → List ℕ
 message_text (sent.Ask s id) = enumerate_bytes host s id
 message_text (sent.Offers s id relates given) = offers_bytes id relates given
 message_text (sent.Events s delivery) = delivery_bytes delivery
+message_text (sent.Beat s beat) = beat_bytes beat
 message_text (sent.Ack s id relates) = reply_bytes id relates replies.Ack
 message_text (sent.Fault s id relates name) = reply_bytes id relates (replies.Fault name)
 message_text (sent.Request s id identifier body) = bytes_to (address_of s) id identifier body

@@ -11,7 +11,7 @@ use Rattle.wef_source_log.specs.Histories.{Histories, extended}
 use Rattle.wef_source_log.specs.LogWindow.{last_of}
 use Rattle.wef_source_log.specs.declared.faults.LogFault as the_log_fault
 use Rattle.wef_source_log.specs.declared.faults.LogFault.TheVariants as log_faults
-use Rattle.wef_source.specs.Machine.{End, asked, delivery_of, is_idle, is_spent, lost_in, next_id, sent, start_of}
+use Rattle.wef_source.specs.Machine.{End, asked, beat_of, beaten, delivery_of, has_caught_up, is_idle, is_spent, lost_in, next_id, sent, start_of}
 use Rattle.wef_source.specs.Sessions.{has_expired, session_of}
 use Rattle.wef_building.specs.declared.sessions.Session.{Session}
 use Rattle.wef_machine.specs.Arming.{fate, is_kept}
@@ -22,7 +22,7 @@ use Rattle.wef_machine.specs.States.{Slot, State, next_number, slot_of, slot_wit
 use Rattle.wef_machine.specs.declared.arming.Armed.{Armed}
 use Rattle.wef_machine.specs.declared.arming.Fate.{Fate}
 use Rattle.wef_machine.specs.declared.arming.Fate.TheVariants.{Done, Failed, Stopped}
-use Rattle.wef_machine.specs.declared.messages.Message.TheVariants.{Ask, Events}
+use Rattle.wef_machine.specs.declared.messages.Message.TheVariants.{Ask, Beat, Events}
 
 -- a source that was just declared: it wrote nothing, and its end never ran
 abbrev pub declared_slot : ℕ → Slot
@@ -112,12 +112,13 @@ ask_at s state slot end =
 abbrev pub ask_text : List ℕ → State → Slot → End → List ℕ
 ask_text s state slot end = if is_spent end then name_line (codes "spent") s else sent_ask_line (next_number state) s
 
--- a session that has something to send sends it, where an id is left
+-- a session that has something to send sends it, where an id is left: its next batch, or where that has no item a heartbeat
 abbrev pub poll_session : List ℕ → State → Slot → End → Session → State
 poll_session s state slot end session =
-    if is_idle slot.place.rows session then state
+    if is_idle state.moment slot.place.rows session then state
     else (if is_spent end then state
-    else with_message (with_end state s slot (sent slot.place.rows end session state.moment)) (Events s (delivery_of slot.place.rows end session)))
+    else (if has_caught_up slot.place.rows session then with_message (with_end state s slot (beaten end session state.moment)) (Beat s (beat_of end session))
+    else with_message (with_end state s slot (sent slot.place.rows end session state.moment)) (Events s (delivery_of slot.place.rows end session))))
 
 abbrev pub poll_in : List ℕ → State → Slot → End → Option Session → State
 poll_in s state slot end None = state
@@ -128,8 +129,10 @@ poll_at s u state slot end = poll_in s state slot end (session_of end.sessions u
 
 abbrev pub poll_session_text : List ℕ → List ℕ → State → Slot → End → Session → List ℕ
 poll_session_text s u state slot end session =
-    if is_idle slot.place.rows session then pair_line (codes "nothing") s u
-    else (if is_spent end then name_line (codes "spent") s else sent_line (next_number state) (codes "events") s u)
+    if is_idle state.moment slot.place.rows session then pair_line (codes "nothing") s u
+    else (if is_spent end then name_line (codes "spent") s
+    else (if has_caught_up slot.place.rows session then sent_line (next_number state) (codes "heartbeat") s u
+    else sent_line (next_number state) (codes "events") s u))
 
 abbrev pub poll_text_in : List ℕ → List ℕ → State → Slot → End → Option Session → List ℕ
 poll_text_in s u state slot end None = pair_line (codes "unknown") s u

@@ -5,6 +5,7 @@ use Rattle.wef_batch.specs.declared.items.Batch as batch
 use Rattle.wef_collector.specs.Calls.{Effect, add_effect, end_effect}
 use Rattle.wef_collector_rows.specs.Held.{held_after}
 use Rattle.wef_collector_reports.specs.Report.{report}
+use Rattle.wef_collector_statuses.specs.Statuses.{statuses}
 use Rattle.wef_collector_rows.specs.Standing.{standing}
 use Rattle.wef_collector_rows.specs.declared.faults.CollectorFault as the_collector_fault
 use Rattle.wef_collector_rows.specs.declared.faults.CollectorFault.TheVariants as collector_faults
@@ -19,10 +20,11 @@ use Rattle.wef_replay_values.specs.declared.end_name.EndName as the_end
 use Rattle.wef_replay_values.specs.declared.end_name.EndName.TheVariants as ends
 use Rattle.wef_replay.specs.Good.{is_good_after}
 use Rattle.wef_replay.specs.declared.lines.Line.{Line}
-use Rattle.wef_replay.specs.declared.lines.Line.TheVariants.{Subscribe, SubscribeAt, End, Batch, Source, Write, WriteXml, Ask, Poll, Deliver, Back, Request, Forget, Lost, Shut, Crash, Fail, Stop, Calm, Show, Print, Tick}
+use Rattle.wef_replay.specs.declared.lines.Line.TheVariants.{Subscribe, SubscribeAt, End, Batch, Source, Write, WriteXml, Ask, Poll, Deliver, Back, Request, Forget, Lost, Shut, Crash, Fail, Stop, Calm, Show, Print, Status, Tick}
+use Rattle.wef_machine.specs.Answering.{answer_word}
 use Rattle.wef_machine.specs.Arming.{fate}
 use Rattle.wef_machine.specs.Collecting.{at_collector, print_at_collector, with_call}
-use Rattle.wef_machine.specs.Deliveries.{answer_word, batch_effect, deliver_printed, deliver_step, number_back}
+use Rattle.wef_machine.specs.Deliveries.{batch_effect, deliver_printed, deliver_step, number_back}
 use Rattle.wef_lines.specs.Printed.{name_line, events_text}
 use Rattle.wef_machine.specs.Leasing.{forget_at, request_at, request_text, shut_printed, shut_step}
 use Rattle.wef_machine.specs.Printed.{batch_text, collector_name, fate_line, fate_word}
@@ -98,7 +100,7 @@ abbrev pub batch_at : List ℕ → List ℕ → batch.Batch → State → State
 batch_at u s b state = with_call state (batch_effect state.collector.rows u s b state.moment)
 
 abbrev pub batch_line : List ℕ → List ℕ → batch.Batch → State → List ℕ
-batch_line u s b state = batch_text u s (answer_word state (batch_effect state.collector.rows u s b state.moment) b)
+batch_line u s b state = batch_text u s (answer_word state (batch_effect state.collector.rows u s b state.moment) b.ack_wanted)
 
 -- an open collector reports what is held
 abbrev pub print_text_by : Rows → List ℕ → List ℕ → List ℕ → state.Standing → List ℕ
@@ -108,6 +110,15 @@ print_text_by rows u s c (is.Live about) = events_text (held_after rows u s c 0)
 
 abbrev pub print_text : List ℕ → List ℕ → List ℕ → State → List ℕ
 print_text u s c state = print_text_by state.collector.rows u s c (standing state.collector.rows u)
+
+-- it reports at a moment which sources of a subscription are silent
+abbrev pub status_text_by : Rows → List ℕ → ℕ → state.Standing → List ℕ
+status_text_by rows u now is.Unknown = name_line (codes "unknown") u
+status_text_by rows u now (is.Ended old) = statuses rows u now
+status_text_by rows u now (is.Live about) = statuses rows u now
+
+abbrev pub status_text : List ℕ → State → List ℕ
+status_text u state = status_text_by state.collector.rows u state.moment (standing state.collector.rows u)
 
 abbrev pub show_text : State → List ℕ
 show_text state = report state.collector.rows
@@ -173,6 +184,7 @@ step (Stop end after) state = arm_step state end (record { after = after; stops 
 step Calm state = calm_step state
 step Show state = at_collector state (λ memory. unchanged)
 step (Print u s c) state = at_collector state (λ memory. unchanged)
+step (Status u) state = at_collector state (λ memory. unchanged)
 step (Tick milliseconds) state = tick_step state milliseconds
 
 -- what a line shows before it does anything: a message, where it asks for it
@@ -204,6 +216,7 @@ told_by (Stop end after) state = []
 told_by Calm state = []
 told_by Show state = print_at_collector state closed_line (λ memory. show_text)
 told_by (Print u s c) state = print_at_collector state closed_line (λ memory. print_text u s c)
+told_by (Status u) state = print_at_collector state closed_line (λ memory. status_text u)
 told_by (Tick milliseconds) state = []
 
 -- what it prints

@@ -4,6 +4,7 @@ use wef_base::{List, SourceName, Text};
 use wef_bodies::Body;
 use wef_collector::Response;
 use wef_eventing::Offer;
+use wef_heartbeat::Heartbeat;
 use wef_ids::{FaultName, MessageId};
 use wef_source::{Delivery, EndNote};
 
@@ -31,14 +32,20 @@ pub enum Message {
         delivery: Delivery,
     },
 
-    /// The collector's answer that it kept a batch.
+    /// A heartbeat of the source, which has nothing to send.
+    Beat {
+        source: SourceName,
+        beat: Heartbeat,
+    },
+
+    /// The collector's answer that it kept a batch, or heard a heartbeat.
     Ack {
         source: SourceName,
         id: MessageId,
         relates: MessageId,
     },
 
-    /// The collector's answer that it didn't keep a batch.
+    /// The collector's answer that it didn't take what the source sent.
     Fault {
         source: SourceName,
         id: MessageId,
@@ -85,6 +92,7 @@ impl Drop for Message {
                 source: _,
                 delivery: _,
             } => {}
+            Message::Beat { source: _, beat: _ } => {}
             Message::Ack {
                 source: _,
                 id: _,

@@ -3,6 +3,7 @@ use Rattle.std.proofs.Common.{◌≡◌, ℕ, List, ap, refl, sym, ◌∙◌, su
 use Rattle.std.specs.Prelude.{None, Some}
 use Rattle.wef_base.specs.declared.tree.Charset.TheVariants.{Utf8}
 use Rattle.wef_envelope.specs.Laws.{IsSpelt}
+use Rattle.wef_front.proofs.BeatsAreHeard.{beats_are_read}
 use Rattle.wef_front.proofs.DeliveriesAreHeard.{deliveries_are_read}
 use Rattle.wef_eventing.specs.declared.offers.Offer.{Offer}
 use Rattle.wef_front.proofs.EnumeratesAreHeard.{enumerates_are_read}
@@ -13,9 +14,11 @@ use Rattle.wef_front.proofs.RepliesAreHeard.{replies_are_read}
 use Rattle.wef_front_collector.specs.HeardResponses.{response_told}
 use Rattle.wef_front_source.specs.Heard.{Hears}
 use Rattle.wef_front_source.specs.HeardReplies.{offers_told, told}
+use Rattle.wef_front.specs.Beats.{beat_in}
 use Rattle.wef_front.specs.Replies.{CanBeAnswered, IsKnownReply, offers_bytes, reply_bytes}
 use Rattle.wef_front.specs.Sent.{CanBeAsked, Wish, delivery_in}
-use Rattle.wef_front_source.specs.Sending.{CanBeSent, delivery_bytes, end_bytes, enumerate_bytes}
+use Rattle.wef_front_source.specs.Sending.{BeatCanBeSent, CanBeSent, beat_bytes, delivery_bytes, end_bytes, enumerate_bytes}
+use Rattle.wef_heartbeat.specs.declared.messages.Heartbeat.{Heartbeat}
 use Rattle.wef_ids.specs.declared.MessageId.{MessageId}
 use Rattle.wef_requests.proofs.RequestsAreRead.{requests_are_read}
 use Rattle.wef_requests.proofs.ResponsesAreRead.{responses_are_read}
@@ -27,7 +30,7 @@ use Rattle.wef_source.specs.declared.messages.EndNote.{EndNote}
 use Rattle.wef_source.specs.declared.messages.Reply.{Reply}
 use Rattle.wef_xml.specs.Good.{IsXmlText}
 use Rattle.wef_machine.specs.States.{host}
-use Rattle.wef_messages.specs.Bytes.{Answered, AreDelivery, AreNote, AreOffers, AreReply, AreRequest, AreResponse, AreWish, Replied, Responded, answered, answered_by, delivery_said, note_or_none, noted, replied, replied_by, request_or_none, requested, responded, responded_by, said_or_none, wish_or_none, wish_said}
+use Rattle.wef_messages.specs.Bytes.{Answered, AreBeat, AreDelivery, AreNote, AreOffers, AreReply, AreRequest, AreResponse, AreWish, Replied, Responded, answered, answered_by, beat_or_none, beat_said, delivery_said, note_or_none, noted, replied, replied_by, request_or_none, requested, responded, responded_by, said_or_none, wish_or_none, wish_said}
 
 -- ---- wishes for subscriptions
 
@@ -87,6 +90,27 @@ kept_bytes address bytes are = are.bytes_are ∙ ap delivery_bytes (sym (said_is
 
 pub kept_can_be_sent : (address bytes : List ℕ) → AreDelivery address bytes → CanBeSent (delivery_said address bytes)
 kept_can_be_sent address bytes are = subst CanBeSent (sym (said_is address bytes are)) are.can_be_sent
+
+-- ---- heartbeats
+
+pub written_beat : (beat : Heartbeat) (address bytes : List ℕ) → BeatCanBeSent beat → address ≡ beat.notify_to → bytes ≡ beat_bytes beat → AreBeat address bytes
+written_beat beat address bytes sent to written = record { beat = beat; can_be_sent = sent; address_is = to; bytes_are = written }
+
+-- they say what was written
+pub beat_says : (beat : Heartbeat) (address bytes : List ℕ) → BeatCanBeSent beat → address ≡ beat.notify_to → bytes ≡ beat_bytes beat → beat_said address bytes ≡ beat
+beat_says beat address bytes sent to written = (λ i. beat_or_none (to i) (beat_in (to i) (written i))) ∙ ap (beat_or_none beat.notify_to) (beats_are_read beat sent)
+
+beat_is : (address bytes : List ℕ) (are : AreBeat address bytes) → beat_said address bytes ≡ are.beat
+beat_is address bytes are = beat_says are.beat address bytes are.can_be_sent are.address_is are.bytes_are
+
+pub kept_beat_address : (address bytes : List ℕ) → AreBeat address bytes → address ≡ (beat_said address bytes).notify_to
+kept_beat_address address bytes are = are.address_is ∙ ap (λ (b : Heartbeat). b.notify_to) (sym (beat_is address bytes are))
+
+pub kept_beat : (address bytes : List ℕ) → AreBeat address bytes → bytes ≡ beat_bytes (beat_said address bytes)
+kept_beat address bytes are = are.bytes_are ∙ ap beat_bytes (sym (beat_is address bytes are))
+
+pub kept_beat_can_be_sent : (address bytes : List ℕ) → AreBeat address bytes → BeatCanBeSent (beat_said address bytes)
+kept_beat_can_be_sent address bytes are = subst BeatCanBeSent (sym (beat_is address bytes are)) are.can_be_sent
 
 -- ---- replies
 

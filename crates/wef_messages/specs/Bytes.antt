@@ -1,5 +1,5 @@
--- What bytes say that a world keeps: a wish for subscriptions, offers, a delivery to an address, or a reply to one; a request, the
--- answer to one, or a note of the end of a session.
+-- What bytes say that a world keeps: a wish for subscriptions, offers, a delivery or a heartbeat to an address, or a reply to one; a
+-- request, the answer to one, or a note of the end of a session.
 use Rattle.std.specs.Prelude.{◌≡◌, ℕ, List, [], Option, Some, None, false}
 use Rattle.wef_bodies.specs.declared.bodies.Body.TheVariants.{Unsubscribe}
 use Rattle.wef_collector.specs.declared.responses.Response.{Response}
@@ -12,10 +12,12 @@ use Rattle.wef_machine.specs.States.{host}
 use Rattle.std.specs.FinMap as map
 use Rattle.wef_envelope.specs.Laws.{IsSpelt}
 use Rattle.wef_front_source.specs.HeardReplies.{Offered, Told, id_told, offers_told, told}
+use Rattle.wef_front.specs.Beats.{beat_in}
 use Rattle.wef_front.specs.Ends.{note_in}
 use Rattle.wef_front.specs.Replies.{CanBeAnswered, IsKnownReply, offers_bytes, reply_bytes}
 use Rattle.wef_front.specs.Sent.{CanBeAsked, Wish, delivery_in, wish_in}
-use Rattle.wef_front_source.specs.Sending.{CanBeSent, delivery_bytes, end_bytes, enumerate_bytes}
+use Rattle.wef_front_source.specs.Sending.{BeatCanBeSent, CanBeSent, beat_bytes, delivery_bytes, end_bytes, enumerate_bytes}
+use Rattle.wef_heartbeat.specs.declared.messages.Heartbeat.{Heartbeat}
 use Rattle.wef_ids.specs.declared.MessageId.{MessageId}
 use Rattle.wef_requests.specs.Answers.{ResponseCanBeSent, response_bytes}
 use Rattle.wef_requests.specs.Requests.{RequestCanBeSent, Requested, request_in, requested_bytes}
@@ -91,6 +93,28 @@ pub record AreDelivery (address bytes : List ℕ) : Type 0 where
   pub can_be_sent : CanBeSent delivery
   pub address_is : address ≡ delivery.notify_to
   pub bytes_are : bytes ≡ delivery_bytes delivery
+
+-- ---- heartbeats
+
+-- what is made of bytes that are no heartbeat: none with such bytes is kept
+abbrev pub no_beat : List ℕ → Heartbeat
+no_beat address = record { id = no_id; notify_to = address; identifier = None }
+
+-- what bytes say, where they say a heartbeat
+abbrev pub beat_or_none : List ℕ → Option Heartbeat → Heartbeat
+beat_or_none address None = no_beat address
+beat_or_none address (Some beat) = beat
+
+-- the heartbeat that bytes are which go to an address
+abbrev pub beat_said : List ℕ → List ℕ → Heartbeat
+beat_said address bytes = beat_or_none address (beat_in address bytes)
+
+-- Bytes are those of a heartbeat to an address.
+pub record AreBeat (address bytes : List ℕ) : Type 0 where
+  pub beat : Heartbeat
+  pub can_be_sent : BeatCanBeSent beat
+  pub address_is : address ≡ beat.notify_to
+  pub bytes_are : bytes ≡ beat_bytes beat
 
 -- ---- replies
 

@@ -8,7 +8,7 @@ use Rattle.wef_machine.specs.declared.messages.Message.{Message}
 use Rattle.wef_machine.specs.declared.messages.Message.TheVariants as sent
 use Rattle.wef_messages.specs.Bytes.{Answered}
 use Rattle.wef_messages.specs.declared.messages.Content.{Content}
-use Rattle.wef_messages.specs.declared.messages.Content.TheVariants.{Ask, Offers, Delivery, Reply, Request, Response, Ended}
+use Rattle.wef_messages.specs.declared.messages.Content.TheVariants.{Ask, Offers, Delivery, Beat, Reply, Request, Response, Ended}
 use Rattle.wef_requests.specs.Requests.{source_address}
 
 -- the message that is a reply to a source
@@ -25,6 +25,7 @@ abbrev pub message_of : List ℕ → Content → Message
 message_of s (Ask wish) = sent.Ask s wish.id
 message_of s (Offers answer) = offers_message s answer
 message_of s (Delivery delivery) = sent.Events s delivery
+message_of s (Beat beat) = sent.Beat s beat
 message_of s (Reply said) = reply_message s said.id said.relates said.reply
 message_of s (Request asked) = sent.Request s asked.id asked.identifier asked.body
 message_of s (Response said) = sent.Response s said.id said.relates said.answer

@@ -10,7 +10,7 @@ ghost use Rattle.wef_front_source.specs.Heard.{Hears};
 ghost use Rattle.wef_front_source.specs.HeardReplies.{offers_told, told};
 ghost use Rattle.wef_front.specs.Replies.{offers_bytes, reply_bytes};
 ghost use Rattle.wef_front.specs.Sent.{CanBeAsked};
-ghost use Rattle.wef_front_source.specs.Sending.{CanBeSent, delivery_bytes, end_bytes, enumerate_bytes};
+ghost use Rattle.wef_front_source.specs.Sending.{BeatCanBeSent, CanBeSent, beat_bytes, delivery_bytes, end_bytes, enumerate_bytes};
 ghost use Rattle.wef_machine.specs.Seen as texts;
 ghost use Rattle.wef_machine.specs.States as states;
 ghost use Rattle.wef_messages.specs.Bytes.{AreOffers, AreReply, AreResponse, answered, replied, responded};
@@ -23,7 +23,8 @@ use std::alloc::{AllocError, Global};
 use std::marker::Model;
 use wef_base::{Bytes, SourceName, Text};
 use wef_collector::Request;
-use wef_front::{write_delivery, write_end, write_enumerate};
+use wef_front::{write_beat, write_delivery, write_end, write_enumerate};
+use wef_heartbeat::Heartbeat;
 use wef_ids::MessageId;
 use wef_machine::Message;
 use wef_requests::write_request;
@@ -172,7 +173,59 @@ impl DeliveryBytes {
     }
 }
 
-/// A reply to a delivery as its bytes.
+/// A heartbeat as its bytes, and the address that they go to.
+#[derive(Drop)]
+pub struct BeatBytes {
+    address: Text,
+    bytes: Bytes,
+}
+
+impl Model for BeatBytes {
+    ghost use Rattle.wef_heartbeat.specs.contracts.messages.Heartbeat as beat;
+    ghost use Rattle.wef_heartbeat.specs.declared.messages.Heartbeat.{Heartbeat};
+    ghost use Rattle.wef_messages.specs.Bytes.{AreBeat, beat_said};
+
+    ghost Value = { Heartbeat };
+
+    ghost coded = { beat.the_row.coded };
+
+    ghost view = { λ b. beat_said b.address b.bytes };
+
+    ghost invariant = { λ b. AreBeat b.address b.bytes };
+}
+
+impl BeatBytes {
+    /// Writes a heartbeat.
+    #[tactic(auto, using(crate::proofs::Said::written_beat, crate::proofs::Said::beat_says, wef_front_source::proofs::BeatsAreGood::beat_can_be_written))]
+    pub fn of(alloc: Global, beat: &Heartbeat) -> Result<BeatBytes, AllocError>
+        requires { BeatCanBeSent beat.now }
+        ensures { IfOk result (λ sent. sent ≡ beat.now) }
+    {
+        Ok(BeatBytes {
+            address: beat.notify_to.clone()?,
+            bytes: write_beat(alloc, beat)?,
+        })
+    }
+
+    /// Where it goes.
+    #[tactic(auto, using(crate::proofs::Said::kept_beat_address))]
+    pub fn address(&self) -> &Text
+        ensures { result.now ≡ self.now.notify_to }
+    {
+        &self.address
+    }
+
+    /// Its bytes, in UTF-8.
+    #[tactic(auto, using(crate::proofs::Said::kept_beat))]
+    pub fn bytes(&self) -> &Bytes
+        ensures value { result.now ≡ beat_bytes self.now }
+        ensures sent { BeatCanBeSent self.now }
+    {
+        &self.bytes
+    }
+}
+
+/// A reply to a delivery or a heartbeat as its bytes.
 #[derive(Drop)]
 pub struct ReplyBytes {
     bytes: Bytes,
@@ -354,7 +407,10 @@ pub enum Content {
     /// A batch of the source.
     Delivery(DeliveryBytes),
 
-    /// The collector's answer to a batch.
+    /// A heartbeat of the source.
+    Beat(BeatBytes),
+
+    /// The collector's answer to a batch or a heartbeat.
     Reply(ReplyBytes),
 
     /// The collector asks the source to begin to send, to go on or to end.
@@ -374,6 +430,7 @@ impl Drop for Content {
             Content::Ask(_)
             | Content::Offers(_)
             | Content::Delivery(_)
+            | Content::Beat(_)
             | Content::Reply(_)
             | Content::Request(_)
             | Content::Response(_)
@@ -428,6 +485,7 @@ impl Sent {
             Content::Ask(wish) => Ok(text.extend(wish.bytes().as_slice())?),
             Content::Offers(offers) => Ok(text.extend(offers.bytes().as_slice())?),
             Content::Delivery(delivery) => Ok(text.extend(delivery.bytes().as_slice())?),
+            Content::Beat(beat) => Ok(text.extend(beat.bytes().as_slice())?),
             Content::Reply(reply) => Ok(text.extend(reply.bytes().as_slice())?),
             Content::Request(request) => Ok(text.extend(request.bytes().as_slice())?),
             Content::Response(response) => Ok(text.extend(response.bytes().as_slice())?),

@@ -35,6 +35,7 @@ is_heard state None = false
 is_heard state (Some (sent.Ask s id)) = is_open (collector_opened state.collector)
 is_heard state (Some (sent.Offers s id relates given)) = is_open_at (slot_of state s)
 is_heard state (Some (sent.Events s delivery)) = is_open (collector_opened state.collector)
+is_heard state (Some (sent.Beat s beat)) = is_open (collector_opened state.collector)
 is_heard state (Some (sent.Ack s id relates)) = is_open_at (slot_of state s)
 is_heard state (Some (sent.Fault s id relates fault)) = is_open_at (slot_of state s)
 is_heard state (Some (sent.Request s id identifier body)) = is_open_at (slot_of state s)

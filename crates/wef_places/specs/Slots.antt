@@ -11,7 +11,7 @@ use Rattle.wef_front_source.specs.declared.listening.Hears as the_hears
 use Rattle.wef_front_source.specs.declared.listening.Hears.TheVariants as hears
 use Rattle.wef_keeper.specs.Calls.{Effect}
 use Rattle.wef_source.specs.Calls as source
-use Rattle.wef_source.specs.Machine.{End, asked, delivery_of, end_notes, is_idle, is_spent, next_id, sent, shut_in}
+use Rattle.wef_source.specs.Machine.{End, asked, beat_of, beaten, delivery_of, end_notes, has_caught_up, is_idle, is_spent, next_id, sent, shut_in}
 use Rattle.wef_source.specs.Serving.{NoteCanBeSent}
 use Rattle.wef_source.specs.Sessions.{has_expired, session_of}
 use Rattle.wef_building.specs.declared.faults.SourceFault as the_fault
@@ -103,16 +103,20 @@ AsksBy slot slot' end (Some id) =
 abbrev pub AsksAs : Slot → Slot → Used (Option MessageId) → Type 0
 AsksAs slot slot' = Uses slot slot' (AsksBy (slot_opened slot) slot')
 
--- A session sends a delivery, unless it has expired, has nothing to send, or no id is left.
+-- A session sends a delivery, or where that would have no item a heartbeat, unless it has expired, has nothing to send, or no id is
+-- left.
 abbrev pub PollsSession : Slot → Slot → End → Session → ℕ → Polled → Type 0
 PollsSession slot slot' end session now polled.Unknown = ⊥
 PollsSession slot slot' end session now polled.Expired = (has_expired now session ≡ true) × (slot' ≡ slot)
-PollsSession slot slot' end session now polled.Nothing = (has_expired now session ≡ false) × (is_idle slot.place.rows session ≡ true) × (slot' ≡ slot)
+PollsSession slot slot' end session now polled.Nothing = (has_expired now session ≡ false) × (is_idle now slot.place.rows session ≡ true) × (slot' ≡ slot)
 PollsSession slot slot' end session now polled.Spent =
-    (has_expired now session ≡ false) × (is_idle slot.place.rows session ≡ false) × (is_spent end ≡ true) × (slot' ≡ slot)
+    (has_expired now session ≡ false) × (is_idle now slot.place.rows session ≡ false) × (is_spent end ≡ true) × (slot' ≡ slot)
 PollsSession slot slot' end session now (polled.Sent delivery) =
-    (has_expired now session ≡ false) × (is_idle slot.place.rows session ≡ false) × (is_spent end ≡ false) × (delivery ≡ delivery_of slot.place.rows end session)
-    × (slot' ≡ slot_with slot (remembering slot.place (sent slot.place.rows end session now)))
+    (has_expired now session ≡ false) × (is_idle now slot.place.rows session ≡ false) × (has_caught_up slot.place.rows session ≡ false) × (is_spent end ≡ false)
+    × (delivery ≡ delivery_of slot.place.rows end session) × (slot' ≡ slot_with slot (remembering slot.place (sent slot.place.rows end session now)))
+PollsSession slot slot' end session now (polled.Beat beat) =
+    (has_expired now session ≡ false) × (is_idle now slot.place.rows session ≡ false) × (has_caught_up slot.place.rows session ≡ true) × (is_spent end ≡ false)
+    × (beat ≡ beat_of end session) × (slot' ≡ slot_with slot (remembering slot.place (beaten end session now)))
 
 abbrev pub PollsIn : Slot → Slot → End → Option Session → ℕ → Polled → Type 0
 PollsIn slot slot' end None now polled.Unknown = slot' ≡ slot
@@ -126,11 +130,11 @@ PollsAs slot slot' u now = Uses slot slot' (λ end. PollsIn (slot_opened slot) s
 abbrev pub AnswersAs : {T : Type 0} → Slot → (End → T → Type 0) → Used T → Type 0
 AnswersAs slot = UsedAs (slot_opening slot) (slot_opened slot).place.memory (Unit {0})
 
--- whether a session is there whose delivery is lost
+-- whether a session is there that gives up waiting
 abbrev pub LosesAs : Slot → List ℕ → Used Bool → Type 0
 LosesAs slot u = AnswersAs slot (λ end there. there ≡ is_some (session_of end.sessions u))
 
--- what a source is after an answer to a delivery
+-- what a source is after an answer to a delivery or a heartbeat
 abbrev pub after_reply : End → MessageId → Reply → End
 after_reply end relates replies.Ack = after_ack end relates
 after_reply end relates (replies.Fault fault) = after_fault end relates fault
@@ -140,7 +144,7 @@ abbrev pub reply_heard : End → MessageId → Reply → the_hears.Hears
 reply_heard end relates replies.Ack = ack_heard end relates
 reply_heard end relates (replies.Fault fault) = fault_heard end relates
 
--- what a source is after what bytes tell it at a moment: an answer to a delivery, or else offers
+-- what a source is after what bytes tell it at a moment: an answer to a delivery or a heartbeat, or else offers
 abbrev pub after_told : Option Told → Option Offered → ℕ → End → End
 after_told (Some reply) offered now end = after_reply end reply.0 reply.1
 after_told None (Some offered) now end = after_offers end offered.0 offered.1 now

@@ -15,6 +15,7 @@ use std::marker::Model;
 use wef_base::{Bytes, Charset, List, Moment, SourceName, SubId};
 use wef_event::Event;
 use wef_front::{Answer, Hears};
+use wef_heartbeat::Heartbeat;
 use wef_ids::MessageId;
 use wef_keeper::{MemKeeper, Plan, StoreFault};
 use wef_machine::Armed;
@@ -176,7 +177,10 @@ pub enum Polled {
     Nothing,
     /// No message numbers are left.
     Spent,
+    /// It sends a batch.
     Sent(Delivery),
+    /// It has no item to send, and says that its source is there.
+    Beat(Heartbeat),
 }
 
 impl Slot {
@@ -289,6 +293,7 @@ impl Slot {
         };
         match source.poll(sub, now) {
             Ok(Poll::Send(delivery)) => Ok(Used::Answered(Polled::Sent(delivery))),
+            Ok(Poll::Beat(beat)) => Ok(Used::Answered(Polled::Beat(beat))),
             Ok(Poll::Nothing) => Ok(Used::Answered(Polled::Nothing)),
             Err(SourceFault::UnknownSubscription) => Ok(Used::Answered(Polled::Unknown)),
             Err(SourceFault::Expired) => Ok(Used::Answered(Polled::Expired)),
@@ -297,7 +302,7 @@ impl Slot {
         }
     }
 
-    /// Gives up waiting for the answer to a delivery of a session. Answers whether the session is
+    /// Gives up waiting for the answer to what a session sent. Answers whether the session is
     /// there.
     #[tactic(auto, using(crate::proofs::Opened::lost_refused))]
     pub fn lose(&mut self, alloc: Global, sub: &SubId) -> Result<Used<bool>, WorldFault>

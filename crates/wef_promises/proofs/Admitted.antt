@@ -19,6 +19,7 @@ use Rattle.wef_collector.specs.declared.responses.Response.{Response}
 use Rattle.wef_collector_leases.specs.Next.{next_due}
 use Rattle.wef_collector_leases.specs.declared.next.Due.{Due}
 use Rattle.wef_eventing.specs.declared.subscriptions.Subscription.{Subscription}
+use Rattle.wef_ids.specs.declared.FaultName.{FaultName}
 use Rattle.wef_ids.specs.declared.MessageId.{MessageId}
 use Rattle.wef_query.specs.Order.{with_name}
 use Rattle.wef_replay_values.specs.declared.end_name.EndName.{EndName}
@@ -26,17 +27,17 @@ use Rattle.wef_replay_values.specs.declared.end_name.EndName.TheVariants as ends
 use Rattle.wef_replay.specs.Alike.{AreAlike}
 use Rattle.wef_replay.specs.Good.{AreGood, Names, allows, has_end, is_among, is_line, no_names, noted}
 use Rattle.wef_replay.specs.declared.lines.Line.{Line}
-use Rattle.wef_replay.specs.declared.lines.Line.TheVariants.{Subscribe, SubscribeAt, End, Batch, Source, Write, WriteXml, Ask, Poll, Deliver, Back, Request, Forget, Lost, Shut, Crash, Fail, Stop, Calm, Show, Print, Tick}
+use Rattle.wef_replay.specs.declared.lines.Line.TheVariants.{Subscribe, SubscribeAt, End, Batch, Source, Write, WriteXml, Ask, Poll, Deliver, Back, Request, Forget, Lost, Shut, Crash, Fail, Stop, Calm, Show, Print, Status, Tick}
 use Rattle.wef_source.specs.Machine as machine
 use Rattle.wef_source.specs.Sessions.{has_expired, session_of}
 use Rattle.wef_building.specs.declared.sessions.Session.{Session}
 use Rattle.wef_source_log.specs.Answers.{write_effect}
 use Rattle.wef_source_log.specs.declared.faults.LogFault.{LogFault}
-use Rattle.wef_machine.specs.Answering.{with_answer}
+use Rattle.wef_machine.specs.Answering.{answer_with, answers_by, with_answer}
 use Rattle.wef_machine.specs.Collecting as collecting
-use Rattle.wef_machine.specs.Collecting.{at_collector, reply_id, with_reply}
-use Rattle.wef_machine.specs.Deliveries.{after_ack, after_fault, after_offers, answer_with, deliver_message, delivery_effect, end_at, events_at, message_at, number_back, offers_at, taken_by}
-use Rattle.wef_machine.specs.Leasing.{forget_at, is_short, note_answer, note_at, note_effect, request_at, request_by, request_done, request_said, responded, responds_at, response_at, response_by, response_effect, response_message, shut_at, with_sent}
+use Rattle.wef_machine.specs.Collecting.{at_collector, reply_id, with_call, with_reply}
+use Rattle.wef_machine.specs.Deliveries.{after_ack, after_fault, after_offers, beat_at, beat_effect, deliver_message, delivery_effect, end_at, events_at, message_at, number_back, offers_at, taken_by}
+use Rattle.wef_machine.specs.Leasing.{forget_at, is_short, note_at, note_effect, request_at, request_by, request_done, request_said, responded, responds_at, response_at, response_by, response_effect, response_message, shut_at, with_sent}
 use Rattle.wef_machine.specs.Sources.{ask_at, at_declared, at_source, lost_at, poll_at, poll_in, slot_opened, write_at, write_by}
 use Rattle.wef_machine.specs.Places.{Place, after_call, armed_with, crashed}
 use Rattle.wef_machine.specs.States.{Collector, Slot, State, calmed_slot, declared_names, host, names_of, slot_of, start, with_collector, with_foreign, with_message, with_messages, with_slot}
@@ -102,6 +103,10 @@ same_answer : (old new : State) (answer : Option Message) → HasSameSources old
 same_answer old new None h = h
 same_answer old new (Some message) h = same_reply old new 1 message h
 
+-- nor does what it takes and answers
+same_answers : (now : State) (effect : Effect FaultName) (ack : Bool) (s : List ℕ) (id relates : MessageId) → HasSameSources now (answers_by now effect ack s id relates)
+same_answers now effect ack s id relates = same_answer now (with_call now effect) (answer_with now effect ack s id relates) (same_collector now now (after_call now.collector effect) (same_itself now))
+
 same_request : (memory : Memory) (now : State) → HasSameSources now (request_at memory now)
 same_request memory now = by (next_due now.collector.rows memory.waiting now.moment)
   where
@@ -152,8 +157,9 @@ keeps_poll s u now slot end there = by (session_of end.sessions u)
     by None = same_itself now
     by (Some session) =
         same_either now (has_expired now.moment session) _ _ (same_itself now)
-        (same_either now (machine.is_idle slot.place.rows session) _ _ (same_itself now)
-        (same_either now (machine.is_spent end) _ _ (same_itself now) (same_message now _ _ (same_slot now s slot _ there))))
+        (same_either now (machine.is_idle now.moment slot.place.rows session) _ _ (same_itself now)
+        (same_either now (machine.is_spent end) _ _ (same_itself now)
+        (same_either now (machine.has_caught_up slot.place.rows session) _ _ (same_message now _ _ (same_slot now s slot _ there)) (same_message now _ _ (same_slot now s slot _ there)))))
 
 same_sent : (s : List ℕ) (relates : MessageId) (old new : State) (answer : Option (MessageId × Response)) → HasSameSources old new →
     HasSameSources old (with_sent new (option_map (response_message s relates) answer))
@@ -173,15 +179,16 @@ same_taken : (state : State) (message : Message) → HasSameSources state (taken
 same_taken state (sent.Ask s id) = same_at_collector state (offers_at s id) (λ memory now. same_reply now now _ _ (same_itself now))
 same_taken state (sent.Offers s id relates given) = same_at_source state s _ (keeps_end s (λ end. after_offers end relates given state.moment))
 same_taken state (sent.Events s delivery) =
-    same_at_collector state (events_at s delivery) (λ memory now. same_answer now _ (answer_with now (delivery_effect now.collector.rows delivery now.moment) s (reply_id memory) delivery)
-    (same_collector now now _ (same_itself now)))
+    same_at_collector state (events_at s delivery)
+    (λ memory now. same_answers now (delivery_effect now.collector.rows delivery now.moment) delivery.batch.ack_wanted s (reply_id memory) delivery.id)
+same_taken state (sent.Beat s beat) =
+    same_at_collector state (beat_at s beat) (λ memory now. same_answers now (beat_effect now.collector.rows beat now.moment) true s (reply_id memory) beat.id)
 same_taken state (sent.Ack s id relates) = same_at_source state s _ (keeps_end s (λ end. after_ack end relates))
 same_taken state (sent.Fault s id relates fault) = same_at_source state s _ (keeps_end s (λ end. after_fault end relates fault))
 same_taken state (sent.Request s id identifier asks) = same_at_source state s _ (keeps_responding s id identifier asks)
 same_taken state (sent.Response s id relates answer) = same_at_collector state (response_at relates answer) (same_response relates answer)
 same_taken state (sent.Ended s note) =
-    same_at_collector state (note_at s note) (λ memory now. same_answer now _ (note_answer now (note_effect now.collector.rows note) s (reply_id memory) note.id)
-    (same_collector now now _ (same_itself now)))
+    same_at_collector state (note_at s note) (λ memory now. same_answers now (note_effect now.collector.rows note) false s (reply_id memory) note.id)
 
 same_delivered : (state : State) (message : Option Message) → HasSameSources state (deliver_message state message)
 same_delivered state None = same_itself state
@@ -279,6 +286,7 @@ leaves_names (Stop end after) state names alike = same_names state (step (Stop e
 leaves_names Calm state names alike = same_names state (step Calm state) names (same_calm state) alike
 leaves_names Show state names alike = same_names state (step Show state) names (same_at_collector state (λ memory. unchanged) (λ memory now. same_itself now)) alike
 leaves_names (Print u s c) state names alike = same_names state (step (Print u s c) state) names (same_at_collector state (λ memory. unchanged) (λ memory now. same_itself now)) alike
+leaves_names (Status u) state names alike = same_names state (step (Status u) state) names (same_at_collector state (λ memory. unchanged) (λ memory now. same_itself now)) alike
 leaves_names (Tick milliseconds) state names alike = same_names state (step (Tick milliseconds) state) names (same_tick state milliseconds) alike
 
 -- ---- so each good line is admitted

@@ -27,10 +27,11 @@ use Rattle.wef_collector_leases.specs.declared.next.Due.{Due}
 use Rattle.wef_collector_leases.specs.declared.waiting.Waiting.{Waiting}
 use Rattle.wef_collector_rows.specs.Keys.{boot_key, subscription_key}
 use Rattle.wef_collector_rows.specs.Standing.{is_full, kept_body, standing}
-use Rattle.wef_collector.specs.Taken.{batch_changes, put, taken}
+use Rattle.wef_collector.specs.Taken.{batch_changes, heard_changes, put, taken}
 use Rattle.wef_collector_rows.specs.declared.faults.CollectorFault.TheVariants as faults
 use Rattle.wef_collector_rows.specs.declared.standings.Standing.{Standing}
 use Rattle.wef_collector_rows.specs.declared.standings.Standing.TheVariants as stands
+use Rattle.wef_heartbeat.specs.declared.messages.Heartbeat.{Heartbeat}
 use Rattle.wef_ids.specs.Ids.{next_id}
 use Rattle.wef_ids.specs.declared.FaultName.{FaultName}
 use Rattle.wef_ids.specs.declared.FaultName.TheVariants.{InternalError, InvalidMessage}
@@ -50,7 +51,7 @@ use Rattle.wef_keeper.specs.declared.kinds.RowKind.TheVariants as kinds
 use Rattle.wef_replay_values.specs.declared.end_name.EndName.{EndName}
 use Rattle.wef_replay_values.specs.declared.end_name.EndName.TheVariants as ends
 use Rattle.wef_replay.specs.declared.lines.Line.{Line}
-use Rattle.wef_replay.specs.declared.lines.Line.TheVariants.{Subscribe, SubscribeAt, End, Batch, Source, Write, WriteXml, Ask, Poll, Deliver, Back, Request, Forget, Lost, Shut, Crash, Fail, Stop, Calm, Show, Print, Tick}
+use Rattle.wef_replay.specs.declared.lines.Line.TheVariants.{Subscribe, SubscribeAt, End, Batch, Source, Write, WriteXml, Ask, Poll, Deliver, Back, Request, Forget, Lost, Shut, Crash, Fail, Stop, Calm, Show, Print, Status, Tick}
 use Rattle.wef_source.specs.Machine as machine
 use Rattle.wef_source.specs.Sessions.{has_expired, session_of}
 use Rattle.wef_source.specs.declared.messages.Delivery.{Delivery}
@@ -58,12 +59,12 @@ use Rattle.wef_source.specs.declared.messages.EndNote.{EndNote}
 use Rattle.wef_building.specs.declared.sessions.Session.{Session}
 use Rattle.wef_source_log.specs.Answers as log
 use Rattle.wef_source_log.specs.declared.faults.LogFault.{LogFault}
-use Rattle.wef_machine.specs.Answering.{with_answer}
+use Rattle.wef_machine.specs.Answering.{answer_by, answers_by, with_answer}
 use Rattle.wef_machine.specs.Arming.{committed, fate, is_done, is_stopped}
 use Rattle.wef_machine.specs.Collecting as collecting
 use Rattle.wef_machine.specs.Collecting.{at_collector, reply_id, with_call, with_reply}
-use Rattle.wef_machine.specs.Deliveries.{BatchEffect, after_ack, after_fault, after_offers, answer_by, batch_effect, batch_effect_by, deliver_message, delivery_effect, effect_at, end_at, events_at, events_by, message_at, number_back, offers_at, taken_by}
-use Rattle.wef_machine.specs.Leasing.{ended_effect, ended_effect_by, forget_at, is_short, note_answer_by, note_at, note_by, note_effect, request_at, request_by, request_done, request_message, request_said, responded, responds_at, response_at, response_by, response_effect, response_message, shut_at, with_sent}
+use Rattle.wef_machine.specs.Deliveries.{BatchEffect, after_ack, after_fault, after_offers, batch_effect, batch_effect_by, beat_at, beat_effect, deliver_message, delivery_effect, effect_at, end_at, events_at, heard_effect, heard_effect_by, message_at, number_back, offers_at, taken_by}
+use Rattle.wef_machine.specs.Leasing.{ended_effect, ended_effect_by, forget_at, is_short, note_at, note_effect, request_at, request_by, request_done, request_message, request_said, responded, responds_at, response_at, response_by, response_effect, response_message, shut_at, with_sent}
 use Rattle.wef_safety.specs.Kept.{AreInOrder, IsDrawnBefore, IsHeld}
 use Rattle.wef_machine.specs.Places.{Place, armed_with, commits, crashed, opened_by, starts}
 use Rattle.wef_safety.specs.Safe.{WasSent}
@@ -83,7 +84,7 @@ use Rattle.wef_safety.proofs.Sent.{all_map, sent_split}
 use Rattle.wef_safety.proofs.SourceSteps.{at_source_any}
 use Rattle.wef_pairs.proofs.Spared.{IsMissed, spared}
 use Rattle.wef_safety.proofs.Steps.{schedules_are_kept}
-use Rattle.wef_promises.proofs.Leases.{leasing_leaves, noting_leaves}
+use Rattle.wef_promises.proofs.OtherRows.{hearing_leaves, leasing_leaves, noting_leaves}
 use Rattle.wef_promises.specs.Drawing.{IsReplyBefore, ReplyIdsRise, RequestIdsRise, reply_of}
 
 pub request_ids_rise : Lower → RequestIdsRise
@@ -230,6 +231,13 @@ boot_by_leasing rows u s leasing = boot_stays (applied (lease_changes rows u s l
 boot_by_noting : (rows : Rows) (u s identifier : List ℕ) → boot_of (applied (end_lease rows u s identifier) rows) ≡ boot_of rows
 boot_by_noting rows u s identifier = boot_stays (applied (end_lease rows u s identifier) rows) rows (noting_leaves rows u s identifier boot_key apart_boot)
 
+-- nor is it of when a source was heard
+apart_heard : number_of kinds.Heard ≢ number_of kinds.CollectorBoot
+apart_heard e = omega (arith, e)
+
+boot_by_hearing : (rows : Rows) (u s : List ℕ) (now : ℕ) → boot_of (applied (heard_changes rows u s now) rows) ≡ boot_of rows
+boot_by_hearing rows u s now = boot_stays (applied (heard_changes rows u s now) rows) rows (hearing_leaves rows u s now boot_key apart_heard)
+
 -- ---- the collector
 
 -- a call whose changes leave the boot number
@@ -345,10 +353,26 @@ batch_keeps rows u s batch now = by_standing (standing rows u)
 delivery_keeps : (rows : Rows) (delivery : Delivery) (now : ℕ) → KeepsBoot rows (delivery_effect rows delivery now)
 delivery_keeps rows delivery now = by_address (subscription_in delivery.notify_to) (source_in delivery.notify_to)
   where
-    by_address : (u s : Option (List ℕ)) → KeepsBoot rows (effect_at rows u s delivery.batch now)
+    by_address : (u s : Option (List ℕ)) → KeepsBoot rows (effect_at rows u s (λ v w. batch_effect rows v w delivery.batch now))
     by_address None s = tt
     by_address (Some u) None = tt
     by_address (Some u) (Some s) = batch_keeps rows u s delivery.batch now
+
+heard_keeps : (rows : Rows) (u s : List ℕ) (now : ℕ) → KeepsBoot rows (heard_effect rows u s now)
+heard_keeps rows u s now = by_standing (standing rows u)
+  where
+    by_standing : (found : Standing) → KeepsBoot rows (heard_effect_by rows u s now found)
+    by_standing stands.Unknown = tt
+    by_standing (stands.Ended about) = tt
+    by_standing (stands.Live about) = boot_by_hearing rows u s now
+
+beat_keeps : (rows : Rows) (beat : Heartbeat) (now : ℕ) → KeepsBoot rows (beat_effect rows beat now)
+beat_keeps rows beat now = by_address (subscription_in beat.notify_to) (source_in beat.notify_to)
+  where
+    by_address : (u s : Option (List ℕ)) → KeepsBoot rows (effect_at rows u s (λ v w. heard_effect rows v w now))
+    by_address None s = tt
+    by_address (Some u) None = tt
+    by_address (Some u) (Some s) = heard_keeps rows u s now
 
 response_keeps : (rows : Rows) (waiting : Option Waiting) (answer : Response) (now : ℕ) → KeepsBoot rows (waiting_effect waiting answer now rows)
 response_keeps rows None answer now = tt
@@ -381,39 +405,23 @@ reply_draws now memory count m runs some is drawn =
     subst (λ (o : Option Memory). AreRepliesDrawn now.collector.rows (option_map (drawn_in count) o) (now.messages ++ m ∷ [])) (sym runs)
     (reply_drawn now.collector.rows memory now.messages m count some is (draws_with now memory runs drawn))
 
-events_draw : (now : State) (s : List ℕ) (delivery : Delivery) (memory : Memory) → now.collector.memory ≡ Some memory → Draws now → Draws (events_at s delivery memory now)
-events_draw now s delivery memory runs drawn = by_effect (delivery_effect now.collector.rows delivery now.moment) (delivery_keeps now.collector.rows delivery now.moment)
+-- a message of a source is taken, and answered
+answers_draw : (now : State) (effect : Effect FaultName) (ack : Bool) (s : List ℕ) (relates : MessageId) (memory : Memory) → now.collector.memory ≡ Some memory →
+    KeepsBoot now.collector.rows effect → Draws now → Draws (answers_by now effect ack s (reply_id memory) relates)
+answers_draw now (Err fault) ack s relates memory runs same drawn = reply_draws now memory 1 (sent.Fault s (reply_id memory) relates fault) runs (omega arith) refl drawn
+answers_draw now (Ok changes) ack s relates memory runs same drawn = by_fate (called now changes drawn same) (fate now.collector.armed changes) refl
   where
-    by_fate : (changes : List Change) → Draws (with_collector now (commits now.collector changes)) → (how : Fate) → fate now.collector.armed changes ≡ how →
-        Draws (with_answer (with_collector now (commits now.collector changes)) (answer_by how s (reply_id memory) delivery))
-    by_fate changes after Stopped e = after
-    by_fate changes after Failed e =
-        reply_draws (with_collector now (commits now.collector changes)) memory 1 (sent.Fault s (reply_id memory) delivery.id InternalError)
+    by_fate : Draws (with_collector now (commits now.collector changes)) → (how : Fate) → fate now.collector.armed changes ≡ how →
+        Draws (with_answer (with_collector now (commits now.collector changes)) (answer_by how ack s (reply_id memory) relates))
+    by_fate after Stopped e = after
+    by_fate after Failed e =
+        reply_draws (with_collector now (commits now.collector changes)) memory 1 (sent.Fault s (reply_id memory) relates InternalError)
         (ap (λ (f : Fate). cond (is_stopped f) None now.collector.memory) e ∙ runs) (omega arith) refl after
-    by_fate changes after Done e =
+    by_fate after Done e =
         let new : State = with_collector now (commits now.collector changes) in
-        cond_both delivery.batch.ack_wanted (Some (sent.Ack s (reply_id memory) delivery.id)) None (λ (answer : Option Message). Draws (with_answer new answer))
-        (λ _. reply_draws new memory 1 (sent.Ack s (reply_id memory) delivery.id) (ap (λ (f : Fate). cond (is_stopped f) None now.collector.memory) e ∙ runs) (omega arith) refl after)
+        cond_both ack (Some (sent.Ack s (reply_id memory) relates)) None (λ (answer : Option Message). Draws (with_answer new answer))
+        (λ _. reply_draws new memory 1 (sent.Ack s (reply_id memory) relates) (ap (λ (f : Fate). cond (is_stopped f) None now.collector.memory) e ∙ runs) (omega arith) refl after)
         (λ _. after)
-
-    by_effect : (effect : BatchEffect) → KeepsBoot now.collector.rows effect → Draws (events_by now effect s (reply_id memory) delivery)
-    by_effect (Err fault) same = reply_draws now memory 1 (sent.Fault s (reply_id memory) delivery.id fault) runs (omega arith) refl drawn
-    by_effect (Ok changes) same = by_fate changes (called now changes drawn same) (fate now.collector.armed changes) refl
-
-note_draws : (now : State) (s : List ℕ) (note : EndNote) (memory : Memory) → now.collector.memory ≡ Some memory → Draws now → Draws (note_at s note memory now)
-note_draws now s note memory runs drawn = by_effect (note_effect now.collector.rows note) (note_keeps now.collector.rows note)
-  where
-    by_fate : (changes : List Change) → Draws (with_collector now (commits now.collector changes)) → (how : Fate) → fate now.collector.armed changes ≡ how →
-        Draws (with_answer (with_collector now (commits now.collector changes)) (note_answer_by how s (reply_id memory) note.id))
-    by_fate changes after Stopped e = after
-    by_fate changes after Failed e =
-        reply_draws (with_collector now (commits now.collector changes)) memory 1 (sent.Fault s (reply_id memory) note.id InternalError)
-        (ap (λ (f : Fate). cond (is_stopped f) None now.collector.memory) e ∙ runs) (omega arith) refl after
-    by_fate changes after Done e = after
-
-    by_effect : (effect : Effect FaultName) → KeepsBoot now.collector.rows effect → Draws (note_by now effect s (reply_id memory) note.id)
-    by_effect (Err fault) same = reply_draws now memory 1 (sent.Fault s (reply_id memory) note.id fault) runs (omega arith) refl drawn
-    by_effect (Ok changes) same = by_fate changes (called now changes drawn same) (fate now.collector.armed changes) refl
 
 -- ---- requests
 
@@ -477,7 +485,8 @@ poll_draws s u now slot end drawn = by_session (session_of end.sessions u)
     by_session None = drawn
     by_session (Some session) =
         either_draws (has_expired now.moment session) _ _ drawn
-        (either_draws (machine.is_idle slot.place.rows session) _ _ drawn (either_draws (machine.is_spent end) _ _ drawn (sends now _ refl drawn)))
+        (either_draws (machine.is_idle now.moment slot.place.rows session) _ _ drawn
+        (either_draws (machine.is_spent end) _ _ drawn (either_draws (machine.has_caught_up slot.place.rows session) _ _ (sends now _ refl drawn) (sends now _ refl drawn))))
 
 -- what a source answers
 answer_draws : (s : List ℕ) (relates : MessageId) (now : State) (answer : Option (MessageId × Response)) → Draws now → Draws (with_sent now (option_map (response_message s relates) answer))
@@ -500,12 +509,16 @@ taken_draws : (state : State) (m : Message) → Draws state → Draws (taken_by 
 taken_draws state (sent.Ask s id) drawn = at_collector_draws state (offers_at s id) drawn (λ memory now runs now_drawn.
     reply_draws now memory (length (offers now.collector.rows s host) + 1) (sent.Offers s (reply_id memory) id (offers now.collector.rows s host)) runs (omega arith) refl now_drawn)
 taken_draws state (sent.Offers s id relates given) drawn = at_source_draws state s (end_at s (λ end. after_offers end relates given state.moment)) drawn (λ now slot end h. h)
-taken_draws state (sent.Events s delivery) drawn = at_collector_draws state (events_at s delivery) drawn (λ memory now runs now_drawn. events_draw now s delivery memory runs now_drawn)
+taken_draws state (sent.Events s delivery) drawn = at_collector_draws state (events_at s delivery) drawn (λ memory now runs now_drawn.
+    answers_draw now (delivery_effect now.collector.rows delivery now.moment) delivery.batch.ack_wanted s delivery.id memory runs (delivery_keeps now.collector.rows delivery now.moment) now_drawn)
+taken_draws state (sent.Beat s beat) drawn = at_collector_draws state (beat_at s beat) drawn (λ memory now runs now_drawn.
+    answers_draw now (beat_effect now.collector.rows beat now.moment) true s beat.id memory runs (beat_keeps now.collector.rows beat now.moment) now_drawn)
 taken_draws state (sent.Ack s id relates) drawn = at_source_draws state s (end_at s (λ end. after_ack end relates)) drawn (λ now slot end h. h)
 taken_draws state (sent.Fault s id relates fault) drawn = at_source_draws state s (end_at s (λ end. after_fault end relates fault)) drawn (λ now slot end h. h)
 taken_draws state (sent.Request s id identifier asks) drawn = at_source_draws state s (responds_at s id identifier asks) drawn (responds_draw s id identifier asks)
 taken_draws state (sent.Response s id relates answer) drawn = at_collector_draws state (response_at relates answer) drawn (λ memory now runs now_drawn. response_draws now relates answer memory now_drawn)
-taken_draws state (sent.Ended s note) drawn = at_collector_draws state (note_at s note) drawn (λ memory now runs now_drawn. note_draws now s note memory runs now_drawn)
+taken_draws state (sent.Ended s note) drawn = at_collector_draws state (note_at s note) drawn (λ memory now runs now_drawn.
+    answers_draw now (note_effect now.collector.rows note) false s note.id memory runs (note_keeps now.collector.rows note) now_drawn)
 
 delivered_draws : (state : State) (message : Option Message) → Draws state → Draws (deliver_message state message)
 delivered_draws state None drawn = drawn
@@ -549,6 +562,7 @@ step_draws state (Stop end after) drawn = arm_draws state end (record { after = 
 step_draws state Calm drawn = drawn
 step_draws state Show drawn = at_collector_draws state (λ memory. unchanged) drawn (λ memory now runs now_drawn. now_drawn)
 step_draws state (Print u s c) drawn = at_collector_draws state (λ memory. unchanged) drawn (λ memory now runs now_drawn. now_drawn)
+step_draws state (Status u) drawn = at_collector_draws state (λ memory. unchanged) drawn (λ memory now runs now_drawn. now_drawn)
 step_draws state (Tick milliseconds) drawn = drawn
 
 -- ---- schedules

@@ -22,10 +22,12 @@ use Rattle.wef_collector_leases.specs.declared.next.Due.{Due}
 use Rattle.wef_collector_leases.specs.declared.waiting.Waiting.{Waiting}
 use Rattle.wef_collector_rows.specs.Keys.{boot_key, subscription_key}
 use Rattle.wef_collector_rows.specs.Standing.{is_full, kept_body, standing}
-use Rattle.wef_collector.specs.Taken.{batch_changes, put, taken}
+use Rattle.wef_collector.specs.Taken.{batch_changes, heard_changes, put, taken}
 use Rattle.wef_collector_rows.specs.declared.faults.CollectorFault.TheVariants as faults
 use Rattle.wef_collector_rows.specs.declared.standings.Standing.{Standing}
 use Rattle.wef_collector_rows.specs.declared.standings.Standing.TheVariants as stands
+use Rattle.wef_heartbeat.specs.declared.messages.Heartbeat.{Heartbeat}
+use Rattle.wef_ids.specs.declared.FaultName.{FaultName}
 use Rattle.wef_ids.specs.declared.FaultName.TheVariants.{InvalidMessage}
 use Rattle.wef_ids.specs.declared.MessageId.{MessageId}
 use Rattle.wef_event.specs.Events.{Event}
@@ -40,7 +42,7 @@ use Rattle.wef_keeper.specs.declared.keys.Change.{Change}
 use Rattle.wef_replay_values.specs.declared.end_name.EndName.{EndName}
 use Rattle.wef_replay_values.specs.declared.end_name.EndName.TheVariants as ends
 use Rattle.wef_replay.specs.declared.lines.Line.{Line}
-use Rattle.wef_replay.specs.declared.lines.Line.TheVariants.{Subscribe, SubscribeAt, End, Batch, Source, Write, WriteXml, Ask, Poll, Deliver, Back, Request, Forget, Lost, Shut, Crash, Fail, Stop, Calm, Show, Print, Tick}
+use Rattle.wef_replay.specs.declared.lines.Line.TheVariants.{Subscribe, SubscribeAt, End, Batch, Source, Write, WriteXml, Ask, Poll, Deliver, Back, Request, Forget, Lost, Shut, Crash, Fail, Stop, Calm, Show, Print, Status, Tick}
 use Rattle.wef_source.specs.Machine as machine
 use Rattle.wef_source.specs.Sessions.{has_expired, session_of}
 use Rattle.wef_source.specs.declared.messages.Delivery.{Delivery}
@@ -48,12 +50,12 @@ use Rattle.wef_source.specs.declared.messages.EndNote.{EndNote}
 use Rattle.wef_building.specs.declared.sessions.Session.{Session}
 use Rattle.wef_source_log.specs.Answers as log
 use Rattle.wef_source_log.specs.declared.faults.LogFault.{LogFault}
-use Rattle.wef_machine.specs.Answering.{with_answer}
+use Rattle.wef_machine.specs.Answering.{answer_with, answers_by, with_answer}
 use Rattle.wef_machine.specs.Arming.{committed}
 use Rattle.wef_machine.specs.Collecting as collecting
 use Rattle.wef_machine.specs.Collecting.{at_collector, reply_id, with_call}
-use Rattle.wef_machine.specs.Deliveries.{BatchEffect, after_ack, after_fault, after_offers, answer_with, batch_effect, batch_effect_by, deliver_message, delivery_effect, effect_at, end_at, events_at, message_at, number_back, offers_at, taken_by}
-use Rattle.wef_machine.specs.Leasing.{ended_effect, ended_effect_by, forget_at, is_short, note_answer, note_at, note_effect, request_at, request_by, request_done, request_said, responded, responds_at, response_at, response_by, response_message, shut_at, with_sent}
+use Rattle.wef_machine.specs.Deliveries.{BatchEffect, after_ack, after_fault, after_offers, batch_effect, batch_effect_by, beat_at, beat_effect, deliver_message, delivery_effect, effect_at, end_at, events_at, heard_effect, heard_effect_by, message_at, number_back, offers_at, taken_by}
+use Rattle.wef_machine.specs.Leasing.{ended_effect, ended_effect_by, forget_at, is_short, note_at, note_effect, request_at, request_by, request_done, request_said, responded, responds_at, response_at, response_by, response_message, shut_at, with_sent}
 use Rattle.wef_machine.specs.Places.{Place, armed_with, crashed, opened_by, starts}
 use Rattle.wef_machine.specs.Sources.{ask_at, at_declared, at_source, lost_at, poll_at, poll_in, write_at, write_by}
 use Rattle.wef_machine.specs.States.{Slot, State, host, slot_of, with_end, with_foreign}
@@ -67,7 +69,7 @@ use Rattle.wef_safety.proofs.CollectorSteps.{at_collector_any, committed_both}
 use Rattle.wef_safety.proofs.Growing.{RowsGrow, same_rows}
 use Rattle.wef_safety.proofs.SourceSteps.{at_source_any}
 use Rattle.wef_safety.proofs.RowMoves.{adding_grows, ending_grows, taking_grows}
-use Rattle.wef_promises.proofs.Leases.{leasing_aside, noting_aside}
+use Rattle.wef_promises.proofs.OtherRows.{hearing_aside, leasing_aside, noting_aside}
 use Rattle.wef_promises.specs.Laws.{BookmarksNeverFall, SubscriptionsStay}
 
 abbrev Lasts : State → State → Type 0
@@ -142,16 +144,42 @@ answered : (old new : State) (answer : Option Message) → Lasts old new → Las
 answered old new None h = h
 answered old new (Some message) h = h
 
+-- what is taken and answered lasts where what the call leaves does
+answers_last : (state : State) (effect : calls.Effect FaultName) (ack : Bool) (s : List ℕ) (id relates : MessageId) → Lasts state (with_call state effect) →
+    Lasts state (answers_by state effect ack s id relates)
+answers_last state effect ack s id relates h = answered state (with_call state effect) (answer_with state effect ack s id relates) h
+
 events_last : (s : List ℕ) (delivery : Delivery) (memory : Memory) (state : State) → Lasts state (events_at s delivery memory state)
 events_last s delivery memory state =
-    answered state (with_call state (delivery_effect state.collector.rows delivery state.moment))
-    (answer_with state (delivery_effect state.collector.rows delivery state.moment) s (reply_id memory) delivery)
+    answers_last state (delivery_effect state.collector.rows delivery state.moment) delivery.batch.ack_wanted s (reply_id memory) delivery.id
     (by (subscription_in delivery.notify_to) (source_in delivery.notify_to))
   where
-    by : (u r : Option (List ℕ)) → Lasts state (with_call state (effect_at state.collector.rows u r delivery.batch state.moment))
+    by : (u r : Option (List ℕ)) → Lasts state (with_call state (effect_at state.collector.rows u r (λ v w. batch_effect state.collector.rows v w delivery.batch state.moment)))
     by None r = as_it_is state
     by (Some u) None = as_it_is state
     by (Some u) (Some r) = batch_lasts u r delivery.batch state
+
+-- ---- heartbeats, of which a row beside subscriptions and bookmarks is kept
+
+heard_lasts : (u s : List ℕ) (state : State) → Lasts state (with_call state (heard_effect state.collector.rows u s state.moment))
+heard_lasts u s state = by (standing state.collector.rows u)
+  where
+    by : (found : Standing) → Lasts state (with_call state (heard_effect_by state.collector.rows u s state.moment found))
+    by stands.Unknown = as_it_is state
+    by (stands.Ended about) = as_it_is state
+    by (stands.Live about) =
+        let rows = state.collector.rows in
+        let changes = heard_changes rows u s state.moment in
+        commit_lasts state.collector.armed changes rows (grows_aside (applied changes rows) rows (hearing_aside rows u s state.moment))
+
+beat_lasts : (s : List ℕ) (beat : Heartbeat) (memory : Memory) (state : State) → Lasts state (beat_at s beat memory state)
+beat_lasts s beat memory state =
+    answers_last state (beat_effect state.collector.rows beat state.moment) true s (reply_id memory) beat.id (by (subscription_in beat.notify_to) (source_in beat.notify_to))
+  where
+    by : (u r : Option (List ℕ)) → Lasts state (with_call state (effect_at state.collector.rows u r (λ v w. heard_effect state.collector.rows v w state.moment)))
+    by None r = as_it_is state
+    by (Some u) None = as_it_is state
+    by (Some u) (Some r) = heard_lasts u r state
 
 -- ---- leases, which stand beside subscriptions and bookmarks
 
@@ -178,8 +206,7 @@ response_lasts relates answer memory state = by_waiting (waiting_for memory rela
 
 note_lasts : (s : List ℕ) (note : EndNote) (memory : Memory) (state : State) → Lasts state (note_at s note memory state)
 note_lasts s note memory state =
-    answered state (with_call state (note_effect state.collector.rows note)) (note_answer state (note_effect state.collector.rows note) s (reply_id memory) note.id)
-    (by_address (subscription_in note.end_to) (source_in note.end_to))
+    answers_last state (note_effect state.collector.rows note) false s (reply_id memory) note.id (by_address (subscription_in note.end_to) (source_in note.end_to))
   where
     by_standing : (u r : List ℕ) (known : Bool) → Lasts state (with_call state (ended_effect_by state.collector.rows u r note.identifier known))
     by_standing u r true =
@@ -222,7 +249,8 @@ poll_leaves s u now slot end = by (session_of end.sessions u)
     by None = as_it_is now
     by (Some session) =
         either_lasts now (has_expired now.moment session) _ _ (as_it_is now)
-        (either_lasts now (machine.is_idle slot.place.rows session) _ _ (as_it_is now) (either_lasts now (machine.is_spent end) _ _ (as_it_is now) (as_it_is now)))
+        (either_lasts now (machine.is_idle now.moment slot.place.rows session) _ _ (as_it_is now)
+        (either_lasts now (machine.is_spent end) _ _ (as_it_is now) (either_lasts now (machine.has_caught_up slot.place.rows session) _ _ (as_it_is now) (as_it_is now))))
 
 answer_lasts : (s : List ℕ) (relates : MessageId) (old new : State) (answer : Option (MessageId × Response)) → Lasts old new → Lasts old (with_sent new (option_map (response_message s relates) answer))
 answer_lasts s relates old new None h = h
@@ -243,6 +271,7 @@ taken_lasts : (state : State) (message : Message) → Lasts state (taken_by stat
 taken_lasts state (sent.Ask s id) = at_collector_lasts state (offers_at s id) (λ memory now. as_it_is now)
 taken_lasts state (sent.Offers s id relates given) = at_source_lasts state s (end_at s (λ end. after_offers end relates given state.moment)) (λ now slot end. as_it_is now)
 taken_lasts state (sent.Events s delivery) = at_collector_lasts state (events_at s delivery) (events_last s delivery)
+taken_lasts state (sent.Beat s beat) = at_collector_lasts state (beat_at s beat) (beat_lasts s beat)
 taken_lasts state (sent.Ack s id relates) = at_source_lasts state s (end_at s (λ end. after_ack end relates)) (λ now slot end. as_it_is now)
 taken_lasts state (sent.Fault s id relates fault) = at_source_lasts state s (end_at s (λ end. after_fault end relates fault)) (λ now slot end. as_it_is now)
 taken_lasts state (sent.Request s id identifier asks) = at_source_lasts state s (responds_at s id identifier asks) (responds_leave s id identifier asks)
@@ -290,6 +319,7 @@ lasts state (Stop end after) = arm_lasts state end (record { after = after; stop
 lasts state Calm = as_it_is state
 lasts state Show = at_collector_lasts state (λ memory. unchanged) (λ memory now. as_it_is now)
 lasts state (Print u s c) = at_collector_lasts state (λ memory. unchanged) (λ memory now. as_it_is now)
+lasts state (Status u) = at_collector_lasts state (λ memory. unchanged) (λ memory now. as_it_is now)
 lasts state (Tick milliseconds) = as_it_is state
 
 pub subscriptions_stay : SubscriptionsStay

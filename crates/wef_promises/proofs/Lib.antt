@@ -2,5 +2,5 @@ pub mod Admitted
 pub mod Drawn
 pub mod Given
 pub mod Lasting
-pub mod Leases
+pub mod OtherRows
 pub mod Risen

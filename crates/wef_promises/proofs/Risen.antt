@@ -33,6 +33,7 @@ use Rattle.wef_front_source.specs.declared.hearing.Wants.{Wants as Managing}
 use Rattle.wef_front_source.specs.declared.hearing.Wants.TheVariants as managing
 use Rattle.wef_front_source.specs.declared.saying.Said.{Said}
 use Rattle.wef_front_source.specs.declared.saying.Said.TheVariants as said
+use Rattle.wef_heartbeat.specs.declared.messages.Heartbeat.{Heartbeat}
 use Rattle.wef_ids.specs.IdTexts.{id_of_value}
 use Rattle.wef_ids.specs.Ids.{ids_agree}
 use Rattle.wef_ids.specs.declared.FaultName.{FaultName}
@@ -50,13 +51,14 @@ use Rattle.wef_query.specs.Selected.{channels_of}
 use Rattle.wef_replay_values.specs.declared.end_name.EndName.{EndName}
 use Rattle.wef_replay_values.specs.declared.end_name.EndName.TheVariants as ends
 use Rattle.wef_replay.specs.declared.lines.Line.{Line}
-use Rattle.wef_replay.specs.declared.lines.Line.TheVariants.{Subscribe, SubscribeAt, End, Batch, Source, Write, WriteXml, Ask, Poll, Deliver, Back, Request, Forget, Lost, Shut, Crash, Fail, Stop, Calm, Show, Print, Tick}
+use Rattle.wef_replay.specs.declared.lines.Line.TheVariants.{Subscribe, SubscribeAt, End, Batch, Source, Write, WriteXml, Ask, Poll, Deliver, Back, Request, Forget, Lost, Shut, Crash, Fail, Stop, Calm, Show, Print, Status, Tick}
 use Rattle.wef_building.proofs.Built.{SaysAbove, built_above}
+use Rattle.wef_source.proofs.Acknowledging.{joined_with_none}
 use Rattle.wef_source.proofs.InOrder.{alone_of_name}
 use Rattle.wef_source.specs.Answers.{waiting_for}
 use Rattle.wef_building.specs.Building.{built}
 use Rattle.wef_source.specs.Machine.{End as Memory}
-use Rattle.wef_source.specs.Machine.{acknowledged_in, adopted, asked, delivery_of, drawn_in, end_notes, is_idle, is_spent, is_unreachable, lease_of, lost_in, next_id, refused_in, sent as sent_by, shut_in, start_of}
+use Rattle.wef_source.specs.Machine.{acknowledged_in, adopted, asked, beat_of, beaten, delivery_of, drawn_in, end_notes, has_caught_up, is_idle, is_spent, is_unreachable, lease_of, lost_in, next_id, refused_in, sent as sent_by, sent_to, shut_in, start_of}
 use Rattle.wef_source.specs.Sessions.{acknowledged, has_expired, is_asked_for, is_leased, is_leased_as, is_named, is_outstanding, moved_by, prolonged, sending, session_from, session_leased, session_of, settled, waits_for, with_changed, with_channels, with_offered, with_offers, without}
 use Rattle.wef_source.specs.declared.messages.Delivery.{Delivery}
 use Rattle.wef_source.specs.declared.messages.EndNote.{EndNote}
@@ -66,12 +68,12 @@ use Rattle.wef_source_log.specs.Answers.{is_boot_full, next_text, start_effect, 
 use Rattle.wef_source_log.specs.LogWindow.{boot_of, start_changes}
 use Rattle.wef_source_log.specs.declared.faults.LogFault.{LogFault}
 use Rattle.wef_source_log.specs.declared.faults.LogFault.TheVariants as log_faults
-use Rattle.wef_machine.specs.Answering.{with_answer}
+use Rattle.wef_machine.specs.Answering.{answer_by, answers_by, with_answer}
 use Rattle.wef_machine.specs.Arming.{fate, is_done, is_stopped}
 use Rattle.wef_machine.specs.Collecting as collecting
 use Rattle.wef_machine.specs.Collecting.{at_collector, draws, reply_id, with_reply}
-use Rattle.wef_machine.specs.Deliveries.{BatchEffect, acknowledged_by, after_ack, after_fault, after_offers, answer_by, deliver_message, deliver_step, delivery_effect, end_at, events_at, events_by, message_at, number_back, offers_at, refused_by, taken_by}
-use Rattle.wef_machine.specs.Leasing.{forget_at, is_short, note_answer_by, note_at, note_by, note_effect, request_at, request_by, request_done, request_message, request_said, responded, responds_at, response_at, response_by, response_effect, response_message, shut_at, shut_step, with_sent}
+use Rattle.wef_machine.specs.Deliveries.{acknowledged_by, after_ack, after_fault, after_offers, beat_at, beat_effect, deliver_message, deliver_step, delivery_effect, end_at, events_at, message_at, number_back, offers_at, refused_by, taken_by}
+use Rattle.wef_machine.specs.Leasing.{forget_at, is_short, note_at, note_effect, request_at, request_by, request_done, request_message, request_said, responded, responds_at, response_at, response_by, response_effect, response_message, shut_at, shut_step, with_sent}
 use Rattle.wef_requests.specs.Requests.{meant}
 use Rattle.wef_safety.specs.Kept.{IsAckKept, IsAskedFor, IsHeld, IsKept, IsServed, WaitsFor, WasDrawn}
 use Rattle.wef_machine.specs.Places.{Place, armed_with, commits, crashed, opened_by, starts}
@@ -92,7 +94,7 @@ use Rattle.wef_pairs.proofs.Numbered.{lt_is, not_below}
 use Rattle.wef_safety.proofs.Offering.{BeginsAtRows, all_begin}
 use Rattle.wef_safety.proofs.Sent.{all_map, sent_by_number, sent_either, sent_last, sent_mapped, sent_only}
 use Rattle.wef_safety.proofs.Sessions.{acknowledged_message, all_changed, all_filtered, all_with_session, all_without, equal_numbers, first_is, with_channels_number}
-use Rattle.wef_safety.proofs.SourceSteps.{at_source_any, running_is, running_with, session_within, with_opened_kept}
+use Rattle.wef_safety.proofs.SourceSteps.{at_source_any, running_is, running_with, session_served, session_within, with_opened_kept}
 use Rattle.wef_safety.proofs.Steps.{of_declared, start_is_kept, steps_keep}
 use Rattle.wef_promises.specs.Rising.{AreAllRisen, BeginsAt, BodyBeginsAt, HasBegun, HasRisen, IsAbove, IsAlone, IsMessageRisen, IsSentRisen, SessionsRise, StandsAt, Wishes, delivered, pasts_from, state_after}
 
@@ -272,6 +274,17 @@ above_is b c batch says = record {
   ranges = λ n e. lies_above b n (nat_lt b n) refl (λ low. not_both e (says.no_range n low));
 }
 
+-- a session that sends a message under the next id, which reads so far, stays where it stands
+sends_stand : (past : List Line) (line : Line) (now : State) (s : List ℕ) (slot : Slot) (end : Memory) (session : Session) (m : Message) (to : Marks) → Stands past line now →
+    slot_of now s ≡ Some slot → slot.place.memory ≡ Some end → IsSentRisen past m → Stands past line (with_message (with_end now s slot (sent_to end session.name to now.moment)) m)
+sends_stand past line now s slot end session m to stands there runs is =
+    let new : Memory = sent_to end session.name to now.moment in
+    message_moves past line (with_end now s slot new) m
+    (end_moves past line now s slot new stands
+    (all_changed (OfSession (HasRisen (line ∷ past)) s) (is_named session.name)
+    (sending (record { id = next_id end; to = to }) now.moment) (λ x passes h. h) end.sessions
+    (end_is (HasRisen (line ∷ past)) now s slot end stands.sessions there runs))) is
+
 sent_stands : Lower → (past : List Line) (line : Line) (now : State) (s u : List ℕ) (slot : Slot) (end : Memory) (session : Session) → AreAllRisen past → IsKept now →
     IsStill (state_after past) now → Stands past line now → slot_of now s ≡ Some slot → slot.place.memory ≡ Some end → session_of end.sessions u ≡ Some session →
     Stands past line (with_message (with_end now s slot (sent_by slot.place.rows end session now.moment)) (sent.Events s (delivery_of slot.place.rows end session)))
@@ -280,17 +293,11 @@ sent_stands lower past line now s u slot end session all kept still stands there
     let is = running_is now s slot end source runs in
     let boot = is.0.boot in
     let some = is.1 in
-    let served = first_is (IsServed now.collector.rows now.messages s) (is_named u) end.sessions session found is.0.sessions in
+    let served = session_served now s u slot end session kept there runs found in
     let stood = first_is (OfSession (StandsAt (state_after past)) s) (is_named u) end.sessions session found
     (end_is (StandsAt (state_after past)) now s slot end still.sessions there runs) in
-    let m : Message = sent.Events s (delivery_of slot.place.rows end session) in
     let reads = lower.log_reads slot.place.rows slot.histories slot.capacity (boot_of slot.place.rows) (omega arith) source.window in
-    let new : Memory = sent_by slot.place.rows end session now.moment in
-    message_moves past line (with_end now s slot new) m
-    (end_moves past line now s slot new stands
-    (all_changed (OfSession (HasRisen (line ∷ past)) s) (is_named session.name)
-    (sending (record { id = next_id end; to = (built slot.place.rows session).to }) now.moment) (λ x passes h. h) end.sessions
-    (end_is (HasRisen (line ∷ past)) now s slot end stands.sessions there runs)))
+    sends_stand past line now s slot end session (sent.Events s (delivery_of slot.place.rows end session)) (built slot.place.rows session).to stands there runs
     (record {
       u = session.name;
       to_subscription = served.terms.to_subscription;
@@ -310,10 +317,15 @@ poll_stands lower past line s u kept all = at_source_stands lower past line s (p
         (o : Option Session) → session_of end.sessions u ≡ o → Stands past line (poll_in s now slot end o)
     by_session now slot end kept_now still stands there runs None found = stands
     by_session now slot end kept_now still stands there runs (Some session) found =
+        let beats : State = with_message (with_end now s slot (beaten end session now.moment)) (sent.Beat s (beat_of end session)) in
         let sends : State = with_message (with_end now s slot (sent_by slot.place.rows end session now.moment)) (sent.Events s (delivery_of slot.place.rows end session)) in
-        cond_both (has_expired now.moment session) now (cond (is_idle slot.place.rows session) now (cond (is_spent end) now sends)) (Stands past line) (λ over. stands)
-        (λ on. cond_both (is_idle slot.place.rows session) now (cond (is_spent end) now sends) (Stands past line) (λ idle. stands)
-        (λ some. cond_both (is_spent end) now sends (Stands past line) (λ spent. stands) (λ left. sent_stands lower past line now s u slot end session all kept_now still stands there runs found)))
+        let says : State = cond (has_caught_up slot.place.rows session) beats sends in
+        cond_both (has_expired now.moment session) now (cond (is_idle now.moment slot.place.rows session) now (cond (is_spent end) now says)) (Stands past line) (λ over. stands)
+        (λ on. cond_both (is_idle now.moment slot.place.rows session) now (cond (is_spent end) now says) (Stands past line) (λ idle. stands)
+        (λ some. cond_both (is_spent end) now says (Stands past line) (λ spent. stands)
+        (λ left. cond_both (has_caught_up slot.place.rows session) beats sends (Stands past line)
+        (λ caught. sends_stand past line now s slot end session (sent.Beat s (beat_of end session)) finite.empty stands there runs tt)
+        (λ more. sent_stands lower past line now s u slot end session all kept_now still stands there runs found))))
 
 -- what ends a session's waiting leaves it where it stands
 settled_stand : (past : List Line) (line : Line) (now : State) (s : List ℕ) (slot : Slot) (end : Memory) (test : Session → Bool) → Stands past line now → slot_of now s ≡ Some slot → slot.place.memory ≡ Some end →
@@ -366,7 +378,7 @@ all_moved P Q test change same moves (x ∷ ss) all = by_test (test x) refl (all
     by_test true is rest = (moves x is all.0, all_map P Q same ss all.1)
     by_test false is rest = (same x all.0, rest)
 
--- an acknowledgement of what a session waits for raises it
+-- an acknowledgement of what a session waits for raises it, where that is a batch
 acknowledged_risen : (past : List Line) (line : Line) (now : State) (s : List ℕ) (reply relates : MessageId) (id : ℕ) (session : Session) → AreAllRisen past → IsKept now →
     now.messages ≡ (state_after past).messages → delivered line (state_after past) ≡ Some (sent.Ack s reply relates) → WasSent now.messages (sent.Ack s reply relates) →
     relates.value ≡ Some id → waits_for id session ≡ true → ServedThere (state_after past) now s session → HasRisen (line ∷ past) (acknowledged session).name s (acknowledged session).positions
@@ -394,6 +406,10 @@ acknowledged_risen past line now s reply relates id session all kept same delive
             is_there = ap (λ (x : List ℕ × Marks). joined session.positions x.1) (sym both_same);
           }),
         )
+    by_message (sent.Beat r beat) to was_sent from own reads =
+        let both_same = same_Some (beat.notify_to, finite.empty) (session.notify_to, to) reads in
+        let same_place = sym (joined_with_none session.positions) ∙ ap (λ (x : List ℕ × Marks). joined session.positions x.1) both_same in
+        subst (HasRisen (line ∷ past) session.name s) same_place (stays past line all session.name s session.positions both.1)
     by_message (sent.Ack r i related) to was_sent from own reads = absurd (none-some (session.notify_to, to) reads)
     by_message (sent.Fault r i related fault) to was_sent from own reads = absurd (none-some (session.notify_to, to) reads)
     by_message (sent.Request r i identifier asks) to was_sent from own reads = absurd (none-some (session.notify_to, to) reads)
@@ -583,23 +599,31 @@ asked_stands lower past line s id kept stands was =
     (all_map (BeginsAtRows now.collector.rows s) (λ (offer : Offer). BeginsAt (state_after past) s offer.subscribe) (λ offer begins u leads. begins u leads ∙ opened_bookmark (state_after past) u s)
     (offers now.collector.rows s host) (all_begin now.collector.rows s host kept_now.keys (kept_now.sources s slot there).name))))
 
+-- what is taken of a source, and answered, changes no session, and tells of none
+answers_stand : (past : List Line) (line : Line) (now : State) (effect : Effect FaultName) (ack : Bool) (s : List ℕ) (id relates : MessageId) → Stands past line now →
+    Stands past line (answers_by now effect ack s id relates)
+answers_stand past line now (Err fault) ack s id relates stands = reply_stands past line now 1 (sent.Fault s id relates fault) stands tt
+answers_stand past line now (Ok changes) ack s id relates stands = by_fate (fate now.collector.armed changes)
+  where
+    by_fate : (how : Fate) → Stands past line (with_answer (with_collector now (commits now.collector changes)) (answer_by how ack s id relates))
+    by_fate Stopped = stands
+    by_fate Failed = reply_stands past line (with_collector now (commits now.collector changes)) 1 (sent.Fault s id relates InternalError) stands tt
+    by_fate Done =
+        let new : State = with_collector now (commits now.collector changes) in
+        cond_both ack (Some (sent.Ack s id relates)) None (λ (answer : Option Message). Stands past line (with_answer new answer))
+        (λ _. reply_stands past line new 1 (sent.Ack s id relates) stands tt) (λ _. stands)
+
 events_stand : (past : List Line) (line : Line) (s : List ℕ) (delivery : Delivery) → Stands past line (state_after past) → Stands past line (at_collector (state_after past) (events_at s delivery))
 events_stand past line s delivery stands =
-    at_collector_any (state_after past) (events_at s delivery) (Stands past line) stands
-    (λ memory runs. by_effect memory (delivery_effect (collecting.with_opened (state_after past)).collector.rows delivery (state_after past).moment))
-  where
-    by_fate : (memory : Remembered) (new : State) → Stands past line new → (how : Fate) → Stands past line (with_answer new (answer_by how s (reply_id memory) delivery))
-    by_fate memory new now Stopped = now
-    by_fate memory new now Failed = reply_stands past line new 1 (sent.Fault s (reply_id memory) delivery.id InternalError) now tt
-    by_fate memory new now Done =
-        cond_both delivery.batch.ack_wanted (Some (sent.Ack s (reply_id memory) delivery.id)) None (λ (answer : Option Message). Stands past line (with_answer new answer))
-        (λ _. reply_stands past line new 1 (sent.Ack s (reply_id memory) delivery.id) now tt) (λ _. now)
+    at_collector_any (state_after past) (events_at s delivery) (Stands past line) stands (λ memory runs.
+    let now = collecting.with_opened (state_after past) in
+    answers_stand past line now (delivery_effect now.collector.rows delivery now.moment) delivery.batch.ack_wanted s (reply_id memory) delivery.id stands)
 
-    by_effect : (memory : Remembered) (effect : BatchEffect) → Stands past line (events_by (collecting.with_opened (state_after past)) effect s (reply_id memory) delivery)
-    by_effect memory (Err fault) = reply_stands past line (collecting.with_opened (state_after past)) 1 (sent.Fault s (reply_id memory) delivery.id fault) stands tt
-    by_effect memory (Ok changes) =
-        let opened = collecting.with_opened (state_after past) in
-        by_fate memory (with_collector opened (commits opened.collector changes)) stands (fate opened.collector.armed changes)
+beat_stands : (past : List Line) (line : Line) (s : List ℕ) (beat : Heartbeat) → Stands past line (state_after past) → Stands past line (at_collector (state_after past) (beat_at s beat))
+beat_stands past line s beat stands =
+    at_collector_any (state_after past) (beat_at s beat) (Stands past line) stands (λ memory runs.
+    let now = collecting.with_opened (state_after past) in
+    answers_stand past line now (beat_effect now.collector.rows beat now.moment) true s (reply_id memory) beat.id stands)
 
 -- the wish of a subscription to a source begins at what is kept of both
 wish_from : (past : List Line) (rows : Rows) (s : List ℕ) (about : Subscription) (wants : Wants) → ((u : List ℕ) → bookmark_of rows u s ≡ bookmark_of (state_after past).collector.rows u s) →
@@ -642,22 +666,11 @@ response_stands past line relates answer stands =
     by_effect (Ok changes) = stands
     by_effect (Err fault) = stands
 
--- nor does the end of a session, but for a fault that answers it
 note_stands : (past : List Line) (line : Line) (s : List ℕ) (note : EndNote) → Stands past line (state_after past) → Stands past line (at_collector (state_after past) (note_at s note))
 note_stands past line s note stands =
-    at_collector_any (state_after past) (note_at s note) (Stands past line) stands
-    (λ memory runs. by_effect memory (note_effect (collecting.with_opened (state_after past)).collector.rows note))
-  where
-    by_fate : (memory : Remembered) (new : State) → Stands past line new → (how : Fate) → Stands past line (with_answer new (note_answer_by how s (reply_id memory) note.id))
-    by_fate memory new now Done = now
-    by_fate memory new now Failed = reply_stands past line new 1 (sent.Fault s (reply_id memory) note.id InternalError) now tt
-    by_fate memory new now Stopped = now
-
-    by_effect : (memory : Remembered) (effect : Effect FaultName) → Stands past line (note_by (collecting.with_opened (state_after past)) effect s (reply_id memory) note.id)
-    by_effect memory (Err fault) = reply_stands past line (collecting.with_opened (state_after past)) 1 (sent.Fault s (reply_id memory) note.id fault) stands tt
-    by_effect memory (Ok changes) =
-        let opened = collecting.with_opened (state_after past) in
-        by_fate memory (with_collector opened (commits opened.collector changes)) stands (fate opened.collector.armed changes)
+    at_collector_any (state_after past) (note_at s note) (Stands past line) stands (λ memory runs.
+    let now = collecting.with_opened (state_after past) in
+    answers_stand past line now (note_effect now.collector.rows note) false s (reply_id memory) note.id stands)
 
 -- ---- lines
 
@@ -666,6 +679,7 @@ taken_stands : Lower → (past : List Line) (line : Line) (m : Message) → IsKe
 taken_stands lower past line (sent.Ask s id) kept all stands delivers was = asked_stands lower past line s id kept stands was
 taken_stands lower past line (sent.Offers s id relates given) kept all stands delivers was = offers_stand lower past line s id relates given kept all delivers (all.sent (sent.Offers s id relates given) was)
 taken_stands lower past line (sent.Events s delivery) kept all stands delivers was = events_stand past line s delivery stands
+taken_stands lower past line (sent.Beat s beat) kept all stands delivers was = beat_stands past line s beat stands
 taken_stands lower past line (sent.Ack s id relates) kept all stands delivers was = ack_stands lower past line s id relates kept all delivers was
 taken_stands lower past line (sent.Fault s id relates fault) kept all stands delivers was = fault_stands lower past line s relates fault kept all
 taken_stands lower past line (sent.Request s id identifier asks) kept all stands delivers was =
@@ -735,6 +749,7 @@ step_stands lower past line (Stop end after) kept kept_now all stands delivers =
 step_stands lower past line Calm kept kept_now all stands delivers = calm_stands past line stands
 step_stands lower past line Show kept kept_now all stands delivers = at_collector_any (state_after past) (λ memory. unchanged) (Stands past line) stands (λ memory runs. stands)
 step_stands lower past line (Print u s c) kept kept_now all stands delivers = at_collector_any (state_after past) (λ memory. unchanged) (Stands past line) stands (λ memory runs. stands)
+step_stands lower past line (Status u) kept kept_now all stands delivers = at_collector_any (state_after past) (λ memory. unchanged) (Stands past line) stands (λ memory runs. stands)
 step_stands lower past line (Tick milliseconds) kept kept_now all stands delivers = stands
 
 -- ---- schedules

@@ -7,13 +7,14 @@ use Rattle.wef_safety.specs.Kept.{AreInOrder, IsDrawnBefore}
 use Rattle.wef_machine.specs.States.{State, start}
 use Rattle.wef_machine.specs.Steps.{AreAdmitted, states}
 use Rattle.wef_machine.specs.declared.messages.Message.{Message}
-use Rattle.wef_machine.specs.declared.messages.Message.TheVariants.{Ask, Offers, Events, Ack, Fault, Request, Response, Ended}
+use Rattle.wef_machine.specs.declared.messages.Message.TheVariants.{Ask, Offers, Events, Beat, Ack, Fault, Request, Response, Ended}
 
 -- the value of the id that the collector drew for a reply, or for a request of its own
 abbrev pub reply_of : Message → Option ℕ
 reply_of (Ask s id) = None
 reply_of (Offers s id relates offers) = id.value
 reply_of (Events s delivery) = None
+reply_of (Beat s beat) = None
 reply_of (Ack s id relates) = id.value
 reply_of (Fault s id relates fault) = id.value
 reply_of (Request s id identifier asks) = id.value

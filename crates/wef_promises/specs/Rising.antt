@@ -25,7 +25,7 @@ use Rattle.wef_safety.specs.Safe.{WasSent}
 use Rattle.wef_machine.specs.States.{Slot, State, slot_of, start}
 use Rattle.wef_machine.specs.Steps.{AreAdmitted, step}
 use Rattle.wef_machine.specs.declared.messages.Message.{Message}
-use Rattle.wef_machine.specs.declared.messages.Message.TheVariants.{Ask, Offers, Events, Ack, Fault, Request, Response, Ended}
+use Rattle.wef_machine.specs.declared.messages.Message.TheVariants.{Ask, Offers, Events, Beat, Ack, Fault, Request, Response, Ended}
 
 -- the state that lines leave
 abbrev pub state_after : List Line → State
@@ -138,6 +138,7 @@ abbrev pub IsSentRisen : List Line → Message → Type 0
 IsSentRisen earlier (Ask s id) = Unit {0}
 IsSentRisen earlier (Offers s id relates offers) = AllByRecursion (λ (offer : Offer). BeginsAt (state_after earlier) s offer.subscribe) offers
 IsSentRisen earlier (Events s delivery) = StandsAbove earlier s delivery
+IsSentRisen earlier (Beat s beat) = Unit {0}
 IsSentRisen earlier (Ack s id relates) = Unit {0}
 IsSentRisen earlier (Fault s id relates fault) = Unit {0}
 IsSentRisen earlier (Request s id identifier asks) = BodyBeginsAt (state_after earlier) s asks

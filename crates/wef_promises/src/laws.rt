@@ -2,14 +2,15 @@
 
 ghost use Rattle.wef_promises.specs.Admitting.{GoodLinesAreAdmitted};
 ghost use Rattle.wef_promises.specs.Drawing.{ReplyIdsRise, RequestIdsRise};
-ghost use Rattle.wef_promises.specs.Laws.{AcknowledgementIsGiven, BookmarksNeverFall, DeliveriesAreAcknowledged, SubscriptionsStay};
+ghost use Rattle.wef_promises.specs.Laws.{AcknowledgementIsGiven, BookmarksNeverFall, DeliveriesAreAcknowledged, HeartbeatsAreAcknowledged, SubscriptionsStay};
 ghost use Rattle.wef_promises.specs.Rising.{SessionsRise};
 
 /// A well-formed batch for a live subscription that asks for an acknowledgement gets it, unless its
-/// commit is arranged to fail.
+/// commit is arranged to fail; and so does a heartbeat.
 pub fn acknowledgement()
     ensures batch { AcknowledgementIsGiven }
     ensures delivery { DeliveriesAreAcknowledged }
+    ensures beat { HeartbeatsAreAcknowledged }
 {}
 
 /// Whatever a good schedule does, no end draws an id twice: the ids of each source's requests, and those

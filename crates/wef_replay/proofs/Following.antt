@@ -10,7 +10,7 @@ use Rattle.wef_replay.specs.Good.{Names, allows, has_end, noted}
 use Rattle.wef_replay.specs.Grammar.{meaning}
 use Rattle.wef_replay.specs.Schedule.{first_bad, if_allowed, lines_of, meaning_after, noted_if_some, with_line}
 use Rattle.wef_replay.specs.declared.lines.Line.{Line}
-use Rattle.wef_replay.specs.declared.lines.Line.TheVariants.{Subscribe, SubscribeAt, End, Batch, Source, Write, WriteXml, Ask, Poll, Deliver, Back, Request, Forget, Lost, Shut, Show, Print, Crash, Fail, Stop, Calm, Tick}
+use Rattle.wef_replay.specs.declared.lines.Line.TheVariants.{Subscribe, SubscribeAt, End, Batch, Source, Write, WriteXml, Ask, Poll, Deliver, Back, Request, Forget, Lost, Shut, Show, Print, Status, Crash, Fail, Stop, Calm, Tick}
 
 -- ---- one text
 
@@ -55,6 +55,7 @@ alike_noted (Lost s u) a b alike = alike
 alike_noted (Shut s) a b alike = alike
 alike_noted Show a b alike = alike
 alike_noted (Print u s c) a b alike = alike
+alike_noted (Status u) a b alike = alike
 alike_noted (Crash e) a b alike = alike
 alike_noted (Fail e after) a b alike = alike
 alike_noted (Stop e after) a b alike = alike
@@ -87,6 +88,7 @@ allows-alike (Lost s u) a b alike = alike.declared s
 allows-alike (Shut s) a b alike = alike.declared s
 allows-alike Show a b alike = refl
 allows-alike (Print u s c) a b alike = refl
+allows-alike (Status u) a b alike = refl
 allows-alike (Crash e) a b alike = has_end-alike e a b alike
 allows-alike (Fail e after) a b alike = has_end-alike e a b alike
 allows-alike (Stop e after) a b alike = has_end-alike e a b alike

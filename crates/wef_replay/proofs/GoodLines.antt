@@ -22,10 +22,10 @@ use Rattle.wef_replay_values.specs.declared.end_name.EndName.TheVariants as end
 use Rattle.wef_replay.specs.BatchWords.{empty_batch, read_words}
 use Rattle.wef_lines.specs.Documents.{new_event_in}
 use Rattle.wef_replay.specs.Good.{are_limits, are_queries, fits_always, may_be_written, is_between, is_channel, is_count, is_end, is_line, is_no_collector, is_query, is_query_text, is_source, is_subscription}
-use Rattle.wef_replay.specs.Grammar.{all_of, batch_line, calm_line, collector_line_of, commit_words, crash_line, deliver_line, does_nothing, end_line, event_if_xml, event_words, failure_line_of, fitting_event, forget_line, if_fits, limit_words, line_of_words, meaning, message_line_of, only_number_words, only_source_words, other_line, pair_words, print_line, query_words, request_line, seen_words, show_line, source_line, source_line_of, subscribe_at_line, subscribe_line, write_line, write_xml_line, xml_event_words}
+use Rattle.wef_replay.specs.Grammar.{all_of, batch_line, calm_line, collector_line_of, commit_words, crash_line, deliver_line, does_nothing, event_if_xml, event_words, failure_line_of, fitting_event, forget_line, if_fits, limit_words, line_of_words, meaning, message_line_of, only_number_words, only_source_words, only_subscription_words, other_line, pair_words, print_line, query_words, request_line, seen_words, show_line, source_line, source_line_of, subscribe_at_line, subscribe_line, write_line, write_xml_line, xml_event_words}
 use Rattle.wef_replay.specs.PlainEvents.{HasPlainEvents}
 use Rattle.wef_replay.specs.declared.lines.Line.{Line}
-use Rattle.wef_replay.specs.declared.lines.Line.TheVariants.{Subscribe, SubscribeAt, End, Batch, Source, Write, WriteXml, Ask, Poll, Deliver, Back, Lost, Shut, Print, Crash, Fail, Stop, Tick}
+use Rattle.wef_replay.specs.declared.lines.Line.TheVariants.{Subscribe, SubscribeAt, End, Batch, Source, Write, WriteXml, Ask, Poll, Deliver, Back, Lost, Shut, Print, Status, Crash, Fail, Stop, Tick}
 use Rattle.wef_replay.proofs.Gifts.{AllOf, all_of-if, all_of-map, all_of-tested, all_of-then}
 use Rattle.wef_replay.proofs.GoodBatches.{good-batch_words}
 use Rattle.wef_replay.proofs.GoodNames.{decoded_is_text, good-channel, good-sending_source, good-source, good-subscription}
@@ -114,10 +114,13 @@ good-subscribe_at_line (sub ∷ source ∷ items ∷ bytes ∷ beat ∷ expires 
     all_of-map _ IsGoodLine (λ query. SubscribeAt u s limits.0 limits.1 limits.2 e query) (query_words kind words) (good-query_words kind words)
     (λ query are. (λ j. is_u j && is_s j && are_limits j && is_e j && are j, tt))))))
 
-good-end_line : (words : List (List ℕ)) → AllOf IsGoodLine (end_line words)
-good-end_line [] = tt
-good-end_line (sub ∷ []) = all_of-map _ IsGoodLine (λ u. End u) (subscription_word sub) (good-subscription sub) (λ u h. (h, tt))
-good-end_line (a ∷ b ∷ more) = tt
+good-only_subscription_words : (words : List (List ℕ)) → AllOf (λ u. is_subscription u ≡ true) (only_subscription_words words)
+good-only_subscription_words [] = tt
+good-only_subscription_words (sub ∷ []) = good-subscription sub
+good-only_subscription_words (a ∷ b ∷ more) = tt
+
+good-end_line : (words : List (List ℕ)) → AllOf IsGoodLine (option_map (λ u. End u) (only_subscription_words words))
+good-end_line words = all_of-map _ IsGoodLine (λ u. End u) (only_subscription_words words) (good-only_subscription_words words) (λ u h. (h, tt))
 
 good-batch_line : (words : List (List ℕ)) → AllOf IsGoodLine (batch_line words)
 good-batch_line [] = tt
@@ -246,6 +249,9 @@ good-print_line (sub ∷ source ∷ channel ∷ []) =
     all_of-map _ IsGoodLine (λ c. Print u s c) (channel_word channel) (good-channel channel) (λ c is_c. (λ i. is_u i && is_s i && is_c i, tt))))
 good-print_line (a ∷ b ∷ c ∷ d ∷ more) = tt
 
+good-status_line : (words : List (List ℕ)) → AllOf IsGoodLine (option_map (λ u. Status u) (only_subscription_words words))
+good-status_line words = all_of-map _ IsGoodLine (λ u. Status u) (only_subscription_words words) (good-only_subscription_words words) (λ u h. (h, tt))
+
 -- ---- failures
 
 good-end_word : (word : List ℕ) → AllOf (λ e. is_end e ≡ true) (end_word word)
@@ -315,7 +321,8 @@ good-collector_line_of kind words =
     (all_of-if IsGoodLine (same kind (codes "request")) _ _ (good-request_line words)
     (all_of-if IsGoodLine (same kind (codes "forget")) _ _ (good-forget_line words)
     (all_of-if IsGoodLine (same kind (codes "show")) _ _ (good-show_line words)
-    (all_of-if IsGoodLine (same kind (codes "print")) _ _ (good-print_line words) (good-source_line_of kind words)))))))
+    (all_of-if IsGoodLine (same kind (codes "print")) _ _ (good-print_line words)
+    (all_of-if IsGoodLine (same kind (codes "status")) _ _ (good-status_line words) (good-source_line_of kind words))))))))
 
 good-other_line : (words : List (List ℕ)) → AllOf IsGoodLine (other_line words)
 good-other_line [] = tt

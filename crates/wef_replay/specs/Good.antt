@@ -32,7 +32,7 @@ use Rattle.wef_replay_values.specs.declared.end_name.EndName.{EndName}
 use Rattle.wef_replay_values.specs.declared.end_name.EndName.TheVariants as end
 use Rattle.wef_lines.specs.Documents.{is_new_event}
 use Rattle.wef_replay.specs.declared.lines.Line.{Line}
-use Rattle.wef_replay.specs.declared.lines.Line.TheVariants.{Subscribe, SubscribeAt, End, Batch, Source, Write, WriteXml, Ask, Poll, Deliver, Back, Request, Forget, Lost, Shut, Show, Print, Crash, Fail, Stop, Calm, Tick}
+use Rattle.wef_replay.specs.declared.lines.Line.TheVariants.{Subscribe, SubscribeAt, End, Batch, Source, Write, WriteXml, Ask, Poll, Deliver, Back, Request, Forget, Lost, Shut, Show, Print, Status, Crash, Fail, Stop, Calm, Tick}
 
 abbrev pub is_between : ℕ → ℕ → ℕ → Bool
 is_between least greatest number = nat_le least number && nat_le number greatest
@@ -131,6 +131,7 @@ is_line (Lost s u) = is_source s && is_subscription u
 is_line (Shut s) = is_source s
 is_line Show = true
 is_line (Print u s c) = is_subscription u && is_source s && is_channel c
+is_line (Status u) = is_subscription u
 is_line (Crash e) = is_end e
 is_line (Fail e after) = is_end e
 is_line (Stop e after) = is_end e

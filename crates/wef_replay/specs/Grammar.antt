@@ -18,6 +18,7 @@
 --     shut SOURCE
 --     show
 --     print SUB SOURCE CHANNEL
+--     status SUB
 --     crash END                                        END is the word `collector`, not percent-decoded, or a SOURCE that isn't named `collector`
 --     fail END before          fail END after
 --     stop END before          stop END after
@@ -43,7 +44,7 @@ use Rattle.wef_replay_values.specs.declared.end_name.EndName.{EndName}
 use Rattle.wef_replay.specs.BatchWords.{read_words, empty_batch}
 use Rattle.wef_lines.specs.Documents.{list_in, new_event_in}
 use Rattle.wef_replay.specs.declared.lines.Line.{Line}
-use Rattle.wef_replay.specs.declared.lines.Line.TheVariants.{Subscribe, SubscribeAt, End, Batch, Source, Write, WriteXml, Ask, Poll, Deliver, Back, Request, Forget, Lost, Shut, Show, Print, Crash, Fail, Stop, Calm, Tick}
+use Rattle.wef_replay.specs.declared.lines.Line.TheVariants.{Subscribe, SubscribeAt, End, Batch, Source, Write, WriteXml, Ask, Poll, Deliver, Back, Request, Forget, Lost, Shut, Show, Print, Status, Crash, Fail, Stop, Calm, Tick}
 
 -- the query list of `all` and channels
 abbrev pub all_of : List (List ℕ) → QueryList
@@ -73,9 +74,10 @@ subscribe_at_line (sub ∷ source ∷ items ∷ bytes ∷ beat ∷ expires ∷ k
     (query_words kind words)) (source_word source)) (subscription_word sub)) (number_word 1 LIMIT expires)) (limit_words items bytes beat)
 subscribe_at_line _ = None
 
-abbrev pub end_line : List (List ℕ) → Option Line
-end_line (sub ∷ []) = option_map (λ u. End u) (subscription_word sub)
-end_line _ = None
+-- a subscription, and nothing more
+abbrev pub only_subscription_words : List (List ℕ) → Option (List ℕ)
+only_subscription_words (sub ∷ []) = subscription_word sub
+only_subscription_words _ = None
 
 abbrev pub batch_of_source : List ℕ → List ℕ → List (List ℕ) → Option Line
 batch_of_source sub source words =
@@ -206,11 +208,12 @@ abbrev pub collector_line_of : List ℕ → List (List ℕ) → Option Line
 collector_line_of kind words =
     if same kind (codes "subscribe") then subscribe_line words
     else (if same kind (codes "subscribeat") then subscribe_at_line words
-    else (if same kind (codes "end") then end_line words
+    else (if same kind (codes "end") then option_map (λ u. End u) (only_subscription_words words)
     else (if same kind (codes "request") then request_line words
     else (if same kind (codes "forget") then forget_line words
     else (if same kind (codes "show") then show_line words
-    else (if same kind (codes "print") then print_line words else source_line_of kind words))))))
+    else (if same kind (codes "print") then print_line words
+    else (if same kind (codes "status") then option_map (λ u. Status u) (only_subscription_words words) else source_line_of kind words)))))))
 
 -- a line that is no batch, by its first word
 abbrev pub other_line : List (List ℕ) → Option Line

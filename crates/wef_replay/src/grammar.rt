@@ -4,9 +4,9 @@ ghost use Rattle.std.specs.Option.{option_map};
 ghost use Rattle.std.specs.Prelude.{◌≡◌};
 ghost use Rattle.wef_base.specs.Words.{parts};
 ghost use Rattle.wef_lines.specs.Documents.{list_in};
-ghost use Rattle.wef_replay.specs.Grammar.{all_of, batch_line, batch_of_source, calm_line, collector_line_of, commit_words, crash_line, deliver_line, does_nothing, end_line, event_words, failure_line_of, fitting_event, forget_line, limit_words, line_of_words, meaning, message_line_of, only_number_words, only_source_words, other_line, pair_words, print_line, query_words, request_line, seen_words, show_line, source_line, source_line_of, subscribe_at_line, subscribe_line, write_line, write_xml_line, xml_event_words};
+ghost use Rattle.wef_replay.specs.Grammar.{all_of, batch_line, batch_of_source, calm_line, collector_line_of, commit_words, crash_line, deliver_line, does_nothing, event_words, failure_line_of, fitting_event, forget_line, limit_words, line_of_words, meaning, message_line_of, only_number_words, only_source_words, only_subscription_words, other_line, pair_words, print_line, query_words, request_line, seen_words, show_line, source_line, source_line_of, subscribe_at_line, subscribe_line, write_line, write_xml_line, xml_event_words};
 ghost use Rattle.wef_replay.specs.Parts.{parts_behind};
-ghost use Rattle.wef_replay.specs.declared.lines.Line.TheVariants.{Ask, Back, Fail, Lost, Poll, Shut, Stop, Tick};
+ghost use Rattle.wef_replay.specs.declared.lines.Line.TheVariants.{Ask, Back, End, Fail, Lost, Poll, Shut, Status, Stop, Tick};
 ghost use Rattle.wef_replay_values.specs.Reading.{Gives};
 ghost use Rattle.wef_replay_values.specs.Values.{channel_words, joined};
 
@@ -96,6 +96,9 @@ fn collector_line_of(alloc: Global, kind: &Bytes, words: &[Bytes]) -> Result<Lin
     }
     if is_word(kind, "print") {
         return print_of(alloc, words);
+    }
+    if is_word(kind, "status") {
+        return status_of(alloc, words);
     }
     source_line_of(alloc, kind, words)
 }
@@ -249,16 +252,21 @@ fn list_of(alloc: Global, word: &Bytes, words: &[Bytes]) -> Result<QueryList, Li
     list_in(alloc, text.as_slice())?.ok_or(LineFault::NotUnderstood)
 }
 
-fn ended_of(alloc: Global, words: &[Bytes]) -> Result<Line, LineFault>
-    ensures { Gives result (end_line words.now) }
+/// A subscription, and nothing more.
+fn only_subscription_of(alloc: Global, words: &[Bytes]) -> Result<SubId, LineFault>
+    ensures { Gives result (only_subscription_words words.now) }
 {
     match words {
-        [sub] => {
-            let sub = subscription_of(alloc, sub)?;
-            Ok(Line::End { sub })
-        }
+        [sub] => subscription_of(alloc, sub),
         _ => Err(LineFault::NotUnderstood),
     }
+}
+
+fn ended_of(alloc: Global, words: &[Bytes]) -> Result<Line, LineFault>
+    ensures { Gives result (option_map (λ u. End u) (only_subscription_words words.now)) }
+{
+    let sub = only_subscription_of(alloc, words)?;
+    Ok(Line::End { sub })
 }
 
 /// The line of a batch, by the words behind its first.
@@ -516,6 +524,13 @@ fn print_of(alloc: Global, words: &[Bytes]) -> Result<Line, LineFault>
         }
         _ => Err(LineFault::NotUnderstood),
     }
+}
+
+fn status_of(alloc: Global, words: &[Bytes]) -> Result<Line, LineFault>
+    ensures { Gives result (option_map (λ u. Status u) (only_subscription_words words.now)) }
+{
+    let sub = only_subscription_of(alloc, words)?;
+    Ok(Line::Status { sub })
 }
 
 fn crash_of(alloc: Global, words: &[Bytes]) -> Result<Line, LineFault>

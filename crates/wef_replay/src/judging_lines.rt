@@ -66,6 +66,7 @@ pub fn is_line(line: &Line) -> bool
             source,
             channel,
         } => is_subscription(sub) && is_source(source) && is_channel(channel),
+        Line::Status { sub } => is_subscription(sub),
         Line::Crash { end } => is_end(end),
         Line::Fail { end, .. } => is_end(end),
         Line::Stop { end, .. } => is_end(end),

@@ -109,6 +109,11 @@ pub enum Line {
         channel: ChannelName,
     },
 
+    /// Prints which sources of a subscription are silent.
+    Status {
+        sub: SubId,
+    },
+
     /// Closes an end, which loses what it remembers.
     Crash {
         end: EndName,
@@ -184,6 +189,7 @@ impl Drop for Line {
                 source: _,
                 channel: _,
             } => {}
+            Line::Status { sub: _ } => {}
             Line::Crash { end: _ } => {}
             Line::Fail { end: _, after: _ } => {}
             Line::Stop { end: _, after: _ } => {}

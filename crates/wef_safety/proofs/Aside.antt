@@ -8,11 +8,13 @@ use Rattle.std.specs.List.{AllByRecursion, filter, filter_map}
 use Rattle.wef_collector.specs.Taken.{put}
 use Rattle.wef_collector_reports.specs.Listing.{listed, listed_of}
 use Rattle.wef_collector_rows.specs.Bookmarks.{bookmark_of, has_channel, raised_by_rows}
-use Rattle.wef_collector_rows.specs.Forms.{AreFormed}
+use Rattle.wef_collector_rows.specs.Forms.{AreFormed, is_formed}
 use Rattle.wef_collector_rows.specs.Keys.{bookmark_key, boot_key, subscription_key}
 use Rattle.wef_collector_rows.specs.Standing.{standing, standing_of}
 use Rattle.wef_eventing.specs.declared.subscriptions.Subscription.{Subscription}
 use Rattle.wef_keeper.proofs.Sections.{same_under}
+use Rattle.wef_keeper.proofs.StayFormed.{applied_formed}
+use Rattle.wef_keeper.specs.Forms.{IsPut}
 use Rattle.wef_keeper.specs.Kinds.{number_of}
 use Rattle.wef_keeper.specs.Laws.{get-unnamed}
 use Rattle.wef_keeper.specs.Rows.{Rows, applied, is_named, key_of}
@@ -28,6 +30,7 @@ use Rattle.wef_safety.specs.Kept.{IsKept, IsPairKept, IsWorldKept}
 use Rattle.wef_safety.proofs.Growing.{RowsGrow}
 use Rattle.wef_safety.proofs.Moves.{alike_pair, kept_rows}
 use Rattle.wef_safety.proofs.RowMoves.{AreRowsKept, IsChangeKept, kept_by_changes}
+use Rattle.wef_safety.proofs.Sent.{all_map}
 
 -- Each row of a subscription or a pair stands as it stood: those are the rows of the kinds up to `Loose`.
 abbrev pub AreAside : Rows → Rows → Type 0
@@ -115,3 +118,16 @@ kept_aside state rows kept aside keys formed = kept_rows state rows state.foreig
     alike_pair rows state.collector.rows u s c (subscription_at rows u) (slot_of state s) (pair_aside rows state.collector.rows u s c aside)
     (subst (λ (o : Option Subscription). IsPairKept state.collector.rows u s c o (slot_of state s)) (sym (subscription_aside rows state.collector.rows u aside)) (kept.pairs u s c apart)))
     kept.apart keys formed
+
+-- A change beside those of subscriptions and pairs leaves a row that may be kept, or none.
+pub record IsAsideKept (change : Change) : Type 0 where
+  pub aside : IsAside change
+  pub kept : IsChangeKept change
+  pub formed : IsPut is_formed change
+
+pub changes_kept : (state : State) (changes : List Change) → IsKept state → AllByRecursion IsAsideKept changes → KeptWith state (applied changes state.collector.rows)
+changes_kept state changes kept all =
+    let rows : Rows = state.collector.rows in
+    kept_aside state (applied changes rows) kept (changed_aside changes rows (all_map IsAsideKept IsAside (λ change is. is.aside) changes all))
+    (kept_by_changes changes rows (all_map IsAsideKept IsChangeKept (λ change is. is.kept) changes all) kept.keys)
+    (applied_formed is_formed changes (all_map IsAsideKept (IsPut is_formed) (λ change is. is.formed) changes all) rows kept.formed)

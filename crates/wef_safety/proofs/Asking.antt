@@ -23,13 +23,14 @@ use Rattle.wef_event.specs.Events.{Event}
 use Rattle.wef_event.specs.Unnumbered.{new_event}
 use Rattle.wef_eventing.specs.declared.subscriptions.Subscription.{Subscription}
 use Rattle.wef_front_source.specs.Replies.{answered_in as answered_by}
+use Rattle.wef_ids.specs.declared.FaultName.{FaultName}
 use Rattle.wef_ids.specs.declared.MessageId.{MessageId}
 use Rattle.wef_keeper.specs.Calls.{Effect}
-use Rattle.wef_machine.specs.Answering.{with_answer}
+use Rattle.wef_machine.specs.Answering.{answer_with, answers_by, with_answer}
 use Rattle.wef_machine.specs.Arming.{fate, is_done, is_stopped}
 use Rattle.wef_machine.specs.Collecting.{at_collector, collector_opened, draws, reply_id, with_call, with_opened}
-use Rattle.wef_machine.specs.Deliveries.{after_ack, after_fault, after_offers, answer_with, batch_effect, deliver_message, delivery_effect, end_at, events_at, message_at, number_back, offers_at, taken_by}
-use Rattle.wef_machine.specs.Leasing.{forget_at, is_short, note_answer, note_at, note_effect, request_at, request_by, request_done, request_said, responds_at, response_at, response_by, response_effect, response_sent, shut_at, waiting_no_longer, with_sent}
+use Rattle.wef_machine.specs.Deliveries.{after_ack, after_fault, after_offers, batch_effect, beat_at, beat_effect, deliver_message, delivery_effect, end_at, events_at, message_at, number_back, offers_at, taken_by}
+use Rattle.wef_machine.specs.Leasing.{forget_at, is_short, note_at, note_effect, request_at, request_by, request_done, request_said, responds_at, response_at, response_by, response_effect, response_sent, shut_at, waiting_no_longer, with_sent}
 use Rattle.wef_machine.specs.Places.{Place, after_call, armed_with, commits, crashed, opened_by, starts}
 use Rattle.wef_machine.specs.Sources.{ask_at, at_declared, at_source, lost_at, poll_at, poll_in, write_at, write_by}
 use Rattle.wef_machine.specs.States.{Collector, Slot, State, host, slot_of, with_end, with_foreign}
@@ -123,6 +124,12 @@ answer_asks : (state : State) (answer : Option Message) → IsAsking state.colle
 answer_asks state None asks = asks
 answer_asks state (Some message) asks = draws_asks 1 state.collector asks
 
+-- what it takes and answers leaves what it waits for, or stops it
+answers_ask : (state : State) (effect : Effect FaultName) (ack : Bool) (s : List ℕ) (id relates : MessageId) → IsAsking state.collector.memory →
+    IsAsking (answers_by state effect ack s id relates).collector.memory
+answers_ask state effect ack s id relates asks =
+    answer_asks (with_call state effect) (answer_with state effect ack s id relates) (called_asks state.collector effect asks)
+
 -- one request less waits
 no_longer_asks : (id : Option ℕ) (place : Collector) → IsAsking place.memory → IsAsking (waiting_no_longer id place).memory
 no_longer_asks id place asks = by place.memory asks
@@ -186,7 +193,8 @@ poll_beside s u now slot end = by (session_of end.sessions u)
     by None = refl
     by (Some session) =
         either_beside now (has_expired now.moment session) _ _ refl
-        (either_beside now (machine.is_idle slot.place.rows session) _ _ refl (either_beside now (machine.is_spent end) _ _ refl refl))
+        (either_beside now (machine.is_idle now.moment slot.place.rows session) _ _ refl
+        (either_beside now (machine.is_spent end) _ _ refl (either_beside now (machine.has_caught_up slot.place.rows session) _ _ refl refl)))
 
 sent_beside : (now : State) (message : Option Message) → (with_sent now message).collector ≡ now.collector
 sent_beside now None = refl
@@ -215,16 +223,16 @@ taken_asks : (state : State) (message : Message) → IsAsking state.collector.me
 taken_asks state (sent.Ask s id) asks = collector_asks state (offers_at s id) asks (λ now memory own asks. draws_asks _ now.collector asks)
 taken_asks state (sent.Offers s id relates given) asks = source_asks state s (end_at s (λ end. after_offers end relates given state.moment)) asks (λ now slot end. refl)
 taken_asks state (sent.Events s delivery) asks = collector_asks state (events_at s delivery) asks (λ now memory own asks.
-    let effect = delivery_effect now.collector.rows delivery now.moment in
-    answer_asks (with_call now effect) (answer_with now effect s (reply_id memory) delivery) (called_asks now.collector effect asks))
+    answers_ask now (delivery_effect now.collector.rows delivery now.moment) delivery.batch.ack_wanted s (reply_id memory) delivery.id asks)
+taken_asks state (sent.Beat s beat) asks = collector_asks state (beat_at s beat) asks (λ now memory own asks.
+    answers_ask now (beat_effect now.collector.rows beat now.moment) true s (reply_id memory) beat.id asks)
 taken_asks state (sent.Ack s id relates) asks = source_asks state s (end_at s (λ end. after_ack end relates)) asks (λ now slot end. refl)
 taken_asks state (sent.Fault s id relates fault) asks = source_asks state s (end_at s (λ end. after_fault end relates fault)) asks (λ now slot end. refl)
 taken_asks state (sent.Request s id identifier body) asks = source_asks state s (responds_at s id identifier body) asks (responds_beside s id identifier body)
 taken_asks state (sent.Response s id relates answer) asks = collector_asks state (response_at relates answer) asks (λ now memory own asks.
     response_asks now relates.value (response_effect memory relates answer now.moment now.collector.rows) asks)
 taken_asks state (sent.Ended s note) asks = collector_asks state (note_at s note) asks (λ now memory own asks.
-    let effect = note_effect now.collector.rows note in
-    answer_asks (with_call now effect) (note_answer now effect s (reply_id memory) note.id) (called_asks now.collector effect asks))
+    answers_ask now (note_effect now.collector.rows note) false s (reply_id memory) note.id asks)
 
 delivered_asks : (state : State) (message : Option Message) → IsAsking state.collector.memory → IsAsking (deliver_message state message).collector.memory
 delivered_asks state None asks = asks
@@ -280,4 +288,5 @@ line_asks lower state (lines.Stop end after) held = armed_asks state end (record
 line_asks lower state lines.Calm held = held.asking
 line_asks lower state lines.Show held = collector_asks state (λ memory. unchanged) held.asking (λ now memory own asks. asks)
 line_asks lower state (lines.Print u s c) held = collector_asks state (λ memory. unchanged) held.asking (λ now memory own asks. asks)
+line_asks lower state (lines.Status u) held = collector_asks state (λ memory. unchanged) held.asking (λ now memory own asks. asks)
 line_asks lower state (lines.Tick milliseconds) held = held.asking

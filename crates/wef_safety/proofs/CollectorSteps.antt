@@ -32,10 +32,10 @@ use Rattle.wef_keeper.specs.declared.keys.Change.{Change}
 use Rattle.wef_replay.specs.Good.{is_among, is_source, is_subscription}
 use Rattle.wef_source_log.specs.Histories.{history}
 use Rattle.wef_source.specs.declared.messages.Delivery.{Delivery}
-use Rattle.wef_machine.specs.Answering.{with_answer}
+use Rattle.wef_machine.specs.Answering.{answer_by, answers_by, with_answer}
 use Rattle.wef_machine.specs.Arming.{committed, fate}
 use Rattle.wef_machine.specs.Collecting.{at_collector, collector_opened, reply_id, where_runs, with_call, with_opened, with_reply}
-use Rattle.wef_machine.specs.Deliveries.{BatchEffect, answer_by, batch_effect_by, effect_at, events_at, events_by}
+use Rattle.wef_machine.specs.Deliveries.{BatchEffect, batch_effect, batch_effect_by, effect_at, events_at}
 use Rattle.wef_machine.specs.Places.{commits, opened_by, starts}
 use Rattle.wef_pairs.specs.Pairs.{IsPairSafe, IsUntouched, about_of, settings_of, subscription_at}
 use Rattle.wef_machine.specs.States.{Slot, State, slot_of, with_collector, with_foreign}
@@ -311,6 +311,21 @@ acked_kept state after s slot id delivery is was kept same_messages left =
 pub fault_kept : (state : State) (s : List ℕ) (id relates : MessageId) (fault : FaultName) → IsKept state → IsKept (with_reply 1 state (Fault s id relates fault))
 fault_kept state s id relates fault kept = kept_reply state (Fault s id relates fault) kept refl tt
 
+-- what a commit leaves and answers keeps all, where what it leaves is kept, and so would an acknowledgement of what is done be
+pub answered_kept : (state : State) (changes : List Change) (ack : Bool) (s : List ℕ) (id relates : MessageId) → IsKept (with_collector state (commits state.collector changes)) →
+    (ack ≡ true → fate state.collector.armed changes ≡ Done → IsKept (with_reply 1 (with_collector state (commits state.collector changes)) (Ack s id relates))) →
+    IsKept (answers_by state (Ok changes) ack s id relates)
+answered_kept state changes ack s id relates kept acked = by_fate (fate state.collector.armed changes) refl
+  where
+    after : State
+    after = with_collector state (commits state.collector changes)
+
+    by_fate : (how : Fate) → fate state.collector.armed changes ≡ how → IsKept (with_answer (with_collector state (commits state.collector changes)) (answer_by how ack s id relates))
+    by_fate Done e =
+        cond_both ack (Some (Ack s id relates)) None (λ (answer : Option Message). IsKept (with_answer after answer)) (λ wanted. acked wanted e) (λ quiet. kept)
+    by_fate Failed e = fault_kept after s id relates InternalError kept
+    by_fate Stopped e = kept
+
 -- a batch of a delivery changes the rows so
 abbrev delivered_changes : (state : State) (s : List ℕ) (slot : Slot) (delivery : Delivery) → IsDelivery state.collector.rows s slot delivery → List Change
 delivered_changes state s slot delivery is = batch_changes state.collector.rows is.u s (channels_read is.about) delivery.batch state.moment
@@ -319,7 +334,8 @@ pub events_keep : Lower → (state : State) (s : List ℕ) (slot : Slot) (memory
     IsDelivery state.collector.rows s slot delivery → IsKept (events_at s delivery memory state)
 unfolding taken
 events_keep lower state s slot memory delivery kept there was is =
-    subst (λ (x : Option (List ℕ) × Option (List ℕ)). IsKept (events_by state (effect_at state.collector.rows x.0 x.1 delivery.batch state.moment) s (reply_id memory) delivery))
+    subst (λ (x : Option (List ℕ) × Option (List ℕ)).
+    IsKept (answers_by state (effect_at state.collector.rows x.0 x.1 (λ u r. batch_effect state.collector.rows u r delivery.batch state.moment)) delivery.batch.ack_wanted s (reply_id memory) delivery.id))
     (λ i. (sym is.to_subscription i, sym is.to_source i)) (by_standing (standing state.collector.rows is.u) refl)
   where
     id : MessageId
@@ -328,29 +344,28 @@ events_keep lower state s slot memory delivery kept there was is =
     after : State
     after = with_collector state (commits state.collector (delivered_changes state s slot delivery is))
 
-    by_fate : IsKept (with_collector state (commits state.collector (delivered_changes state s slot delivery is))) →
-        (how : Fate) → fate state.collector.armed (delivered_changes state s slot delivery is) ≡ how →
-        IsKept (with_answer (with_collector state (commits state.collector (delivered_changes state s slot delivery is))) (answer_by how s (reply_id memory) delivery))
-    by_fate kept_after Done e =
-        cond_both delivery.batch.ack_wanted (Some (Ack s id delivery.id)) None (λ (answer : Option Message). IsKept (with_answer after answer))
-        (λ _. acked_kept state after s slot id delivery is was kept_after refl (done_leaves state.collector.armed (delivered_changes state s slot delivery is) state.collector.rows e)) (λ _. kept_after)
-    by_fate kept_after Failed e = fault_kept after s id delivery.id InternalError kept_after
-    by_fate kept_after Stopped e = kept_after
+    done : standing state.collector.rows is.u ≡ stands.Live is.about → is_well_formed (channels_read is.about) delivery.batch ≡ true →
+        IsKept (answers_by state (Ok (delivered_changes state s slot delivery is)) delivery.batch.ack_wanted s (reply_id memory) delivery.id)
+    done live good =
+        let changes : List Change = delivered_changes state s slot delivery is in
+        let kept_after : IsKept after = called_kept state changes kept (taken_kept lower state s slot delivery kept there is live good) in
+        answered_kept state changes delivery.batch.ack_wanted s id delivery.id kept_after
+        (λ wanted e. acked_kept state after s slot id delivery is was kept_after refl (done_leaves state.collector.armed changes state.collector.rows e))
 
     by_form : standing state.collector.rows is.u ≡ stands.Live is.about →
-        IsKept (events_by state (batch_effect_by state.collector.rows is.u s delivery.batch state.moment (stands.Live is.about)) s (reply_id memory) delivery)
+        IsKept (answers_by state (batch_effect_by state.collector.rows is.u s delivery.batch state.moment (stands.Live is.about)) delivery.batch.ack_wanted s (reply_id memory) delivery.id)
     by_form live =
         let effect : BatchEffect = Ok (delivered_changes state s slot delivery is) in
-        cond_both (is_well_formed (channels_read is.about) delivery.batch) effect (Err InvalidMessage) (λ (x : BatchEffect). IsKept (events_by state x s id delivery))
-        (λ good. by_fate (called_kept state (delivered_changes state s slot delivery is) kept (taken_kept lower state s slot delivery kept there is live good))
-        (fate state.collector.armed (delivered_changes state s slot delivery is)) refl)
-        (λ bad. fault_kept state s id delivery.id InvalidMessage kept)
+        cond_both (is_well_formed (channels_read is.about) delivery.batch) effect (Err InvalidMessage)
+        (λ (x : BatchEffect). IsKept (answers_by state x delivery.batch.ack_wanted s id delivery.id))
+        (λ good. done live good) (λ bad. fault_kept state s id delivery.id InvalidMessage kept)
 
     by_standing : (found : state_of.Standing) → standing state.collector.rows is.u ≡ found →
-        IsKept (events_by state (batch_effect_by state.collector.rows is.u s delivery.batch state.moment found) s (reply_id memory) delivery)
+        IsKept (answers_by state (batch_effect_by state.collector.rows is.u s delivery.batch state.moment found) delivery.batch.ack_wanted s (reply_id memory) delivery.id)
     by_standing stands.Unknown e = fault_kept state s id delivery.id DestinationUnreachable kept
     by_standing (stands.Ended about) e = fault_kept state s id delivery.id DestinationUnreachable kept
     by_standing (stands.Live about) e =
         let same_about : is.about ≡ about = same_Some is.about about (sym is.known ∙ ap about_of e) in
-        subst (λ (x : Subscription). IsKept (events_by state (batch_effect_by state.collector.rows is.u s delivery.batch state.moment (stands.Live x)) s id delivery)) same_about
+        subst (λ (x : Subscription).
+        IsKept (answers_by state (batch_effect_by state.collector.rows is.u s delivery.batch state.moment (stands.Live x)) delivery.batch.ack_wanted s id delivery.id)) same_about
         (by_form (e ∙ ap (λ (x : Subscription). stands.Live x) (sym same_about)))

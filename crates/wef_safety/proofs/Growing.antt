@@ -20,18 +20,17 @@ use Rattle.wef_building.specs.Fits.{Fits, FitsChannel, ranges_in}
 use Rattle.wef_source.specs.Machine.{End}
 use Rattle.wef_building.specs.Wanted.{Range, in_ranges, selected_at, wanted}
 use Rattle.wef_source.specs.declared.messages.Delivery.{Delivery}
-use Rattle.wef_source.specs.declared.messages.EndNote.{EndNote}
 use Rattle.wef_building.specs.declared.sessions.Outstanding.{Outstanding}
 use Rattle.wef_building.specs.declared.sessions.Session.{Session}
 use Rattle.wef_collector.specs.Laws.{IsReached}
 use Rattle.wef_pairs.specs.Pairs.{subscription_at}
 use Rattle.wef_machine.specs.States.{Slot, Slots}
 use Rattle.wef_machine.specs.declared.messages.Message.{Message}
-use Rattle.wef_machine.specs.declared.messages.Message.TheVariants.{Ask, Offers, Events, Ack, Fault, Request, Response, Ended}
+use Rattle.wef_machine.specs.declared.messages.Message.TheVariants.{Ask, Offers, Events, Beat, Ack, Fault, Request, Response, Ended}
 use Rattle.wef_pairs.proofs.Numbered.{lt_tested}
 use Rattle.wef_pairs.proofs.Takes.{lost_longer}
 use Rattle.wef_pairs.proofs.WantedEvents.{wanted_longer}
-use Rattle.wef_safety.specs.Kept.{AreTerms, IsAckKept, IsAskedFor, IsBehind, IsDelivery, IsMessageKept, IsNote, IsOffered, IsRunningKept, IsServed, IsSourceKept, WaitsFor, WasDrawn, WhereDeclared, last_id}
+use Rattle.wef_safety.specs.Kept.{AreTerms, IsAckKept, IsAskedFor, IsBehind, IsDelivery, IsMessageKept, IsOffered, IsOnPath, IsRunningKept, IsServed, IsSourceKept, WaitsFor, WasDrawn, WhereDeclared, last_id}
 use Rattle.wef_safety.specs.Laws.{FittingRises}
 use Rattle.wef_safety.specs.Safe.{IsReachedBy, WasSent}
 use Rattle.wef_safety.proofs.Sent.{all_map}
@@ -135,6 +134,7 @@ reached_by_grows : (rows rows' : Rows) (u s : List ℕ) (about : Subscription) (
 reached_by_grows rows rows' u s about (Ask r id) grows within = tt
 reached_by_grows rows rows' u s about (Offers r id relates offers) grows within = tt
 reached_by_grows rows rows' u s about (Events r delivery) grows within = reached_grows rows rows' u s about delivery.batch grows within
+reached_by_grows rows rows' u s about (Beat r beat) grows within = tt
 reached_by_grows rows rows' u s about (Ack r id relates) grows within = tt
 reached_by_grows rows rows' u s about (Fault r id relates fault) grows within = tt
 reached_by_grows rows rows' u s about (Request r id identifier asks) grows within = tt
@@ -237,14 +237,15 @@ delivery_grows rows rows' s slot slot' delivery grows more is = record {
   drawn = drawn_grows slot slot' delivery.id.value more is.drawn;
 }
 
-note_grows : (rows rows' : Rows) (s : List ℕ) (slot slot' : Slot) (note : EndNote) → RowsGrow rows rows' → SlotGrows slot slot' → IsNote rows s slot note → IsNote rows' s slot' note
-note_grows rows rows' s slot slot' note grows more is = record {
+path_grows : (rows rows' : Rows) (s : List ℕ) (slot slot' : Slot) (address : List ℕ) (id : MessageId) → RowsGrow rows rows' → SlotGrows slot slot' →
+    IsOnPath rows s slot address id → IsOnPath rows' s slot' address id
+path_grows rows rows' s slot slot' address id grows more is = record {
   u = is.u;
   about = is.about;
   known = grows.known is.u is.about is.known;
   to_subscription = is.to_subscription;
   to_source = is.to_source;
-  drawn = drawn_grows slot slot' note.id.value more is.drawn;
+  drawn = drawn_grows slot slot' id.value more is.drawn;
 }
 
 acknowledged_grows : (rows rows' : Rows) (messages messages' : List Message) (s : List ℕ) (relates : MessageId) → RowsGrow rows rows' → MessagesGrow messages messages' →
@@ -292,10 +293,13 @@ message_grows rows rows' sources sources' messages messages' (Offers s id relate
 message_grows rows rows' sources sources' messages messages' (Events s delivery) grows wider more is =
     declared_grows (finite.get sources s) (finite.get sources' s) (λ slot. IsDelivery rows s slot delivery) (λ slot. IsDelivery rows' s slot delivery) (wider s)
     (λ slot slot' sg. delivery_grows rows rows' s slot slot' delivery grows sg) is
+message_grows rows rows' sources sources' messages messages' (Beat s beat) grows wider more is =
+    declared_grows (finite.get sources s) (finite.get sources' s) (λ slot. IsOnPath rows s slot beat.notify_to beat.id) (λ slot. IsOnPath rows' s slot beat.notify_to beat.id) (wider s)
+    (λ slot slot' sg. path_grows rows rows' s slot slot' beat.notify_to beat.id grows sg) is
 message_grows rows rows' sources sources' messages messages' (Ack s id relates) grows wider more is = acknowledged_grows rows rows' messages messages' s relates grows more is
 message_grows rows rows' sources sources' messages messages' (Fault s id relates fault) grows wider more is = tt
 message_grows rows rows' sources sources' messages messages' (Request s id identifier asks) grows wider more is = asked_for_grows rows rows' s asks grows is
 message_grows rows rows' sources sources' messages messages' (Response s id relates answer) grows wider more is = is
 message_grows rows rows' sources sources' messages messages' (Ended s note) grows wider more is =
-    declared_grows (finite.get sources s) (finite.get sources' s) (λ slot. IsNote rows s slot note) (λ slot. IsNote rows' s slot note) (wider s)
-    (λ slot slot' sg. note_grows rows rows' s slot slot' note grows sg) is
+    declared_grows (finite.get sources s) (finite.get sources' s) (λ slot. IsOnPath rows s slot note.end_to note.id) (λ slot. IsOnPath rows' s slot note.end_to note.id) (wider s)
+    (λ slot slot' sg. path_grows rows rows' s slot slot' note.end_to note.id grows sg) is

@@ -1,4 +1,4 @@
--- Where leases begin, go on and end, what is kept stays so.
+-- What changes where leases begin, go on and end lets what is kept stay so.
 use Rattle.std.proofs.Common.{◌≡◌, ℕ, ◌≤◌, ◌&&◌, nat_le, true, List, [], ◌∷◌, ap, ◌∙◌, arith}
 use Rattle.std.proofs.lemmas.Bool.{cond_both}
 use Rattle.std.proofs.lemmas.Bool.Decides.{nat_tests}
@@ -15,31 +15,11 @@ use Rattle.wef_collector_leases.specs.declared.leases.Lease.{Lease}
 use Rattle.wef_collector_rows.specs.Forms.{is_formed, is_lease_row, is_source_name, is_subscription_name}
 use Rattle.wef_documents.proofs.TrimmedTexts.{xml_scalars}
 use Rattle.wef_front_source.specs.Sending.{IsPlainText}
-use Rattle.wef_keeper.proofs.StayFormed.{applied_formed}
 use Rattle.wef_keeper.specs.Forms.{IsPut}
-use Rattle.wef_keeper.specs.Rows.{Rows, applied}
-use Rattle.wef_keeper.specs.declared.keys.Change.{Change}
-use Rattle.wef_machine.specs.States.{State}
+use Rattle.wef_keeper.specs.Rows.{Rows}
 use Rattle.wef_xml.specs.Good.{IsXmlText}
-use Rattle.wef_safety.specs.Kept.{IsKept}
-use Rattle.wef_safety.proofs.Aside.{IsAside, KeptWith, changed_aside, kept_aside}
-use Rattle.wef_safety.proofs.RowMoves.{IsChangeKept, kept_by_changes, lease_put}
-use Rattle.wef_safety.proofs.Sent.{all_map}
-
--- A change is of a lease, and leaves one that may be kept, or none.
-pub record IsOfLease (change : Change) : Type 0 where
-  pub aside : IsAside change
-  pub kept : IsChangeKept change
-  pub formed : IsPut is_formed change
-
-pub leases_kept : (state : State) (changes : List Change) → IsKept state → AllByRecursion IsOfLease changes → KeptWith state (applied changes state.collector.rows)
-leases_kept state changes kept all =
-    let rows : Rows = state.collector.rows in
-    kept_aside state (applied changes rows) kept (changed_aside changes rows (all_map IsOfLease IsAside (λ change is. is.aside) changes all))
-    (kept_by_changes changes rows (all_map IsOfLease IsChangeKept (λ change is. is.kept) changes all) kept.keys)
-    (applied_formed is_formed changes (all_map IsOfLease (IsPut is_formed) (λ change is. is.formed) changes all) rows kept.formed)
-
--- ---- one lease
+use Rattle.wef_safety.proofs.Aside.{IsAsideKept}
+use Rattle.wef_safety.proofs.RowMoves.{lease_put}
 
 -- A lease may be kept: its identifier is a text that a header says as it is, and its end is a number that a row may have.
 pub record MayStand (lease : Lease) : Type 0 where
@@ -64,36 +44,36 @@ unfolding is_formed is_lease_row
 put_formed u s lease names may =
     λ i. (names.subscription i && names.source i) && true && true && le_tested lease.expiry MAX may.expiry i && text_passes lease.identifier may.identifier.1 i
 
-put_is : (u s : List ℕ) (lease : Lease) → HaveNames u s → MayStand lease → IsOfLease (put_lease u s lease)
+put_is : (u s : List ℕ) (lease : Lease) → HaveNames u s → MayStand lease → IsAsideKept (put_lease u s lease)
 put_is u s lease names may = record {
   aside = omega arith;
   kept = lease_put u s lease may.identifier;
   formed = put_formed u s lease names may;
 }
 
-delete_is : (u s : List ℕ) → IsOfLease (delete_lease u s)
+delete_is : (u s : List ℕ) → IsAsideKept (delete_lease u s)
 delete_is u s = record { aside = omega arith; kept = tt; formed = tt }
 
 -- a lease that is put in place of another, or of none
-pub replaced : (rows : Rows) (u s : List ℕ) (lease : Lease) → HaveNames u s → MayStand lease → AllByRecursion IsOfLease (replace_lease rows u s lease)
+pub replaced : (rows : Rows) (u s : List ℕ) (lease : Lease) → HaveNames u s → MayStand lease → AllByRecursion IsAsideKept (replace_lease rows u s lease)
 replaced rows u s lease names may = by (lease_at rows u s)
   where
-    by : (found : Option Lease) → AllByRecursion IsOfLease (put_over u s lease found)
+    by : (found : Option Lease) → AllByRecursion IsAsideKept (put_over u s lease found)
     by None = (put_is u s lease names may, tt)
-    by (Some kept) = cond_both (is_lease lease kept) [] (put_lease u s lease ∷ []) (AllByRecursion IsOfLease) (λ _. tt) (λ _. (put_is u s lease names may, tt))
+    by (Some kept) = cond_both (is_lease lease kept) [] (put_lease u s lease ∷ []) (AllByRecursion IsAsideKept) (λ _. tt) (λ _. (put_is u s lease names may, tt))
 
 -- one that ends
-pub cleared : (rows : Rows) (u s : List ℕ) → AllByRecursion IsOfLease (clear_lease rows u s)
+pub cleared : (rows : Rows) (u s : List ℕ) → AllByRecursion IsAsideKept (clear_lease rows u s)
 cleared rows u s = by (lease_at rows u s)
   where
-    by : (found : Option Lease) → AllByRecursion IsOfLease (delete_kept u s found)
+    by : (found : Option Lease) → AllByRecursion IsAsideKept (delete_kept u s found)
     by None = tt
     by (Some kept) = (delete_is u s, tt)
 
 -- one that ends where its session is named so
-pub ended : (rows : Rows) (u s identifier : List ℕ) → AllByRecursion IsOfLease (end_lease rows u s identifier)
+pub ended : (rows : Rows) (u s identifier : List ℕ) → AllByRecursion IsAsideKept (end_lease rows u s identifier)
 ended rows u s identifier = by (lease_at rows u s)
   where
-    by : (found : Option Lease) → AllByRecursion IsOfLease (delete_named u s identifier found)
+    by : (found : Option Lease) → AllByRecursion IsAsideKept (delete_named u s identifier found)
     by None = tt
-    by (Some kept) = cond_both (same kept.identifier identifier) (delete_lease u s ∷ []) [] (AllByRecursion IsOfLease) (λ _. (delete_is u s, tt)) (λ _. tt)
+    by (Some kept) = cond_both (same kept.identifier identifier) (delete_lease u s ∷ []) [] (AllByRecursion IsAsideKept) (λ _. (delete_is u s, tt)) (λ _. tt)

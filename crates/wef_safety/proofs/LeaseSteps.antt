@@ -1,5 +1,5 @@
 -- What the collector asks, and what it hears of leases, keeps what is kept.
-use Rattle.std.proofs.Common.{ℕ, ◌+◌, ◌≤◌, Bool, true, false, List, refl, arith}
+use Rattle.std.proofs.Common.{◌≡◌, ℕ, ◌+◌, ◌≤◌, Bool, true, false, List, refl, arith}
 use Rattle.std.specs.List.{AllByRecursion}
 use Rattle.std.specs.Prelude.{Option, Some, None, Ok, Err, IfSome}
 use Rattle.wef_collector.specs.Asking.{identifier_of, next_request}
@@ -19,23 +19,20 @@ use Rattle.wef_collector_rows.specs.Answers.{is_known}
 use Rattle.wef_collector_rows.specs.Standing.{standing}
 use Rattle.wef_eventing.specs.Addresses.{source_in, subscription_in}
 use Rattle.wef_front_source.specs.Sending.{IsPlainText}
-use Rattle.wef_ids.specs.declared.FaultName.TheVariants.{DestinationUnreachable, InternalError}
+use Rattle.wef_ids.specs.declared.FaultName.TheVariants.{DestinationUnreachable}
 use Rattle.wef_ids.specs.declared.MessageId.{MessageId}
 use Rattle.wef_keeper.specs.Rows.{Rows}
 use Rattle.wef_keeper.specs.declared.keys.Change.{Change}
-use Rattle.wef_machine.specs.Answering.{with_answer}
-use Rattle.wef_machine.specs.Arming.{fate}
+use Rattle.wef_machine.specs.Answering.{answers_by}
 use Rattle.wef_machine.specs.Collecting.{reply_id}
-use Rattle.wef_machine.specs.Leasing.{ended_effect, ended_effect_by, note_answer_by, note_at, note_by, request_at, request_by, request_message, response_at, response_by}
-use Rattle.wef_machine.specs.Places.{commits}
-use Rattle.wef_machine.specs.States.{State, host, with_collector}
-use Rattle.wef_machine.specs.declared.arming.Fate.{Fate}
-use Rattle.wef_machine.specs.declared.arming.Fate.TheVariants.{Done, Failed, Stopped}
+use Rattle.wef_machine.specs.Leasing.{ended_effect, ended_effect_by, note_at, request_at, request_by, request_message, response_at, response_by}
+use Rattle.wef_machine.specs.States.{State, host}
 use Rattle.wef_source.specs.declared.messages.EndNote.{EndNote}
 use Rattle.wef_safety.specs.Kept.{IsAsked, IsAskedFor, IsKept, IsSaid}
-use Rattle.wef_safety.proofs.CollectorSteps.{called_kept, fault_kept}
+use Rattle.wef_safety.proofs.CollectorSteps.{answered_kept, called_kept, fault_kept}
+use Rattle.wef_safety.proofs.Aside.{IsAsideKept, changes_kept}
 use Rattle.wef_safety.proofs.DueRequests.{due_is_asked, next_has}
-use Rattle.wef_safety.proofs.LeaseRows.{HaveNames, IsOfLease, MayStand, cleared, ended, leases_kept, replaced}
+use Rattle.wef_safety.proofs.LeaseRows.{HaveNames, MayStand, cleared, ended, replaced}
 use Rattle.wef_safety.proofs.Moves.{kept_reply}
 
 -- ---- a request
@@ -79,7 +76,7 @@ leasing_may (response.Fault name) Subscribes now soon said plain = tt
 leasing_may (response.Fault name) (Renews named) now soon said plain = tt
 leasing_may (response.Fault name) (Unsubscribes named) now soon said plain = tt
 
-leasing_is : (rows : Rows) (u s : List ℕ) (leasing : Leasing) → HaveNames u s → MayBecome leasing → AllByRecursion IsOfLease (lease_changes rows u s leasing)
+leasing_is : (rows : Rows) (u s : List ℕ) (leasing : Leasing) → HaveNames u s → MayBecome leasing → AllByRecursion IsAsideKept (lease_changes rows u s leasing)
 leasing_is rows u s (Leases lease) names may = replaced rows u s lease names may
 leasing_is rows u s Clears names may = cleared rows u s
 leasing_is rows u s Stays names may = tt
@@ -89,8 +86,8 @@ pub response_keeps : (state : State) (memory : Memory) (relates : MessageId) (an
     IsKept (response_at relates answer memory state)
 response_keeps state memory relates answer kept said asked = by_waiting (waiting_for memory relates.value) asked
   where
-    changed : (changes : List Change) → AllByRecursion IsOfLease changes → IsKept (response_by state relates.value (Ok changes))
-    changed changes all = called_kept state changes kept (leases_kept state changes kept all)
+    changed : (changes : List Change) → AllByRecursion IsAsideKept changes → IsKept (response_by state relates.value (Ok changes))
+    changed changes all = called_kept state changes kept (changes_kept state changes kept all)
 
     by_leasing : (w : Waiting) (o : Option Leasing) → IsAsked w → IfSome o MayBecome → IsKept (response_by state relates.value (leasing_effect state.collector.rows w o))
     by_leasing w None is may = kept
@@ -104,28 +101,23 @@ response_keeps state memory relates answer kept said asked = by_waiting (waiting
 
 -- ---- an end
 
+never : false ≡ true → ⊥
+never e = cc
+
 pub note_keeps : (state : State) (memory : Memory) (s : List ℕ) (note : EndNote) → IsKept state → IsKept (note_at s note memory state)
 note_keeps state memory s note kept = by_names (subscription_in note.end_to) (source_in note.end_to)
   where
-    rows : Rows
-    rows = state.collector.rows
-
-    refused : IsKept (note_by state (Err DestinationUnreachable) s (reply_id memory) note.id)
+    refused : IsKept (answers_by state (Err DestinationUnreachable) false s (reply_id memory) note.id)
     refused = fault_kept state s (reply_id memory) note.id DestinationUnreachable kept
 
-    by_fate : (changes : List Change) → IsKept (with_collector state (commits state.collector changes)) → (how : Fate) →
-        IsKept (with_answer (with_collector state (commits state.collector changes)) (note_answer_by how s (reply_id memory) note.id))
-    by_fate changes after Done = after
-    by_fate changes after Failed = fault_kept (with_collector state (commits state.collector changes)) s (reply_id memory) note.id InternalError after
-    by_fate changes after Stopped = after
-
-    by_known : (u r : List ℕ) (known : Bool) → IsKept (note_by state (ended_effect_by state.collector.rows u r note.identifier known) s (reply_id memory) note.id)
+    by_known : (u r : List ℕ) (known : Bool) → IsKept (answers_by state (ended_effect_by state.collector.rows u r note.identifier known) false s (reply_id memory) note.id)
     by_known u r true =
         let changes = end_lease state.collector.rows u r note.identifier in
-        by_fate changes (called_kept state changes kept (leases_kept state changes kept (ended state.collector.rows u r note.identifier))) (fate state.collector.armed changes)
+        answered_kept state changes false s (reply_id memory) note.id
+        (called_kept state changes kept (changes_kept state changes kept (ended state.collector.rows u r note.identifier))) (λ wanted. absurd (never wanted))
     by_known u r false = refused
 
-    by_names : (u r : Option (List ℕ)) → IsKept (note_by state (ended_effect state.collector.rows u r note.identifier) s (reply_id memory) note.id)
+    by_names : (u r : Option (List ℕ)) → IsKept (answers_by state (ended_effect state.collector.rows u r note.identifier) false s (reply_id memory) note.id)
     by_names None None = refused
     by_names None (Some r) = refused
     by_names (Some u) None = refused

@@ -6,6 +6,7 @@ pub mod EventTrees
 pub mod FittingNumbers
 pub mod GoodLines
 pub mod Growing
+pub mod Hearing
 pub mod KeptChannels
 pub mod LeaseRows
 pub mod LeaseSteps

@@ -22,9 +22,9 @@ use Rattle.wef_pairs.specs.Pairs.{IsPairSafe, IsUntouched, settings_of, subscrip
 use Rattle.wef_machine.specs.States.{Slot, Slots, State, slot_of, with_message, with_messages, with_slot}
 use Rattle.wef_collector_rows.specs.Forms.{AreFormed}
 use Rattle.wef_machine.specs.declared.messages.Message.{Message}
-use Rattle.wef_machine.specs.declared.messages.Message.TheVariants.{Ask, Offers, Events, Ack, Fault, Request, Response, Ended}
+use Rattle.wef_machine.specs.declared.messages.Message.TheVariants.{Ask, Offers, Events, Beat, Ack, Fault, Request, Response, Ended}
 use Rattle.wef_pairs.proofs.Takes.{SameRows, safe_alike, safe_longer, safe_untouched, untouched_alike}
-use Rattle.wef_safety.specs.Kept.{AreInOrder, IsChannelKept, IsDelivery, IsDrawnBefore, IsKept, IsMessageKept, IsNote, IsPairKept, IsRowKept, IsSourceKept, IsWorldKept, WasDrawn, WhereDeclared, last_id, request_id}
+use Rattle.wef_safety.specs.Kept.{AreInOrder, IsChannelKept, IsDelivery, IsDrawnBefore, IsKept, IsMessageKept, IsOnPath, IsPairKept, IsRowKept, IsSourceKept, IsWorldKept, WasDrawn, WhereDeclared, last_id, request_id}
 use Rattle.wef_safety.specs.Safe.{WasSent, source_of}
 use Rattle.wef_safety.proofs.Growing.{MessagesGrow, RowsGrow, SlotGrows, SourcesGrow, message_grows, same_messages, same_rows, same_sources, source_grows}
 use Rattle.wef_safety.proofs.Sent.{sent_before, sent_either, sent_only, sent_split, sent_still}
@@ -155,12 +155,14 @@ drawn_before rows sources messages (Ask s given) id is e = subst (λ (i : Option
 drawn_before rows sources messages (Offers s own relates offers) id is e = absurd (none-some id e)
 drawn_before rows sources messages (Events s delivery) id is e =
     declared_map (finite.get sources s) (λ slot. IsDelivery rows s slot delivery) (λ slot. WasDrawn slot (Some id)) (λ slot sent. subst (WasDrawn slot) e sent.drawn) is
+drawn_before rows sources messages (Beat s beat) id is e =
+    declared_map (finite.get sources s) (λ slot. IsOnPath rows s slot beat.notify_to beat.id) (λ slot. WasDrawn slot (Some id)) (λ slot path. subst (WasDrawn slot) e path.drawn) is
 drawn_before rows sources messages (Ack s own relates) id is e = absurd (none-some id e)
 drawn_before rows sources messages (Fault s own relates fault) id is e = absurd (none-some id e)
 drawn_before rows sources messages (Request s own identifier body) id is e = absurd (none-some id e)
 drawn_before rows sources messages (Response s own relates answer) id is e = absurd (none-some id e)
 drawn_before rows sources messages (Ended s note) id is e =
-    declared_map (finite.get sources s) (λ slot. IsNote rows s slot note) (λ slot. WasDrawn slot (Some id)) (λ slot told. subst (WasDrawn slot) e told.drawn) is
+    declared_map (finite.get sources s) (λ slot. IsOnPath rows s slot note.end_to note.id) (λ slot. WasDrawn slot (Some id)) (λ slot path. subst (WasDrawn slot) e path.drawn) is
 
 -- ---- the changes
 

@@ -1,5 +1,5 @@
--- Each ask and each delivery that a source of a kept world sends can be written as bytes, and what it answers and tells of ends
--- has ids that are those of their texts.
+-- Each ask, each delivery and each heartbeat that a source of a kept world sends can be written as bytes, and what it answers and
+-- tells of ends has ids that are those of their texts.
 use Rattle.std.proofs.Common.{◌≡◌, ℕ, ◌+◌, ◌*◌, ◌≤◌, ◌&&◌, Bool, true, false, List, [], ◌∷◌, length, nat_le, refl, sym, ◌∙◌, subst, arith}
 use Rattle.std.proofs.lemmas.Bool.{and_parts, cond_both}
 use Rattle.std.proofs.lemmas.Option.{none-some}
@@ -27,7 +27,7 @@ use Rattle.wef_front.proofs.EndsAreRead.{notes_spelt}
 use Rattle.wef_front.specs.Sent.{CanBeAsked}
 use Rattle.wef_front_collector.specs.HeardResponses.{response_of}
 use Rattle.wef_front_source.specs.Replies.{fault_id, last_id}
-use Rattle.wef_front_source.specs.Sending.{CanBeSent, IsPlainText}
+use Rattle.wef_front_source.specs.Sending.{BeatCanBeSent, CanBeSent, IsPlainText}
 use Rattle.wef_front_source.specs.declared.saying.Said.{Said}
 use Rattle.wef_front_source.specs.declared.saying.Said.TheVariants as said
 use Rattle.wef_ids.specs.IdTexts.{id_of_value}
@@ -37,10 +37,10 @@ use Rattle.wef_keeper.specs.declared.keys.Cell.{Cell}
 use Rattle.wef_replay.proofs.GoodNames.{kept_channel}
 use Rattle.wef_replay.specs.Good.{is_channel, is_one}
 use Rattle.wef_building.specs.Building.{built}
-use Rattle.wef_source.specs.Machine.{End, delivery_of, end_notes, is_spent, most_drawn, next_id, sent}
+use Rattle.wef_source.specs.Machine.{End, beat_of, delivery_of, end_notes, is_spent, most_drawn, next_id, sent}
 use Rattle.wef_source.specs.declared.messages.Delivery.{Delivery}
 use Rattle.wef_source.specs.declared.messages.EndNote.{EndNote}
-use Rattle.wef_source.specs.Sessions.{is_named, session_of}
+use Rattle.wef_source.specs.Sessions.{session_of}
 use Rattle.wef_building.specs.declared.sessions.Session.{Session}
 use Rattle.wef_source_log.proofs.Forming.{number_within}
 use Rattle.wef_source_log.specs.Forms as log
@@ -57,9 +57,8 @@ use Rattle.wef_safety.proofs.Offering.{reads_source}
 use Rattle.wef_safety.proofs.Responding.{CanSay, asked_does}
 use Rattle.wef_safety.proofs.RowMoves.{known_name}
 use Rattle.wef_safety.proofs.SaidEvents.{IsSaidItem, built_said}
-use Rattle.wef_safety.proofs.Sessions.{first_is}
 use Rattle.wef_safety.proofs.Shutting.{within_most}
-use Rattle.wef_safety.proofs.SourceSteps.{below_most, delivery_kept, running_is, running_with}
+use Rattle.wef_safety.proofs.SourceSteps.{below_most, delivery_kept, running_is, running_with, session_served}
 
 -- ---- the id
 
@@ -140,7 +139,17 @@ read_channel rows s slot delivery is c n e = by (is_in (channels_read is.about) 
     by true here = known_channels rows is.u is.about is.known c here
     by false none = absurd (none-some n (sym (is.fits.others c none) ∙ e))
 
--- ---- the delivery
+-- ---- the delivery, and the heartbeat
+
+-- the address and the identifier of a session that is served are texts that headers say as they are
+session_is_plain : (state : State) (s : List ℕ) (session : Session) → IsKept state → IsServed state.collector.rows state.messages s session →
+    IsPlainText session.notify_to × IfSome session.identifier IsPlainText
+session_is_plain state s session kept served =
+    let terms = served.terms in
+    let name = known_name state.collector.rows session.name terms.about kept.keys terms.known in (
+      subst IsPlainText (sym terms.address_is) (address_is_plain terms.at session.name s terms.host),
+      subst (λ (o : Option (List ℕ)). IfSome o IsPlainText) (sym terms.identifier_is) (subscription_is_plain session.name name),
+    )
 
 -- what a session sends, where an id is left, is a delivery that can be written
 pub delivery_can_be_sent : (state : State) (s u : List ℕ) (slot : Slot) (end : End) (session : Session) → IsKept state → slot_of state s ≡ Some slot → slot.place.memory ≡ Some end →
@@ -150,7 +159,7 @@ delivery_can_be_sent state s u slot end session kept there runs found left =
     let source = kept.sources s slot there in
     let running = running_is state s slot end source runs in
     let some = running.1 in
-    let served = first_is (IsServed rows state.messages s) (is_named u) end.sessions session found running.0.sessions in
+    let served = session_served state s u slot end session kept there runs found in
     let new : Slot = running_with slot (sent slot.place.rows end session state.moment) in
     let batch : Batch = built slot.place.rows session in
     let is = delivery_kept lower state s slot new end session kept there runs served refl refl (omega arith) in
@@ -159,16 +168,28 @@ delivery_can_be_sent state s u slot end session kept there runs found left =
     let said = built_said slot.place.rows slot.histories slot.capacity (boot_of slot.place.rows) session reads source.events in
     let items = items_written (channels_read is.about) batch.items named (all_listed (channels_read is.about) batch is.fits.well_formed) is.sound.items said in
     let read = read_channel rows s new (delivery_of slot.place.rows end session) is in
-    let name = known_name rows session.name served.terms.about kept.keys served.terms.known in
+    let texts = session_is_plain state s session kept served in
     record {
       spelt = next_spelt end (few_boots state s slot end kept there runs) (below_most end.drawn left);
       id = id_text_good (next_id end);
-      notify_to = subst IsPlainText (sym served.terms.address_is) (address_is_plain served.terms.at session.name s served.terms.host);
-      identifier = subst (λ (o : Option (List ℕ)). IfSome o IsPlainText) (sym served.terms.identifier_is) (subscription_is_plain session.name name);
+      notify_to = texts.0;
+      identifier = texts.1;
       plain = items.0;
       kept = items.1;
       entries = λ c n e. (kept_channel c (read c n e), is.sound.to c n e);
       names = λ c n e. utf8_name c (read c n e);
+    }
+
+-- what a session says that has nothing to send, where an id is left, is a heartbeat that can be written
+pub beat_can_be_sent : (state : State) (s u : List ℕ) (slot : Slot) (end : End) (session : Session) → IsKept state → slot_of state s ≡ Some slot → slot.place.memory ≡ Some end →
+    session_of end.sessions u ≡ Some session → is_spent end ≡ false → BeatCanBeSent (beat_of end session)
+beat_can_be_sent state s u slot end session kept there runs found left =
+    let texts = session_is_plain state s session kept (session_served state s u slot end session kept there runs found) in
+    record {
+      spelt = next_spelt end (few_boots state s slot end kept there runs) (below_most end.drawn left);
+      id = id_text_good (next_id end);
+      notify_to = texts.0;
+      identifier = texts.1;
     }
 
 -- ---- answers, and notes of ends

@@ -23,7 +23,7 @@ use Rattle.wef_building.specs.declared.sessions.Lease.{Lease}
 use Rattle.wef_building.specs.declared.sessions.Outstanding.{Outstanding}
 use Rattle.wef_building.specs.declared.sessions.Session.{Session}
 use Rattle.wef_machine.specs.declared.messages.Message.{Message}
-use Rattle.wef_machine.specs.declared.messages.Message.TheVariants.{Ask, Offers, Events, Ack, Fault, Request, Response, Ended}
+use Rattle.wef_machine.specs.declared.messages.Message.TheVariants.{Ask, Offers, Events, Beat, Ack, Fault, Request, Response, Ended}
 use Rattle.wef_safety.specs.Kept.{AreTerms, IsAckKept, IsBehind, IsLeaseTold, IsOffered, IsServed, WaitsFor, request_id}
 use Rattle.wef_safety.specs.Safe.{IsAcknowledged, WasSent, own_id, read_by, source_of}
 use Rattle.wef_safety.proofs.Moves.{AreOne}
@@ -166,6 +166,7 @@ session_requests : (m : Message) (reads : List ℕ × Marks) → read_by m ≡ S
 session_requests (Ask s id) reads e = absurd (none-some reads e)
 session_requests (Offers s id relates offers) reads e = absurd (none-some reads e)
 session_requests (Events s delivery) reads e = refl
+session_requests (Beat s beat) reads e = refl
 session_requests (Ack s id relates) reads e = absurd (none-some reads e)
 session_requests (Fault s id relates fault) reads e = absurd (none-some reads e)
 session_requests (Request s id identifier body) reads e = absurd (none-some reads e)

@@ -18,7 +18,7 @@ use Rattle.wef_machine.specs.Leasing.{is_short, shut_at, shut_step}
 use Rattle.wef_machine.specs.States.{Slot, State, slot_of, with_end, with_messages}
 use Rattle.wef_machine.specs.declared.messages.Message.{Message}
 use Rattle.wef_machine.specs.declared.messages.Message.TheVariants.{Ended}
-use Rattle.wef_safety.specs.Kept.{AreInOrder, IsDrawnBefore, IsKept, IsLeaseTold, IsMessageKept, IsNote, IsServed, IsToldAt, last_id}
+use Rattle.wef_safety.specs.Kept.{AreInOrder, IsDrawnBefore, IsKept, IsLeaseTold, IsMessageKept, IsOnPath, IsServed, IsToldAt, last_id}
 use Rattle.wef_safety.proofs.Lower.{Lower}
 use Rattle.wef_safety.proofs.Moves.{IsAbove, declared_is, kept_sent, slot_put}
 use Rattle.wef_safety.proofs.Sent.{all_joined, all_map, sent_mapped}
@@ -72,13 +72,17 @@ notes_in_order s id (note ∷ notes) numbered = (
 
 -- ---- where notes go
 
+-- a note goes to a subscription that is there, and tells of its source
+abbrev Goes : Rows → List ℕ → Slot → EndNote → Type 0
+Goes rows s slot note = IsOnPath rows s slot note.end_to note.id
+
 -- the note of the end of a session goes to its subscription, and tells of its source
 note_goes : (rows : Rows) (messages : List Message) (s : List ℕ) (slot : Slot) (id : ℕ) (session : Session) → IsServed rows messages s session →
-    id + length (note_of id session.lease) ≤ last_id slot slot.place.memory + 1 → AllByRecursion (IsNote rows s slot) (note_of id session.lease)
+    id + length (note_of id session.lease) ≤ last_id slot slot.place.memory + 1 → AllByRecursion (Goes rows s slot) (note_of id session.lease)
 note_goes rows messages s slot id session served within = by_lease session.lease served.told within
   where
     by_address : (identifier : List ℕ) (end_to : Option (List ℕ)) → IsToldAt session.notify_to end_to → id + length (note_to id identifier end_to) ≤ last_id slot slot.place.memory + 1 →
-        AllByRecursion (IsNote rows s slot) (note_to id identifier end_to)
+        AllByRecursion (Goes rows s slot) (note_to id identifier end_to)
     by_address identifier None told least = tt
     by_address identifier (Some address) told least =
         let terms = served.terms in
@@ -95,18 +99,18 @@ note_goes rows messages s slot id session served within = by_lease session.lease
         )
 
     by_lease : (lease : Option Lease) → IsLeaseTold session.notify_to lease → id + length (note_of id lease) ≤ last_id slot slot.place.memory + 1 →
-        AllByRecursion (IsNote rows s slot) (note_of id lease)
+        AllByRecursion (Goes rows s slot) (note_of id lease)
     by_lease None told least = tt
     by_lease (Some lease) told least = by_address lease.identifier lease.end_to told least
 
 notes_go : (rows : Rows) (messages : List Message) (s : List ℕ) (slot : Slot) (id : ℕ) (sessions : List Session) → AllByRecursion (IsServed rows messages s) sessions →
-    id + length (notes_of id sessions) ≤ last_id slot slot.place.memory + 1 → AllByRecursion (IsNote rows s slot) (notes_of id sessions)
+    id + length (notes_of id sessions) ≤ last_id slot slot.place.memory + 1 → AllByRecursion (Goes rows s slot) (notes_of id sessions)
 notes_go rows messages s slot id [] all within = tt
 notes_go rows messages s slot id (session ∷ sessions) all within =
     let one = note_of id session.lease in
     let rest = notes_of (id + length one) sessions in
     let both : length (one ++ rest) ≡ length one + length rest = length-append one rest in
-    all_joined (IsNote rows s slot) one rest (note_goes rows messages s slot id session all.0 (omega (arith, both)))
+    all_joined (Goes rows s slot) one rest (note_goes rows messages s slot id session all.0 (omega (arith, both)))
     (notes_go rows messages s slot (id + length one) sessions all.1 (omega (arith, both)))
 
 -- ---- the step
@@ -131,8 +135,8 @@ shut_kept state s slot end kept there runs room =
     (source_with_end rows state.messages messages s slot after source is.0.boot is.1 (within_most after.drawn room) (filter_in_order is_asked_for end.sessions is.0.in_order)
     (all_filtered (IsServed rows messages s) is_asked_for end.sessions (all_later state s more end.sessions is.0.sessions)))
     (sent_mapped (Ended s) (IsMessageKept rows (finite.insert state.sources s new) messages) notes
-    (all_map (IsNote rows s new) (λ (note : EndNote). IsMessageKept rows (finite.insert state.sources s new) messages (Ended s note))
-    (λ note goes. declared_is (finite.get (finite.insert state.sources s new) s) new (λ (o : Slot). IsNote rows s o note) (slot_put state.sources s new) goes) notes
+    (all_map (Goes rows s new) (λ (note : EndNote). IsMessageKept rows (finite.insert state.sources s new) messages (Ended s note))
+    (λ note goes. declared_is (finite.get (finite.insert state.sources s new) s) new (λ (o : Slot). Goes rows s o note) (slot_put state.sources s new) goes) notes
     (notes_go rows state.messages s new (next_id end) end.sessions is.0.sessions (omega arith))))
     (sent_mapped (Ended s) (IsAbove s last) notes (notes_above s last (next_id end) notes (fresh_id slot end runs) numbered))
     (notes_in_order s (next_id end) notes numbered)

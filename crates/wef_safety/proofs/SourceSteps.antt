@@ -8,6 +8,7 @@ use Rattle.std.specs.FinMap as finite
 use Rattle.std.specs.List.{AllByRecursion, filter}
 use Rattle.std.specs.Option.{option_map}
 use Rattle.wef_batch.specs.WellFormed.{is_in}
+use Rattle.wef_bookmark.specs.Order.{Marks}
 use Rattle.wef_collector.proofs.Hits.{one_name}
 use Rattle.wef_collector_rows.specs.Answers.{channels_read}
 use Rattle.wef_collector_rows.specs.Bookmarks.{bookmark_at}
@@ -35,7 +36,7 @@ use Rattle.wef_source.specs.Answers.{waiting_for}
 use Rattle.wef_building.specs.Building.{built}
 use Rattle.wef_building.specs.Fits.{Fits}
 use Rattle.wef_building.specs.Laws.{AreWithin}
-use Rattle.wef_source.specs.Machine.{End, acknowledged_in, adopted, asked, delivery_of, is_idle, is_spent, is_unreachable, lost_in, most_drawn, next_id, refused_in, sent, start_of}
+use Rattle.wef_source.specs.Machine.{End, acknowledged_in, adopted, asked, beat_of, beaten, delivery_of, has_caught_up, is_idle, is_spent, is_unreachable, lost_in, most_drawn, next_id, refused_in, sent, sent_to, start_of}
 use Rattle.wef_source.proofs.InOrder.{acknowledged_name, changed_in_order, filter_in_order, none_in_order, sending_name, settled_name, without_in_order}
 use Rattle.wef_source.proofs.Placements.{with_offers_in_order}
 use Rattle.wef_source.specs.Sessions.{acknowledged, has_expired, is_leased, is_named, names_of, sending, session_of, settled, waits_for, with_changed, without}
@@ -52,10 +53,11 @@ use Rattle.wef_machine.specs.declared.arming.Armed.{Armed}
 use Rattle.wef_machine.specs.declared.arming.Fate.{Fate}
 use Rattle.wef_machine.specs.declared.arming.Fate.TheVariants.{Done, Failed, Stopped}
 use Rattle.wef_machine.specs.declared.messages.Message.{Message}
-use Rattle.wef_machine.specs.declared.messages.Message.TheVariants.{Ask, Events}
+use Rattle.wef_machine.specs.declared.messages.Message.TheVariants.{Ask, Beat, Events}
 use Rattle.wef_machine.proofs.Declared.{calmed_at}
 use Rattle.wef_pairs.proofs.Takes.{untouched_bookmark}
-use Rattle.wef_safety.specs.Kept.{IsAckKept, IsChannelKept, IsDelivery, IsEndKept, IsKept, IsOffered, IsPairKept, IsRunningKept, IsServed, IsSourceKept, WasDrawn, last_id}
+use Rattle.wef_safety.specs.Kept.{IsAckKept, IsChannelKept, IsDelivery, IsEndKept, IsKept, IsMessageKept, IsOffered, IsOnPath, IsPairKept, IsRunningKept, IsServed, IsSourceKept, WasDrawn, last_id, request_id}
+use Rattle.wef_safety.specs.Safe.{read_by, source_of}
 use Rattle.wef_safety.proofs.CollectorSteps.{committed_both, done_leaves}
 use Rattle.wef_safety.proofs.FittingNumbers.{fitting_is_sound}
 use Rattle.wef_safety.proofs.GoodLines.{IsWritable}
@@ -426,7 +428,7 @@ ask_keeps lower state s kept = at_source_keeps lower state s (ask_at s) kept (λ
     cond_both (is_spent end) now (with_message (with_end now s slot (asked end)) (Ask s (id_of_value (next_id end)))) IsKept
     (λ spent. kept_now) (λ left. asked_kept now s slot end kept_now there runs left))
 
--- ---- sending a batch
+-- ---- sending a batch, or a heartbeat
 
 channel_within : (rows : Rows) (u s c : List ℕ) (about : Subscription) (slot : Slot) (reads : Bool) → IsChannelKept rows u s c about slot reads →
     bookmark_at rows u s c ≤ length (history slot.histories c)
@@ -477,40 +479,76 @@ delivery_kept lower state s slot new end session kept there runs served same_his
       drawn = drawn;
     }
 
-sent_kept : Lower → (state : State) (s : List ℕ) (slot : Slot) (end : End) (session : Session) → IsKept state → slot_of state s ≡ Some slot → slot.place.memory ≡ Some end →
-    is_spent end ≡ false → session_of end.sessions session.name ≡ Some session →
-    IsKept (with_message (with_end state s slot (sent slot.place.rows end session state.moment)) (Events s (delivery_of slot.place.rows end session)))
-sent_kept lower state s slot end session kept there runs left found =
+-- a session of a source is served
+pub session_served : (state : State) (s u : List ℕ) (slot : Slot) (end : End) (session : Session) → IsKept state → slot_of state s ≡ Some slot → slot.place.memory ≡ Some end →
+    session_of end.sessions u ≡ Some session → IsServed state.collector.rows state.messages s session
+session_served state s u slot end session kept there runs found =
+    first_is (IsServed state.collector.rows state.messages s) (is_named u) end.sessions session found (running_is state s slot end (kept.sources s slot there) runs).0.sessions
+
+-- what a session sends under the next id, to its address, reads so far: the session waits for the answer
+sends_kept : (state : State) (s : List ℕ) (slot : Slot) (end : End) (session : Session) (m : Message) (to : Marks) → IsKept state → slot_of state s ≡ Some slot → slot.place.memory ≡ Some end →
+    is_spent end ≡ false → session_of end.sessions session.name ≡ Some session → source_of m ≡ s → request_id m ≡ Some (next_id end) → read_by m ≡ Some (session.notify_to, to) →
+    IsMessageKept state.collector.rows (finite.insert state.sources s (running_with slot (sent_to end session.name to state.moment))) (state.messages ++ m ∷ []) m →
+    IsKept (with_message (with_end state s slot (sent_to end session.name to state.moment)) m)
+sends_kept state s slot end session m to kept there runs left found from requests reads goes =
     let source = kept.sources s slot there in
     let is = running_is state s slot end source runs in
-    let served = first_is (IsServed state.collector.rows state.messages s) (is_named session.name) end.sessions session found is.0.sessions in
-    let after : End = sent slot.place.rows end session state.moment in
+    let served = session_served state s session.name slot end session kept there runs found in
+    let after : End = sent_to end session.name to state.moment in
     let new : Slot = running_with slot after in
-    let delivery = delivery_of slot.place.rows end session in
-    let m : Message = Events s delivery in
     let messages : List Message = state.messages ++ m ∷ [] in
-    let awaited : Outstanding = record { id = next_id end; to = (built slot.place.rows session).to } in
+    let awaited : Outstanding = record { id = next_id end; to = to } in
     let later = served_grows state.collector.rows state.collector.rows state.messages messages s session (same_rows state.collector.rows) (sent_before state.messages m) served in
     let waits : IsServed state.collector.rows messages s (sending awaited state.moment session) =
-    record { terms = later.terms; positions = later.positions; outstanding = (m, sent_last state.messages m, refl, refl, refl); told = later.told } in
+    record { terms = later.terms; positions = later.positions; outstanding = (m, sent_last state.messages m, from, requests, reads); told = later.told } in
     kept_draw state s slot new m (next_id end) kept there (goes_on slot end after runs refl (omega arith))
     (source_with_end state.collector.rows state.messages messages s slot after source is.0.boot is.1 (below_most end.drawn left)
     (changed_in_order (is_named session.name) (sending awaited state.moment) (sending_name awaited state.moment) end.sessions is.0.in_order)
     (all_first_changed (IsServed state.collector.rows state.messages s) (IsServed state.collector.rows messages s) (is_named session.name)
     (sending awaited state.moment) end.sessions session found
     (λ x. served_grows state.collector.rows state.collector.rows state.messages messages s x (same_rows state.collector.rows) (sent_before state.messages m)) waits is.0.sessions))
+    goes from requests (fresh_id slot end runs)
+
+sent_kept : Lower → (state : State) (s : List ℕ) (slot : Slot) (end : End) (session : Session) → IsKept state → slot_of state s ≡ Some slot → slot.place.memory ≡ Some end →
+    is_spent end ≡ false → session_of end.sessions session.name ≡ Some session →
+    IsKept (with_message (with_end state s slot (sent slot.place.rows end session state.moment)) (Events s (delivery_of slot.place.rows end session)))
+sent_kept lower state s slot end session kept there runs left found =
+    let delivery = delivery_of slot.place.rows end session in
+    let new : Slot = running_with slot (sent slot.place.rows end session state.moment) in
+    sends_kept state s slot end session (Events s delivery) (built slot.place.rows session).to kept there runs left found refl refl refl
     (declared_is (finite.get (finite.insert state.sources s new) s) new (λ (o : Slot). IsDelivery state.collector.rows s o delivery) (slot_put state.sources s new)
-    (delivery_kept lower state s slot new end session kept there runs served refl refl (omega arith)))
-    refl refl (fresh_id slot end runs)
+    (delivery_kept lower state s slot new end session kept there runs (session_served state s session.name slot end session kept there runs found) refl refl (omega arith)))
+
+-- what a session says that has nothing to send goes to its subscription
+beat_kept : (state : State) (s : List ℕ) (slot : Slot) (end : End) (session : Session) → IsKept state → slot_of state s ≡ Some slot → slot.place.memory ≡ Some end →
+    is_spent end ≡ false → session_of end.sessions session.name ≡ Some session →
+    IsKept (with_message (with_end state s slot (beaten end session state.moment)) (Beat s (beat_of end session)))
+beat_kept state s slot end session kept there runs left found =
+    let beat = beat_of end session in
+    let new : Slot = running_with slot (beaten end session state.moment) in
+    let terms = (session_served state s session.name slot end session kept there runs found).terms in
+    sends_kept state s slot end session (Beat s beat) finite.empty kept there runs left found refl refl refl
+    (declared_is (finite.get (finite.insert state.sources s new) s) new (λ (o : Slot). IsOnPath state.collector.rows s o beat.notify_to beat.id) (slot_put state.sources s new) (record {
+      u = session.name;
+      about = terms.about;
+      known = terms.known;
+      to_subscription = terms.to_subscription;
+      to_source = terms.to_source;
+      drawn = omega arith;
+    }))
 
 poll_session_keeps : Lower → (state : State) (s u : List ℕ) (slot : Slot) (end : End) (session : Session) → IsKept state → slot_of state s ≡ Some slot → slot.place.memory ≡ Some end →
     session_of end.sessions u ≡ Some session → IsKept (poll_session s state slot end session)
 poll_session_keeps lower state s u slot end session kept there runs found =
     let named : session.name ≡ u = one_name session.name u (first_passes (is_named u) end.sessions session found) in
     let own = subst (λ (name : List ℕ). session_of end.sessions name ≡ Some session) (sym named) found in
+    let beats : State = with_message (with_end state s slot (beaten end session state.moment)) (Beat s (beat_of end session)) in
     let sends : State = with_message (with_end state s slot (sent slot.place.rows end session state.moment)) (Events s (delivery_of slot.place.rows end session)) in
-    cond_both (is_idle slot.place.rows session) state (cond (is_spent end) state sends) IsKept (λ idle. kept)
-    (λ some. cond_both (is_spent end) state sends IsKept (λ spent. kept) (λ left. sent_kept lower state s slot end session kept there runs left own))
+    let says : State = cond (has_caught_up slot.place.rows session) beats sends in
+    cond_both (is_idle state.moment slot.place.rows session) state (cond (is_spent end) state says) IsKept (λ idle. kept)
+    (λ some. cond_both (is_spent end) state says IsKept (λ spent. kept)
+    (λ left. cond_both (has_caught_up slot.place.rows session) beats sends IsKept (λ caught. beat_kept state s slot end session kept there runs left own)
+    (λ more. sent_kept lower state s slot end session kept there runs left own)))
 
 pub poll_keeps : Lower → (state : State) (s u : List ℕ) → IsKept state → IsKept (poll_step state s u)
 poll_keeps lower state s u kept = at_source_keeps lower state s (poll_at s u) kept (λ now slot end kept_now opened there runs.

@@ -22,12 +22,12 @@ use Rattle.wef_replay_values.specs.declared.end_name.EndName.{EndName}
 use Rattle.wef_replay_values.specs.declared.end_name.EndName.TheVariants as ends
 use Rattle.wef_replay.specs.Good.{are_queries, are_limits, is_among, is_between, is_line, is_no_collector, is_source, is_subscription}
 use Rattle.wef_replay.specs.declared.lines.Line.{Line}
-use Rattle.wef_replay.specs.declared.lines.Line.TheVariants.{Subscribe, SubscribeAt, End, Batch, Source, Write, WriteXml, Ask, Poll, Deliver, Back, Request, Forget, Lost, Shut, Crash, Fail, Stop, Calm, Show, Print, Tick}
+use Rattle.wef_replay.specs.declared.lines.Line.TheVariants.{Subscribe, SubscribeAt, End, Batch, Source, Write, WriteXml, Ask, Poll, Deliver, Back, Request, Forget, Lost, Shut, Crash, Fail, Stop, Calm, Show, Print, Status, Tick}
 use Rattle.wef_source_log.specs.Histories.{history}
 use Rattle.wef_source_log.specs.Keys.{boot_key}
 use Rattle.wef_source_log.specs.LogWindow.{IsWindow, boot_of}
 use Rattle.wef_machine.specs.Collecting.{reply_id, with_opened}
-use Rattle.wef_machine.specs.Deliveries.{deliver_message, deliver_step, events_at, message_at, number_back, offers_at, taken_by}
+use Rattle.wef_machine.specs.Deliveries.{beat_at, deliver_message, deliver_step, events_at, message_at, number_back, offers_at, taken_by}
 use Rattle.wef_machine.specs.Leasing.{forget_at, note_at, request_at, response_at}
 use Rattle.wef_pairs.specs.Pairs.{IsPairSafe, IsUntouched, about_of, settings_of, subscription_at}
 use Rattle.wef_machine.specs.Sources.{declared_slot}
@@ -37,12 +37,13 @@ use Rattle.wef_machine.specs.declared.arming.Armed.{Armed}
 use Rattle.wef_machine.specs.declared.messages.Message.{Message}
 use Rattle.wef_machine.specs.declared.messages.Message.TheVariants as sent
 use Rattle.wef_machine.proofs.Names.{undeclared}
-use Rattle.wef_safety.specs.Kept.{IsChannelKept, IsDelivery, IsHeld, IsKept, IsPairKept, WasDrawn, WhereDeclared}
+use Rattle.wef_safety.specs.Kept.{IsChannelKept, IsDelivery, IsHeld, IsKept, IsOnPath, IsPairKept, WasDrawn, WhereDeclared}
 use Rattle.wef_safety.specs.Laws.{IsStateSafe, KeptIsSafe, SchedulesAreKept, SchedulesAreSafe, StartIsKept, StepsKeep, written_by}
 use Rattle.wef_safety.specs.Safe.{WasSent, Written}
 use Rattle.wef_safety.proofs.Asking.{at_collector_asks, line_asks, waiting_asked}
 use Rattle.wef_safety.proofs.CollectorSteps.{at_collector_keeps, batch_keeps, end_keeps, events_keep, foreign_kept, is_foreign, opened_kept, subscribe_keeps}
 use Rattle.wef_safety.proofs.GoodLines.{begun, begun_addressed, begun_again, subscription_again, names_source, sound_batch, writable, writable_xml}
+use Rattle.wef_safety.proofs.Hearing.{beat_keeps}
 use Rattle.wef_safety.proofs.LeaseSteps.{note_keeps, request_keeps, response_keeps}
 use Rattle.wef_safety.proofs.Lower.{Lower}
 use Rattle.wef_safety.proofs.Moves.{from_mapped, kept_declared, kept_reply}
@@ -95,6 +96,10 @@ taken_keeps lower state (sent.Events s delivery) held was = at_collector_keeps l
     let was_now : WasSent now.messages (sent.Events s delivery) = subst (λ (ms : List Message). WasSent ms (sent.Events s delivery)) (sym opened.messages) was in
     of_declared (slot_of now s) (λ (slot : Slot). IsDelivery now.collector.rows s slot delivery) (IsKept (events_at s delivery memory now)) (kept_now.messages (sent.Events s delivery) was_now)
     (λ slot there is. events_keep lower now s slot memory delivery kept_now there was_now is))
+taken_keeps lower state (sent.Beat s beat) held was = at_collector_keeps lower state (beat_at s beat) held.kept (λ now memory kept_now opened.
+    let was_now : WasSent now.messages (sent.Beat s beat) = subst (λ (ms : List Message). WasSent ms (sent.Beat s beat)) (sym opened.messages) was in
+    of_declared (slot_of now s) (λ (slot : Slot). IsOnPath now.collector.rows s slot beat.notify_to beat.id) (IsKept (beat_at s beat memory now)) (kept_now.messages (sent.Beat s beat) was_now)
+    (λ slot there is. beat_keeps now s slot memory beat kept_now there was_now is))
 taken_keeps lower state (sent.Ack s id relates) held was = ack_keeps lower state s relates held.kept (held.kept.messages (sent.Ack s id relates) was)
 taken_keeps lower state (sent.Fault s id relates fault) held was = fault_keeps lower state s relates fault held.kept
 taken_keeps lower state (sent.Request s id identifier body) held was = responds_keeps lower state s id identifier body held.kept (held.kept.messages (sent.Request s id identifier body) was)
@@ -204,6 +209,7 @@ line_keeps lower state (Stop end after) held good = arm_keeps_end state end (rec
 line_keeps lower state Calm held good = calm_keeps state held.kept
 line_keeps lower state Show held good = at_collector_keeps lower state (λ memory. unchanged) held.kept (λ now memory kept_now opened. kept_now)
 line_keeps lower state (Print u s c) held good = at_collector_keeps lower state (λ memory. unchanged) held.kept (λ now memory kept_now opened. kept_now)
+line_keeps lower state (Status u) held good = at_collector_keeps lower state (λ memory. unchanged) held.kept (λ now memory kept_now opened. kept_now)
 line_keeps lower state (Tick milliseconds) held good = tick_keeps state milliseconds held.kept
 
 pub steps_keep : Lower → StepsKeep

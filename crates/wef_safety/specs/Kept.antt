@@ -41,7 +41,6 @@ use Rattle.wef_source.specs.Machine.{End, most_drawn}
 use Rattle.wef_building.specs.Fits.{Fits}
 use Rattle.wef_source.specs.Sessions.{names_of}
 use Rattle.wef_source.specs.declared.messages.Delivery.{Delivery}
-use Rattle.wef_source.specs.declared.messages.EndNote.{EndNote}
 use Rattle.wef_times.specs.declared.durations.TheConstants.{LIMIT}
 use Rattle.wef_building.specs.declared.sessions.Lease.{Lease}
 use Rattle.wef_building.specs.declared.sessions.Outstanding.{Outstanding}
@@ -49,7 +48,7 @@ use Rattle.wef_building.specs.declared.sessions.Session.{Session}
 use Rattle.wef_pairs.specs.Pairs.{IsPairSafe, IsUntouched, settings_of, subscription_at}
 use Rattle.wef_machine.specs.States.{Slot, Slots, State, address_of}
 use Rattle.wef_machine.specs.declared.messages.Message.{Message}
-use Rattle.wef_machine.specs.declared.messages.Message.TheVariants.{Ask, Offers, Events, Ack, Fault, Request, Response, Ended}
+use Rattle.wef_machine.specs.declared.messages.Message.TheVariants.{Ask, Offers, Events, Beat, Ack, Fault, Request, Response, Ended}
 use Rattle.wef_safety.specs.Safe.{IsAcknowledged, WasSent, read_by, source_of}
 
 -- a fact of a declared source
@@ -95,6 +94,7 @@ abbrev pub request_id : Message → Option ℕ
 request_id (Ask s id) = id.value
 request_id (Offers s id relates offers) = None
 request_id (Events s delivery) = delivery.id.value
+request_id (Beat s beat) = beat.id.value
 request_id (Ack s id relates) = None
 request_id (Fault s id relates fault) = None
 request_id (Request s id identifier body) = None
@@ -176,14 +176,15 @@ pub record IsAckKept (rows : Rows) (messages : List Message) (s : List ℕ) (rel
   pub is : IsAcknowledged rows messages s relates
   pub behind : IsBehind rows is.u s is.to
 
--- A note of the end of a session goes to a subscription that is there, and tells of its source.
-pub record IsNote (rows : Rows) (s : List ℕ) (slot : Slot) (note : EndNote) : Type 0 where
+-- What a source says beside its events, a heartbeat or the end of a session, goes under an id that it drew to an address that
+-- leads to a subscription which is there, and to the source.
+pub record IsOnPath (rows : Rows) (s : List ℕ) (slot : Slot) (address : List ℕ) (id : MessageId) : Type 0 where
   pub u : List ℕ
   pub about : Subscription
   pub known : subscription_at rows u ≡ Some about
-  pub to_subscription : subscription_in note.end_to ≡ Some u
-  pub to_source : source_in note.end_to ≡ Some s
-  pub drawn : WasDrawn slot note.id.value
+  pub to_subscription : subscription_in address ≡ Some u
+  pub to_source : source_in address ≡ Some s
+  pub drawn : WasDrawn slot id.value
 
 -- how long a session is to stand is none above the greatest duration
 abbrev pub IsLasting : ℕ → Type 0
@@ -207,11 +208,12 @@ abbrev pub IsMessageKept : Rows → Slots → List Message → Message → Type 
 IsMessageKept rows sources messages (Ask s id) = WhereDeclared (finite.get sources s) (λ slot. WasDrawn slot id.value)
 IsMessageKept rows sources messages (Offers s id relates offers) = AllByRecursion (λ (offer : Offer). IsOffered rows s offer.subscribe) offers
 IsMessageKept rows sources messages (Events s delivery) = WhereDeclared (finite.get sources s) (λ slot. IsDelivery rows s slot delivery)
+IsMessageKept rows sources messages (Beat s beat) = WhereDeclared (finite.get sources s) (λ slot. IsOnPath rows s slot beat.notify_to beat.id)
 IsMessageKept rows sources messages (Ack s id relates) = IsAckKept rows messages s relates
 IsMessageKept rows sources messages (Fault s id relates fault) = Unit {0}
 IsMessageKept rows sources messages (Request s id identifier body) = IsAskedFor rows s body
 IsMessageKept rows sources messages (Response s id relates answer) = IsSaid answer
-IsMessageKept rows sources messages (Ended s note) = WhereDeclared (finite.get sources s) (λ slot. IsNote rows s slot note)
+IsMessageKept rows sources messages (Ended s note) = WhereDeclared (finite.get sources s) (λ slot. IsOnPath rows s slot note.end_to note.id)
 
 -- a relation of each message to each that was sent after it
 abbrev pub AreInOrder : (Message → Message → Type 0) → List Message → Type 0

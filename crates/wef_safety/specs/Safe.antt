@@ -2,6 +2,7 @@
 -- said of the rows that stand in the collector's store, of what each declared source wrote, and of all messages that
 -- were ever sent.
 use Rattle.std.specs.Prelude.{◌≡◌, ℕ, true, false, List, [], ◌∷◌, Option, Some, None, ◌⊎◌}
+use Rattle.std.specs.FinMap as finite
 use Rattle.wef_collector.specs.Laws.{IsReached}
 use Rattle.wef_batch.specs.WellFormed.{is_in}
 use Rattle.wef_bookmark.specs.Order.{Marks}
@@ -12,7 +13,7 @@ use Rattle.wef_eventing.specs.declared.subscriptions.Subscription.{Subscription}
 use Rattle.wef_keeper.specs.Rows.{Rows}
 use Rattle.wef_source_log.specs.Histories.{Histories, history}
 use Rattle.wef_machine.specs.declared.messages.Message.{Message}
-use Rattle.wef_machine.specs.declared.messages.Message.TheVariants.{Ask, Offers, Events, Ack, Fault, Request, Response, Ended}
+use Rattle.wef_machine.specs.declared.messages.Message.TheVariants.{Ask, Offers, Events, Beat, Ack, Fault, Request, Response, Ended}
 use Rattle.wef_pairs.specs.Pairs.{IsPairSafe, IsUntouched, settings_of, subscription_at}
 
 -- a message is one of those that were sent
@@ -25,6 +26,7 @@ abbrev pub source_of : Message → List ℕ
 source_of (Ask s id) = s
 source_of (Offers s id relates offers) = s
 source_of (Events s delivery) = s
+source_of (Beat s beat) = s
 source_of (Ack s id relates) = s
 source_of (Fault s id relates fault) = s
 source_of (Request s id identifier body) = s
@@ -36,17 +38,20 @@ abbrev pub own_id : Message → MessageId
 own_id (Ask s id) = id
 own_id (Offers s id relates offers) = id
 own_id (Events s delivery) = delivery.id
+own_id (Beat s beat) = beat.id
 own_id (Ack s id relates) = id
 own_id (Fault s id relates fault) = id
 own_id (Request s id identifier body) = id
 own_id (Response s id relates answer) = id
 own_id (Ended s note) = note.id
 
--- the address that a message goes to, and the bookmark up to which it reads, where it is one that a session sends
+-- the address that a message goes to, and the bookmark up to which it reads, where it is one that a session sends: a heartbeat reads
+-- nothing
 abbrev pub read_by : Message → Option (List ℕ × Marks)
 read_by (Ask s id) = None
 read_by (Offers s id relates offers) = None
 read_by (Events s delivery) = Some (delivery.notify_to, delivery.batch.to)
+read_by (Beat s beat) = Some (beat.notify_to, finite.empty)
 read_by (Ack s id relates) = None
 read_by (Fault s id relates fault) = None
 read_by (Request s id identifier body) = None
@@ -58,16 +63,17 @@ abbrev pub IsReachedBy : Rows → List ℕ → List ℕ → Subscription → Mes
 IsReachedBy rows u s about (Ask r id) = Unit {0}
 IsReachedBy rows u s about (Offers r id relates offers) = Unit {0}
 IsReachedBy rows u s about (Events r delivery) = IsReached rows u s about delivery.batch
+IsReachedBy rows u s about (Beat r beat) = Unit {0}
 IsReachedBy rows u s about (Ack r id relates) = Unit {0}
 IsReachedBy rows u s about (Fault r id relates fault) = Unit {0}
 IsReachedBy rows u s about (Request r id identifier body) = Unit {0}
 IsReachedBy rows u s about (Response r id relates answer) = Unit {0}
 IsReachedBy rows u s about (Ended r note) = Unit {0}
 
--- An acknowledgement of an id is for a delivery that its source sent, to a subscription that is there, live or ended, and
--- all that the batch reads of the subscription's channels is kept.
+-- An acknowledgement of an id is for a delivery or a heartbeat that its source sent, to a subscription that is there, live or
+-- ended, and all that a batch in it reads of the subscription's channels is kept.
 pub record IsAcknowledged (rows : Rows) (messages : List Message) (s : List ℕ) (relates : MessageId) : Type 0 where
-  -- the delivery: a message that reads up to a bookmark
+  -- what was sent: a message that reads up to a bookmark
   pub message : Message
   pub was_sent : WasSent messages message
   pub of_source : source_of message ≡ s

@@ -1,24 +1,24 @@
 -- What a world is once its collector was given a message or a batch, and what is printed of it.
-use Rattle.std.proofs.Common.{◌≡◌, ℕ, Bool, false, List, refl, ap, sym, ◌∙◌}
+use Rattle.std.proofs.Common.{◌≡◌, ℕ, Bool, true, false, List, refl, ap, sym, ◌∙◌}
 use Rattle.std.specs.Prelude.{Option, Some, None, Ok, Err}
 use Rattle.wef_batch.specs.declared.items.Batch.{Batch}
 use Rattle.wef_collector.specs.Calls as collector
 use Rattle.wef_collector.specs.declared.memories.Memory.{Memory}
 use Rattle.wef_collector.specs.declared.responses.Response.{Response}
+use Rattle.wef_heartbeat.specs.declared.messages.Heartbeat.{Heartbeat}
 use Rattle.wef_ids.specs.declared.FaultName.{FaultName}
 use Rattle.wef_ids.specs.declared.MessageId.{MessageId}
-use Rattle.wef_machine.specs.Answering.{closed_text, took_text, with_answer}
-use Rattle.wef_machine.specs.Arming.{fate, is_done}
+use Rattle.wef_machine.specs.Answering.{answer_with, answer_word, answers_by, answers_text_by, closed_text, commit_word, took_text, with_answer}
+use Rattle.wef_machine.specs.Arming.{is_done}
 use Rattle.wef_machine.specs.Collecting.{at_collector, collector_opened, collector_opening, print_at_collector, print_where_runs, reply_id, where_runs, with_call, with_opened}
-use Rattle.wef_machine.specs.Deliveries.{BatchEffect, answer_with, answer_word, batch_effect, batch_word, delivery_effect, events_at, offers_at, offers_text}
+use Rattle.wef_machine.specs.Deliveries.{BatchEffect, batch_effect, beat_at, beat_effect, delivery_effect, events_at, offers_at, offers_text}
 use Rattle.wef_machine.specs.Deliveries as told
-use Rattle.wef_machine.specs.Leasing.{note_answer, note_at, note_effect, note_word, response_at, response_effect, with_sent}
+use Rattle.wef_machine.specs.Leasing.{note_at, note_effect, response_at, response_effect, with_sent}
 use Rattle.wef_machine.specs.Leasing as leasing
 use Rattle.wef_machine.specs.Places.{after_call}
 use Rattle.wef_machine.specs.Printed.{batch_text, fate_word, fault_answer, took_line}
 use Rattle.wef_machine.specs.States.{Collector, State, next_number, with_collector}
 use Rattle.wef_machine.specs.Steps.{batch_line, closed_batch}
-use Rattle.wef_machine.specs.declared.arming.Armed.{Armed}
 use Rattle.wef_machine.specs.declared.arming.Fate as the_fate
 use Rattle.wef_machine.specs.declared.arming.Fate.TheVariants as fates
 use Rattle.wef_machine.specs.declared.messages.Message.{Message}
@@ -30,7 +30,7 @@ use Rattle.wef_places.specs.declared.places.Called.{Called}
 use Rattle.wef_places.specs.declared.places.Called.TheVariants.{Done, Broken, Refused}
 use Rattle.wef_places.specs.declared.places.Used.{Used}
 use Rattle.wef_places.specs.declared.places.Used.TheVariants.{Closed, Answered}
-use Rattle.wef_deliveries.specs.Outcomes.{answer_by, answer_for, asked_by, asked_left, asked_left_by, asked_of, call_by, call_left, drawn_for, events_left, events_of, leased_by, note_left, note_of, outcome_word, response_where_runs, response_word, word_by, word_for}
+use Rattle.wef_deliveries.specs.Outcomes.{answer_for, asked_by, asked_left, asked_left_by, asked_of, beat_left, beat_of, call_by, call_left, drawn_for, events_left, events_of, leased_by, note_left, note_of, outcome_word, response_where_runs, response_word, word_for}
 
 -- ---- asks
 
@@ -57,103 +57,69 @@ told_answer : (state : State) (c : Collector) (answer : Option Message) → with
 told_answer state c None = refl
 told_answer state c (Some message) = refl
 
-module _ (state : State) (effect : BatchEffect) (ack : Bool) (s : List ℕ) (relates : MessageId) where
-  -- what the collector makes of a message with this effect is what an open one does with it
-  call_state : (change : Memory → State → State)
-      → ((memory : Memory) → with_answer (with_call (with_opened state) effect) (answer_for (collector_opened state.collector) effect ack s (reply_id memory) relates) ≡ change memory (with_opened state))
-      → with_sent (with_collector state (call_left (collector_opened state.collector) effect ack s relates (collector_opened state.collector).memory))
-      (call_by (collector_opening state.collector) (collector_opened state.collector) effect ack s relates (collector_opened state.collector).memory).answer
-      ≡ at_collector state change
-  call_state change does = by (collector_opened state.collector).memory
+answer_is : (state : State) (effect : BatchEffect) (ack : Bool) (s : List ℕ) (id relates : MessageId) → answer_for state.collector effect ack s id relates ≡ answer_with state effect ack s id relates
+answer_is state (Ok changes) ack s id relates = refl
+answer_is state (Err fault) ack s id relates = refl
+
+word_is : (state : State) (effect : BatchEffect) (ack : Bool) → word_for state.collector effect ack ≡ answer_word state effect ack
+word_is state (Ok changes) ack = refl
+word_is state (Err fault) ack = refl
+
+-- what the collector makes of a message with this effect is what an open one does with it
+module _ (state : State) (effect : State → BatchEffect) (ack : Bool) (s : List ℕ) (relates : MessageId) where
+  call_state : with_sent (with_collector state (call_left (collector_opened state.collector) (effect (with_opened state)) ack s relates (collector_opened state.collector).memory))
+      (call_by (collector_opening state.collector) (collector_opened state.collector) (effect (with_opened state)) ack s relates (collector_opened state.collector).memory).answer
+      ≡ at_collector state (λ memory now. answers_by now (effect now) ack s (reply_id memory) relates)
+  call_state = by (collector_opened state.collector).memory
     where
-      by : (memory : Option Memory) → with_sent (with_collector state (call_left (collector_opened state.collector) effect ack s relates memory))
-          (call_by (collector_opening state.collector) (collector_opened state.collector) effect ack s relates memory).answer
-          ≡ where_runs (with_opened state) memory change
+      by : (memory : Option Memory) → with_sent (with_collector state (call_left (collector_opened state.collector) (effect (with_opened state)) ack s relates memory))
+          (call_by (collector_opening state.collector) (collector_opened state.collector) (effect (with_opened state)) ack s relates memory).answer
+          ≡ where_runs (with_opened state) memory (λ memory now. answers_by now (effect now) ack s (reply_id memory) relates)
       by None = refl
-      by (Some memory) = told_answer state (after_call (collector_opened state.collector) effect) (answer_for (collector_opened state.collector) effect ack s (reply_id memory) relates) ∙ does memory
+      by (Some memory) =
+          told_answer state (after_call (collector_opened state.collector) (effect (with_opened state))) (answer_for (collector_opened state.collector) (effect (with_opened state)) ack s (reply_id memory) relates)
+          ∙ ap (with_answer (with_call (with_opened state) (effect (with_opened state)))) (answer_is (with_opened state) (effect (with_opened state)) ack s (reply_id memory) relates)
 
-  call_text : (k : ℕ) (text : Memory → State → List ℕ)
-      → ((memory : Memory) → took_text k (word_for (collector_opened state.collector) effect ack) (answer_for (collector_opened state.collector) effect ack s (reply_id memory) relates) (next_number state) ≡ text memory (with_opened state))
-      → took_text k (call_by (collector_opening state.collector) (collector_opened state.collector) effect ack s relates (collector_opened state.collector).memory).word
-      (call_by (collector_opening state.collector) (collector_opened state.collector) effect ack s relates (collector_opened state.collector).memory).answer (next_number state)
-      ≡ print_at_collector state (closed_text k) text
-  call_text k text says = by (collector_opened state.collector).memory
+  call_text : (k : ℕ) → took_text k (call_by (collector_opening state.collector) (collector_opened state.collector) (effect (with_opened state)) ack s relates (collector_opened state.collector).memory).word
+      (call_by (collector_opening state.collector) (collector_opened state.collector) (effect (with_opened state)) ack s relates (collector_opened state.collector).memory).answer (next_number state)
+      ≡ print_at_collector state (closed_text k) (λ memory now. answers_text_by now (effect now) ack k s (reply_id memory) relates)
+  call_text k = by (collector_opened state.collector).memory
     where
-      by : (memory : Option Memory) → took_text k (call_by (collector_opening state.collector) (collector_opened state.collector) effect ack s relates memory).word
-          (call_by (collector_opening state.collector) (collector_opened state.collector) effect ack s relates memory).answer (next_number state)
-          ≡ print_where_runs (with_opened state) memory (collector_opening state.collector) (closed_text k) text
+      by : (memory : Option Memory) → took_text k (call_by (collector_opening state.collector) (collector_opened state.collector) (effect (with_opened state)) ack s relates memory).word
+          (call_by (collector_opening state.collector) (collector_opened state.collector) (effect (with_opened state)) ack s relates memory).answer (next_number state)
+          ≡ print_where_runs (with_opened state) memory (collector_opening state.collector) (closed_text k) (λ memory now. answers_text_by now (effect now) ack k s (reply_id memory) relates)
       by None = refl
-      by (Some memory) = says memory
+      by (Some memory) = λ i. took_text k (word_is (with_opened state) (effect (with_opened state)) ack i)
+          (answer_is (with_opened state) (effect (with_opened state)) ack s (reply_id memory) relates i) (next_number state)
 
--- ---- deliveries
-
-delivery_answer : (state : State) (effect : BatchEffect) (s : List ℕ) (id : MessageId) (delivery : Delivery) → answer_for state.collector effect delivery.batch.ack_wanted s id delivery.id ≡ answer_with state effect s id delivery
-delivery_answer state (Ok changes) s id delivery = by (fate state.collector.armed changes)
-  where
-    by : (how : the_fate.Fate) → answer_by delivery.batch.ack_wanted how s id delivery.id ≡ told.answer_by how s id delivery
-    by fates.Done = refl
-    by fates.Failed = refl
-    by fates.Stopped = refl
-delivery_answer state (Err fault) s id delivery = refl
-
-delivery_word : (state : State) (effect : BatchEffect) (batch : Batch) → word_for state.collector effect batch.ack_wanted ≡ answer_word state effect batch
-delivery_word state (Ok changes) batch = by (fate state.collector.armed changes)
-  where
-    by : (how : the_fate.Fate) → word_by batch.ack_wanted how ≡ batch_word batch how
-    by fates.Done = refl
-    by fates.Failed = refl
-    by fates.Stopped = refl
-delivery_word state (Err fault) batch = refl
-
+-- of a delivery
 pub events_state : (state : State) (s : List ℕ) (delivery : Delivery)
     → with_sent (with_collector state (events_left state.collector s delivery state.moment)) (events_of state.collector s delivery state.moment).answer ≡ at_collector state (events_at s delivery)
-events_state state s delivery =
-    let ready : State = with_opened state in
-    let effect : BatchEffect = delivery_effect (collector_opened state.collector).rows delivery state.moment in
-    call_state state effect delivery.batch.ack_wanted s delivery.id (events_at s delivery) (λ memory. ap (with_answer (with_call ready effect)) (delivery_answer ready effect s (reply_id memory) delivery))
+events_state state s delivery = call_state state (λ now. delivery_effect now.collector.rows delivery now.moment) delivery.batch.ack_wanted s delivery.id
 
 pub events_text : (state : State) (k : ℕ) (s : List ℕ) (delivery : Delivery)
     → took_text k (events_of state.collector s delivery state.moment).word (events_of state.collector s delivery state.moment).answer (next_number state)
     ≡ print_at_collector state (closed_text k) (told.events_text k s delivery)
-events_text state k s delivery =
-    let ready : State = with_opened state in
-    let effect : BatchEffect = delivery_effect (collector_opened state.collector).rows delivery state.moment in
-    call_text state effect delivery.batch.ack_wanted s delivery.id k (told.events_text k s delivery)
-    (λ memory. λ i. took_text k (delivery_word ready effect delivery.batch i) (delivery_answer ready effect s (reply_id memory) delivery i) (next_number state))
+events_text state k s delivery = call_text state (λ now. delivery_effect now.collector.rows delivery now.moment) delivery.batch.ack_wanted s delivery.id k
 
--- ---- the ends of sessions
+-- of a heartbeat
+pub beat_state : (state : State) (s : List ℕ) (beat : Heartbeat)
+    → with_sent (with_collector state (beat_left state.collector s beat state.moment)) (beat_of state.collector s beat state.moment).answer ≡ at_collector state (beat_at s beat)
+beat_state state s beat = call_state state (λ now. beat_effect now.collector.rows beat now.moment) true s beat.id
 
-end_answer : (state : State) (effect : BatchEffect) (s : List ℕ) (id relates : MessageId) → answer_for state.collector effect false s id relates ≡ note_answer state effect s id relates
-end_answer state (Ok changes) s id relates = by (fate state.collector.armed changes)
-  where
-    by : (how : the_fate.Fate) → answer_by false how s id relates ≡ leasing.note_answer_by how s id relates
-    by fates.Done = refl
-    by fates.Failed = refl
-    by fates.Stopped = refl
-end_answer state (Err fault) s id relates = refl
+pub beat_text : (state : State) (k : ℕ) (s : List ℕ) (beat : Heartbeat)
+    → took_text k (beat_of state.collector s beat state.moment).word (beat_of state.collector s beat state.moment).answer (next_number state)
+    ≡ print_at_collector state (closed_text k) (told.beat_text k s beat)
+beat_text state k s beat = call_text state (λ now. beat_effect now.collector.rows beat now.moment) true s beat.id k
 
-end_word : (state : State) (effect : BatchEffect) → word_for state.collector effect false ≡ note_word state effect
-end_word state (Ok changes) = by (fate state.collector.armed changes)
-  where
-    by : (how : the_fate.Fate) → word_by false how ≡ leasing.note_word_by how
-    by fates.Done = refl
-    by fates.Failed = refl
-    by fates.Stopped = refl
-end_word state (Err fault) = refl
-
+-- of a note of the end of a session
 pub note_state : (state : State) (s : List ℕ) (note : EndNote)
     → with_sent (with_collector state (note_left state.collector s note)) (note_of state.collector s note).answer ≡ at_collector state (note_at s note)
-note_state state s note =
-    let ready : State = with_opened state in
-    let effect : BatchEffect = note_effect (collector_opened state.collector).rows note in
-    call_state state effect false s note.id (note_at s note) (λ memory. ap (with_answer (with_call ready effect)) (end_answer ready effect s (reply_id memory) note.id))
+note_state state s note = call_state state (λ now. note_effect now.collector.rows note) false s note.id
 
 pub note_text : (state : State) (k : ℕ) (s : List ℕ) (note : EndNote)
     → took_text k (note_of state.collector s note).word (note_of state.collector s note).answer (next_number state) ≡ print_at_collector state (closed_text k) (leasing.note_text k s note)
-note_text state k s note =
-    let ready : State = with_opened state in
-    let effect : BatchEffect = note_effect (collector_opened state.collector).rows note in
-    call_text state effect false s note.id k (leasing.note_text k s note) (λ memory. λ i. took_text k (end_word ready effect i) (end_answer ready effect s (reply_id memory) note.id i) (next_number state))
+note_text state k s note = call_text state (λ now. note_effect now.collector.rows note) false s note.id k
 
 -- ---- answers to requests
 
@@ -183,28 +149,18 @@ response_text state k relates answer = by (collector_opened state.collector).mem
 
 -- ---- batches of foreign sources
 
--- the word for a batch, by what is armed
-abbrev word_of : Option Armed → BatchEffect → Batch → List ℕ
-word_of armed (Ok changes) batch = batch_word batch (fate armed changes)
-word_of armed (Err fault) batch = fault_answer fault
+broken_is : (how : the_fate.Fate) (ack : Bool) → is_done how ≡ false → outcome_word (Answered (Broken how)) ack ≡ commit_word ack how
+broken_is fates.Done ack undone = cc
+broken_is fates.Failed ack undone = refl
+broken_is fates.Stopped ack undone = refl
 
-said_so : (state : State) (effect : BatchEffect) (batch : Batch) → word_of state.collector.armed effect batch ≡ answer_word state effect batch
-said_so state (Ok changes) batch = refl
-said_so state (Err fault) batch = refl
-
-broken_is : (how : the_fate.Fate) (batch : Batch) → is_done how ≡ false → outcome_word (Answered (Broken how)) batch.ack_wanted ≡ batch_word batch how
-broken_is fates.Done batch undone = cc
-broken_is fates.Failed batch undone = refl
-broken_is fates.Stopped batch undone = refl
-
-word_so : (armed : Option Armed) (effect : BatchEffect) (batch : Batch) (called : Called Unit FaultName) → CalledAs armed effect tt called
-    → outcome_word (Answered called) batch.ack_wanted ≡ word_of armed effect batch
-word_so armed (Ok changes) batch (Done done) is = ap (batch_word batch) (sym is.0)
-word_so armed (Ok changes) batch (Broken how) is = broken_is how batch is.0 ∙ ap (batch_word batch) is.1
-word_so armed (Ok changes) batch (Refused fault) is = absurd is
-word_so armed (Err fault) batch (Done done) is = absurd is
-word_so armed (Err fault) batch (Broken how) is = absurd is
-word_so armed (Err fault) batch (Refused refused) is = ap fault_answer is
+word_so : (c : Collector) (effect : BatchEffect) (ack : Bool) (called : Called Unit FaultName) → CalledAs c.armed effect tt called → outcome_word (Answered called) ack ≡ word_for c effect ack
+word_so c (Ok changes) ack (Done done) is = ap (commit_word ack) (sym is.0)
+word_so c (Ok changes) ack (Broken how) is = broken_is how ack is.0 ∙ ap (commit_word ack) is.1
+word_so c (Ok changes) ack (Refused fault) is = absurd is
+word_so c (Err fault) ack (Done done) is = absurd is
+word_so c (Err fault) ack (Broken how) is = absurd is
+word_so c (Err fault) ack (Refused refused) is = ap fault_answer is
 
 pub batch_says : (state : State) (u s : List ℕ) (batch : Batch) (taken : Used (Called Unit FaultName))
     → CameTo (collector_opening state.collector) (collector_opened state.collector) (λ rows. batch_effect rows u s batch state.moment) (λ _. tt) taken
@@ -220,4 +176,4 @@ batch_says state u s batch taken came = by (collector_opened state.collector).me
     by None (Answered called) came = absurd came
     by (Some memory) (Closed went) came = absurd came
     by (Some memory) (Answered called) came =
-        ap (batch_text u s) (word_so (collector_opened state.collector).armed effect batch called came ∙ said_so (with_opened state) effect batch)
+        ap (batch_text u s) (word_so (collector_opened state.collector) effect batch.ack_wanted called came ∙ word_is (with_opened state) effect batch.ack_wanted)

@@ -16,7 +16,7 @@ use Rattle.wef_places.specs.Counted.{is_heard, is_heard_at, is_open_at}
 use Rattle.wef_places.specs.Slots.{after_reply, reply_heard}
 use Rattle.wef_messages.specs.Messages.{reply_message}
 use Rattle.wef_requests.specs.Requests.{requested_at}
-use Rattle.wef_world.proofs.AtCollector.{asked_text, events_text, note_text, response_text}
+use Rattle.wef_world.proofs.AtCollector.{asked_text, beat_text, events_text, note_text, response_text}
 use Rattle.wef_world.proofs.Used.{given_text, request_text}
 use Rattle.wef_world.specs.Delivered.{deliver_comes, delivered_by, delivered_line, delivered_text, heard_of, taken_of}
 
@@ -70,6 +70,7 @@ message_told : (state : State) (k : ℕ) (message : Message) → delivered_line 
 message_told state k (sent.Ask s id) = numbered k (next_number state) (taken_of state (sent.Ask s id)) ∙ asked_text state k s id
 message_told state k (sent.Offers s id relates given) = given_text state k s (λ end. heard_word (offers_heard end relates given state.moment))
 message_told state k (sent.Events s delivery) = numbered k (next_number state) (taken_of state (sent.Events s delivery)) ∙ events_text state k s delivery
+message_told state k (sent.Beat s beat) = numbered k (next_number state) (taken_of state (sent.Beat s beat)) ∙ beat_text state k s beat
 message_told state k (sent.Ack s id relates) = given_text state k s (λ end. heard_word (ack_heard end relates))
 message_told state k (sent.Fault s id relates fault) = given_text state k s (λ end. heard_word (fault_heard end relates))
 message_told state k (sent.Request s id identifier body) =

@@ -1,5 +1,5 @@
--- What a kept world's messages are: asks, deliveries and notes can be sent, asks and requests can be answered, and the addresses of
--- deliveries and notes lead to a subscription and a source.
+-- What a kept world's messages are: asks, deliveries, heartbeats and notes can be sent, asks and requests can be answered, and the
+-- addresses of deliveries, heartbeats and notes lead to a subscription and a source.
 use Rattle.std.proofs.Common.{◌≡◌, ℕ, List, [], ◌∷◌, refl, sym, subst, ap, ◌∙◌}
 use Rattle.std.specs.List.{AllByRecursion}
 use Rattle.std.specs.Prelude.{Option, Some, None, IfSome}
@@ -7,7 +7,8 @@ use Rattle.wef_envelope.specs.Laws.{IsSpelt}
 use Rattle.wef_eventing.specs.Addresses.{source_in, subscription_in}
 use Rattle.wef_eventing.specs.declared.subscriptions.Subscription.{Subscription}
 use Rattle.wef_front.specs.Sent.{CanBeAsked}
-use Rattle.wef_front_source.specs.Sending.{CanBeSent}
+use Rattle.wef_front_source.specs.Sending.{BeatCanBeSent, CanBeSent}
+use Rattle.wef_heartbeat.specs.declared.messages.Heartbeat.{Heartbeat}
 use Rattle.wef_ids.specs.declared.MessageId.{MessageId}
 use Rattle.wef_safety.proofs.CollectorSteps.{opened_kept}
 use Rattle.wef_safety.proofs.LowerFacts.{lower}
@@ -17,16 +18,16 @@ use Rattle.wef_safety.proofs.RowMoves.{known_name}
 use Rattle.wef_safety.proofs.Offerable.{kept_offers_can_be_sent}
 use Rattle.wef_pairs.specs.Pairs.{subscription_at}
 use Rattle.wef_requests.specs.Requests.{Requested}
-use Rattle.wef_safety.proofs.Sendable.{ask_can_be_sent, delivery_can_be_sent, notes_are_spelt, response_is_spelt}
+use Rattle.wef_safety.proofs.Sendable.{ask_can_be_sent, beat_can_be_sent, delivery_can_be_sent, notes_are_spelt, response_is_spelt}
 use Rattle.wef_machine.specs.Collecting.{collector_opened, with_opened as collected}
 use Rattle.wef_safety.proofs.Sent.{sent_by_number}
 use Rattle.wef_safety.proofs.SourceSteps.{with_opened_kept}
 use Rattle.wef_machine.specs.Deliveries.{message_at}
-use Rattle.wef_safety.specs.Kept.{IsAskedFor, IsDelivery, IsKept, IsMessageKept, IsNote, WasDrawn, WhereDeclared}
+use Rattle.wef_safety.specs.Kept.{IsAskedFor, IsDelivery, IsKept, IsMessageKept, IsOnPath, WasDrawn, WhereDeclared}
 use Rattle.wef_machine.specs.Sources.{slot_opened, slot_opening, with_opened}
 use Rattle.wef_machine.specs.States.{Slot, State, slot_of}
 use Rattle.wef_machine.specs.declared.messages.Message.{Message}
-use Rattle.wef_machine.specs.declared.messages.Message.TheVariants.{Ask, Ended, Events, Request}
+use Rattle.wef_machine.specs.declared.messages.Message.TheVariants.{Ask, Beat, Ended, Events, Request}
 use Rattle.wef_source.specs.Machine.{End}
 use Rattle.wef_source.specs.Serving.{NoteCanBeSent}
 use Rattle.wef_source.specs.Sessions.{session_of}
@@ -67,13 +68,19 @@ delivery_leads before now k s delivery found is kept = by (slot_of now s) refl (
     by None here declared = absurd declared
     by (Some slot) here declared = leads_to now declared.u s delivery.notify_to declared.about slot kept declared.known here declared.to_subscription declared.to_source
 
--- and that of a note of the end of a session
-pub note_leads : (before now : State) (k : ℕ) (s : List ℕ) (note : EndNote) → message_at before k ≡ Some (Ended s note) → before ≡ now → IsKept now → Leads note.end_to
-note_leads before now k s note found is kept = by (slot_of now s) refl (kept_message before now k (Ended s note) found is kept)
+-- and that of what a source says beside its events
+path_leads : (now : State) (s address : List ℕ) (id : MessageId) → IsKept now → WhereDeclared (slot_of now s) (λ slot. IsOnPath now.collector.rows s slot address id) → Leads address
+path_leads now s address id kept = by (slot_of now s) refl
   where
-    by : (o : Option Slot) → slot_of now s ≡ o → WhereDeclared o (λ slot. IsNote now.collector.rows s slot note) → Leads note.end_to
+    by : (o : Option Slot) → slot_of now s ≡ o → WhereDeclared o (λ slot. IsOnPath now.collector.rows s slot address id) → Leads address
     by None here declared = absurd declared
-    by (Some slot) here declared = leads_to now declared.u s note.end_to declared.about slot kept declared.known here declared.to_subscription declared.to_source
+    by (Some slot) here declared = leads_to now declared.u s address declared.about slot kept declared.known here declared.to_subscription declared.to_source
+
+pub beat_leads : (before now : State) (k : ℕ) (s : List ℕ) (beat : Heartbeat) → message_at before k ≡ Some (Beat s beat) → before ≡ now → IsKept now → Leads beat.notify_to
+beat_leads before now k s beat found is kept = path_leads now s beat.notify_to beat.id kept (kept_message before now k (Beat s beat) found is kept)
+
+pub note_leads : (before now : State) (k : ℕ) (s : List ℕ) (note : EndNote) → message_at before k ≡ Some (Ended s note) → before ≡ now → IsKept now → Leads note.end_to
+note_leads before now k s note found is kept = path_leads now s note.end_to note.id kept (kept_message before now k (Ended s note) found is kept)
 
 -- what a session has to send can be sent
 pub polled_can_be_sent : (before now : State) (s u : List ℕ) (slot slot' : Slot) (moment : ℕ) (used : Used Polled) → before ≡ now → IsKept now → Some slot ≡ slot_of before s → PollsAs slot slot' u moment used
@@ -89,13 +96,17 @@ polled_can_be_sent before now s u slot slot' moment used is kept there polls =
     can_be_sent end None polled.Nothing kept_so runs found answers = tt
     can_be_sent end None polled.Spent kept_so runs found answers = tt
     can_be_sent end None (polled.Sent delivery) kept_so runs found answers = absurd answers
+    can_be_sent end None (polled.Beat beat) kept_so runs found answers = absurd answers
     can_be_sent end (Some session) polled.Unknown kept_so runs found answers = tt
     can_be_sent end (Some session) polled.Expired kept_so runs found answers = tt
     can_be_sent end (Some session) polled.Nothing kept_so runs found answers = tt
     can_be_sent end (Some session) polled.Spent kept_so runs found answers = tt
     can_be_sent end (Some session) (polled.Sent delivery) kept_so runs found answers =
-        subst CanBeSent (sym answers.3)
-        (delivery_can_be_sent (with_opened before s slot) s u (slot_opened slot) end session kept_so (slot_put before.sources s (slot_opened slot)) runs found answers.2)
+        subst CanBeSent (sym answers.4)
+        (delivery_can_be_sent (with_opened before s slot) s u (slot_opened slot) end session kept_so (slot_put before.sources s (slot_opened slot)) runs found answers.3)
+    can_be_sent end (Some session) (polled.Beat beat) kept_so runs found answers =
+        subst BeatCanBeSent (sym answers.4)
+        (beat_can_be_sent (with_opened before s slot) s u (slot_opened slot) end session kept_so (slot_put before.sources s (slot_opened slot)) runs found answers.3)
 
     by : IsKept (with_opened before s slot) → (memory : Option End) → (slot_opened slot).place.memory ≡ memory → (used : Used Polled)
         → UsedAs (slot_opening slot) memory (slot' ≡ slot_opened slot) (λ (end : End). PollsIn (slot_opened slot) slot' end (session_of end.sessions u) moment) used → CanBeSentAs used

@@ -10,7 +10,7 @@ use Rattle.wef_ids.specs.declared.MessageId.{MessageId}
 use Rattle.wef_event.specs.Events.{Event}
 use Rattle.wef_keeper.specs.Calls.{Effect}
 use Rattle.wef_building.specs.Faults.{source_answer, source_fault}
-use Rattle.wef_source.specs.Machine.{End, asked, delivery_of, end_notes, is_idle, is_spent, next_id, sent, shut_in}
+use Rattle.wef_source.specs.Machine.{End, asked, beat_of, beaten, delivery_of, end_notes, has_caught_up, is_idle, is_spent, next_id, sent, shut_in}
 use Rattle.wef_source.specs.Sessions.{has_expired, session_of}
 use Rattle.wef_source.specs.declared.messages.EndNote.{EndNote}
 use Rattle.wef_building.specs.declared.faults.SourceFault.{SourceFault}
@@ -29,7 +29,7 @@ use Rattle.wef_machine.specs.Sources.{ask_at, ask_printed, ask_text, at_slot, at
 use Rattle.wef_machine.specs.States.{Slot, Slots, State, next_number as next_message, slot_of, slot_with, with_end, with_message, with_messages, with_slot}
 use Rattle.wef_machine.specs.declared.arming.Fate as the_fate
 use Rattle.wef_machine.specs.declared.arming.Fate.TheVariants as fates
-use Rattle.wef_machine.specs.declared.messages.Message.TheVariants.{Ask, Ended, Events}
+use Rattle.wef_machine.specs.declared.messages.Message.TheVariants.{Ask, Beat, Ended, Events}
 use Rattle.wef_places.specs.Places.{CalledAs, UsedAs}
 use Rattle.wef_places.specs.Polls.{with_asked, with_polled}
 use Rattle.wef_places.specs.Slots.{AsksAs, AsksBy, LosesAs, PollsAs, PollsIn, ShutsAs, ShutsBy, Uses, WritesAs, changed_where_runs, given_by, given_to, slot_changed, slot_wrote, word_at, word_by, word_where_runs, written_by, written_line, written_where_runs}
@@ -207,15 +207,25 @@ polled_in state s slot slot' end None polled.Expired h = absurd h
 polled_in state s slot slot' end None polled.Nothing h = absurd h
 polled_in state s slot slot' end None polled.Spent h = absurd h
 polled_in state s slot slot' end None (polled.Sent delivery) h = absurd h
+polled_in state s slot slot' end None (polled.Beat beat) h = absurd h
 polled_in state s slot slot' end (Some session) polled.Unknown h = absurd h
 polled_in state s slot slot' end (Some session) polled.Expired h = ap (with_slot state s) h.1 ∙ when_true _ _ _ h.0
 polled_in state s slot slot' end (Some session) polled.Nothing h = ap (with_slot state s) h.2 ∙ when_true _ _ _ h.1 ∙ when_false _ _ _ h.0
 polled_in state s slot slot' end (Some session) polled.Spent h = ap (with_slot state s) h.3 ∙ when_true _ _ _ h.2 ∙ when_false _ _ _ h.1 ∙ when_false _ _ _ h.0
 polled_in state s slot slot' end (Some session) (polled.Sent delivery) h =
-    (λ i. with_message (with_slot state s (h.4 i)) (Events s (h.3 i)))
+    (λ i. with_message (with_slot state s (h.5 i)) (Events s (h.4 i)))
     ∙ sym (ap (λ (w : State). with_message w (Events s (delivery_of (slot_opened slot).place.rows end session)))
     (with_slot_twice state s (slot_opened slot) (slot_with (slot_opened slot) (remembering (slot_opened slot).place (sent (slot_opened slot).place.rows end session state.moment)))))
     ∙ when_false _ _ _ h.2
+    ∙ when_false _ _ _ h.3
+    ∙ when_false _ _ _ h.1
+    ∙ when_false _ _ _ h.0
+polled_in state s slot slot' end (Some session) (polled.Beat beat) h =
+    (λ i. with_message (with_slot state s (h.5 i)) (Beat s (h.4 i)))
+    ∙ sym (ap (λ (w : State). with_message w (Beat s (beat_of end session)))
+    (with_slot_twice state s (slot_opened slot) (slot_with (slot_opened slot) (remembering (slot_opened slot).place (beaten end session state.moment)))))
+    ∙ when_true _ _ _ h.2
+    ∙ when_false _ _ _ h.3
     ∙ when_false _ _ _ h.1
     ∙ when_false _ _ _ h.0
 
@@ -238,11 +248,13 @@ sent_in state slot slot' end None polled.Expired h = absurd h
 sent_in state slot slot' end None polled.Nothing h = absurd h
 sent_in state slot slot' end None polled.Spent h = absurd h
 sent_in state slot slot' end None (polled.Sent delivery) h = absurd h
+sent_in state slot slot' end None (polled.Beat beat) h = absurd h
 sent_in state slot slot' end (Some session) polled.Unknown h = absurd h
 sent_in state slot slot' end (Some session) polled.Expired h = when_true _ _ _ h.0
 sent_in state slot slot' end (Some session) polled.Nothing h = when_true _ _ _ h.1 ∙ when_false _ _ _ h.0
 sent_in state slot slot' end (Some session) polled.Spent h = when_true _ _ _ h.2 ∙ when_false _ _ _ h.1 ∙ when_false _ _ _ h.0
-sent_in state slot slot' end (Some session) (polled.Sent delivery) h = when_false _ _ _ h.2 ∙ when_false _ _ _ h.1 ∙ when_false _ _ _ h.0
+sent_in state slot slot' end (Some session) (polled.Sent delivery) h = when_false _ _ _ h.2 ∙ when_false _ _ _ h.3 ∙ when_false _ _ _ h.1 ∙ when_false _ _ _ h.0
+sent_in state slot slot' end (Some session) (polled.Beat beat) h = when_true _ _ _ h.2 ∙ when_false _ _ _ h.3 ∙ when_false _ _ _ h.1 ∙ when_false _ _ _ h.0
 
 pub polled_comes : (state : State) (s u : List ℕ) (slot slot' : Slot) (used : Used Polled) → Some slot ≡ slot_of state s → PollsAs slot slot' u state.moment used
     → Some (polled_number (next_message state) used) ≡ poll_comes state s u
@@ -259,16 +271,19 @@ polled_comes state s u slot slot' used there polls =
 pub polled_told : (state : State) (s u : List ℕ) → polled_line s u (poll_comes state s u) ≡ poll_printed state s u
 polled_told state s u = line_told state s (poll_sent u) (polled_line s u) (closed_line s) (poll_text s u) refl (λ how. refl) (λ now slot end. in_session now slot end (session_of end.sessions u))
   where
-    by : (over idle spent : Bool) (n : ℕ) → polled_line s u (Some (Answered (cond over becomes.Expired (cond idle becomes.Nothing (cond spent becomes.Spent (becomes.Sent n))))))
-        ≡ cond over (pair_line (codes "expired") s u) (cond idle (pair_line (codes "nothing") s u) (cond spent (name_line (codes "spent") s) (sent_line n (codes "events") s u)))
-    by true idle spent n = refl
-    by false true spent n = refl
-    by false false true n = refl
-    by false false false n = refl
+    by : (over idle spent caught_up : Bool) (n : ℕ)
+        → polled_line s u (Some (Answered (cond over becomes.Expired (cond idle becomes.Nothing (cond spent becomes.Spent (cond caught_up (becomes.Beat n) (becomes.Sent n)))))))
+        ≡ cond over (pair_line (codes "expired") s u) (cond idle (pair_line (codes "nothing") s u)
+        (cond spent (name_line (codes "spent") s) (cond caught_up (sent_line n (codes "heartbeat") s u) (sent_line n (codes "events") s u))))
+    by true idle spent caught_up n = refl
+    by false true spent caught_up n = refl
+    by false false true caught_up n = refl
+    by false false false true n = refl
+    by false false false false n = refl
 
     in_session : (now : State) (slot : Slot) (end : End) (found : Option Session) → polled_line s u (Some (Answered (poll_sent_in now slot end found))) ≡ poll_text_in s u now slot end found
     in_session now slot end None = refl
-    in_session now slot end (Some session) = by (has_expired now.moment session) (is_idle slot.place.rows session) (is_spent end) (next_message now)
+    in_session now slot end (Some session) = by (has_expired now.moment session) (is_idle now.moment slot.place.rows session) (is_spent end) (has_caught_up slot.place.rows session) (next_message now)
 
 -- ---- sources that are given something
 

@@ -12,7 +12,7 @@ use Rattle.wef_places.specs.declared.places.Used.{Used}
 use Rattle.wef_places.specs.declared.places.Used.TheVariants.{Closed, Answered}
 use Rattle.wef_places.specs.declared.slots.Polled.{Polled}
 use Rattle.wef_places.specs.declared.slots.Polled.TheVariants as polled
-use Rattle.wef_source.specs.Machine.{End, is_idle, is_spent}
+use Rattle.wef_source.specs.Machine.{End, has_caught_up, is_idle, is_spent}
 use Rattle.wef_source.specs.Sessions.{has_expired, session_of}
 use Rattle.wef_world.specs.declared.source_lines.Polls.{Polls}
 use Rattle.wef_world.specs.declared.source_lines.Polls.TheVariants as polls
@@ -55,12 +55,13 @@ asked_line s (Some (Answered (Some n))) = sent_ask_line n s
 
 -- ---- polls
 
--- what a poll of a session comes to: it sends what it has to send, where an id is left for that
+-- what a poll of a session comes to: it sends what it has to send, where an id is left for that, its next batch or else a heartbeat
 abbrev pub session_sent : State → Slot → End → Session → Polls
 session_sent state slot end session =
     if has_expired state.moment session then polls.Expired
-    else (if is_idle slot.place.rows session then polls.Nothing
-    else (if is_spent end then polls.Spent else polls.Sent (next_number state)))
+    else (if is_idle state.moment slot.place.rows session then polls.Nothing
+    else (if is_spent end then polls.Spent
+    else (if has_caught_up slot.place.rows session then polls.Beat (next_number state) else polls.Sent (next_number state))))
 
 abbrev pub poll_sent_in : State → Slot → End → Option Session → Polls
 poll_sent_in state slot end None = polls.Unknown
@@ -79,6 +80,7 @@ sent_as n polled.Expired = polls.Expired
 sent_as n polled.Nothing = polls.Nothing
 sent_as n polled.Spent = polls.Spent
 sent_as n (polled.Sent delivery) = polls.Sent n
+sent_as n (polled.Beat beat) = polls.Beat n
 
 abbrev pub polled_number : ℕ → Used Polled → Used Polls
 polled_number n (Closed how) = Closed how
@@ -93,3 +95,4 @@ polled_line s u (Some (Answered polls.Expired)) = pair_line (codes "expired") s 
 polled_line s u (Some (Answered polls.Nothing)) = pair_line (codes "nothing") s u
 polled_line s u (Some (Answered polls.Spent)) = name_line (codes "spent") s
 polled_line s u (Some (Answered (polls.Sent n))) = sent_line n (codes "events") s u
+polled_line s u (Some (Answered (polls.Beat n))) = sent_line n (codes "heartbeat") s u

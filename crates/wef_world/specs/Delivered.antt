@@ -1,7 +1,7 @@
 -- What becomes of a message that is delivered, with the number of the answer that is sent, and what is printed of it.
 use Rattle.std.specs.Option.{option_map}
 use Rattle.std.specs.Prelude.{ℕ, List, Option, Some, None}
-use Rattle.wef_deliveries.specs.Outcomes.{asked_of, events_of, note_of, request_of, response_word}
+use Rattle.wef_deliveries.specs.Outcomes.{asked_of, beat_of, events_of, note_of, request_of, response_word}
 use Rattle.wef_deliveries.specs.declared.taken.Taken.{Taken}
 use Rattle.wef_machine.specs.Deliveries.{ack_heard, fault_heard, heard_word, message_at, offers_heard}
 use Rattle.wef_machine.specs.Printed.{answered_line, no_message_line, took_line}
@@ -24,6 +24,7 @@ abbrev pub taken_of : State → Message → Taken
 taken_of state (sent.Ask s id) = asked_of state.collector s id
 taken_of state (sent.Offers s id relates given) = heard_of state s (λ end. heard_word (offers_heard end relates given state.moment))
 taken_of state (sent.Events s delivery) = events_of state.collector s delivery state.moment
+taken_of state (sent.Beat s beat) = beat_of state.collector s beat state.moment
 taken_of state (sent.Ack s id relates) = heard_of state s (λ end. heard_word (ack_heard end relates))
 taken_of state (sent.Fault s id relates fault) = heard_of state s (λ end. heard_word (fault_heard end relates))
 taken_of state (sent.Request s id identifier body) = request_of state.sources s (requested_at (address_of s) id identifier body) state.moment

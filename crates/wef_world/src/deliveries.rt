@@ -15,7 +15,7 @@ use std::alloc::{AllocError, Global};
 use wef_base::{Bytes, Text};
 use wef_deliveries::giving::{give, give_request};
 use wef_deliveries::taken::Taken;
-use wef_deliveries::taking::{take_ask, take_delivery, take_note, take_response};
+use wef_deliveries::taking::{take_ask, take_beat, take_delivery, take_note, take_response};
 use wef_messages::messages::{Content, Sent};
 use wef_places::{Answers, WorldFault};
 use wef_printing::printing::{answered_line, no_message_line, took_line};
@@ -89,6 +89,11 @@ impl Ends {
             Content::Delivery(delivery) => {
                 let collector = &mut self.collector;
                 let taken = take_delivery(alloc, collector, answers, source, delivery, now)?;
+                Ok(Some(self.send_answer(taken)?))
+            }
+            Content::Beat(beat) => {
+                let collector = &mut self.collector;
+                let taken = take_beat(alloc, collector, answers, source, beat, now)?;
                 Ok(Some(self.send_answer(taken)?))
             }
             Content::Reply(reply) => {

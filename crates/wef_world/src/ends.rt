@@ -198,6 +198,7 @@ impl Ends {
                 source,
                 channel,
             } => self.print(sub, source, channel),
+            Line::Status { sub } => self.status(sub),
             Line::Tick { milliseconds } => self.tick(*milliseconds),
         }
     }
@@ -317,6 +318,23 @@ impl Ends {
             return Ok(fate_line(self.alloc, fate, COLLECTOR)?);
         };
         match held_text(self.alloc, collector, sub, source, channel) {
+            Ok(text) => Ok(text),
+            Err(CollectorFault::NoSubscription) => Ok(name_line("unknown", sub.as_text())?),
+            Err(_) => Err(WorldFault::NoMemory),
+        }
+    }
+
+    fn status(&mut self, sub: &SubId) -> Result<Text, WorldFault>
+        requires formed { AreFormed self.old.collector.rows }
+        ensures state { OnOk result (self.new ≡ collecting.at_collector self.old (λ memory. steps.unchanged)) }
+        ensures printed { IfOk result (λ text. text ≡ collecting.print_at_collector self.old steps.closed_line (λ memory. steps.status_text sub.now)) }
+    {
+        let (alloc, now) = (self.alloc, self.moment);
+        let fate = collecting::open(&mut self.collector, alloc)?;
+        let Some(collector) = self.collector.running() else {
+            return Ok(fate_line(alloc, fate, COLLECTOR)?);
+        };
+        match collector.statuses(sub, now) {
             Ok(text) => Ok(text),
             Err(CollectorFault::NoSubscription) => Ok(name_line("unknown", sub.as_text())?),
             Err(_) => Err(WorldFault::NoMemory),

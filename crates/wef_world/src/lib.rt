@@ -1,7 +1,7 @@
 //! The ends that a schedule moves, and what its lines do to them and print.
 #![tactic(auto)]
 
-pub mod deliveries;
+mod deliveries;
 mod ends;
 mod requesting;
 mod source_lines;

@@ -4,13 +4,13 @@ ghost use Rattle.std.specs.List.{AllByRecursion};
 ghost use Rattle.std.specs.Prelude.{◌≡◌, [], codes, map, IfOk, OnOk};
 ghost use Rattle.wef_event.specs.Unnumbered.{new_event};
 ghost use Rattle.wef_front.specs.Sent.{CanBeAsked};
-ghost use Rattle.wef_front_source.specs.Sending.{CanBeSent};
+ghost use Rattle.wef_front_source.specs.Sending.{BeatCanBeSent, CanBeSent};
 ghost use Rattle.wef_safety.specs.Kept.{IsKept};
 ghost use Rattle.wef_machine.specs.Leasing as leasing;
 ghost use Rattle.wef_machine.specs.Printed as texts;
 ghost use Rattle.wef_machine.specs.Sources as steps;
 ghost use Rattle.wef_machine.specs.States as states;
-ghost use Rattle.wef_machine.specs.declared.messages.Message.TheVariants.{Ask, Ended, Events};
+ghost use Rattle.wef_machine.specs.declared.messages.Message.TheVariants.{Ask, Beat, Ended, Events};
 ghost use Rattle.wef_places.specs.Polls as polls;
 ghost use Rattle.wef_places.specs.Slots as slots;
 ghost use Rattle.wef_world.specs.Asked as sends;
@@ -21,9 +21,10 @@ use std::alloc::{AllocError, Global};
 use wef_base::{List, SourceName, SubId, Text};
 use wef_deliveries::taking::subscription_named;
 use wef_event::{Event, PlainEvent};
+use wef_heartbeat::Heartbeat;
 use wef_ids::MessageId;
 use wef_lines::name_line;
-use wef_messages::messages::{Content, DeliveryBytes, NoteBytes, Sent, WishBytes};
+use wef_messages::messages::{BeatBytes, Content, DeliveryBytes, NoteBytes, Sent, WishBytes};
 use wef_places::WorldFault;
 use wef_places::places::{Called, Used};
 use wef_places::slots::{Capacity, Polled, Slot};
@@ -41,8 +42,10 @@ pub(crate) enum Polls {
     Nothing,
     /// No message numbers are left.
     Spent,
-    /// The message of this number was sent.
+    /// The batch of this number was sent.
     Sent(u64),
+    /// The heartbeat of this number was sent.
+    Beat(u64),
 }
 
 impl Ends {
@@ -214,10 +217,14 @@ impl Ends {
                 let number = self.send_delivery(source, &delivery)?;
                 Ok(Used::Answered(Polls::Sent(number)))
             }
+            Used::Answered(Polled::Beat(beat)) => {
+                let number = self.send_beat(source, &beat)?;
+                Ok(Used::Answered(Polls::Beat(number)))
+            }
         }
     }
 
-    /// Lets a source give up waiting for the answer to a session's delivery.
+    /// Lets a source give up waiting for the answer to what a session sent.
     pub(crate) fn lose(&mut self, source: &SourceName, sub: &SubId) -> Result<Text, WorldFault>
         requires kept { IsKept self.old }
         ensures state { OnOk result (self.new ≡ steps.lost_step self.old source.now sub.now) }
@@ -310,6 +317,16 @@ impl Ends {
         self.send(Sent::of(source.clone()?, content))
     }
 
+    /// Sends a heartbeat as its bytes, and answers its number.
+    fn send_beat(&mut self, source: &SourceName, beat: &Heartbeat) -> Result<u64, AllocError>
+        requires { BeatCanBeSent beat.now }
+        ensures state { OnOk result (self.new ≡ states.with_message self.old (Beat source.now beat.now)) }
+        ensures number { IfOk result (λ number. number ≡ states.next_number self.old) }
+    {
+        let content = Content::Beat(BeatBytes::of(self.alloc, beat)?);
+        self.send(Sent::of(source.clone()?, content))
+    }
+
     /// Sends a note of the end of a session as its bytes, and answers its number.
     fn send_note(&mut self, source: &SourceName, note: &EndNote) -> Result<u64, AllocError>
         requires { told.CanBeTold note.now }
@@ -364,6 +381,7 @@ fn polled_line(
         Some(Used::Answered(Polls::Nothing)) => pair_line("nothing", name, named),
         Some(Used::Answered(Polls::Spent)) => name_line("spent", name),
         Some(Used::Answered(Polls::Sent(number))) => sent_line(number, "events", source, named),
+        Some(Used::Answered(Polls::Beat(number))) => sent_line(number, "heartbeat", source, named),
     }
 }
 

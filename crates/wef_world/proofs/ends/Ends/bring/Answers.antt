@@ -10,9 +10,9 @@ use Rattle.wef_machine.specs.States.{Collector, Slots, State, next_number, with_
 use Rattle.wef_machine.specs.declared.messages.Message.TheVariants as sent
 use Rattle.wef_places.specs.Slots.{after_told, told_word}
 use Rattle.wef_requests.specs.Requests.{Requested}
-use Rattle.wef_world.proofs.AtCollector.{asked_state, events_state, note_state, response_state}
+use Rattle.wef_world.proofs.AtCollector.{asked_state, beat_state, events_state, note_state, response_state}
 use Rattle.wef_world.proofs.Delivered.{delivers, delivers_as, delivers_reply, delivers_reply_as, is_at}
-use Rattle.wef_world.proofs.Kept.{ask_can_be_answered, delivery_leads, note_leads, request_can_be_answered}
+use Rattle.wef_world.proofs.Kept.{ask_can_be_answered, beat_leads, delivery_leads, note_leads, request_can_be_answered}
 use Rattle.wef_world.proofs.Used.{given_state, request_state}
 use Rattle.wef_world.proofs.ends.Ends.bring.Goals as goal
 use Rattle.wef_messages.specs.Messages.{IsOf, message_of}
@@ -90,6 +90,29 @@ returns-in_ok-send_answer-in-Delivery-clause-delivered g c =
     let found = is_at (the_view c.self.inside) c.args.number c.as_slice.ensures c.in-Some.ensures (c.parts.ensures.message ∙ ap (message_of source) c.in-Delivery.is) in
     ap Some c.in_ok-send_answer-in-Delivery.ensures.delivered ∙ ap (λ (taken : Taken). Some (delivered_by (next_number before) taken)) c.in_ok-taken-in-Delivery.ensures.taken
     ∙ delivers_as before c.args.self.now c.args.number (sent.Events source c.in-Delivery.delivery) found c.self.view_is
+
+pub take_beat-requires-clause-leads : goal.take_beat-requires-clause-leads
+take_beat-requires-clause-leads g c =
+    let source = c.parts.result.0.now in
+    let found = is_at (the_view c.self.inside) c.args.number c.as_slice.ensures c.in-Some.ensures (c.parts.ensures.message ∙ ap (message_of source) c.in-Beat.is) in
+    beat_leads (the_view c.self.inside) c.args.self.now c.args.number source c.in-Beat.beat found c.self.view_is c.requires.kept
+
+pub returns-in_ok-send_answer-in-Beat-clause-state : goal.returns-in_ok-send_answer-in-Beat-clause-state
+returns-in_ok-send_answer-in-Beat-clause-state g c =
+    let before : State = the_view c.self.inside in
+    let source = c.parts.result.0.now in
+    let found = is_at (the_view c.self.inside) c.args.number c.as_slice.ensures c.in-Some.ensures (c.parts.ensures.message ∙ ap (message_of source) c.in-Beat.is) in
+    c.in_ok-send_answer-in-Beat.ensures.state
+    ∙ (λ i. with_sent (with_collector before (c.in_ok-taken-in-Beat.ensures.collector i)) (c.in_ok-taken-in-Beat.ensures.taken i).answer)
+    ∙ beat_state before source c.in-Beat.beat ∙ delivers before c.args.self.now c.args.number (sent.Beat source c.in-Beat.beat) found c.self.view_is
+
+pub returns-in_ok-send_answer-in-Beat-clause-delivered : goal.returns-in_ok-send_answer-in-Beat-clause-delivered
+returns-in_ok-send_answer-in-Beat-clause-delivered g c =
+    let before : State = the_view c.self.inside in
+    let source = c.parts.result.0.now in
+    let found = is_at (the_view c.self.inside) c.args.number c.as_slice.ensures c.in-Some.ensures (c.parts.ensures.message ∙ ap (message_of source) c.in-Beat.is) in
+    ap Some c.in_ok-send_answer-in-Beat.ensures.delivered ∙ ap (λ (taken : Taken). Some (delivered_by (next_number before) taken)) c.in_ok-taken-in-Beat.ensures.taken
+    ∙ delivers_as before c.args.self.now c.args.number (sent.Beat source c.in-Beat.beat) found c.self.view_is
 
 pub returns-in_ok-word-in-Reply-clause-state : goal.returns-in_ok-word-in-Reply-clause-state
 returns-in_ok-word-in-Reply-clause-state g c =

@@ -1,4 +1,4 @@
-use Rattle.std.proofs.Common.{List, ℕ, ap, subst, ◌∙◌}
+use Rattle.std.proofs.Common.{List, ℕ, subst}
 use Rattle.wef_machine.specs.Collecting.{collector_opened, collector_opening}
 use Rattle.wef_machine.specs.States.{State}
 use Rattle.wef_places.specs.Collected.{AsksAs}

@@ -1,24 +1,29 @@
--- What is changed of leases leaves each row of another kind.
+-- What is changed of leases, and of when sources were heard, leaves each row of another kind.
 use Rattle.std.proofs.Common.{◌≡◌, ◌≢◌, ℕ, ◌≤◌, ◌||◌, Bool, false, List, [], ◌∷◌, refl, ap, sym, ◌∙◌, arith}
 use Rattle.std.proofs.lemmas.Bool.{cond_both}
 use Rattle.std.specs.Prelude.{Option, Some, None}
 use Rattle.std.specs.FinMap as finite
 use Rattle.std.specs.List.{AllByRecursion}
 use Rattle.wef_base.specs.Names.{same}
+use Rattle.wef_collector.proofs.Hearing.{others_by_hearing}
 use Rattle.wef_collector.specs.Responses.{lease_changes}
+use Rattle.wef_collector.specs.Taken.{heard_changes}
 use Rattle.wef_collector.specs.declared.responses.Leasing.{Leasing}
 use Rattle.wef_collector.specs.declared.responses.Leasing.TheVariants.{Leases, Clears, Stays}
 use Rattle.wef_collector_leases.specs.Changes.{delete_kept, delete_lease, delete_named, end_lease, is_lease, put_lease, put_over}
 use Rattle.wef_collector_leases.specs.Leases.{lease_at}
 use Rattle.wef_collector_leases.specs.declared.leases.Lease as leases
+use Rattle.wef_collector_rows.specs.Keys.{heard_key}
 use Rattle.wef_keeper.specs.Kinds.{number_of}
 use Rattle.wef_keeper.specs.Laws.{get-unnamed}
 use Rattle.wef_keeper.specs.Rows.{Rows, applied, is_named, key_of}
 use Rattle.wef_keeper.specs.declared.keys.Change.{Change}
 use Rattle.wef_keeper.specs.declared.keys.Key.{Key}
-use Rattle.wef_keeper.specs.declared.kinds.RowKind.TheVariants.{Lease, Loose}
+use Rattle.wef_keeper.specs.declared.kinds.RowKind.TheVariants.{Heard, Lease, Loose}
 use Rattle.wef_pairs.proofs.Takes.{kind_apart}
 use Rattle.wef_safety.proofs.Aside.{AreAside}
+
+-- ---- leases
 
 -- a change is of the row of a lease
 abbrev IsOfLease : Change → Type 0
@@ -71,3 +76,14 @@ leasing_aside rows u s leasing key low = leasing_leaves rows u s leasing key (lo
 
 pub noting_aside : (rows : Rows) (u s identifier : List ℕ) → AreAside (applied (end_lease rows u s identifier) rows) rows
 noting_aside rows u s identifier key low = noting_leaves rows u s identifier key (low_apart key.kind low)
+
+-- ---- when a source was heard
+
+pub hearing_leaves : (rows : Rows) (u s : List ℕ) (now : ℕ) (key : Key) → number_of Heard ≢ key.kind → finite.get (applied (heard_changes rows u s now) rows) key ≡ finite.get rows key
+hearing_leaves rows u s now key other = others_by_hearing rows u s now key (kind_apart (heard_key u s) key other)
+
+heard_apart : (n : ℕ) → n ≤ number_of Loose → number_of Heard ≢ n
+heard_apart n low e = omega arith
+
+pub hearing_aside : (rows : Rows) (u s : List ℕ) (now : ℕ) → AreAside (applied (heard_changes rows u s now) rows) rows
+hearing_aside rows u s now key low = hearing_leaves rows u s now key (heard_apart key.kind low)

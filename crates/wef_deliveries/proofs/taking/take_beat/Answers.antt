@@ -1,0 +1,23 @@
+use Rattle.std.proofs.Common.{◌∙◌}
+use Rattle.wef_places.proofs.Settled.{told_by}
+use Rattle.wef_places.specs.Collected.{collector_of}
+use Rattle.wef_deliveries.proofs.Answered.{beat_answered, beat_is_written}
+use Rattle.wef_deliveries.proofs.taking.take_beat.Goals as goal
+
+pub taken_by-requires : goal.taken_by-requires
+taken_by-requires g c =
+    beat_is_written c.args.beat.now _ _ c.args.now c.in_ok-answer.answer c.in-Some.running.now.memory c.answer_at.new.collector.memory (told_by c.in-Some.running.now.keeper)
+    (told_by c.answer_at.new.collector.keeper) c.bytes.ensures.sent c.requires.leads c.address.ensures c.bytes.ensures.value c.in_ok-answer.ensures.answer
+
+pub returns-clause-collector : goal.returns-clause-collector
+returns-clause-collector g c =
+    (beat_answered (collector_of c.args.collector.now) c.open.new.collector c.settle_answered-fate.new.self c.in-Some.running.now c.answer_at.new.collector c.args.source.now c.args.beat.now _ _ c.args.now
+    c.in_ok-answer.answer c.settle_answered-fate.result c.bytes.ensures.sent c.requires.leads c.address.ensures c.bytes.ensures.value c.in_ok-fate.ensures.collector c.in-Some.ensures.value c.in_ok-fate.ensures.planned
+    c.in_ok-fate.ensures.formed c.in_ok-answer.ensures.answer c.settle_answered-fate.ensures.fate c.settle_answered-fate.ensures.settled).0
+
+pub returns-clause-taken : goal.returns-clause-taken
+returns-clause-taken g c =
+    c.in_ok-taken_by.ensures
+    ∙ (beat_answered (collector_of c.args.collector.now) c.open.new.collector c.settle_answered-fate.new.self c.in-Some.running.now c.answer_at.new.collector c.args.source.now c.args.beat.now _ _ c.args.now
+    c.in_ok-answer.answer c.settle_answered-fate.result c.bytes.ensures.sent c.requires.leads c.address.ensures c.bytes.ensures.value c.in_ok-fate.ensures.collector c.in-Some.ensures.value c.in_ok-fate.ensures.planned
+    c.in_ok-fate.ensures.formed c.in_ok-answer.ensures.answer c.settle_answered-fate.ensures.fate c.settle_answered-fate.ensures.settled).1
