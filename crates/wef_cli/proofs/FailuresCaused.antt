@@ -21,6 +21,7 @@ use Rattle.wef_commands.specs.Refusals.{log_ending, store_ending}
 use Rattle.wef_commands.specs.Removing.{Ends, ended_text}
 use Rattle.wef_commands.specs.Writing.{EndsBefore, StartsLog, WriteEnds, WritesAll, WritesEvent, Wrote, write_ending, written_text}
 use Rattle.wef_commands.specs.Showing.{Reports}
+use Rattle.wef_commands.specs.Statuses.{TellsStatuses}
 use Rattle.wef_commands.specs.declared.ending.Ending.{Ending}
 use Rattle.wef_commands.specs.declared.ending.Ending.TheVariants as ends
 use Rattle.wef_running.specs.Collecting.{CollectEnds}
@@ -62,6 +63,12 @@ report_caused : (before now : Store) (fault : CollectorFault) → Reports (Err f
 report_caused before now faults.Failed call is = call.0.opened.1
 report_caused before now faults.NoMemory call is = absurd (not_failed ends.NoMemory refl is)
 report_caused before now _ call is = absurd call.1
+
+statuses_caused : (u : List ℕ) (moment : ℕ) (before now : Store) (fault : CollectorFault) → TellsStatuses u moment (Err fault) before now → ends.StoreFailed ≡ named_ending u fault → Caused before now
+statuses_caused u moment before now faults.Failed call is = call.0.opened.1
+statuses_caused u moment before now faults.NoMemory call is = absurd (not_failed ends.NoMemory refl is)
+statuses_caused u moment before now faults.NoSubscription call is = absurd (not_failed (ends.Unknown u) refl is)
+statuses_caused u moment before now _ call is = absurd call.1
 
 -- why a call isn't done, where each refusal of the call itself has its cause
 call_caused : {T : Type 0} (Call : Result T CollectorFault → Store → Store → Type 0) (refusal : CollectorFault → Ending) (Tells : T → Ending → Told → Type 0)
@@ -147,6 +154,9 @@ fails_with_cause (Some (the.Events u s c)) input out peers before now (kept, inl
 fails_with_cause (Some (the.Events u s c)) input out peers before now (kept, inr (inl (fault, start, is, unwritten)), unused) = start_caused before now fault start is
 fails_with_cause (Some (the.Events u s c)) input out peers before now (kept, inr (inr started), unused) =
     later_caused AreFormed before started.mid now started.start.0.faults started.call.reads.1
+fails_with_cause (Some (the.Status u)) input out peers before now (kept, inl (is, unwritten, same), unused) = absurd (not_failed ends.NoMemory refl is)
+fails_with_cause (Some (the.Status u)) input out peers before now (kept, inr (moment, given, ended), unused) =
+    call_caused (TellsStatuses u moment) (named_ending u) WroteOut out before now (λ mid fault. statuses_caused u moment mid now fault) (λ text h. h) ended
 fails_with_cause (Some the.Add) input out peers before now (inl (read, unwritten, same), unused) = absurd read
 fails_with_cause (Some the.Add) input out peers before now (inr (s, has, again, ended), unused) =
     call_caused (Adds s) (named_ending s.name) (λ _. WroteOut (added_text s.name)) out before now (λ mid fault. add_caused s mid now fault) (λ given h. h) ended

@@ -28,6 +28,7 @@ use Rattle.wef_commands.specs.Listing.{Lists, WroteList}
 use Rattle.wef_commands.specs.Refusals.{store_ending}
 use Rattle.wef_commands.specs.Removing.{Ends, ended_text}
 use Rattle.wef_commands.specs.Showing.{Reports}
+use Rattle.wef_commands.specs.Statuses.{TellsStatuses}
 use Rattle.wef_commands.specs.Writing.{EndsBefore, WritesAll, Wrote, written_text}
 use Rattle.wef_commands.specs.declared.ending.Ending.{Ending}
 use Rattle.wef_commands.specs.declared.ending.Ending.TheVariants as ends
@@ -206,6 +207,10 @@ module _ (input out : Told) (peers : Peers) (before now : Store) (found : Rows) 
   run_formed (the.Events u s c) formed (kept, inr (inl (fault, start, is, unwritten)), unused) = good_first AreFormed before now found stand formed start.0.formed
   run_formed (the.Events u s c) formed (kept, inr (inr begun), unused) =
       good_reads AreFormed begun.mid now begun.call.reads.0.2 (good_first AreFormed before begun.mid found stand formed begun.start.0.formed)
+  run_formed (the.Status u) formed (kept, inl (is, unwritten, same), unused) = absurd (not_failed ends.NoMemory refl is)
+  run_formed (the.Status u) formed (kept, inr (moment, given, ended), unused) =
+      call_formed before now found stand formed (TellsStatuses u moment) (named_ending u) WroteOut ends.StoreFailed out
+      (λ result mid call opened good. good_look AreFormed mid now opened lawful call.0.opened.0 good) ended
   run_formed the.Add formed (inl (read, unwritten, same), unused) = absurd read
   run_formed the.Add formed (inr (s, has, again, ended), unused) =
       call_formed before now found stand formed (Adds s) (named_ending s.name) (λ _. WroteOut (added_text s.name)) ends.StoreFailed out

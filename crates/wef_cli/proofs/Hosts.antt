@@ -7,7 +7,7 @@ use Rattle.std.specs.Option.{option_and_then, option_map}
 use Rattle.std.specs.Prelude.{Option, None, Some, IfSome, codes}
 use Rattle.wef_base.specs.Names.{channel_name, same, source_name, subscription_name}
 use Rattle.wef_eventing.specs.Addresses.{IsHost, is_printed}
-use Rattle.wef_cli.specs.Command.{HasHost, address_of, begins_with_dash, collect_of, command_in, command_named, command_of, events_of, forward_of, is_address, number_of, remove_of}
+use Rattle.wef_cli.specs.Command.{HasHost, address_of, begins_with_dash, collect_of, command_in, command_named, command_of, events_of, forward_of, is_address, number_of, remove_of, status_of}
 use Rattle.wef_cli.specs.declared.command.Command.{Command}
 use Rattle.wef_cli.specs.declared.command.Command.TheVariants as the
 
@@ -67,7 +67,9 @@ named_host name =
 in_host : (words : List (List ℕ)) → Good (command_in words)
 in_host [] = tt
 in_host (name ∷ []) = named_host name
-in_host (name ∷ word ∷ []) = choose (same name (codes "remove")) (remove_of word) None (made (subscription_name word) the.Remove (λ u. tt)) tt
+in_host (name ∷ word ∷ []) =
+    choose (same name (codes "remove")) (remove_of word) _ (made (subscription_name word) the.Remove (λ u. tt))
+    (choose (same name (codes "status")) (status_of word) None (made (subscription_name word) the.Status (λ u. tt)) tt)
 in_host (name ∷ at ∷ number ∷ []) = choose (same name (codes "collect")) (collect_of at number) None (collect_host at number) tt
 in_host (name ∷ first ∷ second ∷ third ∷ []) =
     choose (same name (codes "forward")) (forward_of first second third) _ (forward_host first second third)

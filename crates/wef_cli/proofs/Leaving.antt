@@ -27,6 +27,10 @@ runs_leave add remove readers write collect forward (Some (the.Remove u)) ending
 runs_leave add remove readers write collect forward (Some the.List) ending input out peers before now ends lawful found last stand may = readers.list ending out before now ends.1 lawful found last stand may
 runs_leave add remove readers write collect forward (Some the.Show) ending input out peers before now ends lawful found last stand may = readers.show ending out before now ends.1 lawful found last stand may
 runs_leave add remove readers write collect forward (Some (the.Events u s c)) ending input out peers before now ends lawful found last stand may = readers.events u s c ending out before now ends.1 lawful found last stand may
+runs_leave add remove readers write collect forward (Some (the.Status u)) ending input out peers before now ends lawful found last stand may = elim ends.1 [
+  | inl undone ↦ inl (as_before before now found last undone.2 stand may)
+  | inr told ↦ readers.status u told.0 ending out before now told.2 lawful found last stand may
+]
 runs_leave add remove readers write collect forward (Some the.Write) ending input out peers before now ends lawful found last stand may = write ending input out before now ends.0 lawful found last stand may
 runs_leave add remove readers write collect forward (Some (the.Collect address count)) ending input out peers before now ends lawful found last stand may =
     collect address count ending out peers.moment peers.front_before peers.front_after before now ends.1 found last stand may

@@ -20,21 +20,23 @@ use Rattle.wef_source_log.specs.LogWindow as log
 use Rattle.wef_source_log.specs.LogWindow.{start_changes}
 use Rattle.wef_source_log.specs.declared.faults.LogFault.{LogFault}
 use Rattle.wef_source_log.specs.declared.faults.LogFault.TheVariants as log_faults
-use Rattle.wef_commands.proofs.ByRows.{adds_by_rows, events_by_rows, lists_by_rows, removes_by_rows, shows_by_rows}
+use Rattle.wef_commands.proofs.ByRows.{adds_by_rows, events_by_rows, lists_by_rows, removes_by_rows, shows_by_rows, statuses_by_rows}
 use Rattle.wef_commands.proofs.NumbersTold.{ending_behind, writes_as_far}
 use Rattle.wef_commands.specs.Adding.{HasDocument, IsRefused}
+use Rattle.wef_commands.specs.Calling.{IsUndone}
 use Rattle.wef_commands.specs.Checking.{lines_of}
 use Rattle.wef_commands.specs.Endings.{HasFailed, IsToldAs, Told}
-use Rattle.wef_commands.specs.Laws.{AddSays, EventsSay, HasWritten, RemoveSays, StopsOver, WriteGoes, WritesText, can_start, events_ending, numbers_of, started, with_event, with_events}
+use Rattle.wef_commands.specs.Laws.{AddSays, EventsSay, HasWritten, RemoveSays, Stand, StatusSays, StopsOver, WriteGoes, WritesText, can_start, events_ending, numbers_of, started, with_event, with_events}
 use Rattle.wef_commands.specs.Listing.{list_text}
 use Rattle.wef_commands.specs.Refusals.{log_ending}
 use Rattle.wef_commands.specs.Writing.{EndsJudging, HasEvents, IsBad, bad_line, events_of, written_text}
 use Rattle.wef_commands.specs.declared.ending.Ending.{Ending}
 use Rattle.wef_commands.specs.declared.ending.Ending.TheVariants as ends
 use Rattle.wef_commands.specs.declared.writing.TheConstants.{LOG_CAPACITY}
+use Rattle.wef_running.specs.Forwarding.{IsMoment}
 use Rattle.wef_cli.proofs.FormsStaying.{never_failed}
-use Rattle.wef_cli.specs.Due.{AddsAsDue, EventsAsDue, GoesWell, IsDueToAdd, IsWellRead, ListsAsDue, RemovesAsDue, ShowsAsDue, TellsDue, WritesAsDue, adding_ending, once_begun, once_started, removing_ending, showing_ending, writing_ending}
-use Rattle.wef_cli.specs.Runs.{Peers}
+use Rattle.wef_cli.specs.Due.{AddsAsDue, EventsAsDue, GoesWell, IsDueToAdd, IsWellRead, ListsAsDue, RemovesAsDue, ShowsAsDue, StatusesAsDue, TellsDue, WritesAsDue, adding_ending, once_begun, once_started, removing_ending, showing_ending, writing_ending}
+use Rattle.wef_cli.specs.Runs.{Peers, StatusEndsAt}
 use Rattle.wef_cli.specs.declared.command.Command.{Command}
 use Rattle.wef_cli.specs.declared.command.Command.TheVariants as the
 
@@ -148,7 +150,7 @@ removes_as_due u ending told input out peers before now found after well =
     (removed_due u out found after well.writes ending (sure (the.Remove u) ending told input out peers before now found after well)
     (removes_by_rows u ending out before now well.ends_so.1 found after well.stand well.known))
 
--- ---- `list`, `show` and `events`
+-- ---- `list`, `show`, `events` and `status`
 
 text_due : (text : Rows → List ℕ) (out : Told) (found after : Rows) (ending : Ending) → (HasFailed out → ⊥) → (ending ≡ ends.StoreFailed → ⊥) → WritesText text ending out found after
     → TellsDue (λ e. e ≡ once_started found ends.Done) (λ e. WritesText text e out found after) ending
@@ -189,6 +191,35 @@ events_as_due u s c ending told input out peers before now found after well =
     told_due (λ e. e ≡ once_started found (showing_ending u (is_known (standing (started found) u)))) (λ e. EventsSay u s c e out found after) ending told well.told_so
     (shown_due u s c out found after well.writes ending (sure (the.Events u s c) ending told input out peers before now found after well)
     (events_by_rows u s c ending out before now well.ends_so.1 found after well.stand well.known))
+
+module _ (u : List ℕ) (clock : Option ℕ) (out : Told) (found after : Rows) (writes : HasFailed out → ⊥) where
+  abbrev IsStatusDue : Ending → Type 0
+  IsStatusDue ending = ending ≡ once_started found (showing_ending u (is_known (standing (started found) u)))
+
+  abbrev SaysAt : Ending → Type 0
+  SaysAt ending = (moment : ℕ) × IsMoment clock moment × StatusSays u moment ending out found after
+
+  statuses_due : (moment : ℕ) → IsMoment clock moment → (ending : Ending) → (ending ≡ ends.StoreFailed → ⊥) → StatusSays u moment ending out found after → TellsDue IsStatusDue SaysAt ending
+  statuses_due moment given ends.Done sure says =
+      inl (start_due found ends.Done (showing_ending u (is_known (standing (started found) u))) says.3 (sym (ap (showing_ending u) says.0)), (moment, given, says))
+  statuses_due moment given ends.OutputFailed sure says = absurd (writes says.1)
+  statuses_due moment given (ends.Unknown name) sure says =
+      inl (start_due found (ends.Unknown name) (showing_ending u (is_known (standing (started found) u))) says.4 (ap ends.Unknown says.0 ∙ sym (ap (showing_ending u) says.1)), (moment, given, says))
+  statuses_due moment given ends.Full sure says = inl (full_due found (showing_ending u (is_known (standing (started found) u))) says.0, (moment, given, says))
+  statuses_due moment given ends.NoMemory sure says = inr refl
+  statuses_due moment given ends.StoreFailed sure says = absurd (sure refl)
+  statuses_due moment given _ sure says = absurd says
+
+  -- also where memory was wanting for the words
+  status_due : (ending : Ending) (before now : Store) → (ending ≡ ends.StoreFailed → ⊥) → Stand before found → now.rows ≡ Some after → IsUndone ending out before now ⊎ StatusEndsAt clock u ending out before now
+      → TellsDue IsStatusDue SaysAt ending
+  status_due ending before now sure stand known (inl (wants, unwritten, same)) = inr wants
+  status_due ending before now sure stand known (inr (moment, given, ended)) = statuses_due moment given ending sure (statuses_by_rows u moment ending out before now ended found after stand known)
+
+pub statuses_as_due : StatusesAsDue
+statuses_as_due u ending told input out peers before now found after well =
+    told_due (λ e. e ≡ once_started found (showing_ending u (is_known (standing (started found) u)))) (λ e. (moment : ℕ) × IsMoment peers.moment moment × StatusSays u moment e out found after) ending told well.told_so
+    (status_due u peers.moment out found after well.writes ending before now (sure (the.Status u) ending told input out peers before now found after well) well.stand well.known well.ends_so.1)
 
 -- ---- `write`
 

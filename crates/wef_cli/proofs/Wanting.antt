@@ -7,7 +7,7 @@ use Rattle.wef_base.specs.Names.{channel_name, source_name, subscription_name}
 use Rattle.wef_keeper.specs.Keeping.{Store}
 use Rattle.wef_commands.specs.Endings.{IsUnwritten, Told}
 use Rattle.wef_commands.specs.declared.ending.Ending.TheVariants as ends
-use Rattle.wef_cli.specs.Command.{MayWantMemory, address_of, collect_of, events_of, forward_of, number_of, remove_of}
+use Rattle.wef_cli.specs.Command.{MayWantMemory, address_of, collect_of, events_of, forward_of, number_of, remove_of, status_of}
 use Rattle.wef_cli.specs.Runs.{AreUnused, Peers, RunEnds}
 use Rattle.wef_cli.specs.declared.command.Command.{Command}
 use Rattle.wef_cli.specs.declared.command.Command.TheVariants as the
@@ -23,6 +23,9 @@ made (Some a) command h = h a
 
 pub remove_wants : (word : List ℕ) → MayWantMemory (remove_of word)
 remove_wants word = made (subscription_name word) the.Remove (λ u. tt)
+
+pub status_wants : (word : List ℕ) → MayWantMemory (status_of word)
+status_wants word = made (subscription_name word) the.Status (λ u. tt)
 
 pub collect_wants : (at number : List ℕ) → MayWantMemory (collect_of at number)
 collect_wants at number = steps (address_of at) _ (λ address. made (number_of number) (the.Collect address) (λ n. tt))
@@ -43,4 +46,5 @@ nothing_done (Some (the.Remove u)) input out peers store wants kept unwritten un
 nothing_done (Some (the.Collect address connections)) input out peers store wants kept unwritten unused = (kept, inl ((refl, unwritten, refl), unused.0), unused.1)
 nothing_done (Some (the.Forward address source deliveries)) input out peers store wants kept unwritten unused = (kept, inl ((refl, unwritten, refl), unused.1), unused.0)
 nothing_done (Some (the.Events u s c)) input out peers store wants kept unwritten unused = (kept, inl (refl, unwritten, refl), unused)
+nothing_done (Some (the.Status u)) input out peers store wants kept unwritten unused = (kept, inl (refl, unwritten, refl), unused)
 nothing_done (Some _) input out peers store wants kept unwritten unused = absurd wants

@@ -1,5 +1,5 @@
 -- The command lines: `replay`, `add`, `remove NAME`, `list`, `check`, `write`, `collect ADDRESS N`, `forward ADDRESS SOURCE N`,
--- `show` and `events NAME SOURCE CHANNEL`. No word of one begins with `-`.
+-- `show`, `events NAME SOURCE CHANNEL` and `status NAME`. No word of one begins with `-`.
 use Rattle.std.specs.Prelude.{ℕ, ◌==◌, nat_lt, Bool, false, ◌&&◌, List, [], ◌∷◌, length, Option, Some, None, codes, if◌then◌else◌}
 use Rattle.std.specs.List.{list_all, list_any}
 use Rattle.std.specs.Option.{option_and_then, option_map}
@@ -47,6 +47,10 @@ number_of word = option_and_then unless_zero (plain_number greatest_number word)
 abbrev pub remove_of : List ℕ → Option Command
 remove_of word = option_map the.Remove (subscription_name word)
 
+-- the command that writes which sources of the subscription of a name are silent
+abbrev pub status_of : List ℕ → Option Command
+status_of word = option_map the.Status (subscription_name word)
+
 -- the command that serves so many connections at an address
 abbrev pub collect_of : List ℕ → List ℕ → Option Command
 collect_of at number = option_and_then (λ address. option_map (the.Collect address) (number_of number)) (address_of at)
@@ -61,6 +65,12 @@ abbrev pub events_of : List ℕ → List ℕ → List ℕ → Option Command
 events_of name source channel =
     option_and_then (λ u. option_and_then (λ s. option_map (the.Events u s) (channel_name channel)) (source_name source)) (subscription_name name)
 
+-- the command of a name and one word behind it
+abbrev pub command_of_one : List ℕ → List ℕ → Option Command
+command_of_one name word =
+    if same name (codes "remove") then remove_of word else
+    if same name (codes "status") then status_of word else None
+
 -- the command of a name and three words behind it
 abbrev pub command_of_three : List ℕ → List ℕ → List ℕ → List ℕ → Option Command
 command_of_three name first second third =
@@ -70,7 +80,7 @@ command_of_three name first second third =
 -- the command that words ask for none of which begins with `-`
 abbrev pub command_in : List (List ℕ) → Option Command
 command_in (name ∷ []) = command_named name
-command_in (name ∷ word ∷ []) = if same name (codes "remove") then remove_of word else None
+command_in (name ∷ word ∷ []) = command_of_one name word
 command_in (name ∷ at ∷ number ∷ []) = if same name (codes "collect") then collect_of at number else None
 command_in (name ∷ first ∷ second ∷ third ∷ []) = command_of_three name first second third
 command_in _ = None
@@ -86,6 +96,7 @@ MayWantMemory (Some (the.Remove u)) = Unit {0}
 MayWantMemory (Some (the.Collect address number)) = Unit {0}
 MayWantMemory (Some (the.Forward address s number)) = Unit {0}
 MayWantMemory (Some (the.Events u s c)) = Unit {0}
+MayWantMemory (Some (the.Status u)) = Unit {0}
 MayWantMemory (Some _) = ⊥
 
 -- the address that a source asks at is a host

@@ -12,12 +12,13 @@ use Rattle.wef_eventing.specs.declared.subscriptions.Subscription.{Subscription}
 use Rattle.wef_keeper.specs.Keeping.{IsLawful, Store}
 use Rattle.wef_keeper.specs.Rows.{Rows}
 use Rattle.wef_running.specs.ByRows.{CollectSays, ForwardSays}
+use Rattle.wef_running.specs.Forwarding.{IsMoment}
 use Rattle.wef_source_log.specs.Answers.{is_boot_full}
 use Rattle.wef_source_log.specs.LogWindow as log
 use Rattle.wef_commands.specs.Adding.{IsRefused}
 use Rattle.wef_commands.specs.Checking.{lines_of}
 use Rattle.wef_commands.specs.Endings.{HasFailed, IsToldAs, Told}
-use Rattle.wef_commands.specs.Laws.{AddSays, EventsSay, RemoveSays, Stand, WriteGoes, WritesText, can_start, events_ending, started}
+use Rattle.wef_commands.specs.Laws.{AddSays, EventsSay, RemoveSays, Stand, StatusSays, WriteGoes, WritesText, can_start, events_ending, started}
 use Rattle.wef_commands.specs.Listing.{list_text}
 use Rattle.wef_commands.specs.Writing.{bad_line, events_of}
 use Rattle.wef_commands.specs.declared.ending.Ending.{Ending}
@@ -54,7 +55,7 @@ removing_ending u is.Unknown = ends.Unknown u
 removing_ending u (is.Ended s) = ends.Already u
 removing_ending u (is.Live s) = ends.Done
 
--- `events`, by whether there is a subscription of the name
+-- `events` and `status`, by whether there is a subscription of the name
 abbrev pub showing_ending : List ℕ → Bool → Ending
 showing_ending u known = if known then ends.Done else ends.Unknown u
 
@@ -115,6 +116,12 @@ ShowsAsDue = WhereWell the.Show (λ told input out peers before now found after.
 abbrev pub EventsAsDue : Type 0
 EventsAsDue = (u s c : List ℕ) → WhereWell (the.Events u s c) (λ told input out peers before now found after.
     TellsDue (λ ending. ending ≡ once_started found (showing_ending u (is_known (standing (started found) u)))) (λ ending. EventsSay u s c ending out found after) told)
+
+-- `status`, at a moment of the clock
+abbrev pub StatusesAsDue : Type 0
+StatusesAsDue = (u : List ℕ) → WhereWell (the.Status u) (λ told input out peers before now found after.
+    TellsDue (λ ending. ending ≡ once_started found (showing_ending u (is_known (standing (started found) u))))
+    (λ ending. (moment : ℕ) × IsMoment peers.moment moment × StatusSays u moment ending out found after) told)
 
 abbrev pub WritesAsDue : Type 0
 WritesAsDue = WhereWell the.Write (λ told input out peers before now found after. (bytes : List ℕ) → IsWellRead input bytes

@@ -22,6 +22,7 @@ Says (the.Remove u) ending input out peers before now found last = CallsAtMost (
 Says the.List ending input out peers before now found last = StartsAtMost found last
 Says the.Show ending input out peers before now found last = StartsAtMost found last
 Says (the.Events u s c) ending input out peers before now found last = StartsAtMost found last
+Says (the.Status u) ending input out peers before now found last = StartsAtMost found last
 Says the.Write ending input out peers before now found last = (last ≡ found) ⊎ AreWritten input found last
 Says (the.Collect address count) ending input out peers before now found last =
     CollectSays address count ending out peers.moment peers.front_before peers.front_after before now found last

@@ -1,5 +1,5 @@
 -- What the ending of a run says of the words, of what was read and written, of the connections, and of the store.
-use Rattle.std.specs.Prelude.{◌≡◌, ℕ, ◌⊎◌, Option, Some, None}
+use Rattle.std.specs.Prelude.{◌≡◌, ℕ, ◌⊎◌, List, Option, Some, None}
 use Rattle.std.specs.Io.KnownBytes.{Keeps}
 use Rattle.wef_keeper.specs.Keeping.{Store}
 use Rattle.wef_ports.specs.Telling as ports
@@ -11,10 +11,11 @@ use Rattle.wef_commands.specs.Listing.{ListEnds}
 use Rattle.wef_commands.specs.Removing.{RemoveEnds}
 use Rattle.wef_commands.specs.Writing.{WriteEnds}
 use Rattle.wef_commands.specs.Showing.{EventsEnds, ShowEnds}
+use Rattle.wef_commands.specs.Statuses.{StatusEnds}
 use Rattle.wef_commands.specs.declared.ending.Ending.{Ending}
 use Rattle.wef_commands.specs.declared.ending.Ending.TheVariants as ends
 use Rattle.wef_running.specs.Collecting.{CollectEnds}
-use Rattle.wef_running.specs.Forwarding.{ForwardEnds}
+use Rattle.wef_running.specs.Forwarding.{ForwardEnds, IsMoment}
 use Rattle.wef_cli.specs.Replaying.{ReplayEnds}
 use Rattle.wef_cli.specs.declared.command.Command.{Command}
 use Rattle.wef_cli.specs.declared.command.Command.TheVariants as the
@@ -43,6 +44,10 @@ abbrev pub IsNotBegun : Ending → Told → Told → Peers → Store → Store �
 IsNotBegun ending input out peers before now =
     IsNoCommand ending × Keeps input.before input.after × IsUnwritten out × (now ≡ before) × AreUnused peers
 
+-- `status` at a moment of the clock, which is read once
+abbrev pub StatusEndsAt : Option ℕ → List ℕ → Ending → Told → Store → Store → Type 0
+StatusEndsAt clock u ending out before now = (moment : ℕ) × IsMoment clock moment × StatusEnds u moment ending out before now
+
 -- `BadCommand` comes exactly where the words are no command line, and then nothing is read, written, connected or asked of the
 -- store. The store is that of the keeper that is handed in before, and of the one that is handed back now.
 abbrev pub RunEnds : Option Command → Ending → Told → Told → Peers → Store → Store → Type 0
@@ -61,3 +66,5 @@ RunEnds (Some (the.Forward address source deliveries)) ending input out peers be
     × (peers.front_after ≡ peers.front_before)
 RunEnds (Some the.Show) ending input out peers before now = Keeps input.before input.after × ShowEnds ending out before now × AreUnused peers
 RunEnds (Some (the.Events u s c)) ending input out peers before now = Keeps input.before input.after × EventsEnds u s c ending out before now × AreUnused peers
+RunEnds (Some (the.Status u)) ending input out peers before now =
+    Keeps input.before input.after × (IsUndone ending out before now ⊎ StatusEndsAt peers.moment u ending out before now) × AreUnused peers

@@ -45,6 +45,8 @@ pub enum Command {
     },
     /// Writes the report of all that the collector keeps.
     Show,
+    /// Writes which sources of a subscription are silent.
+    Status(SubId),
     /// Writes the events that the collector holds of a source's channel for a subscription.
     Events {
         name: SubId,
@@ -72,7 +74,7 @@ impl Command {
     {
         match words {
             [name] => Ok(Command::named(name)),
-            [name, word] if name.as_str() == "remove" => Command::remove(word),
+            [name, word] => Command::of_one(name, word),
             [name, at, number] if name.as_str() == "collect" => Command::collect(at, number),
             [name, first, second, third] => Command::of_three(name, first, second, third),
             _ => Ok(None),
@@ -103,6 +105,20 @@ impl Command {
         None
     }
 
+    /// The command of a name and one word behind it.
+    fn of_one(name: &Text, word: &Text) -> Result<Option<Command>, AllocError>
+        ensures value { IfOk result (λ command. command ≡ spec.command_of_one name.now word.now) }
+        ensures wants_memory { OnErr result (spec.MayWantMemory (spec.command_of_one name.now word.now)) }
+    {
+        if name.as_str() == "remove" {
+            return Command::remove(word);
+        }
+        if name.as_str() == "status" {
+            return Command::status(word);
+        }
+        Ok(None)
+    }
+
     /// The command of a name and three words behind it.
     fn of_three(
         name: &Text,
@@ -130,6 +146,18 @@ impl Command {
     {
         match SubId::named(word)? {
             Some(name) => Ok(Some(Command::Remove(name))),
+            None => Ok(None),
+        }
+    }
+
+    /// The command that writes which sources of the subscription of a name are silent.
+    #[tactic(auto, using(crate::proofs::Wanting::status_wants))]
+    fn status(word: &Text) -> Result<Option<Command>, AllocError>
+        ensures value { IfOk result (λ command. command ≡ spec.status_of word.now) }
+        ensures wants_memory { OnErr result (spec.MayWantMemory (spec.status_of word.now)) }
+    {
+        match SubId::named(word)? {
+            Some(name) => Ok(Some(Command::Status(name))),
             None => Ok(None),
         }
     }

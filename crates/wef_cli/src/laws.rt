@@ -2,7 +2,7 @@
 
 ghost use Rattle.wef_cli.specs.Complete.{BadLinesAreTold, EndsAsCalledFor, FailsWithCause};
 ghost use Rattle.wef_cli.specs.Leaving.{RunsLeave};
-ghost use Rattle.wef_cli.specs.Due.{AddsAsDue, CollectsAsDue, EventsAsDue, ForwardsAsDue, ListsAsDue, RemovesAsDue, ShowsAsDue, WritesAsDue};
+ghost use Rattle.wef_cli.specs.Due.{AddsAsDue, CollectsAsDue, EventsAsDue, ForwardsAsDue, ListsAsDue, RemovesAsDue, ShowsAsDue, StatusesAsDue, WritesAsDue};
 
 /// Where nothing fails, a run of `replay` or `check` ends as its input calls for, or wants memory.
 pub fn runs_are_complete()
@@ -24,6 +24,7 @@ pub fn endings_are_due()
     ensures list { ListsAsDue }
     ensures show { ShowsAsDue }
     ensures events { EventsAsDue }
+    ensures status { StatusesAsDue }
     ensures write { WritesAsDue }
     ensures collect { CollectsAsDue }
     ensures forward { ForwardsAsDue }

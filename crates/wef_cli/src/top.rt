@@ -3,7 +3,7 @@
 ghost use Rattle.std.specs.Prelude.{◌≡◌, Some, IfOk, IfErr};
 ghost use Rattle.wef_cli.specs.Command.{HasHost, command_of};
 ghost use Rattle.wef_cli.specs.Replaying.{EndsReading, HasLines, ReplayEnds};
-ghost use Rattle.wef_cli.specs.Runs.{RunEnds};
+ghost use Rattle.wef_cli.specs.Runs.{RunEnds, StatusEndsAt};
 ghost use Rattle.wef_commands.specs.Endings.{IsToldAs, WroteMessage, status_of, told_of};
 ghost use Rattle.wef_commands.specs.declared.ending.Ending as the_ending;
 ghost use Rattle.wef_replay.specs.Good.{AreGood, no_names};
@@ -11,10 +11,10 @@ ghost use Rattle.wef_replay.specs.Good.{AreGood, no_names};
 use crate::command::Command;
 use crate::runs::{RunFault, run_lines};
 use std::alloc::Global;
-use wef_base::{List, Sink, Source, Text};
+use wef_base::{List, Sink, Source, SubId, Text};
 use wef_commands::events::events;
 use wef_commands::{
-    Ending, INPUT_LIMIT, InputFault, add, check, list, read_whole, remove, show, write,
+    Ending, INPUT_LIMIT, InputFault, add, check, list, read_whole, remove, show, status, write,
 };
 use wef_connections::{Front, Link};
 use wef_keeper::Keeper;
@@ -34,8 +34,9 @@ use wef_running::{collect, forward};
 /// ADDRESS N` serves so many connections of the front as the collector, at the moments that the clock
 /// gives; no other command takes a connection. `forward ADDRESS SOURCE N` asks the collector there for the
 /// subscriptions of a source, and sends it at most so many batches over the link; no other command makes
-/// a connection. `show` writes the report of all that the keeper keeps, and `events NAME SOURCE CHANNEL`
-/// the events that it holds of a source's channel, page by page. What ended the run is told in one line
+/// a connection. `show` writes the report of all that the keeper keeps, `events NAME SOURCE CHANNEL`
+/// the events that it holds of a source's channel, page by page, and `status NAME` which sources of a
+/// subscription are silent, at the moment that the clock gives. What ended the run is told in one line
 /// to `err`, or in as much of it as `err` takes. Status 6 alone comes free: for want of memory, also for
 /// the text that tells how it ended.
 pub fn run<I: Source, O: Sink, E: Sink, K: Keeper, F: Front, L: Link, C: Clock>(
@@ -131,7 +132,25 @@ fn act<I: Source, O: Sink, K: Keeper, F: Front, L: Link, C: Clock>(
             source,
             channel,
         } => events(alloc, keeper, name, &source, &channel, out),
+        Command::Status(name) => status_now(alloc, keeper, name, out, clock),
     }
+}
+
+/// Writes which sources of a subscription are silent, at the moment that the clock gives.
+fn status_now<O: Sink, K: Keeper, C: Clock>(
+    alloc: Global,
+    keeper: K,
+    name: SubId,
+    out: &mut O,
+    clock: &mut C,
+) -> (K, Ending)
+    ensures ends { StatusEndsAt (C.told clock.old) name result.1
+        (told_of O.taken O.faults out.old out.new)
+        (K.store keeper) (K.store result.0) }
+    ensures clock { C.told clock.new ≡ C.told clock.old }
+{
+    let now = clock.now();
+    status(alloc, keeper, name, now, out)
 }
 
 fn replay<I: Source, O: Sink>(alloc: Global, input: &mut I, out: &mut O) -> Ending

@@ -18,7 +18,7 @@ use Rattle.wef_collector.proofs.Live.{put_lives}
 use Rattle.wef_collector_reports.specs.Listing.{listed}
 use Rattle.wef_collector_reports.specs.Report.{report}
 use Rattle.wef_collector_reports.specs.declared.listing.Listed.{Listed}
-use Rattle.wef_collector_rows.specs.Answers.{IsEnded, IsOfStore, added_rows, ended_rows, is_there}
+use Rattle.wef_collector_rows.specs.Answers.{IsEnded, IsOfStore, added_rows, ended_rows, is_known, is_there}
 use Rattle.wef_collector_rows.specs.Faults.{collector_store}
 use Rattle.wef_collector_rows.specs.Forms.{AreFormed}
 use Rattle.wef_collector_rows.specs.Keys.{boot_key, subscription_key}
@@ -28,13 +28,15 @@ use Rattle.wef_collector_rows.specs.declared.faults.CollectorFault.TheVariants a
 use Rattle.wef_collector_rows.specs.declared.standings.Standing.{Standing}
 use Rattle.wef_collector_rows.specs.declared.standings.Standing.TheVariants.{Unknown, Ended, Live}
 use Rattle.wef_commands.specs.Adding.{Adds, DocumentEnds, HasDocument, IsReadAgain, added_text}
+use Rattle.wef_collector_statuses.specs.Statuses.{statuses}
 use Rattle.wef_commands.specs.Calling.{CallEnds, Started, Starts, WroteOut, named_ending}
-use Rattle.wef_commands.specs.Endings.{Told}
-use Rattle.wef_commands.specs.Laws.{AddSays, AddsByRows, EventsByRows, EventsSay, HasEnded, IsAdded, ListsByRows, OverRows, RemoveSays, RemovesByRows, ShowsByRows, Stand, WritesText, can_start, started}
+use Rattle.wef_commands.specs.Endings.{IsUnwritten, Told}
+use Rattle.wef_commands.specs.Laws.{AddSays, AddsByRows, EventsByRows, EventsSay, HasEnded, IsAdded, ListsByRows, OverRows, RemoveSays, RemovesByRows, ShowsByRows, Stand, StatusSays, StatusesByRows, WritesText, can_start, started}
 use Rattle.wef_commands.specs.Listing.{Lists, WroteList, list_text}
 use Rattle.wef_commands.specs.Refusals.{store_ending}
 use Rattle.wef_commands.specs.Removing.{Ends, ended_text}
 use Rattle.wef_commands.specs.Showing.{Reports, TellsHeld, WritesHeld}
+use Rattle.wef_commands.specs.Statuses.{TellsStatuses}
 use Rattle.wef_commands.specs.Streams.{WritesPart}
 use Rattle.wef_commands.specs.declared.ending.Ending.{Ending}
 use Rattle.wef_commands.specs.declared.ending.Ending.TheVariants as ends
@@ -276,7 +278,7 @@ pub removes_by_rows : RemovesByRows
 removes_by_rows u ending out before now (inl (is, unwritten, same)) = λ found after stand told. subst (λ (e : Ending). RemoveSays u e out found after) (sym is) tt
 removes_by_rows u ending out before now (inr call) = end_call u ending out before now call
 
--- ---- `list`, `show` and `events`
+-- ---- `list`, `show`, `events` and `status`
 
 -- rows that were only read are those that stood
 read_same : (mid now : Store) (rows after : Rows) → Stand mid rows → now.rows ≡ Some after → IfSome mid.images (λ old. IfSome now.rows (IsOneOf old)) → after ≡ rows
@@ -367,3 +369,43 @@ events_by_rows u s c ending out before now (inr (inr begun)) =
     behind (WritesHeld u s c ending out) (EventsSay u s c ending out) before now begun
     (λ opened untold. reads_untold begun.mid.rows now.rows begun.mid.images begun.start.2.both begun.call.reads.0.1 untold)
     (λ found rows after stand told same starts. events_say u s c ending out begun.mid now begun.call found rows after stand told same starts)
+
+module _ (u : List ℕ) (moment : ℕ) where
+  -- a call that is refused
+  not_shown : (fault : CollectorFault) (out : Told) (mid now : Store) → TellsStatuses u moment (Err fault) mid now → IsUnwritten out → (found rows after : Rows) → Stand mid rows → now.rows ≡ Some after → rows ≡ started found
+      → can_start found ≡ true → StatusSays u moment (named_ending u fault) out found after
+  not_shown faults.NoMemory out mid now call unwritten found rows after stand told is starts = tt
+  not_shown faults.Failed out mid now call unwritten found rows after stand told is starts = tt
+  not_shown faults.NoSubscription out mid now call unwritten found rows after stand told is starts =
+      let same = read_same mid now rows after stand told (call.0.found refl) ∙ is in
+      (refl, subst (λ (r : Rows). is_known (standing r u) ≡ false) same (told_rows now after (λ rows. is_known (standing rows u) ≡ false) told call.1), unwritten, same, starts)
+  not_shown _ out mid now call unwritten found rows after stand told is starts = absurd call.1
+
+  -- a text that is written
+  statuses_told : (text : List ℕ) (ending : Ending) (out : Told) (mid now : Store) → TellsStatuses u moment (Ok text) mid now → WroteOut text ending out → (found rows after : Rows) → Stand mid rows → now.rows ≡ Some after
+      → rows ≡ started found → can_start found ≡ true → StatusSays u moment ending out found after
+  statuses_told text ending out mid now call wrote found rows after stand told is starts = by ending wrote
+    where
+      same : after ≡ started found
+      same = read_same mid now rows after stand told (call.0.found refl) ∙ is
+
+      known : is_known (standing (started found) u) ≡ true
+      known = subst (λ (r : Rows). is_known (standing r u) ≡ true) same (told_rows now after (λ rows. is_known (standing rows u) ≡ true) told call.1.0)
+
+      said : text ≡ statuses (started found) u moment
+      said = told_rows now after (λ rows. text ≡ statuses rows u moment) told call.1.1 ∙ ap (λ (r : Rows). statuses r u moment) same
+
+      by : (ending : Ending) → WroteOut text ending out → StatusSays u moment ending out found after
+      by ends.Done wrote = (known, subst (Appends out.before out.after) said wrote, same, starts)
+      by ends.OutputFailed wrote = (known, wrote.0, subst (WritesPart out.before out.after) said wrote.1, same, starts)
+      by _ wrote = absurd wrote
+
+pub statuses_by_rows : StatusesByRows
+statuses_by_rows u moment ending out before now (inl (fault, start, is, unwritten)) =
+    start_by_rows (λ (e : Ending). StatusSays u moment e out) (λ found after. tt) (λ found after. tt) (λ found after full same. (full, same)) ending before now fault start is
+statuses_by_rows u moment ending out before now (inr (inl (fault, begun, is, unwritten))) =
+    behind (TellsStatuses u moment (Err fault)) (StatusSays u moment ending out) before now begun begun.call.0.opened.0.7 (λ found rows after stand told same starts.
+    subst (λ (e : Ending). StatusSays u moment e out found after) (sym is) (not_shown u moment fault out begun.mid now begun.call unwritten found rows after stand told same starts))
+statuses_by_rows u moment ending out before now (inr (inr (text, begun, wrote))) =
+    behind (TellsStatuses u moment (Ok text)) (StatusSays u moment ending out) before now begun begun.call.0.opened.0.7 (λ found rows after stand told same starts.
+    statuses_told u moment text ending out begun.mid now begun.call wrote found rows after stand told same starts)

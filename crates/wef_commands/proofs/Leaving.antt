@@ -129,6 +129,13 @@ readers_leave = record {
       | inr begun ↦ λ lawful found last stand may. inr (read_leaves before begun.mid now begun.memory found last begun.start stand lawful may begun.call.reads.0.2)
     ]
   ];
+  status = λ u moment ending out before now ends. elim ends [
+    | inl refused ↦ λ lawful found last stand may. refused_start before now refused.0 found last refused.1 stand may
+    | inr behind ↦ elim behind [
+      | inl unread ↦ λ lawful found last stand may. inr (looked_leaves before unread.1.mid now unread.1.memory found last unread.1.start stand lawful may unread.1.call.0.opened.0)
+      | inr read ↦ λ lawful found last stand may. inr (looked_leaves before read.1.mid now read.1.memory found last read.1.start stand lawful may read.1.call.0.opened.0)
+    ]
+  ];
 }
 
 -- ---- `write`

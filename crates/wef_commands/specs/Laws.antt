@@ -12,6 +12,7 @@ use Rattle.wef_collector_rows.specs.Keys.{boot_key}
 use Rattle.wef_collector_rows.specs.Standing.{is_full, standing}
 use Rattle.wef_collector_rows.specs.declared.faults.CollectorFault.{CollectorFault}
 use Rattle.wef_collector_rows.specs.declared.standings.Standing.TheVariants.{Unknown, Live}
+use Rattle.wef_collector_statuses.specs.Statuses.{statuses}
 use Rattle.wef_event.specs.Events.{Event}
 use Rattle.wef_event.specs.Numbering.{numbered}
 use Rattle.wef_eventing.specs.declared.subscriptions.Subscription.{Subscription}
@@ -30,6 +31,7 @@ use Rattle.wef_commands.specs.Listing.{ListEnds, list_text}
 use Rattle.wef_commands.specs.Refusals.{log_ending}
 use Rattle.wef_commands.specs.Removing.{RemoveEnds, ended_text}
 use Rattle.wef_commands.specs.Showing.{EventsEnds, ShowEnds, held_text}
+use Rattle.wef_commands.specs.Statuses.{StatusEnds}
 use Rattle.wef_commands.specs.Streams.{WritesPart}
 use Rattle.wef_commands.specs.Writing.{EndsJudging, HasEvents, WriteEnds, written_line, written_text}
 use Rattle.wef_commands.specs.declared.ending.Ending.{Ending}
@@ -119,7 +121,7 @@ RemoveSays u _ out found after = ⊥
 abbrev pub RemovesByRows : Type 0
 RemovesByRows = (u : List ℕ) (ending : Ending) (out : Told) (before now : Store) → RemoveEnds u ending out before now → OverRows (RemoveSays u ending out) before now
 
--- ---- `list`, `show` and `events`
+-- ---- `list`, `show`, `events` and `status`
 
 -- what is written is the text of the rows, which stay but for the boot number; or the output failed, and a part of it is; or the boot
 -- number is at its greatest. Want of memory and a failed store may come at any time.
@@ -153,6 +155,22 @@ EventsSay u s c _ out found after = ⊥
 
 abbrev pub EventsByRows : Type 0
 EventsByRows = (u s c : List ℕ) (ending : Ending) (out : Told) (before now : Store) → EventsEnds u s c ending out before now → OverRows (EventsSay u s c ending out) before now
+
+-- the same of `status` at a moment; there is such a subscription also where the output failed, since nothing is written before that is known
+abbrev pub StatusSays : List ℕ → ℕ → Ending → Told → Rows → Rows → Type 0
+StatusSays u moment ends.Done out found after =
+    (is_known (standing (started found) u) ≡ true) × Appends out.before out.after (statuses (started found) u moment) × (after ≡ started found) × (can_start found ≡ true)
+StatusSays u moment ends.OutputFailed out found after =
+    (is_known (standing (started found) u) ≡ true) × HasFailed out × WritesPart out.before out.after (statuses (started found) u moment) × (after ≡ started found) × (can_start found ≡ true)
+StatusSays u moment (ends.Unknown name) out found after =
+    (name ≡ u) × (is_known (standing (started found) u) ≡ false) × IsUnwritten out × (after ≡ started found) × (can_start found ≡ true)
+StatusSays u moment ends.Full out found after = (can_start found ≡ false) × (after ≡ found)
+StatusSays u moment ends.NoMemory out found after = Unit {0}
+StatusSays u moment ends.StoreFailed out found after = Unit {0}
+StatusSays u moment _ out found after = ⊥
+
+abbrev pub StatusesByRows : Type 0
+StatusesByRows = (u : List ℕ) (moment : ℕ) (ending : Ending) (out : Told) (before now : Store) → StatusEnds u moment ending out before now → OverRows (StatusSays u moment ending out) before now
 
 -- ---- `write`
 
@@ -210,6 +228,7 @@ pub record ReadersLeave : Type 0 where
   pub list : (ending : Ending) (out : Told) (before now : Store) → ListEnds ending out before now → OverLast StartsAtMost before now
   pub show : (ending : Ending) (out : Told) (before now : Store) → ShowEnds ending out before now → OverLast StartsAtMost before now
   pub events : (u s c : List ℕ) (ending : Ending) (out : Told) (before now : Store) → EventsEnds u s c ending out before now → OverLast StartsAtMost before now
+  pub status : (u : List ℕ) (moment : ℕ) (ending : Ending) (out : Told) (before now : Store) → StatusEnds u moment ending out before now → OverLast StartsAtMost before now
 
 -- some of the input's events were written, from its first on, in its order
 pub record AreWritten (input : Told) (found last : Rows) : Type 0 where

@@ -8,5 +8,6 @@ pub mod Pages
 pub mod Refusals
 pub mod Removing
 pub mod Showing
+pub mod Statuses
 pub mod Streams
 pub mod Writing

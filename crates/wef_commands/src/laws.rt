@@ -1,6 +1,6 @@
 //! What commands do by the rows that stood before them, as contracts.
 
-ghost use Rattle.wef_commands.specs.Laws.{AddLeaves, AddsByRows, EventsByRows, ListsByRows, ReadersLeave, RemoveLeaves, RemovesByRows, ShowsByRows, WriteLeaves, WritesAsFar, WritesByRows};
+ghost use Rattle.wef_commands.specs.Laws.{AddLeaves, AddsByRows, EventsByRows, ListsByRows, ReadersLeave, RemoveLeaves, RemovesByRows, ShowsByRows, StatusesByRows, WriteLeaves, WritesAsFar, WritesByRows};
 
 /// Where the rows before and behind a run are told: `exists` and `too many` are told exactly by the
 /// rows, and once `add` is done the subscription of the document stands live. `unknown` and `already`
@@ -11,12 +11,13 @@ pub fn changes_are_by_rows()
     ensures remove { RemovesByRows }
 {}
 
-/// What `list`, `show` and `events` write is the text of the rows, and these stay but for the boot
-/// number.
+/// What `list`, `show`, `events` and `status` write is the text of the rows, of `status` also by the
+/// moment, and the rows stay but for the boot number.
 pub fn texts_are_of_rows()
     ensures list { ListsByRows }
     ensures show { ShowsByRows }
     ensures events { EventsByRows }
+    ensures status { StatusesByRows }
 {}
 
 /// Where `write` is done, each line of its input is the next record of its channel, over the log as its

@@ -13,6 +13,7 @@ mod listing;
 mod refusals;
 mod removing;
 mod showing;
+mod statuses;
 mod streams;
 mod writing;
 
@@ -23,5 +24,6 @@ pub use ending::Ending;
 pub use listing::list;
 pub use removing::remove;
 pub use showing::show;
+pub use statuses::status;
 pub use streams::{INPUT_LIMIT, InputFault, read_whole, write_whole};
 pub use writing::{LOG_CAPACITY, write};

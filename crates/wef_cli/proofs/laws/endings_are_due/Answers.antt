@@ -1,6 +1,6 @@
 use Rattle.wef_cli.proofs.CollectingDue.{collects_as_due}
 use Rattle.wef_cli.proofs.ForwardingDue.{forwards_as_due}
-use Rattle.wef_cli.proofs.TellingDue.{adds_as_due, events_as_due, lists_as_due, removes_as_due, shows_as_due, writes_as_due}
+use Rattle.wef_cli.proofs.TellingDue.{adds_as_due, events_as_due, lists_as_due, removes_as_due, shows_as_due, statuses_as_due, writes_as_due}
 use Rattle.wef_cli.proofs.laws.endings_are_due.Goals as goal
 
 pub returns-clause-add : goal.returns-clause-add
@@ -17,6 +17,9 @@ returns-clause-show c = shows_as_due
 
 pub returns-clause-events : goal.returns-clause-events
 returns-clause-events c = events_as_due
+
+pub returns-clause-status : goal.returns-clause-status
+returns-clause-status c = statuses_as_due
 
 pub returns-clause-write : goal.returns-clause-write
 returns-clause-write c = writes_as_due
