@@ -45,6 +45,7 @@ pub fn push_next(shown: &mut Text, source: &mut SourceEnd<MemKeeper>) -> Result<
     let sub = base(shown.alloc())?;
     match source.poll(&sub, Moment::first()) {
         Ok(Poll::Send(_)) => shown.push_str("; sends"),
+        Ok(Poll::Beat(_)) => shown.push_str("; beats"),
         Ok(Poll::Nothing) => shown.push_str("; has nothing to send"),
         Err(_) => shown.push_str("; has no session"),
     }

@@ -191,6 +191,7 @@ fn push_polled(
     };
     match source.poll(&sub, moment(at)) {
         Ok(Poll::Send(_)) => shown.push_str("sends"),
+        Ok(Poll::Beat(_)) => shown.push_str("beats"),
         Ok(Poll::Nothing) => shown.push_str("nothing"),
         Err(fault) => push_fault(shown, fault),
     }

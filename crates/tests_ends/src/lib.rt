@@ -1,6 +1,7 @@
 //! Calls of both ends that no command makes or that come to limits: pages of held events, an event at its
 //! greatest length, the window of a log, how often a source was started, numbers at their greatest, what a
-//! collector subscribes at a source, which source a collector is to ask next, and what it asks.
+//! collector subscribes at a source, which source a collector is to ask next, what it asks, and which sources
+//! are silent.
 #![tactic(auto)]
 
 mod asking;
@@ -10,6 +11,7 @@ mod leases;
 mod lengths;
 mod logs;
 mod pairs;
+mod statuses;
 
 use asking::push_asked;
 use events::push_events;
@@ -18,6 +20,7 @@ use leases::push_leases;
 use lengths::push_length;
 use logs::{push_starts, push_window};
 use pairs::push_pairs;
+use statuses::push_statuses;
 use std::alloc::AllocError;
 use wef_base::Text;
 
@@ -55,6 +58,10 @@ pub fn push_answer(shown: &mut Text, task: &str, line: &str) -> Result<bool, All
         // its source tells; `forget`, `release`; `fail before` and `fail after` make the next commit fail, without its
         // changes or with them.
         "asks" => push_asked(shown, line),
+        // What the runs among these steps come to, with `; ` between them, over the rows that the steps before them put:
+        // `live NAME SECONDS SOURCES`, `ended ..` and `offered ..` put a subscription as above, `heard NAME AT SOURCES` when
+        // sources were heard. Pieces may be repeated.
+        "statuses" => push_statuses(shown, line),
         // What is told where a source has no ids left.
         "spent" => push_spent(shown),
         _ => return Ok(false),

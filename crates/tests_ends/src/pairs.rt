@@ -74,7 +74,7 @@ pub(crate) fn source(alloc: Global, name: &str) -> Result<SourceName, AllocError
 }
 
 /// Puts the row of a subscription `NAME SECONDS SOURCES`, with a comma between two sources.
-fn put_subscription(
+pub(crate) fn put_subscription(
     alloc: Global,
     keeper: &mut MemKeeper,
     value: u64,
@@ -94,7 +94,7 @@ fn put_subscription(
     done(keeper, &changes)
 }
 
-fn done(keeper: &mut MemKeeper, changes: &List<Change>) -> Result<(), AllocError>
+pub(crate) fn done(keeper: &mut MemKeeper, changes: &List<Change>) -> Result<(), AllocError>
     requires { AreWithin changes.now }
 {
     match keeper.commit(changes) {

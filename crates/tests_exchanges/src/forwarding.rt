@@ -163,6 +163,7 @@ fn push_exchange(shown: &mut Text, exchange: Exchange) -> Result<(), AllocError>
             shown.push_str("acked ")?;
             shown.push_number(u64::from(count))
         }
+        Exchange::Heard => shown.push_str("heard"),
         Exchange::Refused => shown.push_str("refused"),
         Exchange::Lost => shown.push_str("lost"),
     }

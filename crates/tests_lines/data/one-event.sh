@@ -13,4 +13,4 @@ collect 2
 echo '<Event xmlns="http://schemas.microsoft.com/win/2004/08/events/event"><System><EventID>1</EventID><Level>4</Level><Channel>application</Channel></System><EventData><Data>a</Data></EventData></Event>' | (cd source && "$wef" write)
 (cd source && "$wef" forward "$address" pc1 1)
 collected
-(cd collector && "$wef" show && "$wef" events base pc1 application)
+(cd collector && "$wef" show && "$wef" events base pc1 application && "$wef" status base)

@@ -2,8 +2,9 @@
 //! are bad or come to limits; and the bytes that a world hands to its answers.
 //!
 //! A run is a command line, what it reads behind ` < `, and in front of both `read 1 fails: ` or
-//! `write 2 fails: ` where that call of a stream fails; runs over one store have ` then ` between them. All
-//! of it has the escapes of Rust's literals. `|PIECE|COUNT|` stands for so many of a piece, in which `@` is
+//! `write 2 fails: ` where that call of a stream fails, and in front of all `at 60000: ` where the clock says
+//! another moment than the first; runs over one store have ` then ` between them. All of it has the escapes
+//! of Rust's literals. `|PIECE|COUNT|` stands for so many of a piece, in which `@` is
 //! the number of each, and then `~PIECE~COUNT~` does in what is read; `|PIECE|000-255|` for one with each of
 //! these numbers. A run comes to its status, what it tells, and what it prints, line by line where that is long.
 #![tactic(auto)]

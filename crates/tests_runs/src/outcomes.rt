@@ -21,13 +21,14 @@ pub struct Outcome {
 pub fn replayed(alloc: Global, schedule: &[u8]) -> Result<Outcome, AllocError> {
     let keeper = MemKeeper::new(alloc);
     let (reads, writes) = (List::new(alloc), List::new(alloc));
-    let (keeper, outcome) = ran_over(alloc, "replay", keeper, schedule, reads, writes)?;
+    let now = Moment::first();
+    let (keeper, outcome) = ran_over(alloc, "replay", keeper, schedule, reads, writes, now)?;
     drop(keeper);
     Ok(outcome)
 }
 
-/// Runs `wef` with words that stand in a line, over streams that fail at the calls of these numbers, and hands
-/// the store back.
+/// Runs `wef` with words that stand in a line, over streams that fail at the calls of these numbers, at a moment, and
+/// hands the store back.
 pub fn ran_over(
     alloc: Global,
     line: &str,
@@ -35,18 +36,18 @@ pub fn ran_over(
     input: &[u8],
     failing_reads: List<u64>,
     failing_writes: List<u64>,
+    now: Moment,
 ) -> Result<(MemKeeper, Outcome), AllocError> {
     let mut input = MemSource::of(Bytes::from_slice(alloc, input)?, failing_reads);
     let out = MemSink::of(alloc, failing_writes);
     let mut front = MemFront::of(alloc, List::new(alloc), List::new(alloc));
     let mut link = MemLink::of(alloc, List::new(alloc), List::new(alloc));
-    let now = Moment::first();
     ran_beside(
         alloc, line, keeper, &mut input, out, &mut front, &mut link, now,
     )
 }
 
-/// The same beside the connections of a front and of a link, at a moment.
+/// The same beside the connections of a front and of a link.
 pub fn ran_beside(
     alloc: Global,
     line: &str,

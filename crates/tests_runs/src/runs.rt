@@ -6,7 +6,7 @@ use crate::shown::push_outcome;
 use std::alloc::{AllocError, Global};
 use std::mem;
 use tests_tasks::escapes::unescaped;
-use wef_base::{List, Text};
+use wef_base::{List, Moment, Text};
 use wef_keeper::MemKeeper;
 
 /// A replay that begins with a line that adds a subscription.
@@ -39,26 +39,38 @@ pub fn push_run(shown: &mut Text, keeper: &mut MemKeeper, run: &str) -> Result<(
 }
 
 fn outcome_of(alloc: Global, keeper: &mut MemKeeper, run: &str) -> Result<Outcome, AllocError> {
+    let (now, run) = moment_of(run);
     let (failing, run) = run.split_once(" fails: ").unwrap_or(("", run));
     let (line, input) = run.split_once(" < ").unwrap_or((run, ""));
     let line = unescaped(alloc, line)?;
     let input = unescaped(alloc, repeated(alloc, input, '~')?.as_str())?;
     let line = str::from_utf8(line.as_slice()).unwrap_or("no UTF-8");
-    ran_on(alloc, line, keeper, input.as_slice(), failing)
+    ran_on(alloc, line, keeper, input.as_slice(), failing, now)
 }
 
-/// Runs `wef` over a store, and streams of which a call fails.
+/// The moment of a run, at first the first one, and what stands behind it.
+fn moment_of(run: &str) -> (Moment, &str) {
+    let Some(timed) = run.strip_prefix("at ") else {
+        return (Moment::first(), run);
+    };
+    let (at, run) = timed.split_once(": ").unwrap_or(("", timed));
+    let now = Moment::of(at.parse().unwrap_or(0)).unwrap_or(Moment::first());
+    (now, run)
+}
+
+/// Runs `wef` over a store, and streams of which a call fails, at a moment.
 fn ran_on(
     alloc: Global,
     line: &str,
     keeper: &mut MemKeeper,
     input: &[u8],
     failing: &str,
+    now: Moment,
 ) -> Result<Outcome, AllocError> {
     let reads = calls_of(alloc, failing, "read ")?;
     let writes = calls_of(alloc, failing, "write ")?;
     let before = mem::replace(keeper, MemKeeper::new(alloc));
-    let (after, ran) = ran_over(alloc, line, before, input, reads, writes)?;
+    let (after, ran) = ran_over(alloc, line, before, input, reads, writes, now)?;
     *keeper = after;
     Ok(ran)
 }

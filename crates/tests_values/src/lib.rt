@@ -7,6 +7,7 @@ mod batches;
 mod bookmarks;
 mod channels;
 mod query_lists;
+mod silence;
 mod times;
 
 use addresses::{push_address, push_named};
@@ -14,6 +15,7 @@ use asking::{push_event, push_list, push_path};
 use batches::push_batch;
 use bookmarks::push_bookmarks;
 use query_lists::push_document;
+use silence::{push_due, push_status};
 use std::alloc::AllocError;
 use tests_tasks::rows::or_no_row;
 use times::{push_duration, push_expiry, push_instant};
@@ -38,6 +40,10 @@ pub fn push_answer(shown: &mut Text, task: &str, line: &str) -> Result<bool, All
         "instant" => or_no_row(push_instant(shown, line), shown),
         // How far from a moment an expiry is, as `MOMENT, EXPIRY`.
         "expiry" => or_no_row(push_expiry(shown, line), shown),
+        // Whether a heartbeat is due, as `LAST, INTERVAL, NOW`.
+        "due" => push_due(shown, line),
+        // Whether a source is heard of, as `HEARD, INTERVAL, NOW`.
+        "status" => push_status(shown, line),
         // Whether a Select of this text on `Security` selects the event that all are asked of.
         "asked event" => or_no_row(push_event(shown, line), shown),
         // The same of `DOCUMENT ? TEXT` and the document.
