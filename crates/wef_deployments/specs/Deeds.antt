@@ -1,0 +1,75 @@
+-- What a collector does at once to the rows that stand in its store. Each deed commits once at most: so a kill leaves the rows
+-- before the deed that it comes in, or those behind it.
+use Rattle.std.specs.Prelude.{◌≡◌, ℕ, List, [], ◌∷◌, Some}
+use Rattle.wef_batch.specs.declared.items.Batch.{Batch}
+use Rattle.wef_collector.specs.Calls.{add_effect, end_effect}
+use Rattle.wef_collector.specs.Laws.{BookmarksRise, IsReached}
+use Rattle.wef_collector_serving.specs.ByRows.{Goes}
+use Rattle.wef_commands.specs.Laws.{StartsAtMost}
+use Rattle.wef_eventing.specs.declared.subscriptions.Subscription.{Subscription}
+use Rattle.wef_front_collector.specs.Steps.{effect_in}
+use Rattle.wef_front_collector.specs.declared.hearing.Asked.{Asked}
+use Rattle.wef_front_collector.specs.declared.hearing.Asked.TheVariants.{Take}
+use Rattle.wef_front_collector.specs.declared.hearing.Heard.{Heard}
+use Rattle.wef_front_collector.specs.declared.saying.Said.{Said}
+use Rattle.wef_front_collector.specs.declared.saying.Said.TheVariants.{Ack, Quiet}
+use Rattle.wef_keeper.specs.Calls.{MayLeave}
+use Rattle.wef_keeper.specs.Rows.{Rows}
+use Rattle.wef_pairs.specs.Pairs.{subscription_at}
+
+-- ---- deeds
+
+pub data Deed : Type 0 where
+  -- the collector starts
+  Starts : Deed
+  -- a subscription is added
+  Adds : Subscription → Deed
+  -- the subscription of a name ends
+  Ends : List ℕ → Deed
+  -- a request that came to a host is heard, and this is said to it, at a moment
+  Answers : (host : List ℕ) → Heard → (moment : ℕ) → Said → Deed
+  -- a request is heard, and there is no memory to answer it
+  Leaves : Heard → (moment : ℕ) → Deed
+
+-- What a deed that is cut off leaves of rows: it leaves them, or it has made its one commit.
+abbrev pub IsCut : Deed → Rows → Rows → Type 0
+IsCut Starts found last = StartsAtMost found last
+IsCut (Adds s) found last = MayLeave (λ rows. add_effect rows s) last found
+IsCut (Ends u) found last = MayLeave (λ rows. end_effect rows u) last found
+IsCut (Answers host heard moment said) found last = MayLeave (effect_in heard.asked moment) last found
+IsCut (Leaves heard moment) found last = MayLeave (effect_in heard.asked moment) last found
+
+-- What a deed leaves of rows. Of those with no answer nobody is told whether they were done.
+abbrev pub Does : Deed → Rows → Rows → Type 0
+Does (Answers host heard moment said) found last = Goes host heard.asked moment said found last
+Does deed found last = IsCut deed found last
+
+-- deeds are done, one after the other, each with the rows that the one before it left
+abbrev pub AreDone : List Deed → Rows → Rows → Type 0
+AreDone [] found last = last ≡ found
+AreDone (deed ∷ deeds) found last = (mid : Rows) × Does deed found mid × AreDone deeds mid last
+
+-- ---- what is kept
+
+-- A batch lies within what rows keep of its source: its subscription is there, live or ended, and the bookmark of each channel that
+-- this reads is no lower than the batch reads it.
+pub record IsWithin (rows : Rows) (u s : List ℕ) (batch : Batch) : Type 0 where
+  pub about : Subscription
+  pub known : subscription_at rows u ≡ Some about
+  pub reached : IsReached rows u s about batch
+
+-- a batch that was taken lies within rows, whether it was acknowledged or its source wanted no word
+abbrev pub TakenIsWithin : Rows → Asked → Said → Type 0
+TakenIsWithin rows (Take u s batch) Ack = IsWithin rows u s batch
+TakenIsWithin rows (Take u s batch) Quiet = IsWithin rows u s batch
+TakenIsWithin rows asked said = Unit {0}
+
+-- so it is with what a deed took
+abbrev pub Keeps : Rows → Deed → Type 0
+Keeps rows (Answers host heard moment said) = TakenIsWithin rows heard.asked said
+Keeps rows deed = Unit {0}
+
+-- Of the rows before, the rows behind have forgotten no subscription, and no bookmark is lower.
+pub record Stay (found last : Rows) : Type 0 where
+  pub known : (u : List ℕ) (about : Subscription) → subscription_at found u ≡ Some about → subscription_at last u ≡ Some about
+  pub rises : BookmarksRise found last

@@ -1,0 +1,22 @@
+//! Laws of runs over the stores that people keep, each the contract of a function that does nothing.
+
+ghost use Rattle.wef_deployments.specs.Laws.{CollectorRunsAreDeeds, RunsAreAccounted, RunsKeepTaken, TakenStaysKept};
+
+/// Each run of a command whose store tells the rows before it has an account: what it did to these, for any
+/// rows that an opening may find behind it.
+#[tactic(auto, using(crate::proofs::Accounts::runs_are_accounted))]
+pub fn runs_are_accounted()
+    ensures { RunsAreAccounted }
+{
+    wef_cli::laws::runs_leave_what_they_made();
+}
+
+/// What a collector took is kept. A run of one of its commands is a chain of deeds, each of which commits
+/// once at most (`deeds`). Behind it no subscription is forgotten and no bookmark is lower, and each batch
+/// that it took, acknowledged or not, lies within the bookmark of its source (`run`). So it is behind any
+/// runs, ended or killed anywhere (`runs`). Nothing is asked of whoever sends.
+pub fn what_was_taken_is_kept()
+    ensures deeds { CollectorRunsAreDeeds }
+    ensures run { RunsKeepTaken }
+    ensures runs { TakenStaysKept }
+{}
