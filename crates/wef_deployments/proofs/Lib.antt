@@ -1,3 +1,4 @@
 pub mod Accounts
 pub mod Done
+pub mod Recorded
 pub mod Taken

@@ -1,3 +1,4 @@
 pub mod Deeds
 pub mod Laws
+pub mod Recorded
 pub mod Runs

@@ -1,6 +1,7 @@
 //! Laws of runs over the stores that people keep, each the contract of a function that does nothing.
 
 ghost use Rattle.wef_deployments.specs.Laws.{CollectorRunsAreDeeds, RunsAreAccounted, RunsKeepTaken, TakenStaysKept};
+ghost use Rattle.wef_deployments.specs.Recorded.{WritesTellHistory};
 
 /// Each run of a command whose store tells the rows before it has an account: what it did to these, for any
 /// rows that an opening may find behind it.
@@ -20,3 +21,13 @@ pub fn what_was_taken_is_kept()
     ensures run { RunsKeepTaken }
     ensures runs { TakenStaysKept }
 {}
+
+/// `write` tells the history. Where the rows before a run are the window of a source's histories, any rows
+/// that an opening may find behind it are the window of these with the first so many of the input's events,
+/// each the next record of its channel, and each number that was printed names its record. Of one event
+/// more at most the line isn't printed, or not whole.
+pub fn write_tells_the_history()
+    ensures { WritesTellHistory }
+{
+    wef_commands::laws::numbers_told_are_written();
+}
