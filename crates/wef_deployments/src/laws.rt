@@ -1,5 +1,6 @@
 //! Laws of runs over the stores that people keep, each the contract of a function that does nothing.
 
+ghost use Rattle.wef_deployments.specs.Forwarded.{ForwardsFit};
 ghost use Rattle.wef_deployments.specs.Laws.{CollectorRunsAreDeeds, RunsAreAccounted, RunsKeepTaken, TakenStaysKept};
 ghost use Rattle.wef_deployments.specs.Recorded.{WritesTellHistory};
 
@@ -31,3 +32,11 @@ pub fn write_tells_the_history()
 {
     wef_commands::laws::numbers_told_are_written();
 }
+
+/// What `forward` sends fits. Where the rows before a run are the window of a source's histories, and the
+/// offers that it took begin within these: each batch that it sent says of the histories, above where its
+/// session stood, just what the session's query selects, and marks as dropped only what is lost. A session
+/// stands where its offer began, and rises by acknowledgements alone, to what the acknowledged message read.
+pub fn what_is_forwarded_fits()
+    ensures { ForwardsFit }
+{}
