@@ -22,6 +22,7 @@ use Rattle.wef_keeper.specs.Calls.{Makes, MayLeave}
 use Rattle.wef_keeper.proofs.Going.{may_leave}
 use Rattle.wef_keeper.specs.Keeping.{Store}
 use Rattle.wef_keeper.specs.Rows.{Rows}
+use Rattle.wef_machine.specs.Collecting.{reply_id}
 use Rattle.wef_ports.specs.Telling as ports
 use Rattle.wef_running.specs.ByRows.{AreServedBy, CollectSays, IsNotStarted, begun}
 use Rattle.wef_running.specs.ByRows.{none_by, one_by}
@@ -51,7 +52,7 @@ module _ (final : Rows) (clock : Option ℕ) where
   request_done : (k l : Kept) (responds : Responds (AnswersAt clock (AnswersBy final)) (LeavesAt clock LeavesBy) k l) → AreDone (deeds_of_request final clock responds) k.rows l.rows
   request_done k l (request, inl (moment, told, inl same)) = ap (λ (kept : Kept). kept.rows) same
   request_done k l (request, inl (moment, told, inr (heard, hears, left))) = alone (Leaves heard moment) k.rows l.rows left.rows
-  request_done k l (request, inr (answer, (moment, told, (heard, hears, is)))) = alone (Answers request.host heard moment is.said) k.rows l.rows is.goes
+  request_done k l (request, inr (answer, (moment, told, (heard, hears, is)))) = alone (Answers request.host heard moment (reply_id k.memory) is.said) k.rows l.rows is.goes
 
   turns_done : {k l : Kept} (turns : RespondsInTurn (AnswersAt clock (AnswersBy final)) (LeavesAt clock LeavesBy) k l) → AreDone (deeds_in_turn final clock turns) k.rows l.rows
   turns_done (to_none k) = refl

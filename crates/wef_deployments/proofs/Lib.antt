@@ -3,5 +3,6 @@ pub mod Acted
 pub mod Done
 pub mod Fitting
 pub mod Forwarded
+pub mod Hearing
 pub mod Recorded
 pub mod Taken

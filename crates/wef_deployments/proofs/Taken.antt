@@ -131,7 +131,7 @@ module _ (found last : Rows) where
   cut_stays Starts left = start_stays found last left
   cut_stays (Adds s) left = left_stays (λ rows. add_effect rows s) (add_stays s) left
   cut_stays (Ends u) left = left_stays (λ rows. end_effect rows u) (end_stays u) left
-  cut_stays (Answers host heard moment said) left = left_stays (effect_in heard.asked moment) (asked_stays heard.asked moment) left
+  cut_stays (Answers host heard moment id said) left = left_stays (effect_in heard.asked moment) (asked_stays heard.asked moment) left
   cut_stays (Leaves heard moment) left = left_stays (effect_in heard.asked moment) (asked_stays heard.asked moment) left
 
 -- ---- deeds that are done
@@ -142,8 +142,8 @@ done_as_cut Starts found last does = does
 done_as_cut (Adds s) found last does = does
 done_as_cut (Ends u) found last does = does
 done_as_cut (Leaves heard moment) found last does = does
-done_as_cut (Answers host heard moment said) found last (inr (is, may)) = may
-done_as_cut (Answers host heard moment said) found last (inl (is, same)) = by (effect_in heard.asked moment found) same
+done_as_cut (Answers host heard moment id said) found last (inr (is, may)) = may
+done_as_cut (Answers host heard moment id said) found last (inl (is, same)) = by (effect_in heard.asked moment found) same
   where
     by : (e : Effect) → last ≡ rows_by e found → (last ≡ found) ⊎ Makes e found last
     by (Ok changes) same = inr same
@@ -224,7 +224,7 @@ module _ (found last : Rows) where
   does_keep (Adds s) does = tt
   does_keep (Ends u) does = tt
   does_keep (Leaves heard moment) does = tt
-  does_keep (Answers host heard moment said) does = answer_within host heard.asked moment said does
+  does_keep (Answers host heard moment id said) does = answer_within host heard.asked moment said does
 
 -- ---- later rows
 
@@ -254,7 +254,7 @@ module _ (rows later : Rows) (stay : Stay rows later) where
   keeps_later (Adds s) keeps = tt
   keeps_later (Ends u) keeps = tt
   keeps_later (Leaves heard moment) keeps = tt
-  keeps_later (Answers host heard moment said) keeps = taken_later heard.asked said keeps
+  keeps_later (Answers host heard moment id said) keeps = taken_later heard.asked said keeps
 
   pub all_later : (done : List Deed) → AllByRecursion (Keeps rows) done → AllByRecursion (Keeps later) done
   all_later [] keep = tt

@@ -13,6 +13,7 @@ use Rattle.wef_front_collector.specs.declared.hearing.Asked.TheVariants.{Take}
 use Rattle.wef_front_collector.specs.declared.hearing.Heard.{Heard}
 use Rattle.wef_front_collector.specs.declared.saying.Said.{Said}
 use Rattle.wef_front_collector.specs.declared.saying.Said.TheVariants.{Ack, Quiet}
+use Rattle.wef_ids.specs.declared.MessageId.{MessageId}
 use Rattle.wef_keeper.specs.Calls.{MayLeave}
 use Rattle.wef_keeper.specs.Rows.{Rows}
 use Rattle.wef_pairs.specs.Pairs.{subscription_at}
@@ -26,8 +27,8 @@ pub data Deed : Type 0 where
   Adds : Subscription → Deed
   -- the subscription of a name ends
   Ends : List ℕ → Deed
-  -- a request that came to a host is heard, and this is said to it, at a moment
-  Answers : (host : List ℕ) → Heard → (moment : ℕ) → Said → Deed
+  -- a request that came to a host is heard, and this is said to it, at a moment and under an id
+  Answers : (host : List ℕ) → Heard → (moment : ℕ) → (id : MessageId) → Said → Deed
   -- a request is heard, and there is no memory to answer it
   Leaves : Heard → (moment : ℕ) → Deed
 
@@ -36,12 +37,12 @@ abbrev pub IsCut : Deed → Rows → Rows → Type 0
 IsCut Starts found last = StartsAtMost found last
 IsCut (Adds s) found last = MayLeave (λ rows. add_effect rows s) last found
 IsCut (Ends u) found last = MayLeave (λ rows. end_effect rows u) last found
-IsCut (Answers host heard moment said) found last = MayLeave (effect_in heard.asked moment) last found
+IsCut (Answers host heard moment id said) found last = MayLeave (effect_in heard.asked moment) last found
 IsCut (Leaves heard moment) found last = MayLeave (effect_in heard.asked moment) last found
 
 -- What a deed leaves of rows. Of those with no answer nobody is told whether they were done.
 abbrev pub Does : Deed → Rows → Rows → Type 0
-Does (Answers host heard moment said) found last = Goes host heard.asked moment said found last
+Does (Answers host heard moment id said) found last = Goes host heard.asked moment said found last
 Does deed found last = IsCut deed found last
 
 -- deeds are done, one after the other, each with the rows that the one before it left
@@ -66,7 +67,7 @@ TakenIsWithin rows asked said = Unit {0}
 
 -- so it is with what a deed took
 abbrev pub Keeps : Rows → Deed → Type 0
-Keeps rows (Answers host heard moment said) = TakenIsWithin rows heard.asked said
+Keeps rows (Answers host heard moment id said) = TakenIsWithin rows heard.asked said
 Keeps rows deed = Unit {0}
 
 -- Of the rows before, the rows behind have forgotten no subscription, and no bookmark is lower.

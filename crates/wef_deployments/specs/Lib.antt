@@ -1,6 +1,7 @@
 pub mod Acts
 pub mod Deeds
 pub mod Forwarded
+pub mod Hearing
 pub mod Laws
 pub mod Recorded
 pub mod Runs

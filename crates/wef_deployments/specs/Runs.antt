@@ -11,6 +11,7 @@ use Rattle.wef_commands.specs.declared.ending.Ending.{Ending}
 use Rattle.wef_commands.specs.declared.ending.Ending.TheVariants as ends
 use Rattle.wef_keeper.specs.Keeping.{Store}
 use Rattle.wef_keeper.specs.Rows.{Rows}
+use Rattle.wef_machine.specs.Collecting.{reply_id}
 use Rattle.wef_ports.specs.Telling as ports
 use Rattle.wef_running.specs.ByRows.{AreServedBy, CollectSays, begun}
 use Rattle.wef_running.specs.ByRows.{none_by, one_by}
@@ -30,7 +31,7 @@ module _ (final : Rows) (clock : Option ℕ) where
   abbrev pub deeds_of_request : {k l : Kept} → Responds (AnswersAt clock (AnswersBy final)) (LeavesAt clock LeavesBy) k l → List Deed
   deeds_of_request (request, inl (moment, told, inl same)) = []
   deeds_of_request (request, inl (moment, told, inr (heard, hears, left))) = Leaves heard moment ∷ []
-  deeds_of_request (request, inr (answer, (moment, told, (heard, hears, is)))) = Answers request.host heard moment is.said ∷ []
+  deeds_of_request {k} (request, inr (answer, (moment, told, (heard, hears, is)))) = Answers request.host heard moment (reply_id k.memory) is.said ∷ []
 
   abbrev pub deeds_in_turn : {k l : Kept} → RespondsInTurn (AnswersAt clock (AnswersBy final)) (LeavesAt clock LeavesBy) k l → List Deed
   deeds_in_turn (to_none k) = []

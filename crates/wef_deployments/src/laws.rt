@@ -1,6 +1,7 @@
 //! Laws of runs over the stores that people keep, each the contract of a function that does nothing.
 
 ghost use Rattle.wef_deployments.specs.Forwarded.{ForwardsFit};
+ghost use Rattle.wef_deployments.specs.Hearing.{DeedsKeep};
 ghost use Rattle.wef_deployments.specs.Laws.{CollectorRunsAreDeeds, RunsAreAccounted, RunsKeepTaken, TakenStaysKept};
 ghost use Rattle.wef_deployments.specs.Recorded.{WritesTellHistory};
 
@@ -39,4 +40,10 @@ pub fn write_tells_the_history()
 /// stands where its offer began, and rises by acknowledgements alone, to what the acknowledged message read.
 pub fn what_is_forwarded_fits()
     ensures { ForwardsFit }
+{}
+
+/// What is kept of a world of schedules stays kept behind each deed of a collector, done or cut off, where
+/// what reaches it for a declared source is what that source sent.
+pub fn deeds_keep()
+    ensures { DeedsKeep }
 {}
