@@ -5,4 +5,5 @@ pub mod Fitting
 pub mod Forwarded
 pub mod Hearing
 pub mod Recorded
+pub mod Sources
 pub mod Taken

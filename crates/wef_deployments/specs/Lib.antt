@@ -5,3 +5,4 @@ pub mod Hearing
 pub mod Laws
 pub mod Recorded
 pub mod Runs
+pub mod Sources

@@ -4,6 +4,7 @@ ghost use Rattle.wef_deployments.specs.Forwarded.{ForwardsFit};
 ghost use Rattle.wef_deployments.specs.Hearing.{DeedsKeep};
 ghost use Rattle.wef_deployments.specs.Laws.{CollectorRunsAreDeeds, RunsAreAccounted, RunsKeepTaken, TakenStaysKept};
 ghost use Rattle.wef_deployments.specs.Recorded.{WritesTellHistory};
+ghost use Rattle.wef_deployments.specs.Sources.{SourceDeedsKeep};
 
 /// Each run of a command whose store tells the rows before it has an account: what it did to these, for any
 /// rows that an opening may find behind it.
@@ -46,4 +47,10 @@ pub fn what_is_forwarded_fits()
 /// what reaches it for a declared source is what that source sent.
 pub fn deeds_keep()
     ensures { DeedsKeep }
+{}
+
+/// So it does behind each deed of a declared source, done or cut off, and behind the end of a run, where the
+/// offers and acknowledgements that it takes are ones that the collector gave to it.
+pub fn source_deeds_keep()
+    ensures { SourceDeedsKeep }
 {}

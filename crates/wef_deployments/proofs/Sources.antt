@@ -1,0 +1,366 @@
+-- What is kept of a world stays kept behind each deed of a source.
+use Rattle.std.proofs.Common.{◌≡◌, inl, inr, ℕ, ◌+◌, ◌*◌, ◌<◌, ◌≤◌, Bool, true, false, cond, ◌&&◌, List, [], ◌∷◌, ◌++◌, ap, sym, refl, subst, ◌∙◌, arith, append-nil}
+use Rattle.std.proofs.lemmas.Bool.{cond_both}
+use Rattle.std.specs.FinMap as finite
+use Rattle.std.specs.List.{AllByRecursion, filter}
+use Rattle.std.specs.Prelude.{Option, Some, None, Ok, Err, is_none, unwrap_or}
+use Rattle.wef_bookmark.specs.Order.{Marks}
+use Rattle.wef_building.specs.Building.{built}
+use Rattle.wef_building.specs.declared.sessions.Outstanding.{Outstanding}
+use Rattle.wef_building.specs.declared.sessions.Session.{Session}
+use Rattle.wef_collector.proofs.Hits.{one_name}
+use Rattle.wef_event.specs.Events.{Event, is_event}
+use Rattle.wef_event.specs.Numbering.{numbered}
+use Rattle.wef_eventing.specs.declared.offers.Offer.{Offer}
+use Rattle.wef_ids.specs.IdTexts.{id_of_value}
+use Rattle.wef_ids.specs.declared.FaultName.{FaultName}
+use Rattle.wef_ids.specs.declared.MessageId.{MessageId}
+use Rattle.wef_keeper.specs.Calls.{Makes, MayLeave}
+use Rattle.wef_keeper.specs.Rows.{Rows}
+use Rattle.wef_machine.specs.States.{Slot, State, slot_of, with_message, with_messages, with_slot}
+use Rattle.wef_machine.specs.declared.messages.Message.{Message}
+use Rattle.wef_machine.specs.declared.messages.Message.TheVariants.{Ask, Beat, Events, Offers, Ack}
+use Rattle.wef_query.specs.Order.{IsInOrder}
+use Rattle.wef_replay.specs.Good.{may_be_written}
+use Rattle.wef_safety.proofs.GoodLines.{IsWritable, writable_xml}
+use Rattle.wef_safety.proofs.Growing.{HistoriesGrow, SlotGrows, same_histories, same_rows, served_grows}
+use Rattle.wef_safety.proofs.LowerFacts.{lower}
+use Rattle.wef_safety.proofs.Moves.{are_one, declared_is, kept_draw, kept_slot, put_there, slot_put}
+use Rattle.wef_safety.proofs.SaidEvents.{numbered_said, written_events}
+use Rattle.wef_safety.proofs.Sent.{sent_before, sent_last}
+use Rattle.wef_safety.proofs.Sessions.{acknowledged_served, all_changed, all_filtered, all_first_changed, all_offered, all_without, first_passes, settled_served}
+use Rattle.wef_safety.proofs.SourceSteps.{all_later, below_most, delivery_kept, fresh_id, session_served}
+use Rattle.wef_safety.specs.Kept.{IsAckKept, IsDelivery, IsEndKept, IsKept, IsMessageKept, IsOffered, IsOnPath, IsRunningKept, IsServed, IsSourceKept, WasDrawn, last_id, request_id}
+use Rattle.wef_safety.specs.Safe.{read_by, source_of}
+use Rattle.wef_source.proofs.InOrder.{acknowledged_name, changed_in_order, filter_in_order, none_in_order, sending_name, settled_name, without_in_order}
+use Rattle.wef_source.proofs.Placements.{with_offers_in_order}
+use Rattle.wef_source.specs.Answers.{WhereThere}
+use Rattle.wef_source.specs.Machine.{End, acknowledged_in, adopted, asked, beat_of, beaten, delivery_of, is_spent, is_unreachable, lost_in, most_drawn, next_id, refused_in, sent, sent_to, start_of}
+use Rattle.wef_source.specs.Sessions.{acknowledged, is_leased, is_named, names_of, sending, session_of, settled, waits_for, with_changed, without}
+use Rattle.wef_source_log.specs.Answers.{is_boot_full, is_full, next_boot, next_number, next_text, start_effect, write_effect}
+use Rattle.wef_source_log.specs.Forms as log
+use Rattle.wef_source_log.specs.Histories.{Histories, History, extended, history}
+use Rattle.wef_source_log.specs.LogWindow.{IsWindow, boot_of, capacity_of, last_of, start_changes, started, write_changes, written}
+use Rattle.wef_source_log.specs.declared.faults.LogFault.{LogFault}
+use Rattle.wef_source_log.specs.declared.faults.LogFault.TheVariants as faults
+use Rattle.wef_deployments.specs.Acts as acts
+use Rattle.wef_deployments.specs.Acts.{Act, IsActed}
+use Rattle.wef_deployments.specs.Sources.{HearsAct, HearsAs, IsActing, IsBroken, SourceDeed, SourceDeedsKeep, Turns, says_acting, says_as, says_of_session, says_running, slot_left, slot_recorded}
+use Rattle.wef_deployments.specs.Sources.{StartsLog, StartsSource, Writes, Acts}
+
+-- ---- slots
+
+-- a world in which a slot says nothing
+quiet : (state : State) (s : List ℕ) (next : Slot) → IsKept (with_slot state s next) → IsKept (with_messages (with_slot state s next) [])
+quiet state s next kept = subst (λ (messages : List Message). IsKept (record (with_slot state s next) { messages = messages })) (sym (append-nil state.messages)) kept
+
+module _ (state : State) (kept : IsKept state) (s : List ℕ) (slot : Slot) (there : slot_of state s ≡ Some slot) where
+  source : IsSourceKept state.collector.rows state.messages s slot
+  source = kept.sources s slot there
+
+  -- a slot over its rows with an end that is as it should be
+  running_source : (messages : List Message) (end : End) → IsEndKept state.collector.rows messages s (slot_left slot slot.place.rows (Some end)) end → 0 < end.boot
+      → IsSourceKept state.collector.rows messages s (slot_left slot slot.place.rows (Some end))
+  running_source messages end is some = record {
+    name = source.name;
+    capacity = source.capacity;
+    greatest = source.greatest;
+    window = source.window;
+    formed = source.formed;
+    events = source.events;
+    running = (is, some);
+  }
+
+  -- ---- an end of a run
+
+  closed_drawn : (memory : Option End) → slot.place.memory ≡ memory → IsRunningKept state.collector.rows state.messages s slot memory → last_id slot slot.place.memory ≤ last_id (slot_left slot slot.place.rows None) None
+  closed_drawn None e runs = subst (λ (o : Option End). last_id slot o ≤ boot_of slot.place.rows * 18446744073709551616 + most_drawn) (sym e) (omega arith)
+  closed_drawn (Some end) e runs = subst (λ (o : Option End). last_id slot o ≤ boot_of slot.place.rows * 18446744073709551616 + most_drawn) (sym e) (within end runs.0.boot runs.0.drawn)
+    where
+      within : (end : End) → end.boot ≡ boot_of slot.place.rows → end.drawn ≤ most_drawn → end.boot * 18446744073709551616 + end.drawn ≤ boot_of slot.place.rows * 18446744073709551616 + most_drawn
+      within end e f = subst (λ (b : ℕ). end.boot * 18446744073709551616 + end.drawn ≤ b * 18446744073709551616 + most_drawn) e (omega arith)
+
+  pub closed_kept : IsKept (with_slot state s (slot_left slot slot.place.rows None))
+  closed_kept =
+      kept_slot state s slot (slot_left slot slot.place.rows None) kept there
+      (record { capacity = refl; histories = same_histories slot.histories; drawn = closed_drawn slot.place.memory refl source.running })
+      (record { name = source.name; capacity = source.capacity; greatest = source.greatest; window = source.window; formed = source.formed; events = source.events; running = tt })
+
+  -- ---- starts
+
+  -- a source whose log was started, which remembers nothing or is fresh
+  started_source : (last : Rows) (memory : Option End) → last ≡ started slot.place.rows slot.capacity → is_boot_full slot.place.rows ≡ false
+      → (boot_of last ≡ boot_of slot.place.rows + 1 → IsRunningKept state.collector.rows state.messages s (slot_left slot last memory) memory) → IsSourceKept state.collector.rows state.messages s (slot_left slot last memory)
+  started_source last memory is room running =
+      let boot = boot_is last is in
+      record {
+        name = source.name;
+        capacity = source.capacity;
+        greatest = source.greatest;
+        window = subst (λ (b : ℕ). IsWindow last slot.histories slot.capacity b) (sym boot) (window_is last is);
+        formed = subst log.AreFormed (sym is) (lower.log_formed_started slot.place.rows slot.capacity source.capacity source.greatest room source.formed);
+        events = source.events;
+        running = running boot;
+      }
+    where
+      window_is : (last : Rows) → last ≡ started slot.place.rows slot.capacity → IsWindow last slot.histories slot.capacity (boot_of slot.place.rows + 1)
+      window_is last is =
+          subst (λ (rows : Rows). IsWindow rows slot.histories slot.capacity (boot_of slot.place.rows + 1)) (sym is) (lower.log_starts slot.place.rows slot.histories slot.capacity (boot_of slot.place.rows) source.window)
+
+      boot_is : (last : Rows) → last ≡ started slot.place.rows slot.capacity → boot_of last ≡ boot_of slot.place.rows + 1
+      boot_is last is = lower.log_boot_is last slot.histories slot.capacity (boot_of slot.place.rows + 1) (window_is last is)
+
+  start_made : (last : Rows) → Makes (start_effect slot.place.rows slot.capacity) slot.place.rows last → (last ≡ started slot.place.rows slot.capacity) × (is_boot_full slot.place.rows ≡ false)
+  start_made last made = by (is_boot_full slot.place.rows) refl made
+    where
+      by : (full : Bool) → is_boot_full slot.place.rows ≡ full → Makes {F = LogFault} (cond full (Err faults.Full) (Ok (start_changes slot.place.rows slot.capacity))) slot.place.rows last
+          → (last ≡ started slot.place.rows slot.capacity) × (is_boot_full slot.place.rows ≡ false)
+      by true is made = absurd made
+      by false is made = (made, is)
+
+  module _ (closed : slot.place.memory ≡ None) where
+    -- ids behind a later start are greater
+    start_grows : (last : Rows) (memory : Option End) → boot_of slot.place.rows * 18446744073709551616 + most_drawn ≤ last_id (slot_left slot last memory) memory → SlotGrows slot (slot_left slot last memory)
+    start_grows last memory more =
+        record { capacity = refl; histories = same_histories slot.histories; drawn = subst (λ (o : Option End). last_id slot o ≤ last_id (slot_left slot last memory) memory) (sym closed) more }
+
+    start_boot : (last : Rows) → last ≡ started slot.place.rows slot.capacity → boot_of last ≡ boot_of slot.place.rows + 1
+    start_boot last is =
+        lower.log_boot_is last slot.histories slot.capacity (boot_of slot.place.rows + 1)
+        (subst (λ (rows : Rows). IsWindow rows slot.histories slot.capacity (boot_of slot.place.rows + 1)) (sym is) (lower.log_starts slot.place.rows slot.histories slot.capacity (boot_of slot.place.rows) source.window))
+
+    log_started : (last : Rows) → MayLeave (λ rows. start_effect rows slot.capacity) last slot.place.rows → IsKept (with_slot state s (slot_left slot last None))
+    log_started last (inl same) = subst (λ (rows : Rows). IsKept (with_slot state s (slot_left slot rows None))) (sym same) closed_kept
+    log_started last (inr made) =
+        let is = start_made last made in
+        let boot = start_boot last is.0 in
+        kept_slot state s slot (slot_left slot last None) kept there (start_grows last None (omega (arith, boot))) (started_source last None is.0 is.1 (λ _. tt))
+
+    source_started : (last : Rows) → Makes (start_effect slot.place.rows slot.capacity) slot.place.rows last → IsKept (with_slot state s (slot_left slot last (Some (start_of (next_boot slot.place.rows)))))
+    source_started last made =
+        let is = start_made last made in
+        let end = start_of (next_boot slot.place.rows) in
+        kept_slot state s slot (slot_left slot last (Some end)) kept there (start_grows last (Some end) (omega arith))
+        (started_source last (Some end) is.0 is.1 (λ boot. (record { boot = sym boot; drawn = omega arith; in_order = none_in_order; sessions = tt }, omega arith)))
+
+    -- ---- a write
+
+    longer : (all : Histories) (c text : List ℕ) → HistoriesGrow all (extended all c text)
+    longer all c text = record {
+      channels = λ d. put_there all c (history all c ++ text ∷ []) d (λ (o : Option History). (more : History) × (unwrap_or o [] ≡ history all d ++ more))
+          (λ is. (text ∷ [], ap (λ (e : List ℕ). history all e ++ text ∷ []) (sym is))) ([], sym (append-nil (history all d)));
+    }
+
+    event_written : (last : Rows) (event : Event) → 0 < boot_of slot.place.rows → may_be_written event ≡ true → Makes (write_effect slot.place.rows event) slot.place.rows last
+        → IsKept (with_slot state s (slot_recorded slot last event))
+    event_written last event some may made = by (is_full slot.place.rows event.channel) refl (is_none (numbered event (next_number slot.place.rows event))) refl made
+      where
+        text : List ℕ
+        text = next_text slot.place.rows event
+
+        good : IsWritable event
+        good = writable_xml s event (subst (λ (t : Bool). t && may_be_written event ≡ true) (sym source.name) may)
+
+        kept_so : is_full slot.place.rows event.channel ≡ false → is_none (numbered event (next_number slot.place.rows event)) ≡ false → last ≡ written slot.place.rows event.channel (next_text slot.place.rows event)
+            → IsKept (with_slot state s (slot_recorded slot last event))
+        kept_so room fits is =
+            let said = numbered_said lower.numbered_events event (last_of slot.place.rows event.channel) good room fits in
+            let window = subst (λ (rows : Rows). IsWindow rows (extended slot.histories event.channel text) slot.capacity (boot_of slot.place.rows)) (sym is)
+            (lower.log_extends slot.place.rows event slot.histories slot.capacity (boot_of slot.place.rows) source.capacity some source.window) in
+            let reads = lower.log_reads slot.place.rows slot.histories slot.capacity (boot_of slot.place.rows) some source.window in
+            let boot = lower.log_boot_is last (extended slot.histories event.channel text) slot.capacity (boot_of slot.place.rows) window in
+            kept_slot state s slot (slot_recorded slot last event) kept there
+            (record {
+              capacity = refl;
+              histories = longer slot.histories event.channel text;
+              drawn = subst (λ (o : Option End). last_id slot o ≤ boot_of last * 18446744073709551616 + most_drawn) (sym closed)
+                  (subst (λ (b : ℕ). boot_of slot.place.rows * 18446744073709551616 + most_drawn ≤ b * 18446744073709551616 + most_drawn) (sym boot) (omega arith));
+            })
+            (record {
+              name = source.name;
+              capacity = source.capacity;
+              greatest = source.greatest;
+              window = subst (λ (b : ℕ). IsWindow last (extended slot.histories event.channel text) slot.capacity b) (sym boot) window;
+              formed = subst log.AreFormed (sym is) (lower.log_formed_written slot.place.rows event room good.named said source.formed);
+              events = written_events slot.histories event.channel text source.events
+                  (subst (λ (n : ℕ). is_event (record { channel = event.channel; number = n + 1; text = text }) ≡ true) (reads.last_is event.channel) said);
+              running = tt;
+            })
+
+        by : (full : Bool) → is_full slot.place.rows event.channel ≡ full → (none : Bool) → is_none (numbered event (next_number slot.place.rows event)) ≡ none
+            → Makes {F = LogFault} (cond full (Err faults.Full) (cond none (Err faults.TooLong) (Ok (write_changes (capacity_of slot.place.rows) event.channel (next_number slot.place.rows event) (next_text slot.place.rows event))))) slot.place.rows last
+            → IsKept (with_slot state s (slot_recorded slot last event))
+        by true room none fits made = absurd made
+        by false room true fits made = absurd made
+        by false room false fits made = kept_so room fits made
+
+  -- ---- a source that runs
+
+  module _ (end : End) (runs : slot.place.memory ≡ Some end) where
+    abbrev left : End → Slot
+    left then_on = slot_left slot slot.place.rows (Some then_on)
+
+    is : IsEndKept state.collector.rows state.messages s slot end × (0 < end.boot)
+    is = subst (λ (o : Option End). IsRunningKept state.collector.rows state.messages s slot o) runs source.running
+
+    -- an end of the same start that drew no less goes on
+    goes_on : (then_on : End) → then_on.boot ≡ end.boot → end.drawn ≤ then_on.drawn → SlotGrows slot (left then_on)
+    goes_on then_on boot more = record {
+      capacity = refl;
+      histories = same_histories slot.histories;
+      drawn = subst (λ (o : Option End). last_id slot o ≤ then_on.boot * 18446744073709551616 + then_on.drawn) (sym runs) (omega (arith, boot));
+    }
+
+    end_kept : (then_on : End) → then_on.boot ≡ end.boot → then_on.drawn ≡ end.drawn → IsInOrder (names_of then_on.sessions) → AllByRecursion (IsServed state.collector.rows state.messages s) then_on.sessions
+        → IsKept (with_slot state s (left then_on))
+    end_kept then_on boot drawn in_order sessions =
+        let some = is.1 in
+        let most = is.0.drawn in
+        kept_slot state s slot (left then_on) kept there (goes_on then_on boot (omega (arith, drawn)))
+        (running_source state.messages then_on (record { boot = boot ∙ is.0.boot; drawn = omega (arith, drawn, most); in_order = in_order; sessions = sessions }) (omega (arith, boot, some)))
+
+    asked_kept : is_spent end ≡ false → IsKept (with_message (with_slot state s (left (asked end))) (Ask s (id_of_value (next_id end))))
+    asked_kept free =
+        let m : Message = Ask s (id_of_value (next_id end)) in
+        kept_draw state s slot (left (asked end)) m (next_id end) kept there (goes_on (asked end) refl (omega arith))
+        (running_source (state.messages ++ m ∷ []) (asked end)
+        (record { boot = is.0.boot; drawn = below_most end.drawn free; in_order = is.0.in_order; sessions = all_later state s (m ∷ []) end.sessions is.0.sessions }) is.1)
+        (declared_is (finite.get (finite.insert state.sources s (left (asked end))) s) (left (asked end)) (λ (o : Slot). WasDrawn o (Some (next_id end))) (slot_put state.sources s (left (asked end))) (omega arith))
+        refl refl (fresh_id slot end runs)
+
+    -- what a session sends under the next id, to its address, reads so far: the session waits for the answer
+    sends_kept : (session : Session) (m : Message) (to : Marks) (moment : ℕ) → is_spent end ≡ false → session_of end.sessions session.name ≡ Some session → source_of m ≡ s → request_id m ≡ Some (next_id end)
+        → read_by m ≡ Some (session.notify_to, to)
+        → IsMessageKept state.collector.rows (finite.insert state.sources s (left (sent_to end session.name to moment))) (state.messages ++ m ∷ []) m
+        → IsKept (with_message (with_slot state s (left (sent_to end session.name to moment))) m)
+    sends_kept session m to moment free found from requests reads goes =
+        let served = session_served state s session.name slot end session kept there runs found in
+        let after : End = sent_to end session.name to moment in
+        let messages : List Message = state.messages ++ m ∷ [] in
+        let awaited : Outstanding = record { id = next_id end; to = to } in
+        let later = served_grows state.collector.rows state.collector.rows state.messages messages s session (same_rows state.collector.rows) (sent_before state.messages m) served in
+        let waits : IsServed state.collector.rows messages s (sending awaited moment session) =
+        record { terms = later.terms; positions = later.positions; outstanding = (m, sent_last state.messages m, from, requests, reads); told = later.told } in
+        kept_draw state s slot (left after) m (next_id end) kept there (goes_on after refl (omega arith))
+        (running_source messages after (record {
+          boot = is.0.boot;
+          drawn = below_most end.drawn free;
+          in_order = changed_in_order (is_named session.name) (sending awaited moment) (sending_name awaited moment) end.sessions is.0.in_order;
+          sessions = all_first_changed (IsServed state.collector.rows state.messages s) (IsServed state.collector.rows messages s) (is_named session.name) (sending awaited moment) end.sessions session found
+              (λ x. served_grows state.collector.rows state.collector.rows state.messages messages s x (same_rows state.collector.rows) (sent_before state.messages m)) waits is.0.sessions;
+        }) is.1)
+        goes from requests (fresh_id slot end runs)
+
+    sent_kept : (session : Session) (moment : ℕ) → is_spent end ≡ false → session_of end.sessions session.name ≡ Some session
+        → IsKept (with_message (with_slot state s (left (sent slot.place.rows end session moment))) (Events s (delivery_of slot.place.rows end session)))
+    sent_kept session moment free found =
+        let delivery = delivery_of slot.place.rows end session in
+        let new : Slot = left (sent slot.place.rows end session moment) in
+        sends_kept session (Events s delivery) (built slot.place.rows session).to moment free found refl refl refl
+        (declared_is (finite.get (finite.insert state.sources s new) s) new (λ (o : Slot). IsDelivery state.collector.rows s o delivery) (slot_put state.sources s new)
+        (delivery_kept lower state s slot new end session kept there runs (session_served state s session.name slot end session kept there runs found) refl refl (omega arith)))
+
+    beat_kept : (session : Session) (moment : ℕ) → is_spent end ≡ false → session_of end.sessions session.name ≡ Some session
+        → IsKept (with_message (with_slot state s (left (beaten end session moment))) (Beat s (beat_of end session)))
+    beat_kept session moment free found =
+        let beat = beat_of end session in
+        let new : Slot = left (beaten end session moment) in
+        let terms = (session_served state s session.name slot end session kept there runs found).terms in
+        sends_kept session (Beat s beat) finite.empty moment free found refl refl refl
+        (declared_is (finite.get (finite.insert state.sources s new) s) new (λ (o : Slot). IsOnPath state.collector.rows s o beat.notify_to beat.id) (slot_put state.sources s new) (record {
+          u = session.name;
+          about = terms.about;
+          known = terms.known;
+          to_subscription = terms.to_subscription;
+          to_source = terms.to_source;
+          drawn = omega arith;
+        }))
+
+    -- the session of a name, by its own name
+    own_session : (u : List ℕ) (session : Session) → session_of end.sessions u ≡ Some session → session_of end.sessions session.name ≡ Some session
+    own_session u session found =
+        subst (λ (name : List ℕ). session_of end.sessions name ≡ Some session) (sym (one_name session.name u (first_passes (is_named u) end.sessions session found))) found
+
+    settled_sessions : (test : Session → Bool) → AllByRecursion (IsServed state.collector.rows state.messages s) (with_changed test settled end.sessions)
+    settled_sessions test =
+        all_changed (IsServed state.collector.rows state.messages s) test settled (λ session passes. settled_served state.collector.rows state.messages s session) end.sessions is.0.sessions
+
+    refused_kept : (id : ℕ) (fault : FaultName) → IsKept (with_slot state s (left (refused_in end id fault)))
+    refused_kept id fault =
+        end_kept (refused_in end id fault) refl refl
+        (cond_both (is_unreachable fault) (without (waits_for id) end.sessions) (with_changed (waits_for id) settled end.sessions) (λ (ss : List Session). IsInOrder (names_of ss))
+        (λ gone. without_in_order (waits_for id) end.sessions is.0.in_order) (λ stays. changed_in_order (waits_for id) settled settled_name end.sessions is.0.in_order))
+        (cond_both (is_unreachable fault) (without (waits_for id) end.sessions) (with_changed (waits_for id) settled end.sessions) (AllByRecursion (IsServed state.collector.rows state.messages s))
+        (λ gone. all_without (IsServed state.collector.rows state.messages s) (waits_for id) end.sessions is.0.sessions) (λ stays. settled_sessions (waits_for id)))
+
+    moved_kept : (id : ℕ) (relates : MessageId) → IsAckKept state.collector.rows state.messages s relates → relates.value ≡ Some id → IsKept (with_slot state s (left (acknowledged_in end id)))
+    moved_kept id relates acked at =
+        end_kept (acknowledged_in end id) refl refl (changed_in_order (waits_for id) acknowledged acknowledged_name end.sessions is.0.in_order)
+        (all_changed (IsServed state.collector.rows state.messages s) (waits_for id) acknowledged
+        (λ session waits. acknowledged_served state.collector.rows state.messages s relates id session (are_one state.messages kept.requests) acked at waits) end.sessions is.0.sessions)
+
+    adopted_kept : (offers : List Offer) (moment : ℕ) → AllByRecursion (λ (offer : Offer). IsOffered state.collector.rows s offer.subscribe) offers → IsKept (with_slot state s (left (adopted end offers moment)))
+    adopted_kept offers moment are =
+        end_kept (adopted end offers moment) refl refl (with_offers_in_order moment (filter is_leased end.sessions) offers (filter_in_order is_leased end.sessions is.0.in_order))
+        (all_offered state.collector.rows state.messages s moment (filter is_leased end.sessions) offers are (all_filtered (IsServed state.collector.rows state.messages s) is_leased end.sessions is.0.sessions))
+
+    lost_kept : (u : List ℕ) → IsKept (with_slot state s (left (lost_in end u)))
+    lost_kept u = end_kept (lost_in end u) refl refl (changed_in_order (is_named u) settled settled_name end.sessions is.0.in_order) (settled_sessions (is_named u))
+
+    -- the same of whatever the act makes of the end
+    as_acted : (then_on made : End) (more : List Message) → then_on ≡ made → IsKept (with_messages (with_slot state s (left made)) more) → IsKept (with_messages (with_slot state s (left then_on)) more)
+    as_acted then_on made more acted so = subst (λ (e : End). IsKept (with_messages (with_slot state s (left e)) more)) (sym acted) so
+
+    session_acted : (u : List ℕ) (says : Session → Message) (P : Session → Type 0) (then_on : End) → ((session : Session) → session_of end.sessions u ≡ Some session → P session → IsKept (with_message (with_slot state s (left then_on)) (says session)))
+        → WhereThere (session_of end.sessions u) P → IsKept (with_messages (with_slot state s (left then_on)) (says_of_session s slot.place.rows end says (session_of end.sessions u)))
+    session_acted u says P then_on so acted = by (session_of end.sessions u) refl acted
+      where
+        by : (o : Option Session) → session_of end.sessions u ≡ o → WhereThere o P → IsKept (with_messages (with_slot state s (left then_on)) (says_of_session s slot.place.rows end says o))
+        by None found acted = absurd acted
+        by (Some session) found acted = so session found acted
+
+    act_kept : (act : Act) (then_on : End) → HearsAct state s act → IsActed slot.place.rows act end then_on → IsKept (with_messages (with_slot state s (left then_on)) (says_acting s slot.place.rows end act))
+    act_kept acts.Asks then_on hears acted = as_acted then_on (asked end) _ acted.1 (asked_kept acted.0)
+    act_kept (acts.Adopts relates offers moment) then_on (id, asked_id, was) acted =
+        as_acted then_on (adopted end offers moment) [] acted.1 (quiet state s (left (adopted end offers moment)) (adopted_kept offers moment (kept.messages (Offers s id asked_id offers) was)))
+    act_kept (acts.Sends u moment) then_on hears acted =
+        session_acted u (λ session. Events s (delivery_of slot.place.rows end session)) _ then_on
+        (λ session found is_so. as_acted then_on (sent slot.place.rows end session moment) (Events s (delivery_of slot.place.rows end session) ∷ []) is_so.3 (sent_kept session moment is_so.2 (own_session u session found))) acted
+    act_kept (acts.Beats u moment) then_on hears acted =
+        session_acted u (λ session. Beat s (beat_of end session)) _ then_on
+        (λ session found is_so. as_acted then_on (beaten end session moment) (Beat s (beat_of end session) ∷ []) is_so.3 (beat_kept session moment is_so.2 (own_session u session found))) acted
+    act_kept (acts.Moves n) then_on (id, relates, was, at) acted =
+        as_acted then_on (acknowledged_in end n) [] acted (quiet state s (left (acknowledged_in end n)) (moved_kept n relates (kept.messages (Ack s id relates) was) at))
+    act_kept (acts.Refuses n fault) then_on hears acted = as_acted then_on (refused_in end n fault) [] acted (quiet state s (left (refused_in end n fault)) (refused_kept n fault))
+    act_kept (acts.Loses u) then_on hears acted = as_acted then_on (lost_in end u) [] acted (quiet state s (left (lost_in end u)) (lost_kept u))
+
+  -- ---- deeds
+
+  acting_kept : (memory : Option End) (act : Act) (next : Slot) → slot.place.memory ≡ memory → HearsAct state s act → IsActing memory act slot next → IsKept (with_messages (with_slot state s next) (says_running s slot.place.rows memory act))
+  acting_kept None act next runs hears acting = absurd acting
+  acting_kept (Some end) act next runs hears (then_on, acted, is) =
+      subst (λ (x : Slot). IsKept (with_messages (with_slot state s x) (says_acting s slot.place.rows end act))) (sym is) (act_kept end runs act then_on hears acted)
+
+  -- the same of the slot that a deed leaves
+  as_left : (next made : Slot) → next ≡ made → IsKept (with_slot state s made) → IsKept (with_slot state s next)
+  as_left next made is so = subst (λ (x : Slot). IsKept (with_slot state s x)) (sym is) so
+
+  pub done_kept : (deed : SourceDeed) (next : Slot) → HearsAs state s deed → Turns deed slot next → IsKept (with_messages (with_slot state s next) (says_as s slot deed))
+  done_kept StartsLog next hears (closed, (last, left, is)) = quiet state s next (as_left next (slot_left slot last None) is (log_started closed last left))
+  done_kept StartsSource next hears (closed, (last, made, is)) = quiet state s next (as_left next _ is (source_started closed last made))
+  done_kept (Writes event) next hears (closed, some, (last, made, is)) = quiet state s next (as_left next (slot_recorded slot last event) is (event_written closed last event some hears made))
+  done_kept (Acts act) next hears turns = acting_kept slot.place.memory act next refl hears turns
+
+  pub cut_kept : (deed : SourceDeed) (next : Slot) → HearsAs state s deed → IsBroken deed slot next → IsKept (with_slot state s next)
+  cut_kept StartsLog next hears (closed, (last, left, is)) = as_left next (slot_left slot last None) is (log_started closed last left)
+  cut_kept StartsSource next hears (closed, (last, left, is)) = as_left next (slot_left slot last None) is (log_started closed last left)
+  cut_kept (Writes event) next hears (inl is) = as_left next (slot_left slot slot.place.rows None) is closed_kept
+  cut_kept (Writes event) next hears (inr (closed, some, (last, made, is))) = as_left next (slot_recorded slot last event) is (event_written closed last event some hears made)
+  cut_kept (Acts act) next hears is = as_left next (slot_left slot slot.place.rows None) is closed_kept
+
+pub source_deeds_keep : SourceDeedsKeep
+source_deeds_keep = record {
+  done = λ state s slot next deed kept there hears turns. done_kept state kept s slot there deed next hears turns;
+  cut = λ state s slot next deed kept there hears broken. cut_kept state kept s slot there deed next hears broken;
+  ended = λ state s slot kept there. closed_kept state kept s slot there;
+}
