@@ -2,6 +2,7 @@ pub mod Accounts
 pub mod Acted
 pub mod Done
 pub mod Fitting
+pub mod Folders
 pub mod Forwarded
 pub mod Hearing
 pub mod Recorded

@@ -106,7 +106,7 @@ module _ (boot : ℕ) (begun : 0 < boot) where
       ((λ i. here.0 i ∷ there.0 i), there.1)
 
 -- a write makes the rows with one record more
-makes_event : (rows last : Rows) (event : Event) → Makes (write_effect rows event) rows last → last ≡ with_event rows event
+pub makes_event : (rows last : Rows) (event : Event) → Makes (write_effect rows event) rows last → last ≡ with_event rows event
 makes_event rows last event made = by (is_full rows event.channel) (is_none (numbered event (next_number rows event))) made
   where
     by : (full none : Bool)

@@ -15,7 +15,7 @@ use Rattle.wef_eventing.specs.declared.offers.Offer.{Offer}
 use Rattle.wef_ids.specs.IdTexts.{id_of_value}
 use Rattle.wef_ids.specs.declared.FaultName.{FaultName}
 use Rattle.wef_ids.specs.declared.MessageId.{MessageId}
-use Rattle.wef_keeper.specs.Calls.{Makes, MayLeave}
+use Rattle.wef_keeper.specs.Calls.{Makes}
 use Rattle.wef_keeper.specs.Rows.{Rows}
 use Rattle.wef_machine.specs.States.{Slot, State, slot_of, with_message, with_messages, with_slot}
 use Rattle.wef_machine.specs.declared.messages.Message.{Message}
@@ -37,15 +37,15 @@ use Rattle.wef_source.proofs.Placements.{with_offers_in_order}
 use Rattle.wef_source.specs.Answers.{WhereThere}
 use Rattle.wef_source.specs.Machine.{End, acknowledged_in, adopted, asked, beat_of, beaten, delivery_of, is_spent, is_unreachable, lost_in, most_drawn, next_id, refused_in, sent, sent_to, start_of}
 use Rattle.wef_source.specs.Sessions.{acknowledged, is_leased, is_named, names_of, sending, session_of, settled, waits_for, with_changed, without}
-use Rattle.wef_source_log.specs.Answers.{is_boot_full, is_full, next_boot, next_number, next_text, start_effect, write_effect}
+use Rattle.wef_source_log.specs.Answers.{is_boot_full, is_full, next_boot, next_number, next_text, write_effect}
 use Rattle.wef_source_log.specs.Forms as log
 use Rattle.wef_source_log.specs.Histories.{Histories, History, extended, history}
-use Rattle.wef_source_log.specs.LogWindow.{IsWindow, boot_of, capacity_of, last_of, start_changes, started, write_changes, written}
+use Rattle.wef_source_log.specs.LogWindow.{IsWindow, boot_of, capacity_of, last_of, started, write_changes, written}
 use Rattle.wef_source_log.specs.declared.faults.LogFault.{LogFault}
 use Rattle.wef_source_log.specs.declared.faults.LogFault.TheVariants as faults
 use Rattle.wef_deployments.specs.Acts as acts
 use Rattle.wef_deployments.specs.Acts.{Act, IsActed}
-use Rattle.wef_deployments.specs.Sources.{HearsAct, HearsAs, IsActing, IsBroken, SourceDeed, SourceDeedsKeep, Turns, says_acting, says_as, says_of_session, says_running, slot_left, slot_recorded}
+use Rattle.wef_deployments.specs.Sources.{HearsAct, HearsAs, IsActing, IsBroken, SourceDeed, SourceDeedsKeep, StartsAtMost, Turns, says_acting, says_as, says_of_session, says_running, slot_left, slot_recorded}
 use Rattle.wef_deployments.specs.Sources.{StartsLog, StartsSource, Writes, Acts}
 
 -- ---- slots
@@ -110,14 +110,6 @@ module _ (state : State) (kept : IsKept state) (s : List ℕ) (slot : Slot) (the
       boot_is : (last : Rows) → last ≡ started slot.place.rows slot.capacity → boot_of last ≡ boot_of slot.place.rows + 1
       boot_is last is = lower.log_boot_is last slot.histories slot.capacity (boot_of slot.place.rows + 1) (window_is last is)
 
-  start_made : (last : Rows) → Makes (start_effect slot.place.rows slot.capacity) slot.place.rows last → (last ≡ started slot.place.rows slot.capacity) × (is_boot_full slot.place.rows ≡ false)
-  start_made last made = by (is_boot_full slot.place.rows) refl made
-    where
-      by : (full : Bool) → is_boot_full slot.place.rows ≡ full → Makes {F = LogFault} (cond full (Err faults.Full) (Ok (start_changes slot.place.rows slot.capacity))) slot.place.rows last
-          → (last ≡ started slot.place.rows slot.capacity) × (is_boot_full slot.place.rows ≡ false)
-      by true is made = absurd made
-      by false is made = (made, is)
-
   module _ (closed : slot.place.memory ≡ None) where
     -- ids behind a later start are greater
     start_grows : (last : Rows) (memory : Option End) → boot_of slot.place.rows * 18446744073709551616 + most_drawn ≤ last_id (slot_left slot last memory) memory → SlotGrows slot (slot_left slot last memory)
@@ -129,19 +121,18 @@ module _ (state : State) (kept : IsKept state) (s : List ℕ) (slot : Slot) (the
         lower.log_boot_is last slot.histories slot.capacity (boot_of slot.place.rows + 1)
         (subst (λ (rows : Rows). IsWindow rows slot.histories slot.capacity (boot_of slot.place.rows + 1)) (sym is) (lower.log_starts slot.place.rows slot.histories slot.capacity (boot_of slot.place.rows) source.window))
 
-    log_started : (last : Rows) → MayLeave (λ rows. start_effect rows slot.capacity) last slot.place.rows → IsKept (with_slot state s (slot_left slot last None))
-    log_started last (inl same) = subst (λ (rows : Rows). IsKept (with_slot state s (slot_left slot rows None))) (sym same) closed_kept
-    log_started last (inr made) =
-        let is = start_made last made in
-        let boot = start_boot last is.0 in
-        kept_slot state s slot (slot_left slot last None) kept there (start_grows last None (omega (arith, boot))) (started_source last None is.0 is.1 (λ _. tt))
+    log_started : (last : Rows) → is_boot_full slot.place.rows ≡ false → StartsAtMost slot last → IsKept (with_slot state s (slot_left slot last None))
+    log_started last room (inl same) = subst (λ (rows : Rows). IsKept (with_slot state s (slot_left slot rows None))) (sym same) closed_kept
+    log_started last room (inr is) =
+        let boot = start_boot last is in
+        kept_slot state s slot (slot_left slot last None) kept there (start_grows last None (omega (arith, boot))) (started_source last None is room (λ _. tt))
 
-    source_started : (last : Rows) → Makes (start_effect slot.place.rows slot.capacity) slot.place.rows last → IsKept (with_slot state s (slot_left slot last (Some (start_of (next_boot slot.place.rows)))))
-    source_started last made =
-        let is = start_made last made in
+    source_started : is_boot_full slot.place.rows ≡ false → IsKept (with_slot state s (slot_left slot (started slot.place.rows slot.capacity) (Some (start_of (next_boot slot.place.rows)))))
+    source_started room =
+        let last = started slot.place.rows slot.capacity in
         let end = start_of (next_boot slot.place.rows) in
         kept_slot state s slot (slot_left slot last (Some end)) kept there (start_grows last (Some end) (omega arith))
-        (started_source last (Some end) is.0 is.1 (λ boot. (record { boot = sym boot; drawn = omega arith; in_order = none_in_order; sessions = tt }, omega arith)))
+        (started_source last (Some end) refl room (λ boot. (record { boot = sym boot; drawn = omega arith; in_order = none_in_order; sessions = tt }, omega arith)))
 
     -- ---- a write
 
@@ -345,15 +336,15 @@ module _ (state : State) (kept : IsKept state) (s : List ℕ) (slot : Slot) (the
   as_left : (next made : Slot) → next ≡ made → IsKept (with_slot state s made) → IsKept (with_slot state s next)
   as_left next made is so = subst (λ (x : Slot). IsKept (with_slot state s x)) (sym is) so
 
-  pub done_kept : (deed : SourceDeed) (next : Slot) → HearsAs state s deed → Turns deed slot next → IsKept (with_messages (with_slot state s next) (says_as s slot deed))
-  done_kept StartsLog next hears (closed, (last, left, is)) = quiet state s next (as_left next (slot_left slot last None) is (log_started closed last left))
-  done_kept StartsSource next hears (closed, (last, made, is)) = quiet state s next (as_left next _ is (source_started closed last made))
+  pub done_kept : (deed : SourceDeed) (next : Slot) → HearsAs state s slot deed → Turns deed slot next → IsKept (with_messages (with_slot state s next) (says_as s slot deed))
+  done_kept StartsLog next hears (closed, (last, left, is)) = quiet state s next (as_left next (slot_left slot last None) is (log_started closed last hears left))
+  done_kept StartsSource next hears (closed, is) = quiet state s next (as_left next _ is (source_started closed hears))
   done_kept (Writes event) next hears (closed, some, (last, made, is)) = quiet state s next (as_left next (slot_recorded slot last event) is (event_written closed last event some hears made))
   done_kept (Acts act) next hears turns = acting_kept slot.place.memory act next refl hears turns
 
-  pub cut_kept : (deed : SourceDeed) (next : Slot) → HearsAs state s deed → IsBroken deed slot next → IsKept (with_slot state s next)
-  cut_kept StartsLog next hears (closed, (last, left, is)) = as_left next (slot_left slot last None) is (log_started closed last left)
-  cut_kept StartsSource next hears (closed, (last, left, is)) = as_left next (slot_left slot last None) is (log_started closed last left)
+  pub cut_kept : (deed : SourceDeed) (next : Slot) → HearsAs state s slot deed → IsBroken deed slot next → IsKept (with_slot state s next)
+  cut_kept StartsLog next hears (closed, (last, left, is)) = as_left next (slot_left slot last None) is (log_started closed last hears left)
+  cut_kept StartsSource next hears (closed, (last, left, is)) = as_left next (slot_left slot last None) is (log_started closed last hears left)
   cut_kept (Writes event) next hears (inl is) = as_left next (slot_left slot slot.place.rows None) is closed_kept
   cut_kept (Writes event) next hears (inr (closed, some, (last, made, is))) = as_left next (slot_recorded slot last event) is (event_written closed last event some hears made)
   cut_kept (Acts act) next hears is = as_left next (slot_left slot slot.place.rows None) is closed_kept

@@ -1,5 +1,6 @@
 pub mod Acts
 pub mod Deeds
+pub mod Folders
 pub mod Forwarded
 pub mod Hearing
 pub mod Laws

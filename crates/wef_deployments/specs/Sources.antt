@@ -1,11 +1,11 @@
 -- What a declared source does to a world, by its folder: what each deed makes of its slot, what must have been said to it before, and
 -- what it says.
-use Rattle.std.specs.Prelude.{◌≡◌, ◌⊎◌, ℕ, ◌<◌, true, List, [], ◌∷◌, Option, Some, None}
+use Rattle.std.specs.Prelude.{◌≡◌, ◌⊎◌, ℕ, ◌<◌, true, false, List, [], ◌∷◌, Option, Some, None}
 use Rattle.wef_building.specs.declared.sessions.Session.{Session}
 use Rattle.wef_event.specs.Events.{Event}
 use Rattle.wef_ids.specs.IdTexts.{id_of_value}
 use Rattle.wef_ids.specs.declared.MessageId.{MessageId}
-use Rattle.wef_keeper.specs.Calls.{Makes, MayLeave}
+use Rattle.wef_keeper.specs.Calls.{Makes}
 use Rattle.wef_keeper.specs.Rows.{Rows}
 use Rattle.wef_machine.specs.Places.{Place}
 use Rattle.wef_machine.specs.States.{Slot, State, slot_of, slot_with, with_messages, with_slot}
@@ -16,9 +16,9 @@ use Rattle.wef_safety.specs.Kept.{IsKept}
 use Rattle.wef_safety.specs.Safe.{WasSent}
 use Rattle.wef_source.specs.Machine.{End, beat_of, delivery_of, next_id, start_of}
 use Rattle.wef_source.specs.Sessions.{session_of}
-use Rattle.wef_source_log.specs.Answers.{next_boot, next_text, start_effect, write_effect}
+use Rattle.wef_source_log.specs.Answers.{is_boot_full, next_boot, next_text, write_effect}
 use Rattle.wef_source_log.specs.Histories.{extended}
-use Rattle.wef_source_log.specs.LogWindow.{boot_of}
+use Rattle.wef_source_log.specs.LogWindow.{boot_of, started}
 use Rattle.wef_deployments.specs.Acts.{Act, IsActed}
 use Rattle.wef_deployments.specs.Acts.{Asks, Adopts, Sends, Beats, Moves}
 
@@ -48,12 +48,14 @@ abbrev pub IsActing : Option End → Act → Slot → Slot → Type 0
 IsActing None act slot next = ⊥
 IsActing (Some end) act slot next = (then_on : End) × IsActed slot.place.rows act end then_on × (next ≡ slot_left slot slot.place.rows (Some then_on))
 
+-- the rows of a log are as they were, or it was started over them
+abbrev pub StartsAtMost : Slot → Rows → Type 0
+StartsAtMost slot last = (last ≡ slot.place.rows) ⊎ (last ≡ started slot.place.rows slot.capacity)
+
 -- What a deed makes of a slot. Starts and writes are of a source that doesn't run, a write of a log that was started.
 abbrev pub Turns : SourceDeed → Slot → Slot → Type 0
-Turns StartsLog slot next = (slot.place.memory ≡ None) × ((last : Rows) × MayLeave (λ rows. start_effect rows slot.capacity) last slot.place.rows × (next ≡ slot_left slot last None))
-Turns StartsSource slot next =
-    (slot.place.memory ≡ None)
-    × ((last : Rows) × Makes (start_effect slot.place.rows slot.capacity) slot.place.rows last × (next ≡ slot_left slot last (Some (start_of (next_boot slot.place.rows)))))
+Turns StartsLog slot next = (slot.place.memory ≡ None) × ((last : Rows) × StartsAtMost slot last × (next ≡ slot_left slot last None))
+Turns StartsSource slot next = (slot.place.memory ≡ None) × (next ≡ slot_left slot (started slot.place.rows slot.capacity) (Some (start_of (next_boot slot.place.rows))))
 Turns (Writes event) slot next =
     (slot.place.memory ≡ None) × (0 < boot_of slot.place.rows) × ((last : Rows) × Makes (write_effect slot.place.rows event) slot.place.rows last × (next ≡ slot_recorded slot last event))
 Turns (Acts act) slot next = IsActing slot.place.memory act slot next
@@ -75,11 +77,12 @@ HearsAct state s (Adopts relates offers moment) = (id asked : MessageId) × WasS
 HearsAct state s (Moves n) = (id relates : MessageId) × WasSent state.messages (sent.Ack s id relates) × (relates.value ≡ Some n)
 HearsAct state s act = Unit {0}
 
--- an event that is written is the one that its text says
-abbrev pub HearsAs : State → List ℕ → SourceDeed → Type 0
-HearsAs state s (Writes event) = may_be_written event ≡ true
-HearsAs state s (Acts act) = HearsAct state s act
-HearsAs state s deed = Unit {0}
+-- An event that is written is the one that its text says, and the boot number isn't at its greatest.
+abbrev pub HearsAs : State → List ℕ → Slot → SourceDeed → Type 0
+HearsAs state s slot StartsLog = is_boot_full slot.place.rows ≡ false
+HearsAs state s slot StartsSource = is_boot_full slot.place.rows ≡ false
+HearsAs state s slot (Writes event) = may_be_written event ≡ true
+HearsAs state s slot (Acts act) = HearsAct state s act
 
 -- ---- what is said
 
@@ -106,8 +109,8 @@ says_as s slot deed = []
 -- What is kept of a world stays kept behind each deed of a declared source, behind one that is cut off anywhere, and behind the end of
 -- a run.
 pub record SourceDeedsKeep : Type 0 where
-  pub done : (state : State) (s : List ℕ) (slot next : Slot) (deed : SourceDeed) → IsKept state → slot_of state s ≡ Some slot → HearsAs state s deed → Turns deed slot next
+  pub done : (state : State) (s : List ℕ) (slot next : Slot) (deed : SourceDeed) → IsKept state → slot_of state s ≡ Some slot → HearsAs state s slot deed → Turns deed slot next
       → IsKept (with_messages (with_slot state s next) (says_as s slot deed))
-  pub cut : (state : State) (s : List ℕ) (slot next : Slot) (deed : SourceDeed) → IsKept state → slot_of state s ≡ Some slot → HearsAs state s deed → IsBroken deed slot next
+  pub cut : (state : State) (s : List ℕ) (slot next : Slot) (deed : SourceDeed) → IsKept state → slot_of state s ≡ Some slot → HearsAs state s slot deed → IsBroken deed slot next
       → IsKept (with_slot state s next)
   pub ended : (state : State) (s : List ℕ) (slot : Slot) → IsKept state → slot_of state s ≡ Some slot → IsKept (with_slot state s (slot_left slot slot.place.rows None))

@@ -1,5 +1,6 @@
 //! Laws of runs over the stores that people keep, each the contract of a function that does nothing.
 
+ghost use Rattle.wef_deployments.specs.Folders.{FolderRunsAreDeeds};
 ghost use Rattle.wef_deployments.specs.Forwarded.{ForwardsFit};
 ghost use Rattle.wef_deployments.specs.Hearing.{DeedsKeep};
 ghost use Rattle.wef_deployments.specs.Laws.{CollectorRunsAreDeeds, RunsAreAccounted, RunsKeepTaken, TakenStaysKept};
@@ -54,3 +55,11 @@ pub fn deeds_keep()
 pub fn source_deeds_keep()
     ensures { SourceDeedsKeep }
 {}
+
+/// Each run of `write` has an account: how far it came. A run of `write` or `forward` over the folder of a
+/// source did its deeds, one after the other.
+pub fn folder_runs_are_deeds()
+    ensures { FolderRunsAreDeeds }
+{
+    wef_commands::laws::numbers_told_are_written();
+}
