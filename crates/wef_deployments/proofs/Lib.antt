@@ -8,3 +8,4 @@ pub mod Hearing
 pub mod Recorded
 pub mod Sources
 pub mod Taken
+pub mod Worlds

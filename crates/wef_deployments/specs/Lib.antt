@@ -7,3 +7,4 @@ pub mod Laws
 pub mod Recorded
 pub mod Runs
 pub mod Sources
+pub mod Worlds

@@ -6,6 +6,7 @@ ghost use Rattle.wef_deployments.specs.Hearing.{DeedsKeep};
 ghost use Rattle.wef_deployments.specs.Laws.{CollectorRunsAreDeeds, RunsAreAccounted, RunsKeepTaken, TakenStaysKept};
 ghost use Rattle.wef_deployments.specs.Recorded.{WritesTellHistory};
 ghost use Rattle.wef_deployments.specs.Sources.{SourceDeedsKeep};
+ghost use Rattle.wef_deployments.specs.Worlds.{DeploymentsAreSafe};
 
 /// Each run of a command whose store tells the rows before it has an account: what it did to these, for any
 /// rows that an opening may find behind it.
@@ -63,3 +64,14 @@ pub fn folder_runs_are_deeds()
 {
     wef_commands::laws::numbers_told_are_written();
 }
+
+/// Deployments are safe. Take one collector's folder, in which `add`, `remove`, `list`, `show`, `events`,
+/// `status` and `collect` are run, and any number of sources' folders, in which `write` and `forward` are,
+/// all of them new at first, with at most one run at a time over each. Whatever the order, and wherever runs
+/// are killed: what stands in the collector's store is, for each of its subscriptions and each source, up to
+/// the bookmark, exactly the matching events that this source's `write` committed, once and in order, but
+/// for marked records that were overwritten or too large; and each batch that was acknowledged to a source
+/// lies within that bookmark. What must be so of the outside stands with the deeds (`Hears`, `HearsAs`).
+pub fn deployments_are_safe()
+    ensures { DeploymentsAreSafe }
+{}
