@@ -1,0 +1,7 @@
+//! That settling leaves nothing unsent: what it does, and what is so after it.
+#![tactic(auto)]
+
+pub mod laws;
+pub mod verdicts;
+
+pub use verdicts::Verdict;
