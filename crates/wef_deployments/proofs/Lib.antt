@@ -5,6 +5,7 @@ pub mod Fitting
 pub mod Folders
 pub mod Forwarded
 pub mod Hearing
+pub mod Printed
 pub mod Recorded
 pub mod Sources
 pub mod Taken

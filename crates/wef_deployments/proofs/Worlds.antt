@@ -22,7 +22,7 @@ use Rattle.wef_source_log.specs.Keys.{boot_key}
 use Rattle.wef_source_log.specs.LogWindow.{IsWindow, boot_of}
 use Rattle.wef_deployments.proofs.Hearing.{deeds_keep}
 use Rattle.wef_deployments.proofs.Sources.{source_deeds_keep}
-use Rattle.wef_deployments.specs.Worlds.{AreSources, DeploymentsAreSafe, Next, Reaches, World, new_state}
+use Rattle.wef_deployments.specs.Worlds.{AreSources, DeploymentsAreSafe, Next, Reaches, World, new_state, new_world}
 use Rattle.wef_deployments.specs.Worlds.{collector_begins, collector_goes_on, collector_stops, collector_is_cut, write_begins, forward_begins, source_goes_on, source_stops, source_is_cut, begins, goes_on}
 
 -- ---- new folders
@@ -79,5 +79,8 @@ all_kept : {first w : World} → IsKept first.state → Reaches first w → IsKe
 all_kept kept begins = kept
 all_kept kept (goes_on w next before step) = next_kept step (all_kept kept before)
 
+pub worlds_kept : (names : List (List ℕ)) (w : World) → AreSources names → Reaches (new_world names) w → IsKept w.state
+worlds_kept names w are reaches = all_kept (new_kept names are) reaches
+
 pub deployments_are_safe : DeploymentsAreSafe
-deployments_are_safe names w are reaches = kept_is_safe w.state (all_kept (new_kept names are) reaches)
+deployments_are_safe names w are reaches = kept_is_safe w.state (worlds_kept names w are reaches)

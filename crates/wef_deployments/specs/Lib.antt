@@ -4,6 +4,7 @@ pub mod Folders
 pub mod Forwarded
 pub mod Hearing
 pub mod Laws
+pub mod Printed
 pub mod Recorded
 pub mod Runs
 pub mod Sources

@@ -4,6 +4,7 @@ ghost use Rattle.wef_deployments.specs.Folders.{FolderRunsAreDeeds};
 ghost use Rattle.wef_deployments.specs.Forwarded.{ForwardsFit};
 ghost use Rattle.wef_deployments.specs.Hearing.{DeedsKeep};
 ghost use Rattle.wef_deployments.specs.Laws.{CollectorRunsAreDeeds, RunsAreAccounted, RunsKeepTaken, TakenStaysKept};
+ghost use Rattle.wef_deployments.specs.Printed.{EventsPrintHistory, LinesNameRecords};
 ghost use Rattle.wef_deployments.specs.Recorded.{WritesTellHistory};
 ghost use Rattle.wef_deployments.specs.Sources.{SourceDeedsKeep};
 ghost use Rattle.wef_deployments.specs.Worlds.{DeploymentsAreSafe};
@@ -75,3 +76,15 @@ pub fn folder_runs_are_deeds()
 pub fn deployments_are_safe()
     ensures { DeploymentsAreSafe }
 {}
+
+/// In a deployment, what `events NAME SOURCE CHANNEL` prints is exactly the matching events of the source's
+/// history up to the bookmark, each once and in order, but for those under marks, which were overwritten or
+/// are too large; and a line `CHANNEL NUMBER` of `write` names the record of that number in the channel's
+/// history.
+pub fn what_is_printed_is_the_history()
+    ensures events { EventsPrintHistory }
+    ensures lines { LinesNameRecords }
+{
+    wef_commands::laws::texts_are_of_rows();
+    write_tells_the_history();
+}
