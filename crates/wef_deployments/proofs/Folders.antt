@@ -27,10 +27,10 @@ use Rattle.wef_source_log.specs.Faults.{log_store}
 use Rattle.wef_source_log.specs.LogWindow.{IsWindow, boot_of, capacity_of, start_changes, started, write_changes}
 use Rattle.wef_source_log.specs.declared.faults.LogFault.{LogFault}
 use Rattle.wef_source_log.specs.declared.faults.LogFault.TheVariants as faults
-use Rattle.wef_deployments.proofs.Acted.{asking_acted}
-use Rattle.wef_deployments.specs.Acts.{Act, AreActed}
+use Rattle.wef_runs.proofs.Acted.{asking_acted}
+use Rattle.wef_runs.specs.Acts.{Act, AreActed}
 use Rattle.wef_deployments.specs.Folders.{AreDeeds, AreTurned, FolderRunsAreDeeds, IsAtRest, deeds_forwarded_by, deeds_stopping, deeds_written_by}
-use Rattle.wef_deployments.specs.Forwarded.{acts_begun}
+use Rattle.wef_runs.specs.Forwarded.{acts_begun}
 use Rattle.wef_deployments.specs.Sources.{SourceDeed, StartsAtMost, Turns, slot_left, slot_recorded}
 use Rattle.wef_deployments.specs.Sources.{StartsLog, StartsSource, Writes, Acts}
 

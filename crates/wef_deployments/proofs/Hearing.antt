@@ -63,9 +63,9 @@ use Rattle.wef_safety.proofs.Sent.{sent_before}
 use Rattle.wef_safety.specs.Kept.{IsAckKept, IsDelivery, IsKept, IsMessageKept, IsOffered, IsOnPath, IsWorldKept, request_id}
 use Rattle.wef_safety.specs.Safe.{WasSent}
 use Rattle.wef_source.specs.declared.messages.Delivery.{Delivery}
-use Rattle.wef_deployments.proofs.Taken.{cut_stays, done_as_cut}
-use Rattle.wef_deployments.specs.Deeds.{Deed, Does, IsCut, Stay}
-use Rattle.wef_deployments.specs.Deeds.{Starts, Adds, Ends, Answers, Leaves}
+use Rattle.wef_runs.proofs.Taken.{cut_stays, done_as_cut}
+use Rattle.wef_runs.specs.Deeds.{Deed, Does, IsCut, Stay}
+use Rattle.wef_runs.specs.Deeds.{Starts, Adds, Ends, Answers, Leaves}
 use Rattle.wef_deployments.specs.Hearing.{DeedsKeep, HearsAsked, HearsBatch, HearsBeat, Hears, IsAddable, NamesHost, WasBeaten, WasDelivered, after_cut, after_deed, messages_said, named_by, to_declared, with_rows, with_stranger}
 
 -- ---- worlds at a moment, and lines whose commit is kept but stops the collector

@@ -1,12 +1,5 @@
-pub mod Accounts
-pub mod Acted
-pub mod Done
-pub mod Fitting
 pub mod Folders
-pub mod Forwarded
 pub mod Hearing
 pub mod Printed
-pub mod Recorded
 pub mod Sources
-pub mod Taken
 pub mod Worlds

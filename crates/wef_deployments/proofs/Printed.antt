@@ -30,14 +30,14 @@ use Rattle.wef_safety.specs.Laws.{written_by}
 use Rattle.wef_source_log.specs.Histories.{history}
 use Rattle.wef_source_log.specs.LogWindow.{IsWindow, boot_of}
 use Rattle.wef_deployments.proofs.Hearing.{deeds_keep}
-use Rattle.wef_deployments.proofs.Taken.{cut_stays}
+use Rattle.wef_runs.proofs.Taken.{cut_stays}
 use Rattle.wef_deployments.proofs.Worlds.{worlds_kept}
-use Rattle.wef_deployments.specs.Acts.{Act}
-use Rattle.wef_deployments.specs.Deeds.{Deed}
-use Rattle.wef_deployments.specs.Deeds.{Starts, Adds, Ends, Answers, Leaves}
+use Rattle.wef_runs.specs.Acts.{Act}
+use Rattle.wef_runs.specs.Deeds.{Deed}
+use Rattle.wef_runs.specs.Deeds.{Starts, Adds, Ends, Answers, Leaves}
 use Rattle.wef_deployments.specs.Hearing.{after_cut, named, named_by, with_stranger}
 use Rattle.wef_deployments.specs.Printed.{EventsPrintHistory, LinesNameRecords, PrintsHistory}
-use Rattle.wef_deployments.specs.Recorded.{WritesTellHistory}
+use Rattle.wef_runs.specs.Recorded.{WritesTellHistory}
 use Rattle.wef_deployments.specs.Sources.{IsActing, IsBroken, SourceDeed, Turns, slot_left}
 use Rattle.wef_deployments.specs.Sources.{StartsLog, StartsSource, Writes, Acts}
 use Rattle.wef_deployments.specs.Worlds.{Next, Reaches, World, new_state}

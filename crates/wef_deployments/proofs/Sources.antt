@@ -43,8 +43,8 @@ use Rattle.wef_source_log.specs.Histories.{Histories, History, extended, history
 use Rattle.wef_source_log.specs.LogWindow.{IsWindow, boot_of, capacity_of, last_of, started, write_changes, written}
 use Rattle.wef_source_log.specs.declared.faults.LogFault.{LogFault}
 use Rattle.wef_source_log.specs.declared.faults.LogFault.TheVariants as faults
-use Rattle.wef_deployments.specs.Acts as acts
-use Rattle.wef_deployments.specs.Acts.{Act, IsActed}
+use Rattle.wef_runs.specs.Acts as acts
+use Rattle.wef_runs.specs.Acts.{Act, IsActed}
 use Rattle.wef_deployments.specs.Sources.{HearsAct, HearsAs, IsActing, IsBroken, SourceDeed, SourceDeedsKeep, StartsAtMost, Turns, says_acting, says_as, says_of_session, says_running, slot_left, slot_recorded}
 use Rattle.wef_deployments.specs.Sources.{StartsLog, StartsSource, Writes, Acts}
 

@@ -16,8 +16,8 @@ use Rattle.wef_machine.specs.States.{Slot}
 use Rattle.wef_running.specs.ByRows.{ForwardSays}
 use Rattle.wef_source_log.specs.LogWindow as log
 use Rattle.wef_source_log.specs.LogWindow.{IsWindow, boot_of}
-use Rattle.wef_deployments.specs.Forwarded.{acts_begun}
-use Rattle.wef_deployments.specs.Runs.{Account}
+use Rattle.wef_runs.specs.Forwarded.{acts_begun}
+use Rattle.wef_runs.specs.Runs.{Account}
 use Rattle.wef_deployments.specs.Sources.{SourceDeed, Turns}
 use Rattle.wef_deployments.specs.Sources.{StartsLog, StartsSource, Writes, Acts}
 

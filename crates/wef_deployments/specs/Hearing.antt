@@ -23,8 +23,8 @@ use Rattle.wef_replay.specs.Good.{is_source, is_subscription}
 use Rattle.wef_safety.specs.Kept.{AreAddressed, IsKept}
 use Rattle.wef_safety.specs.Safe.{WasSent}
 use Rattle.wef_source.specs.declared.messages.Delivery.{Delivery}
-use Rattle.wef_deployments.specs.Deeds.{Deed, Does, IsCut}
-use Rattle.wef_deployments.specs.Deeds.{Starts, Adds, Ends, Answers, Leaves}
+use Rattle.wef_runs.specs.Deeds.{Deed, Does, IsCut}
+use Rattle.wef_runs.specs.Deeds.{Starts, Adds, Ends, Answers, Leaves}
 
 -- ---- what must have been said
 

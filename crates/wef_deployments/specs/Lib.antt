@@ -1,11 +1,5 @@
-pub mod Acts
-pub mod Deeds
 pub mod Folders
-pub mod Forwarded
 pub mod Hearing
-pub mod Laws
 pub mod Printed
-pub mod Recorded
-pub mod Runs
 pub mod Sources
 pub mod Worlds

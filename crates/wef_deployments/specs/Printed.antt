@@ -19,7 +19,7 @@ use Rattle.wef_machine.specs.States.{Slot, slot_of}
 use Rattle.wef_pairs.specs.Pairs.{marks_of, subscription_at, wanted_events}
 use Rattle.wef_source_log.specs.Histories.{history}
 use Rattle.wef_source_log.specs.LogWindow.{boot_of}
-use Rattle.wef_deployments.specs.Recorded.{Records}
+use Rattle.wef_runs.specs.Recorded.{Records}
 use Rattle.wef_deployments.specs.Worlds.{AreSources, Reaches, World, new_world}
 
 -- The text of all events of a source's channel that a subscription selects, from the first record up to the bookmark, each once and

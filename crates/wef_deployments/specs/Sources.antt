@@ -19,8 +19,8 @@ use Rattle.wef_source.specs.Sessions.{session_of}
 use Rattle.wef_source_log.specs.Answers.{is_boot_full, next_boot, next_text, write_effect}
 use Rattle.wef_source_log.specs.Histories.{extended}
 use Rattle.wef_source_log.specs.LogWindow.{boot_of, started}
-use Rattle.wef_deployments.specs.Acts.{Act, IsActed}
-use Rattle.wef_deployments.specs.Acts.{Asks, Adopts, Sends, Beats, Moves}
+use Rattle.wef_runs.specs.Acts.{Act, IsActed}
+use Rattle.wef_runs.specs.Acts.{Asks, Adopts, Sends, Beats, Moves}
 
 -- ---- deeds
 

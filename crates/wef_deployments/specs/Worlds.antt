@@ -10,10 +10,10 @@ use Rattle.wef_machine.specs.Sources.{declared_slot}
 use Rattle.wef_machine.specs.States.{Slot, State, slot_of, start, with_messages, with_slot}
 use Rattle.wef_replay.specs.Good.{is_among, is_source}
 use Rattle.wef_safety.specs.Laws.{IsStateSafe}
-use Rattle.wef_deployments.specs.Deeds.{Deed, Does, IsCut}
+use Rattle.wef_runs.specs.Deeds.{Deed, Does, IsCut}
 use Rattle.wef_deployments.specs.Folders.{Writing, deeds_forwarded, deeds_written}
 use Rattle.wef_deployments.specs.Hearing.{Hears, after_cut, after_deed}
-use Rattle.wef_deployments.specs.Runs.{Account, OfCollector, deeds_of}
+use Rattle.wef_runs.specs.Runs.{Account, OfCollector, deeds_of}
 use Rattle.wef_deployments.specs.Sources.{HearsAs, IsBroken, SourceDeed, Turns, says_as, slot_left}
 
 -- ---- worlds

@@ -1,5 +1,5 @@
-//! What is proved of folders that people keep: of any runs of the commands over one store, one after the
-//! other, each of them ended or killed.
+//! What is proved of the folders that people keep: of one collector's and those of any number of sources,
+//! whatever runs over them, and wherever it is killed.
 #![tactic(auto)]
 
 pub mod laws;

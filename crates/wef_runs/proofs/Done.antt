@@ -30,12 +30,12 @@ use Rattle.wef_running.specs.Collecting.{ListeningEndsBy, ServingEndsBy, Telling
 use Rattle.wef_serving.specs.Serving.{AnswersAt, LeavesAt, Responds, RespondsInTurn}
 use Rattle.wef_serving.specs.Serving.{to_none, to_one_more}
 use Rattle.wef_serving.specs.declared.ends.ConnectionEnd.{ConnectionEnd}
-use Rattle.wef_deployments.proofs.Taken.{all_keep, all_later, all_stay, both_keep, both_stay, cut_stays}
-use Rattle.wef_deployments.specs.Deeds.{AreDone, Deed, Does, Stay}
-use Rattle.wef_deployments.specs.Deeds.{Starts, Answers, Leaves}
-use Rattle.wef_deployments.specs.Laws.{AreKept, CollectorRunsAreDeeds, RunsKeepTaken, TakenStaysKept}
-use Rattle.wef_deployments.specs.Runs.{HaveRun, OfCollector, deeds_by, deeds_collected, deeds_in_turn, deeds_listening, deeds_of, deeds_of_connections, deeds_of_request, deeds_served, deeds_told}
-use Rattle.wef_deployments.specs.Runs.{none_run, one_ended, one_killed}
+use Rattle.wef_runs.proofs.Taken.{all_keep, all_later, all_stay, both_keep, both_stay, cut_stays}
+use Rattle.wef_runs.specs.Deeds.{AreDone, Deed, Does, Stay}
+use Rattle.wef_runs.specs.Deeds.{Starts, Answers, Leaves}
+use Rattle.wef_runs.specs.Laws.{AreKept, CollectorRunsAreDeeds, RunsKeepTaken, TakenStaysKept}
+use Rattle.wef_runs.specs.Runs.{HaveRun, OfCollector, deeds_by, deeds_collected, deeds_in_turn, deeds_listening, deeds_of, deeds_of_connections, deeds_of_request, deeds_served, deeds_told}
+use Rattle.wef_runs.specs.Runs.{none_run, one_ended, one_killed}
 
 -- ---- deeds joined
 

@@ -34,8 +34,8 @@ use Rattle.wef_source.specs.Machine.{End, acknowledged_in, adopted, has_caught_u
 use Rattle.wef_source.specs.Sessions.{acknowledged, is_leased, is_named, is_outstanding, moved_by, sending, session_from, session_of, settled, waits_for, with_changed, with_offered, with_offers, without}
 use Rattle.wef_source_log.specs.Histories.{Histories, history}
 use Rattle.wef_source_log.specs.LogWindow.{IsWindow}
-use Rattle.wef_deployments.specs.Acts as acts
-use Rattle.wef_deployments.specs.Acts.{Act, AreActed, BeginWithin, HasStood, IsActed, IsRaised, MayBegin, MayRaise, OfEach, Rises, SendsFitting}
+use Rattle.wef_runs.specs.Acts as acts
+use Rattle.wef_runs.specs.Acts.{Act, AreActed, BeginWithin, HasStood, IsActed, IsRaised, MayBegin, MayRaise, OfEach, Rises, SendsFitting}
 
 -- ---- lists of sessions
 

@@ -22,10 +22,10 @@ use Rattle.wef_source_log.specs.Histories.{Histories}
 use Rattle.wef_source_log.specs.LogWindow as log
 use Rattle.wef_source_log.specs.declared.faults.LogFault.TheVariants as log_faults
 use Rattle.wef_source_log.specs.LogWindow.{IsWindow}
-use Rattle.wef_deployments.proofs.Acted.{asking_acted}
-use Rattle.wef_deployments.proofs.Fitting.{all_fit, all_rise}
-use Rattle.wef_deployments.specs.Acts.{BeginWithin}
-use Rattle.wef_deployments.specs.Forwarded.{ForwardsFit, HasForwarded, acts_by}
+use Rattle.wef_runs.proofs.Acted.{asking_acted}
+use Rattle.wef_runs.proofs.Fitting.{all_fit, all_rise}
+use Rattle.wef_runs.specs.Acts.{BeginWithin}
+use Rattle.wef_runs.specs.Forwarded.{ForwardsFit, HasForwarded, acts_by}
 
 -- a start leaves the window, under the same boot number or the next
 start_window : (found last : Rows) (all : Histories) (boot : ℕ) → IsWindow found all LOG_CAPACITY boot → MayLeave (λ rows. start_effect rows LOG_CAPACITY) last found

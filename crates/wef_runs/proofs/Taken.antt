@@ -33,8 +33,8 @@ use Rattle.wef_promises.proofs.OtherRows.{hearing_aside, noting_aside}
 use Rattle.wef_safety.proofs.Aside.{booted_aside, grows_aside}
 use Rattle.wef_safety.proofs.Growing.{RowsGrow}
 use Rattle.wef_safety.proofs.RowMoves.{adding_grows, ending_grows, subscription_by_taking, taking_grows, taking_reaches}
-use Rattle.wef_deployments.specs.Deeds.{AreDone, Deed, Does, IsCut, IsWithin, Keeps, Stay, TakenIsWithin}
-use Rattle.wef_deployments.specs.Deeds.{Starts, Adds, Ends, Answers, Leaves}
+use Rattle.wef_runs.specs.Deeds.{AreDone, Deed, Does, IsCut, IsWithin, Keeps, Stay, TakenIsWithin}
+use Rattle.wef_runs.specs.Deeds.{Starts, Adds, Ends, Answers, Leaves}
 
 -- ---- what stays behind a commit
 

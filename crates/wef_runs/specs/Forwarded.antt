@@ -28,9 +28,9 @@ use Rattle.wef_source.specs.declared.messages.Reply.TheVariants as replies
 use Rattle.wef_source_log.specs.Answers.{next_boot}
 use Rattle.wef_source_log.specs.Histories.{Histories}
 use Rattle.wef_source_log.specs.LogWindow.{IsWindow}
-use Rattle.wef_deployments.specs.Acts.{Act, AreActed, BeginWithin, OfEach, Rises, SendsFitting}
-use Rattle.wef_deployments.specs.Acts.{Asks, Adopts, Sends, Beats, Moves, Refuses, Loses}
-use Rattle.wef_deployments.specs.Runs.{Account}
+use Rattle.wef_runs.specs.Acts.{Act, AreActed, BeginWithin, OfEach, Rises, SendsFitting}
+use Rattle.wef_runs.specs.Acts.{Asks, Adopts, Sends, Beats, Moves, Refuses, Loses}
+use Rattle.wef_runs.specs.Runs.{Account}
 
 -- ---- the ask
 

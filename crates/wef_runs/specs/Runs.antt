@@ -21,8 +21,8 @@ use Rattle.wef_running.specs.Collecting.{listening_line}
 use Rattle.wef_serving.specs.Serving.{AnswersAt, LeavesAt, Responds, RespondsInTurn}
 use Rattle.wef_serving.specs.Serving.{to_none, to_one_more}
 use Rattle.wef_serving.specs.declared.ends.ConnectionEnd.{ConnectionEnd}
-use Rattle.wef_deployments.specs.Deeds.{AreDone, Deed, IsCut}
-use Rattle.wef_deployments.specs.Deeds.{Starts, Adds, Ends, Answers, Leaves}
+use Rattle.wef_runs.specs.Deeds.{AreDone, Deed, IsCut}
+use Rattle.wef_runs.specs.Deeds.{Starts, Adds, Ends, Answers, Leaves}
 
 -- ---- the deeds of `collect`
 

@@ -8,8 +8,8 @@ use Rattle.wef_commands.specs.Laws.{Stand}
 use Rattle.wef_commands.specs.declared.ending.Ending.{Ending}
 use Rattle.wef_keeper.specs.Keeping.{IsLawful, MayFind, Store}
 use Rattle.wef_keeper.specs.Rows.{Rows}
-use Rattle.wef_deployments.specs.Deeds.{AreDone, Deed, Keeps, Stay}
-use Rattle.wef_deployments.specs.Runs.{Account, HaveRun, OfCollector, deeds_of}
+use Rattle.wef_runs.specs.Deeds.{AreDone, Deed, Keeps, Stay}
+use Rattle.wef_runs.specs.Runs.{Account, HaveRun, OfCollector, deeds_of}
 
 -- Each run of a command over a store that tells its rows has an account of what it did to them, for any that an opening may find
 -- behind it.

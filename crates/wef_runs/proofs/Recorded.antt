@@ -26,7 +26,7 @@ use Rattle.wef_source_log.specs.LogWindow as log
 use Rattle.wef_source_log.specs.LogWindow.{IsWindow, capacity_of, last_of, start_changes, write_changes}
 use Rattle.wef_source_log.specs.declared.faults.LogFault.{LogFault}
 use Rattle.wef_source_log.specs.declared.faults.LogFault.TheVariants.{Full, TooLong}
-use Rattle.wef_deployments.specs.Recorded.{AreRecords, HasRecorded, Records, WritesTellHistory, next_in, numbers_in, text_in, with_record, with_records}
+use Rattle.wef_runs.specs.Recorded.{AreRecords, HasRecorded, Records, WritesTellHistory, next_in, numbers_in, text_in, with_record, with_records}
 
 -- ---- records of longer histories
 

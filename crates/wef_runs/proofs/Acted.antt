@@ -29,8 +29,8 @@ use Rattle.wef_source.specs.declared.messages.Moved.{Moved}
 use Rattle.wef_source.specs.declared.messages.Poll.TheVariants as polls
 use Rattle.wef_source.specs.declared.messages.Reply.{Reply}
 use Rattle.wef_source.specs.declared.messages.Reply.TheVariants as replies
-use Rattle.wef_deployments.specs.Acts.{Act, AreActed}
-use Rattle.wef_deployments.specs.Forwarded.{acts_asking, acts_forwarded, acts_of_answer, acts_of_ask, acts_of_end, acts_of_envelope, acts_of_exchange, acts_of_one, acts_of_reply, acts_of_sent, acts_of_told, acts_sending}
+use Rattle.wef_runs.specs.Acts.{Act, AreActed}
+use Rattle.wef_runs.specs.Forwarded.{acts_asking, acts_forwarded, acts_of_answer, acts_of_ask, acts_of_end, acts_of_envelope, acts_of_exchange, acts_of_one, acts_of_reply, acts_of_sent, acts_of_told, acts_sending}
 
 -- ---- what is heard
 

@@ -1,5 +1,0 @@
-use Rattle.wef_deployments.proofs.Done.{all_kept, run_done, run_keeps}
-use Rattle.wef_deployments.proofs.laws.what_was_taken_is_kept.Goals as goal
-
-pub returns : goal.returns
-returns c = record { deeds = run_done; run = run_keeps; runs = all_kept }
