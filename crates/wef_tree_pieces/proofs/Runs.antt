@@ -1,11 +1,16 @@
 -- What is read at once is what is read character by character.
-use Rattle.std.proofs.Common.{◌≡◌, ℕ, suc, ◌+◌, ◌==◌, Bool, true, false, cond, List, [], ◌∷◌, length, take, drop, encode_utf8, encode_utf8_all, refl, sym, ap, ◌∙◌, arith}
-use Rattle.std.specs.Prelude.{Option, Some, None, ◌&&◌, ◌||◌, not}
+use Rattle.std.proofs.Common.{◌≡◌, ℕ, suc, ◌+◌, ◌==◌, Bool, true, false, cond, List, [], ◌∷◌, ◌++◌, length, take, drop, encode_utf8, encode_utf8_all, refl, sym, ap, ◌∙◌, arith}
+use Rattle.std.proofs.Math.Seq.{take-add}
+use Rattle.std.proofs.lemmas.List.{append-nil, drop-drop}
+use Rattle.std.proofs.lemmas.Str.{encodes-append}
+use Rattle.std.specs.Prelude.{Option, Some, None, codes, ◌&&◌, ◌||◌, not}
 use Rattle.std.specs.List.{prefix_len}
 use Rattle.std.specs.Option.{option_map, option_and_then}
 use Rattle.wef_base.specs.Characters.{is_xml_char}
 use Rattle.wef_xml.specs.Letters.{is_name_char, is_name_start}
+use Rattle.wef_xml.specs.Fronts.{behind, strip}
 use Rattle.wef_tree_pieces.specs.Names.{name_tail, plain_name_at, with_front}
+use Rattle.wef_tree_pieces.specs.Pieces.{section_tail}
 use Rattle.wef_tree_pieces.specs.References.{reference_at}
 use Rattle.wef_tree_pieces.specs.Runs.{is_plain, plain_name_length}
 use Rattle.wef_tree_pieces.specs.Tags.{value_in, value_on, value_turn}
@@ -96,3 +101,36 @@ value_runs quote (c ∷ cs) = by (is_plain quote c) refl (value_runs quote cs)
 -- the plain characters at the front of a value, and what is behind them, are the value
 pub value_is : (quote : ℕ) (cs : List ℕ) (n : ℕ) → n ≡ prefix_len (is_plain quote) cs → valued quote n cs ≡ value_in (length cs) quote cs
 value_is quote cs n is = ap (λ m. valued quote m cs) is ∙ value_runs quote cs
+
+-- a section from behind its first so many characters on, with these in front
+abbrev sectioned : ℕ → List ℕ → List ℕ → Option (List ℕ × List ℕ)
+sectioned n text rest = option_map (with_front (encode_utf8_all (take n text))) (section_tail rest)
+
+-- the first characters, with the one behind them
+front_further : (n c : ℕ) (text more : List ℕ) → drop n text ≡ c ∷ more → encode_utf8_all (take (n + 1) text) ≡ encode_utf8_all (take n text) ++ encode_utf8 c
+front_further n c text more behind =
+    ap encode_utf8_all (take-add n 1 text)
+    ∙ encodes-append (take n text) (take 1 (drop n text))
+    ∙ ap (λ (rest : List ℕ). encode_utf8_all (take n text) ++ encode_utf8_all (take 1 rest)) behind
+    ∙ ap (λ (bytes : List ℕ). encode_utf8_all (take n text) ++ bytes) (append-nil (encode_utf8 c))
+
+-- a character that doesn't end a section stands in it
+section_goes_on : (c : ℕ) (more : List ℕ) → None ≡ strip (codes "]]>") (c ∷ more) → true ≡ is_xml_char c → section_tail (c ∷ more) ≡ option_map (with_front (encode_utf8 c)) (section_tail more)
+section_goes_on c more none is =
+    ap (λ found. behind found (λ rest. Some ([], rest)) (cond (is_xml_char c) (option_map (with_front (encode_utf8 c)) (section_tail more)) None)) (sym none)
+    ∙ ap (λ allowed. cond allowed (option_map (with_front (encode_utf8 c)) (section_tail more)) None) (sym is)
+
+pub section_further :
+    (n c : ℕ) (text rest more : List ℕ) → rest ≡ c ∷ more → None ≡ strip (codes "]]>") rest → true ≡ is_xml_char c →
+    record { within : n + length rest ≡ length text; behind : drop n text ≡ rest; read : sectioned n text rest ≡ section_tail text } →
+    record { within : n + 1 + length more ≡ length text; behind : drop (n + 1) text ≡ more; read : sectioned (n + 1) text more ≡ section_tail text }
+section_further n c text rest more is none allowed held = record {
+  within = omega (arith, ap length is, held.within);
+  behind = sym (drop-drop 1 n text) ∙ ap (drop 1) (held.behind ∙ is);
+  read =
+      ap (λ front. option_map (with_front front) (section_tail more)) (front_further n c text more (held.behind ∙ is))
+      ∙ sym (with_front_twice (encode_utf8_all (take n text)) (encode_utf8 c) (section_tail more))
+      ∙ ap (option_map (with_front (encode_utf8_all (take n text)))) (sym (section_goes_on c more (none ∙ ap (strip (codes "]]>")) is) allowed))
+      ∙ ap (sectioned n text) (sym is)
+      ∙ held.read;
+}
