@@ -8,10 +8,12 @@ mod names;
 mod pieces;
 mod references;
 mod sections;
+mod sharing;
 mod tags;
 mod values;
 
 pub use faults::Halt;
 pub use names::{Name, Spelling};
 pub use pieces::{Piece, piece_at};
+pub use sharing::Names;
 pub use tags::{Given, Tag};

@@ -11,7 +11,8 @@ ghost use Rattle.wef_xml.specs.Letters.{is_name_char};
 
 use crate::faults::Halt;
 use crate::headings::behind_character;
-use std::alloc::{AllocError, Global};
+use crate::sharing::Names;
+use std::alloc::AllocError;
 use std::marker::Model;
 use wef_base::Text;
 use wef_xml::letters::{is_name_char, is_name_start};
@@ -43,13 +44,13 @@ impl<'a> Model for Spelling<'a> {
 }
 
 impl<'a> Spelling<'a> {
-    /// The name, in texts of its own.
-    pub fn to_name(&self, alloc: Global) -> Result<Name, AllocError>
+    /// The name, in texts that it shares with the same name elsewhere.
+    pub fn to_name(&self, names: &mut Names) -> Result<Name, AllocError>
         ensures { IfOk result (λ name. name ≡ self.now) }
     {
         Ok(Name {
-            prefix: Text::from_chars(alloc, self.prefix)?,
-            local: Text::from_chars(alloc, self.local)?,
+            prefix: names.text(self.prefix)?,
+            local: names.text(self.local)?,
         })
     }
 
@@ -62,7 +63,7 @@ impl<'a> Spelling<'a> {
 }
 
 /// Whether characters are those of a text.
-fn spells(characters: &[char], text: &Text) -> bool
+pub fn spells(characters: &[char], text: &Text) -> bool
     ensures { result ≡ same (encode_utf8_all characters.now) text.now }
 {
     let mut rest = characters;
@@ -76,11 +77,11 @@ fn spells(characters: &[char], text: &Text) -> bool
 }
 
 /// The name that a text begins with, and what is left.
-pub fn name_at(alloc: Global, text: &[char]) -> Result<(Name, &[char]), Halt>
+pub fn name_at<'a>(names: &mut Names, text: &'a [char]) -> Result<(Name, &'a [char]), Halt>
     ensures { Reads result (name_at text.now) }
 {
     let (spelling, rest) = spelling_at(text).ok_or(Halt::Bad)?;
-    Ok((spelling.to_name(alloc)?, rest))
+    Ok((spelling.to_name(names)?, rest))
 }
 
 /// The same, as it stands there.

@@ -8,6 +8,7 @@ use crate::headings::declaration_tail;
 use crate::names::Spelling;
 use crate::references::reference_at;
 use crate::sections::{comment_tail, section_tail};
+use crate::sharing::Names;
 use crate::tags::{Tag, end_tag_at, tag_at};
 use std::alloc::Global;
 use wef_base::{Text, is_xml_char};
@@ -33,12 +34,16 @@ pub enum Piece<'a> {
 
 /// The piece that a text begins with, and what is left.
 #[tactic(auto, unfolding(crate::specs::Pieces::piece_at))]
-pub fn piece_at(alloc: Global, text: &[char]) -> Result<(Piece<'_>, &[char]), Halt>
+pub fn piece_at<'a>(
+    alloc: Global,
+    names: &mut Names,
+    text: &'a [char],
+) -> Result<(Piece<'a>, &'a [char]), Halt>
     ensures { Reads result (piece_at text.now) }
 {
     match text {
         [] => Err(Halt::Bad),
-        ['<', rest @ ..] => markup_at(alloc, rest),
+        ['<', rest @ ..] => markup_at(alloc, names, rest),
         ['&', rest @ ..] => {
             let (character, rest) = reference_at(rest).ok_or(Halt::Bad)?;
             Ok((Piece::Reference(character), rest))
@@ -48,7 +53,11 @@ pub fn piece_at(alloc: Global, text: &[char]) -> Result<(Piece<'_>, &[char]), Ha
 }
 
 /// A piece whose text begins behind its `<`.
-fn markup_at(alloc: Global, text: &[char]) -> Result<(Piece<'_>, &[char]), Halt>
+fn markup_at<'a>(
+    alloc: Global,
+    names: &mut Names,
+    text: &'a [char],
+) -> Result<(Piece<'a>, &'a [char]), Halt>
     ensures { Reads result (markup_at text.now) }
 {
     if let Some(rest) = strip(b"!--", text) {
@@ -67,7 +76,7 @@ fn markup_at(alloc: Global, text: &[char]) -> Result<(Piece<'_>, &[char]), Halt>
         let rest = declaration_tail(rest).ok_or(Halt::Bad)?;
         return Ok((Piece::Declaration, rest));
     }
-    let (tag, rest) = tag_at(alloc, text)?;
+    let (tag, rest) = tag_at(alloc, names, text)?;
     closed_tag(tag, rest)
 }
 

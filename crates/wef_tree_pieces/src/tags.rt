@@ -7,6 +7,7 @@ ghost use Rattle.wef_tree_pieces.specs.Tags.{behind_equals, end_tag_at, ends_tag
 
 use crate::faults::Halt;
 use crate::names::{Name, Spelling, name_at, spelling_at};
+use crate::sharing::Names;
 use crate::values::quoted_at;
 use std::alloc::Global;
 use wef_base::names::{is_xml_space, trim_start};
@@ -29,11 +30,15 @@ pub struct Tag {
 
 /// The name and the attributes of a tag, whose text begins behind `<`, and what is left from its
 /// `>` or `/>` on.
-pub fn tag_at(alloc: Global, text: &[char]) -> Result<(Tag, &[char]), Halt>
+pub fn tag_at<'a>(
+    alloc: Global,
+    names: &mut Names,
+    text: &'a [char],
+) -> Result<(Tag, &'a [char]), Halt>
     ensures { Reads result (tag_at text.now) }
 {
-    let (name, rest) = name_at(alloc, text)?;
-    let (given, rest) = givens_in(alloc, rest)?;
+    let (name, rest) = name_at(names, text)?;
+    let (given, rest) = givens_in(alloc, names, rest)?;
     Ok((Tag { name, given }, rest))
 }
 
@@ -46,13 +51,17 @@ pub fn end_tag_at(text: &[char]) -> Option<(Spelling<'_>, &[char])>
     Some((name, rest))
 }
 
-fn givens_in(alloc: Global, text: &[char]) -> Result<(List<Given>, &[char]), Halt>
+fn givens_in<'a>(
+    alloc: Global,
+    names: &mut Names,
+    text: &'a [char],
+) -> Result<(List<Given>, &'a [char]), Halt>
     ensures { Reads result (givens_in (length text.now) text.now) }
 {
     let mut given = List::new(alloc);
     let mut rest = text;
     for _turn in 0..text.len() {
-        let (next, behind) = tag_turn(alloc, rest)?;
+        let (next, behind) = tag_turn(alloc, names, rest)?;
         let Some(attribute) = next else {
             return Ok((given, behind));
         };
@@ -63,12 +72,16 @@ fn givens_in(alloc: Global, text: &[char]) -> Result<(List<Given>, &[char]), Hal
 }
 
 /// One step in a tag: its next attribute, which a space comes before, or none at the tag's end.
-fn tag_turn(alloc: Global, text: &[char]) -> Result<(Option<Given>, &[char]), Halt>
+fn tag_turn<'a>(
+    alloc: Global,
+    names: &mut Names,
+    text: &'a [char],
+) -> Result<(Option<Given>, &'a [char]), Halt>
     ensures { Reads result (tag_turn text.now) }
 {
     match text {
         [character, rest @ ..] if is_xml_space(*character) => {
-            spaced_turn(alloc, trim_start(rest))
+            spaced_turn(alloc, names, trim_start(rest))
         }
         [character, ..] if ends_tag(*character) => Ok((None, text)),
         _ => Err(Halt::Bad),
@@ -76,7 +89,11 @@ fn tag_turn(alloc: Global, text: &[char]) -> Result<(Option<Given>, &[char]), Ha
 }
 
 /// The same behind the spaces.
-fn spaced_turn(alloc: Global, text: &[char]) -> Result<(Option<Given>, &[char]), Halt>
+fn spaced_turn<'a>(
+    alloc: Global,
+    names: &mut Names,
+    text: &'a [char],
+) -> Result<(Option<Given>, &'a [char]), Halt>
     ensures { Reads result (spaced_turn text.now) }
 {
     let [character, ..] = text else {
@@ -85,7 +102,7 @@ fn spaced_turn(alloc: Global, text: &[char]) -> Result<(Option<Given>, &[char]),
     if ends_tag(*character) {
         return Ok((None, text));
     }
-    let (given, rest) = given_at(alloc, text)?;
+    let (given, rest) = given_at(alloc, names, text)?;
     Ok((Some(given), rest))
 }
 
@@ -96,10 +113,14 @@ fn ends_tag(character: char) -> bool
 }
 
 /// The attribute that a text begins with, and what is left.
-fn given_at(alloc: Global, text: &[char]) -> Result<(Given, &[char]), Halt>
+fn given_at<'a>(
+    alloc: Global,
+    names: &mut Names,
+    text: &'a [char],
+) -> Result<(Given, &'a [char]), Halt>
     ensures { Reads result (given_at text.now) }
 {
-    let (name, rest) = name_at(alloc, text)?;
+    let (name, rest) = name_at(names, text)?;
     let rest = behind_equals(rest).ok_or(Halt::Bad)?;
     let (value, rest) = quoted_at(alloc, rest)?;
     Ok((Given { name, value }, rest))

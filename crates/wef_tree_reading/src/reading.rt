@@ -18,7 +18,7 @@ use crate::known::Known;
 use std::alloc::Global;
 use wef_base::names::trim_start;
 use wef_base::{Charset, Element, is_xml_char};
-use wef_tree_pieces::{Halt, Piece, piece_at};
+use wef_tree_pieces::{Halt, Names, Piece, piece_at};
 use wef_xml::decoding::decode;
 use wef_xml::fronts::strip;
 use wef_xml::line_ends::join_line_ends;
@@ -108,10 +108,13 @@ fn read_text(alloc: Global, text: &[char]) -> Result<ToldTree, Stop>
     let Ok(mut builder) = Builder::new(alloc) else {
         return Err(Stop::NoMemory);
     };
+    let Ok(mut names) = Names::new(alloc) else {
+        return Err(Stop::NoMemory);
+    };
     let mut known = Known::new(alloc);
     let mut rest = text;
     while !rest.is_empty() {
-        rest = walk(alloc, &mut builder, &mut known, rest)?;
+        rest = walk(alloc, &mut builder, &mut known, &mut names, rest)?;
     }
     let Builder { root, .. } = builder;
     match root {
@@ -129,6 +132,7 @@ fn walk<'a>(
     alloc: Global,
     builder: &mut Builder,
     known: &mut Known,
+    names: &mut Names,
     text: &'a [char],
 ) -> Result<&'a [char], Stop>
     requires { KnowsBuilder known.old builder.old }
@@ -136,9 +140,9 @@ fn walk<'a>(
     ensures knows { OnOk result (KnowsBuilder known.new builder.new) }
 {
     if builder.depth() == 0 {
-        return walk_outside(alloc, builder, known, text);
+        return walk_outside(alloc, builder, known, names, text);
     }
-    walk_inside(alloc, builder, known, text)
+    walk_inside(alloc, builder, known, names, text)
 }
 
 /// Walks where an element is open: letters are text of it.
@@ -147,6 +151,7 @@ fn walk_inside<'a>(
     alloc: Global,
     builder: &mut Builder,
     known: &mut Known,
+    names: &mut Names,
     text: &'a [char],
 ) -> Result<&'a [char], Stop>
     requires inside { length builder.old.around ≢ 0 }
@@ -156,7 +161,7 @@ fn walk_inside<'a>(
 {
     let length = letters_length(text);
     if length == 0 {
-        return step(alloc, builder, known, text);
+        return step(alloc, builder, known, names, text);
     }
     let (letters, behind) = text.split_at(length);
     match builder.take_letters(letters) {
@@ -171,6 +176,7 @@ fn walk_outside<'a>(
     alloc: Global,
     builder: &mut Builder,
     known: &mut Known,
+    names: &mut Names,
     text: &'a [char],
 ) -> Result<&'a [char], Stop>
     requires outside { length builder.old.around ≡ 0 }
@@ -180,7 +186,7 @@ fn walk_outside<'a>(
 {
     let behind = trim_start(text);
     if behind.len() == text.len() {
-        return step(alloc, builder, known, text);
+        return step(alloc, builder, known, names, text);
     }
     builder.begun = true;
     Ok(behind)
@@ -212,6 +218,7 @@ fn step<'a>(
     alloc: Global,
     builder: &mut Builder,
     known: &mut Known,
+    names: &mut Names,
     text: &'a [char],
 ) -> Result<&'a [char], Stop>
     requires { KnowsBuilder known.old builder.old }
@@ -219,7 +226,7 @@ fn step<'a>(
     ensures knows { OnOk result (KnowsBuilder known.new builder.new) }
 {
     let depth = builder.depth();
-    let (piece, behind) = match piece_at(alloc, text) {
+    let (piece, behind) = match piece_at(alloc, names, text) {
         Ok(read) => read,
         Err(Halt::NoMemory) => return Err(Stop::NoMemory),
         Err(Halt::Bad) => return Err(stop_at(text, false, depth)),
