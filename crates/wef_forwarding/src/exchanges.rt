@@ -77,7 +77,7 @@ pub struct Request {
 /// Sends a request in a connection of its own, and reads what comes back: the envelope of a response
 /// with the status 200, 400 or 500, or none.
 #[tactic(auto, using(crate::proofs::Exchanging::not_connected))]
-pub(crate) fn exchange<L: Link>(
+pub fn exchange<L: Link>(
     alloc: Global,
     link: &mut L,
     request: &Request,

@@ -1,0 +1,2 @@
+pub mod OverRows
+mod Sending

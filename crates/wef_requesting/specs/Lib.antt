@@ -1,0 +1,2 @@
+pub mod ByRows
+pub mod Requesting
