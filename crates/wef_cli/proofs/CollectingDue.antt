@@ -37,7 +37,7 @@ use Rattle.wef_cli.specs.declared.command.Command.TheVariants as the
 same_bookmarks : (rows : Rows) → BookmarksRise rows rows
 same_bookmarks rows u s c = omega arith
 
-rose_by : (n before now : ℕ) → RoseBy (suc n) before now → Rose before now
+pub rose_by : (n before now : ℕ) → RoseBy (suc n) before now → Rose before now
 rose_by n before now rose = grind (arith)
 
 module _ (clock : Option ℕ) where
@@ -55,7 +55,7 @@ module _ (out : Told) (before now : Store) (found after : Rows) (stand : Stand b
   IsDue ending = ending ≡ once_started found ends.Done
 
   -- the start was refused
-  unstarted_due : (fault : CollectorFault) (ending : Ending) → (ending ≡ ends.StoreFailed → ⊥) → Starts (Err fault) before now → ending ≡ store_ending fault → IsDue ending ⊎ (ending ≡ ends.NoMemory)
+  pub unstarted_due : (fault : CollectorFault) (ending : Ending) → (ending ≡ ends.StoreFailed → ⊥) → Starts (Err fault) before now → ending ≡ store_ending fault → IsDue ending ⊎ (ending ≡ ends.NoMemory)
   unstarted_due faults.NoMemory ending sure start is = inr is
   unstarted_due faults.Failed ending sure start is = absurd (sure is)
   unstarted_due faults.Full ending sure start is =

@@ -48,6 +48,7 @@ use Rattle.wef_commands.specs.Writing.{IsUntold}
 use Rattle.wef_commands.specs.declared.ending.Ending.{Ending}
 use Rattle.wef_commands.specs.declared.ending.Ending.TheVariants as ends
 use Rattle.wef_commands.specs.declared.writing.TheConstants.{LOG_CAPACITY}
+use Rattle.wef_running.proofs.IdsDrawn.{draws, forward_drawn, unlike, which}
 use Rattle.wef_running.proofs.LinksCounted.{failed_links_are_counted}
 use Rattle.wef_running.proofs.SentByRows.{forwards_by_rows}
 use Rattle.wef_running.specs.ByRows.{ForwardSays}
@@ -57,23 +58,6 @@ use Rattle.wef_cli.proofs.TellingDue.{begun_due, full_log_due, may_find, sure, t
 use Rattle.wef_cli.specs.Command.{greatest_number}
 use Rattle.wef_cli.specs.Due.{ForwardsAsDue, TellsDue, once_begun}
 use Rattle.wef_cli.specs.declared.command.Command.TheVariants as the
-
--- ---- what is answered
-
-abbrev Answer : Type 0
-Answer = Result Exchange FrontFault
-
-abbrev refused : FrontFault → Answer
-refused fault = Err fault
-
-abbrev sent_as : Exchange → Answer
-sent_as exchange = Ok exchange
-
-which : (one other : FrontFault) → refused one ≡ refused other → one ≡ other
-which one other is = cc
-
-unlike : (exchange : Exchange) (fault : FrontFault) → refused fault ≡ sent_as exchange → ⊥
-unlike exchange fault is = cc
 
 -- ---- how many ids are drawn
 
@@ -104,86 +88,6 @@ envelope_drawn (Some envelope) now end end' count (h, told, same) = hears_drawn 
 -- an ask draws one
 ask_drawn : (host s : List ℕ) (end end' : End) (now : ℕ) (before after : ports.Told) (count : Option ℕ) → AsksOnce host s end end' now before after (Ok count) → end'.drawn ≡ end.drawn + 1
 ask_drawn host s end end' now before after count once = envelope_drawn once.ends.0 now once.asking end' count once.ends.2 ∙ ap (λ (e : End). e.drawn) once.asks.2
-
--- how many an exchange draws
-abbrev draws : Exchange → ℕ
-draws Nothing = 0
-draws (Acked count) = 1
-draws Heard = 1
-draws Refused = 1
-draws Lost = 1
-
-abbrev draws_at_most : Result Exchange FrontFault → ℕ
-draws_at_most (Ok exchange) = draws exchange
-draws_at_most (Err fault) = 1
-
-answered_drawn : (end : End) (u : List ℕ) (id : Option ℕ) (answer : Option reply.Reply) → (answered_in end u id answer).drawn ≡ end.drawn
-answered_drawn end u id None = refl
-answered_drawn end u None (Some answer) = refl
-answered_drawn end u (Some id) (Some replies.Ack) = refl
-answered_drawn end u (Some id) (Some (replies.Fault name)) = refl
-
-ended_drawn : (id : MessageId) (acked : Exchange) (u : List ℕ) (answer : Result (Option reply.Reply) FrontFault) (mid end : End) (result : Result Exchange FrontFault) → Ends id acked u answer mid end result → end.drawn ≡ mid.drawn
-ended_drawn id acked u (Ok answer) mid end result is = ap (λ (e : End). e.drawn) is.1 ∙ answered_drawn mid u id.value answer
-ended_drawn id acked u (Err fault) mid end result is = ap (λ (e : End). e.drawn) is.1
-
-sends_drawn : (end mid : End) (u : List ℕ) (now : ℕ) (d : Delivery) → Sends end mid u now (polls.Send d) → mid.drawn ≡ end.drawn + 1
-sends_drawn end mid u now d sends = by (session_of end.sessions u) sends
-  where
-    by : (o : Option Session) → WhereThere o (λ session. source.SendsFrom end mid session u now (polls.Send d)) → mid.drawn ≡ end.drawn + 1
-    by None is = absurd is
-    by (Some session) is = ap (λ (e : End). e.drawn) is.3
-
-beats_drawn : (end mid : End) (u : List ℕ) (now : ℕ) (beat : Heartbeat) → Sends end mid u now (polls.Beat beat) → mid.drawn ≡ end.drawn + 1
-beats_drawn end mid u now beat sends = by (session_of end.sessions u) sends
-  where
-    by : (o : Option Session) → WhereThere o (λ session. source.SendsFrom end mid session u now (polls.Beat beat)) → mid.drawn ≡ end.drawn + 1
-    by None is = absurd is
-    by (Some session) is = ap (λ (e : End). e.drawn) is.4
-
-idles_drawn : (end mid : End) (u : List ℕ) (now : ℕ) → Sends end mid u now polls.Nothing → mid.drawn ≡ end.drawn
-idles_drawn end mid u now sends = by (session_of end.sessions u) sends
-  where
-    by : (o : Option Session) → WhereThere o (λ session. mid ≡ end) → mid.drawn ≡ end.drawn
-    by None is = absurd is
-    by (Some session) is = ap (λ (e : End). e.drawn) is
-
-exchanged_drawn : (rows : Option Rows) (end end' : End) (u : List ℕ) (now : ℕ) (before after : ports.Told) (result : Result Exchange FrontFault) → Exchanges rows end end' u now before after result → end'.drawn ≡ end.drawn + 1
-exchanged_drawn rows end end' u now before after result (inl is) =
-    ended_drawn is.delivery.id (Acked (count_of is.delivery)) u is.delivered.answer is.sent end' result is.delivered.ends ∙ sends_drawn end is.sent u now is.delivery is.polled.sends
-exchanged_drawn rows end end' u now before after result (inr is) =
-    ended_drawn is.beat.id Heard u is.beaten.answer is.sent end' result is.beaten.ends ∙ beats_drawn end is.sent u now is.beat is.polled.sends
-
-module _ (rows : Option Rows) (end end' : End) (u : List ℕ) (now : ℕ) (before after : ports.Told) where
-  -- a message that is forwarded draws no more than is said of it
-  forward_drawn : (answer : Result Exchange FrontFault) (exchange : Exchange) → Ok exchange ≡ unless_gone answer → Forwards rows end end' u now before after answer → end'.drawn ≤ end.drawn + draws exchange
-  forward_drawn (Ok Nothing) exchange is forwards = let same = idles_drawn end end' u now forwards.0.sends in omega (arith, same)
-  forward_drawn (Ok (Acked count)) exchange is forwards =
-      let one : draws exchange ≡ 1 = ap draws_at_most is in
-      let same = exchanged_drawn rows end end' u now before after (Ok (Acked count)) (inl forwards) in
-      omega (arith, same, one)
-  forward_drawn (Ok Heard) exchange is forwards =
-      let one : draws exchange ≡ 1 = ap draws_at_most is in
-      let same = exchanged_drawn rows end end' u now before after (Ok Heard) (inr forwards) in
-      omega (arith, same, one)
-  forward_drawn (Ok Refused) exchange is forwards =
-      let one : draws exchange ≡ 1 = ap draws_at_most is in
-      let same = exchanged_drawn rows end end' u now before after (Ok Refused) forwards in
-      omega (arith, same, one)
-  forward_drawn (Ok Lost) exchange is forwards =
-      let one : draws exchange ≡ 1 = ap draws_at_most is in
-      let same = exchanged_drawn rows end end' u now before after (Ok Lost) forwards in
-      omega (arith, same, one)
-  forward_drawn (Err fronts.NoMemory) exchange is forwards = absurd (unlike exchange fronts.NoMemory (sym is))
-  forward_drawn (Err fronts.LinkFailed) exchange is forwards = absurd (unlike exchange fronts.LinkFailed (sym is))
-  forward_drawn (Err (fronts.Source faults.UnknownSubscription)) exchange is forwards = let same : end'.drawn ≡ end.drawn = ap (λ (e : End). e.drawn) forwards.2 in omega (arith, same)
-  forward_drawn (Err (fronts.Source faults.Expired)) exchange is forwards = let same : end'.drawn ≡ end.drawn = ap (λ (e : End). e.drawn) forwards.2 in omega (arith, same)
-  forward_drawn (Err (fronts.Source faults.NoMemory)) exchange is forwards = absurd forwards
-  forward_drawn (Err (fronts.Source faults.Failed)) exchange is forwards = absurd (unlike exchange (fronts.Source faults.Failed) (sym is))
-  forward_drawn (Err (fronts.Source faults.Full)) exchange is forwards = absurd forwards.0
-  forward_drawn (Err (fronts.Source faults.TooLong)) exchange is forwards = absurd forwards.0
-  forward_drawn (Err (fronts.Source faults.NotAsked)) exchange is forwards = absurd forwards.0
-  forward_drawn (Err (fronts.Source faults.Spent)) exchange is forwards = absurd (unlike exchange (fronts.Source faults.Spent) (sym is))
 
 -- a session is next only where a message is left
 next_left : (plan : Plan) (u : List ℕ) → next plan ≡ Some u → 1 ≤ plan.left
@@ -322,7 +226,7 @@ start_told mid now after lawful opened silent told = by mid.rows refl
 
 -- ---- the run
 
-source_room : (found after : Rows) → Makes (start_effect found LOG_CAPACITY) found after → is_boot_full found ≡ false
+pub source_room : (found after : Rows) → Makes (start_effect found LOG_CAPACITY) found after → is_boot_full found ≡ false
 source_room found after makes = by (is_boot_full found) makes
   where
     by : (full : Bool) → Makes {F = SourceFault} (source_answer {T = List Change} (if full then Err log_faults.Full else Ok (log.start_changes found LOG_CAPACITY))) found after → full ≡ false
@@ -340,7 +244,7 @@ module _ (out : Told) (ending : Ending) (writes : HasFailed out → ⊥) (sure :
   abbrev IsDue : Type 0
   IsDue = (ending ≡ once_begun found ends.Done) ⊎ (ending ≡ ends.NoMemory)
 
-  unstarted_due : (fault : SourceFault) → StartsSource (Err fault) before now → RefusesStart fault → ending ≡ source_ending fault → IsDue
+  pub unstarted_due : (fault : SourceFault) → StartsSource (Err fault) before now → RefusesStart fault → ending ≡ source_ending fault → IsDue
   unstarted_due faults.NoMemory start refuses is = inr is
   unstarted_due faults.Failed start refuses is = absurd (sure is)
   unstarted_due faults.Full start refuses is =

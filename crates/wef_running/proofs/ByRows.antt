@@ -236,7 +236,7 @@ pub only_found : (before : Store) (found rows : Rows) → Stand before found →
 only_found before found rows stand one = subst (λ (o : Option (List Rows)). IfSome o (λ old. IsOneOf old rows)) (image_of before found stand) one
 
 -- a store that is as it was
-still_found : (before now : Store) (last : Rows) → now ≡ before → MayFind now last → IfSome before.images (λ old. IsOneOf old last)
+pub still_found : (before now : Store) (last : Rows) → now ≡ before → MayFind now last → IfSome before.images (λ old. IsOneOf old last)
 still_found before now last same may = by before.images (subst (λ (store : Store). MayFind store last) same may)
   where
     by : (o : Option (List Rows)) → WhereTold o (λ images. IsOneOf images last) → IfSome o (λ old. IsOneOf old last)

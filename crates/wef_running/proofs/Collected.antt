@@ -19,16 +19,16 @@ use Rattle.wef_running.specs.Collecting.{none_served, one_served}
 
 -- ---- counts
 
-rose_by_none : (a : ℕ) → RoseBy 0 a a
+pub rose_by_none : (a : ℕ) → RoseBy 0 a a
 rose_by_none a = omega arith
 
-rose_by_later : (n a b c : ℕ) → a ≤ b → RoseBy n b c → RoseBy n a c
+pub rose_by_later : (n a b c : ℕ) → a ≤ b → RoseBy n b c → RoseBy n a c
 rose_by_later n a b c first next = omega arith
 
-rose_by_one : (n a b c : ℕ) → Rose a b → RoseBy n b c → RoseBy (suc n) a c
+pub rose_by_one : (n a b c : ℕ) → Rose a b → RoseBy n b c → RoseBy (suc n) a c
 rose_by_one n a b c first next = omega arith
 
-rose_by_last : (n a b c : ℕ) → RoseBy n a b → Rises b c → RoseBy (suc n) a c
+pub rose_by_last : (n a b c : ℕ) → RoseBy n a b → Rises b c → RoseBy (suc n) a c
 rose_by_last n a b c first next = omega arith
 
 -- what is known of one connection's end, for the count of those that failed

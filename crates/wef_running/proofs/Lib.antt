@@ -4,3 +4,4 @@ pub mod Collected
 pub mod CollectedAlike
 pub mod LinksCounted
 pub mod SentByRows
+pub mod IdsDrawn

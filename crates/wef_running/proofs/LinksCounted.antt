@@ -24,7 +24,7 @@ use Rattle.wef_running.specs.Forwarding.{AreSent, AsksAndSends, EndsBefore, IsAs
 
 -- ---- which fault it is
 
-of_source : (fault : SourceFault) → ends.LinkFailed ≡ source_ending fault → ⊥
+pub of_source : (fault : SourceFault) → ends.LinkFailed ≡ source_ending fault → ⊥
 of_source faults.NoMemory is = cc
 of_source faults.Failed is = cc
 of_source faults.Full is = cc
@@ -34,7 +34,7 @@ of_source faults.UnknownSubscription is = cc
 of_source faults.Expired is = cc
 of_source faults.Spent is = cc
 
-of_link : (fault : FrontFault) → ends.LinkFailed ≡ front_ending fault → fault ≡ fronts.LinkFailed
+pub of_link : (fault : FrontFault) → ends.LinkFailed ≡ front_ending fault → fault ≡ fronts.LinkFailed
 of_link fronts.LinkFailed is = refl
 of_link fronts.NoMemory is = cc
 of_link (fronts.Source fault) is = absurd (of_source fault is)
@@ -89,7 +89,7 @@ module _ (before now : ports.Told) where
   exchanges_rose rows end end' u moment (inl delivers) = exchanged_rose delivers.delivered
   exchanges_rose rows end end' u moment (inr beats) = exchanged_rose beats.beaten
 
-sent_later : (clock : Option ℕ) (u : List ℕ) (result : Result Exchange FrontFault) (before now : Running) → IsSent clock u result before now → before.link.faults ≤ now.link.faults
+pub sent_later : (clock : Option ℕ) (u : List ℕ) (result : Result Exchange FrontFault) (before now : Running) → IsSent clock u result before now → before.link.faults ≤ now.link.faults
 sent_later clock u result before now sent = forwards_later before.link now.link now.store.rows before.memory now.memory u sent.moment sent.answer sent.forwards
 
 which_answer : (answer : Result Exchange FrontFault) → Err fronts.LinkFailed ≡ unless_gone answer → answer ≡ Err fronts.LinkFailed
@@ -105,7 +105,7 @@ which_answer (Err (fronts.Source faults.UnknownSubscription)) is = cc
 which_answer (Err (fronts.Source faults.Expired)) is = cc
 which_answer (Err (fronts.Source faults.Spent)) is = cc
 
-sent_rose : (clock : Option ℕ) (u : List ℕ) (before now : Running) → IsSent clock u (Err fronts.LinkFailed) before now → Rose before.link.faults now.link.faults
+pub sent_rose : (clock : Option ℕ) (u : List ℕ) (before now : Running) → IsSent clock u (Err fronts.LinkFailed) before now → Rose before.link.faults now.link.faults
 sent_rose clock u before now sent =
     let exchanges = subst (λ (answer : Result Exchange FrontFault). Forwards now.store.rows before.memory now.memory u sent.moment before.link now.link answer) (which_answer sent.answer sent.result_is) sent.forwards in
     exchanges_rose before.link now.link now.store.rows before.memory now.memory u sent.moment exchanges

@@ -33,13 +33,13 @@ use Rattle.wef_running.specs.Forwarding.{AreSent, AreSentBy, AsksAndSends, AsksA
 -- ---- a store that keeps its rows
 
 -- A store that was opened, and in which an opening finds these rows alone.
-record Keeps (rows : Rows) (store : Store) : Type 0 where
-  lawful : IsLawful store
-  opened : store.opened ≡ true
-  only : IfSome store.images (AllByRecursion (λ image. image ≡ rows))
+pub record Keeps (rows : Rows) (store : Store) : Type 0 where
+  pub lawful : IsLawful store
+  pub opened : store.opened ≡ true
+  pub only : IfSome store.images (AllByRecursion (λ image. image ≡ rows))
 
 -- whether it tells
-abbrev tells : Store → Bool
+abbrev pub tells : Store → Bool
 tells store = is_some store.images
 
 narrowed : (rows : Rows) (old now : Option (List Rows)) → IfSome old (λ olds. IfSome now (AllByRecursion (IsOneOf olds))) → IfSome old (AllByRecursion (λ image. image ≡ rows))
@@ -55,7 +55,7 @@ told_rows rows stand None both among only told = let no : false ≡ true = told 
 told_rows rows None (Some images) both among only told = let no : true ≡ false = both in cc
 told_rows rows (Some stand) (Some images) both among only told = ap Some (one_of (λ image. image ≡ rows) images stand among only)
 
-rows_told : (rows : Rows) (store : Store) → Keeps rows store → tells store ≡ true → store.rows ≡ Some rows
+pub rows_told : (rows : Rows) (store : Store) → Keeps rows store → tells store ≡ true → store.rows ≡ Some rows
 rows_told rows store keeps told = told_rows rows store.rows store.images keeps.lawful.both keeps.lawful.among keeps.only told
 
 -- what isn't told doesn't begin to be
@@ -69,17 +69,17 @@ module _ (rows : Rows) (clock : Option ℕ) where
   untold : (u : List ℕ) (result : Result Exchange FrontFault) (before now : Running) → IsSent clock u result before now → Keeps rows before.store → tells before.store ≡ false → tells now.store ≡ false
   untold u result before now sent keeps was = sent.lawful.both ∙ sent.reads.0.7 keeps.opened was
 
-  sent_keeps : (u : List ℕ) (result : Result Exchange FrontFault) (before now : Running) → IsSent clock u result before now → Keeps rows before.store → Keeps rows now.store
+  pub sent_keeps : (u : List ℕ) (result : Result Exchange FrontFault) (before now : Running) → IsSent clock u result before now → Keeps rows before.store → Keeps rows now.store
   sent_keeps u result before now sent keeps = record {
     lawful = sent.lawful;
     opened = sent.reads.0.5 keeps.opened;
     only = narrowed rows before.store.images now.store.images sent.reads.0.0 keeps.only (untold u result before now sent keeps);
   }
 
-  sent_told : (u : List ℕ) (result : Result Exchange FrontFault) (before now : Running) → IsSent clock u result before now → Keeps rows before.store → tells now.store ≡ true → tells before.store ≡ true
+  pub sent_told : (u : List ℕ) (result : Result Exchange FrontFault) (before now : Running) → IsSent clock u result before now → Keeps rows before.store → tells now.store ≡ true → tells before.store ≡ true
   sent_told u result before now sent keeps told = told_since (tells before.store) (tells now.store) (untold u result before now sent keeps) told
 
-  sent_over : (u : List ℕ) (result : Result Exchange FrontFault) (before now : Running) → IsSent clock u result before now → Keeps rows before.store → tells now.store ≡ true → IsSentOver rows clock u result before now
+  pub sent_over : (u : List ℕ) (result : Result Exchange FrontFault) (before now : Running) → IsSent clock u result before now → Keeps rows before.store → tells now.store ≡ true → IsSentOver rows clock u result before now
   sent_over u result before now sent keeps told = (sent, rows_told rows now.store (sent_keeps u result before now sent keeps) told)
 
   -- ---- messages
@@ -177,10 +177,10 @@ calm_only rows None (Some all) both only is = absurd only
 calm_only rows (Some rows') (Some all) both only is = subst (AllByRecursion (λ image. image ≡ rows)) (sym only) (is rows' refl, tt)
 
 module _ (before mid : Store) (boot : ℕ) (found : Rows) (start : StartsSource (Ok boot) before mid) (stand : Stand before found) where
-  started_did : (rows : Rows) → mid.rows ≡ Some rows → Did source_store AreFormed (λ found. start_effect found LOG_CAPACITY) next_boot (Ok boot) before mid found rows
+  pub started_did : (rows : Rows) → mid.rows ≡ Some rows → Did source_store AreFormed (λ found. start_effect found LOG_CAPACITY) next_boot (Ok boot) before mid found rows
   started_did rows told = from_one before mid found rows (Did source_store AreFormed (λ found. start_effect found LOG_CAPACITY) next_boot (Ok boot) before mid) stand told start.0.did
 
-  start_keeps : Keeps (log.started found LOG_CAPACITY) mid
+  pub start_keeps : Keeps (log.started found LOG_CAPACITY) mid
   start_keeps = record {
     lawful = start.1;
     opened = start.0.ready.0;
@@ -188,11 +188,11 @@ module _ (before mid : Store) (boot : ℕ) (found : Rows) (start : StartsSource 
         (λ rows told. let did = started_did rows told in start_made found rows did.answer.0);
   }
 
-tells_found : (images : Option (List Rows)) (last : Rows) → WhereTold images (λ all. IsOneOf all last) → is_some images ≡ true
+pub tells_found : (images : Option (List Rows)) (last : Rows) → WhereTold images (λ all. IsOneOf all last) → is_some images ≡ true
 tells_found None last may = absurd may
 tells_found (Some all) last may = refl
 
-last_is : (rows last : Rows) (images : Option (List Rows)) → WhereTold images (λ all. IsOneOf all last) → IfSome images (AllByRecursion (λ image. image ≡ rows)) → last ≡ rows
+pub last_is : (rows last : Rows) (images : Option (List Rows)) → WhereTold images (λ all. IsOneOf all last) → IfSome images (AllByRecursion (λ image. image ≡ rows)) → last ≡ rows
 last_is rows last None may only = absurd may
 last_is rows last (Some all) may only = one_of (λ image. image ≡ rows) all last may only
 
@@ -218,7 +218,7 @@ was_begun address s deliveries ending out clock link link' before mid now boot e
           (asks_over rows clock address s deliveries ending out first ended asks keeps told));
     }
 
-was_not_begun : (ending : Ending) (out : Told) (link link' : ports.Told) (before now : Store) (fault : SourceFault) → StartsSource (Err fault) before now → RefusesStart fault → ending ≡ source_ending fault → IsUnwritten out → link' ≡ link
+pub was_not_begun : (ending : Ending) (out : Told) (link link' : ports.Told) (before now : Store) (fault : SourceFault) → StartsSource (Err fault) before now → RefusesStart fault → ending ≡ source_ending fault → IsUnwritten out → link' ≡ link
     → (found last : Rows) → Stand before found → MayFind now last → IsNotBegun ending out link link' found last
 was_not_begun ending out link link' before now fault start refuses is unwritten same found last stand may =
     let effect : Rows → Effect SourceFault = λ rows. start_effect rows LOG_CAPACITY in

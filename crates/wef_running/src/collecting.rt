@@ -137,13 +137,18 @@ fn serve_one<K: Keeper, O: Sink, F: Front, C: Clock>(
     ensures clock { C.told clock.new ≡ C.told clock.old }
 {
     match serve_next_connection(alloc, front, collector, clock) {
-        Ok(over) => tell(alloc, number, over, out),
+        Ok(over) => tell_connection(alloc, number, over, out),
         Err(_) => Err(Ending::ListeningFailed),
     }
 }
 
-/// Writes the line of a connection that is over, unless that wanted memory.
-fn tell<O: Sink>(alloc: Global, number: u64, over: ConnectionEnd, out: &mut O) -> Result<(), Ending>
+/// Writes the line of the connection of a number, which is over, unless that wanted memory.
+pub fn tell_connection<O: Sink>(
+    alloc: Global,
+    number: u64,
+    over: ConnectionEnd,
+    out: &mut O,
+) -> Result<(), Ending>
     ensures line { spec.TellsEnd number over result
         (told_of O.taken O.faults out.old out.new) }
     ensures later { O.faults out.old ≤ O.faults out.new }
@@ -157,7 +162,7 @@ fn tell<O: Sink>(alloc: Global, number: u64, over: ConnectionEnd, out: &mut O) -
 
 /// Where it listens.
 #[tactic(auto, unfolding(crate::specs::Collecting::listening_line))]
-fn listening_line(alloc: Global, address: &Text) -> Result<Text, AllocError>
+pub fn listening_line(alloc: Global, address: &Text) -> Result<Text, AllocError>
     ensures { IfOk result (λ text. text ≡ spec.listening_line address.now) }
 {
     let mut text = Text::from_str(alloc, "listening ")?;

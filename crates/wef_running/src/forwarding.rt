@@ -164,7 +164,7 @@ fn without_first(names: &[SubId]) -> &[SubId]
 
 /// Forwards the next message of the session of a name, and tells what became of it; or says how the run
 /// ends.
-fn send_next<K: Keeper, O: Sink, L: Link, C: Clock>(
+pub fn send_next<K: Keeper, O: Sink, L: Link, C: Clock>(
     alloc: Global,
     source: &mut SourceEnd<K>,
     sub: &SubId,

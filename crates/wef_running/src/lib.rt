@@ -6,5 +6,5 @@ mod collecting;
 mod forwarding;
 pub mod laws;
 
-pub use collecting::collect;
-pub use forwarding::forward;
+pub use collecting::{collect, listening_line, tell_connection};
+pub use forwarding::{forward, send_next};

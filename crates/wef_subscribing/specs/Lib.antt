@@ -1,0 +1,4 @@
+pub mod ByRows
+pub mod Counts
+pub mod Requesting
+pub mod Serving
