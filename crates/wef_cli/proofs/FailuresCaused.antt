@@ -29,6 +29,8 @@ use Rattle.wef_cli.specs.Complete.{FailsWithCause}
 use Rattle.wef_cli.specs.declared.command.Command.TheVariants as the
 use Rattle.wef_cli.proofs.Causes.{later_caused, not_failed}
 use Rattle.wef_cli.proofs.ForwardsCaused.{forwarding_caused}
+use Rattle.wef_cli.proofs.RequestsCaused.{requests_caused}
+use Rattle.wef_cli.proofs.ServesCaused.{serving_run_caused}
 
 abbrev Caused : Store → Store → Type 0
 Caused before now = HasCause AreFormed true before now
@@ -148,6 +150,12 @@ fails_with_cause (Some the.Write) input out peers before now (ended, unused) = w
 fails_with_cause (Some (the.Forward address source deliveries)) input out peers before now (kept, inl ((is, unwritten, same), unasked), unused) = absurd (not_failed ends.NoMemory refl is)
 fails_with_cause (Some (the.Forward address source deliveries)) input out peers before now (kept, inr ended, unused) =
     forwarding_caused address source deliveries out peers.moment peers.link_before peers.link_after before now ended
+fails_with_cause (Some (the.Request address requests)) input out peers before now (kept, inl ((is, unwritten, same), unasked), unused) = absurd (not_failed ends.NoMemory refl is)
+fails_with_cause (Some (the.Request address requests)) input out peers before now (kept, inr (inl (fault, start, is, unwritten, unasked)), unused) = start_caused before now fault start is
+fails_with_cause (Some (the.Request address requests)) input out peers before now (kept, inr (inr (mid, memory, memory_now, start, asks)), unused) =
+    later_caused AreFormed before mid now start.0.faults (requests_caused peers.moment address requests out _ _ asks)
+fails_with_cause (Some (the.Serve address s connections)) input out peers before now (kept, ended) =
+    serving_run_caused address connections out peers.moment peers.front_before peers.front_after peers.link_before peers.link_after before now ended
 fails_with_cause (Some the.Show) input out peers before now (kept, ended, unused) =
     call_caused Reports store_ending WroteOut out before now (λ mid fault. report_caused mid now fault) (λ text h. h) ended
 fails_with_cause (Some (the.Events u s c)) input out peers before now (kept, inl (is, unwritten, same), unused) = absurd (not_failed ends.NoMemory refl is)

@@ -1,5 +1,5 @@
 -- Rows of their form stay so over a run, also over one that says that its store failed.
-use Rattle.std.proofs.Common.{◌≡◌, ◌∙◌, ℕ, ◌+◌, true, false, List, [], ◌∷◌, length, refl, ap, sym, subst, inl, inr, true≢false}
+use Rattle.std.proofs.Common.{◌≡◌, ◌∙◌, ℕ, ◌+◌, true, false, List, [], ◌∷◌, ◌++◌, length, refl, ap, sym, subst, inl, inr, true≢false}
 use Rattle.std.proofs.lemmas.Option.{none-some, same_Some}
 use Rattle.std.specs.List.{AllByRecursion}
 use Rattle.std.specs.Prelude.{Option, Some, None, IfSome, Result, Ok, Err, is_some}
@@ -35,6 +35,19 @@ use Rattle.wef_commands.specs.declared.ending.Ending.TheVariants as ends
 use Rattle.wef_running.specs.Collecting.{CollectEnds}
 use Rattle.wef_running.specs.Forwarding.{AreSent, AsksAndSends, ForwardEnds, IsSent, Plan, Running, SendsFrom, behind}
 use Rattle.wef_running.specs.Forwarding as forwarding
+use Rattle.wef_collector.specs.declared.asking.Request.{Request}
+use Rattle.wef_collector.specs.declared.memories.Memory.{Memory}
+use Rattle.wef_front_collector.specs.HeardResponses as told
+use Rattle.wef_front_collector.specs.HeardResponses.{HearsResponse, IsUntaken, response_told}
+use Rattle.wef_front_collector.specs.declared.listening.Hears as heard
+use Rattle.wef_requesting.specs.Requesting.{Asking, AsksNext, GivesAndSends, IsUnheard, Outcomes, RequestsOnce, Takes}
+use Rattle.wef_requesting.specs.declared.requesting.Outcome.{Outcome}
+use Rattle.wef_requesting.specs.declared.requesting.RequestFault.{RequestFault}
+use Rattle.wef_requesting.specs.declared.requesting.RequestFault.TheVariants as request_faults
+use Rattle.wef_requesting.specs.declared.requesting.Sent.{Sent}
+use Rattle.wef_subscribing.specs.Requesting.{AreRequestedBy, IsRequested, RequestsAll, StopsBy}
+use Rattle.wef_subscribing.specs.Serving.{AreDeliveredBy, AreRounds, DeliversAllBy, DeliveryStopsBy, IsRound, Listening, Round, RoundFailsBy, ServeEnds, ServesAllBy, ServingStopsBy, left_by, rounds_text}
+use Rattle.wef_subscribing.specs.Serving.{no_round, one_round}
 use Rattle.wef_cli.proofs.Causes.{not_failed}
 use Rattle.wef_cli.proofs.FailuresCaused.{fails_with_cause}
 use Rattle.wef_cli.specs.Complete.{AreFormedFor}
@@ -179,6 +192,123 @@ forwards_formed address s deliveries ending out clock link link' before now foun
     asks_formed clock address s deliveries ending out (record { memory = start_of boot; store = mid; link = link }) (record { memory = end; store = now; link = link' }) asks start.0.ready.0
     (good_first source.AreFormed before mid found stand formed start.0.formed)
 
+-- ---- `request`
+
+abbrev KeepsGood : (Rows → Type 0) → Store → Type 0
+KeepsGood Formed store = (store.opened ≡ true) × AreGood Formed store
+
+-- a store that is as it was
+same_good : (Formed : Rows → Type 0) (before now : Store) → now ≡ before → KeepsGood Formed before → KeepsGood Formed now
+same_good Formed before now same good = subst (KeepsGood Formed) (sym same) good
+
+hears_good : (t : Option told.Told) (h : heard.Hears) (moment : ℕ) (memory memory_now : Memory) (before now : Store) → HearsResponse t h moment memory memory_now before now → IsLawful now → KeepsGood AreFormed before → KeepsGood AreFormed now
+hears_good None h moment memory memory_now before now (is, remembered, same) lawful good = same_good AreFormed before now same good
+hears_good (Some t) h moment memory memory_now before now (done, responds, known, is) lawful good =
+    (responds.call.opened good.0, good_call AreFormed before now good.0 lawful responds.call.formed responds.call.untold good.1)
+
+takes_good : (envelope : Option (List ℕ)) (moment : ℕ) (memory memory_now : Memory) (before now : Store) (made : Option heard.Hears) → Takes envelope moment memory memory_now before now made → IsLawful now → KeepsGood AreFormed before
+    → KeepsGood AreFormed now
+takes_good None moment memory memory_now before now made (is, remembered, same) lawful good = same_good AreFormed before now same good
+takes_good (Some envelope) moment memory memory_now before now made (h, hears, is) lawful good = hears_good (response_told moment envelope) h moment memory memory_now before now hears lawful good
+
+untaken_good : (t : Option told.Told) (moment : ℕ) (memory memory_now : Memory) (before now : Store) → IsUntaken t moment memory memory_now before now → IsLawful now → KeepsGood AreFormed before → KeepsGood AreFormed now
+untaken_good None moment memory memory_now before now untaken lawful good = absurd untaken
+untaken_good (Some t) moment memory memory_now before now untaken lawful good = (untaken.call.opened good.0, good_call AreFormed before now good.0 lawful untaken.call.formed untaken.call.untold good.1)
+
+unheard_good : (envelope : Option (List ℕ)) (moment : ℕ) (memory memory_now : Memory) (before now : Store) → IsUnheard envelope moment memory memory_now before now → IsLawful now → KeepsGood AreFormed before → KeepsGood AreFormed now
+unheard_good None moment memory memory_now before now unheard lawful good = absurd unheard
+unheard_good (Some envelope) moment memory memory_now before now (inl (remembered, same)) lawful good = same_good AreFormed before now same good
+unheard_good (Some envelope) moment memory memory_now before now (inr untaken) lawful good = untaken_good (response_told moment envelope) moment memory memory_now before now untaken lawful good
+
+outcomes_good : (r : Request) (moment : ℕ) (before now : Asking) (result : Result Outcome RequestFault) → Outcomes r moment before now result → IsLawful now.store → KeepsGood AreFormed before.store → KeepsGood AreFormed now.store
+outcomes_good r moment before now (Ok outcome) (envelope, made, (h, takes, is)) lawful good = takes_good envelope moment before.memory now.memory before.store now.store h takes lawful good
+outcomes_good r moment before now (Err request_faults.StoreFailed) (envelope, made, (h, takes, is)) lawful good = takes_good envelope moment before.memory now.memory before.store now.store h takes lawful good
+outcomes_good r moment before now (Err request_faults.LinkFailed) (broke, remembered, same) lawful good = same_good AreFormed before.store now.store same good
+outcomes_good r moment before now (Err request_faults.NoMemory) (inl (broke, remembered, same)) lawful good = same_good AreFormed before.store now.store same good
+outcomes_good r moment before now (Err request_faults.NoMemory) (inr (envelope, made, unheard)) lawful good = unheard_good envelope moment before.memory now.memory before.store now.store unheard lawful good
+
+asks_good : (host : List ℕ) (moment : ℕ) (given : Result (Option Request) CollectorFault) (memory memory_now : Memory) (before now : Store) → AsksNext host moment given memory memory_now before now → KeepsGood AreFormed before → KeepsGood AreFormed now
+asks_good host moment given memory memory_now before now asks good =
+    (asks.call.opened good.0, good_call AreFormed before now good.0 asks.lawful asks.call.formed asks.call.untold good.1)
+
+sends_good : (host : List ℕ) (moment : ℕ) (r : Request) (before now : Asking) (result : Result Outcome RequestFault) → GivesAndSends host moment r before now result → IsLawful now.store → KeepsGood AreFormed before.store
+    → KeepsGood AreFormed now.store
+sends_good host moment r before now result sends lawful good =
+    let between = asks_good host moment (Ok (Some r)) before.memory sends.memory before.store sends.store sends.asks good in
+    outcomes_good r moment (record { memory = sends.memory; store = sends.store; link = before.link }) now result sends.outcomes lawful between
+
+once_good : (host : List ℕ) (moment : ℕ) (before now : Asking) (result : Result (Option Sent) RequestFault) → RequestsOnce host moment before now result → IsLawful now.store → KeepsGood AreFormed before.store → KeepsGood AreFormed now.store
+once_good host moment before now (Ok None) (asks, link) lawful good = asks_good host moment (Ok None) before.memory now.memory before.store now.store asks good
+once_good host moment before now (Ok (Some sent)) sends lawful good = sends_good host moment sent.request before now (Ok sent.outcome) sends lawful good
+once_good host moment before now (Err fault) (inl (refusal, (asks, link), is)) lawful good = asks_good host moment (Err refusal) before.memory now.memory before.store now.store asks good
+once_good host moment before now (Err fault) (inr (r, sends)) lawful good = sends_good host moment r before now (Err fault) sends lawful good
+
+module _ (clock : Option ℕ) (host : List ℕ) where
+  requested_good : (result : Result (Option Sent) RequestFault) (before now : Asking) → IsRequested clock host result before now → KeepsGood AreFormed before.store → KeepsGood AreFormed now.store
+  requested_good result before now requested good = once_good host requested.moment before now result requested.requests requested.lawful good
+
+  all_requested_good : (xs : List Sent) (before now : Asking) → AreRequestedBy (IsRequested clock host) xs before now → KeepsGood AreFormed before.store → KeepsGood AreFormed now.store
+  all_requested_good [] before now same good = same_good AreFormed before.store now.store (ap (λ (a : Asking). a.store) same) good
+  all_requested_good (x ∷ xs) before now (mid, requested, more) good = all_requested_good xs mid now more (requested_good (Ok (Some x)) before mid requested good)
+
+  requests_stop_good : (left : ℕ) (text : List ℕ) (ending : Ending) (out : Told) (before now : Asking) → StopsBy (IsRequested clock host) left text ending out before now → KeepsGood AreFormed before.store → KeepsGood AreFormed now.store
+  requests_stop_good left text ending out before now (inl (inl (none, same), done)) good = same_good AreFormed before.store now.store (ap (λ (a : Asking). a.store) same) good
+  requests_stop_good left text ending out before now (inl (inr (some, requested), done)) good = requested_good (Ok None) before now requested good
+  requests_stop_good left text ending out before now (inr (some, inl (fault, requested, is, said))) good = requested_good (Err fault) before now requested good
+  requests_stop_good left text ending out before now (inr (some, inr (sent, requested, unsaid))) good = requested_good (Ok (Some sent)) before now requested good
+
+  requests_formed : (count : ℕ) (ending : Ending) (out : Told) (before now : Asking) → RequestsAll clock host count ending out before now → KeepsGood AreFormed before.store → AreGood AreFormed now.store
+  requests_formed count ending out before now all good = (requests_stop_good _ _ ending out all.mid now all.stops (all_requested_good all.sent before all.mid all.are_sent good)).1
+
+-- ---- `serve`
+
+module _ (clock : Option ℕ) where
+  delivered_good : (names : List (List ℕ)) (xs : List (List ℕ × Exchange)) (before now : Running) → AreDeliveredBy (IsSent clock) names xs before now → KeepsGood source.AreFormed before.store → KeepsGood source.AreFormed now.store
+  delivered_good names [] before now same good = same_good source.AreFormed before.store now.store (ap (λ (r : Running). r.store) same) good
+  delivered_good names (x ∷ xs) before now (next, (mid, sent, more)) good = delivered_good (left_by x.1 names) xs mid now more (sent_formed clock x.0 (Ok x.1) before mid sent good.0 good.1)
+
+  delivery_stop_good : (o : Option (List ℕ)) (text : List ℕ) (done : Result Unit Ending) (out : Told) (before now : Running) → DeliveryStopsBy (IsSent clock) o text done out before now → KeepsGood source.AreFormed before.store
+      → KeepsGood source.AreFormed now.store
+  delivery_stop_good None text (Ok done) out before now (said, same) good = same_good source.AreFormed before.store now.store (ap (λ (r : Running). r.store) same) good
+  delivery_stop_good None text (Err ending) out before now stops good = absurd stops
+  delivery_stop_good (Some u) text (Ok done) out before now stops good = absurd stops
+  delivery_stop_good (Some u) text (Err ending) out before now (inl (fault, sent, is, said)) good = sent_formed clock u (Err fault) before now sent good.0 good.1
+  delivery_stop_good (Some u) text (Err ending) out before now (inr (e, sent, unsaid)) good = sent_formed clock u (Ok e) before now sent good.0 good.1
+
+  delivers_good : (text : List ℕ) (done : Result Unit Ending) (out : Told) (before now : Running) → DeliversAllBy (IsSent clock) text done out before now → KeepsGood source.AreFormed before.store → KeepsGood source.AreFormed now.store
+  delivers_good text done out before now (inl (is, said, same)) good = same_good source.AreFormed before.store now.store (ap (λ (r : Running). r.store) same) good
+  delivers_good text done out before now (inr each) good = delivery_stop_good _ _ done out each.mid now each.stops (delivered_good _ each.sent before each.mid each.are_sent good)
+
+  round_good : (x y : Listening) (r : Round) → IsRound (IsSent clock) clock x r y → KeepsGood source.AreFormed x.source.store → KeepsGood source.AreFormed y.source.store
+  round_good x y r is good = delivered_good _ r.sent is.mid.source y.source is.sent (same_good source.AreFormed x.source.store is.mid.source.store is.served.store good)
+
+  rounds_good : {x y : Listening} {rs : List Round} → AreRounds (IsSent clock) clock x rs y → KeepsGood source.AreFormed x.source.store → KeepsGood source.AreFormed y.source.store
+  rounds_good (no_round x) good = good
+  rounds_good (one_round x y z r rs is are) good = rounds_good are (round_good x y r is good)
+
+  fails_good : (number : ℕ) (text : List ℕ) (ending : Ending) (out : Told) (x y : Listening) → RoundFailsBy (IsSent clock) clock number text ending out x y → KeepsGood source.AreFormed x.source.store → KeepsGood source.AreFormed y.source.store
+  fails_good number text ending out x y (inl (is, refused, same, said)) good = same_good source.AreFormed x.source.store y.source.store (ap (λ (r : Running). r.store) same) good
+  fails_good number text ending out x y (inr (e, mid, served, inl (unsaid, same))) good =
+      same_good source.AreFormed x.source.store y.source.store (ap (λ (l : Listening). l.source.store) same ∙ served.store) good
+  fails_good number text ending out x y (inr (e, mid, served, inr (tellable, front, delivers))) good =
+      delivers_good _ (Err ending) out mid.source y.source delivers (same_good source.AreFormed x.source.store mid.source.store served.store good)
+
+  serves_formed : (told : List ℕ) (count : ℕ) (ending : Ending) (out : Told) (x y : Listening) → ServesAllBy (IsSent clock) clock told count ending out x y → KeepsGood source.AreFormed x.source.store → AreGood source.AreFormed y.source.store
+  serves_formed told count ending out x y all good = (by all.stops (rounds_good all.are_served good)).1
+    where
+      by : ServingStopsBy (IsSent clock) clock count all.rounds (told ++ rounds_text 1 all.rounds) ending out all.mid y → KeepsGood source.AreFormed all.mid.source.store → KeepsGood source.AreFormed y.source.store
+      by (inl (long, is, same, said)) good = same_good source.AreFormed all.mid.source.store y.source.store (ap (λ (l : Listening). l.source.store) same) good
+      by (inr (below, fails)) good = fails_good _ _ ending out all.mid y fails good
+
+serve_formed : (address : List ℕ) (count : ℕ) (out : Told) (clock : Option ℕ) (front front' link link' : ports.Told) (before now : Store) (found : Rows) → Stand before found → source.AreFormed found
+    → ServeEnds address count ends.StoreFailed out clock front front' link link' before now → AreGood source.AreFormed now
+serve_formed address count out clock front front' link link' before now found stand formed (inl ((is, unwritten, same), unlistened, unlinked)) = absurd (not_failed ends.NoMemory refl is)
+serve_formed address count out clock front front' link link' before now found stand formed (inr (inl ((fault, start, refuses, is, unwritten, same), unlistened))) = good_first source.AreFormed before now found stand formed start.0.formed
+serve_formed address count out clock front front' link link' before now found stand formed (inr (inr (boot, mid, start, (end, inl (is, refused, unwritten, same))))) = absurd (not_failed ends.ListeningFailed refl is)
+serve_formed address count out clock front front' link link' before now found stand formed (inr (inr (boot, mid, start, (end, inr (inl (is, failed, part, same)))))) = absurd (not_failed ends.OutputFailed refl is)
+serve_formed address count out clock front front' link link' before now found stand formed (inr (inr (boot, mid, start, (end, inr (inr all))))) =
+    serves_formed clock _ count ends.StoreFailed out _ _ all (start.0.ready.0, good_first source.AreFormed before mid found stand formed start.0.formed)
+
 -- ---- a run that says that its store failed
 
 collect_formed : (address : List ℕ) (connections : ℕ) (out : Told) (clock : Option ℕ) (f g : ports.Told) (before now : Store) (found : Rows) → Stand before found → AreFormed found
@@ -199,6 +329,12 @@ module _ (input out : Told) (peers : Peers) (before now : Store) (found : Rows) 
   run_formed (the.Forward address s deliveries) formed (kept, inl ((is, unwritten, same), unasked), unused) = absurd (not_failed ends.NoMemory refl is)
   run_formed (the.Forward address s deliveries) formed (kept, inr ended, unused) =
       forwards_formed address s deliveries ends.StoreFailed out peers.moment peers.link_before peers.link_after before now found stand formed ended
+  run_formed (the.Request address requests) formed (kept, inl ((is, unwritten, same), unasked), unused) = absurd (not_failed ends.NoMemory refl is)
+  run_formed (the.Request address requests) formed (kept, inr (inl (fault, start, is, unwritten, unasked)), unused) = good_first AreFormed before now found stand formed start.0.formed
+  run_formed (the.Request address requests) formed (kept, inr (inr (mid, memory, memory_now, start, asks)), unused) =
+      requests_formed peers.moment address requests ends.StoreFailed out _ _ asks (start.0.ready.0, good_first AreFormed before mid found stand formed start.0.formed)
+  run_formed (the.Serve address s connections) formed (kept, ended) =
+      serve_formed address connections out peers.moment peers.front_before peers.front_after peers.link_before peers.link_after before now found stand formed ended
   run_formed the.Show formed (kept, ended, unused) =
       call_formed before now found stand formed Reports store_ending WroteOut ends.StoreFailed out (λ result mid call opened good. good_look AreFormed mid now opened lawful call.0.opened.0 good) ended
   run_formed the.List formed (kept, ended, unused) =

@@ -63,7 +63,7 @@ module _ (u : List ℕ) (moment : ℕ) (fault : FrontFault) (before now : Runnin
   batch_by (Err (fronts.Source faults.Expired)) same forwards reads = absurd (unlike Nothing fault same)
   batch_by (Err (fronts.Source faults.Spent)) same forwards reads = absurd (told_so (fronts.Source faults.Spent) refl same)
 
-batch_caused : (clock : Option ℕ) (u : List ℕ) (fault : FrontFault) (before now : Running) → IsSent clock u (Err fault) before now → ends.StoreFailed ≡ front_ending fault
+pub batch_caused : (clock : Option ℕ) (u : List ℕ) (fault : FrontFault) (before now : Running) → IsSent clock u (Err fault) before now → ends.StoreFailed ≡ front_ending fault
     → Caused before.store now.store
 batch_caused clock u fault before now sent is = batch_by u sent.moment fault before now is sent.answer sent.result_is sent.forwards sent.reads
 
@@ -124,7 +124,7 @@ asks_caused clock address s deliveries out before now (inr (count, mid, asked, s
 
 -- ---- the start
 
-start_caused : (before now : Store) (fault : SourceFault) → StartsSource (Err fault) before now → RefusesStart fault → ends.StoreFailed ≡ source_ending fault → Caused before now
+pub start_caused : (before now : Store) (fault : SourceFault) → StartsSource (Err fault) before now → RefusesStart fault → ends.StoreFailed ≡ source_ending fault → Caused before now
 start_caused before now faults.Failed start refuses is = start.0.cause
 start_caused before now faults.NoMemory start refuses is = absurd (not_failed ends.NoMemory refl is)
 start_caused before now faults.Full start refuses is = absurd (not_failed ends.Full refl is)

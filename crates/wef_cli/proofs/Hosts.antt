@@ -7,7 +7,7 @@ use Rattle.std.specs.Option.{option_and_then, option_map}
 use Rattle.std.specs.Prelude.{Option, None, Some, IfSome, codes}
 use Rattle.wef_base.specs.Names.{channel_name, same, source_name, subscription_name}
 use Rattle.wef_eventing.specs.Addresses.{IsHost, is_printed}
-use Rattle.wef_cli.specs.Command.{HasHost, address_of, begins_with_dash, collect_of, command_in, command_named, command_of, events_of, forward_of, is_address, number_of, remove_of, status_of}
+use Rattle.wef_cli.specs.Command.{HasHost, address_of, begins_with_dash, collect_of, command_in, command_named, command_of, events_of, forward_of, is_address, number_of, remove_of, request_of, serve_of, status_of}
 use Rattle.wef_cli.specs.declared.command.Command.{Command}
 use Rattle.wef_cli.specs.declared.command.Command.TheVariants as the
 
@@ -50,6 +50,13 @@ forward_host : (at source number : List ℕ) → Good (forward_of at source numb
 forward_host at source number =
     steps IsHost (address_of at) _ (address_is at) (λ address is. steps Any (source_name source) _ (anything (source_name source)) (λ s any. made (number_of number) (the.Forward address s) (λ n. is)))
 
+request_host : (at number : List ℕ) → Good (request_of at number)
+request_host at number = steps IsHost (address_of at) _ (address_is at) (λ address is. made (number_of number) (the.Request address) (λ n. is))
+
+serve_host : (at source number : List ℕ) → Good (serve_of at source number)
+serve_host at source number =
+    steps IsHost (address_of at) _ (address_is at) (λ address is. steps Any (source_name source) _ (anything (source_name source)) (λ s any. made (number_of number) (the.Serve address s) (λ n. tt)))
+
 events_host : (name source channel : List ℕ) → Good (events_of name source channel)
 events_host name source channel =
     steps Any (subscription_name name) _ (anything (subscription_name name)) (λ u any.
@@ -70,10 +77,13 @@ in_host (name ∷ []) = named_host name
 in_host (name ∷ word ∷ []) =
     choose (same name (codes "remove")) (remove_of word) _ (made (subscription_name word) the.Remove (λ u. tt))
     (choose (same name (codes "status")) (status_of word) None (made (subscription_name word) the.Status (λ u. tt)) tt)
-in_host (name ∷ at ∷ number ∷ []) = choose (same name (codes "collect")) (collect_of at number) None (collect_host at number) tt
+in_host (name ∷ at ∷ number ∷ []) =
+    choose (same name (codes "collect")) (collect_of at number) _ (collect_host at number)
+    (choose (same name (codes "request")) (request_of at number) None (request_host at number) tt)
 in_host (name ∷ first ∷ second ∷ third ∷ []) =
     choose (same name (codes "forward")) (forward_of first second third) _ (forward_host first second third)
-    (choose (same name (codes "events")) (events_of first second third) None (events_host first second third) tt)
+    (choose (same name (codes "serve")) (serve_of first second third) _ (serve_host first second third)
+    (choose (same name (codes "events")) (events_of first second third) None (events_host first second third) tt))
 in_host (name ∷ first ∷ second ∷ third ∷ fourth ∷ words) = tt
 
 words_host : (words : List (List ℕ)) → Good (command_of words)

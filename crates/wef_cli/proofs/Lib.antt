@@ -8,6 +8,9 @@ pub mod ForwardsCaused
 mod Hosts
 mod Leaving
 pub mod LinesDone
+pub mod RequestsCaused
+pub mod ServesCaused
+pub mod SubscribingDue
 pub mod TellingDue
 pub mod TooLong
 mod Wanting

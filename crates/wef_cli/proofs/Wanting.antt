@@ -7,7 +7,7 @@ use Rattle.wef_base.specs.Names.{channel_name, source_name, subscription_name}
 use Rattle.wef_keeper.specs.Keeping.{Store}
 use Rattle.wef_commands.specs.Endings.{IsUnwritten, Told}
 use Rattle.wef_commands.specs.declared.ending.Ending.TheVariants as ends
-use Rattle.wef_cli.specs.Command.{MayWantMemory, address_of, collect_of, events_of, forward_of, number_of, remove_of, status_of}
+use Rattle.wef_cli.specs.Command.{MayWantMemory, address_of, collect_of, events_of, forward_of, number_of, remove_of, request_of, serve_of, status_of}
 use Rattle.wef_cli.specs.Runs.{AreUnused, Peers, RunEnds}
 use Rattle.wef_cli.specs.declared.command.Command.{Command}
 use Rattle.wef_cli.specs.declared.command.Command.TheVariants as the
@@ -34,6 +34,13 @@ pub forward_wants : (at source number : List ℕ) → MayWantMemory (forward_of 
 forward_wants at source number =
     steps (address_of at) _ (λ address. steps (source_name source) _ (λ s. made (number_of number) (the.Forward address s) (λ n. tt)))
 
+pub request_wants : (at number : List ℕ) → MayWantMemory (request_of at number)
+request_wants at number = steps (address_of at) _ (λ address. made (number_of number) (the.Request address) (λ n. tt))
+
+pub serve_wants : (at source number : List ℕ) → MayWantMemory (serve_of at source number)
+serve_wants at source number =
+    steps (address_of at) _ (λ address. steps (source_name source) _ (λ s. made (number_of number) (the.Serve address s) (λ n. tt)))
+
 pub events_wants : (name source channel : List ℕ) → MayWantMemory (events_of name source channel)
 events_wants name source channel =
     steps (subscription_name name) _ (λ u. steps (source_name source) _ (λ s. made (channel_name channel) (the.Events u s) (λ c. tt)))
@@ -45,6 +52,8 @@ nothing_done None input out peers store wants kept unwritten unused = (tt, kept,
 nothing_done (Some (the.Remove u)) input out peers store wants kept unwritten unused = (kept, inl (refl, unwritten, refl), unused)
 nothing_done (Some (the.Collect address connections)) input out peers store wants kept unwritten unused = (kept, inl ((refl, unwritten, refl), unused.0), unused.1)
 nothing_done (Some (the.Forward address source deliveries)) input out peers store wants kept unwritten unused = (kept, inl ((refl, unwritten, refl), unused.1), unused.0)
+nothing_done (Some (the.Request address requests)) input out peers store wants kept unwritten unused = (kept, inl ((refl, unwritten, refl), unused.1), unused.0)
+nothing_done (Some (the.Serve address source connections)) input out peers store wants kept unwritten unused = (kept, inl ((refl, unwritten, refl), unused.0, unused.1))
 nothing_done (Some (the.Events u s c)) input out peers store wants kept unwritten unused = (kept, inl (refl, unwritten, refl), unused)
 nothing_done (Some (the.Status u)) input out peers store wants kept unwritten unused = (kept, inl (refl, unwritten, refl), unused)
 nothing_done (Some _) input out peers store wants kept unwritten unused = absurd wants

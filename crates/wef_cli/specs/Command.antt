@@ -1,5 +1,6 @@
 -- The command lines: `replay`, `add`, `remove NAME`, `list`, `check`, `write`, `collect ADDRESS N`, `forward ADDRESS SOURCE N`,
--- `show`, `events NAME SOURCE CHANNEL` and `status NAME`. No word of one begins with `-`.
+-- `show`, `events NAME SOURCE CHANNEL`, `status NAME`, `request ADDRESS N` and `serve ADDRESS SOURCE N`. No word of one begins with
+-- `-`.
 use Rattle.std.specs.Prelude.{ℕ, ◌==◌, nat_lt, Bool, false, ◌&&◌, List, [], ◌∷◌, length, Option, Some, None, codes, if◌then◌else◌}
 use Rattle.std.specs.List.{list_all, list_any}
 use Rattle.std.specs.Option.{option_and_then, option_map}
@@ -31,7 +32,7 @@ is_address word = nat_lt 0 (length word) && list_all is_printed word
 abbrev pub address_of : List ℕ → Option (List ℕ)
 address_of word = if is_address word then Some word else None
 
--- the greatest number of connections or deliveries in a run
+-- the greatest number of connections, deliveries or requests in a run
 abbrev pub greatest_number : ℕ
 greatest_number = 1000000
 
@@ -60,6 +61,15 @@ abbrev pub forward_of : List ℕ → List ℕ → List ℕ → Option Command
 forward_of at source number =
     option_and_then (λ address. option_and_then (λ s. option_map (the.Forward address s) (number_of number)) (source_name source)) (address_of at)
 
+-- the command that sends at most so many requests of the collector at an address
+abbrev pub request_of : List ℕ → List ℕ → Option Command
+request_of at number = option_and_then (λ address. option_map (the.Request address) (number_of number)) (address_of at)
+
+-- the command that serves so many connections for a source at an address
+abbrev pub serve_of : List ℕ → List ℕ → List ℕ → Option Command
+serve_of at source number =
+    option_and_then (λ address. option_and_then (λ s. option_map (the.Serve address s) (number_of number)) (source_name source)) (address_of at)
+
 -- the command that writes what is held of a source's channel for the subscription of a name
 abbrev pub events_of : List ℕ → List ℕ → List ℕ → Option Command
 events_of name source channel =
@@ -71,17 +81,24 @@ command_of_one name word =
     if same name (codes "remove") then remove_of word else
     if same name (codes "status") then status_of word else None
 
+-- the command of a name and two words behind it
+abbrev pub command_of_two : List ℕ → List ℕ → List ℕ → Option Command
+command_of_two name at number =
+    if same name (codes "collect") then collect_of at number else
+    if same name (codes "request") then request_of at number else None
+
 -- the command of a name and three words behind it
 abbrev pub command_of_three : List ℕ → List ℕ → List ℕ → List ℕ → Option Command
 command_of_three name first second third =
     if same name (codes "forward") then forward_of first second third else
+    if same name (codes "serve") then serve_of first second third else
     if same name (codes "events") then events_of first second third else None
 
 -- the command that words ask for none of which begins with `-`
 abbrev pub command_in : List (List ℕ) → Option Command
 command_in (name ∷ []) = command_named name
 command_in (name ∷ word ∷ []) = command_of_one name word
-command_in (name ∷ at ∷ number ∷ []) = if same name (codes "collect") then collect_of at number else None
+command_in (name ∷ at ∷ number ∷ []) = command_of_two name at number
 command_in (name ∷ first ∷ second ∷ third ∷ []) = command_of_three name first second third
 command_in _ = None
 
@@ -95,11 +112,14 @@ MayWantMemory None = Unit {0}
 MayWantMemory (Some (the.Remove u)) = Unit {0}
 MayWantMemory (Some (the.Collect address number)) = Unit {0}
 MayWantMemory (Some (the.Forward address s number)) = Unit {0}
+MayWantMemory (Some (the.Request address number)) = Unit {0}
+MayWantMemory (Some (the.Serve address s number)) = Unit {0}
 MayWantMemory (Some (the.Events u s c)) = Unit {0}
 MayWantMemory (Some (the.Status u)) = Unit {0}
 MayWantMemory (Some _) = ⊥
 
--- the address that a source asks at is a host
+-- the address that a source asks at is a host, and so is that of a collector that asks
 abbrev pub HasHost : Command → Type 0
 HasHost (the.Forward address s number) = IsHost address
+HasHost (the.Request address number) = IsHost address
 HasHost _ = Unit {0}

@@ -17,7 +17,7 @@ use Rattle.wef_commands.specs.Writing.{bad_line}
 use Rattle.wef_commands.specs.declared.ending.Ending.{Ending}
 use Rattle.wef_commands.specs.declared.ending.Ending.TheVariants as ends
 use Rattle.wef_cli.specs.declared.command.Command.{Command}
-use Rattle.wef_cli.specs.declared.command.Command.TheVariants.{Check, Forward, Replay, Write}
+use Rattle.wef_cli.specs.declared.command.Command.TheVariants.{Check, Forward, Replay, Serve, Write}
 use Rattle.wef_cli.specs.Runs.{Peers, RunEnds}
 
 -- the ending that a schedule calls for
@@ -55,6 +55,7 @@ BadLinesAreTold = (ending told : Ending) (input out : Told) (peers : Peers) (bef
 abbrev pub AreFormedFor : Option Command → Rows → Type 0
 AreFormedFor (Some Write) rows = log.AreFormed rows
 AreFormedFor (Some (Forward address source deliveries)) rows = log.AreFormed rows
+AreFormedFor (Some (Serve address source connections)) rows = log.AreFormed rows
 AreFormedFor _ rows = AreFormed rows
 
 -- A failed store is told only where the count of its faults rose in this run, or its rows aren't told, or aren't of their form.

@@ -12,6 +12,7 @@ use Rattle.wef_eventing.specs.declared.subscriptions.Subscription.{Subscription}
 use Rattle.wef_keeper.specs.Keeping.{IsLawful, Store}
 use Rattle.wef_keeper.specs.Rows.{Rows}
 use Rattle.wef_running.specs.ByRows.{CollectSays, ForwardSays}
+use Rattle.wef_subscribing.specs.ByRows.{RequestSays, ServeSays}
 use Rattle.wef_running.specs.Forwarding.{IsMoment}
 use Rattle.wef_source_log.specs.Answers.{is_boot_full}
 use Rattle.wef_source_log.specs.LogWindow as log
@@ -141,3 +142,17 @@ ForwardsAsDue = (address s : List ℕ) (deliveries : ℕ) → deliveries ≤ gre
     (Rose peers.link_before.faults peers.link_after.faults → ⊥)
     → TellsDue (λ ending. ending ≡ once_begun found ends.Done)
     (λ ending. ForwardSays address s deliveries ending out peers.moment peers.link_before peers.link_after now found after) told)
+
+-- `request`, where its link doesn't fail: or it may say that it did
+abbrev pub RequestsAsDue : Type 0
+RequestsAsDue = (address : List ℕ) (requests : ℕ) → WhereWell (the.Request address requests) (λ told input out peers before now found after.
+    (Rose peers.link_before.faults peers.link_after.faults → ⊥)
+    → TellsDue (λ ending. ending ≡ once_started found ends.Done)
+    (λ ending. RequestSays address requests ending out peers.moment peers.link_before peers.link_after found after) told)
+
+-- `serve`, where neither its front nor its link fails. Whoever connects may have it draw all its ids, so it may be spent.
+abbrev pub ServesAsDue : Type 0
+ServesAsDue = (address s : List ℕ) (connections : ℕ) → WhereWell (the.Serve address s connections) (λ told input out peers before now found after.
+    (Rose peers.front_before.faults peers.front_after.faults → ⊥) → (Rose peers.link_before.faults peers.link_after.faults → ⊥)
+    → TellsDue (λ ending. (ending ≡ once_begun found ends.Done) ⊎ (ending ≡ ends.Spent))
+    (λ ending. ServeSays address connections ending out peers.moment peers.front_before peers.front_after peers.link_before peers.link_after now found after) told)

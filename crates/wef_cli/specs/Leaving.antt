@@ -9,6 +9,7 @@ use Rattle.wef_commands.specs.Endings.{Told}
 use Rattle.wef_commands.specs.Laws.{AreWritten, CallsAtMost, Stand, StartsAtMost}
 use Rattle.wef_commands.specs.declared.ending.Ending.{Ending}
 use Rattle.wef_running.specs.ByRows.{CollectSays, ForwardSays}
+use Rattle.wef_subscribing.specs.ByRows.{RequestSays, ServeSays}
 use Rattle.wef_cli.specs.Runs.{Peers, RunEnds}
 use Rattle.wef_cli.specs.declared.command.Command.{Command}
 use Rattle.wef_cli.specs.declared.command.Command.TheVariants as the
@@ -28,6 +29,10 @@ Says (the.Collect address count) ending input out peers before now found last =
     CollectSays address count ending out peers.moment peers.front_before peers.front_after before now found last
 Says (the.Forward address s count) ending input out peers before now found last =
     (last ≡ found) ⊎ ForwardSays address s count ending out peers.moment peers.link_before peers.link_after now found last
+Says (the.Request address count) ending input out peers before now found last =
+    (last ≡ found) ⊎ RequestSays address count ending out peers.moment peers.link_before peers.link_after found last
+Says (the.Serve address s count) ending input out peers before now found last =
+    ServeSays address count ending out peers.moment peers.front_before peers.front_after peers.link_before peers.link_after now found last
 
 -- of words that are no command line nothing is done
 abbrev pub SaysOf : Option Command → Ending → Told → Told → Peers → Store → Store → Rows → Rows → Type 0

@@ -16,6 +16,8 @@ use Rattle.wef_commands.specs.declared.ending.Ending.{Ending}
 use Rattle.wef_commands.specs.declared.ending.Ending.TheVariants as ends
 use Rattle.wef_running.specs.Collecting.{CollectEnds}
 use Rattle.wef_running.specs.Forwarding.{ForwardEnds, IsMoment}
+use Rattle.wef_subscribing.specs.Requesting.{RequestEnds}
+use Rattle.wef_subscribing.specs.Serving.{ServeEnds}
 use Rattle.wef_cli.specs.Replaying.{ReplayEnds}
 use Rattle.wef_cli.specs.declared.command.Command.{Command}
 use Rattle.wef_cli.specs.declared.command.Command.TheVariants as the
@@ -64,6 +66,12 @@ RunEnds (Some (the.Forward address source deliveries)) ending input out peers be
     Keeps input.before input.after
     × ((IsUndone ending out before now × (peers.link_after ≡ peers.link_before)) ⊎ ForwardEnds address source deliveries ending out peers.moment peers.link_before peers.link_after before now)
     × (peers.front_after ≡ peers.front_before)
+RunEnds (Some (the.Request address requests)) ending input out peers before now =
+    Keeps input.before input.after
+    × ((IsUndone ending out before now × (peers.link_after ≡ peers.link_before)) ⊎ RequestEnds address requests ending out peers.moment peers.link_before peers.link_after before now)
+    × (peers.front_after ≡ peers.front_before)
+RunEnds (Some (the.Serve address source connections)) ending input out peers before now =
+    Keeps input.before input.after × ServeEnds address connections ending out peers.moment peers.front_before peers.front_after peers.link_before peers.link_after before now
 RunEnds (Some the.Show) ending input out peers before now = Keeps input.before input.after × ShowEnds ending out before now × AreUnused peers
 RunEnds (Some (the.Events u s c)) ending input out peers before now = Keeps input.before input.after × EventsEnds u s c ending out before now × AreUnused peers
 RunEnds (Some (the.Status u)) ending input out peers before now =

@@ -9,7 +9,7 @@ use std::alloc::AllocError;
 use wef_base::numbers::read_plain_number;
 use wef_base::{ChannelName, SourceName, SubId, Text};
 
-/// The greatest number of connections or deliveries that one run may be told.
+/// The greatest number of connections, deliveries or requests that one run may be told.
 pub const GREATEST_NUMBER: u64 = 1_000_000;
 
 /// What `wef` is told to do.
@@ -43,6 +43,22 @@ pub enum Command {
         /// How many batches it sends at most, from 1 to 1,000,000.
         deliveries: u64,
     },
+    /// Sends the requests that are due to sources whose subscriptions the collector begins.
+    Request {
+        /// A host and a port, where the collector listens for what they send.
+        address: Text,
+        /// How many requests it sends at most, from 1 to 1,000,000.
+        requests: u64,
+    },
+    /// Serves connections as a source, one after the other, and sends what its log has for whoever subscribed.
+    Serve {
+        /// A host and a port, where it listens.
+        address: Text,
+        /// The name of the source.
+        source: SourceName,
+        /// How many connections it serves, from 1 to 1,000,000.
+        connections: u64,
+    },
     /// Writes the report of all that the collector keeps.
     Show,
     /// Writes which sources of a subscription are silent.
@@ -75,7 +91,7 @@ impl Command {
         match words {
             [name] => Ok(Command::named(name)),
             [name, word] => Command::of_one(name, word),
-            [name, at, number] if name.as_str() == "collect" => Command::collect(at, number),
+            [name, at, number] => Command::of_two(name, at, number),
             [name, first, second, third] => Command::of_three(name, first, second, third),
             _ => Ok(None),
         }
@@ -119,6 +135,20 @@ impl Command {
         Ok(None)
     }
 
+    /// The command of a name and two words behind it.
+    fn of_two(name: &Text, at: &Text, number: &Text) -> Result<Option<Command>, AllocError>
+        ensures value { IfOk result (λ command. command ≡ spec.command_of_two name.now at.now number.now) }
+        ensures wants_memory { OnErr result (spec.MayWantMemory (spec.command_of_two name.now at.now number.now)) }
+    {
+        if name.as_str() == "collect" {
+            return Command::collect(at, number);
+        }
+        if name.as_str() == "request" {
+            return Command::request(at, number);
+        }
+        Ok(None)
+    }
+
     /// The command of a name and three words behind it.
     fn of_three(
         name: &Text,
@@ -131,6 +161,9 @@ impl Command {
     {
         if name.as_str() == "forward" {
             return Command::forward(first, second, third);
+        }
+        if name.as_str() == "serve" {
+            return Command::serve(first, second, third);
         }
         if name.as_str() == "events" {
             return Command::events(first, second, third);
@@ -202,6 +235,43 @@ impl Command {
         }
     }
 
+    /// The command that sends requests.
+    #[tactic(auto, using(crate::proofs::Wanting::request_wants))]
+    fn request(at: &Text, number: &Text) -> Result<Option<Command>, AllocError>
+        ensures value { IfOk result (λ command. command ≡ spec.request_of at.now number.now) }
+        ensures wants_memory { OnErr result (spec.MayWantMemory (spec.request_of at.now number.now)) }
+    {
+        let Some(address) = address_in(at)? else {
+            return Ok(None);
+        };
+        match number_in(number) {
+            Some(requests) => Ok(Some(Command::Request { address, requests })),
+            None => Ok(None),
+        }
+    }
+
+    /// The command that serves connections for a source.
+    #[tactic(auto, using(crate::proofs::Wanting::serve_wants))]
+    fn serve(at: &Text, source: &Text, number: &Text) -> Result<Option<Command>, AllocError>
+        ensures value { IfOk result (λ command. command ≡ spec.serve_of at.now source.now number.now) }
+        ensures wants_memory { OnErr result (spec.MayWantMemory (spec.serve_of at.now source.now number.now)) }
+    {
+        let Some(address) = address_in(at)? else {
+            return Ok(None);
+        };
+        let Some(source) = SourceName::named(source)? else {
+            return Ok(None);
+        };
+        match number_in(number) {
+            Some(connections) => Ok(Some(Command::Serve {
+                address,
+                source,
+                connections,
+            })),
+            None => Ok(None),
+        }
+    }
+
     /// The command that writes held events.
     #[tactic(auto, using(crate::proofs::Wanting::events_wants))]
     fn events(name: &Text, source: &Text, channel: &Text) -> Result<Option<Command>, AllocError>
@@ -266,7 +336,7 @@ fn all_printed(bytes: &[u8]) -> bool
     bytes.iter().all(|&b| b >= 33 && b <= 126)
 }
 
-/// The number that a word is, of connections or deliveries; none where it is no such number.
+/// The number that a word is, of connections, deliveries or requests; none where it is no such number.
 fn number_in(word: &Text) -> Option<u64>
     ensures { result ≡ spec.number_of word.now }
 {

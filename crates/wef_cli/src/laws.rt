@@ -2,7 +2,7 @@
 
 ghost use Rattle.wef_cli.specs.Complete.{BadLinesAreTold, EndsAsCalledFor, FailsWithCause};
 ghost use Rattle.wef_cli.specs.Leaving.{RunsLeave};
-ghost use Rattle.wef_cli.specs.Due.{AddsAsDue, CollectsAsDue, EventsAsDue, ForwardsAsDue, ListsAsDue, RemovesAsDue, ShowsAsDue, StatusesAsDue, WritesAsDue};
+ghost use Rattle.wef_cli.specs.Due.{AddsAsDue, CollectsAsDue, EventsAsDue, ForwardsAsDue, ListsAsDue, RemovesAsDue, RequestsAsDue, ServesAsDue, ShowsAsDue, StatusesAsDue, WritesAsDue};
 
 /// Where nothing fails, a run of `replay` or `check` ends as its input calls for, or wants memory.
 pub fn runs_are_complete()
@@ -28,6 +28,8 @@ pub fn endings_are_due()
     ensures write { WritesAsDue }
     ensures collect { CollectsAsDue }
     ensures forward { ForwardsAsDue }
+    ensures request { RequestsAsDue }
+    ensures serve { ServesAsDue }
 {}
 
 /// A store that tells its rows is said to fail only where its count of faults rose in the run, or where
@@ -46,4 +48,6 @@ pub fn runs_leave_what_they_made()
     wef_commands::laws::no_run_does_more();
     wef_running::laws::collecting_goes_by_rows();
     wef_running::laws::forwarding_goes_by_rows();
+    wef_subscribing::laws::requesting_goes_by_rows();
+    wef_subscribing::laws::serving_goes_by_rows();
 }

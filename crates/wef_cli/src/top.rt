@@ -21,6 +21,7 @@ use wef_keeper::Keeper;
 use wef_ports::Clock;
 use wef_replay::{Line, ScheduleFault, read_schedule};
 use wef_running::{collect, forward};
+use wef_subscribing::{request, serve};
 
 /// Runs `wef` with the words that follow the program's name, and answers the keeper that it was handed
 /// and the exit status.
@@ -32,9 +33,11 @@ use wef_running::{collect, forward};
 /// whether the list selects it; it leaves the keeper alone, too. `write` reads lines of events, checks
 /// all of them, and writes each into the log of a source that the keeper keeps, and its number. `collect
 /// ADDRESS N` serves so many connections of the front as the collector, at the moments that the clock
-/// gives; no other command takes a connection. `forward ADDRESS SOURCE N` asks the collector there for the
-/// subscriptions of a source, and sends it at most so many batches over the link; no other command makes
-/// a connection. `show` writes the report of all that the keeper keeps, `events NAME SOURCE CHANNEL`
+/// gives. `forward ADDRESS SOURCE N` asks the collector there for the subscriptions of a source, and sends
+/// it at most so many batches over the link. `request ADDRESS N` sends the requests of the collector there
+/// that are due over the link, at most so many. `serve ADDRESS SOURCE N` serves so many connections of the
+/// front as a source, and behind each sends over the link what its log has for its sessions. No other command
+/// takes a connection or makes one. `show` writes the report of all that the keeper keeps, `events NAME SOURCE CHANNEL`
 /// the events that it holds of a source's channel, page by page, and `status NAME` which sources of a
 /// subscription are silent, at the moment that the clock gives. What ended the run is told in one line
 /// to `err`, or in as much of it as `err` takes. Status 6 alone comes free: for want of memory, also for
@@ -125,6 +128,24 @@ fn act<I: Source, O: Sink, K: Keeper, F: Front, L: Link, C: Clock>(
             deliveries,
         } => forward(
             alloc, keeper, &address, source, deliveries, out, link, clock,
+        ),
+        Command::Request { address, requests } => {
+            request(alloc, keeper, &address, requests, out, link, clock)
+        }
+        Command::Serve {
+            address,
+            source,
+            connections,
+        } => serve(
+            alloc,
+            keeper,
+            &address,
+            source,
+            connections,
+            out,
+            front,
+            link,
+            clock,
         ),
         Command::Show => show(alloc, keeper, out),
         Command::Events {

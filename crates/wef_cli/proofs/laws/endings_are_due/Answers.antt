@@ -1,5 +1,6 @@
 use Rattle.wef_cli.proofs.CollectingDue.{collects_as_due}
 use Rattle.wef_cli.proofs.ForwardingDue.{forwards_as_due}
+use Rattle.wef_cli.proofs.SubscribingDue.{requests_as_due, serves_as_due}
 use Rattle.wef_cli.proofs.TellingDue.{adds_as_due, events_as_due, lists_as_due, removes_as_due, shows_as_due, statuses_as_due, writes_as_due}
 use Rattle.wef_cli.proofs.laws.endings_are_due.Goals as goal
 
@@ -29,3 +30,9 @@ returns-clause-collect c = collects_as_due
 
 pub returns-clause-forward : goal.returns-clause-forward
 returns-clause-forward c = forwards_as_due
+
+pub returns-clause-request : goal.returns-clause-request
+returns-clause-request c = requests_as_due
+
+pub returns-clause-serve : goal.returns-clause-serve
+returns-clause-serve c = serves_as_due
