@@ -3,6 +3,7 @@
 use crate::runs::{none, ran_on};
 use std::alloc::{AllocError, Global};
 use tests_collectors::sources::written;
+use tests_exchanges::numbered::list_of;
 use tests_exchanges::replies::push_escaped;
 use tests_exchanges::responses::response_of;
 use tests_runs::outcomes::Outcome;
@@ -18,8 +19,13 @@ pub(crate) fn push_ran(shown: &mut Text, line: &str) -> Result<(), AllocError> {
 }
 
 fn link_of(alloc: Global, line: &str) -> Result<MemLink, AllocError> {
+    failing_link_of(alloc, line, 0)
+}
+
+/// A link that brings the responses of a line, each behind ` then `, of which the call of a number fails.
+pub(crate) fn failing_link_of(alloc: Global, line: &str, call: u64) -> Result<MemLink, AllocError> {
     let responses = responses_of(alloc, line)?;
-    Ok(MemLink::of(alloc, responses, List::new(alloc)))
+    Ok(MemLink::of(alloc, responses, list_of(alloc, call)?))
 }
 
 fn responses_of(alloc: Global, line: &str) -> Result<List<MemConnection>, AllocError> {
@@ -42,7 +48,8 @@ fn told(alloc: Global, command: &str, link: &mut MemLink) -> Result<Outcome, All
     ran_on(alloc, &mut keeper, command, &mut none(alloc), link, 0)
 }
 
-fn push_told(shown: &mut Text, told: &Outcome) -> Result<(), AllocError> {
+/// Appends how a run ended, what it printed, and what it told.
+pub(crate) fn push_told(shown: &mut Text, told: &Outcome) -> Result<(), AllocError> {
     shown.push_number(u64::from(told.status))?;
     shown.push_str(" ")?;
     push_escaped(shown, told.out.taken())?;

@@ -1,13 +1,17 @@
-//! Runs of `collect` and of `forward` over memory, in which requests are answered and replies are heard as in
+//! Runs of `collect`, `forward`, `request` and `serve` over memory, in which requests are answered and replies are heard as in
 //! `tests_exchanges`: how they end, what they print, and what is kept.
 //!
 //! `collect` serves `COUNT: CONNECTIONS`, so many of those that come, with ` next ` between them. Behind
-//! `command` stands a command line, and behind it the responses that its link brings.
+//! `command` stands a command line, and behind it the responses that its link brings; behind `requested` one of a
+//! collector that begins the subscription `link` at the source `pc1`. `served` serves `COUNT: CONNECTIONS` for a source,
+//! behind which the responses stand; each connection has requests as `managed` has them, with ` and ` between them.
 #![tactic(auto)]
 
 mod collecting;
 mod commands;
+mod requesting;
 mod runs;
+mod serving;
 
 use std::alloc::AllocError;
 use wef_base::Text;
@@ -23,6 +27,16 @@ pub fn push_answer(shown: &mut Text, task: &str, line: &str) -> Result<bool, All
         "collect untold" => collecting::push_untold(shown, line)?,
         // What the program prints.
         "command" => commands::push_ran(shown, line)?,
+        // The same of a collector that asks its source, and what it asks then.
+        "requested" => requesting::push_requested(shown, line, 0)?,
+        // The same where one call of the link fails, for each call.
+        "request broken" => requesting::push_broken(shown, line)?,
+        // What a source prints that serves connections.
+        "served" => serving::push_served(shown, line, 0, 0)?,
+        // The same where one call of the front fails, for each call.
+        "serve broken" => serving::push_broken(shown, line)?,
+        // The same where one call of the link fails, for each call.
+        "serve cut off" => serving::push_cut_off(shown, line)?,
         _ => return Ok(false),
     }
     Ok(true)

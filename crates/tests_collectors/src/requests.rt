@@ -55,7 +55,7 @@ fn request_of(alloc: Global, kind: &str, edits: &str) -> Result<Bytes, AllocErro
 }
 
 /// A POST whose body has a length.
-fn with_length(
+pub fn with_length(
     alloc: Global,
     path: &str,
     charset: &str,

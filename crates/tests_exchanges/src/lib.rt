@@ -18,7 +18,7 @@ mod deliveries;
 mod envelopes;
 mod forwarding;
 mod hearing;
-mod managing;
+pub mod managing;
 pub mod numbered;
 pub mod replies;
 mod requests;

@@ -97,7 +97,7 @@ fn push_spent(
 }
 
 /// The request of a kind, with edits.
-fn request_of(alloc: Global, kind: &str, edits: &str) -> Result<Bytes, AllocError> {
+pub fn request_of(alloc: Global, kind: &str, edits: &str) -> Result<Bytes, AllocError> {
     if kind == "document" {
         return unescaped(alloc, edits);
     }
